@@ -1,1 +1,6 @@
 pub mod Reading
+pub mod Number
+pub mod Text
+pub mod Symbols
+pub mod Slots
+pub mod Composite

@@ -1,0 +1,63 @@
+-- The fields of a list, in order (AMQP 1.0 part 1, section 1.4).
+use Rattle.std.specs.Prelude.{◌≡◌, ℕ, ◌-◌, List, [], ◌∷◌, ◌++◌, drop, Option, Some, None, Bool, true, false, ◌==◌, if◌then◌else◌, ◌⊎◌}
+use Rattle.amqp_values.specs.declared.parts.Parts.{Parts}
+use Rattle.amqp_values.specs.Reading.{◌>>=◌, is_empty}
+
+abbrev pub null : List ℕ
+null = 0x40 ∷ []
+
+-- ---- the grammar: the table of a composite is a chain of slots, and a field missing at the end is null
+
+abbrev pub Slot : (List ℕ → Type 0) → (List (List ℕ) → Type 0) → List (List ℕ) → Type 0
+Slot P Rest [] = P null × Rest []
+Slot P Rest (part ∷ parts) = P part × Rest parts
+
+-- behind the last slot stands no further field
+abbrev pub NoMore : List (List ℕ) → Type 0
+NoMore parts = parts ≡ []
+
+-- A mandatory field stands in its slot as it is: null is in no type's grammar. The two others:
+
+abbrev pub Optional : {V : Type 0} → (V → List ℕ → Type 0) → Option V → List ℕ → Type 0
+Optional Is None part = part ≡ null
+Optional Is (Some v) part = Is v part
+
+abbrev pub OrDefault : {V : Type 0} → V → (V → List ℕ → Type 0) → V → List ℕ → Type 0
+OrDefault d Is v part = ((part ≡ null) × (v ≡ d)) ⊎ Is v part
+
+-- ---- reading
+
+abbrev pub is_null : List ℕ → Bool
+is_null [] = false
+is_null (b ∷ bytes) = b == 0x40
+
+unfoldable pub optional_at : {V : Type 0} → (List ℕ → Option (V × List ℕ)) → Parts → Option (Option V × Parts)
+optional_at at p =
+    if p.left == 0 then Some (None, p)
+    else if is_null p.bytes then Some (None, record { left = p.left - 1; bytes = drop 1 p.bytes })
+    else (at p.bytes >>= λ x. Some (Some x.0, record { left = p.left - 1; bytes = x.1 }))
+
+abbrev pub needed : {V : Type 0} → Option V × Parts → Option (V × Parts)
+needed (Some v, p) = Some (v, p)
+needed (None, p) = None
+
+abbrev pub defaulted : {V : Type 0} → V → Option V → V
+defaulted d (Some v) = v
+defaulted d None = d
+
+unfoldable pub required_at : {V : Type 0} → (List ℕ → Option (V × List ℕ)) → Parts → Option (V × Parts)
+required_at at p = optional_at at p >>= needed
+
+unfoldable pub default_at : {V : Type 0} → V → (List ℕ → Option (V × List ℕ)) → Parts → Option (V × Parts)
+default_at d at p = optional_at at p >>= λ x. Some (defaulted d x.0, x.1)
+
+unfoldable pub end_at : Parts → Option (Unit {0} × Parts)
+end_at p = if p.left == 0 then (if is_empty p.bytes then Some (tt, p) else None) else None
+
+-- one slot and those after it
+abbrev pub then_at : {V W : Type 0} → (Parts → Option (V × Parts)) → (Parts → Option (W × Parts)) → Parts → Option ((V × W) × Parts)
+then_at first others p = first p >>= λ x. others x.1 >>= λ y. Some ((x.0, y.0), y.1)
+
+-- the fields of a chain, under their names
+abbrev pub named_at : {V W : Type 0} → (V → W) → (Parts → Option (V × Parts)) → Parts → Option (W × Parts)
+named_at name at p = at p >>= λ x. Some (name x.0, x.1)

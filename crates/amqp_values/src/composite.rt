@@ -1,0 +1,137 @@
+//! Composites: described lists, read by the table of their fields.
+
+ghost use Rattle.std.specs.Prelude.{◌≡◌, ℕ, List, Option};
+ghost use Rattle.amqp_values.specs.declared.parts.Parts.{Parts};
+ghost use Rattle.amqp_values.specs.Reading.{Answers, Gives};
+ghost use Rattle.amqp_values.specs.Composite.{list_at, composite_at, code_of, meaning_at, descriptor_at, described_at};
+
+use crate::codes;
+use crate::cursor::{take_byte, take_count, take_region, take_u64};
+use crate::error::ReadError;
+use crate::parts::Parts;
+use bytes::Bytes;
+use std::alloc::Global;
+
+/// A type whose fields stand in a described list (AMQP 1.0 part 1, section 1.4).
+pub trait Composite: Drop {
+    ghost body_at: { Parts → Option (Self × Parts) };
+
+    /// The fields, in order: all parts are taken, and no more than the table has. `Malformed` where one is not of its
+    /// type, a mandatory one is null or absent, or a part is left over; `OutOfMemory` as the fields answer it.
+    fn fields(alloc: Global, parts: &mut Parts) -> Result<Self, ReadError>
+        ensures { Gives (λ x. x) result parts.new (body_at parts.old) };
+}
+
+#[tactic(auto, unfolding(crate::specs::Composite::list_at))]
+fn list(bytes: &mut Bytes) -> Result<Parts, ReadError>
+    ensures { Gives (λ p. p) result bytes.new (list_at bytes.old) }
+{
+    match take_byte(bytes)? {
+        codes::LIST0 => Ok(Parts {
+            left: 0,
+            bytes: Bytes::new(),
+        }),
+        codes::LIST8 => {
+            let mut bytes = take_region(false, bytes)?;
+            let left = take_count(false, &mut bytes)?;
+            Ok(Parts { left, bytes })
+        }
+        codes::LIST32 => {
+            let mut bytes = take_region(true, bytes)?;
+            let left = take_count(true, &mut bytes)?;
+            Ok(Parts { left, bytes })
+        }
+        _ => Err(ReadError::Malformed),
+    }
+}
+
+/// The composite whose list stands at the front, behind its descriptor.
+#[tactic(auto, unfolding(crate::specs::Composite::composite_at))]
+pub fn read_list<C: Composite>(alloc: Global, bytes: &mut Bytes) -> Result<C, ReadError>
+    ensures { Gives (λ x. x) result bytes.new (composite_at C.body_at bytes.old) }
+{
+    let mut parts = list(bytes)?;
+    C::fields(alloc, &mut parts)
+}
+
+#[tactic(auto, unfolding(crate::specs::Composite::code_of))]
+fn code_of_name(name: &[u8]) -> Option<u64>
+    ensures { result ≡ code_of name.now }
+{
+    if name == b"amqp:open:list".as_slice() {
+        Some(0x10)
+    } else if name == b"amqp:begin:list".as_slice() {
+        Some(0x11)
+    } else if name == b"amqp:attach:list".as_slice() {
+        Some(0x12)
+    } else if name == b"amqp:flow:list".as_slice() {
+        Some(0x13)
+    } else if name == b"amqp:transfer:list".as_slice() {
+        Some(0x14)
+    } else if name == b"amqp:disposition:list".as_slice() {
+        Some(0x15)
+    } else if name == b"amqp:detach:list".as_slice() {
+        Some(0x16)
+    } else if name == b"amqp:end:list".as_slice() {
+        Some(0x17)
+    } else if name == b"amqp:close:list".as_slice() {
+        Some(0x18)
+    } else if name == b"amqp:error:list".as_slice() {
+        Some(0x1d)
+    } else {
+        None
+    }
+}
+
+fn meaning(name: &[u8]) -> Result<u64, ReadError>
+    ensures { (rest : List ℕ) → Gives (λ x. x) result rest (meaning_at (name.now, rest)) }
+{
+    match code_of_name(name) {
+        Some(code) => Ok(code),
+        None => Err(ReadError::Malformed),
+    }
+}
+
+/// The code of the descriptor at the front, in every spelling: a number, or one of the standard's names.
+#[tactic(auto, unfolding(crate::specs::Composite::descriptor_at))]
+pub fn descriptor(bytes: &mut Bytes) -> Result<u64, ReadError>
+    ensures { Gives (λ x. x) result bytes.new (descriptor_at bytes.old) }
+{
+    if take_byte(bytes)? != codes::DESCRIBED {
+        return Err(ReadError::Malformed);
+    }
+    match take_byte(bytes)? {
+        codes::ULONG0 => Ok(0),
+        codes::SMALL_ULONG => Ok(u64::from(take_byte(bytes)?)),
+        codes::ULONG => take_u64(bytes),
+        codes::SYMBOL8 => {
+            let name = take_region(false, bytes)?;
+            meaning(name.as_slice())
+        }
+        codes::SYMBOL32 => {
+            let name = take_region(true, bytes)?;
+            meaning(name.as_slice())
+        }
+        _ => Err(ReadError::Malformed),
+    }
+}
+
+/// The described list at the front, with this code for its descriptor; the rest is left.
+#[tactic(auto, unfolding(crate::specs::Composite::described_at))]
+pub fn described<C: Composite>(alloc: Global, code: u64, bytes: &mut Bytes) -> Result<C, ReadError>
+    ensures { Gives (λ x. x) result bytes.new (described_at code C.body_at bytes.old) }
+{
+    if descriptor(bytes)? != code {
+        return Err(ReadError::Malformed);
+    }
+    read_list(alloc, bytes)
+}
+
+/// The described list at the front, with this code for its descriptor, and the rest.
+pub fn front<C: Composite>(alloc: Global, code: u64, bytes: Bytes) -> Result<(C, Bytes), ReadError>
+    ensures { Answers (λ x. (x.0, x.1)) result (described_at code C.body_at bytes) }
+{
+    let mut rest = bytes;
+    let value = described(alloc, code, &mut rest)?;
+    Ok((value, rest))
+}
