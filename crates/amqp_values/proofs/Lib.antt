@@ -6,3 +6,6 @@ pub mod TextLaws
 pub mod SlotLaws
 pub mod CompositeLaws
 pub mod SymbolLaws
+pub mod Trim
+pub mod Loops
+pub mod Items

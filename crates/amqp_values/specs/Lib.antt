@@ -4,3 +4,5 @@ pub mod Text
 pub mod Symbols
 pub mod Slots
 pub mod Composite
+pub mod Writing
+pub mod Same

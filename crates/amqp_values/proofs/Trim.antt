@@ -1,0 +1,41 @@
+-- Nulls at the end.
+use Rattle.std.proofs.Common.{◌≡◌, ℕ, zero, suc, ◌+◌, ◌-◌, ◌<◌, ◌≤◌, Bool, true, false, cond, List, [], ◌∷◌, ◌++◌, length, take, drop, map, refl, sym, ap, subst, ◌∙◌, arith, append_assoc}
+use Rattle.amqp_values.specs.Slots.{is_null}
+use Rattle.amqp_values.specs.Reading.{joined}
+use Rattle.amqp_values.specs.Writing.{keep, trim}
+use Rattle.std.proofs.lemmas.List.{length-append}
+
+pub joined-append : (a b : List (List ℕ)) → joined (a ++ b) ≡ joined a ++ joined b
+joined-append [] b = refl
+joined-append (x ∷ xs) b = ap (λ (r : List ℕ). x ++ r) (joined-append xs b) ∙ sym (append_assoc x (joined xs) (joined b))
+
+keep_null : (p : List ℕ) → is_null p ≡ true → keep p [] ≡ []
+keep_null p e = rw e refl
+
+keep_same : (p : List ℕ) (a b : List (List ℕ)) → a ≡ b → keep p a ≡ keep p b
+keep_same p a b e = ap (keep p) e
+
+keep_more : (p : List ℕ) (xs : List (List ℕ)) (q : List ℕ) → keep p (xs ++ q ∷ []) ≡ p ∷ (xs ++ q ∷ [])
+keep_more p [] q = refl
+keep_more p (x ∷ xs) q = refl
+
+pub trim_null : (xs : List (List ℕ)) (p : List ℕ) → is_null p ≡ true → trim (xs ++ p ∷ []) ≡ trim xs
+trim_null [] p e = keep_null p e
+trim_null (x ∷ xs) p e = ap (keep x) (trim_null xs p e)
+
+pub trim_part : (xs : List (List ℕ)) (p : List ℕ) → is_null p ≡ false → trim (xs ++ p ∷ []) ≡ xs ++ p ∷ []
+trim_part [] p e = rw e refl
+trim_part (x ∷ xs) p e = ap (keep x) (trim_part xs p e) ∙ keep_more x xs p
+
+keep_take : (p : List ℕ) (xs ts : List (List ℕ)) → take (length ts) xs ≡ ts → take (length (keep p ts)) (p ∷ xs) ≡ keep p ts
+keep_take p xs [] e = go (is_null p)
+  where
+    go : (b : Bool) → take (length (cond b [] (p ∷ []))) (p ∷ xs) ≡ cond b [] (p ∷ [])
+    go true = refl
+    go false = refl
+keep_take p xs (t ∷ ts) e = ap (λ (r : List (List ℕ)). p ∷ r) e
+
+-- the trimmed parts are the first ones
+pub trim_take : (xs : List (List ℕ)) → take (length (trim xs)) xs ≡ trim xs
+trim_take [] = refl
+trim_take (x ∷ xs) = keep_take x xs (trim xs) (trim_take xs)

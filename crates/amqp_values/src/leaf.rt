@@ -1,0 +1,178 @@
+//! Leaves: the values of fields that are no composites, lent for writing.
+
+ghost use Rattle.std.specs.Prelude.{◌≡◌, ℕ, ◌+◌, ◌^◌, ◌<◌, ◌≤◌, List, ◌∷◌, [], ◌++◌, length};
+ghost use Rattle.amqp_values.specs.Slots.{is_null};
+ghost use Rattle.amqp_values.specs.Writing.{uint_text, ulong_text, boolean_text, var_text, leaf_text};
+
+use crate::array::{put_symbols, symbols_len};
+use crate::codes;
+use crate::encode::Encode;
+use crate::symbol::Symbol;
+use bytes::BytesMut;
+
+/// A value that a part of a list may hold, lent.
+#[derive(Drop)]
+pub enum Leaf<'a> {
+    Null,
+    Boolean(bool),
+    Ubyte(u8),
+    Ushort(u16),
+    Uint(u32),
+    Ulong(u64),
+    Binary(&'a [u8]),
+    String(&'a str),
+    Symbol(&'a Symbol),
+    /// Multiple symbols.
+    Symbols(&'a [Symbol]),
+    /// The spelling of a value that is kept as it came.
+    Value(&'a [u8]),
+}
+
+fn uint_len(n: u32) -> u128
+    ensures { result ≡ length (uint_text n) }
+{
+    if n == 0 {
+        1
+    } else if n < 256 {
+        2
+    } else {
+        5
+    }
+}
+
+fn put_uint(out: &mut BytesMut, n: u32)
+    requires { length (uint_text n) ≤ out.old.spare }
+    ensures items { out.new.items ≡ out.old.items ++ uint_text n }
+    ensures spare { out.new.spare + length (uint_text n) ≡ out.old.spare }
+{
+    if n == 0 {
+        out.extend_reserved(&[codes::UINT0]);
+    } else if n < 256 {
+        out.extend_reserved(&[codes::SMALL_UINT, n as u8]);
+    } else {
+        out.extend_reserved(&[codes::UINT]);
+        out.extend_reserved(&n.to_be_bytes());
+    }
+}
+
+fn ulong_len(n: u64) -> u128
+    ensures { result ≡ length (ulong_text n) }
+{
+    if n == 0 {
+        1
+    } else if n < 256 {
+        2
+    } else {
+        9
+    }
+}
+
+fn put_ulong(out: &mut BytesMut, n: u64)
+    requires { length (ulong_text n) ≤ out.old.spare }
+    ensures items { out.new.items ≡ out.old.items ++ ulong_text n }
+    ensures spare { out.new.spare + length (ulong_text n) ≡ out.old.spare }
+{
+    if n == 0 {
+        out.extend_reserved(&[codes::ULONG0]);
+    } else if n < 256 {
+        out.extend_reserved(&[codes::SMALL_ULONG, n as u8]);
+    } else {
+        out.extend_reserved(&[codes::ULONG]);
+        out.extend_reserved(&n.to_be_bytes());
+    }
+}
+
+fn put_ushort(out: &mut BytesMut, n: u16)
+    requires { 3 ≤ out.old.spare }
+    ensures items { out.new.items ≡ out.old.items ++ leaf_text (Leaf.Ushort n) }
+    ensures spare { out.new.spare + 3 ≡ out.old.spare }
+{
+    out.extend_reserved(&[codes::USHORT]);
+    out.extend_reserved(&n.to_be_bytes());
+}
+
+#[tactic(auto, unfolding(crate::specs::Writing::var_text))]
+fn var_len(s: &[u8], short: u8, long: u8) -> u128
+    ensures value { result ≡ length (var_text short long s.now) }
+    ensures small { result < 2 ^ 65 }
+{
+    let len = s.len() as u128;
+    if len < 256 { len + 2 } else { len + 5 }
+}
+
+#[tactic(auto, unfolding(crate::specs::Writing::var_text))]
+fn put_var(out: &mut BytesMut, s: &[u8], short: u8, long: u8)
+    requires room { length (var_text short long s.now) ≤ out.old.spare }
+    requires fits { length (var_text short long s.now) < 2 ^ 32 }
+    ensures items { out.new.items ≡ out.old.items ++ var_text short long s.now }
+    ensures spare { out.new.spare + length (var_text short long s.now) ≡ out.old.spare }
+{
+    let len = s.len();
+    if len < 256 {
+        out.extend_reserved(&[short, len as u8]);
+    } else {
+        out.extend_reserved(&[long]);
+        out.extend_reserved(&(len as u32).to_be_bytes());
+    }
+    out.extend_reserved(s);
+}
+
+fn boolean_code(set: bool) -> u8
+    ensures { boolean_text set ≡ result ∷ [] }
+{
+    if set { codes::TRUE } else { codes::FALSE }
+}
+
+fn begins_as_null(bytes: &[u8]) -> bool
+    ensures { result ≡ is_null bytes.now }
+{
+    matches!(bytes, [codes::NULL, ..])
+}
+
+impl Encode for Leaf<'_> {
+    ghost text = { leaf_text };
+
+    ghost most = { 2 ^ 100 };
+
+    #[tactic(auto, unfolding(crate::specs::Writing::var_text, crate::specs::Writing::symbols_text))]
+    fn is_null(&self) -> bool {
+        match self {
+            Leaf::Null => true,
+            Leaf::Value(bytes) => begins_as_null(bytes),
+            _ => false,
+        }
+    }
+
+    fn encoded_len(&self) -> u128 {
+        match self {
+            Leaf::Null | Leaf::Boolean(_) => 1,
+            Leaf::Ubyte(_) => 2,
+            Leaf::Ushort(_) => 3,
+            Leaf::Uint(n) => uint_len(*n),
+            Leaf::Ulong(n) => ulong_len(*n),
+            Leaf::Binary(s) => var_len(s, codes::BINARY8, codes::BINARY32),
+            Leaf::String(s) => var_len(s.as_bytes(), codes::STRING8, codes::STRING32),
+            Leaf::Symbol(s) => var_len(s.as_str().as_bytes(), codes::SYMBOL8, codes::SYMBOL32),
+            Leaf::Symbols(s) => symbols_len(s),
+            Leaf::Value(s) => s.len() as u128,
+        }
+    }
+
+    fn put(&self, out: &mut BytesMut) {
+        match self {
+            Leaf::Null => out.extend_reserved(&[codes::NULL]),
+            Leaf::Boolean(b) => out.extend_reserved(&[boolean_code(*b)]),
+            Leaf::Ubyte(n) => out.extend_reserved(&[codes::UBYTE, *n]),
+            Leaf::Ushort(n) => put_ushort(out, *n),
+            Leaf::Uint(n) => put_uint(out, *n),
+            Leaf::Ulong(n) => put_ulong(out, *n),
+            Leaf::Binary(s) => put_var(out, s, codes::BINARY8, codes::BINARY32),
+            Leaf::String(s) => put_var(out, s.as_bytes(), codes::STRING8, codes::STRING32),
+            Leaf::Symbol(s) => {
+                put_var(out, s.as_str().as_bytes(), codes::SYMBOL8, codes::SYMBOL32)
+            }
+            Leaf::Symbols(s) => put_symbols(out, s),
+            Leaf::Value(s) => out.extend_reserved(s),
+        }
+    }
+}
