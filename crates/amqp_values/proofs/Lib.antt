@@ -1,1 +1,9 @@
 pub mod Format
+pub mod Under
+pub mod Numbers
+pub mod Found
+pub mod Again
+pub mod Law
+pub mod Deeper
+pub mod Cut
+pub mod Mapped

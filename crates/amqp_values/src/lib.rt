@@ -2,5 +2,13 @@
 #![tactic(auto)]
 
 pub mod error;
+pub mod fields;
+mod kind;
+pub mod raw;
+pub mod value;
+mod walk;
 
 pub use error::{ReadError, WriteError};
+pub use fields::Fields;
+pub use raw::Raw;
+pub use value::{Items, ValueRef};
