@@ -10,7 +10,7 @@ use Rattle.amqp_values.specs.Walk.{value_at}
 use Rattle.amqp_values.specs.Grammar as g
 use Rattle.amqp_values.specs.Grammar.{IsValue, Data, Values, no_values, more_values}
 use Rattle.amqp_values.specs.Parts.{ItemsIn, no_items, list_items, map_items, IsItems, front_at, parts_at, AllParts, open_in, open_at, IsDescribed, halves_at}
-use Rattle.amqp_values.proofs.Numbers.{region_again, count_again}
+use Rattle.amqp_values.proofs.Numbers.{region_all, count_again}
 use Rattle.amqp_values.proofs.Law.{value_reads, value_is_read, cut_is}
 use Rattle.amqp_values.proofs.Deeper.{value_up, values_up}
 use Rattle.amqp_values.proofs.Again.{not_zero}
@@ -72,9 +72,6 @@ unfolding parts_at
 no_more bytes n e = rw e refl
 
 -- ---- opening a list or a map
-
-region_all : (wide : Bool) (size inner : List ℕ) → IsNumber wide size (length inner) → region_at wide (size ++ inner) ≡ Some (inner, [])
-region_all wide size inner h = ap (region_at wide) (sym (append-nil (size ++ inner))) ∙ region_again wide size inner [] h
 
 open_is : (wide : Bool) (size count : List ℕ) (parts : List (List ℕ)) → IsNumber wide size (length (count ++ joined parts)) → IsNumber wide count (length parts)
     → (region_at wide (size ++ (count ++ joined parts)) >>= λ r. count_at wide r.0) ≡ Some (length parts, joined parts)

@@ -7,3 +7,4 @@ pub mod Law
 pub mod Deeper
 pub mod Cut
 pub mod Mapped
+pub mod Final

@@ -2,7 +2,7 @@
 use Rattle.std.proofs.Common.{◌≡◌, ℕ, ◌≤◌, Bool, true, false, cond, ltb, List, [], ◌∷◌, ◌++◌, length, take, drop, Option, Some, None, refl, sym, ap, subst, ◌∙◌, arith, inl, inr, ◌⊎◌, append_assoc}
 use Rattle.std.specs.Int.{w32, from_be_bytes}
 use Rattle.std.proofs.lemmas.Bool.{ltb-false, le-ltb}
-use Rattle.std.proofs.lemmas.List.{take_at, drop_at, take-append-drop, length-append, length-take}
+use Rattle.std.proofs.lemmas.List.{append-nil, take_at, drop_at, take-append-drop, length-append, length-take}
 use Rattle.amqp_values.specs.Reading.{◌>>=◌, byte_at, count_at, cut_at, region_at, is_empty, IsNumber, one, four}
 use Rattle.amqp_values.proofs.Format.{bind_some, pair_is, some_is, chosen}
 use Rattle.amqp_values.specs.declared.kind.Kind.{Kind}
@@ -67,6 +67,9 @@ region_again wide size inner rest h =
     ap (λ (x : List ℕ). count_at wide x >>= λ n. cut_at n.0 n.1) (append_assoc size inner rest)
         ∙ ap (λ (x : Option (ℕ × List ℕ)). x >>= λ n. cut_at n.0 n.1) (count_again wide size (length inner) (inner ++ rest) h)
         ∙ cut_again (length inner) inner rest refl
+
+pub region_all : (wide : Bool) (size inner : List ℕ) → IsNumber wide size (length inner) → region_at wide (size ++ inner) ≡ Some (inner, [])
+region_all wide size inner h = ap (region_at wide) (sym (append-nil (size ++ inner))) ∙ region_again wide size inner [] h
 
 ended_found : (rest left after : List ℕ) → ended rest left ≡ Some after → (left ≡ []) × (rest ≡ after)
 ended_found rest [] after e = (refl, some_is rest after e)

@@ -4,3 +4,4 @@ pub mod Walk
 pub mod Grammar
 pub mod Raw
 pub mod Parts
+pub mod Outcome

@@ -4,11 +4,13 @@
 pub mod error;
 pub mod fields;
 mod kind;
+pub mod outcome;
 pub mod raw;
 pub mod value;
 mod walk;
 
 pub use error::{ReadError, WriteError};
 pub use fields::Fields;
+pub use outcome::is_terminal;
 pub use raw::Raw;
 pub use value::{Items, ValueRef};
