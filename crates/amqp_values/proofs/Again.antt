@@ -16,9 +16,9 @@ no_unknown d bytes h = elim h [ ]
 
 pub not_zero : (d code : ℕ) (bytes : List ℕ) → Data d (kind_of code) bytes → eqb code 0 ≡ false
 not_zero d code bytes h = elim (eqb_tells code 0) [
-    | inl t ↦ absurd (no_unknown d bytes (subst (λ c. Data d (kind_of c) bytes) t.1 h))
-    | inr t ↦ t.0
-  ]
+  | inl t ↦ absurd (no_unknown d bytes (subst (λ c. Data d (kind_of c) bytes) t.1 h))
+  | inr t ↦ t.0
+]
 
 run_first : (d : ℕ) (k : Kind) (elements : List (List ℕ)) → Run d k elements → (bytes : List ℕ) × Data d k bytes
 run_first d k elements (last _ _ bytes h) = (bytes, h)
@@ -149,9 +149,9 @@ holds_deep d k h = holds_compound (level d) k h
 
 known_not_zero : (code : ℕ) (P : Kind → Type 0) → (P kind.Unknown → ⊥) → P (kind_of code) → eqb code 0 ≡ false
 known_not_zero code P never h = elim (eqb_tells code 0) [
-    | inl t ↦ absurd (never (subst (λ c. P (kind_of c)) t.1 h))
-    | inr t ↦ t.0
-  ]
+  | inl t ↦ absurd (never (subst (λ c. P (kind_of c)) t.1 h))
+  | inr t ↦ t.0
+]
 
 step_ends : (d n code : ℕ) (rest : List ℕ) → eqb code 0 ≡ false → may_hold (under d) (kind_of code) ≡ true → constructor_of (under d) (suc n) (code ∷ rest) ≡ Some rest
 unfolding constructor_of
@@ -167,7 +167,7 @@ mutual
   value_again d _ (plain _ code bytes h) rest = step_value d code (bytes ++ rest) (not_zero d code bytes h) ∙ data_again d (kind_of code) bytes h rest
   value_again _ _ (described_value d descriptor value v w) rest =
       step_described d ((descriptor ++ value) ++ rest) (value ++ rest) (ap (value_of (under d)) (append_assoc descriptor value rest) ∙ value_again d descriptor v (value ++ rest))
-          ∙ value_again d value w rest
+      ∙ value_again d value w rest
 
   data_again : (d : ℕ) (k : Kind) (text : List ℕ) → Data d k text → (rest : List ℕ) → data_of (under d) k (text ++ rest) ≡ Some rest
   data_again d _ _ (fixed _ bytes) rest = step_fixed (under d) bytes rest
@@ -186,8 +186,8 @@ mutual
   values_again d _ (no_values _) rest = repeat_none (value_of (under d)) rest
   values_again d _ (more_values _ part parts v h) rest =
       ap (repeat (suc (length parts)) (value_of (under d))) (append_assoc part (joined parts) rest)
-          ∙ step_repeat (length parts) (value_of (under d)) (part ++ (joined parts ++ rest)) (joined parts ++ rest) (value_again d part v (joined parts ++ rest))
-          ∙ values_again d parts h rest
+      ∙ step_repeat (length parts) (value_of (under d)) (part ++ (joined parts ++ rest)) (joined parts ++ rest) (value_again d part v (joined parts ++ rest))
+      ∙ values_again d parts h rest
 
   elements_again : (d : ℕ) (constructor : List ℕ) (elements : List (List ℕ)) → Elements d constructor elements → (rest : List ℕ)
       → elements_of (under d) (length elements) ((constructor ++ joined elements) ++ rest) ≡ Some rest
@@ -195,18 +195,18 @@ mutual
       step_run d code (length elements) (joined elements ++ rest) (not_zero d code (run_first d (kind_of code) elements h).0 (run_first d (kind_of code) elements h).1) ∙ run_again d (kind_of code) elements h rest
   elements_again _ _ _ (described_elements d descriptor constructor elements v h) rest =
       let split : ((descriptor ++ constructor) ++ joined elements) ++ rest ≡ descriptor ++ ((constructor ++ joined elements) ++ rest) =
-          ap (λ (x : List ℕ). x ++ rest) (append_assoc descriptor constructor (joined elements)) ∙ append_assoc descriptor (constructor ++ joined elements) rest in
+      ap (λ (x : List ℕ). x ++ rest) (append_assoc descriptor constructor (joined elements)) ∙ append_assoc descriptor (constructor ++ joined elements) rest in
       step_elements d (length elements) (((descriptor ++ constructor) ++ joined elements) ++ rest) ((constructor ++ joined elements) ++ rest)
-          (ap (value_of (under d)) split ∙ value_again d descriptor v ((constructor ++ joined elements) ++ rest))
-          ∙ elements_again d constructor elements h rest
+      (ap (value_of (under d)) split ∙ value_again d descriptor v ((constructor ++ joined elements) ++ rest))
+      ∙ elements_again d constructor elements h rest
 
   run_again : (d : ℕ) (k : Kind) (elements : List (List ℕ)) → Run d k elements → (rest : List ℕ) → repeat (length elements) (data_of (under d) k) (joined elements ++ rest) ≡ Some rest
   run_again d k _ (last _ _ bytes h) rest =
       step_repeat zero (data_of (under d) k) ((bytes ++ []) ++ rest) rest (ap (λ (x : List ℕ). data_of (under d) k (x ++ rest)) (append-nil bytes) ∙ data_again d k bytes h rest) ∙ repeat_none (data_of (under d) k) rest
   run_again d k _ (next _ _ bytes others h r) rest =
       ap (repeat (suc (length others)) (data_of (under d) k)) (append_assoc bytes (joined others) rest)
-          ∙ step_repeat (length others) (data_of (under d) k) (bytes ++ (joined others ++ rest)) (joined others ++ rest) (data_again d k bytes h (joined others ++ rest))
-          ∙ run_again d k others r rest
+      ∙ step_repeat (length others) (data_of (under d) k) (bytes ++ (joined others ++ rest)) (joined others ++ rest) (data_again d k bytes h (joined others ++ rest))
+      ∙ run_again d k others r rest
 
   constructor_again : (d : ℕ) (constructor : List ℕ) → Constructor d constructor → (n : ℕ) (rest : List ℕ) → length constructor ≤ n → constructor_of (under d) n (constructor ++ rest) ≡ Some rest
   constructor_again d _ (plain_constructor _ code h) zero rest le = absurd (omega arith)
@@ -216,4 +216,4 @@ mutual
   constructor_again _ _ (described_constructor d descriptor constructor v h) zero rest le = absurd (omega arith)
   constructor_again _ _ (described_constructor d descriptor constructor v h) (suc n) rest le =
       step_constructor d n ((descriptor ++ constructor) ++ rest) (constructor ++ rest) (ap (value_of (under (suc d))) (append_assoc descriptor constructor rest) ∙ value_again (suc d) descriptor v (constructor ++ rest))
-          ∙ constructor_again (suc d) constructor h n rest (omega (arith, length-append descriptor constructor))
+      ∙ constructor_again (suc d) constructor h n rest (omega (arith, length-append descriptor constructor))

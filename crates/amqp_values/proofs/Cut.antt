@@ -1,7 +1,7 @@
 -- The parts of lists and maps are cut where the grammar cuts them.
-use Rattle.std.proofs.Common.{eqb, true, false, ◌≡◌, ◌≢◌, ℕ, zero, suc, ◌-◌, ◌≤◌, Bool, List, [], ◌∷◌, ◌++◌, length, take, drop, Some, None, refl, sym, ap, subst, ◌∙◌, arith}
+use Rattle.std.proofs.Common.{eqb, true, ◌≡◌, ◌≢◌, ℕ, zero, suc, ◌-◌, ◌≤◌, Bool, List, [], ◌∷◌, ◌++◌, length, take, drop, Some, None, refl, sym, ap, subst, ◌∙◌, arith}
 use Rattle.std.proofs.lemmas.Bool.{eq-eqb, ne_eqb}
-use Rattle.std.proofs.lemmas.List.{append-nil, drop_at}
+use Rattle.std.proofs.lemmas.List.{drop_at}
 use Rattle.amqp_values.specs.Reading.{◌>>=◌, byte_at, count_at, region_at, IsNumber, joined}
 use Rattle.amqp_values.proofs.Format.{bind_some, pair_is}
 use Rattle.amqp_values.specs.declared.kind.Kind.{Kind}
@@ -61,7 +61,7 @@ next_all n bytes a b h ne e =
     record {
       values = tail 64 a (parts_at (n - 1) b) (subst (Values 64) p h.values);
       whole = sym (drop_at a b (length a) refl) ∙ ap (drop (length a)) whole ∙ drop_at a (joined (parts_at (n - 1) b)) (length a) refl;
-      count = let c : length (parts_at n bytes) ≡ suc (length (parts_at (n - 1) b)) = ap length p in omega (arith, h.count, c)
+      count = let c : length (parts_at n bytes) ≡ suc (length (parts_at (n - 1) b)) = ap length p in omega (arith, h.count, c);
     }
 
 pub next_value : (bytes a b : List ℕ) → front_at bytes ≡ Some (a, b) → IsValue 64 a
@@ -140,7 +140,7 @@ halved _ _ le (g.described d descriptor value v w) a b e =
     record {
       whole = ap (λ (x : List ℕ). 0x00 ∷ x ++ value) s.0 ∙ ap (λ (x : List ℕ). 0x00 ∷ a ++ x) s.1;
       descriptor_is = subst (IsValue 64) s.0 up_v;
-      inner_is = subst (IsValue 64) s.1 up_w
+      inner_is = subst (IsValue 64) s.1 up_w;
     }
 
 pub unhalved : (whole : List ℕ) → halves_at whole ≡ None → (a b : List ℕ) → IsDescribed whole a b → ⊥

@@ -1,5 +1,5 @@
 -- The test of a descriptor tells whether it stands for a terminal state.
-use Rattle.std.proofs.Common.{◌≡◌, ℕ, Bool, true, false, cond, eqb, ◌||◌, ◌&&◌, List, [], ◌∷◌, ◌++◌, length, Option, Some, None, refl, sym, ap, subst, ◌∙◌, inl, inr, ◌⊎◌}
+use Rattle.std.proofs.Common.{◌≡◌, ℕ, Bool, true, false, eqb, ◌||◌, ◌&&◌, List, [], ◌∷◌, ◌++◌, length, Option, Some, None, refl, sym, ap, subst, ◌∙◌, inl, inr, ◌⊎◌}
 use Rattle.std.specs.Prelude.{codes, IsTrue, ◌↔◌}
 use Rattle.std.specs.Int.{w64, from_be_bytes}
 use Rattle.std.specs.Str.{bytes_eq}
@@ -28,30 +28,30 @@ one_of false false false d e = inr (inr (inr e))
 
 numbered : (n : ℕ) → has_outcome_number n ≡ true → (name : List ℕ) × IsOutcome n name
 numbered n e = elim (one_of (eqb n 0x24) (eqb n 0x25) (eqb n 0x26) (eqb n 0x27) e) [
-    | inl t ↦ (codes "amqp:accepted:list", subst (λ m. IsOutcome m (codes "amqp:accepted:list")) (sym (eqb-true n 0x24 t)) accepted)
-    | inr s ↦ elim s [
-        | inl t ↦ (codes "amqp:rejected:list", subst (λ m. IsOutcome m (codes "amqp:rejected:list")) (sym (eqb-true n 0x25 t)) rejected)
-        | inr r ↦ elim r [
-            | inl t ↦ (codes "amqp:released:list", subst (λ m. IsOutcome m (codes "amqp:released:list")) (sym (eqb-true n 0x26 t)) released)
-            | inr t ↦ (codes "amqp:modified:list", subst (λ m. IsOutcome m (codes "amqp:modified:list")) (sym (eqb-true n 0x27 t)) modified)
-          ]
-      ]
+  | inl t ↦ (codes "amqp:accepted:list", subst (λ m. IsOutcome m (codes "amqp:accepted:list")) (sym (eqb-true n 0x24 t)) accepted)
+  | inr s ↦ elim s [
+    | inl t ↦ (codes "amqp:rejected:list", subst (λ m. IsOutcome m (codes "amqp:rejected:list")) (sym (eqb-true n 0x25 t)) rejected)
+    | inr r ↦ elim r [
+      | inl t ↦ (codes "amqp:released:list", subst (λ m. IsOutcome m (codes "amqp:released:list")) (sym (eqb-true n 0x26 t)) released)
+      | inr t ↦ (codes "amqp:modified:list", subst (λ m. IsOutcome m (codes "amqp:modified:list")) (sym (eqb-true n 0x27 t)) modified)
+    ]
   ]
+]
 
 same : (a b : List ℕ) → bytes_eq a b ≡ true → b ≡ a
 same a b e = sym ((bytes_eq-Decides a b).0 e)
 
 named : (name : List ℕ) → has_outcome_name name ≡ true → (n : ℕ) × IsOutcome n name
 named name e = elim (one_of (bytes_eq name (codes "amqp:accepted:list")) (bytes_eq name (codes "amqp:rejected:list")) (bytes_eq name (codes "amqp:released:list")) (bytes_eq name (codes "amqp:modified:list")) e) [
-    | inl t ↦ (0x24, subst (IsOutcome 0x24) (same name _ t) accepted)
-    | inr s ↦ elim s [
-        | inl t ↦ (0x25, subst (IsOutcome 0x25) (same name _ t) rejected)
-        | inr r ↦ elim r [
-            | inl t ↦ (0x26, subst (IsOutcome 0x26) (same name _ t) released)
-            | inr t ↦ (0x27, subst (IsOutcome 0x27) (same name _ t) modified)
-          ]
-      ]
+  | inl t ↦ (0x24, subst (IsOutcome 0x24) (same name _ t) accepted)
+  | inr s ↦ elim s [
+    | inl t ↦ (0x25, subst (IsOutcome 0x25) (same name _ t) rejected)
+    | inr r ↦ elim r [
+      | inl t ↦ (0x26, subst (IsOutcome 0x26) (same name _ t) released)
+      | inr t ↦ (0x27, subst (IsOutcome 0x27) (same name _ t) modified)
+    ]
   ]
+]
 
 number_true : (n : ℕ) (name : List ℕ) → IsOutcome n name → has_outcome_number n ≡ true
 number_true _ _ accepted = refl
@@ -79,9 +79,9 @@ small_found (n ∷ others) e =
 
 large_found : (bytes : List ℕ) → spells_large bytes ≡ true → Stands (0x80 ∷ bytes)
 large_found bytes e = elim (chosen (eqb (length bytes) 8) (has_outcome_number (from_be_bytes w64 bytes)) false true e) [
-    | inl t ↦ let o = numbered (from_be_bytes w64 bytes) t.1 in (from_be_bytes w64 bytes, o.0, large_number o.0 bytes (eqb-true _ _ t.0), o.1)
-    | inr t ↦ absurd (let f = t.1 in cc)
-  ]
+  | inl t ↦ let o = numbered (from_be_bytes w64 bytes) t.1 in (from_be_bytes w64 bytes, o.0, large_number o.0 bytes (eqb-true _ _ t.0), o.1)
+  | inr t ↦ absurd (let f = t.1 in cc)
+]
 
 whole_name : (o : Option (List ℕ × List ℕ)) → is_whole_name o ≡ true → (name : List ℕ) × (o ≡ Some (name, [])) × (has_outcome_name name ≡ true)
 whole_name None e = absurd cc
@@ -115,18 +115,18 @@ stands_found : (descriptor : List ℕ) → stands_for_outcome descriptor ≡ tru
 unfolding spells_outcome
 stands_found [] e = absurd cc
 stands_found (code ∷ bytes) e = elim (chosen (eqb code 0x53) _ _ true e) [
-    | inl t ↦ coded code 0x53 bytes t.0 (small_found bytes t.1)
-    | inr a ↦ elim (chosen (eqb code 0x80) _ _ true a.1) [
-        | inl t ↦ coded code 0x80 bytes t.0 (large_found bytes t.1)
-        | inr b ↦ elim (chosen (eqb code 0xa3) _ _ true b.1) [
-            | inl t ↦ coded code 0xa3 bytes t.0 (short_found bytes t.1)
-            | inr c ↦ elim (chosen (eqb code 0xb3) _ _ true c.1) [
-                | inl t ↦ coded code 0xb3 bytes t.0 (long_found bytes t.1)
-                | inr d ↦ absurd (let f = d.1 in cc)
-              ]
-          ]
+  | inl t ↦ coded code 0x53 bytes t.0 (small_found bytes t.1)
+  | inr a ↦ elim (chosen (eqb code 0x80) _ _ true a.1) [
+    | inl t ↦ coded code 0x80 bytes t.0 (large_found bytes t.1)
+    | inr b ↦ elim (chosen (eqb code 0xa3) _ _ true b.1) [
+      | inl t ↦ coded code 0xa3 bytes t.0 (short_found bytes t.1)
+      | inr c ↦ elim (chosen (eqb code 0xb3) _ _ true c.1) [
+        | inl t ↦ coded code 0xb3 bytes t.0 (long_found bytes t.1)
+        | inr d ↦ absurd (let f = d.1 in cc)
       ]
+    ]
   ]
+]
 
 stands_again : (n : ℕ) (name descriptor : List ℕ) → StandsFor n name descriptor → IsOutcome n name → stands_for_outcome descriptor ≡ true
 unfolding spells_outcome spells_name

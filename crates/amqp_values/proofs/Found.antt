@@ -46,7 +46,7 @@ run_found d k f finds (suc n) bytes rest e =
 pub record Found (d : ℕ) : Type 0 where
   pub value : Finds (IsValue d) (value_of (under d))
   pub elements : (n : ℕ) (bytes rest : List ℕ) → elements_of (under d) (suc n) bytes ≡ Some rest
-    → (constructor : List ℕ) × (elements : List (List ℕ)) × Elements d constructor elements × (length elements ≡ suc n) × (bytes ≡ (constructor ++ joined elements) ++ rest)
+      → (constructor : List ℕ) × (elements : List (List ℕ)) × Elements d constructor elements × (length elements ≡ suc n) × (bytes ≡ (constructor ++ joined elements) ++ rest)
   pub constructor : (n : ℕ) → Finds (Constructor d) (constructor_of (under d) n)
 
 abbrev Below : ℕ → Type 0
@@ -217,7 +217,7 @@ constructor_found d b (suc n) (c ∷ bytes) rest e =
             let v = constructor_found d b n r.0 rest r.2 in
             let whole : bytes ≡ (a.0 ++ v.0) ++ rest = a.2 ∙ ap (λ (x : List ℕ). a.0 ++ x) v.2 ∙ sym (append_assoc a.0 v.0 rest) in
             (0x00 ∷ a.0 ++ v.0, described_here d a.0 v.0 u.0 a.1 v.1, headed c 0 bytes (a.0 ++ v.0) rest (eqb-true c 0 t.0) whole)
-        ]
+      ]
       | inr t ↦ elim (chosen (may_hold (under d) (kind_of c)) _ _ _ t.1) [
         | inl u ↦
             let same : c ∷ bytes ≡ c ∷ rest = ap (λ (x : List ℕ). c ∷ x) (some_is bytes rest u.1) in
@@ -226,7 +226,7 @@ constructor_found d b (suc n) (c ∷ bytes) rest e =
               | inr p ↦ (c ∷ [], compound_here d c p.0 p.1, same)
             ]
         | inr u ↦ absurd (let f = u.1 in cc)
-        ]
+      ]
     ]
 
 make : (d : ℕ) → Below d → Found d

@@ -60,8 +60,8 @@ raw_is bytes rest c behind e b ne =
     let cut : take (length bytes - length rest) bytes ≡ f.0 = ap (λ (x : List ℕ). take (length x - length rest) x) f.2 ∙ (cut_is f.0 rest).0 in
     let left : drop (length bytes - length rest) bytes ≡ rest = ap (λ (x : List ℕ). drop (length x - length rest) x) f.2 ∙ (cut_is f.0 rest).1 in
     let other : f.0 ≢ 0x40 ∷ [] = λ null.
-        let same : c ∷ behind ≡ 0x40 ∷ rest = sym (byte_found bytes c behind b) ∙ f.2 ∙ ap (λ (x : List ℕ). x ++ rest) null in
-        let code : c ≡ 0x40 = cc in ne code in
+    let same : c ∷ behind ≡ 0x40 ∷ rest = sym (byte_found bytes c behind b) ∙ f.2 ∙ ap (λ (x : List ℕ). x ++ rest) null in
+    let code : c ≡ 0x40 = cc in ne code in
     (subst IsRaw (sym cut) (record { value = f.1; not_null = other }), f.2 ∙ ap (λ (x : List ℕ). x ++ rest) (sym cut), left)
 
 raw_found : (bytes v rest : List ℕ) → raw_at bytes ≡ Some (v, rest) → (text : List ℕ) × SpellsRaw v text × (bytes ≡ text ++ rest)
@@ -84,8 +84,8 @@ raw_again v text rest h =
     let f = filled 64 text h.0.value in
     let first : byte_at (text ++ rest) ≡ Some (f.0, f.1 ++ rest) = ap (λ (x : List ℕ). byte_at (x ++ rest)) f.2 in
     let other : f.0 ≢ 0x40 = λ null.
-        let v1 : IsValue 64 (0x40 ∷ f.1) = subst (λ c. IsValue 64 (c ∷ f.1)) null (subst (IsValue 64) f.2 h.0.value) in
-        h.0.not_null (f.2 ∙ ap (λ c. c ∷ f.1) null ∙ ap (λ (x : List ℕ). 0x40 ∷ x) (null_alone 64 f.1 v1)) in
+    let v1 : IsValue 64 (0x40 ∷ f.1) = subst (λ c. IsValue 64 (c ∷ f.1)) null (subst (IsValue 64) f.2 h.0.value) in
+    h.0.not_null (f.2 ∙ ap (λ c. c ∷ f.1) null ∙ ap (λ (x : List ℕ). 0x40 ∷ x) (null_alone 64 f.1 v1)) in
     let z : eqb f.0 0x40 ≡ false = ne_eqb _ _ other in
     rw (value_is_read 64 text h.0.value rest, first, z, (cut_is text rest).0, (cut_is text rest).1, h.1) refl
 

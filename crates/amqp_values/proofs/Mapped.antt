@@ -1,20 +1,19 @@
 -- Reading a map is exactly the raw values whose code is that of a map.
-use Rattle.std.proofs.Common.{◌≡◌, ℕ, true, false, cond, eqb, ◌||◌, List, [], ◌∷◌, ◌++◌, Option, Some, None, refl, sym, ap, subst, ◌∙◌, inl, inr}
+use Rattle.std.proofs.Common.{◌≡◌, ℕ, true, false, cond, List, [], ◌∷◌, ◌++◌, Some, None, refl, sym, ap, subst, ◌∙◌, inl, inr}
 use Rattle.std.proofs.lemmas.Bool.Decides.{eqb_tells}
-use Rattle.amqp_values.specs.Reading.{◌>>=◌}
-use Rattle.amqp_values.specs.Raw.{IsRaw, HasMapCode, map8, map32, has_map_code, IsMap, SpellsMap, raw_at, map_at}
+use Rattle.amqp_values.specs.Raw.{HasMapCode, map8, map32, has_map_code, SpellsMap, raw_at, map_at}
 use Rattle.amqp_values.proofs.Format.{IsFormat, bind_some, pair_is, chosen}
 use Rattle.amqp_values.proofs.Law.{raw_format}
 
 pub map_code : (bytes : List ℕ) → has_map_code bytes ≡ true → HasMapCode bytes
 map_code [] e = absurd cc
 map_code (code ∷ others) e = elim (eqb_tells code 0xc1) [
-    | inl t ↦ subst (λ c. HasMapCode (c ∷ others)) (sym t.1) (map8 others)
-    | inr t ↦ elim (eqb_tells code 0xd1) [
-        | inl u ↦ subst (λ c. HasMapCode (c ∷ others)) (sym u.1) (map32 others)
-        | inr u ↦ absurd (let f : false ≡ true = rw (t.0, u.0) at e in cc)
-      ]
+  | inl t ↦ subst (λ c. HasMapCode (c ∷ others)) (sym t.1) (map8 others)
+  | inr t ↦ elim (eqb_tells code 0xd1) [
+    | inl u ↦ subst (λ c. HasMapCode (c ∷ others)) (sym u.1) (map32 others)
+    | inr u ↦ absurd (let f : false ≡ true = rw (t.0, u.0) at e in cc)
   ]
+]
 
 pub has_code : (bytes : List ℕ) → HasMapCode bytes → has_map_code bytes ≡ true
 has_code _ (map8 others) = refl

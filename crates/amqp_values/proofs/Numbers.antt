@@ -1,5 +1,5 @@
 -- Numbers, regions and compound data: read exactly as they are spelled.
-use Rattle.std.proofs.Common.{◌≡◌, ℕ, ◌≤◌, Bool, true, false, cond, ltb, List, [], ◌∷◌, ◌++◌, length, take, drop, Option, Some, None, refl, sym, ap, subst, ◌∙◌, arith, inl, inr, ◌⊎◌, append_assoc}
+use Rattle.std.proofs.Common.{◌≡◌, ℕ, ◌≤◌, Bool, true, false, ltb, List, [], ◌∷◌, ◌++◌, length, take, drop, Option, Some, refl, sym, ap, subst, ◌∙◌, arith, inl, inr, append_assoc}
 use Rattle.std.specs.Int.{w32, from_be_bytes}
 use Rattle.std.proofs.lemmas.Bool.{ltb-false, le-ltb}
 use Rattle.std.proofs.lemmas.List.{append-nil, take_at, drop_at, take-append-drop, length-append, length-take}
@@ -65,8 +65,8 @@ pub region_again : (wide : Bool) (size inner rest : List ℕ) → IsNumber wide 
 unfolding region_at
 region_again wide size inner rest h =
     ap (λ (x : List ℕ). count_at wide x >>= λ n. cut_at n.0 n.1) (append_assoc size inner rest)
-        ∙ ap (λ (x : Option (ℕ × List ℕ)). x >>= λ n. cut_at n.0 n.1) (count_again wide size (length inner) (inner ++ rest) h)
-        ∙ cut_again (length inner) inner rest refl
+    ∙ ap (λ (x : Option (ℕ × List ℕ)). x >>= λ n. cut_at n.0 n.1) (count_again wide size (length inner) (inner ++ rest) h)
+    ∙ cut_again (length inner) inner rest refl
 
 pub region_all : (wide : Bool) (size inner : List ℕ) → IsNumber wide size (length inner) → region_at wide (size ++ inner) ≡ Some (inner, [])
 region_all wide size inner h = ap (region_at wide) (sym (append-nil (size ++ inner))) ∙ region_again wide size inner [] h
@@ -102,7 +102,7 @@ compound_found l k wide bytes rest e =
       size_is = subst (λ (x : List ℕ). IsNumber wide f.0 (length x)) n.2 f.1;
       count_is = n.1;
       inside_is = i.1 ∙ ap (λ (x : List ℕ). Some x) d.0;
-      whole = f.2 ∙ ap (λ (x : List ℕ). (f.0 ++ x) ++ r.0.1) n.2 ∙ ap (λ (x : List ℕ). (f.0 ++ (n.0 ++ c.0.1)) ++ x) d.1
+      whole = f.2 ∙ ap (λ (x : List ℕ). (f.0 ++ x) ++ r.0.1) n.2 ∙ ap (λ (x : List ℕ). (f.0 ++ (n.0 ++ c.0.1)) ++ x) d.1;
     }
 
 pub compound_again : (l : Level) (k : Kind) (wide : Bool) (size count body rest : List ℕ) (n : ℕ) → IsNumber wide size (length (count ++ body)) → IsNumber wide count n

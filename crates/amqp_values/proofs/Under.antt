@@ -72,9 +72,9 @@ same_data b kind.Unknown bytes e = absurd cc
 
 pub dataless_run : (b : Option Level) (k : Kind) (count : ℕ) (bytes : List ℕ) → 0 < count → is_dataless k ≡ true → run_of b k count bytes ≡ data_of b k bytes
 dataless_run b k count bytes lt e = elim (same_data b k bytes e) [
-    | inl s ↦ run_is b k count bytes ∙ repeat_same (data_of b k) count bytes s ∙ sym s
-    | inr s ↦ run_is b k count bytes ∙ repeat_fails_first (data_of b k) count bytes lt s ∙ sym s
-  ]
+  | inl s ↦ run_is b k count bytes ∙ repeat_same (data_of b k) count bytes s ∙ sym s
+  | inr s ↦ run_is b k count bytes ∙ repeat_fails_first (data_of b k) count bytes lt s ∙ sym s
+]
 
 -- ---- the constructor of an array with no elements
 

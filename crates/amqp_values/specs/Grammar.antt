@@ -1,5 +1,5 @@
 -- The grammar of values, on whole byte strings. `IsValue d text`: the bytes are exactly one value, of a depth of at most d.
-use Rattle.std.specs.Prelude.{◌≡◌, ◌<◌, ℕ, suc, ◌%◌, List, [], ◌∷◌, ◌++◌, length, Bool, true, false}
+use Rattle.std.specs.Prelude.{◌≡◌, ◌<◌, ℕ, suc, ◌%◌, List, [], ◌∷◌, ◌++◌, length, Bool}
 use Rattle.amqp_values.specs.declared.kind.Kind.{Kind}
 use Rattle.amqp_values.specs.declared.kind.Kind.TheVariants as kind
 use Rattle.amqp_values.specs.Kind.{kind_of, IsPlain, IsCompound}
@@ -18,13 +18,13 @@ mutual
     variable : (d : ℕ) (wide : Bool) (size bytes : List ℕ) → IsNumber wide size (length bytes) → Data d (kind.Variable wide) (size ++ bytes)
     list0 : (d : ℕ) → Data (suc d) kind.List0 []
     list : (d : ℕ) (wide : Bool) (size count : List ℕ) (parts : List (List ℕ)) → IsNumber wide size (length (count ++ joined parts)) → IsNumber wide count (length parts)
-      → Values d parts → Data (suc d) (kind.List wide) (size ++ (count ++ joined parts))
+        → Values d parts → Data (suc d) (kind.List wide) (size ++ (count ++ joined parts))
     map : (d : ℕ) (wide : Bool) (size count : List ℕ) (parts : List (List ℕ)) → IsNumber wide size (length (count ++ joined parts)) → IsNumber wide count (length parts)
-      → length parts % 2 ≡ 0 → Values d parts → Data (suc d) (kind.Map wide) (size ++ (count ++ joined parts))
+        → length parts % 2 ≡ 0 → Values d parts → Data (suc d) (kind.Map wide) (size ++ (count ++ joined parts))
     array : (d : ℕ) (wide : Bool) (size count constructor : List ℕ) (elements : List (List ℕ)) → IsNumber wide size (length (count ++ (constructor ++ joined elements)))
-      → IsNumber wide count (length elements) → Elements d constructor elements → Data (suc d) (kind.Array wide) (size ++ (count ++ (constructor ++ joined elements)))
+        → IsNumber wide count (length elements) → Elements d constructor elements → Data (suc d) (kind.Array wide) (size ++ (count ++ (constructor ++ joined elements)))
     no_elements : (d : ℕ) (wide : Bool) (size count constructor : List ℕ) → IsNumber wide size (length (count ++ constructor)) → IsNumber wide count 0
-      → Constructor d constructor → Data (suc d) (kind.Array wide) (size ++ (count ++ constructor))
+        → Constructor d constructor → Data (suc d) (kind.Array wide) (size ++ (count ++ constructor))
     bare : (d : ℕ) (wide : Bool) (size count : List ℕ) → IsNumber wide size (length count) → IsNumber wide count 0 → Data (suc d) (kind.Array wide) (size ++ count)
 
   -- each part is one value
@@ -36,7 +36,7 @@ mutual
   pub data Elements : ℕ → List ℕ → List (List ℕ) → Type 0 where
     plain_elements : (d code : ℕ) (elements : List (List ℕ)) → Run d (kind_of code) elements → Elements d (code ∷ []) elements
     described_elements : (d : ℕ) (descriptor constructor : List ℕ) (elements : List (List ℕ)) → IsValue d descriptor → Elements d constructor elements
-      → Elements (suc d) (0x00 ∷ descriptor ++ constructor) elements
+        → Elements (suc d) (0x00 ∷ descriptor ++ constructor) elements
 
   pub data Run : ℕ → Kind → List (List ℕ) → Type 0 where
     last : (d : ℕ) (k : Kind) (bytes : List ℕ) → Data d k bytes → Run d k (bytes ∷ [])
@@ -47,4 +47,4 @@ mutual
     plain_constructor : (d code : ℕ) → IsPlain (kind_of code) → Constructor d (code ∷ [])
     compound_constructor : (d code : ℕ) → IsCompound (kind_of code) → Constructor (suc d) (code ∷ [])
     described_constructor : (d : ℕ) (descriptor constructor : List ℕ) → IsValue (suc d) descriptor → Constructor (suc d) constructor
-      → Constructor (suc d) (0x00 ∷ descriptor ++ constructor)
+        → Constructor (suc d) (0x00 ∷ descriptor ++ constructor)

@@ -2,7 +2,7 @@
 use Rattle.std.specs.Prelude.{◌≡◌, ℕ, List, [], ◌∷◌, ◌++◌, length, Bool, true, false, Option, Some, None, ◌==◌, ◌&&◌, ◌||◌, if◌then◌else◌, codes}
 use Rattle.std.specs.Str.{bytes_eq}
 use Rattle.std.specs.Int.{w64, from_be_bytes}
-use Rattle.amqp_values.specs.Reading.{byte_at, region_at, is_empty, IsNumber}
+use Rattle.amqp_values.specs.Reading.{region_at, is_empty, IsNumber}
 use Rattle.amqp_values.specs.Parts.{IsDescribed}
 
 -- the number and the name of each

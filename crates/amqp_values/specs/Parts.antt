@@ -12,9 +12,9 @@ use Rattle.amqp_values.specs.Grammar.{IsValue, Values}
 pub data ItemsIn : Kind → List ℕ → List (List ℕ) → Type 0 where
   no_items : ItemsIn kind.List0 [] []
   list_items : (wide : Bool) (size count : List ℕ) (parts : List (List ℕ)) → IsNumber wide size (length (count ++ joined parts)) → IsNumber wide count (length parts)
-    → Values 64 parts → ItemsIn (kind.List wide) (size ++ (count ++ joined parts)) parts
+      → Values 64 parts → ItemsIn (kind.List wide) (size ++ (count ++ joined parts)) parts
   map_items : (wide : Bool) (size count : List ℕ) (parts : List (List ℕ)) → IsNumber wide size (length (count ++ joined parts)) → IsNumber wide count (length parts)
-    → length parts % 2 ≡ 0 → Values 64 parts → ItemsIn (kind.Map wide) (size ++ (count ++ joined parts)) parts
+      → length parts % 2 ≡ 0 → Values 64 parts → ItemsIn (kind.Map wide) (size ++ (count ++ joined parts)) parts
 
 pub record IsItems (bytes : List ℕ) (parts : List (List ℕ)) : Type 0 where
   pub code : ℕ

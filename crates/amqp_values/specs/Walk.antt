@@ -1,5 +1,5 @@
 -- What is left behind a value of a depth of at most so much.
-use Rattle.std.specs.Prelude.{ℕ, zero, suc, ◌%◌, List, [], ◌∷◌, length, take, drop, Option, Some, None, Bool, true, false, nat_lt, ◌==◌, if◌then◌else◌}
+use Rattle.std.specs.Prelude.{ℕ, zero, suc, ◌%◌, List, length, Option, Some, None, Bool, true, false, nat_lt, ◌==◌, if◌then◌else◌}
 use Rattle.amqp_values.specs.declared.kind.Kind.{Kind}
 use Rattle.amqp_values.specs.declared.kind.Kind.TheVariants as kind
 use Rattle.amqp_values.specs.Kind.{kind_of}

@@ -46,7 +46,11 @@ impl Fields {
     pub fn new(raw: Raw) -> Option<Fields>
         ensures { MakesFields raw result }
     {
-        if is_map(&raw) { Some(Fields { raw }) } else { None }
+        if is_map(&raw) {
+            Some(Fields { raw })
+        } else {
+            None
+        }
     }
 
     /// The whole map as a raw value.
@@ -63,7 +67,11 @@ impl Fields {
         ensures { Gives (λ v. v) result bytes.new (map_at bytes.old) }
     {
         let raw = Raw::take(bytes)?;
-        if is_map(&raw) { Ok(Fields { raw }) } else { Err(ReadError::Malformed) }
+        if is_map(&raw) {
+            Ok(Fields { raw })
+        } else {
+            Err(ReadError::Malformed)
+        }
     }
 }
 

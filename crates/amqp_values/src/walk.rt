@@ -18,7 +18,10 @@ pub(crate) fn count(wide: bool, bytes: &[u8]) -> Option<(u32, &[u8])>
             return None;
         }
         let (front, rest) = bytes.split_at(4);
-        Some((u32::from_be_bytes([front[0], front[1], front[2], front[3]]), rest))
+        Some((
+            u32::from_be_bytes([front[0], front[1], front[2], front[3]]),
+            rest,
+        ))
     } else {
         match bytes {
             [] => None,
@@ -94,14 +97,10 @@ fn data(kind: Kind, bytes: &[u8], depth: u8) -> Option<&[u8]>
             let (_, rest) = region(wide, bytes)?;
             Some(rest)
         }
-        Kind::List0 => {
-            if depth == 0 {
-                None
-            } else {
-                Some(bytes)
-            }
-        }
-        Kind::List(wide) | Kind::Map(wide) | Kind::Array(wide) => compound(kind, wide, bytes, depth),
+        Kind::List0 => { if depth == 0 { None } else { Some(bytes) } }
+        Kind::List(wide) | Kind::Map(wide) | Kind::Array(wide) => compound(
+            kind, wide, bytes, depth,
+        ),
         Kind::Unknown => None,
     }
 }
@@ -139,7 +138,11 @@ fn inside(kind: Kind, count: u32, bytes: &[u8], depth: u8) -> Option<&[u8]>
         }
         Kind::Array(_) => {
             if count == 0 {
-                if bytes.is_empty() { Some(bytes) } else { constructor(bytes, depth) }
+                if bytes.is_empty() {
+                    Some(bytes)
+                } else {
+                    constructor(bytes, depth)
+                }
             } else {
                 elements(count, bytes, depth)
             }
@@ -187,7 +190,11 @@ fn constructor(bytes: &[u8], depth: u8) -> Option<&[u8]>
     for _ in 0..bytes.len() {
         let (code, behind) = first(rest)?;
         if code != 0 {
-            return if may_hold(kind_at(code), depth) { Some(behind) } else { None };
+            return if may_hold(kind_at(code), depth) {
+                Some(behind)
+            } else {
+                None
+            };
         }
         if depth == 0 {
             return None;
@@ -220,13 +227,7 @@ fn may_hold(kind: Kind, depth: u8) -> bool
 {
     match kind {
         Kind::Unknown => false,
-        Kind::List(_) | Kind::Map(_) | Kind::Array(_) => {
-            if depth == 0 {
-                false
-            } else {
-                true
-            }
-        }
+        Kind::List(_) | Kind::Map(_) | Kind::Array(_) => { if depth == 0 { false } else { true } }
         Kind::Fixed(_) | Kind::Flag | Kind::Variable(_) | Kind::List0 => true,
     }
 }

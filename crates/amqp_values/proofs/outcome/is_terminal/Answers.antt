@@ -1,4 +1,4 @@
-use Rattle.std.proofs.Common.{◌≡◌, ◌∙◌, ap, subst}
+use Rattle.std.proofs.Common.{◌∙◌, ap, subst}
 use Rattle.amqp_values.specs.Parts.{IsDescribed}
 use Rattle.amqp_values.specs.Outcome.{stands_for_outcome}
 use Rattle.amqp_values.proofs.Final.{terminal_by}

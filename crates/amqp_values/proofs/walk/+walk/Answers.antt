@@ -100,7 +100,7 @@ constructor-returns-in_err-rest t c =
 pub constructor-loop-preserved : goal.constructor-loop-preserved
 constructor-loop-preserved t c =
     con_more (under c.args.depth) (length c.args.bytes.now) c.loop.counter c.in_ok-code.code c.loop.rest.now c.in_ok-code.behind.now c.in_ok-rest.rest.now c.loop-test.true (not_ground c.args.depth (omega arith)) (sym c.in_ok-code.ensures) c.if-code-ne0.false (sym c.in_ok-rest.ensures)
-        ∙ c.loop.invariant
+    ∙ c.loop.invariant
 
 pub constructor-returns : goal.constructor-returns
 constructor-returns t c = sym (sym c.loop.invariant ∙ con_done (under c.args.depth) (length c.args.bytes.now) c.loop.counter c.loop.rest.now c.loop-test.false)
