@@ -1,5 +1,5 @@
 -- A reader of a front that is exactly a grammar, and what its function's answer is worth.
-use Rattle.std.proofs.Common.{◌≡◌, ℕ, Bool, true, false, cond, List, [], ◌∷◌, ◌++◌, Option, Some, None, refl, ap, subst, ◌∙◌, inl, inr, ◌⊎◌}
+use Rattle.std.proofs.Common.{◌≡◌, ℕ, Bool, true, false, cond, List, ◌∷◌, ◌++◌, Option, Some, None, refl, ap, subst, ◌∙◌, inl, inr, ◌⊎◌}
 use Rattle.std.specs.Prelude.{Result, Ok, Err, IfOk}
 use Rattle.amqp_values.specs.declared.error.ReadError.{ReadError}
 use Rattle.amqp_values.specs.Reading.{◌>>=◌, Answers, Takes, ReadsFront}
@@ -39,6 +39,6 @@ reads_found Is at law bytes (Err e) a = tt
 pub is_read : {V : Type 0} (Is : V → List ℕ → Type 0) (at : List ℕ → Option (V × List ℕ)) → IsFormat Is at → (bytes : List ℕ) (r : Result (V × List ℕ) ReadError)
     → Answers {Y = V × List ℕ} (λ x. x) r (at bytes) → ReadsFront Is bytes r
 is_read {V} Is at law bytes r a = record {
-    found = reads_found Is at law bytes r a;
-    only = λ v text rest h e. subst (λ (o : Option (V × List ℕ)). Answers {Y = V × List ℕ} (λ x. x) r o) (ap at e ∙ law.again v text rest h) a
+  found = reads_found Is at law bytes r a;
+  only = λ v text rest h e. subst (λ (o : Option (V × List ℕ)). Answers {Y = V × List ℕ} (λ x. x) r o) (ap at e ∙ law.again v text rest h) a;
 }

@@ -8,4 +8,13 @@ pub mod CompositeLaws
 pub mod SymbolLaws
 pub mod Trim
 pub mod Loops
-pub mod Items
+pub mod ArrayItems
+pub mod Under
+pub mod Numbers
+pub mod Found
+pub mod Again
+pub mod Law
+pub mod Deeper
+pub mod Cut
+pub mod Mapped
+pub mod Final

@@ -6,3 +6,9 @@ pub mod Slots
 pub mod Composite
 pub mod Writing
 pub mod Same
+pub mod Kind
+pub mod Walk
+pub mod Grammar
+pub mod Raw
+pub mod Parts
+pub mod Outcome

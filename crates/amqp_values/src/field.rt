@@ -2,11 +2,14 @@
 
 ghost use Rattle.std.specs.Prelude.{◌≡◌, ℕ, List, Option, Bool};
 ghost use Rattle.amqp_values.specs.Reading.{Gives};
+ghost use Rattle.amqp_values.specs.Raw.{raw_at, map_at};
 ghost use Rattle.amqp_values.specs.Number.{ubyte_at, ushort_at, uint_at, ulong_at, boolean_at};
 
 use crate::codes;
 use crate::cursor::{take_byte, take_u16, take_u32, take_u64};
 use crate::error::ReadError;
+use crate::fields::Fields;
+use crate::raw::Raw;
 use bytes::Bytes;
 use std::alloc::Global;
 
@@ -111,5 +114,29 @@ impl Field for bool {
             },
             _ => Err(ReadError::Malformed),
         }
+    }
+}
+
+impl Field for Raw {
+    ghost Seen = { List ℕ };
+
+    ghost view = { λ v. v };
+
+    ghost at = { raw_at };
+
+    fn read(_alloc: Global, bytes: &mut Bytes) -> Result<Raw, ReadError> {
+        Raw::take(bytes)
+    }
+}
+
+impl Field for Fields {
+    ghost Seen = { List ℕ };
+
+    ghost view = { λ v. v };
+
+    ghost at = { map_at };
+
+    fn read(_alloc: Global, bytes: &mut Bytes) -> Result<Fields, ReadError> {
+        Fields::take(bytes)
     }
 }

@@ -1,7 +1,7 @@
 use Rattle.std.proofs.Common.{◌≡◌, ◌+◌, ◌++◌, List, ℕ, length, take, map, ap, sym, ◌∙◌, arith, append_assoc}
 use Rattle.std.proofs.lemmas.List.{length-append}
 use Rattle.amqp_values.specs.Writing.{item_text, run_text}
-use Rattle.amqp_values.proofs.Items.{short_item}
+use Rattle.amqp_values.proofs.ArrayItems.{short_item}
 use Rattle.amqp_values.proofs.Loops.{joined_more, room_for}
 use Rattle.amqp_values.proofs.array.put_run.Goals as goal
 

@@ -1,0 +1,15 @@
+use Rattle.std.proofs.Common.{◌≡◌, sym, arith, None}
+use Rattle.amqp_values.specs.Parts.{halves_at}
+use Rattle.amqp_values.proofs.Cut.{halved, unhalved}
+use Rattle.amqp_values.proofs.value.ValueRef.descriptor.Goals as goal
+
+pub returns-in_err-descriptor : goal.returns-in_err-descriptor
+returns-in_err-descriptor c =
+    let e : halves_at c.self.inside.bytes.now ≡ None = sym c.in_err-descriptor.ensures in
+    rw (c.from_residual.ensures, ← c.self.view_is) (unhalved c.self.inside.bytes.now e)
+
+pub invariant_of-result : goal.invariant_of-result
+invariant_of-result c = (halved 64 c.self.inside.bytes.now (omega arith) c.self.invariant c.in_ok-descriptor.descriptor.now c.in_ok-descriptor.inner.now (sym c.in_ok-descriptor.ensures)).descriptor_is
+
+pub returns : goal.returns
+returns c = rw (← c.self.view_is) (c.in_ok-descriptor.inner.now, (halved 64 c.self.inside.bytes.now (omega arith) c.self.invariant c.in_ok-descriptor.descriptor.now c.in_ok-descriptor.inner.now (sym c.in_ok-descriptor.ensures)))

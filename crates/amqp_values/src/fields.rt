@@ -1,0 +1,83 @@
+//! Fields: a map of any keys and values, kept as it came (AMQP 1.0 part 2, section 2.8.13, `fields`).
+
+ghost use Rattle.std.specs.Prelude.{◌≡◌};
+ghost use Rattle.amqp_values.specs.Reading.{Gives};
+ghost use Rattle.amqp_values.specs.Raw.{IsMap, MakesFields, has_map_code, map_at};
+
+use crate::error::ReadError;
+use crate::raw::Raw;
+use bytes::Bytes;
+use std::marker::Model;
+
+/// A raw value that is a map.
+#[derive(Clone, Debug, Drop)]
+pub struct Fields {
+    raw: Raw,
+}
+
+impl Model for Fields {
+    ghost use Rattle.std.specs.Prelude.{ℕ, List};
+    ghost use Rattle.amqp_values.specs.Raw.{IsMap};
+
+    ghost Value = { List ℕ };
+
+    ghost view = { λ f. f.raw };
+
+    ghost invariant = { λ f. IsMap f.raw };
+}
+
+impl PartialEq for Fields {
+    ghost use Rattle.std.specs.Prelude.{nat_eq};
+    ghost use Rattle.std.specs.Cmp.{partial_equiv_from_equiv};
+    ghost use Rattle.std.specs.Cmp.Lexicographic.{nat_list_eq_equiv, pointwise};
+
+    ghost eq = { pointwise nat_eq };
+
+    ghost laws = { partial_equiv_from_equiv nat_list_eq_equiv };
+
+    /// Whether both are spelled alike. The same entries in another order are another spelling.
+    fn eq(&self, other: &Fields) -> bool {
+        self.raw == other.raw
+    }
+}
+
+impl Fields {
+    /// The value as a map; `None` exactly where it is none (its code is neither `c1` nor `d1`; part 1, section 1.6.23).
+    pub fn new(raw: Raw) -> Option<Fields>
+        ensures { MakesFields raw result }
+    {
+        if is_map(&raw) {
+            Some(Fields { raw })
+        } else {
+            None
+        }
+    }
+
+    /// The whole map as a raw value.
+    pub fn raw(&self) -> &Raw
+        ensures value { result.now ≡ self.now }
+        ensures map { IsMap self.now }
+    {
+        &self.raw
+    }
+
+    /// Cuts the first value off the bytes, which is to be a map, and leaves the rest there.
+    #[tactic(auto, unfolding(crate::specs::Raw::map_at))]
+    pub(crate) fn take(bytes: &mut Bytes) -> Result<Fields, ReadError>
+        ensures { Gives (λ v. v) result bytes.new (map_at bytes.old) }
+    {
+        let raw = Raw::take(bytes)?;
+        if is_map(&raw) {
+            Ok(Fields { raw })
+        } else {
+            Err(ReadError::Malformed)
+        }
+    }
+}
+
+/// Whether the value is a map.
+fn is_map(raw: &Raw) -> bool
+    ensures { result ≡ has_map_code raw.now }
+{
+    matches!(raw.bytes(), [0xc1 | 0xd1, ..])
+}

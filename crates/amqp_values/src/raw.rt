@@ -1,0 +1,102 @@
+//! Raw values: one whole value of any type, kept as it came (AMQP 1.0 part 1, section 1.2).
+
+ghost use Rattle.std.specs.Prelude.{◌≡◌};
+ghost use Rattle.amqp_values.specs.Reading.{Answers, Gives, ReadsFront};
+ghost use Rattle.amqp_values.specs.Raw.{IsRaw, SpellsRaw, raw_at};
+
+use crate::error::ReadError;
+use crate::value::ValueRef;
+use crate::walk::{first, value_rest};
+use bytes::Bytes;
+use std::marker::Model;
+
+/// One whole value of any type but the bare null, of a depth of at most 64, as it was spelled.
+///
+/// Its bytes are a cut of those that it was read from: none is copied. Of a value only the structure is known:
+/// codes, sizes, lengths, counts and the data of booleans. The bytes of texts, symbols and characters are free.
+#[derive(Clone, Debug, Drop)]
+pub struct Raw {
+    bytes: Bytes,
+}
+
+impl Model for Raw {
+    ghost use Rattle.std.specs.Prelude.{ℕ, List};
+    ghost use Rattle.amqp_values.specs.Raw.{IsRaw};
+
+    ghost Value = { List ℕ };
+
+    ghost view = { λ r. r.bytes };
+
+    ghost invariant = { λ r. IsRaw r.bytes };
+}
+
+impl PartialEq for Raw {
+    ghost use Rattle.std.specs.Prelude.{nat_eq};
+    ghost use Rattle.std.specs.Cmp.{partial_equiv_from_equiv};
+    ghost use Rattle.std.specs.Cmp.Lexicographic.{nat_list_eq_equiv, pointwise};
+
+    ghost eq = { pointwise nat_eq };
+
+    ghost laws = { partial_equiv_from_equiv nat_list_eq_equiv };
+
+    /// Whether both are spelled alike. A number in another encoding is another spelling.
+    fn eq(&self, other: &Raw) -> bool {
+        self.bytes == other.bytes
+    }
+}
+
+impl Raw {
+    /// Takes the first value off the bytes, and gives it and the rest (part 1, section 1.6).
+    ///
+    /// `Malformed` where no front of the bytes is a value of a depth of at most 64, or where it is the null.
+    /// `OutOfMemory` where memory was refused.
+    pub fn read(bytes: Bytes) -> Result<(Raw, Bytes), ReadError>
+        ensures { ReadsFront SpellsRaw bytes result }
+    {
+        Raw::front(bytes)
+    }
+
+    /// The first value and the rest, as `take` gives them.
+    fn front(bytes: Bytes) -> Result<(Raw, Bytes), ReadError>
+        ensures { Answers (λ x. (x.0, x.1)) result (raw_at bytes) }
+    {
+        let mut rest = bytes;
+        let raw = Raw::take(&mut rest)?;
+        Ok((raw, rest))
+    }
+
+    /// Cuts the first value off the bytes, and leaves the rest there.
+    #[tactic(auto, unfolding(crate::specs::Raw::raw_at))]
+    pub(crate) fn take(bytes: &mut Bytes) -> Result<Raw, ReadError>
+        ensures { Gives (λ v. v) result bytes.new (raw_at bytes.old) }
+    {
+        let whole = bytes.as_slice();
+        let Some(rest) = value_rest(whole, 64) else {
+            return Err(ReadError::Malformed);
+        };
+        let Some((code, _)) = first(whole) else {
+            return Err(ReadError::Malformed);
+        };
+        if code == 0x40 {
+            return Err(ReadError::Malformed);
+        }
+        let len = whole.len() - rest.len();
+        let bytes = bytes.split_to(len)?;
+        Ok(Raw { bytes })
+    }
+
+    /// The bytes of the value, from its constructor to its end.
+    pub fn bytes(&self) -> &[u8]
+        ensures value { result.now ≡ self.now }
+        ensures raw { IsRaw self.now }
+    {
+        self.bytes.as_slice()
+    }
+
+    /// The value, lent. Its parts are reached from there.
+    pub fn view(&self) -> ValueRef<'_>
+        ensures { result ≡ self.now }
+    {
+        ValueRef::new(self.bytes.as_slice())
+    }
+}

@@ -1,0 +1,252 @@
+//! Walking over one value: where it ends, if its depth is at most so much (AMQP 1.0 part 1, section 1.6).
+
+ghost use Rattle.std.specs.Prelude.{◌≡◌, ◌<◌, length};
+ghost use Rattle.std.specs.Option.{option_map};
+ghost use Rattle.amqp_values.specs.Reading.{byte_at, count_at, cut_at, region_at};
+ghost use Rattle.amqp_values.specs.Walk.{compound_of, constructor_of, data_of, elements_of, inside};
+ghost use Rattle.amqp_values.specs.Walk.{is_dataless, level, may_hold, repeat, run_of, under};
+ghost use Rattle.amqp_values.specs.Walk.{value_at, value_of};
+
+use crate::kind::{Kind, kind_at};
+
+/// A length or a count of one byte, or of four, and the rest.
+pub(crate) fn count(wide: bool, bytes: &[u8]) -> Option<(u32, &[u8])>
+    ensures { option_map (λ x. (x.0, x.1.now)) result ≡ count_at wide bytes.now }
+{
+    if wide {
+        if bytes.len() < 4 {
+            return None;
+        }
+        let (front, rest) = bytes.split_at(4);
+        Some((
+            u32::from_be_bytes([front[0], front[1], front[2], front[3]]),
+            rest,
+        ))
+    } else {
+        match bytes {
+            [] => None,
+            [first, rest @ ..] => Some((u32::from(*first), rest)),
+        }
+    }
+}
+
+/// The first byte, and the rest.
+pub(crate) fn first(bytes: &[u8]) -> Option<(u8, &[u8])>
+    ensures { option_map (λ x. (x.0, x.1.now)) result ≡ byte_at bytes.now }
+{
+    match bytes {
+        [] => None,
+        [first, rest @ ..] => Some((*first, rest)),
+    }
+}
+
+/// So many bytes, and the rest.
+#[tactic(auto, unfolding(crate::specs::Reading::cut_at))]
+fn cut(len: usize, bytes: &[u8]) -> Option<(&[u8], &[u8])>
+    ensures { option_map (λ x. (x.0.now, x.1.now)) result ≡ cut_at len bytes.now }
+{
+    if bytes.len() < len {
+        None
+    } else {
+        Some(bytes.split_at(len))
+    }
+}
+
+/// A length, that many bytes, and the rest.
+#[tactic(auto, unfolding(crate::specs::Reading::region_at))]
+pub(crate) fn region(wide: bool, bytes: &[u8]) -> Option<(&[u8], &[u8])>
+    ensures { option_map (λ x. (x.0.now, x.1.now)) result ≡ region_at wide bytes.now }
+{
+    let (len, rest) = count(wide, bytes)?;
+    cut(len as usize, rest)
+}
+
+/// What stands behind the first value, if its depth is at most `depth`.
+#[cycle(walk)]
+#[tactic(auto, unfolding(crate::specs::Walk::value_of))]
+fn value(bytes: &[u8], depth: u8) -> Option<&[u8]>
+    ensures { option_map (λ r. r.now) result ≡ value_of (under depth) bytes.now }
+{
+    let (code, rest) = first(bytes)?;
+    if code != 0 {
+        return data(kind_at(code), rest, depth);
+    }
+    if depth == 0 {
+        return None;
+    }
+    let rest = value(rest, depth - 1)?;
+    value(rest, depth - 1)
+}
+
+/// What stands behind the data of one value of this kind.
+#[cycle(walk)]
+#[tactic(auto, unfolding(crate::specs::Walk::data_of))]
+fn data(kind: Kind, bytes: &[u8], depth: u8) -> Option<&[u8]>
+    ensures { option_map (λ r. r.now) result ≡ data_of (under depth) kind bytes.now }
+{
+    match kind {
+        Kind::Fixed(n) => {
+            let (_, rest) = cut(n, bytes)?;
+            Some(rest)
+        }
+        Kind::Flag => match bytes {
+            [0 | 1, rest @ ..] => Some(rest),
+            _ => None,
+        },
+        Kind::Variable(wide) => {
+            let (_, rest) = region(wide, bytes)?;
+            Some(rest)
+        }
+        Kind::List0 => { if depth == 0 { None } else { Some(bytes) } }
+        Kind::List(wide) | Kind::Map(wide) | Kind::Array(wide) => compound(
+            kind, wide, bytes, depth,
+        ),
+        Kind::Unknown => None,
+    }
+}
+
+/// What stands behind a size, a count and what they frame; that fills the size exactly.
+#[cycle(walk)]
+#[tactic(auto, unfolding(crate::specs::Walk::inside))]
+fn compound(kind: Kind, wide: bool, bytes: &[u8], depth: u8) -> Option<&[u8]>
+    ensures { option_map (λ r. r.now) result ≡ compound_of (under depth) kind wide bytes.now }
+{
+    if depth == 0 {
+        return None;
+    }
+    let below = depth - 1;
+    let (region, rest) = region(wide, bytes)?;
+    let (count, inner) = count(wide, region)?;
+    let left = inside(kind, count, inner, below)?;
+    if left.is_empty() { Some(rest) } else { None }
+}
+
+/// What is left of a region behind its count.
+#[cycle(walk)]
+#[tactic(auto, unfolding(crate::specs::Walk::inside))]
+fn inside(kind: Kind, count: u32, bytes: &[u8], depth: u8) -> Option<&[u8]>
+    ensures { option_map (λ r. r.now) result ≡ inside (level depth) kind count bytes.now }
+{
+    match kind {
+        Kind::List(_) => values(count, bytes, depth),
+        Kind::Map(_) => {
+            if count % 2 == 0 {
+                values(count, bytes, depth)
+            } else {
+                None
+            }
+        }
+        Kind::Array(_) => {
+            if count == 0 {
+                if bytes.is_empty() {
+                    Some(bytes)
+                } else {
+                    constructor(bytes, depth)
+                }
+            } else {
+                elements(count, bytes, depth)
+            }
+        }
+        _ => None,
+    }
+}
+
+/// What stands behind so many values.
+#[cycle(walk)]
+fn values(count: u32, bytes: &[u8], depth: u8) -> Option<&[u8]>
+    ensures { option_map (λ r. r.now) result ≡ repeat count (value_of (under depth)) bytes.now }
+{
+    let mut rest = bytes;
+    for _ in 0..count {
+        rest = value(rest, depth)?;
+    }
+    Some(rest)
+}
+
+/// What stands behind the elements of an array: one constructor, and their data.
+#[cycle(walk)]
+#[tactic(auto, unfolding(crate::specs::Walk::elements_of))]
+fn elements(count: u32, bytes: &[u8], depth: u8) -> Option<&[u8]>
+    requires { 0 < count }
+    ensures { option_map (λ r. r.now) result ≡ elements_of (under depth) count bytes.now }
+{
+    let (code, rest) = first(bytes)?;
+    if code != 0 {
+        return run(kind_at(code), count, rest, depth);
+    }
+    if depth == 0 {
+        return None;
+    }
+    let rest = value(rest, depth - 1)?;
+    elements(count, rest, depth - 1)
+}
+
+/// What stands behind the constructor of an array with no elements. Its descriptors stand one behind the other, on one level.
+#[cycle(walk)]
+fn constructor(bytes: &[u8], depth: u8) -> Option<&[u8]>
+    ensures { option_map (λ r. r.now) result ≡ constructor_of (under depth) (length bytes.now) bytes.now }
+{
+    let mut rest = bytes;
+    for _ in 0..bytes.len() {
+        let (code, behind) = first(rest)?;
+        if code != 0 {
+            return if may_hold(kind_at(code), depth) {
+                Some(behind)
+            } else {
+                None
+            };
+        }
+        if depth == 0 {
+            return None;
+        }
+        rest = value(behind, depth)?;
+    }
+    None
+}
+
+/// What stands behind so many data of one kind. Data of no bytes are looked at once, however many there are.
+#[cycle(walk)]
+fn run(kind: Kind, count: u32, bytes: &[u8], depth: u8) -> Option<&[u8]>
+    requires { 0 < count }
+    ensures { option_map (λ r. r.now) result ≡ run_of (under depth) kind count bytes.now }
+{
+    if is_dataless(kind) {
+        return data(kind, bytes, depth);
+    }
+    let mut rest = bytes;
+    for _ in 0..count {
+        rest = data(kind, rest, depth)?;
+    }
+    Some(rest)
+}
+
+/// Whether an array may have a constructor of this kind and no element, with so much depth left for that.
+#[tactic(auto, using(crate::proofs::Under::under_some, crate::proofs::Under::under_none, crate::proofs::Under::under_more))]
+fn may_hold(kind: Kind, depth: u8) -> bool
+    ensures { result ≡ may_hold (under depth) kind }
+{
+    match kind {
+        Kind::Unknown => false,
+        Kind::List(_) | Kind::Map(_) | Kind::Array(_) => { if depth == 0 { false } else { true } }
+        Kind::Fixed(_) | Kind::Flag | Kind::Variable(_) | Kind::List0 => true,
+    }
+}
+
+/// What stands behind the first value, if its depth is at most `depth`; `None` where no front of the bytes is such a value.
+#[tactic(auto, unfolding(crate::specs::Walk::value_at))]
+pub(crate) fn value_rest(bytes: &[u8], depth: u8) -> Option<&[u8]>
+    ensures { option_map (λ r. r.now) result ≡ value_at depth bytes.now }
+{
+    value(bytes, depth)
+}
+
+/// Whether the data of this kind have no bytes.
+fn is_dataless(kind: Kind) -> bool
+    ensures { result ≡ is_dataless kind }
+{
+    match kind {
+        Kind::Fixed(n) => n == 0,
+        Kind::List0 => true,
+        _ => false,
+    }
+}

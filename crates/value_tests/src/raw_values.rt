@@ -1,0 +1,115 @@
+//! Which bytes are a raw value, and what is left behind one.
+
+use amqp_values::{Fields, Raw, ReadError};
+use bytes::{Bytes, BytesMut};
+use std::alloc::Global;
+use std::test::Fail;
+
+/// Whether the bytes are one value and nothing more; an error other than `Malformed` fails the test.
+fn is_value(bytes: Bytes) -> Result<bool, ReadError> {
+    match Raw::read(bytes) {
+        Ok((_, rest)) => Ok(rest.is_empty()),
+        Err(ReadError::Malformed) => Ok(false),
+        Err(ReadError::OutOfMemory) => Err(ReadError::OutOfMemory),
+    }
+}
+
+#[test]
+fn values_are_told_from_other_bytes(rt: HostRuntime) -> Result<(), Fail> {
+    let rows: [(&'static [u8], bool); 29] = [
+        (&[0xf0, 0, 0, 0, 5, 0xff, 0xff, 0xff, 0xff, 0x40], true),
+        (&[0xf0, 0, 0, 0, 5, 0xff, 0xff, 0xff, 0xff, 0x45], true),
+        (&[0xf0, 0, 0, 0, 6, 0xff, 0xff, 0xff, 0xff, 0x40, 0], false),
+        (&[0xe0, 2, 0, 0x45], true),
+        (&[0xe0, 1, 0], true),
+        (&[0xe0, 4, 0, 0, 0x40, 0xc0], true),
+        (&[0xe0, 3, 2, 0x50, 7], false),
+        (&[0xe0, 4, 2, 0x50, 7, 8], true),
+        (&[0x40], false),
+        (&[0xc1, 2, 1, 0x40], false),
+        (&[0xc1, 3, 2, 0x40, 0x40], true),
+        (&[0x56, 0], true),
+        (&[0x56, 1], true),
+        (&[0x56, 2], false),
+        (&[0x45], true),
+        (&[0xc0, 1, 0], true),
+        (&[0xc0, 2, 1, 0x40], true),
+        (&[0xc0, 3, 1, 0x40, 0x40], false),
+        (&[0xd0, 0, 0, 0, 5, 0, 0, 0, 1, 0x41], true),
+        (&[0xa1, 2, 0xff, 0xff], true),
+        (&[0xa1, 2, 0xff], false),
+        (&[0xb3, 0, 0, 0, 1, 0xff], true),
+        (&[0x98, 1, 2, 3, 4, 5, 6, 7, 8, 9, 10, 11, 12, 13, 14, 15, 16], true),
+        (&[0x80, 1, 2, 3, 4, 5, 6, 7], false),
+        (&[0x00, 0x53, 0x24, 0x45], true),
+        (&[0x00, 0x40, 0x40], true),
+        (&[0x00, 0x53, 0x24], false),
+        (&[0x57, 0], false),
+        (&[], false),
+    ];
+    for (bytes, want) in rows {
+        assert_eq!(rt; is_value(Bytes::from_static(bytes))?, want, "{bytes:?}");
+    }
+    Ok(())
+}
+
+/// So many lists of one part each, one inside the other, round an empty one.
+fn nested(alloc: Global, lists: u8) -> Result<Bytes, Fail>
+    requires { lists < 80 }
+{
+    let mut text = BytesMut::new(alloc);
+    for i in 0..lists {
+        let inside = lists - 1 - i;
+        text.extend_from_slice(&[0xc0, 3 * inside + 2, 1])?;
+    }
+    text.extend_from_slice(&[0x45])?;
+    Ok(text.freeze()?)
+}
+
+#[test]
+fn a_depth_of_64_is_the_deepest(rt: HostRuntime) -> Result<(), Fail> {
+    let deepest = nested(rt.alloc(), 63)?;
+    assert_eq!(rt; deepest.len(), 190);
+    assert!(rt; is_value(deepest)?);
+    let deeper = nested(rt.alloc(), 64)?;
+    assert_eq!(rt; deeper.len(), 193);
+    assert!(rt; !is_value(deeper)?);
+    Ok(())
+}
+
+#[test]
+fn the_rest_is_given_back(rt: HostRuntime) -> Result<(), Fail> {
+    let bytes = Bytes::from_static(&[0x53, 7, 0x40, 0xff]);
+    let (raw, rest) = Raw::read(bytes)?;
+    assert_eq!(rt; raw.bytes(), [0x53, 7].as_slice());
+    assert_eq!(rt; rest.as_slice(), [0x40, 0xff].as_slice());
+    Ok(())
+}
+
+#[test]
+fn values_are_equal_where_their_bytes_are(rt: HostRuntime) -> Result<(), Fail> {
+    let (seven, _) = Raw::read(Bytes::from_static(&[0x53, 7]))?;
+    let (wide_seven, _) = Raw::read(Bytes::from_static(&[0x80, 0, 0, 0, 0, 0, 0, 0, 7]))?;
+    let copy = seven.clone()?;
+    assert!(rt; copy == seven);
+    assert!(rt; seven != wide_seven);
+    Ok(())
+}
+
+#[test]
+fn fields_are_maps(rt: HostRuntime) -> Result<(), Fail> {
+    let (map, _) = Raw::read(Bytes::from_static(&[0xc1, 6, 2, 0xa3, 1, 0x78, 0x52, 5]))?;
+    let (wide, _) = Raw::read(Bytes::from_static(&[0xd1, 0, 0, 0, 4, 0, 0, 0, 0]))?;
+    let (list, _) = Raw::read(Bytes::from_static(&[0xc0, 3, 2, 0x40, 0x40]))?;
+    let copy = map.clone()?;
+    match Fields::new(map) {
+        Some(fields) => {
+            assert!(rt; *fields.raw() == copy);
+            assert!(rt; fields == fields.clone()?);
+        }
+        None => assert!(rt; false, "a map"),
+    }
+    assert!(rt; Fields::new(wide).is_some());
+    assert!(rt; Fields::new(list).is_none());
+    Ok(())
+}
