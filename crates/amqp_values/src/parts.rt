@@ -3,7 +3,7 @@
 ghost use Rattle.std.specs.Prelude.{◌≡◌};
 ghost use Rattle.std.specs.Option.{option_map};
 ghost use Rattle.amqp_values.specs.Reading.{Gives};
-ghost use Rattle.amqp_values.specs.Slots.{optional_at, required_at, default_at, end_at};
+ghost use Rattle.amqp_values.specs.Slots.{optional_at, required_at, default_at, finished_at};
 
 use crate::codes;
 use crate::error::ReadError;
@@ -52,13 +52,13 @@ impl Parts {
         Ok(self.next(alloc)?.unwrap_or(default))
     }
 
-    /// Nothing is left: neither a part nor a byte. Else `Malformed`.
+    /// Gives the composite of the fields that were taken, if nothing is left: neither a part nor a byte. Else `Malformed`.
     #[tactic(auto, unfolding(crate::specs::Slots::end_at))]
-    pub fn end(&self) -> Result<(), ReadError>
-        ensures { Gives (λ x. x) result self.now (end_at self.now) }
+    pub fn finish<C: Drop>(&self, composite: C) -> Result<C, ReadError>
+        ensures { Gives (λ x. x) result self.now (finished_at composite self.now) }
     {
         if self.left == 0 && self.bytes.is_empty() {
-            Ok(())
+            Ok(composite)
         } else {
             Err(ReadError::Malformed)
         }

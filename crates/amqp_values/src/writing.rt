@@ -107,11 +107,11 @@ fn put_list<T: Encode>(parts: &[T], size: usize, out: &mut BytesMut)
     }
 }
 
-/// The length of the described list of these fields. Takes no memory.
+/// The length of the described list of these fields, which is the same for each code of one byte. Takes no memory.
 pub fn described_len<T: Encode>(fields: &[T]) -> u128
     requires many { length fields.now ≤ 16 }
     requires long { T.most < 2 ^ 123 }
-    ensures value { result ≡ length (list_text (trim (map T.text fields.now))) + 3 }
+    ensures value { result ≡ length (described_text 0 (map T.text fields.now)) }
     ensures bound { result ≤ T.most * 16 + 12 }
 {
     let (parts, size) = trimmed(fields);

@@ -1,0 +1,3 @@
+pub mod DefinitionLaws
+pub mod BodyLaws
+pub mod PerformativeLaws

@@ -1,0 +1,134 @@
+-- Attach: its fields, and how they stand in a list (AMQP 1.0 part 2, section 2.7.3).
+use Rattle.std.specs.Prelude.{ℕ, List, [], ◌∷◌, Option, Bool, false}
+use Rattle.amqp_types.specs.declared.definitions.Role.{Role}
+use Rattle.amqp_types.specs.declared.definitions.SenderSettleMode.{SenderSettleMode}
+use Rattle.amqp_types.specs.declared.definitions.ReceiverSettleMode.{ReceiverSettleMode}
+use Rattle.amqp_types.specs.declared.definitions.SenderSettleMode.TheVariants.{Mixed}
+use Rattle.amqp_types.specs.declared.definitions.ReceiverSettleMode.TheVariants.{First}
+use Rattle.amqp_values.specs.declared.parts.Parts.{Parts}
+use Rattle.amqp_values.specs.Number.{IsBoolean, IsUint, IsUlong, boolean_at, uint_at, ulong_at}
+use Rattle.amqp_values.specs.Text.{IsString, string_at}
+use Rattle.amqp_values.specs.Symbols.{IsSymbols, symbols_at}
+use Rattle.amqp_values.specs.Raw.{SpellsMap, SpellsRaw, map_at, raw_at}
+use Rattle.amqp_values.specs.Slots.{Slot, NoMore, then_at, end_at, named_at, required_at, Optional, optional_at, OrDefault, default_at}
+use Rattle.amqp_values.specs.Writing.{optional_text, string_text, symbols_text, uint_text, ulong_text}
+use Rattle.amqp_values.specs.Same.{Test, both, each, field, flags, maybe, numbers, texts}
+use Rattle.amqp_types.specs.Definitions.{IsReceiverMode, IsRole, IsSenderMode, flag_text, receiver_mode_at, receiver_mode_or_first, receiver_modes, role_at, role_text, roles, sender_mode_at, sender_mode_or_mixed, sender_modes, value_text}
+
+pub record AttachSaid : Type 0 where
+  pub name : List ℕ
+  pub handle : ℕ
+  pub role : Role
+  pub snd_settle_mode : SenderSettleMode
+  pub rcv_settle_mode : ReceiverSettleMode
+  pub source : Option (List ℕ)
+  pub target : Option (List ℕ)
+  pub unsettled : Option (List ℕ)
+  pub incomplete_unsettled : Bool
+  pub initial_delivery_count : Option ℕ
+  pub max_message_size : Option ℕ
+  pub offered_capabilities : Option (List (List ℕ))
+  pub desired_capabilities : Option (List (List ℕ))
+  pub properties : Option (List ℕ)
+
+-- ---- the grammar
+
+abbrev pub IsAttachBody : AttachSaid → List (List ℕ) → Type 0
+IsAttachBody p =
+    Slot (IsString p.name)
+    (Slot (IsUint p.handle)
+    (Slot (IsRole p.role)
+    (Slot (OrDefault Mixed IsSenderMode p.snd_settle_mode)
+    (Slot (OrDefault First IsReceiverMode p.rcv_settle_mode)
+    (Slot (Optional SpellsRaw p.source)
+    (Slot (Optional SpellsRaw p.target)
+    (Slot (Optional SpellsMap p.unsettled)
+    (Slot (OrDefault false IsBoolean p.incomplete_unsettled)
+    (Slot (Optional IsUint p.initial_delivery_count)
+    (Slot (Optional IsUlong p.max_message_size)
+    (Slot (Optional IsSymbols p.offered_capabilities)
+    (Slot (Optional IsSymbols p.desired_capabilities)
+    (Slot (Optional SpellsMap p.properties)
+    NoMore)))))))))))))
+
+-- ---- its reader
+
+abbrev pub AttachSlots : Type 0
+AttachSlots = List ℕ × (ℕ × (Role × (SenderSettleMode × (ReceiverSettleMode × (Option (List ℕ) × (Option (List ℕ) × (Option (List ℕ) × (Bool × (Option ℕ × (Option ℕ × (Option (List (List ℕ)) × (Option (List (List ℕ)) × (Option (List ℕ) × Unit {0})))))))))))))
+
+abbrev pub attach_of : AttachSlots → AttachSaid
+attach_of x = record { name = x.0; handle = x.1.0; role = x.1.1.0; snd_settle_mode = x.1.1.1.0; rcv_settle_mode = x.1.1.1.1.0; source = x.1.1.1.1.1.0; target = x.1.1.1.1.1.1.0; unsettled = x.1.1.1.1.1.1.1.0; incomplete_unsettled = x.1.1.1.1.1.1.1.1.0; initial_delivery_count = x.1.1.1.1.1.1.1.1.1.0; max_message_size = x.1.1.1.1.1.1.1.1.1.1.0; offered_capabilities = x.1.1.1.1.1.1.1.1.1.1.1.0; desired_capabilities = x.1.1.1.1.1.1.1.1.1.1.1.1.0; properties = x.1.1.1.1.1.1.1.1.1.1.1.1.1.0 }
+
+abbrev pub attach_slots : AttachSaid → AttachSlots
+attach_slots p = (p.name, (p.handle, (p.role, (p.snd_settle_mode, (p.rcv_settle_mode, (p.source, (p.target, (p.unsettled, (p.incomplete_unsettled, (p.initial_delivery_count, (p.max_message_size, (p.offered_capabilities, (p.desired_capabilities, (p.properties, tt))))))))))))))
+
+-- the fields from the delivery count on
+abbrev pub AttachRest : Type 0
+AttachRest = Option ℕ × (Option ℕ × (Option (List (List ℕ)) × (Option (List (List ℕ)) × (Option (List ℕ) × Unit {0}))))
+
+unfoldable pub attach_rest_at : Parts → Option (AttachRest × Parts)
+attach_rest_at =
+    then_at (optional_at uint_at)
+    (then_at (optional_at ulong_at)
+    (then_at (optional_at symbols_at)
+    (then_at (optional_at symbols_at)
+    (then_at (optional_at map_at)
+    end_at))))
+
+unfoldable pub attach_body_at : Parts → Option (AttachSaid × Parts)
+attach_body_at = named_at attach_of
+    (then_at (required_at string_at)
+    (then_at (required_at uint_at)
+    (then_at (required_at role_at)
+    (then_at (default_at Mixed sender_mode_at)
+    (then_at (default_at First receiver_mode_at)
+    (then_at (optional_at raw_at)
+    (then_at (optional_at raw_at)
+    (then_at (optional_at map_at)
+    (then_at (default_at false boolean_at)
+    attach_rest_at)))))))))
+
+-- ---- its canonical text
+
+unfoldable pub attach_fields : AttachSaid → List (List ℕ)
+attach_fields p =
+    string_text p.name ∷
+    uint_text p.handle ∷
+    role_text p.role ∷
+    sender_mode_or_mixed p.snd_settle_mode ∷
+    receiver_mode_or_first p.rcv_settle_mode ∷
+    optional_text value_text p.source ∷
+    optional_text value_text p.target ∷
+    optional_text value_text p.unsettled ∷
+    flag_text p.incomplete_unsettled ∷
+    optional_text uint_text p.initial_delivery_count ∷
+    optional_text ulong_text p.max_message_size ∷
+    optional_text symbols_text p.offered_capabilities ∷
+    optional_text symbols_text p.desired_capabilities ∷
+    optional_text value_text p.properties ∷
+    []
+
+-- ---- when two are the same
+
+abbrev pub attach_first_same : Test AttachSaid
+attach_first_same =
+    both (field (λ p. p.name) texts)
+    (both (field (λ p. p.handle) numbers)
+    (both (field (λ p. p.role) roles)
+    (both (field (λ p. p.snd_settle_mode) sender_modes)
+    (both (field (λ p. p.rcv_settle_mode) receiver_modes)
+    (both (field (λ p. p.source) (maybe texts))
+    (field (λ p. p.target) (maybe texts)))))))
+
+abbrev pub attach_last_same : Test AttachSaid
+attach_last_same =
+    both (field (λ p. p.unsettled) (maybe texts))
+    (both (field (λ p. p.incomplete_unsettled) flags)
+    (both (field (λ p. p.initial_delivery_count) (maybe numbers))
+    (both (field (λ p. p.max_message_size) (maybe numbers))
+    (both (field (λ p. p.offered_capabilities) (maybe (each texts)))
+    (both (field (λ p. p.desired_capabilities) (maybe (each texts)))
+    (field (λ p. p.properties) (maybe texts)))))))
+
+abbrev pub attach_same : Test AttachSaid
+attach_same = both attach_first_same attach_last_same

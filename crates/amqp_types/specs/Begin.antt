@@ -1,0 +1,84 @@
+-- Begin: its fields, and how they stand in a list (AMQP 1.0 part 2, section 2.7.2).
+use Rattle.std.specs.Prelude.{ℕ, List, [], ◌∷◌, Option}
+use Rattle.amqp_values.specs.declared.parts.Parts.{Parts}
+use Rattle.amqp_values.specs.Number.{IsUint, IsUshort, uint_at, ushort_at}
+use Rattle.amqp_values.specs.Symbols.{IsSymbols, symbols_at}
+use Rattle.amqp_values.specs.Raw.{SpellsMap, map_at}
+use Rattle.amqp_values.specs.Slots.{Slot, NoMore, then_at, end_at, named_at, required_at, Optional, optional_at, OrDefault, default_at}
+use Rattle.amqp_values.specs.Writing.{optional_text, symbols_text, uint_or, uint_text, ushort_text}
+use Rattle.amqp_values.specs.Same.{Test, both, each, field, maybe, numbers, texts}
+use Rattle.amqp_types.specs.Definitions.{value_text}
+
+pub record BeginSaid : Type 0 where
+  pub remote_channel : Option ℕ
+  pub next_outgoing_id : ℕ
+  pub incoming_window : ℕ
+  pub outgoing_window : ℕ
+  pub handle_max : ℕ
+  pub offered_capabilities : Option (List (List ℕ))
+  pub desired_capabilities : Option (List (List ℕ))
+  pub properties : Option (List ℕ)
+
+-- ---- the grammar
+
+abbrev pub IsBeginBody : BeginSaid → List (List ℕ) → Type 0
+IsBeginBody p =
+    Slot (Optional IsUshort p.remote_channel)
+    (Slot (IsUint p.next_outgoing_id)
+    (Slot (IsUint p.incoming_window)
+    (Slot (IsUint p.outgoing_window)
+    (Slot (OrDefault 4294967295 IsUint p.handle_max)
+    (Slot (Optional IsSymbols p.offered_capabilities)
+    (Slot (Optional IsSymbols p.desired_capabilities)
+    (Slot (Optional SpellsMap p.properties)
+    NoMore)))))))
+
+-- ---- its reader
+
+abbrev pub BeginSlots : Type 0
+BeginSlots = Option ℕ × (ℕ × (ℕ × (ℕ × (ℕ × (Option (List (List ℕ)) × (Option (List (List ℕ)) × (Option (List ℕ) × Unit {0})))))))
+
+abbrev pub begin_of : BeginSlots → BeginSaid
+begin_of x = record { remote_channel = x.0; next_outgoing_id = x.1.0; incoming_window = x.1.1.0; outgoing_window = x.1.1.1.0; handle_max = x.1.1.1.1.0; offered_capabilities = x.1.1.1.1.1.0; desired_capabilities = x.1.1.1.1.1.1.0; properties = x.1.1.1.1.1.1.1.0 }
+
+abbrev pub begin_slots : BeginSaid → BeginSlots
+begin_slots p = (p.remote_channel, (p.next_outgoing_id, (p.incoming_window, (p.outgoing_window, (p.handle_max, (p.offered_capabilities, (p.desired_capabilities, (p.properties, tt))))))))
+
+unfoldable pub begin_body_at : Parts → Option (BeginSaid × Parts)
+begin_body_at = named_at begin_of
+    (then_at (optional_at ushort_at)
+    (then_at (required_at uint_at)
+    (then_at (required_at uint_at)
+    (then_at (required_at uint_at)
+    (then_at (default_at 4294967295 uint_at)
+    (then_at (optional_at symbols_at)
+    (then_at (optional_at symbols_at)
+    (then_at (optional_at map_at)
+    end_at))))))))
+
+-- ---- its canonical text
+
+unfoldable pub begin_fields : BeginSaid → List (List ℕ)
+begin_fields p =
+    optional_text ushort_text p.remote_channel ∷
+    uint_text p.next_outgoing_id ∷
+    uint_text p.incoming_window ∷
+    uint_text p.outgoing_window ∷
+    uint_or 4294967295 p.handle_max ∷
+    optional_text symbols_text p.offered_capabilities ∷
+    optional_text symbols_text p.desired_capabilities ∷
+    optional_text value_text p.properties ∷
+    []
+
+-- ---- when two are the same
+
+abbrev pub begin_same : Test BeginSaid
+begin_same =
+    both (field (λ p. p.remote_channel) (maybe numbers))
+    (both (field (λ p. p.next_outgoing_id) numbers)
+    (both (field (λ p. p.incoming_window) numbers)
+    (both (field (λ p. p.outgoing_window) numbers)
+    (both (field (λ p. p.handle_max) numbers)
+    (both (field (λ p. p.offered_capabilities) (maybe (each texts)))
+    (both (field (λ p. p.desired_capabilities) (maybe (each texts)))
+    (field (λ p. p.properties) (maybe texts))))))))

@@ -1,0 +1,74 @@
+-- Disposition: its fields, and how they stand in a list (AMQP 1.0 part 2, section 2.7.6).
+use Rattle.std.specs.Prelude.{ℕ, List, [], ◌∷◌, Option, Bool, false}
+use Rattle.amqp_types.specs.declared.definitions.Role.{Role}
+use Rattle.amqp_values.specs.declared.parts.Parts.{Parts}
+use Rattle.amqp_values.specs.Number.{IsBoolean, IsUint, boolean_at, uint_at}
+use Rattle.amqp_values.specs.Raw.{SpellsRaw, raw_at}
+use Rattle.amqp_values.specs.Slots.{Slot, NoMore, then_at, end_at, named_at, required_at, Optional, optional_at, OrDefault, default_at}
+use Rattle.amqp_values.specs.Writing.{optional_text, uint_text}
+use Rattle.amqp_values.specs.Same.{Test, both, field, flags, maybe, numbers, texts}
+use Rattle.amqp_types.specs.Definitions.{IsRole, flag_text, role_at, role_text, roles, value_text}
+
+pub record DispositionSaid : Type 0 where
+  pub role : Role
+  pub first : ℕ
+  pub last : Option ℕ
+  pub settled : Bool
+  pub state : Option (List ℕ)
+  pub batchable : Bool
+
+-- ---- the grammar
+
+abbrev pub IsDispositionBody : DispositionSaid → List (List ℕ) → Type 0
+IsDispositionBody p =
+    Slot (IsRole p.role)
+    (Slot (IsUint p.first)
+    (Slot (Optional IsUint p.last)
+    (Slot (OrDefault false IsBoolean p.settled)
+    (Slot (Optional SpellsRaw p.state)
+    (Slot (OrDefault false IsBoolean p.batchable)
+    NoMore)))))
+
+-- ---- its reader
+
+abbrev pub DispositionSlots : Type 0
+DispositionSlots = Role × (ℕ × (Option ℕ × (Bool × (Option (List ℕ) × (Bool × Unit {0})))))
+
+abbrev pub disposition_of : DispositionSlots → DispositionSaid
+disposition_of x = record { role = x.0; first = x.1.0; last = x.1.1.0; settled = x.1.1.1.0; state = x.1.1.1.1.0; batchable = x.1.1.1.1.1.0 }
+
+abbrev pub disposition_slots : DispositionSaid → DispositionSlots
+disposition_slots p = (p.role, (p.first, (p.last, (p.settled, (p.state, (p.batchable, tt))))))
+
+unfoldable pub disposition_body_at : Parts → Option (DispositionSaid × Parts)
+disposition_body_at = named_at disposition_of
+    (then_at (required_at role_at)
+    (then_at (required_at uint_at)
+    (then_at (optional_at uint_at)
+    (then_at (default_at false boolean_at)
+    (then_at (optional_at raw_at)
+    (then_at (default_at false boolean_at)
+    end_at))))))
+
+-- ---- its canonical text
+
+unfoldable pub disposition_fields : DispositionSaid → List (List ℕ)
+disposition_fields p =
+    role_text p.role ∷
+    uint_text p.first ∷
+    optional_text uint_text p.last ∷
+    flag_text p.settled ∷
+    optional_text value_text p.state ∷
+    flag_text p.batchable ∷
+    []
+
+-- ---- when two are the same
+
+abbrev pub disposition_same : Test DispositionSaid
+disposition_same =
+    both (field (λ p. p.role) roles)
+    (both (field (λ p. p.first) numbers)
+    (both (field (λ p. p.last) (maybe numbers))
+    (both (field (λ p. p.settled) flags)
+    (both (field (λ p. p.state) (maybe texts))
+    (field (λ p. p.batchable) flags)))))

@@ -1,0 +1,104 @@
+-- Flow: its fields, and how they stand in a list (AMQP 1.0 part 2, section 2.7.4).
+use Rattle.std.specs.Prelude.{ℕ, List, [], ◌∷◌, Option, Bool, false}
+use Rattle.amqp_values.specs.declared.parts.Parts.{Parts}
+use Rattle.amqp_values.specs.Number.{IsBoolean, IsUint, boolean_at, uint_at}
+use Rattle.amqp_values.specs.Raw.{SpellsMap, map_at}
+use Rattle.amqp_values.specs.Slots.{Slot, NoMore, then_at, end_at, named_at, required_at, Optional, optional_at, OrDefault, default_at}
+use Rattle.amqp_values.specs.Writing.{optional_text, uint_text}
+use Rattle.amqp_values.specs.Same.{Test, both, field, flags, maybe, numbers, texts}
+use Rattle.amqp_types.specs.Definitions.{flag_text, value_text}
+
+pub record FlowSaid : Type 0 where
+  pub next_incoming_id : Option ℕ
+  pub incoming_window : ℕ
+  pub next_outgoing_id : ℕ
+  pub outgoing_window : ℕ
+  pub handle : Option ℕ
+  pub delivery_count : Option ℕ
+  pub link_credit : Option ℕ
+  pub available : Option ℕ
+  pub drain : Bool
+  pub echo : Bool
+  pub properties : Option (List ℕ)
+
+-- ---- the grammar
+
+abbrev pub IsFlowBody : FlowSaid → List (List ℕ) → Type 0
+IsFlowBody p =
+    Slot (Optional IsUint p.next_incoming_id)
+    (Slot (IsUint p.incoming_window)
+    (Slot (IsUint p.next_outgoing_id)
+    (Slot (IsUint p.outgoing_window)
+    (Slot (Optional IsUint p.handle)
+    (Slot (Optional IsUint p.delivery_count)
+    (Slot (Optional IsUint p.link_credit)
+    (Slot (Optional IsUint p.available)
+    (Slot (OrDefault false IsBoolean p.drain)
+    (Slot (OrDefault false IsBoolean p.echo)
+    (Slot (Optional SpellsMap p.properties)
+    NoMore))))))))))
+
+-- ---- its reader
+
+abbrev pub FlowSlots : Type 0
+FlowSlots = Option ℕ × (ℕ × (ℕ × (ℕ × (Option ℕ × (Option ℕ × (Option ℕ × (Option ℕ × (Bool × (Bool × (Option (List ℕ) × Unit {0}))))))))))
+
+abbrev pub flow_of : FlowSlots → FlowSaid
+flow_of x = record { next_incoming_id = x.0; incoming_window = x.1.0; next_outgoing_id = x.1.1.0; outgoing_window = x.1.1.1.0; handle = x.1.1.1.1.0; delivery_count = x.1.1.1.1.1.0; link_credit = x.1.1.1.1.1.1.0; available = x.1.1.1.1.1.1.1.0; drain = x.1.1.1.1.1.1.1.1.0; echo = x.1.1.1.1.1.1.1.1.1.0; properties = x.1.1.1.1.1.1.1.1.1.1.0 }
+
+abbrev pub flow_slots : FlowSaid → FlowSlots
+flow_slots p = (p.next_incoming_id, (p.incoming_window, (p.next_outgoing_id, (p.outgoing_window, (p.handle, (p.delivery_count, (p.link_credit, (p.available, (p.drain, (p.echo, (p.properties, tt)))))))))))
+
+unfoldable pub flow_body_at : Parts → Option (FlowSaid × Parts)
+flow_body_at = named_at flow_of
+    (then_at (optional_at uint_at)
+    (then_at (required_at uint_at)
+    (then_at (required_at uint_at)
+    (then_at (required_at uint_at)
+    (then_at (optional_at uint_at)
+    (then_at (optional_at uint_at)
+    (then_at (optional_at uint_at)
+    (then_at (optional_at uint_at)
+    (then_at (default_at false boolean_at)
+    (then_at (default_at false boolean_at)
+    (then_at (optional_at map_at)
+    end_at)))))))))))
+
+-- ---- its canonical text
+
+unfoldable pub flow_fields : FlowSaid → List (List ℕ)
+flow_fields p =
+    optional_text uint_text p.next_incoming_id ∷
+    uint_text p.incoming_window ∷
+    uint_text p.next_outgoing_id ∷
+    uint_text p.outgoing_window ∷
+    optional_text uint_text p.handle ∷
+    optional_text uint_text p.delivery_count ∷
+    optional_text uint_text p.link_credit ∷
+    optional_text uint_text p.available ∷
+    flag_text p.drain ∷
+    flag_text p.echo ∷
+    optional_text value_text p.properties ∷
+    []
+
+-- ---- when two are the same
+
+abbrev pub flow_first_same : Test FlowSaid
+flow_first_same =
+    both (field (λ p. p.next_incoming_id) (maybe numbers))
+    (both (field (λ p. p.incoming_window) numbers)
+    (both (field (λ p. p.next_outgoing_id) numbers)
+    (both (field (λ p. p.outgoing_window) numbers)
+    (both (field (λ p. p.handle) (maybe numbers))
+    (field (λ p. p.delivery_count) (maybe numbers))))))
+
+abbrev pub flow_last_same : Test FlowSaid
+flow_last_same =
+    both (field (λ p. p.link_credit) (maybe numbers))
+    (both (field (λ p. p.available) (maybe numbers))
+    (both (field (λ p. p.drain) flags)
+    (both (field (λ p. p.echo) flags)
+    (field (λ p. p.properties) (maybe texts)))))
+
+abbrev pub flow_same : Test FlowSaid
+flow_same = both flow_first_same flow_last_same

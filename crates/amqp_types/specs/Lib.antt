@@ -1,0 +1,13 @@
+pub mod Definitions
+pub mod Error
+pub mod Part
+pub mod Open
+pub mod Begin
+pub mod Attach
+pub mod Flow
+pub mod Transfer
+pub mod Disposition
+pub mod Detach
+pub mod End
+pub mod Close
+pub mod Performatives

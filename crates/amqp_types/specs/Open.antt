@@ -1,0 +1,101 @@
+-- Open: its fields, and how they stand in a list (AMQP 1.0 part 2, section 2.7.1).
+use Rattle.std.specs.Prelude.{ℕ, List, [], ◌∷◌, Option}
+use Rattle.amqp_values.specs.declared.parts.Parts.{Parts}
+use Rattle.amqp_values.specs.Number.{IsUint, IsUshort, uint_at, ushort_at}
+use Rattle.amqp_values.specs.Text.{IsString, string_at}
+use Rattle.amqp_values.specs.Symbols.{IsSymbols, symbols_at}
+use Rattle.amqp_values.specs.Raw.{SpellsMap, map_at}
+use Rattle.amqp_values.specs.Slots.{Slot, NoMore, then_at, end_at, named_at, required_at, Optional, optional_at, OrDefault, default_at}
+use Rattle.amqp_values.specs.Writing.{optional_text, string_text, symbols_text, uint_or, uint_text, ushort_or}
+use Rattle.amqp_values.specs.Same.{Test, both, each, field, maybe, numbers, texts}
+use Rattle.amqp_types.specs.Definitions.{value_text}
+
+pub record OpenSaid : Type 0 where
+  pub container_id : List ℕ
+  pub hostname : Option (List ℕ)
+  pub max_frame_size : ℕ
+  pub channel_max : ℕ
+  pub idle_time_out : Option ℕ
+  pub outgoing_locales : Option (List (List ℕ))
+  pub incoming_locales : Option (List (List ℕ))
+  pub offered_capabilities : Option (List (List ℕ))
+  pub desired_capabilities : Option (List (List ℕ))
+  pub properties : Option (List ℕ)
+
+-- ---- the grammar
+
+abbrev pub IsOpenBody : OpenSaid → List (List ℕ) → Type 0
+IsOpenBody p =
+    Slot (IsString p.container_id)
+    (Slot (Optional IsString p.hostname)
+    (Slot (OrDefault 4294967295 IsUint p.max_frame_size)
+    (Slot (OrDefault 65535 IsUshort p.channel_max)
+    (Slot (Optional IsUint p.idle_time_out)
+    (Slot (Optional IsSymbols p.outgoing_locales)
+    (Slot (Optional IsSymbols p.incoming_locales)
+    (Slot (Optional IsSymbols p.offered_capabilities)
+    (Slot (Optional IsSymbols p.desired_capabilities)
+    (Slot (Optional SpellsMap p.properties)
+    NoMore)))))))))
+
+-- ---- its reader
+
+abbrev pub OpenSlots : Type 0
+OpenSlots = List ℕ × (Option (List ℕ) × (ℕ × (ℕ × (Option ℕ × (Option (List (List ℕ)) × (Option (List (List ℕ)) × (Option (List (List ℕ)) × (Option (List (List ℕ)) × (Option (List ℕ) × Unit {0})))))))))
+
+abbrev pub open_of : OpenSlots → OpenSaid
+open_of x = record { container_id = x.0; hostname = x.1.0; max_frame_size = x.1.1.0; channel_max = x.1.1.1.0; idle_time_out = x.1.1.1.1.0; outgoing_locales = x.1.1.1.1.1.0; incoming_locales = x.1.1.1.1.1.1.0; offered_capabilities = x.1.1.1.1.1.1.1.0; desired_capabilities = x.1.1.1.1.1.1.1.1.0; properties = x.1.1.1.1.1.1.1.1.1.0 }
+
+abbrev pub open_slots : OpenSaid → OpenSlots
+open_slots p = (p.container_id, (p.hostname, (p.max_frame_size, (p.channel_max, (p.idle_time_out, (p.outgoing_locales, (p.incoming_locales, (p.offered_capabilities, (p.desired_capabilities, (p.properties, tt))))))))))
+
+unfoldable pub open_body_at : Parts → Option (OpenSaid × Parts)
+open_body_at = named_at open_of
+    (then_at (required_at string_at)
+    (then_at (optional_at string_at)
+    (then_at (default_at 4294967295 uint_at)
+    (then_at (default_at 65535 ushort_at)
+    (then_at (optional_at uint_at)
+    (then_at (optional_at symbols_at)
+    (then_at (optional_at symbols_at)
+    (then_at (optional_at symbols_at)
+    (then_at (optional_at symbols_at)
+    (then_at (optional_at map_at)
+    end_at))))))))))
+
+-- ---- its canonical text
+
+unfoldable pub open_fields : OpenSaid → List (List ℕ)
+open_fields p =
+    string_text p.container_id ∷
+    optional_text string_text p.hostname ∷
+    uint_or 4294967295 p.max_frame_size ∷
+    ushort_or 65535 p.channel_max ∷
+    optional_text uint_text p.idle_time_out ∷
+    optional_text symbols_text p.outgoing_locales ∷
+    optional_text symbols_text p.incoming_locales ∷
+    optional_text symbols_text p.offered_capabilities ∷
+    optional_text symbols_text p.desired_capabilities ∷
+    optional_text value_text p.properties ∷
+    []
+
+-- ---- when two are the same
+
+abbrev pub open_first_same : Test OpenSaid
+open_first_same =
+    both (field (λ p. p.container_id) texts)
+    (both (field (λ p. p.hostname) (maybe texts))
+    (both (field (λ p. p.max_frame_size) numbers)
+    (both (field (λ p. p.channel_max) numbers)
+    (field (λ p. p.idle_time_out) (maybe numbers)))))
+
+abbrev pub open_last_same : Test OpenSaid
+open_last_same =
+    both (field (λ p. p.outgoing_locales) (maybe (each texts)))
+    (both (field (λ p. p.incoming_locales) (maybe (each texts)))
+    (both (field (λ p. p.offered_capabilities) (maybe (each texts)))
+    (both (field (λ p. p.desired_capabilities) (maybe (each texts)))
+    (field (λ p. p.properties) (maybe texts)))))
+
+abbrev pub open_same : Test OpenSaid
+open_same = both open_first_same open_last_same

@@ -1,0 +1,106 @@
+-- Transfer: its fields, and how they stand in a list (AMQP 1.0 part 2, section 2.7.5).
+use Rattle.std.specs.Prelude.{ℕ, List, [], ◌∷◌, Option, Bool, false}
+use Rattle.amqp_types.specs.declared.definitions.ReceiverSettleMode.{ReceiverSettleMode}
+use Rattle.amqp_values.specs.declared.parts.Parts.{Parts}
+use Rattle.amqp_values.specs.Number.{IsBoolean, IsUint, boolean_at, uint_at}
+use Rattle.amqp_values.specs.Text.{IsBinary, binary_at}
+use Rattle.amqp_values.specs.Raw.{SpellsRaw, raw_at}
+use Rattle.amqp_values.specs.Slots.{Slot, NoMore, then_at, end_at, named_at, required_at, Optional, optional_at, OrDefault, default_at}
+use Rattle.amqp_values.specs.Writing.{binary_text, boolean_text, optional_text, uint_text}
+use Rattle.amqp_values.specs.Same.{Test, both, field, flags, maybe, numbers, texts}
+use Rattle.amqp_types.specs.Definitions.{IsReceiverMode, flag_text, receiver_mode_at, receiver_mode_text, receiver_modes, value_text}
+
+pub record TransferSaid : Type 0 where
+  pub handle : ℕ
+  pub delivery_id : Option ℕ
+  pub delivery_tag : Option (List ℕ)
+  pub message_format : Option ℕ
+  pub settled : Option Bool
+  pub more : Bool
+  pub rcv_settle_mode : Option ReceiverSettleMode
+  pub state : Option (List ℕ)
+  pub resume : Bool
+  pub aborted : Bool
+  pub batchable : Bool
+
+-- ---- the grammar
+
+abbrev pub IsTransferBody : TransferSaid → List (List ℕ) → Type 0
+IsTransferBody p =
+    Slot (IsUint p.handle)
+    (Slot (Optional IsUint p.delivery_id)
+    (Slot (Optional IsBinary p.delivery_tag)
+    (Slot (Optional IsUint p.message_format)
+    (Slot (Optional IsBoolean p.settled)
+    (Slot (OrDefault false IsBoolean p.more)
+    (Slot (Optional IsReceiverMode p.rcv_settle_mode)
+    (Slot (Optional SpellsRaw p.state)
+    (Slot (OrDefault false IsBoolean p.resume)
+    (Slot (OrDefault false IsBoolean p.aborted)
+    (Slot (OrDefault false IsBoolean p.batchable)
+    NoMore))))))))))
+
+-- ---- its reader
+
+abbrev pub TransferSlots : Type 0
+TransferSlots = ℕ × (Option ℕ × (Option (List ℕ) × (Option ℕ × (Option Bool × (Bool × (Option ReceiverSettleMode × (Option (List ℕ) × (Bool × (Bool × (Bool × Unit {0}))))))))))
+
+abbrev pub transfer_of : TransferSlots → TransferSaid
+transfer_of x = record { handle = x.0; delivery_id = x.1.0; delivery_tag = x.1.1.0; message_format = x.1.1.1.0; settled = x.1.1.1.1.0; more = x.1.1.1.1.1.0; rcv_settle_mode = x.1.1.1.1.1.1.0; state = x.1.1.1.1.1.1.1.0; resume = x.1.1.1.1.1.1.1.1.0; aborted = x.1.1.1.1.1.1.1.1.1.0; batchable = x.1.1.1.1.1.1.1.1.1.1.0 }
+
+abbrev pub transfer_slots : TransferSaid → TransferSlots
+transfer_slots p = (p.handle, (p.delivery_id, (p.delivery_tag, (p.message_format, (p.settled, (p.more, (p.rcv_settle_mode, (p.state, (p.resume, (p.aborted, (p.batchable, tt)))))))))))
+
+unfoldable pub transfer_body_at : Parts → Option (TransferSaid × Parts)
+transfer_body_at = named_at transfer_of
+    (then_at (required_at uint_at)
+    (then_at (optional_at uint_at)
+    (then_at (optional_at binary_at)
+    (then_at (optional_at uint_at)
+    (then_at (optional_at boolean_at)
+    (then_at (default_at false boolean_at)
+    (then_at (optional_at receiver_mode_at)
+    (then_at (optional_at raw_at)
+    (then_at (default_at false boolean_at)
+    (then_at (default_at false boolean_at)
+    (then_at (default_at false boolean_at)
+    end_at)))))))))))
+
+-- ---- its canonical text
+
+unfoldable pub transfer_fields : TransferSaid → List (List ℕ)
+transfer_fields p =
+    uint_text p.handle ∷
+    optional_text uint_text p.delivery_id ∷
+    optional_text binary_text p.delivery_tag ∷
+    optional_text uint_text p.message_format ∷
+    optional_text boolean_text p.settled ∷
+    flag_text p.more ∷
+    optional_text receiver_mode_text p.rcv_settle_mode ∷
+    optional_text value_text p.state ∷
+    flag_text p.resume ∷
+    flag_text p.aborted ∷
+    flag_text p.batchable ∷
+    []
+
+-- ---- when two are the same
+
+abbrev pub transfer_first_same : Test TransferSaid
+transfer_first_same =
+    both (field (λ p. p.handle) numbers)
+    (both (field (λ p. p.delivery_id) (maybe numbers))
+    (both (field (λ p. p.delivery_tag) (maybe texts))
+    (both (field (λ p. p.message_format) (maybe numbers))
+    (both (field (λ p. p.settled) (maybe flags))
+    (field (λ p. p.more) flags)))))
+
+abbrev pub transfer_last_same : Test TransferSaid
+transfer_last_same =
+    both (field (λ p. p.rcv_settle_mode) (maybe receiver_modes))
+    (both (field (λ p. p.state) (maybe texts))
+    (both (field (λ p. p.resume) flags)
+    (both (field (λ p. p.aborted) flags)
+    (field (λ p. p.batchable) flags))))
+
+abbrev pub transfer_same : Test TransferSaid
+transfer_same = both transfer_first_same transfer_last_same

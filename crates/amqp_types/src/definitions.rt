@@ -1,0 +1,135 @@
+//! The small types of the standard's definitions (AMQP 1.0 part 2, section 2.8).
+
+ghost use Rattle.std.specs.Prelude.{◌≡◌, ℕ, List};
+ghost use Rattle.amqp_values.specs.Reading.{Gives};
+ghost use Rattle.amqp_values.specs.Number.{uint_at};
+ghost use Rattle.amqp_values.specs.Text.{binary_at};
+ghost use Rattle.amqp_types.specs.declared.definitions.Role.{Role};
+ghost use Rattle.amqp_types.specs.declared.definitions.SenderSettleMode.{SenderSettleMode};
+ghost use Rattle.amqp_types.specs.declared.definitions.ReceiverSettleMode.{ReceiverSettleMode};
+ghost use Rattle.amqp_types.specs.Definitions.{role_at, sender_mode_at, receiver_mode_at};
+
+use amqp_values::{Field, ReadError};
+use bytes::Bytes;
+use std::alloc::Global;
+
+/// A number of four bytes.
+pub type Uint = u32;
+
+/// The number of a delivery in its session, modulo 2^32 (part 2, section 2.8.7).
+pub type DeliveryNumber = u32;
+
+/// The number of a transfer in its session, modulo 2^32 (part 2, section 2.8.8).
+pub type TransferNumber = u32;
+
+/// A number in a sequence, modulo 2^32 (part 2, section 2.8.10).
+pub type SequenceNo = u32;
+
+/// The handle of a link in its session (part 2, section 2.8.5).
+#[derive(Clone, Copy, Debug, PartialEq, Eq, PartialOrd, Ord, Hash)]
+pub struct Handle(pub u32);
+
+/// The tag of a delivery on its link: any bytes, also more than the 32 that the standard allows (part 2,
+/// section 2.8.6). It is a cut of what was received: none is copied.
+#[derive(Clone, Debug, Drop, PartialEq, Eq)]
+pub struct DeliveryTag(pub Bytes);
+
+/// Which end of a link (part 2, section 2.8.1).
+#[derive(Clone, Copy, Debug, PartialEq, Eq)]
+pub enum Role {
+    /// Written as the boolean false.
+    Sender,
+    /// Written as the boolean true.
+    Receiver,
+}
+
+/// How the sending end of a link settles (part 2, section 2.8.2).
+#[derive(Clone, Copy, Debug, PartialEq, Eq)]
+pub enum SenderSettleMode {
+    Unsettled,
+    Settled,
+    Mixed,
+}
+
+/// How the receiving end of a link settles (part 2, section 2.8.3).
+#[derive(Clone, Copy, Debug, PartialEq, Eq)]
+pub enum ReceiverSettleMode {
+    First,
+    Second,
+}
+
+impl Field for Handle {
+    ghost Seen = { ℕ };
+
+    ghost view = { λ h. h.0 };
+
+    ghost at = { uint_at };
+
+    fn read(alloc: Global, bytes: &mut Bytes) -> Result<Handle, ReadError> {
+        Ok(Handle(u32::read(alloc, bytes)?))
+    }
+}
+
+impl Field for DeliveryTag {
+    ghost Seen = { List ℕ };
+
+    ghost view = { λ t. t.0 };
+
+    ghost at = { binary_at };
+
+    fn read(alloc: Global, bytes: &mut Bytes) -> Result<DeliveryTag, ReadError> {
+        Ok(DeliveryTag(Bytes::read(alloc, bytes)?))
+    }
+}
+
+impl Field for Role {
+    ghost Seen = { Role };
+
+    ghost view = { λ r. r };
+
+    ghost at = { role_at };
+
+    #[tactic(auto, unfolding(crate::specs::Definitions::role_at))]
+    fn read(alloc: Global, bytes: &mut Bytes) -> Result<Role, ReadError> {
+        if bool::read(alloc, bytes)? {
+            Ok(Role::Receiver)
+        } else {
+            Ok(Role::Sender)
+        }
+    }
+}
+
+impl Field for SenderSettleMode {
+    ghost Seen = { SenderSettleMode };
+
+    ghost view = { λ m. m };
+
+    ghost at = { sender_mode_at };
+
+    #[tactic(auto, unfolding(crate::specs::Definitions::sender_mode_at))]
+    fn read(alloc: Global, bytes: &mut Bytes) -> Result<SenderSettleMode, ReadError> {
+        match u8::read(alloc, bytes)? {
+            0 => Ok(SenderSettleMode::Unsettled),
+            1 => Ok(SenderSettleMode::Settled),
+            2 => Ok(SenderSettleMode::Mixed),
+            _ => Err(ReadError::Malformed),
+        }
+    }
+}
+
+impl Field for ReceiverSettleMode {
+    ghost Seen = { ReceiverSettleMode };
+
+    ghost view = { λ m. m };
+
+    ghost at = { receiver_mode_at };
+
+    #[tactic(auto, unfolding(crate::specs::Definitions::receiver_mode_at))]
+    fn read(alloc: Global, bytes: &mut Bytes) -> Result<ReceiverSettleMode, ReadError> {
+        match u8::read(alloc, bytes)? {
+            0 => Ok(ReceiverSettleMode::First),
+            1 => Ok(ReceiverSettleMode::Second),
+            _ => Err(ReadError::Malformed),
+        }
+    }
+}

@@ -1,0 +1,97 @@
+//! Error (AMQP 1.0 part 2, section 2.8.14).
+
+ghost use Rattle.std.specs.Prelude.{◌≡◌, map, List, ℕ, Option};
+ghost use Rattle.amqp_values.specs.Reading.{Gives};
+ghost use Rattle.amqp_values.specs.Writing.{leaf_text};
+ghost use Rattle.amqp_types.specs.Error.{error_body_at, error_fields};
+ghost use Rattle.amqp_types.specs.Error.{ErrorSaid, error_at};
+
+use crate::leaf;
+use amqp_values::composite::described;
+use amqp_values::{Composite, Field, Fields, Leaf, Parts, ReadError, Symbol};
+use bytes::Bytes;
+use std::alloc::Global;
+use std::marker::Model;
+
+/// Why something ended (AMQP 1.0 part 2, section 2.8.14).
+#[derive(Clone, Debug, Drop)]
+pub struct Error {
+    /// What went wrong. Mandatory.
+    pub condition: Symbol,
+    /// What went wrong, in words.
+    pub description: Option<String>,
+    /// More about it.
+    pub info: Option<Fields>,
+}
+
+impl Model for Error {
+    ghost use Rattle.std.specs.Prelude.{string_bytes};
+    ghost use Rattle.std.specs.Option.{option_map};
+    ghost use Rattle.amqp_types.specs.Error.{ErrorSaid};
+
+    ghost Value = { ErrorSaid };
+
+    ghost view = { λ p. record {
+        condition = p.condition;
+        description = option_map string_bytes p.description;
+        info = p.info
+    } };
+}
+
+impl PartialEq for Error {
+    ghost use Rattle.std.specs.Cmp.{partial_equiv_from_equiv};
+    ghost use Rattle.amqp_types.specs.Error.{error_same};
+
+    ghost eq = { error_same.test };
+
+    ghost laws = { partial_equiv_from_equiv error_same.laws };
+
+    fn eq(&self, other: &Error) -> bool {
+        self.condition == other.condition
+            && self.description == other.description
+            && self.info == other.info
+    }
+}
+
+impl Composite for Error {
+    ghost body_at = { error_body_at };
+
+    #[tactic(auto, unfolding(crate::specs::Error::error_body_at))]
+    fn fields(alloc: Global, parts: &mut Parts) -> Result<Error, ReadError> {
+        let condition = parts.required(alloc)?;
+        let description = parts.next(alloc)?;
+        let info = parts.next(alloc)?;
+        parts.finish(Error {
+            condition,
+            description,
+            info,
+        })
+    }
+}
+
+impl Field for Error {
+    ghost Seen = { ErrorSaid };
+
+    ghost view = { λ e. e };
+
+    ghost at = { error_at };
+
+    #[tactic(auto, unfolding(crate::specs::Error::error_at))]
+    fn read(alloc: Global, bytes: &mut Bytes) -> Result<Error, ReadError> {
+        described(alloc, 0x1d, bytes)
+    }
+}
+
+impl Error {
+    /// The fields, lent for writing.
+    #[tactic(auto, unfolding(crate::specs::Error::error_fields))]
+    pub(crate) fn parts(&self) -> [Leaf<'_>; 3]
+        ensures { map leaf_text result ≡ error_fields self.now }
+    {
+        [
+            Leaf::Symbol(&self.condition),
+            leaf::optional_string(&self.description),
+            leaf::optional_fields(&self.info),
+        ]
+    }
+}

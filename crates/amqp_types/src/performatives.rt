@@ -1,0 +1,128 @@
+//! The nine performatives: what a frame's body says (AMQP 1.0 part 2, section 2.7).
+
+ghost use Rattle.std.specs.Prelude.{◌≡◌, ◌<◌, ◌++◌, ◌↔◌, length, OnOk, OnErr};
+ghost use Rattle.amqp_values.specs.Reading.{Answers, Gives, ReadsFront};
+ghost use Rattle.amqp_values.specs.Writing.{IsTooLarge};
+ghost use Rattle.amqp_types.specs.Performatives.{IsPerformative, body_at, performative_at, performative_text};
+
+pub mod open;
+pub mod begin;
+pub mod attach;
+pub mod flow;
+pub mod transfer;
+pub mod disposition;
+pub mod detach;
+pub mod end;
+pub mod close;
+
+pub use open::Open;
+pub use begin::Begin;
+pub use attach::Attach;
+pub use flow::Flow;
+pub use transfer::Transfer;
+pub use disposition::Disposition;
+pub use detach::Detach;
+pub use end::End;
+pub use close::Close;
+
+use amqp_values::composite::{descriptor, read_list};
+use amqp_values::writing::{described_len, write_described};
+use amqp_values::{ReadError, WriteError};
+use bytes::{Bytes, BytesMut};
+use std::alloc::Global;
+
+/// A performative (part 2, section 2.7).
+#[derive(Clone, Debug, Drop, PartialEq)]
+pub enum Performative {
+    Open(Open),
+    Begin(Begin),
+    Attach(Attach),
+    Flow(Flow),
+    Transfer(Transfer),
+    Disposition(Disposition),
+    Detach(Detach),
+    End(End),
+    Close(Close),
+}
+
+/// The list of the performative with this code.
+#[tactic(auto, unfolding(crate::specs::Performatives::body_at))]
+fn body(alloc: Global, code: u64, bytes: &mut Bytes) -> Result<Performative, ReadError>
+    ensures { Gives (λ p. p) result bytes.new (body_at code bytes.old) }
+{
+    match code {
+        0x10 => Ok(Performative::Open(read_list(alloc, bytes)?)),
+        0x11 => Ok(Performative::Begin(read_list(alloc, bytes)?)),
+        0x12 => Ok(Performative::Attach(read_list(alloc, bytes)?)),
+        0x13 => Ok(Performative::Flow(read_list(alloc, bytes)?)),
+        0x14 => Ok(Performative::Transfer(read_list(alloc, bytes)?)),
+        0x15 => Ok(Performative::Disposition(read_list(alloc, bytes)?)),
+        0x16 => Ok(Performative::Detach(read_list(alloc, bytes)?)),
+        0x17 => Ok(Performative::End(read_list(alloc, bytes)?)),
+        0x18 => Ok(Performative::Close(read_list(alloc, bytes)?)),
+        _ => Err(ReadError::Malformed),
+    }
+}
+
+impl Performative {
+    /// Takes the performative at the front of the bytes, and gives it and the rest. Descriptors are numbers or names, and
+    /// every spelling of every field is read; raw values and delivery tags are cuts of the bytes, and only texts are
+    /// copied.
+    ///
+    /// `Malformed` exactly where no front of the bytes is a performative: a mandatory field is null, a field is of
+    /// another type, or there are more fields than the table has. `OutOfMemory` where memory is refused.
+    pub fn read(alloc: Global, bytes: Bytes) -> Result<(Performative, Bytes), ReadError>
+        ensures { ReadsFront IsPerformative bytes result }
+    {
+        Performative::front(alloc, bytes)
+    }
+
+    #[tactic(auto, unfolding(crate::specs::Performatives::performative_at))]
+    fn front(alloc: Global, bytes: Bytes) -> Result<(Performative, Bytes), ReadError>
+        ensures { Answers (λ x. (x.0, x.1)) result (performative_at bytes) }
+    {
+        let mut rest = bytes;
+        let code = descriptor(&mut rest)?;
+        let performative = body(alloc, code, &mut rest)?;
+        Ok((performative, rest))
+    }
+
+    /// The length in bytes of the text that [`Performative::write`] appends. Takes no memory and writes nothing.
+    pub fn encoded_len(&self) -> u128
+        ensures { result ≡ length (performative_text self.now) }
+    {
+        match self {
+            Performative::Open(p) => described_len(&p.parts()),
+            Performative::Begin(p) => described_len(&p.parts()),
+            Performative::Attach(p) => described_len(&p.parts()),
+            Performative::Flow(p) => described_len(&p.parts()),
+            Performative::Transfer(p) => described_len(&p.parts()),
+            Performative::Disposition(p) => described_len(&p.parts()),
+            Performative::Detach(p) => described_len(&p.parts()),
+            Performative::End(p) => described_len(&p.parts()),
+            Performative::Close(p) => described_len(&p.parts()),
+        }
+    }
+
+    /// Appends the whole canonical text, or nothing.
+    ///
+    /// `TooLarge` exactly where the text has more than `limit` bytes. `OutOfMemory` where the one reservation that this
+    /// takes is refused.
+    pub fn write(&self, out: &mut BytesMut, limit: u32) -> Result<(), WriteError>
+        ensures written { OnOk result (out.new.items ≡ out.old.items ++ performative_text self.now) }
+        ensures nothing { OnErr result (out.new.items ≡ out.old.items) }
+        ensures too_large { IsTooLarge result ↔ (limit < length (performative_text self.now)) }
+    {
+        match self {
+            Performative::Open(p) => write_described(0x10, &p.parts(), out, limit),
+            Performative::Begin(p) => write_described(0x11, &p.parts(), out, limit),
+            Performative::Attach(p) => write_described(0x12, &p.parts(), out, limit),
+            Performative::Flow(p) => write_described(0x13, &p.parts(), out, limit),
+            Performative::Transfer(p) => write_described(0x14, &p.parts(), out, limit),
+            Performative::Disposition(p) => write_described(0x15, &p.parts(), out, limit),
+            Performative::Detach(p) => write_described(0x16, &p.parts(), out, limit),
+            Performative::End(p) => write_described(0x17, &p.parts(), out, limit),
+            Performative::Close(p) => write_described(0x18, &p.parts(), out, limit),
+        }
+    }
+}

@@ -1,0 +1,199 @@
+//! Attach (AMQP 1.0 part 2, section 2.7.3).
+
+ghost use Rattle.std.specs.Prelude.{◌≡◌, map, List, ℕ, Option};
+ghost use Rattle.std.specs.Option.{option_map};
+ghost use Rattle.amqp_values.specs.Reading.{Gives};
+ghost use Rattle.amqp_values.specs.Writing.{leaf_text};
+ghost use Rattle.amqp_types.specs.Attach.{attach_rest_at, attach_body_at, attach_fields, attach_first_same, attach_last_same};
+
+use crate::definitions::{Handle, ReceiverSettleMode, Role, SenderSettleMode};
+use crate::leaf;
+use amqp_values::{Composite, Fields, Leaf, Parts, Raw, ReadError, Symbol};
+use std::alloc::Global;
+use std::marker::Model;
+
+/// A link is attached to a session (AMQP 1.0 part 2, section 2.7.3).
+#[derive(Clone, Debug, Drop)]
+pub struct Attach {
+    /// The name of the link. Mandatory.
+    pub name: String,
+    /// The handle of the link. Mandatory.
+    pub handle: Handle,
+    /// Which end the sender of the frame is. Mandatory.
+    pub role: Role,
+    /// How the sending end settles. Where it is not said, mixed.
+    pub snd_settle_mode: SenderSettleMode,
+    /// How the receiving end settles. Where it is not said, first.
+    pub rcv_settle_mode: ReceiverSettleMode,
+    /// Where messages come from.
+    pub source: Option<Raw>,
+    /// Where messages go.
+    pub target: Option<Raw>,
+    /// The deliveries that are not settled.
+    pub unsettled: Option<Fields>,
+    /// Whether more deliveries are unsettled than are named. Where it is not said, false.
+    pub incomplete_unsettled: bool,
+    /// Where the delivery count begins.
+    pub initial_delivery_count: Option<u32>,
+    /// The largest message, in bytes.
+    pub max_message_size: Option<u64>,
+    /// What the sender of the frame can do.
+    pub offered_capabilities: Option<Vec<Symbol>>,
+    /// What it wants the peer to do.
+    pub desired_capabilities: Option<Vec<Symbol>>,
+    /// Anything else.
+    pub properties: Option<Fields>,
+}
+
+impl Model for Attach {
+    ghost use Rattle.std.specs.Prelude.{string_bytes};
+    ghost use Rattle.std.specs.Option.{option_map};
+    ghost use Rattle.amqp_types.specs.Attach.{AttachSaid};
+
+    ghost Value = { AttachSaid };
+
+    ghost view = { λ p. record {
+        name = string_bytes p.name;
+        handle = p.handle.0;
+        role = p.role;
+        snd_settle_mode = p.snd_settle_mode;
+        rcv_settle_mode = p.rcv_settle_mode;
+        source = p.source;
+        target = p.target;
+        unsettled = p.unsettled;
+        incomplete_unsettled = p.incomplete_unsettled;
+        initial_delivery_count = p.initial_delivery_count;
+        max_message_size = p.max_message_size;
+        offered_capabilities = option_map (λ v. v.items) p.offered_capabilities;
+        desired_capabilities = option_map (λ v. v.items) p.desired_capabilities;
+        properties = p.properties
+    } };
+}
+
+impl PartialEq for Attach {
+    ghost use Rattle.std.specs.Cmp.{partial_equiv_from_equiv};
+    ghost use Rattle.amqp_types.specs.Attach.{attach_same};
+
+    ghost eq = { attach_same.test };
+
+    ghost laws = { partial_equiv_from_equiv attach_same.laws };
+
+    fn eq(&self, other: &Attach) -> bool {
+        self.same_first(other) && self.same_last(other)
+    }
+}
+
+impl Attach {
+    /// Whether the first fields are the same.
+    fn same_first(&self, other: &Attach) -> bool
+        ensures { result ≡ attach_first_same.test self.now other.now }
+    {
+        self.name == other.name
+            && self.handle == other.handle
+            && self.role == other.role
+            && self.snd_settle_mode == other.snd_settle_mode
+            && self.rcv_settle_mode == other.rcv_settle_mode
+            && self.source == other.source
+            && self.target == other.target
+    }
+
+    /// Whether the last fields are the same.
+    fn same_last(&self, other: &Attach) -> bool
+        ensures { result ≡ attach_last_same.test self.now other.now }
+    {
+        self.unsettled == other.unsettled
+            && self.incomplete_unsettled == other.incomplete_unsettled
+            && self.initial_delivery_count == other.initial_delivery_count
+            && self.max_message_size == other.max_message_size
+            && self.offered_capabilities == other.offered_capabilities
+            && self.desired_capabilities == other.desired_capabilities
+            && self.properties == other.properties
+    }
+}
+
+impl Composite for Attach {
+    ghost body_at = { attach_body_at };
+
+    #[tactic(auto, unfolding(crate::specs::Attach::attach_body_at))]
+    fn fields(alloc: Global, parts: &mut Parts) -> Result<Attach, ReadError> {
+        let name = parts.required(alloc)?;
+        let handle = parts.required(alloc)?;
+        let role = parts.required(alloc)?;
+        let snd_settle_mode = parts.or(alloc, SenderSettleMode::Mixed)?;
+        let rcv_settle_mode = parts.or(alloc, ReceiverSettleMode::First)?;
+        let source = parts.next(alloc)?;
+        let target = parts.next(alloc)?;
+        let unsettled = parts.next(alloc)?;
+        let incomplete_unsettled = parts.or(alloc, false)?;
+        let rest = take_rest(alloc, parts)?;
+        Ok(Attach {
+            name,
+            handle,
+            role,
+            snd_settle_mode,
+            rcv_settle_mode,
+            source,
+            target,
+            unsettled,
+            incomplete_unsettled,
+            initial_delivery_count: rest.initial_delivery_count,
+            max_message_size: rest.max_message_size,
+            offered_capabilities: rest.offered_capabilities,
+            desired_capabilities: rest.desired_capabilities,
+            properties: rest.properties,
+        })
+    }
+}
+
+/// The fields from the delivery count on.
+#[derive(Drop)]
+struct Rest {
+    initial_delivery_count: Option<u32>,
+    max_message_size: Option<u64>,
+    offered_capabilities: Option<Vec<Symbol>>,
+    desired_capabilities: Option<Vec<Symbol>>,
+    properties: Option<Fields>,
+}
+
+#[tactic(auto, unfolding(crate::specs::Attach::attach_rest_at))]
+fn take_rest(alloc: Global, parts: &mut Parts) -> Result<Rest, ReadError>
+    ensures { Gives (λ r. (r.initial_delivery_count, (r.max_message_size, (option_map (λ v. v.items) r.offered_capabilities, (option_map (λ v. v.items) r.desired_capabilities, (r.properties, tt)))))) result parts.new (attach_rest_at parts.old) }
+{
+    let initial_delivery_count = parts.next(alloc)?;
+    let max_message_size = parts.next(alloc)?;
+    let offered_capabilities = parts.next(alloc)?;
+    let desired_capabilities = parts.next(alloc)?;
+    let properties = parts.next(alloc)?;
+    parts.finish(Rest {
+        initial_delivery_count,
+        max_message_size,
+        offered_capabilities,
+        desired_capabilities,
+        properties,
+    })
+}
+
+impl Attach {
+    /// The fields, lent for writing.
+    #[tactic(auto, unfolding(crate::specs::Attach::attach_fields))]
+    pub(crate) fn parts(&self) -> [Leaf<'_>; 14]
+        ensures { map leaf_text result ≡ attach_fields self.now }
+    {
+        [
+            Leaf::String(self.name.as_str()),
+            Leaf::Uint(self.handle.0),
+            leaf::role(self.role),
+            leaf::sender_mode(self.snd_settle_mode),
+            leaf::receiver_mode(self.rcv_settle_mode),
+            leaf::optional_value(&self.source),
+            leaf::optional_value(&self.target),
+            leaf::optional_fields(&self.unsettled),
+            leaf::flag(self.incomplete_unsettled),
+            leaf::optional_uint(self.initial_delivery_count),
+            leaf::optional_ulong(self.max_message_size),
+            leaf::optional_symbols(&self.offered_capabilities),
+            leaf::optional_symbols(&self.desired_capabilities),
+            leaf::optional_fields(&self.properties),
+        ]
+    }
+}

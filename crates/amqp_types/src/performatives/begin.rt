@@ -1,0 +1,116 @@
+//! Begin (AMQP 1.0 part 2, section 2.7.2).
+
+ghost use Rattle.std.specs.Prelude.{◌≡◌, map, List, ℕ, Option};
+ghost use Rattle.amqp_values.specs.Reading.{Gives};
+ghost use Rattle.amqp_values.specs.Writing.{leaf_text};
+ghost use Rattle.amqp_types.specs.Begin.{begin_body_at, begin_fields};
+
+use crate::definitions::{Handle};
+use crate::leaf;
+use amqp_values::{Composite, Fields, Leaf, Parts, ReadError, Symbol};
+use std::alloc::Global;
+use std::marker::Model;
+
+/// The parameters that a session begins with (AMQP 1.0 part 2, section 2.7.2).
+#[derive(Clone, Debug, Drop)]
+pub struct Begin {
+    /// The channel of the Begin that this one answers.
+    pub remote_channel: Option<u16>,
+    /// The number of the next transfer. Mandatory.
+    pub next_outgoing_id: u32,
+    /// How many transfers may come. Mandatory.
+    pub incoming_window: u32,
+    /// How many transfers may go. Mandatory.
+    pub outgoing_window: u32,
+    /// The highest handle that may be used. Where it is not said, 4294967295.
+    pub handle_max: Handle,
+    /// What the sender of the frame can do.
+    pub offered_capabilities: Option<Vec<Symbol>>,
+    /// What it wants the peer to do.
+    pub desired_capabilities: Option<Vec<Symbol>>,
+    /// Anything else.
+    pub properties: Option<Fields>,
+}
+
+impl Model for Begin {
+    ghost use Rattle.std.specs.Option.{option_map};
+    ghost use Rattle.amqp_types.specs.Begin.{BeginSaid};
+
+    ghost Value = { BeginSaid };
+
+    ghost view = { λ p. record {
+        remote_channel = p.remote_channel;
+        next_outgoing_id = p.next_outgoing_id;
+        incoming_window = p.incoming_window;
+        outgoing_window = p.outgoing_window;
+        handle_max = p.handle_max.0;
+        offered_capabilities = option_map (λ v. v.items) p.offered_capabilities;
+        desired_capabilities = option_map (λ v. v.items) p.desired_capabilities;
+        properties = p.properties
+    } };
+}
+
+impl PartialEq for Begin {
+    ghost use Rattle.std.specs.Cmp.{partial_equiv_from_equiv};
+    ghost use Rattle.amqp_types.specs.Begin.{begin_same};
+
+    ghost eq = { begin_same.test };
+
+    ghost laws = { partial_equiv_from_equiv begin_same.laws };
+
+    fn eq(&self, other: &Begin) -> bool {
+        self.remote_channel == other.remote_channel
+            && self.next_outgoing_id == other.next_outgoing_id
+            && self.incoming_window == other.incoming_window
+            && self.outgoing_window == other.outgoing_window
+            && self.handle_max == other.handle_max
+            && self.offered_capabilities == other.offered_capabilities
+            && self.desired_capabilities == other.desired_capabilities
+            && self.properties == other.properties
+    }
+}
+
+impl Composite for Begin {
+    ghost body_at = { begin_body_at };
+
+    #[tactic(auto, unfolding(crate::specs::Begin::begin_body_at))]
+    fn fields(alloc: Global, parts: &mut Parts) -> Result<Begin, ReadError> {
+        let remote_channel = parts.next(alloc)?;
+        let next_outgoing_id = parts.required(alloc)?;
+        let incoming_window = parts.required(alloc)?;
+        let outgoing_window = parts.required(alloc)?;
+        let handle_max = parts.or(alloc, Handle(u32::MAX))?;
+        let offered_capabilities = parts.next(alloc)?;
+        let desired_capabilities = parts.next(alloc)?;
+        let properties = parts.next(alloc)?;
+        parts.finish(Begin {
+            remote_channel,
+            next_outgoing_id,
+            incoming_window,
+            outgoing_window,
+            handle_max,
+            offered_capabilities,
+            desired_capabilities,
+            properties,
+        })
+    }
+}
+
+impl Begin {
+    /// The fields, lent for writing.
+    #[tactic(auto, unfolding(crate::specs::Begin::begin_fields))]
+    pub(crate) fn parts(&self) -> [Leaf<'_>; 8]
+        ensures { map leaf_text result ≡ begin_fields self.now }
+    {
+        [
+            leaf::optional_ushort(self.remote_channel),
+            Leaf::Uint(self.next_outgoing_id),
+            Leaf::Uint(self.incoming_window),
+            Leaf::Uint(self.outgoing_window),
+            leaf::uint_or(self.handle_max.0, u32::MAX),
+            leaf::optional_symbols(&self.offered_capabilities),
+            leaf::optional_symbols(&self.desired_capabilities),
+            leaf::optional_fields(&self.properties),
+        ]
+    }
+}

@@ -1,0 +1,82 @@
+//! Detach (AMQP 1.0 part 2, section 2.7.7).
+
+ghost use Rattle.std.specs.Prelude.{◌≡◌, map, List, ℕ, Option};
+ghost use Rattle.amqp_values.specs.Reading.{Gives};
+ghost use Rattle.amqp_types.specs.Part.{part_text};
+ghost use Rattle.amqp_types.specs.Detach.{detach_body_at, detach_fields};
+
+use crate::definitions::{Handle};
+use crate::error::Error;
+use crate::leaf;
+use crate::part::Part;
+use amqp_values::{Composite, Leaf, Parts, ReadError};
+use std::alloc::Global;
+use std::marker::Model;
+
+/// A link is detached from a session (AMQP 1.0 part 2, section 2.7.7).
+#[derive(Clone, Debug, Drop)]
+pub struct Detach {
+    /// The link. Mandatory.
+    pub handle: Handle,
+    /// Whether the link is closed for good. Where it is not said, false.
+    pub closed: bool,
+    /// Why.
+    pub error: Option<Error>,
+}
+
+impl Model for Detach {
+    ghost use Rattle.amqp_types.specs.Detach.{DetachSaid};
+
+    ghost Value = { DetachSaid };
+
+    ghost view = { λ p. record {
+        handle = p.handle.0;
+        closed = p.closed;
+        error = p.error
+    } };
+}
+
+impl PartialEq for Detach {
+    ghost use Rattle.std.specs.Cmp.{partial_equiv_from_equiv};
+    ghost use Rattle.amqp_types.specs.Detach.{detach_same};
+
+    ghost eq = { detach_same.test };
+
+    ghost laws = { partial_equiv_from_equiv detach_same.laws };
+
+    fn eq(&self, other: &Detach) -> bool {
+        self.handle == other.handle
+            && self.closed == other.closed
+            && self.error == other.error
+    }
+}
+
+impl Composite for Detach {
+    ghost body_at = { detach_body_at };
+
+    #[tactic(auto, unfolding(crate::specs::Detach::detach_body_at))]
+    fn fields(alloc: Global, parts: &mut Parts) -> Result<Detach, ReadError> {
+        let handle = parts.required(alloc)?;
+        let closed = parts.or(alloc, false)?;
+        let error = parts.next(alloc)?;
+        parts.finish(Detach {
+            handle,
+            closed,
+            error,
+        })
+    }
+}
+
+impl Detach {
+    /// The fields, lent for writing.
+    #[tactic(auto, unfolding(crate::specs::Detach::detach_fields))]
+    pub(crate) fn parts(&self) -> [Part<'_>; 3]
+        ensures { map part_text result ≡ detach_fields self.now }
+    {
+        [
+            Part::Leaf(Leaf::Uint(self.handle.0)),
+            Part::Leaf(leaf::flag(self.closed)),
+            Part::optional(&self.error),
+        ]
+    }
+}

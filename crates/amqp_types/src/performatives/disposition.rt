@@ -1,0 +1,101 @@
+//! Disposition (AMQP 1.0 part 2, section 2.7.6).
+
+ghost use Rattle.std.specs.Prelude.{◌≡◌, map, List, ℕ, Option};
+ghost use Rattle.amqp_values.specs.Reading.{Gives};
+ghost use Rattle.amqp_values.specs.Writing.{leaf_text};
+ghost use Rattle.amqp_types.specs.Disposition.{disposition_body_at, disposition_fields};
+
+use crate::definitions::{Role};
+use crate::leaf;
+use amqp_values::{Composite, Leaf, Parts, Raw, ReadError};
+use std::alloc::Global;
+use std::marker::Model;
+
+/// The state of deliveries, and whether they are settled (AMQP 1.0 part 2, section 2.7.6).
+#[derive(Clone, Debug, Drop)]
+pub struct Disposition {
+    /// Which end the sender of the frame is. Mandatory.
+    pub role: Role,
+    /// The first delivery that is meant. Mandatory.
+    pub first: u32,
+    /// The last one; where it is not set, the first.
+    pub last: Option<u32>,
+    /// Whether the deliveries are settled. Where it is not said, false.
+    pub settled: bool,
+    /// The state of the deliveries.
+    pub state: Option<Raw>,
+    /// Whether an answer may wait. Where it is not said, false.
+    pub batchable: bool,
+}
+
+impl Model for Disposition {
+    ghost use Rattle.amqp_types.specs.Disposition.{DispositionSaid};
+
+    ghost Value = { DispositionSaid };
+
+    ghost view = { λ p. record {
+        role = p.role;
+        first = p.first;
+        last = p.last;
+        settled = p.settled;
+        state = p.state;
+        batchable = p.batchable
+    } };
+}
+
+impl PartialEq for Disposition {
+    ghost use Rattle.std.specs.Cmp.{partial_equiv_from_equiv};
+    ghost use Rattle.amqp_types.specs.Disposition.{disposition_same};
+
+    ghost eq = { disposition_same.test };
+
+    ghost laws = { partial_equiv_from_equiv disposition_same.laws };
+
+    fn eq(&self, other: &Disposition) -> bool {
+        self.role == other.role
+            && self.first == other.first
+            && self.last == other.last
+            && self.settled == other.settled
+            && self.state == other.state
+            && self.batchable == other.batchable
+    }
+}
+
+impl Composite for Disposition {
+    ghost body_at = { disposition_body_at };
+
+    #[tactic(auto, unfolding(crate::specs::Disposition::disposition_body_at))]
+    fn fields(alloc: Global, parts: &mut Parts) -> Result<Disposition, ReadError> {
+        let role = parts.required(alloc)?;
+        let first = parts.required(alloc)?;
+        let last = parts.next(alloc)?;
+        let settled = parts.or(alloc, false)?;
+        let state = parts.next(alloc)?;
+        let batchable = parts.or(alloc, false)?;
+        parts.finish(Disposition {
+            role,
+            first,
+            last,
+            settled,
+            state,
+            batchable,
+        })
+    }
+}
+
+impl Disposition {
+    /// The fields, lent for writing.
+    #[tactic(auto, unfolding(crate::specs::Disposition::disposition_fields))]
+    pub(crate) fn parts(&self) -> [Leaf<'_>; 6]
+        ensures { map leaf_text result ≡ disposition_fields self.now }
+    {
+        [
+            leaf::role(self.role),
+            Leaf::Uint(self.first),
+            leaf::optional_uint(self.last),
+            leaf::flag(self.settled),
+            leaf::optional_value(&self.state),
+            leaf::flag(self.batchable),
+        ]
+    }
+}

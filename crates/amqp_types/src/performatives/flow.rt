@@ -1,0 +1,152 @@
+//! Flow (AMQP 1.0 part 2, section 2.7.4).
+
+ghost use Rattle.std.specs.Prelude.{◌≡◌, map, List, ℕ, Option};
+ghost use Rattle.amqp_values.specs.Reading.{Gives};
+ghost use Rattle.amqp_values.specs.Writing.{leaf_text};
+ghost use Rattle.amqp_types.specs.Flow.{flow_body_at, flow_fields, flow_first_same, flow_last_same};
+
+use crate::definitions::{Handle};
+use crate::leaf;
+use amqp_values::{Composite, Fields, Leaf, Parts, ReadError};
+use std::alloc::Global;
+use std::marker::Model;
+
+/// The windows of a session, and the credit of a link (AMQP 1.0 part 2, section 2.7.4).
+#[derive(Clone, Debug, Drop)]
+pub struct Flow {
+    /// The number of the next transfer that is expected.
+    pub next_incoming_id: Option<u32>,
+    /// How many transfers may come. Mandatory.
+    pub incoming_window: u32,
+    /// The number of the next transfer that goes out. Mandatory.
+    pub next_outgoing_id: u32,
+    /// How many transfers may go. Mandatory.
+    pub outgoing_window: u32,
+    /// The link that is meant, if any.
+    pub handle: Option<Handle>,
+    /// The delivery count of the link.
+    pub delivery_count: Option<u32>,
+    /// How many messages may come on the link.
+    pub link_credit: Option<u32>,
+    /// How many messages wait at the sender.
+    pub available: Option<u32>,
+    /// Whether the credit is to be used up. Where it is not said, false.
+    pub drain: bool,
+    /// Whether a flow is wanted in answer. Where it is not said, false.
+    pub echo: bool,
+    /// Anything else.
+    pub properties: Option<Fields>,
+}
+
+impl Model for Flow {
+    ghost use Rattle.std.specs.Option.{option_map};
+    ghost use Rattle.amqp_types.specs.Flow.{FlowSaid};
+
+    ghost Value = { FlowSaid };
+
+    ghost view = { λ p. record {
+        next_incoming_id = p.next_incoming_id;
+        incoming_window = p.incoming_window;
+        next_outgoing_id = p.next_outgoing_id;
+        outgoing_window = p.outgoing_window;
+        handle = option_map (λ v. v.0) p.handle;
+        delivery_count = p.delivery_count;
+        link_credit = p.link_credit;
+        available = p.available;
+        drain = p.drain;
+        echo = p.echo;
+        properties = p.properties
+    } };
+}
+
+impl PartialEq for Flow {
+    ghost use Rattle.std.specs.Cmp.{partial_equiv_from_equiv};
+    ghost use Rattle.amqp_types.specs.Flow.{flow_same};
+
+    ghost eq = { flow_same.test };
+
+    ghost laws = { partial_equiv_from_equiv flow_same.laws };
+
+    fn eq(&self, other: &Flow) -> bool {
+        self.same_first(other) && self.same_last(other)
+    }
+}
+
+impl Flow {
+    /// Whether the first fields are the same.
+    fn same_first(&self, other: &Flow) -> bool
+        ensures { result ≡ flow_first_same.test self.now other.now }
+    {
+        self.next_incoming_id == other.next_incoming_id
+            && self.incoming_window == other.incoming_window
+            && self.next_outgoing_id == other.next_outgoing_id
+            && self.outgoing_window == other.outgoing_window
+            && self.handle == other.handle
+            && self.delivery_count == other.delivery_count
+    }
+
+    /// Whether the last fields are the same.
+    fn same_last(&self, other: &Flow) -> bool
+        ensures { result ≡ flow_last_same.test self.now other.now }
+    {
+        self.link_credit == other.link_credit
+            && self.available == other.available
+            && self.drain == other.drain
+            && self.echo == other.echo
+            && self.properties == other.properties
+    }
+}
+
+impl Composite for Flow {
+    ghost body_at = { flow_body_at };
+
+    #[tactic(auto, unfolding(crate::specs::Flow::flow_body_at))]
+    fn fields(alloc: Global, parts: &mut Parts) -> Result<Flow, ReadError> {
+        let next_incoming_id = parts.next(alloc)?;
+        let incoming_window = parts.required(alloc)?;
+        let next_outgoing_id = parts.required(alloc)?;
+        let outgoing_window = parts.required(alloc)?;
+        let handle = parts.next(alloc)?;
+        let delivery_count = parts.next(alloc)?;
+        let link_credit = parts.next(alloc)?;
+        let available = parts.next(alloc)?;
+        let drain = parts.or(alloc, false)?;
+        let echo = parts.or(alloc, false)?;
+        let properties = parts.next(alloc)?;
+        parts.finish(Flow {
+            next_incoming_id,
+            incoming_window,
+            next_outgoing_id,
+            outgoing_window,
+            handle,
+            delivery_count,
+            link_credit,
+            available,
+            drain,
+            echo,
+            properties,
+        })
+    }
+}
+
+impl Flow {
+    /// The fields, lent for writing.
+    #[tactic(auto, unfolding(crate::specs::Flow::flow_fields))]
+    pub(crate) fn parts(&self) -> [Leaf<'_>; 11]
+        ensures { map leaf_text result ≡ flow_fields self.now }
+    {
+        [
+            leaf::optional_uint(self.next_incoming_id),
+            Leaf::Uint(self.incoming_window),
+            Leaf::Uint(self.next_outgoing_id),
+            Leaf::Uint(self.outgoing_window),
+            leaf::optional_handle(self.handle),
+            leaf::optional_uint(self.delivery_count),
+            leaf::optional_uint(self.link_credit),
+            leaf::optional_uint(self.available),
+            leaf::flag(self.drain),
+            leaf::flag(self.echo),
+            leaf::optional_fields(&self.properties),
+        ]
+    }
+}

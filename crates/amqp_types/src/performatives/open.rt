@@ -1,0 +1,145 @@
+//! Open (AMQP 1.0 part 2, section 2.7.1).
+
+ghost use Rattle.std.specs.Prelude.{◌≡◌, map, List, ℕ, Option};
+ghost use Rattle.amqp_values.specs.Reading.{Gives};
+ghost use Rattle.amqp_values.specs.Writing.{leaf_text};
+ghost use Rattle.amqp_types.specs.Open.{open_body_at, open_fields, open_first_same, open_last_same};
+
+use crate::leaf;
+use amqp_values::{Composite, Fields, Leaf, Parts, ReadError, Symbol};
+use std::alloc::Global;
+use std::marker::Model;
+
+/// The parameters that a connection opens with (AMQP 1.0 part 2, section 2.7.1).
+#[derive(Clone, Debug, Drop)]
+pub struct Open {
+    /// The name of the container. Mandatory.
+    pub container_id: String,
+    /// The host that is meant.
+    pub hostname: Option<String>,
+    /// The largest frame that is taken, in bytes with the size field. Where it is not said, 4294967295.
+    pub max_frame_size: u32,
+    /// The highest channel that may be used. Where it is not said, 65535.
+    pub channel_max: u16,
+    /// Milliseconds without a frame after which the connection may be closed.
+    pub idle_time_out: Option<u32>,
+    /// Locales for texts that are sent.
+    pub outgoing_locales: Option<Vec<Symbol>>,
+    /// Locales for texts that are wanted.
+    pub incoming_locales: Option<Vec<Symbol>>,
+    /// What the sender of the frame can do.
+    pub offered_capabilities: Option<Vec<Symbol>>,
+    /// What it wants the peer to do.
+    pub desired_capabilities: Option<Vec<Symbol>>,
+    /// Anything else.
+    pub properties: Option<Fields>,
+}
+
+impl Model for Open {
+    ghost use Rattle.std.specs.Prelude.{string_bytes};
+    ghost use Rattle.std.specs.Option.{option_map};
+    ghost use Rattle.amqp_types.specs.Open.{OpenSaid};
+
+    ghost Value = { OpenSaid };
+
+    ghost view = { λ p. record {
+        container_id = string_bytes p.container_id;
+        hostname = option_map string_bytes p.hostname;
+        max_frame_size = p.max_frame_size;
+        channel_max = p.channel_max;
+        idle_time_out = p.idle_time_out;
+        outgoing_locales = option_map (λ v. v.items) p.outgoing_locales;
+        incoming_locales = option_map (λ v. v.items) p.incoming_locales;
+        offered_capabilities = option_map (λ v. v.items) p.offered_capabilities;
+        desired_capabilities = option_map (λ v. v.items) p.desired_capabilities;
+        properties = p.properties
+    } };
+}
+
+impl PartialEq for Open {
+    ghost use Rattle.std.specs.Cmp.{partial_equiv_from_equiv};
+    ghost use Rattle.amqp_types.specs.Open.{open_same};
+
+    ghost eq = { open_same.test };
+
+    ghost laws = { partial_equiv_from_equiv open_same.laws };
+
+    fn eq(&self, other: &Open) -> bool {
+        self.same_first(other) && self.same_last(other)
+    }
+}
+
+impl Open {
+    /// Whether the first fields are the same.
+    fn same_first(&self, other: &Open) -> bool
+        ensures { result ≡ open_first_same.test self.now other.now }
+    {
+        self.container_id == other.container_id
+            && self.hostname == other.hostname
+            && self.max_frame_size == other.max_frame_size
+            && self.channel_max == other.channel_max
+            && self.idle_time_out == other.idle_time_out
+    }
+
+    /// Whether the last fields are the same.
+    fn same_last(&self, other: &Open) -> bool
+        ensures { result ≡ open_last_same.test self.now other.now }
+    {
+        self.outgoing_locales == other.outgoing_locales
+            && self.incoming_locales == other.incoming_locales
+            && self.offered_capabilities == other.offered_capabilities
+            && self.desired_capabilities == other.desired_capabilities
+            && self.properties == other.properties
+    }
+}
+
+impl Composite for Open {
+    ghost body_at = { open_body_at };
+
+    #[tactic(auto, unfolding(crate::specs::Open::open_body_at))]
+    fn fields(alloc: Global, parts: &mut Parts) -> Result<Open, ReadError> {
+        let container_id = parts.required(alloc)?;
+        let hostname = parts.next(alloc)?;
+        let max_frame_size = parts.or(alloc, u32::MAX)?;
+        let channel_max = parts.or(alloc, u16::MAX)?;
+        let idle_time_out = parts.next(alloc)?;
+        let outgoing_locales = parts.next(alloc)?;
+        let incoming_locales = parts.next(alloc)?;
+        let offered_capabilities = parts.next(alloc)?;
+        let desired_capabilities = parts.next(alloc)?;
+        let properties = parts.next(alloc)?;
+        parts.finish(Open {
+            container_id,
+            hostname,
+            max_frame_size,
+            channel_max,
+            idle_time_out,
+            outgoing_locales,
+            incoming_locales,
+            offered_capabilities,
+            desired_capabilities,
+            properties,
+        })
+    }
+}
+
+impl Open {
+    /// The fields, lent for writing.
+    #[tactic(auto, unfolding(crate::specs::Open::open_fields))]
+    pub(crate) fn parts(&self) -> [Leaf<'_>; 10]
+        ensures { map leaf_text result ≡ open_fields self.now }
+    {
+        [
+            Leaf::String(self.container_id.as_str()),
+            leaf::optional_string(&self.hostname),
+            leaf::uint_or(self.max_frame_size, u32::MAX),
+            leaf::ushort_or(self.channel_max, u16::MAX),
+            leaf::optional_uint(self.idle_time_out),
+            leaf::optional_symbols(&self.outgoing_locales),
+            leaf::optional_symbols(&self.incoming_locales),
+            leaf::optional_symbols(&self.offered_capabilities),
+            leaf::optional_symbols(&self.desired_capabilities),
+            leaf::optional_fields(&self.properties),
+        ]
+    }
+}

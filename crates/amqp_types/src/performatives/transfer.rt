@@ -1,0 +1,152 @@
+//! Transfer (AMQP 1.0 part 2, section 2.7.5).
+
+ghost use Rattle.std.specs.Prelude.{◌≡◌, map, List, ℕ, Option};
+ghost use Rattle.amqp_values.specs.Reading.{Gives};
+ghost use Rattle.amqp_values.specs.Writing.{leaf_text};
+ghost use Rattle.amqp_types.specs.Transfer.{transfer_body_at, transfer_fields, transfer_first_same, transfer_last_same};
+
+use crate::definitions::{DeliveryTag, Handle, ReceiverSettleMode};
+use crate::leaf;
+use amqp_values::{Composite, Leaf, Parts, Raw, ReadError};
+use std::alloc::Global;
+use std::marker::Model;
+
+/// A message, or a part of one, on a link (AMQP 1.0 part 2, section 2.7.5).
+#[derive(Clone, Debug, Drop)]
+pub struct Transfer {
+    /// The link. Mandatory.
+    pub handle: Handle,
+    /// The number of the delivery.
+    pub delivery_id: Option<u32>,
+    /// The tag of the delivery.
+    pub delivery_tag: Option<DeliveryTag>,
+    /// The format of the message.
+    pub message_format: Option<u32>,
+    /// Whether the sender has settled the delivery.
+    pub settled: Option<bool>,
+    /// Whether more transfers of the delivery follow. Where it is not said, false.
+    pub more: bool,
+    /// How the receiver is to settle.
+    pub rcv_settle_mode: Option<ReceiverSettleMode>,
+    /// The state of the delivery.
+    pub state: Option<Raw>,
+    /// Whether a delivery is taken up again. Where it is not said, false.
+    pub resume: bool,
+    /// Whether the delivery is given up. Where it is not said, false.
+    pub aborted: bool,
+    /// Whether an answer may wait. Where it is not said, false.
+    pub batchable: bool,
+}
+
+impl Model for Transfer {
+    ghost use Rattle.std.specs.Option.{option_map};
+    ghost use Rattle.amqp_types.specs.Transfer.{TransferSaid};
+
+    ghost Value = { TransferSaid };
+
+    ghost view = { λ p. record {
+        handle = p.handle.0;
+        delivery_id = p.delivery_id;
+        delivery_tag = option_map (λ v. v.0) p.delivery_tag;
+        message_format = p.message_format;
+        settled = p.settled;
+        more = p.more;
+        rcv_settle_mode = p.rcv_settle_mode;
+        state = p.state;
+        resume = p.resume;
+        aborted = p.aborted;
+        batchable = p.batchable
+    } };
+}
+
+impl PartialEq for Transfer {
+    ghost use Rattle.std.specs.Cmp.{partial_equiv_from_equiv};
+    ghost use Rattle.amqp_types.specs.Transfer.{transfer_same};
+
+    ghost eq = { transfer_same.test };
+
+    ghost laws = { partial_equiv_from_equiv transfer_same.laws };
+
+    fn eq(&self, other: &Transfer) -> bool {
+        self.same_first(other) && self.same_last(other)
+    }
+}
+
+impl Transfer {
+    /// Whether the first fields are the same.
+    fn same_first(&self, other: &Transfer) -> bool
+        ensures { result ≡ transfer_first_same.test self.now other.now }
+    {
+        self.handle == other.handle
+            && self.delivery_id == other.delivery_id
+            && self.delivery_tag == other.delivery_tag
+            && self.message_format == other.message_format
+            && self.settled == other.settled
+            && self.more == other.more
+    }
+
+    /// Whether the last fields are the same.
+    fn same_last(&self, other: &Transfer) -> bool
+        ensures { result ≡ transfer_last_same.test self.now other.now }
+    {
+        self.rcv_settle_mode == other.rcv_settle_mode
+            && self.state == other.state
+            && self.resume == other.resume
+            && self.aborted == other.aborted
+            && self.batchable == other.batchable
+    }
+}
+
+impl Composite for Transfer {
+    ghost body_at = { transfer_body_at };
+
+    #[tactic(auto, unfolding(crate::specs::Transfer::transfer_body_at))]
+    fn fields(alloc: Global, parts: &mut Parts) -> Result<Transfer, ReadError> {
+        let handle = parts.required(alloc)?;
+        let delivery_id = parts.next(alloc)?;
+        let delivery_tag = parts.next(alloc)?;
+        let message_format = parts.next(alloc)?;
+        let settled = parts.next(alloc)?;
+        let more = parts.or(alloc, false)?;
+        let rcv_settle_mode = parts.next(alloc)?;
+        let state = parts.next(alloc)?;
+        let resume = parts.or(alloc, false)?;
+        let aborted = parts.or(alloc, false)?;
+        let batchable = parts.or(alloc, false)?;
+        parts.finish(Transfer {
+            handle,
+            delivery_id,
+            delivery_tag,
+            message_format,
+            settled,
+            more,
+            rcv_settle_mode,
+            state,
+            resume,
+            aborted,
+            batchable,
+        })
+    }
+}
+
+impl Transfer {
+    /// The fields, lent for writing.
+    #[tactic(auto, unfolding(crate::specs::Transfer::transfer_fields))]
+    pub(crate) fn parts(&self) -> [Leaf<'_>; 11]
+        ensures { map leaf_text result ≡ transfer_fields self.now }
+    {
+        [
+            Leaf::Uint(self.handle.0),
+            leaf::optional_uint(self.delivery_id),
+            leaf::optional_tag(&self.delivery_tag),
+            leaf::optional_uint(self.message_format),
+            leaf::optional_boolean(self.settled),
+            leaf::flag(self.more),
+            leaf::optional_receiver_mode(self.rcv_settle_mode),
+            leaf::optional_value(&self.state),
+            leaf::flag(self.resume),
+            leaf::flag(self.aborted),
+            leaf::flag(self.batchable),
+        ]
+    }
+}
