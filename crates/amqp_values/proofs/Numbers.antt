@@ -86,6 +86,9 @@ pub record Framed (l : Level) (k : Kind) (wide : Bool) (bytes rest : List ℕ) :
   pub inside_is : inside l k n body ≡ Some []
   pub whole : bytes ≡ (size ++ (count ++ body)) ++ rest
 
+framed : (size inner body bytes behind rest : List ℕ) → bytes ≡ (size ++ inner) ++ behind → inner ≡ body → behind ≡ rest → bytes ≡ (size ++ body) ++ rest
+framed size inner body bytes behind rest e f g = e ∙ ap (λ (x : List ℕ). (size ++ x) ++ behind) f ∙ ap (λ (x : List ℕ). (size ++ body) ++ x) g
+
 pub compound_found : (l : Level) (k : Kind) (wide : Bool) (bytes rest : List ℕ) → compound_of (Some l) k wide bytes ≡ Some rest → Framed l k wide bytes rest
 compound_found l k wide bytes rest e =
     let r = bind_some (region_at wide bytes) (λ region. count_at wide region.0 >>= λ count. inside l k count.0 count.1 >>= ended region.1) rest e in
@@ -102,7 +105,7 @@ compound_found l k wide bytes rest e =
       size_is = subst (λ (x : List ℕ). IsNumber wide f.0 (length x)) n.2 f.1;
       count_is = n.1;
       inside_is = i.1 ∙ ap (λ (x : List ℕ). Some x) d.0;
-      whole = f.2 ∙ ap (λ (x : List ℕ). (f.0 ++ x) ++ r.0.1) n.2 ∙ ap (λ (x : List ℕ). (f.0 ++ (n.0 ++ c.0.1)) ++ x) d.1;
+      whole = framed f.0 r.0.0 (n.0 ++ c.0.1) bytes r.0.1 rest f.2 n.2 d.1;
     }
 
 pub compound_again : (l : Level) (k : Kind) (wide : Bool) (size count body rest : List ℕ) (n : ℕ) → IsNumber wide size (length (count ++ body)) → IsNumber wide count n

@@ -1,3 +1,4 @@
+-- What may stand inside a value, and one round of each loop of the walk.
 use Rattle.std.proofs.Common.{◌≡◌, ℕ, zero, suc, ◌+◌, ◌-◌, ◌<◌, ◌≤◌, List, true, false, Option, Some, None, refl, sym, ◌∙◌, arith, ltb, eqb, length, ◌≢◌, ◌⊎◌, inl, inr}
 use Rattle.amqp_values.specs.Reading.{byte_at, cut_at}
 use Rattle.amqp_values.specs.Walk.{Level, under, level, repeat, may_hold, run_of, data_of, is_dataless, value_of, constructor_of, is_ground}
@@ -78,44 +79,44 @@ dataless_run b k count bytes lt e = elim (same_data b k bytes e) [
 
 -- ---- the constructor of an array with no elements
 
-pub con_fails : (b : Option Level) (n : ℕ) (bytes : List ℕ) → byte_at bytes ≡ None → constructor_of b n bytes ≡ None
+pub constructor_fails : (b : Option Level) (n : ℕ) (bytes : List ℕ) → byte_at bytes ≡ None → constructor_of b n bytes ≡ None
 unfolding constructor_of
-con_fails b zero bytes e = refl
-con_fails b (suc n) bytes e = rw e refl
+constructor_fails b zero bytes e = refl
+constructor_fails b (suc n) bytes e = rw e refl
 
-pub con_holds : (b : Option Level) (n c : ℕ) (bytes behind : List ℕ) → 0 < n → byte_at bytes ≡ Some (c, behind) → c ≢ 0 → may_hold b (kind_of c) ≡ true → constructor_of b n bytes ≡ Some behind
+pub constructor_holds : (b : Option Level) (n c : ℕ) (bytes behind : List ℕ) → 0 < n → byte_at bytes ≡ Some (c, behind) → c ≢ 0 → may_hold b (kind_of c) ≡ true → constructor_of b n bytes ≡ Some behind
 unfolding constructor_of
-con_holds b zero c bytes behind lt e nz m = absurd (omega arith)
-con_holds b (suc n) c bytes behind lt e nz m = let z : eqb c 0 ≡ false = ne_eqb _ _ nz in rw (e, z, m) refl
+constructor_holds b zero c bytes behind lt e nz m = absurd (omega arith)
+constructor_holds b (suc n) c bytes behind lt e nz m = let z : eqb c 0 ≡ false = ne_eqb _ _ nz in rw (e, z, m) refl
 
-pub con_holds_not : (b : Option Level) (n c : ℕ) (bytes behind : List ℕ) → byte_at bytes ≡ Some (c, behind) → c ≢ 0 → may_hold b (kind_of c) ≡ false → constructor_of b n bytes ≡ None
+pub constructor_holds_not : (b : Option Level) (n c : ℕ) (bytes behind : List ℕ) → byte_at bytes ≡ Some (c, behind) → c ≢ 0 → may_hold b (kind_of c) ≡ false → constructor_of b n bytes ≡ None
 unfolding constructor_of
-con_holds_not b zero c bytes behind e nz m = refl
-con_holds_not b (suc n) c bytes behind e nz m = let z : eqb c 0 ≡ false = ne_eqb _ _ nz in rw (e, z, m) refl
+constructor_holds_not b zero c bytes behind e nz m = refl
+constructor_holds_not b (suc n) c bytes behind e nz m = let z : eqb c 0 ≡ false = ne_eqb _ _ nz in rw (e, z, m) refl
 
-pub con_ground : (n c : ℕ) (bytes behind : List ℕ) → byte_at bytes ≡ Some (c, behind) → c ≡ 0 → constructor_of None n bytes ≡ None
+pub constructor_ground : (n c : ℕ) (bytes behind : List ℕ) → byte_at bytes ≡ Some (c, behind) → c ≡ 0 → constructor_of None n bytes ≡ None
 unfolding constructor_of
-con_ground zero c bytes behind e z = refl
-con_ground (suc n) c bytes behind e z = let t : eqb c 0 ≡ true = eq-eqb _ _ z in rw (e, t) refl
+constructor_ground zero c bytes behind e z = refl
+constructor_ground (suc n) c bytes behind e z = let t : eqb c 0 ≡ true = eq-eqb _ _ z in rw (e, t) refl
 
-pub con_value_fails : (b : Option Level) (n c : ℕ) (bytes behind : List ℕ) → byte_at bytes ≡ Some (c, behind) → c ≡ 0 → value_of b behind ≡ None → constructor_of b n bytes ≡ None
+pub constructor_value_fails : (b : Option Level) (n c : ℕ) (bytes behind : List ℕ) → byte_at bytes ≡ Some (c, behind) → c ≡ 0 → value_of b behind ≡ None → constructor_of b n bytes ≡ None
 unfolding constructor_of
-con_value_fails b zero c bytes behind e z v = refl
-con_value_fails None (suc n) c bytes behind e z v = let t : eqb c 0 ≡ true = eq-eqb _ _ z in rw (e, t) refl
-con_value_fails (Some l) (suc n) c bytes behind e z v = let t : eqb c 0 ≡ true = eq-eqb _ _ z in rw (e, t, v) refl
+constructor_value_fails b zero c bytes behind e z v = refl
+constructor_value_fails None (suc n) c bytes behind e z v = let t : eqb c 0 ≡ true = eq-eqb _ _ z in rw (e, t) refl
+constructor_value_fails (Some l) (suc n) c bytes behind e z v = let t : eqb c 0 ≡ true = eq-eqb _ _ z in rw (e, t, v) refl
 
-pub con_more : (b : Option Level) (n i c : ℕ) (bytes behind rest : List ℕ) → i < n → is_ground b ≡ false → byte_at bytes ≡ Some (c, behind) → c ≡ 0 → value_of b behind ≡ Some rest
+pub constructor_more : (b : Option Level) (n i c : ℕ) (bytes behind rest : List ℕ) → i < n → is_ground b ≡ false → byte_at bytes ≡ Some (c, behind) → c ≡ 0 → value_of b behind ≡ Some rest
     → constructor_of b (n - (i + 1)) rest ≡ constructor_of b (n - i) bytes
 unfolding constructor_of
-con_more None n i c bytes behind rest lt g e z v = absurd cc
-con_more (Some l) n i c bytes behind rest lt g e z v =
+constructor_more None n i c bytes behind rest lt g e z v = absurd cc
+constructor_more (Some l) n i c bytes behind rest lt g e z v =
     let t : eqb c 0 ≡ true = eq-eqb _ _ z in
     let k : n - i ≡ suc (n - (i + 1)) = omega arith in
     rw (k, e, t, v) refl
 
-pub con_done : (b : Option Level) (n i : ℕ) (bytes : List ℕ) → n ≤ i → constructor_of b (n - i) bytes ≡ None
+pub constructor_done : (b : Option Level) (n i : ℕ) (bytes : List ℕ) → n ≤ i → constructor_of b (n - i) bytes ≡ None
 unfolding constructor_of
-con_done b n i bytes le = let k : n - i ≡ 0 = omega arith in rw k refl
+constructor_done b n i bytes le = let k : n - i ≡ 0 = omega arith in rw k refl
 
 pub not_ground : (d : ℕ) → 0 < d → is_ground (under d) ≡ false
 not_ground d h = rw (under_more d h) refl

@@ -1,4 +1,9 @@
 -- The grammar of values, on whole byte strings. `IsValue d text`: the bytes are exactly one value, of a depth of at most d.
+--
+-- The depth of a value with no values inside is 0, that of the list without data is 1. A list or a map has one more than
+-- its deepest part, and at least 1; a described value one more than the deeper of its descriptor and the value inside; an
+-- array one more than its deepest element. An array whose constructor is that of a list with data, a map or an array, or
+-- is described, has at least 2, also with no element; then each descriptor in the constructor counts as an element would.
 use Rattle.std.specs.Prelude.{◌≡◌, ◌<◌, ℕ, suc, ◌%◌, List, [], ◌∷◌, ◌++◌, length, Bool}
 use Rattle.amqp_values.specs.declared.kind.Kind.{Kind}
 use Rattle.amqp_values.specs.declared.kind.Kind.TheVariants as kind
@@ -38,6 +43,7 @@ mutual
     described_elements : (d : ℕ) (descriptor constructor : List ℕ) (elements : List (List ℕ)) → IsValue d descriptor → Elements d constructor elements
         → Elements (suc d) (0x00 ∷ descriptor ++ constructor) elements
 
+  -- one or more data of this kind, one behind the other
   pub data Run : ℕ → Kind → List (List ℕ) → Type 0 where
     last : (d : ℕ) (k : Kind) (bytes : List ℕ) → Data d k bytes → Run d k (bytes ∷ [])
     next : (d : ℕ) (k : Kind) (bytes : List ℕ) (others : List (List ℕ)) → Data d k bytes → Run d k others → Run d k (bytes ∷ others)

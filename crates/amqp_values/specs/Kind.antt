@@ -27,7 +27,7 @@ kind_of code =
     if code == 0xf0 then Array true else
     Unknown
 
--- a constructor whose data hold no values, and are no level of their own in an array
+-- a constructor whose data hold no values: an array of it and no element has a depth of 1
 abbrev pub IsPlain : Kind → Type 0
 IsPlain (Fixed n) = Unit {0}
 IsPlain Flag = Unit {0}
@@ -35,7 +35,7 @@ IsPlain (Variable wide) = Unit {0}
 IsPlain List0 = Unit {0}
 IsPlain k = ⊥
 
--- a constructor whose data hold values
+-- a constructor whose data may hold values: an array of it has a depth of at least 2, also with no element
 abbrev pub IsCompound : Kind → Type 0
 IsCompound (List wide) = Unit {0}
 IsCompound (Map wide) = Unit {0}

@@ -12,6 +12,9 @@ use std::marker::Model;
 
 /// One whole value of any type but the bare null, of a depth of at most 64, as it was spelled.
 ///
+/// A value with no values inside has a depth of 0, the list without data one of 1. Lists, maps, arrays and described
+/// values have one more than the deepest value inside.
+///
 /// Its bytes are a cut of those that it was read from: none is copied. Of a value only the structure is known:
 /// codes, sizes, lengths, counts and the data of booleans. The bytes of texts, symbols and characters are free.
 #[derive(Clone, Debug, Drop)]

@@ -31,7 +31,7 @@ impl<'a> Model for ValueRef<'a> {
 
 /// The parts of a list or a map, each lent in its order; a map gives key, value, key, value. It ends.
 ///
-/// Between two parts it takes no memory.
+/// None of its calls takes memory.
 #[derive(Debug, Drop)]
 pub struct Items<'a> {
     left: u32,
@@ -80,8 +80,7 @@ impl<'a> ValueRef<'a> {
     pub fn descriptor(&self) -> Option<ValueRef<'a>>
         ensures { LendsDescriptor self.now result }
     {
-        let (descriptor, inner) = halves(self.bytes)?;
-        let _ = inner;
+        let (descriptor, _) = halves(self.bytes)?;
         Some(ValueRef { bytes: descriptor })
     }
 
@@ -89,8 +88,7 @@ impl<'a> ValueRef<'a> {
     pub fn inner(&self) -> Option<ValueRef<'a>>
         ensures { LendsInner self.now result }
     {
-        let (descriptor, inner) = halves(self.bytes)?;
-        let _ = descriptor;
+        let (_, inner) = halves(self.bytes)?;
         Some(ValueRef { bytes: inner })
     }
 

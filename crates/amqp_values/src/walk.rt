@@ -18,10 +18,8 @@ pub(crate) fn count(wide: bool, bytes: &[u8]) -> Option<(u32, &[u8])>
             return None;
         }
         let (front, rest) = bytes.split_at(4);
-        Some((
-            u32::from_be_bytes([front[0], front[1], front[2], front[3]]),
-            rest,
-        ))
+        let count = u32::from_be_bytes([front[0], front[1], front[2], front[3]]);
+        Some((count, rest))
     } else {
         match bytes {
             [] => None,
@@ -97,7 +95,8 @@ fn data(kind: Kind, bytes: &[u8], depth: u8) -> Option<&[u8]>
             let (_, rest) = region(wide, bytes)?;
             Some(rest)
         }
-        Kind::List0 => { if depth == 0 { None } else { Some(bytes) } }
+        Kind::List0 if depth == 0 => None,
+        Kind::List0 => Some(bytes),
         Kind::List(wide) | Kind::Map(wide) | Kind::Array(wide) => compound(
             kind, wide, bytes, depth,
         ),
@@ -129,24 +128,10 @@ fn inside(kind: Kind, count: u32, bytes: &[u8], depth: u8) -> Option<&[u8]>
 {
     match kind {
         Kind::List(_) => values(count, bytes, depth),
-        Kind::Map(_) => {
-            if count % 2 == 0 {
-                values(count, bytes, depth)
-            } else {
-                None
-            }
-        }
-        Kind::Array(_) => {
-            if count == 0 {
-                if bytes.is_empty() {
-                    Some(bytes)
-                } else {
-                    constructor(bytes, depth)
-                }
-            } else {
-                elements(count, bytes, depth)
-            }
-        }
+        Kind::Map(_) if count % 2 == 0 => values(count, bytes, depth),
+        Kind::Array(_) if count > 0 => elements(count, bytes, depth),
+        Kind::Array(_) if bytes.is_empty() => Some(bytes),
+        Kind::Array(_) => constructor(bytes, depth),
         _ => None,
     }
 }
@@ -181,7 +166,7 @@ fn elements(count: u32, bytes: &[u8], depth: u8) -> Option<&[u8]>
     elements(count, rest, depth - 1)
 }
 
-/// What stands behind the constructor of an array with no elements. Its descriptors stand one behind the other, on one level.
+/// What stands behind the constructor of an array with no elements. Its descriptors stand behind one another, on one level.
 #[cycle(walk)]
 fn constructor(bytes: &[u8], depth: u8) -> Option<&[u8]>
     ensures { option_map (λ r. r.now) result ≡ constructor_of (under depth) (length bytes.now) bytes.now }
@@ -226,13 +211,14 @@ fn may_hold(kind: Kind, depth: u8) -> bool
     ensures { result ≡ may_hold (under depth) kind }
 {
     match kind {
-        Kind::Unknown => false,
-        Kind::List(_) | Kind::Map(_) | Kind::Array(_) => { if depth == 0 { false } else { true } }
         Kind::Fixed(_) | Kind::Flag | Kind::Variable(_) | Kind::List0 => true,
+        Kind::List(_) | Kind::Map(_) | Kind::Array(_) => depth > 0,
+        Kind::Unknown => false,
     }
 }
 
-/// What stands behind the first value, if its depth is at most `depth`; `None` where no front of the bytes is such a value.
+/// What stands behind the first value, if its depth is at most `depth`. `None` where no front of the bytes is such a
+/// value.
 #[tactic(auto, unfolding(crate::specs::Walk::value_at))]
 pub(crate) fn value_rest(bytes: &[u8], depth: u8) -> Option<&[u8]>
     ensures { option_map (λ r. r.now) result ≡ value_at depth bytes.now }

@@ -1,5 +1,7 @@
 //! Which bytes are a raw value, and what is left behind one.
 
+ghost use Rattle.std.specs.Prelude.{◌<◌};
+
 use amqp_values::{Fields, Raw, ReadError};
 use bytes::{Bytes, BytesMut};
 use std::alloc::Global;
@@ -39,7 +41,10 @@ fn values_are_told_from_other_bytes(rt: HostRuntime) -> Result<(), Fail> {
         (&[0xa1, 2, 0xff, 0xff], true),
         (&[0xa1, 2, 0xff], false),
         (&[0xb3, 0, 0, 0, 1, 0xff], true),
-        (&[0x98, 1, 2, 3, 4, 5, 6, 7, 8, 9, 10, 11, 12, 13, 14, 15, 16], true),
+        (
+            &[0x98, 1, 2, 3, 4, 5, 6, 7, 8, 9, 10, 11, 12, 13, 14, 15, 16],
+            true,
+        ),
         (&[0x80, 1, 2, 3, 4, 5, 6, 7], false),
         (&[0x00, 0x53, 0x24, 0x45], true),
         (&[0x00, 0x40, 0x40], true),

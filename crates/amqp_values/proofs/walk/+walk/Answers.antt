@@ -1,7 +1,7 @@
 use Rattle.std.proofs.Common.{sym, ◌∙◌, rules, arith, ◌<◌, ◌-◌, length, ◌≡◌, None, true, false}
 use Rattle.amqp_values.specs.Walk.{value_of, data_of, elements_of, inside, under, constructor_of, may_hold}
 use Rattle.amqp_values.specs.Kind.{kind_of}
-use Rattle.amqp_values.proofs.Under.{repeat_more, repeat_fails, repeat_done, run_is, under_none, under_more, dataless_run, con_fails, con_holds, con_holds_not, con_ground, con_value_fails, con_more, con_done, not_ground}
+use Rattle.amqp_values.proofs.Under.{repeat_more, repeat_fails, repeat_done, run_is, under_none, under_more, dataless_run, constructor_fails, constructor_holds, constructor_holds_not, constructor_ground, constructor_value_fails, constructor_more, constructor_done, not_ground}
 use Rattle.amqp_values.proofs.walk.+walk.Goals as goal
 
 pub values-returns-in_err-rest : goal.values-returns-in_err-rest
@@ -40,13 +40,13 @@ pub compound-returns-else-is_empty : goal.compound-returns-else-is_empty
 unfolding inside
 compound-returns-else-is_empty t c = let h : 0 < c.args.depth = omega arith in rw (under_more c.args.depth h) (search rules)
 
-pub data-returns-then-depth-eq0 : goal.data-returns-then-depth-eq0
+pub data-returns-in-List0 : goal.data-returns-in-List0
 unfolding data_of
-data-returns-then-depth-eq0 t c = rw (under_none c.args.depth c.if-depth-eq0.true) (search rules)
+data-returns-in-List0 t c = rw (under_none c.args.depth c.if-depth-eq0.true) (search rules)
 
-pub data-returns-else-depth-eq0 : goal.data-returns-else-depth-eq0
+pub data-returns-in-List0-2 : goal.data-returns-in-List0-2
 unfolding data_of
-data-returns-else-depth-eq0 t c = let h : 0 < c.args.depth = omega arith in rw (under_more c.args.depth h) (search rules)
+data-returns-in-List0-2 t c = let h : 0 < c.args.depth = omega arith in rw (under_more c.args.depth h) (search rules)
 
 pub elements-returns-then-depth-eq0 : goal.elements-returns-then-depth-eq0
 unfolding elements_of
@@ -76,31 +76,31 @@ pub run-returns-then-is_dataless : goal.run-returns-then-is_dataless
 run-returns-then-is_dataless t c = c.data.ensures ∙ sym (dataless_run (under c.args.depth) c.args.kind c.args.count c.args.bytes.now c.requires (sym c.is_dataless.ensures ∙ c.if-is_dataless.true))
 
 pub constructor-returns-in_err-code : goal.constructor-returns-in_err-code
-constructor-returns-in_err-code t c = rw c.from_residual.ensures (sym (sym c.loop.invariant ∙ con_fails (under c.args.depth) (length c.args.bytes.now - c.loop.counter) c.loop.rest.now (sym c.in_err-code.ensures)))
+constructor-returns-in_err-code t c = rw c.from_residual.ensures (sym (sym c.loop.invariant ∙ constructor_fails (under c.args.depth) (length c.args.bytes.now - c.loop.counter) c.loop.rest.now (sym c.in_err-code.ensures)))
 
 pub constructor-returns-then-may_hold : goal.constructor-returns-then-may_hold
 constructor-returns-then-may_hold t c =
     let m : may_hold (under c.args.depth) (kind_of c.in_ok-code.code) ≡ true = rw c.kind_at.ensures at (sym c.may_hold.ensures ∙ c.if-may_hold.true) in
-    sym (sym c.loop.invariant ∙ con_holds (under c.args.depth) (length c.args.bytes.now - c.loop.counter) c.in_ok-code.code c.loop.rest.now c.in_ok-code.behind.now (omega arith) (sym c.in_ok-code.ensures) c.if-code-ne0.true m)
+    sym (sym c.loop.invariant ∙ constructor_holds (under c.args.depth) (length c.args.bytes.now - c.loop.counter) c.in_ok-code.code c.loop.rest.now c.in_ok-code.behind.now (omega arith) (sym c.in_ok-code.ensures) c.if-code-ne0.true m)
 
 pub constructor-returns-else-may_hold : goal.constructor-returns-else-may_hold
 constructor-returns-else-may_hold t c =
     let m : may_hold (under c.args.depth) (kind_of c.in_ok-code.code) ≡ false = rw c.kind_at.ensures at (sym c.may_hold.ensures ∙ c.if-may_hold.false) in
-    sym (sym c.loop.invariant ∙ con_holds_not (under c.args.depth) (length c.args.bytes.now - c.loop.counter) c.in_ok-code.code c.loop.rest.now c.in_ok-code.behind.now (sym c.in_ok-code.ensures) c.if-code-ne0.true m)
+    sym (sym c.loop.invariant ∙ constructor_holds_not (under c.args.depth) (length c.args.bytes.now - c.loop.counter) c.in_ok-code.code c.loop.rest.now c.in_ok-code.behind.now (sym c.in_ok-code.ensures) c.if-code-ne0.true m)
 
 pub constructor-returns-then-depth-eq0 : goal.constructor-returns-then-depth-eq0
 constructor-returns-then-depth-eq0 t c =
-    let g : constructor_of (under c.args.depth) (length c.args.bytes.now - c.loop.counter) c.loop.rest.now ≡ None = rw (under_none c.args.depth c.if-depth-eq0.true) (con_ground (length c.args.bytes.now - c.loop.counter) c.in_ok-code.code c.loop.rest.now c.in_ok-code.behind.now (sym c.in_ok-code.ensures) c.if-code-ne0.false) in
+    let g : constructor_of (under c.args.depth) (length c.args.bytes.now - c.loop.counter) c.loop.rest.now ≡ None = rw (under_none c.args.depth c.if-depth-eq0.true) (constructor_ground (length c.args.bytes.now - c.loop.counter) c.in_ok-code.code c.loop.rest.now c.in_ok-code.behind.now (sym c.in_ok-code.ensures) c.if-code-ne0.false) in
     sym (sym c.loop.invariant ∙ g)
 
 pub constructor-returns-in_err-rest : goal.constructor-returns-in_err-rest
 constructor-returns-in_err-rest t c =
-    rw c.from_residual-in_err-rest.ensures (sym (sym c.loop.invariant ∙ con_value_fails (under c.args.depth) (length c.args.bytes.now - c.loop.counter) c.in_ok-code.code c.loop.rest.now c.in_ok-code.behind.now (sym c.in_ok-code.ensures) c.if-code-ne0.false (sym c.in_err-rest.ensures)))
+    rw c.from_residual-in_err-rest.ensures (sym (sym c.loop.invariant ∙ constructor_value_fails (under c.args.depth) (length c.args.bytes.now - c.loop.counter) c.in_ok-code.code c.loop.rest.now c.in_ok-code.behind.now (sym c.in_ok-code.ensures) c.if-code-ne0.false (sym c.in_err-rest.ensures)))
 
 pub constructor-loop-preserved : goal.constructor-loop-preserved
 constructor-loop-preserved t c =
-    con_more (under c.args.depth) (length c.args.bytes.now) c.loop.counter c.in_ok-code.code c.loop.rest.now c.in_ok-code.behind.now c.in_ok-rest.rest.now c.loop-test.true (not_ground c.args.depth (omega arith)) (sym c.in_ok-code.ensures) c.if-code-ne0.false (sym c.in_ok-rest.ensures)
+    constructor_more (under c.args.depth) (length c.args.bytes.now) c.loop.counter c.in_ok-code.code c.loop.rest.now c.in_ok-code.behind.now c.in_ok-rest.rest.now c.loop-test.true (not_ground c.args.depth (omega arith)) (sym c.in_ok-code.ensures) c.if-code-ne0.false (sym c.in_ok-rest.ensures)
     ∙ c.loop.invariant
 
 pub constructor-returns : goal.constructor-returns
-constructor-returns t c = sym (sym c.loop.invariant ∙ con_done (under c.args.depth) (length c.args.bytes.now) c.loop.counter c.loop.rest.now c.loop-test.false)
+constructor-returns t c = sym (sym c.loop.invariant ∙ constructor_done (under c.args.depth) (length c.args.bytes.now) c.loop.counter c.loop.rest.now c.loop-test.false)

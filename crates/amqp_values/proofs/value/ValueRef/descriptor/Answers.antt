@@ -9,7 +9,7 @@ returns-in_err-descriptor c =
     rw (c.from_residual.ensures, ← c.self.view_is) (unhalved c.self.inside.bytes.now e)
 
 pub invariant_of-result : goal.invariant_of-result
-invariant_of-result c = (halved 64 c.self.inside.bytes.now (omega arith) c.self.invariant c.in_ok-descriptor.descriptor.now c.in_ok-descriptor.inner.now (sym c.in_ok-descriptor.ensures)).descriptor_is
+invariant_of-result c = (halved 64 c.self.inside.bytes.now (omega arith) c.self.invariant c.in_ok-descriptor.descriptor.now c.in_ok-descriptor.field-0-1.now (sym c.in_ok-descriptor.ensures)).descriptor_is
 
 pub returns : goal.returns
-returns c = rw (← c.self.view_is) (c.in_ok-descriptor.inner.now, (halved 64 c.self.inside.bytes.now (omega arith) c.self.invariant c.in_ok-descriptor.descriptor.now c.in_ok-descriptor.inner.now (sym c.in_ok-descriptor.ensures)))
+returns c = rw (← c.self.view_is) (c.in_ok-descriptor.field-0-1.now, (halved 64 c.self.inside.bytes.now (omega arith) c.self.invariant c.in_ok-descriptor.descriptor.now c.in_ok-descriptor.field-0-1.now (sym c.in_ok-descriptor.ensures)))
