@@ -1,6 +1,7 @@
 //! The types of AMQP 1.0: definitions, states, and the nine performatives with their bytes.
 #![tactic(auto)]
 
+mod copies;
 pub mod definitions;
 pub mod error;
 mod leaf;

@@ -5,13 +5,14 @@ ghost use Rattle.amqp_values.specs.Reading.{Gives};
 ghost use Rattle.amqp_values.specs.Writing.{leaf_text};
 ghost use Rattle.amqp_types.specs.Open.{open_body_at, open_fields, open_first_same, open_last_same};
 
+use crate::copies;
 use crate::leaf;
 use amqp_values::{Composite, Fields, Leaf, Parts, ReadError, Symbol};
-use std::alloc::Global;
+use std::alloc::{AllocError, Global};
 use std::marker::Model;
 
 /// The parameters that a connection opens with (AMQP 1.0 part 2, section 2.7.1).
-#[derive(Clone, Debug, Drop)]
+#[derive(Debug, Drop)]
 pub struct Open {
     /// The name of the container. Mandatory.
     pub container_id: String,
@@ -54,6 +55,25 @@ impl Model for Open {
         desired_capabilities = option_map (λ v. v.items) p.desired_capabilities;
         properties = p.properties
     } };
+}
+
+impl Clone for Open {
+    ghost is_clone = { λ p q. q ≡ p };
+
+    fn clone(&self) -> Result<Open, AllocError> {
+        Ok(Open {
+            container_id: self.container_id.clone()?,
+            hostname: copies::text(&self.hostname)?,
+            max_frame_size: self.max_frame_size,
+            channel_max: self.channel_max,
+            idle_time_out: self.idle_time_out,
+            outgoing_locales: copies::symbols(&self.outgoing_locales)?,
+            incoming_locales: copies::symbols(&self.incoming_locales)?,
+            offered_capabilities: copies::symbols(&self.offered_capabilities)?,
+            desired_capabilities: copies::symbols(&self.desired_capabilities)?,
+            properties: self.properties.clone()?,
+        })
+    }
 }
 
 impl PartialEq for Open {
