@@ -1,0 +1,4 @@
+pub mod FrameError
+pub mod Frame
+pub mod Piece
+pub mod Cut

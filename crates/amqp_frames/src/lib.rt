@@ -1,0 +1,14 @@
+//! Frames of AMQP 1.0: decoding them, and encoding them into pieces that keep the peer's limit.
+#![tactic(auto)]
+
+pub mod decoder;
+pub mod encoder;
+pub mod error;
+pub mod frame;
+pub mod piece;
+
+pub use decoder::FrameDecoder;
+pub use encoder::FrameEncoder;
+pub use error::Error;
+pub use frame::{Frame, FrameBody};
+pub use piece::Piece;
