@@ -1,4 +1,5 @@
 pub mod FrameError
 pub mod Frame
+pub mod Decoding
 pub mod Piece
 pub mod Cut

@@ -46,7 +46,10 @@ impl fmt::Debug for FrameBody {
                 payload,
             } => {
                 let len = payload.len();
-                write!(f, "Transfer {{ performative: {performative:?}, payload.len: {len} }}")
+                write!(
+                    f,
+                    "Transfer {{ performative: {performative:?}, payload.len: {len} }}"
+                )
             }
             FrameBody::Disposition(p) => write!(f, "Disposition({p:?})"),
             FrameBody::Detach(p) => write!(f, "Detach({p:?})"),
