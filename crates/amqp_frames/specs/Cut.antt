@@ -1,5 +1,5 @@
 -- How a frame is cut into pieces that keep a limit (AMQP 1.0 part 2, section 2.6.14).
-use Rattle.std.specs.Prelude.{◌≡◌, ◌<◌, ◌≤◌, ◌+◌, ◌-◌, ◌⊎◌, ℕ, List, [], ◌∷◌, ◌++◌, length, map, All, true, None, Result, Ok, Err}
+use Rattle.std.specs.Prelude.{◌≡◌, ◌<◌, ◌≤◌, ◌+◌, ◌-◌, ◌⊎◌, ℕ, List, [], ◌∷◌, ◌++◌, length, map, All, true, nat_lt, if◌then◌else◌, Option, Some, None, Result, Ok, Err}
 use Rattle.amqp_values.specs.Reading.{joined}
 use Rattle.amqp_types.specs.declared.performatives.Performative.TheVariants as performative
 use Rattle.amqp_types.specs.Transfer.{TransferSaid}
@@ -54,6 +54,10 @@ IsCuttable Empty m = ⊥
 
 abbrev pub Fits : Frame → ℕ → Type 0
 Fits f m = Whole f m ⊎ IsCuttable f.body m
+
+-- how many bytes of payload fit beside the transfer as it is
+abbrev pub room_beside : TransferSaid → ℕ → Option ℕ
+room_beside t m = if nat_lt (room m) (length (transfer_text t)) then None else Some (room m - length (transfer_text t))
 
 -- ---- the pieces
 

@@ -3,3 +3,4 @@ pub mod Frame
 pub mod Decoding
 pub mod Piece
 pub mod Cut
+pub mod Pieces

@@ -1,12 +1,16 @@
 //! The encoder: a frame as pieces that keep a limit.
 
-ghost use Rattle.std.specs.Prelude.{◌≡◌, ◌≤◌, ℕ};
-ghost use Rattle.amqp_frames.specs.Cut.{Encodes};
+ghost use Rattle.std.specs.Prelude.{◌≡◌, ◌≤◌, ◌<◌, ◌+◌, ◌^◌, ℕ, [], ◌∷◌, IfOk, length};
+ghost use Rattle.amqp_frames.specs.Frame.{text_of, payload_of};
+ghost use Rattle.amqp_frames.specs.Cut.{Encodes, IsWholePiece, Whole, room_beside};
 
+use crate::cut::cut;
 use crate::error::Error;
-use crate::frame::Frame;
+use crate::frame::{Frame, FrameBody};
+use crate::head::whole_head;
 use crate::piece::Piece;
-use std::alloc::Global;
+use amqp_types::Transfer;
+use std::alloc::{AllocError, Global};
 use std::marker::Model;
 
 /// Encodes frames for a peer: each piece has at most so many bytes.
@@ -44,6 +48,51 @@ impl FrameEncoder {
     pub fn encode(&self, alloc: Global, frame: &Frame) -> Result<Vec<Piece>, Error>
         ensures { Encodes (λ v. v.items) frame.now self.now result }
     {
-        Err(Error::OutOfMemory)
+        let limit = self.max_frame_size;
+        if frame.body.is_within(limit - 4) {
+            let pieces = whole(alloc, frame)?;
+            return Ok(pieces);
+        }
+        in_pieces(alloc, frame, limit)
+    }
+
+    /// How many bytes of payload fit beside this transfer as it is, in one piece; `None` where its own text does not fit.
+    /// Takes no memory.
+    pub fn payload_room(&self, transfer: &Transfer) -> Option<u32>
+        ensures { result ≡ room_beside transfer.now self.now }
+    {
+        let room = self.max_frame_size - 4;
+        let len = transfer.encoded_len();
+        if u128::from(room) < len {
+            return None;
+        }
+        Some(room - len as u32)
+    }
+}
+
+/// The one piece of a frame that is whole.
+fn whole(alloc: Global, frame: &Frame) -> Result<Vec<Piece>, AllocError>
+    requires { length (text_of frame.now.body) + length (payload_of frame.now.body) + 4 < 2 ^ 32 }
+    ensures { IfOk result (λ v. (p : _) × (v.items ≡ p ∷ []) × IsWholePiece frame.now p) }
+{
+    let mut pieces = Vec::with_capacity(alloc, 1)?;
+    let payload = frame.body.payload()?;
+    let head = whole_head(alloc, frame.channel, &frame.body)?;
+    pieces.push(Piece::new(head, payload)).unwrap();
+    Ok(pieces)
+}
+
+/// The pieces of a frame that is not whole: only a transfer is cut.
+fn in_pieces(alloc: Global, frame: &Frame, limit: u32) -> Result<Vec<Piece>, Error>
+    requires header { 4 ≤ limit }
+    requires big { Whole frame.now limit → ⊥ }
+    ensures { Encodes (λ v. v.items) frame.now limit result }
+{
+    match &frame.body {
+        FrameBody::Transfer {
+            performative,
+            payload,
+        } => cut(alloc, frame.channel, performative, payload, limit),
+        _ => Err(Error::TooLarge),
     }
 }

@@ -2,8 +2,10 @@
 
 ghost use Rattle.std.specs.Prelude.{◌≡◌};
 ghost use Rattle.amqp_frames.specs.FrameError.{error_of};
+ghost use Rattle.amqp_frames.specs.declared.error.Error.TheVariants.{OutOfMemory};
 
 use amqp_types::ReadError;
+use std::alloc::AllocError;
 
 /// Why a frame could not be decoded or encoded.
 #[derive(Debug, Drop, PartialEq, thiserror::Error)]
@@ -33,5 +35,13 @@ impl From<ReadError> for Error {
             ReadError::Malformed => Error::DecodeError,
             ReadError::OutOfMemory => Error::OutOfMemory,
         }
+    }
+}
+
+impl From<AllocError> for Error {
+    ghost from_gives = { λ _ e. e ≡ OutOfMemory };
+
+    fn from(_error: AllocError) -> Error {
+        Error::OutOfMemory
     }
 }

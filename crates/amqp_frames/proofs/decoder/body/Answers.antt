@@ -22,4 +22,4 @@ pub returns : goal.returns
 returns c =
     let some : c.args.bytes ≡ [] → ⊥ = λ n. eqb-false _ _ (sym c.is_empty.ensures ∙ c.if-is_empty.false) (ap length n) in
     subst (λ (x : FrameBody × List ℕ). ReadsBody c.args.bytes (Ok x)) (sym c.said.ensures)
-      (reads_body c.args.bytes some (Ok (c.in_ok-performative.performative, c.in_ok-performative.behind)) c.in_ok-performative.ensures)
+    (reads_body c.args.bytes some (Ok (c.in_ok-performative.performative, c.in_ok-performative.behind)) c.in_ok-performative.ensures)
