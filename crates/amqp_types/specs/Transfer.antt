@@ -1,6 +1,8 @@
 -- Transfer: its fields, and how they stand in a list (AMQP 1.0 part 2, section 2.7.5).
-use Rattle.std.specs.Prelude.{ℕ, List, [], ◌∷◌, Option, Bool, false}
+use Rattle.std.specs.Prelude.{ℕ, List, [], ◌∷◌, Option, None, Bool, true, false}
 use Rattle.amqp_types.specs.declared.definitions.ReceiverSettleMode.{ReceiverSettleMode}
+use Rattle.amqp_types.specs.declared.performatives.transfer.TransferText.{TransferText}
+use Rattle.amqp_types.specs.declared.performatives.transfer.TransferText.TheVariants as text
 use Rattle.amqp_values.specs.declared.parts.Parts.{Parts}
 use Rattle.amqp_values.specs.Number.{IsBoolean, IsUint, boolean_at, uint_at}
 use Rattle.amqp_values.specs.Text.{IsBinary, binary_at}
@@ -82,6 +84,18 @@ transfer_fields p =
     flag_text p.aborted ∷
     flag_text p.batchable ∷
     []
+
+-- ---- the transfers of a delivery that is cut (section 2.6.14)
+
+-- a later one does not say again what the first one said of the delivery
+abbrev pub continuation : TransferSaid → TransferSaid
+continuation t = record t { delivery_id = None; delivery_tag = None; message_format = None; settled = None; rcv_settle_mode = None }
+
+abbrev pub said_in : TransferText → TransferSaid → TransferSaid
+said_in text.Whole t = t
+said_in text.First t = record t { more = true }
+said_in text.Middle t = record (continuation t) { more = true }
+said_in text.Last t = continuation t
 
 -- ---- when two are the same
 

@@ -17,5 +17,6 @@ pub use definitions::{
 pub use error::Error;
 pub use performatives::{
     Attach, Begin, Close, Detach, Disposition, End, Flow, Open, Performative, Transfer,
+    TransferText,
 };
 pub use states::{ConnectionState, SessionState};

@@ -5,31 +5,30 @@ ghost use Rattle.amqp_values.specs.Reading.{Answers, Gives, ReadsFront};
 ghost use Rattle.amqp_values.specs.Writing.{IsTooLarge};
 ghost use Rattle.amqp_types.specs.Performatives.{IsPerformative, body_at, performative_at, performative_text};
 
-pub mod open;
-pub mod begin;
 pub mod attach;
-pub mod flow;
-pub mod transfer;
-pub mod disposition;
-pub mod detach;
-pub mod end;
+pub mod begin;
 pub mod close;
-
-pub use open::Open;
-pub use begin::Begin;
-pub use attach::Attach;
-pub use flow::Flow;
-pub use transfer::Transfer;
-pub use disposition::Disposition;
-pub use detach::Detach;
-pub use end::End;
-pub use close::Close;
+pub mod detach;
+pub mod disposition;
+pub mod end;
+pub mod flow;
+pub mod open;
+pub mod transfer;
 
 use amqp_values::composite::{descriptor, read_list};
-use amqp_values::writing::{described_len, write_described};
+use amqp_values::writing::write_described;
 use amqp_values::{ReadError, WriteError};
+pub use attach::Attach;
+pub use begin::Begin;
 use bytes::{Bytes, BytesMut};
+pub use close::Close;
+pub use detach::Detach;
+pub use disposition::Disposition;
+pub use end::End;
+pub use flow::Flow;
+pub use open::Open;
 use std::alloc::Global;
+pub use transfer::{Transfer, TransferText};
 
 /// A performative (part 2, section 2.7).
 #[derive(Clone, Debug, Drop, PartialEq)]
@@ -92,15 +91,15 @@ impl Performative {
         ensures { result ≡ length (performative_text self.now) }
     {
         match self {
-            Performative::Open(p) => described_len(&p.parts()),
-            Performative::Begin(p) => described_len(&p.parts()),
-            Performative::Attach(p) => described_len(&p.parts()),
-            Performative::Flow(p) => described_len(&p.parts()),
-            Performative::Transfer(p) => described_len(&p.parts()),
-            Performative::Disposition(p) => described_len(&p.parts()),
-            Performative::Detach(p) => described_len(&p.parts()),
-            Performative::End(p) => described_len(&p.parts()),
-            Performative::Close(p) => described_len(&p.parts()),
+            Performative::Open(p) => p.encoded_len(),
+            Performative::Begin(p) => p.encoded_len(),
+            Performative::Attach(p) => p.encoded_len(),
+            Performative::Flow(p) => p.encoded_len(),
+            Performative::Transfer(p) => p.encoded_len(),
+            Performative::Disposition(p) => p.encoded_len(),
+            Performative::Detach(p) => p.encoded_len(),
+            Performative::End(p) => p.encoded_len(),
+            Performative::Close(p) => p.encoded_len(),
         }
     }
 

@@ -1,14 +1,18 @@
 //! Attach (AMQP 1.0 part 2, section 2.7.3).
 
-ghost use Rattle.std.specs.Prelude.{◌≡◌, map, List, ℕ, Option};
+ghost use Rattle.std.specs.Prelude.{◌≡◌, ◌<◌, ◌≤◌, ◌+◌, ◌^◌, ◌++◌, length, map, List, ℕ, Option};
 ghost use Rattle.std.specs.Option.{option_map};
 ghost use Rattle.amqp_values.specs.Reading.{Gives};
 ghost use Rattle.amqp_values.specs.Writing.{leaf_text};
 ghost use Rattle.amqp_types.specs.Attach.{attach_rest_at, attach_body_at, attach_fields, attach_first_same, attach_last_same};
+ghost use Rattle.amqp_types.specs.declared.performatives.Performative.TheVariants as performative;
+ghost use Rattle.amqp_types.specs.Performatives.{performative_text};
 
 use crate::definitions::{Handle, ReceiverSettleMode, Role, SenderSettleMode};
 use crate::leaf;
+use amqp_values::writing::{described_len, put_described};
 use amqp_values::{Composite, Fields, Leaf, Parts, Raw, ReadError, Symbol};
+use bytes::BytesMut;
 use std::alloc::Global;
 use std::marker::Model;
 
@@ -53,20 +57,20 @@ impl Model for Attach {
     ghost Value = { AttachSaid };
 
     ghost view = { λ p. record {
-        name = string_bytes p.name;
-        handle = p.handle.0;
-        role = p.role;
-        snd_settle_mode = p.snd_settle_mode;
-        rcv_settle_mode = p.rcv_settle_mode;
-        source = p.source;
-        target = p.target;
-        unsettled = p.unsettled;
-        incomplete_unsettled = p.incomplete_unsettled;
-        initial_delivery_count = p.initial_delivery_count;
-        max_message_size = p.max_message_size;
-        offered_capabilities = option_map (λ v. v.items) p.offered_capabilities;
-        desired_capabilities = option_map (λ v. v.items) p.desired_capabilities;
-        properties = p.properties
+      name = string_bytes p.name;
+      handle = p.handle.0;
+      role = p.role;
+      snd_settle_mode = p.snd_settle_mode;
+      rcv_settle_mode = p.rcv_settle_mode;
+      source = p.source;
+      target = p.target;
+      unsettled = p.unsettled;
+      incomplete_unsettled = p.incomplete_unsettled;
+      initial_delivery_count = p.initial_delivery_count;
+      max_message_size = p.max_message_size;
+      offered_capabilities = option_map (λ v. v.items) p.offered_capabilities;
+      desired_capabilities = option_map (λ v. v.items) p.desired_capabilities;
+      properties = p.properties;
     } };
 }
 
@@ -195,5 +199,23 @@ impl Attach {
             leaf::optional_symbols(&self.desired_capabilities),
             leaf::optional_fields(&self.properties),
         ]
+    }
+
+    /// The length in bytes of the canonical text. Takes no memory and writes nothing.
+    pub fn encoded_len(&self) -> u128
+        ensures value { result ≡ length (performative_text (performative.Attach self.now)) }
+        ensures bound { result < 2 ^ 127 }
+    {
+        described_len(&self.parts())
+    }
+
+    /// Appends the canonical text, to a buffer that has room for it.
+    pub fn put(&self, out: &mut BytesMut)
+        requires room { length (performative_text (performative.Attach self.now)) ≤ out.old.spare }
+        requires fits { length (performative_text (performative.Attach self.now)) < 2 ^ 32 }
+        ensures items { out.new.items ≡ out.old.items ++ performative_text (performative.Attach self.now) }
+        ensures spare { out.new.spare + length (performative_text (performative.Attach self.now)) ≡ out.old.spare }
+    {
+        put_described(0x12, &self.parts(), out)
     }
 }

@@ -1,13 +1,17 @@
 //! Begin (AMQP 1.0 part 2, section 2.7.2).
 
-ghost use Rattle.std.specs.Prelude.{◌≡◌, map, List, ℕ, Option};
+ghost use Rattle.std.specs.Prelude.{◌≡◌, ◌<◌, ◌≤◌, ◌+◌, ◌^◌, ◌++◌, length, map, List, ℕ, Option};
 ghost use Rattle.amqp_values.specs.Reading.{Gives};
 ghost use Rattle.amqp_values.specs.Writing.{leaf_text};
 ghost use Rattle.amqp_types.specs.Begin.{begin_body_at, begin_fields};
+ghost use Rattle.amqp_types.specs.declared.performatives.Performative.TheVariants as performative;
+ghost use Rattle.amqp_types.specs.Performatives.{performative_text};
 
-use crate::definitions::{Handle};
+use crate::definitions::Handle;
 use crate::leaf;
+use amqp_values::writing::{described_len, put_described};
 use amqp_values::{Composite, Fields, Leaf, Parts, ReadError, Symbol};
+use bytes::BytesMut;
 use std::alloc::Global;
 use std::marker::Model;
 
@@ -39,14 +43,14 @@ impl Model for Begin {
     ghost Value = { BeginSaid };
 
     ghost view = { λ p. record {
-        remote_channel = p.remote_channel;
-        next_outgoing_id = p.next_outgoing_id;
-        incoming_window = p.incoming_window;
-        outgoing_window = p.outgoing_window;
-        handle_max = p.handle_max.0;
-        offered_capabilities = option_map (λ v. v.items) p.offered_capabilities;
-        desired_capabilities = option_map (λ v. v.items) p.desired_capabilities;
-        properties = p.properties
+      remote_channel = p.remote_channel;
+      next_outgoing_id = p.next_outgoing_id;
+      incoming_window = p.incoming_window;
+      outgoing_window = p.outgoing_window;
+      handle_max = p.handle_max.0;
+      offered_capabilities = option_map (λ v. v.items) p.offered_capabilities;
+      desired_capabilities = option_map (λ v. v.items) p.desired_capabilities;
+      properties = p.properties;
     } };
 }
 
@@ -112,5 +116,23 @@ impl Begin {
             leaf::optional_symbols(&self.desired_capabilities),
             leaf::optional_fields(&self.properties),
         ]
+    }
+
+    /// The length in bytes of the canonical text. Takes no memory and writes nothing.
+    pub fn encoded_len(&self) -> u128
+        ensures value { result ≡ length (performative_text (performative.Begin self.now)) }
+        ensures bound { result < 2 ^ 127 }
+    {
+        described_len(&self.parts())
+    }
+
+    /// Appends the canonical text, to a buffer that has room for it.
+    pub fn put(&self, out: &mut BytesMut)
+        requires room { length (performative_text (performative.Begin self.now)) ≤ out.old.spare }
+        requires fits { length (performative_text (performative.Begin self.now)) < 2 ^ 32 }
+        ensures items { out.new.items ≡ out.old.items ++ performative_text (performative.Begin self.now) }
+        ensures spare { out.new.spare + length (performative_text (performative.Begin self.now)) ≡ out.old.spare }
+    {
+        put_described(0x11, &self.parts(), out)
     }
 }

@@ -1,15 +1,19 @@
 //! Detach (AMQP 1.0 part 2, section 2.7.7).
 
-ghost use Rattle.std.specs.Prelude.{◌≡◌, map, List, ℕ, Option};
+ghost use Rattle.std.specs.Prelude.{◌≡◌, ◌<◌, ◌≤◌, ◌+◌, ◌^◌, ◌++◌, length, map, List, ℕ, Option};
 ghost use Rattle.amqp_values.specs.Reading.{Gives};
 ghost use Rattle.amqp_types.specs.Part.{part_text};
 ghost use Rattle.amqp_types.specs.Detach.{detach_body_at, detach_fields};
+ghost use Rattle.amqp_types.specs.declared.performatives.Performative.TheVariants as performative;
+ghost use Rattle.amqp_types.specs.Performatives.{performative_text};
 
-use crate::definitions::{Handle};
+use crate::definitions::Handle;
 use crate::error::Error;
 use crate::leaf;
 use crate::part::Part;
+use amqp_values::writing::{described_len, put_described};
 use amqp_values::{Composite, Leaf, Parts, ReadError};
+use bytes::BytesMut;
 use std::alloc::Global;
 use std::marker::Model;
 
@@ -30,9 +34,9 @@ impl Model for Detach {
     ghost Value = { DetachSaid };
 
     ghost view = { λ p. record {
-        handle = p.handle.0;
-        closed = p.closed;
-        error = p.error
+      handle = p.handle.0;
+      closed = p.closed;
+      error = p.error;
     } };
 }
 
@@ -45,9 +49,7 @@ impl PartialEq for Detach {
     ghost laws = { partial_equiv_from_equiv detach_same.laws };
 
     fn eq(&self, other: &Detach) -> bool {
-        self.handle == other.handle
-            && self.closed == other.closed
-            && self.error == other.error
+        self.handle == other.handle && self.closed == other.closed && self.error == other.error
     }
 }
 
@@ -78,5 +80,23 @@ impl Detach {
             Part::Leaf(leaf::flag(self.closed)),
             Part::optional(&self.error),
         ]
+    }
+
+    /// The length in bytes of the canonical text. Takes no memory and writes nothing.
+    pub fn encoded_len(&self) -> u128
+        ensures value { result ≡ length (performative_text (performative.Detach self.now)) }
+        ensures bound { result < 2 ^ 127 }
+    {
+        described_len(&self.parts())
+    }
+
+    /// Appends the canonical text, to a buffer that has room for it.
+    pub fn put(&self, out: &mut BytesMut)
+        requires room { length (performative_text (performative.Detach self.now)) ≤ out.old.spare }
+        requires fits { length (performative_text (performative.Detach self.now)) < 2 ^ 32 }
+        ensures items { out.new.items ≡ out.old.items ++ performative_text (performative.Detach self.now) }
+        ensures spare { out.new.spare + length (performative_text (performative.Detach self.now)) ≡ out.old.spare }
+    {
+        put_described(0x16, &self.parts(), out)
     }
 }

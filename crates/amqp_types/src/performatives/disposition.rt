@@ -1,13 +1,17 @@
 //! Disposition (AMQP 1.0 part 2, section 2.7.6).
 
-ghost use Rattle.std.specs.Prelude.{◌≡◌, map, List, ℕ, Option};
+ghost use Rattle.std.specs.Prelude.{◌≡◌, ◌<◌, ◌≤◌, ◌+◌, ◌^◌, ◌++◌, length, map, List, ℕ, Option};
 ghost use Rattle.amqp_values.specs.Reading.{Gives};
 ghost use Rattle.amqp_values.specs.Writing.{leaf_text};
 ghost use Rattle.amqp_types.specs.Disposition.{disposition_body_at, disposition_fields};
+ghost use Rattle.amqp_types.specs.declared.performatives.Performative.TheVariants as performative;
+ghost use Rattle.amqp_types.specs.Performatives.{performative_text};
 
-use crate::definitions::{Role};
+use crate::definitions::Role;
 use crate::leaf;
+use amqp_values::writing::{described_len, put_described};
 use amqp_values::{Composite, Leaf, Parts, Raw, ReadError};
+use bytes::BytesMut;
 use std::alloc::Global;
 use std::marker::Model;
 
@@ -34,12 +38,12 @@ impl Model for Disposition {
     ghost Value = { DispositionSaid };
 
     ghost view = { λ p. record {
-        role = p.role;
-        first = p.first;
-        last = p.last;
-        settled = p.settled;
-        state = p.state;
-        batchable = p.batchable
+      role = p.role;
+      first = p.first;
+      last = p.last;
+      settled = p.settled;
+      state = p.state;
+      batchable = p.batchable;
     } };
 }
 
@@ -97,5 +101,23 @@ impl Disposition {
             leaf::optional_value(&self.state),
             leaf::flag(self.batchable),
         ]
+    }
+
+    /// The length in bytes of the canonical text. Takes no memory and writes nothing.
+    pub fn encoded_len(&self) -> u128
+        ensures value { result ≡ length (performative_text (performative.Disposition self.now)) }
+        ensures bound { result < 2 ^ 127 }
+    {
+        described_len(&self.parts())
+    }
+
+    /// Appends the canonical text, to a buffer that has room for it.
+    pub fn put(&self, out: &mut BytesMut)
+        requires room { length (performative_text (performative.Disposition self.now)) ≤ out.old.spare }
+        requires fits { length (performative_text (performative.Disposition self.now)) < 2 ^ 32 }
+        ensures items { out.new.items ≡ out.old.items ++ performative_text (performative.Disposition self.now) }
+        ensures spare { out.new.spare + length (performative_text (performative.Disposition self.now)) ≡ out.old.spare }
+    {
+        put_described(0x15, &self.parts(), out)
     }
 }

@@ -1,13 +1,17 @@
 //! End (AMQP 1.0 part 2, section 2.7.8).
 
-ghost use Rattle.std.specs.Prelude.{◌≡◌, map, List, ℕ, Option};
+ghost use Rattle.std.specs.Prelude.{◌≡◌, ◌<◌, ◌≤◌, ◌+◌, ◌^◌, ◌++◌, length, map, List, ℕ, Option};
 ghost use Rattle.amqp_values.specs.Reading.{Gives};
 ghost use Rattle.amqp_types.specs.Part.{part_text};
 ghost use Rattle.amqp_types.specs.End.{end_body_at, end_fields};
+ghost use Rattle.amqp_types.specs.declared.performatives.Performative.TheVariants as performative;
+ghost use Rattle.amqp_types.specs.Performatives.{performative_text};
 
 use crate::error::Error;
 use crate::part::Part;
+use amqp_values::writing::{described_len, put_described};
 use amqp_values::{Composite, Parts, ReadError};
+use bytes::BytesMut;
 use std::alloc::Global;
 use std::marker::Model;
 
@@ -24,7 +28,7 @@ impl Model for End {
     ghost Value = { EndSaid };
 
     ghost view = { λ p. record {
-        error = p.error
+      error = p.error;
     } };
 }
 
@@ -47,9 +51,7 @@ impl Composite for End {
     #[tactic(auto, unfolding(crate::specs::End::end_body_at))]
     fn fields(alloc: Global, parts: &mut Parts) -> Result<End, ReadError> {
         let error = parts.next(alloc)?;
-        parts.finish(End {
-            error,
-        })
+        parts.finish(End { error })
     }
 }
 
@@ -59,8 +61,24 @@ impl End {
     pub(crate) fn parts(&self) -> [Part<'_>; 1]
         ensures { map part_text result ≡ end_fields self.now }
     {
-        [
-            Part::optional(&self.error),
-        ]
+        [Part::optional(&self.error)]
+    }
+
+    /// The length in bytes of the canonical text. Takes no memory and writes nothing.
+    pub fn encoded_len(&self) -> u128
+        ensures value { result ≡ length (performative_text (performative.End self.now)) }
+        ensures bound { result < 2 ^ 127 }
+    {
+        described_len(&self.parts())
+    }
+
+    /// Appends the canonical text, to a buffer that has room for it.
+    pub fn put(&self, out: &mut BytesMut)
+        requires room { length (performative_text (performative.End self.now)) ≤ out.old.spare }
+        requires fits { length (performative_text (performative.End self.now)) < 2 ^ 32 }
+        ensures items { out.new.items ≡ out.old.items ++ performative_text (performative.End self.now) }
+        ensures spare { out.new.spare + length (performative_text (performative.End self.now)) ≡ out.old.spare }
+    {
+        put_described(0x17, &self.parts(), out)
     }
 }

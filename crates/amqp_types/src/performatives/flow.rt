@@ -1,13 +1,17 @@
 //! Flow (AMQP 1.0 part 2, section 2.7.4).
 
-ghost use Rattle.std.specs.Prelude.{◌≡◌, map, List, ℕ, Option};
+ghost use Rattle.std.specs.Prelude.{◌≡◌, ◌<◌, ◌≤◌, ◌+◌, ◌^◌, ◌++◌, length, map, List, ℕ, Option};
 ghost use Rattle.amqp_values.specs.Reading.{Gives};
 ghost use Rattle.amqp_values.specs.Writing.{leaf_text};
 ghost use Rattle.amqp_types.specs.Flow.{flow_body_at, flow_fields, flow_first_same, flow_last_same};
+ghost use Rattle.amqp_types.specs.declared.performatives.Performative.TheVariants as performative;
+ghost use Rattle.amqp_types.specs.Performatives.{performative_text};
 
-use crate::definitions::{Handle};
+use crate::definitions::Handle;
 use crate::leaf;
+use amqp_values::writing::{described_len, put_described};
 use amqp_values::{Composite, Fields, Leaf, Parts, ReadError};
+use bytes::BytesMut;
 use std::alloc::Global;
 use std::marker::Model;
 
@@ -45,17 +49,17 @@ impl Model for Flow {
     ghost Value = { FlowSaid };
 
     ghost view = { λ p. record {
-        next_incoming_id = p.next_incoming_id;
-        incoming_window = p.incoming_window;
-        next_outgoing_id = p.next_outgoing_id;
-        outgoing_window = p.outgoing_window;
-        handle = option_map (λ v. v.0) p.handle;
-        delivery_count = p.delivery_count;
-        link_credit = p.link_credit;
-        available = p.available;
-        drain = p.drain;
-        echo = p.echo;
-        properties = p.properties
+      next_incoming_id = p.next_incoming_id;
+      incoming_window = p.incoming_window;
+      next_outgoing_id = p.next_outgoing_id;
+      outgoing_window = p.outgoing_window;
+      handle = option_map (λ v. v.0) p.handle;
+      delivery_count = p.delivery_count;
+      link_credit = p.link_credit;
+      available = p.available;
+      drain = p.drain;
+      echo = p.echo;
+      properties = p.properties;
     } };
 }
 
@@ -148,5 +152,23 @@ impl Flow {
             leaf::flag(self.echo),
             leaf::optional_fields(&self.properties),
         ]
+    }
+
+    /// The length in bytes of the canonical text. Takes no memory and writes nothing.
+    pub fn encoded_len(&self) -> u128
+        ensures value { result ≡ length (performative_text (performative.Flow self.now)) }
+        ensures bound { result < 2 ^ 127 }
+    {
+        described_len(&self.parts())
+    }
+
+    /// Appends the canonical text, to a buffer that has room for it.
+    pub fn put(&self, out: &mut BytesMut)
+        requires room { length (performative_text (performative.Flow self.now)) ≤ out.old.spare }
+        requires fits { length (performative_text (performative.Flow self.now)) < 2 ^ 32 }
+        ensures items { out.new.items ≡ out.old.items ++ performative_text (performative.Flow self.now) }
+        ensures spare { out.new.spare + length (performative_text (performative.Flow self.now)) ≡ out.old.spare }
+    {
+        put_described(0x13, &self.parts(), out)
     }
 }

@@ -1,13 +1,17 @@
 //! Open (AMQP 1.0 part 2, section 2.7.1).
 
-ghost use Rattle.std.specs.Prelude.{◌≡◌, map, List, ℕ, Option};
+ghost use Rattle.std.specs.Prelude.{◌≡◌, ◌<◌, ◌≤◌, ◌+◌, ◌^◌, ◌++◌, length, map, List, ℕ, Option};
 ghost use Rattle.amqp_values.specs.Reading.{Gives};
 ghost use Rattle.amqp_values.specs.Writing.{leaf_text};
 ghost use Rattle.amqp_types.specs.Open.{open_body_at, open_fields, open_first_same, open_last_same};
+ghost use Rattle.amqp_types.specs.declared.performatives.Performative.TheVariants as performative;
+ghost use Rattle.amqp_types.specs.Performatives.{performative_text};
 
 use crate::copies;
 use crate::leaf;
+use amqp_values::writing::{described_len, put_described};
 use amqp_values::{Composite, Fields, Leaf, Parts, ReadError, Symbol};
+use bytes::BytesMut;
 use std::alloc::{AllocError, Global};
 use std::marker::Model;
 
@@ -44,16 +48,16 @@ impl Model for Open {
     ghost Value = { OpenSaid };
 
     ghost view = { λ p. record {
-        container_id = string_bytes p.container_id;
-        hostname = option_map string_bytes p.hostname;
-        max_frame_size = p.max_frame_size;
-        channel_max = p.channel_max;
-        idle_time_out = p.idle_time_out;
-        outgoing_locales = option_map (λ v. v.items) p.outgoing_locales;
-        incoming_locales = option_map (λ v. v.items) p.incoming_locales;
-        offered_capabilities = option_map (λ v. v.items) p.offered_capabilities;
-        desired_capabilities = option_map (λ v. v.items) p.desired_capabilities;
-        properties = p.properties
+      container_id = string_bytes p.container_id;
+      hostname = option_map string_bytes p.hostname;
+      max_frame_size = p.max_frame_size;
+      channel_max = p.channel_max;
+      idle_time_out = p.idle_time_out;
+      outgoing_locales = option_map (λ v. v.items) p.outgoing_locales;
+      incoming_locales = option_map (λ v. v.items) p.incoming_locales;
+      offered_capabilities = option_map (λ v. v.items) p.offered_capabilities;
+      desired_capabilities = option_map (λ v. v.items) p.desired_capabilities;
+      properties = p.properties;
     } };
 }
 
@@ -161,5 +165,23 @@ impl Open {
             leaf::optional_symbols(&self.desired_capabilities),
             leaf::optional_fields(&self.properties),
         ]
+    }
+
+    /// The length in bytes of the canonical text. Takes no memory and writes nothing.
+    pub fn encoded_len(&self) -> u128
+        ensures value { result ≡ length (performative_text (performative.Open self.now)) }
+        ensures bound { result < 2 ^ 127 }
+    {
+        described_len(&self.parts())
+    }
+
+    /// Appends the canonical text, to a buffer that has room for it.
+    pub fn put(&self, out: &mut BytesMut)
+        requires room { length (performative_text (performative.Open self.now)) ≤ out.old.spare }
+        requires fits { length (performative_text (performative.Open self.now)) < 2 ^ 32 }
+        ensures items { out.new.items ≡ out.old.items ++ performative_text (performative.Open self.now) }
+        ensures spare { out.new.spare + length (performative_text (performative.Open self.now)) ≡ out.old.spare }
+    {
+        put_described(0x10, &self.parts(), out)
     }
 }

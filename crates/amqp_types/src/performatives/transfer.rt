@@ -1,13 +1,17 @@
 //! Transfer (AMQP 1.0 part 2, section 2.7.5).
 
-ghost use Rattle.std.specs.Prelude.{◌≡◌, map, List, ℕ, Option};
+ghost use Rattle.std.specs.Prelude.{◌≡◌, ◌<◌, ◌≤◌, ◌+◌, ◌^◌, ◌++◌, length, map, List, ℕ, Option};
 ghost use Rattle.amqp_values.specs.Reading.{Gives};
 ghost use Rattle.amqp_values.specs.Writing.{leaf_text};
-ghost use Rattle.amqp_types.specs.Transfer.{transfer_body_at, transfer_fields, transfer_first_same, transfer_last_same};
+ghost use Rattle.amqp_types.specs.Transfer.{continuation, said_in, transfer_body_at, transfer_fields, transfer_first_same, transfer_last_same};
+ghost use Rattle.amqp_types.specs.declared.performatives.Performative.TheVariants as performative;
+ghost use Rattle.amqp_types.specs.Performatives.{performative_text};
 
 use crate::definitions::{DeliveryTag, Handle, ReceiverSettleMode};
 use crate::leaf;
+use amqp_values::writing::{described_len, put_described};
 use amqp_values::{Composite, Leaf, Parts, Raw, ReadError};
+use bytes::BytesMut;
 use std::alloc::Global;
 use std::marker::Model;
 
@@ -38,6 +42,20 @@ pub struct Transfer {
     pub batchable: bool,
 }
 
+/// Which text of a transfer is meant. Where a delivery does not fit one frame, it is cut: each transfer but the last says
+/// that more follow, and only the first one says what concerns the whole delivery (AMQP 1.0 part 2, section 2.6.14).
+#[derive(Clone, Copy, Debug, PartialEq, Eq)]
+pub enum TransferText {
+    /// The transfer as it is.
+    Whole,
+    /// The transfer that begins a delivery that is cut.
+    First,
+    /// A transfer in the middle.
+    Middle,
+    /// The transfer that ends the delivery. Whether more follow is what the whole transfer says.
+    Last,
+}
+
 impl Model for Transfer {
     ghost use Rattle.std.specs.Option.{option_map};
     ghost use Rattle.amqp_types.specs.Transfer.{TransferSaid};
@@ -45,17 +63,17 @@ impl Model for Transfer {
     ghost Value = { TransferSaid };
 
     ghost view = { λ p. record {
-        handle = p.handle.0;
-        delivery_id = p.delivery_id;
-        delivery_tag = option_map (λ v. v.0) p.delivery_tag;
-        message_format = p.message_format;
-        settled = p.settled;
-        more = p.more;
-        rcv_settle_mode = p.rcv_settle_mode;
-        state = p.state;
-        resume = p.resume;
-        aborted = p.aborted;
-        batchable = p.batchable
+      handle = p.handle.0;
+      delivery_id = p.delivery_id;
+      delivery_tag = option_map (λ v. v.0) p.delivery_tag;
+      message_format = p.message_format;
+      settled = p.settled;
+      more = p.more;
+      rcv_settle_mode = p.rcv_settle_mode;
+      state = p.state;
+      resume = p.resume;
+      aborted = p.aborted;
+      batchable = p.batchable;
     } };
 }
 
@@ -131,9 +149,16 @@ impl Composite for Transfer {
 
 impl Transfer {
     /// The fields, lent for writing.
-    #[tactic(auto, unfolding(crate::specs::Transfer::transfer_fields))]
     pub(crate) fn parts(&self) -> [Leaf<'_>; 11]
         ensures { map leaf_text result ≡ transfer_fields self.now }
+    {
+        self.parts_with(self.more)
+    }
+
+    /// The fields with this `more`.
+    #[tactic(auto, unfolding(crate::specs::Transfer::transfer_fields))]
+    fn parts_with(&self, more: bool) -> [Leaf<'_>; 11]
+        ensures { map leaf_text result ≡ transfer_fields (record self.now { more = more }) }
     {
         [
             Leaf::Uint(self.handle.0),
@@ -141,12 +166,80 @@ impl Transfer {
             leaf::optional_tag(&self.delivery_tag),
             leaf::optional_uint(self.message_format),
             leaf::optional_boolean(self.settled),
-            leaf::flag(self.more),
+            leaf::flag(more),
             leaf::optional_receiver_mode(self.rcv_settle_mode),
             leaf::optional_value(&self.state),
             leaf::flag(self.resume),
             leaf::flag(self.aborted),
             leaf::flag(self.batchable),
         ]
+    }
+
+    /// The fields of a continuation with this `more`.
+    #[tactic(auto, unfolding(crate::specs::Transfer::transfer_fields))]
+    fn parts_continued(&self, more: bool) -> [Leaf<'_>; 11]
+        ensures { map leaf_text result ≡ transfer_fields (record (continuation self.now) { more = more }) }
+    {
+        [
+            Leaf::Uint(self.handle.0),
+            Leaf::Null,
+            Leaf::Null,
+            Leaf::Null,
+            Leaf::Null,
+            leaf::flag(more),
+            Leaf::Null,
+            leaf::optional_value(&self.state),
+            leaf::flag(self.resume),
+            leaf::flag(self.aborted),
+            leaf::flag(self.batchable),
+        ]
+    }
+
+    /// The fields of one of the texts.
+    fn parts_in(&self, text: TransferText) -> [Leaf<'_>; 11]
+        ensures { map leaf_text result ≡ transfer_fields (said_in text self.now) }
+    {
+        match text {
+            TransferText::Whole => self.parts(),
+            TransferText::First => self.parts_with(true),
+            TransferText::Middle => self.parts_continued(true),
+            TransferText::Last => self.parts_continued(self.more),
+        }
+    }
+
+    /// The length in bytes of one of the texts. Takes no memory, and neither clones nor writes anything.
+    pub fn encoded_len_in(&self, text: TransferText) -> u128
+        ensures value { result ≡ length (performative_text (performative.Transfer (said_in text self.now))) }
+        ensures bound { result < 2 ^ 127 }
+    {
+        described_len(&self.parts_in(text))
+    }
+
+    /// Appends one of the texts, to a buffer that has room for it.
+    pub fn put_in(&self, text: TransferText, out: &mut BytesMut)
+        requires room { length (performative_text (performative.Transfer (said_in text self.now))) ≤ out.old.spare }
+        requires fits { length (performative_text (performative.Transfer (said_in text self.now))) < 2 ^ 32 }
+        ensures items { out.new.items ≡ out.old.items ++ performative_text (performative.Transfer (said_in text self.now)) }
+        ensures spare { out.new.spare + length (performative_text (performative.Transfer (said_in text self.now))) ≡ out.old.spare }
+    {
+        put_described(0x14, &self.parts_in(text), out)
+    }
+
+    /// The length in bytes of the canonical text. Takes no memory and writes nothing.
+    pub fn encoded_len(&self) -> u128
+        ensures value { result ≡ length (performative_text (performative.Transfer self.now)) }
+        ensures bound { result < 2 ^ 127 }
+    {
+        described_len(&self.parts())
+    }
+
+    /// Appends the canonical text, to a buffer that has room for it.
+    pub fn put(&self, out: &mut BytesMut)
+        requires room { length (performative_text (performative.Transfer self.now)) ≤ out.old.spare }
+        requires fits { length (performative_text (performative.Transfer self.now)) < 2 ^ 32 }
+        ensures items { out.new.items ≡ out.old.items ++ performative_text (performative.Transfer self.now) }
+        ensures spare { out.new.spare + length (performative_text (performative.Transfer self.now)) ≡ out.old.spare }
+    {
+        put_described(0x14, &self.parts(), out)
     }
 }

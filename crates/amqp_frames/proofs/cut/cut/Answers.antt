@@ -1,0 +1,19 @@
+use Rattle.std.proofs.Common.{◌-◌, arith}
+use Rattle.amqp_frames.specs.Pieces.{LeavesRoom}
+use Rattle.amqp_frames.proofs.Growth.{first_longer, middle_longer}
+use Rattle.amqp_frames.proofs.Cutting.{is_cut}
+use Rattle.amqp_frames.proofs.cut.cut.Goals as goal
+
+pub in_pieces-requires-clause-some : goal.in_pieces-requires-clause-some
+in_pieces-requires-clause-some c = omega (arith, first_longer c.args.transfer.now, c.requires.big, c.encoded_len_in-first.ensures.value, c.from-room.ensures)
+
+pub in_pieces-requires-clause-last : goal.in_pieces-requires-clause-last
+in_pieces-requires-clause-last c = omega (arith, middle_longer c.args.transfer.now, c.encoded_len_in-middle.ensures.value, c.from-room.ensures, c.if-room-middle.false)
+
+pub returns : goal.returns
+returns c =
+    let r : LeavesRoom c.args.transfer.now c.args.limit = (omega (arith, c.encoded_len_in-first.ensures.value, c.from-room.ensures), omega (arith, c.encoded_len_in-middle.ensures.value, c.from-room.ensures)) in (
+      r,
+      is_cut c.args.channel c.args.limit (c.from-room.result - c.encoded_len_in-first.result) (c.from-room.result - c.encoded_len_in-middle.result) c.args.transfer.now c.args.payload.now c.in_ok-pieces.pieces.items
+          c.requires.header r (omega (arith, c.encoded_len_in-first.ensures.value, c.from-room.ensures)) (omega (arith, c.encoded_len_in-middle.ensures.value, c.from-room.ensures)) c.in_ok-pieces.ensures,
+    )

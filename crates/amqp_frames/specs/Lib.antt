@@ -1,0 +1,6 @@
+pub mod FrameError
+pub mod Frame
+pub mod Decoding
+pub mod Piece
+pub mod Cut
+pub mod Pieces

@@ -1,0 +1,21 @@
+-- Pieces: a head, and a part of a payload.
+use Rattle.std.specs.Prelude.{◌≡◌, ◌<◌, ◌^◌, ℕ, List, ◌++◌, length, Result, Ok, Err}
+use Rattle.amqp_frames.specs.declared.error.Error.{Error}
+use Rattle.amqp_frames.specs.declared.error.Error.TheVariants as no
+
+pub record PieceParts : Type 0 where
+  pub head : List ℕ
+  pub payload : List ℕ
+
+abbrev pub piece_bytes : PieceParts → List ℕ
+piece_bytes p = p.head ++ p.payload
+
+-- at most 4294967295 bytes
+pub record IsPiece (p : PieceParts) : Type 0 where
+  pub short : length (piece_bytes p) < 2 ^ 32
+
+-- the bytes of a piece, unless memory was refused
+abbrev pub JoinsBytes : PieceParts → Result (List ℕ) Error → Type 0
+JoinsBytes p (Ok bytes) = bytes ≡ piece_bytes p
+JoinsBytes p (Err no.OutOfMemory) = Unit {0}
+JoinsBytes p (Err e) = ⊥

@@ -1,0 +1,123 @@
+//! The cut of a transfer that does not fit one frame (AMQP 1.0 part 2, section 2.6.14).
+
+ghost use Rattle.std.specs.Prelude.{◌≡◌, ◌≤◌, ◌<◌, ◌+◌, ◌*◌, ◌^◌, ◌++◌, IfOk, OnOk, length, vec_len, vec_capacity};
+ghost use Rattle.amqp_frames.specs.Frame.{header_text};
+ghost use Rattle.amqp_frames.specs.Cut.{transfer_text, first_text, middle_text, last_text, room};
+ghost use Rattle.amqp_frames.specs.Pieces.{Adds, CutsTo, InPieces};
+
+use crate::error::Error;
+use crate::head::transfer_head;
+use crate::piece::Piece;
+use amqp_types::{Transfer, TransferText};
+use bytes::Bytes;
+use std::alloc::{AllocError, Global};
+
+/// The pieces of a transfer that does not fit whole, each of at most `limit` bytes; `TooLarge` exactly where the texts of
+/// its pieces leave no room for the payload.
+pub(crate) fn cut(
+    alloc: Global,
+    channel: u16,
+    transfer: &Transfer,
+    payload: &Bytes,
+    limit: u32,
+) -> Result<Vec<Piece>, Error>
+    requires header { 4 ≤ limit }
+    requires big { room limit < length (transfer_text transfer.now) + length payload.now }
+    ensures { CutsTo (λ v. v.items) channel transfer.now payload.now limit result }
+{
+    let room = u128::from(limit - 4);
+    let first = transfer.encoded_len_in(TransferText::First);
+    if room < first {
+        return Err(Error::TooLarge);
+    }
+    let middle = transfer.encoded_len_in(TransferText::Middle);
+    if room <= middle {
+        return Err(Error::TooLarge);
+    }
+    let front = (room - first) as usize;
+    let step = (room - middle) as usize;
+    let pieces = in_pieces(alloc, channel, transfer, payload, front, step)?;
+    Ok(pieces)
+}
+
+/// The pieces with so much of the payload in the first, and so much in each one in the middle. The last one has the rest,
+/// which is something, and no more than one in the middle. Their number is known before the first is made.
+fn in_pieces(
+    alloc: Global,
+    channel: u16,
+    transfer: &Transfer,
+    payload: &Bytes,
+    front: usize,
+    step: usize,
+) -> Result<Vec<Piece>, AllocError>
+    requires some { front < length payload.now }
+    requires step { 0 < step }
+    requires first { length (first_text transfer.now) + front + 4 < 2 ^ 32 }
+    requires middle { length (middle_text transfer.now) + step + 4 < 2 ^ 32 }
+    requires last { length (last_text transfer.now) + step + 4 < 2 ^ 32 }
+    ensures { IfOk result (λ v. InPieces channel transfer.now payload.now front step v.items) }
+{
+    let count = (payload.len() - front - 1) / step;
+    let mut pieces = Vec::with_capacity(alloc, count + 2)?;
+    let mut rest = payload.clone()?;
+    let head = transfer_head(alloc, channel, transfer, TransferText::First)?;
+    let part = rest.split_to(front)?;
+    pieces.push(Piece::new(head, part)).unwrap();
+    put_middle(
+        alloc,
+        channel,
+        transfer,
+        &mut pieces,
+        &mut rest,
+        step,
+        count,
+    )?;
+    let head = transfer_head(alloc, channel, transfer, TransferText::Last)?;
+    pieces.push(Piece::new(head, rest)).unwrap();
+    Ok(pieces)
+}
+
+/// Appends so many pieces from the middle. They share one head, which is not written where there are none.
+fn put_middle(
+    alloc: Global,
+    channel: u16,
+    transfer: &Transfer,
+    pieces: &mut Vec<Piece>,
+    rest: &mut Bytes,
+    step: usize,
+    count: usize,
+) -> Result<(), AllocError>
+    requires room { vec_len pieces.old + count < vec_capacity pieces.old }
+    requires long { step * count ≤ length rest.old }
+    requires fits { length (middle_text transfer.now) + step + 4 < 2 ^ 32 }
+    ensures added { OnOk result (Adds (header_text channel ++ middle_text transfer.now) step pieces.old.items pieces.new.items rest.old rest.new (step * count)) }
+    ensures room_left { OnOk result (vec_len pieces.new < vec_capacity pieces.new) }
+{
+    if count == 0 {
+        return Ok(());
+    }
+    let head = transfer_head(alloc, channel, transfer, TransferText::Middle)?;
+    put_parts(&head, pieces, rest, step, count)
+}
+
+/// Appends so many pieces with this head, each with the next part.
+fn put_parts(
+    head: &Bytes,
+    pieces: &mut Vec<Piece>,
+    rest: &mut Bytes,
+    step: usize,
+    count: usize,
+) -> Result<(), AllocError>
+    requires room { vec_len pieces.old + count < vec_capacity pieces.old }
+    requires long { step * count ≤ length rest.old }
+    requires fits { length head.now + step < 2 ^ 32 }
+    ensures added { OnOk result (Adds head.now step pieces.old.items pieces.new.items rest.old rest.new (step * count)) }
+    ensures room_left { OnOk result (vec_len pieces.new < vec_capacity pieces.new) }
+{
+    for i in 0..count {
+        let copy = head.clone()?;
+        let part = rest.split_to(step)?;
+        pieces.push(Piece::new(copy, part)).unwrap();
+    }
+    Ok(())
+}

@@ -1,0 +1,98 @@
+//! The encoder: a frame as pieces that keep a limit.
+
+ghost use Rattle.std.specs.Prelude.{◌≡◌, ◌≤◌, ◌<◌, ◌+◌, ◌^◌, ℕ, [], ◌∷◌, IfOk, length};
+ghost use Rattle.amqp_frames.specs.Frame.{text_of, payload_of};
+ghost use Rattle.amqp_frames.specs.Cut.{Encodes, IsWholePiece, Whole, room_beside};
+
+use crate::cut::cut;
+use crate::error::Error;
+use crate::frame::{Frame, FrameBody};
+use crate::head::whole_head;
+use crate::piece::Piece;
+use amqp_types::Transfer;
+use std::alloc::{AllocError, Global};
+use std::marker::Model;
+
+/// Encodes frames for a peer: each piece has at most so many bytes.
+#[derive(Clone, Debug, Drop)]
+pub struct FrameEncoder {
+    max_frame_size: u32,
+}
+
+impl Model for FrameEncoder {
+    ghost use Rattle.std.specs.Prelude.{ℕ, ◌≤◌};
+
+    ghost Value = { ℕ };
+
+    ghost view = { λ e. e.max_frame_size };
+
+    ghost invariant = { λ e. 4 ≤ e.max_frame_size };
+}
+
+impl FrameEncoder {
+    /// An encoder whose pieces have at most `max_frame_size` bytes, from 4 on: the peer's max-frame-size less the four
+    /// bytes of a frame's size.
+    pub fn new(max_frame_size: u32) -> FrameEncoder
+        requires { 4 ≤ max_frame_size }
+        ensures { result ≡ max_frame_size }
+    {
+        FrameEncoder { max_frame_size }
+    }
+
+    /// The pieces of the frame, in the order in which they are to be sent.
+    ///
+    /// A frame that fits is one piece. A transfer that does not fit is cut: each piece but the last is full, and only the
+    /// first one says what concerns the whole delivery (AMQP 1.0 part 2, section 2.6.14). `TooLarge` exactly where no
+    /// cut fits, or another performative is too long; `OutOfMemory` where memory is refused. Payload parts are cuts of the
+    /// payload: none is copied.
+    pub fn encode(&self, alloc: Global, frame: &Frame) -> Result<Vec<Piece>, Error>
+        ensures { Encodes (λ v. v.items) frame.now self.now result }
+    {
+        let limit = self.max_frame_size;
+        if frame.body.is_within(limit - 4) {
+            let pieces = whole(alloc, frame)?;
+            return Ok(pieces);
+        }
+        in_pieces(alloc, frame, limit)
+    }
+
+    /// How many bytes of payload fit beside this transfer as it is, in one piece; `None` where its own text does not fit.
+    /// Takes no memory.
+    pub fn payload_room(&self, transfer: &Transfer) -> Option<u32>
+        ensures { result ≡ room_beside transfer.now self.now }
+    {
+        let room = self.max_frame_size - 4;
+        let len = transfer.encoded_len();
+        if u128::from(room) < len {
+            return None;
+        }
+        Some(room - len as u32)
+    }
+}
+
+/// The one piece of a frame that is whole.
+fn whole(alloc: Global, frame: &Frame) -> Result<Vec<Piece>, AllocError>
+    requires { length (text_of frame.now.body) + length (payload_of frame.now.body) + 4 < 2 ^ 32 }
+    ensures { IfOk result (λ v. (p : _) × (v.items ≡ p ∷ []) × IsWholePiece frame.now p) }
+{
+    let mut pieces = Vec::with_capacity(alloc, 1)?;
+    let payload = frame.body.payload()?;
+    let head = whole_head(alloc, frame.channel, &frame.body)?;
+    pieces.push(Piece::new(head, payload)).unwrap();
+    Ok(pieces)
+}
+
+/// The pieces of a frame that is not whole: only a transfer is cut.
+fn in_pieces(alloc: Global, frame: &Frame, limit: u32) -> Result<Vec<Piece>, Error>
+    requires header { 4 ≤ limit }
+    requires big { Whole frame.now limit → ⊥ }
+    ensures { Encodes (λ v. v.items) frame.now limit result }
+{
+    match &frame.body {
+        FrameBody::Transfer {
+            performative,
+            payload,
+        } => cut(alloc, frame.channel, performative, payload, limit),
+        _ => Err(Error::TooLarge),
+    }
+}

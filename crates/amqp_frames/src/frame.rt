@@ -1,0 +1,100 @@
+//! Frames: a channel, and what is said on it (AMQP 1.0 part 2, section 2.3).
+
+ghost use Rattle.std.specs.Prelude.{◌≡◌};
+ghost use Rattle.amqp_frames.specs.declared.frame.FrameBody.TheVariants.{Empty};
+
+use amqp_types::{Attach, Begin, Close, Detach, Disposition, End, Flow, Open, Transfer};
+use bytes::Bytes;
+use std::fmt;
+
+/// A frame of AMQP, without its four-byte size and its header's fixed bytes.
+#[derive(Debug, Drop, PartialEq)]
+pub struct Frame {
+    /// The channel: 0 to 65535.
+    pub channel: u16,
+    /// What is said.
+    pub body: FrameBody,
+}
+
+/// What a frame says.
+#[derive(Drop, PartialEq)]
+pub enum FrameBody {
+    Attach(Attach),
+    Flow(Flow),
+    Transfer {
+        performative: Transfer,
+        /// The message, or the part of it that this transfer carries. A cut of what was received: none is copied.
+        payload: Bytes,
+    },
+    Disposition(Disposition),
+    Detach(Detach),
+    Begin(Begin),
+    End(End),
+    Open(Open),
+    Close(Close),
+    /// No body: the frame only tells that its sender is there.
+    Empty,
+}
+
+impl fmt::Debug for FrameBody {
+    fn fmt<W: fmt::Write>(&self, f: &mut fmt::Formatter<W>) -> fmt::Result {
+        match self {
+            FrameBody::Attach(p) => write!(f, "Attach({p:?})"),
+            FrameBody::Flow(p) => write!(f, "Flow({p:?})"),
+            FrameBody::Transfer {
+                performative,
+                payload,
+            } => {
+                let len = payload.len();
+                write!(
+                    f,
+                    "Transfer {{ performative: {performative:?}, payload.len: {len} }}"
+                )
+            }
+            FrameBody::Disposition(p) => write!(f, "Disposition({p:?})"),
+            FrameBody::Detach(p) => write!(f, "Detach({p:?})"),
+            FrameBody::Begin(p) => write!(f, "Begin({p:?})"),
+            FrameBody::End(p) => write!(f, "End({p:?})"),
+            FrameBody::Open(p) => write!(f, "Open({p:?})"),
+            FrameBody::Close(p) => write!(f, "Close({p:?})"),
+            FrameBody::Empty => write!(f, "Empty"),
+        }
+    }
+}
+
+impl Frame {
+    /// The frame of these parts.
+    pub fn new(channel: u16, body: FrameBody) -> Frame
+        ensures { result ≡ record { channel = channel; body = body } }
+    {
+        Frame { channel, body }
+    }
+
+    /// The empty frame on channel 0.
+    pub fn empty() -> Frame
+        ensures { result ≡ record { channel = 0; body = Empty } }
+    {
+        Frame::new(0, FrameBody::Empty)
+    }
+
+    /// The channel.
+    pub fn channel(&self) -> u16
+        ensures { result ≡ self.now.channel }
+    {
+        self.channel
+    }
+
+    /// What is said.
+    pub fn body(&self) -> &FrameBody
+        ensures { result.now ≡ self.now.body }
+    {
+        &self.body
+    }
+
+    /// What is said, taken out.
+    pub fn into_body(self) -> FrameBody
+        ensures { result ≡ self.body }
+    {
+        self.body
+    }
+}

@@ -1,0 +1,49 @@
+//! Heads of pieces: header and performative, each written with one reservation.
+
+ghost use Rattle.std.specs.Prelude.{◌≡◌, ◌≤◌, ◌<◌, ◌+◌, ◌^◌, ◌++◌, IfOk, length};
+ghost use Rattle.amqp_types.specs.Transfer.{said_in};
+ghost use Rattle.amqp_frames.specs.Frame.{header_text, text_of};
+ghost use Rattle.amqp_frames.specs.Cut.{transfer_text};
+
+use crate::frame::FrameBody;
+use amqp_types::{Transfer, TransferText};
+use bytes::{Bytes, BytesMut};
+use std::alloc::{AllocError, Global};
+
+/// A buffer with the header, and room for so many bytes behind it.
+fn header(alloc: Global, channel: u16, len: usize) -> Result<BytesMut, AllocError>
+    requires { len < 2 ^ 32 }
+    ensures { IfOk result (λ b. (b.items ≡ header_text channel) × (len ≤ b.spare)) }
+{
+    let mut out = BytesMut::with_capacity(alloc, 4 + len)?;
+    out.extend_reserved(&[2, 0]);
+    out.extend_reserved(&channel.to_be_bytes());
+    Ok(out)
+}
+
+/// The head of a frame that is whole.
+pub(crate) fn whole_head(alloc: Global, channel: u16, body: &FrameBody) -> Result<Bytes, AllocError>
+    requires { length (text_of body.now) < 2 ^ 32 }
+    ensures { IfOk result (λ b. b ≡ header_text channel ++ text_of body.now) }
+{
+    let len = body.text_len();
+    let mut out = header(alloc, channel, len as usize)?;
+    body.put_text(&mut out);
+    Ok(out.freeze()?)
+}
+
+/// The head of a piece of a transfer, with one of its texts.
+pub(crate) fn transfer_head(
+    alloc: Global,
+    channel: u16,
+    transfer: &Transfer,
+    text: TransferText,
+) -> Result<Bytes, AllocError>
+    requires { length (transfer_text (said_in text transfer.now)) < 2 ^ 32 }
+    ensures { IfOk result (λ b. b ≡ header_text channel ++ transfer_text (said_in text transfer.now)) }
+{
+    let len = transfer.encoded_len_in(text);
+    let mut out = header(alloc, channel, len as usize)?;
+    transfer.put_in(text, &mut out);
+    Ok(out.freeze()?)
+}

@@ -1,0 +1,17 @@
+//! Frames of AMQP 1.0: decoding them, and encoding them into pieces that keep the peer's limit.
+#![tactic(auto)]
+
+mod cut;
+pub mod decoder;
+pub mod encoder;
+pub mod error;
+pub mod frame;
+mod head;
+pub mod piece;
+mod text;
+
+pub use decoder::FrameDecoder;
+pub use encoder::FrameEncoder;
+pub use error::Error;
+pub use frame::{Frame, FrameBody};
+pub use piece::Piece;

@@ -1,0 +1,78 @@
+//! Pieces: physical frames, ready to be sent behind their four-byte size.
+
+ghost use Rattle.std.specs.Prelude.{◌≡◌, ℕ, List, ◌+◌, ◌++◌, ◌<◌, ◌^◌, length, IfOk};
+ghost use Rattle.amqp_frames.specs.Piece.{piece_bytes, JoinsBytes};
+
+use crate::error::Error;
+use bytes::{Bytes, BytesMut};
+use std::alloc::{AllocError, Global};
+use std::marker::Model;
+
+/// One physical frame without its four-byte size: a head, of header and performative, and a part of a payload. Only the
+/// encoder makes one. The payload part is a cut of the frame's payload.
+#[derive(Debug, Drop)]
+pub struct Piece {
+    head: Bytes,
+    payload: Bytes,
+}
+
+impl Model for Piece {
+    ghost use Rattle.amqp_frames.specs.Piece.{PieceParts, IsPiece};
+
+    ghost Value = { PieceParts };
+
+    ghost view = { λ p. record { head = p.head; payload = p.payload } };
+
+    ghost invariant = { λ p. IsPiece (record { head = p.head; payload = p.payload }) };
+}
+
+impl Piece {
+    /// The piece of this head and this part.
+    pub(crate) fn new(head: Bytes, payload: Bytes) -> Piece
+        requires { length head + length payload < 2 ^ 32 }
+        ensures { result ≡ record { head = head; payload = payload } }
+    {
+        Piece { head, payload }
+    }
+
+    /// Header and performative.
+    pub fn head(&self) -> &[u8]
+        ensures { result.now ≡ self.now.head }
+    {
+        self.head.as_slice()
+    }
+
+    /// The part of the payload, empty where the frame has none.
+    pub fn payload(&self) -> &Bytes
+        ensures { result.now ≡ self.now.payload }
+    {
+        &self.payload
+    }
+
+    /// The number of its bytes: at most the limit of the encoder that made it. Takes no memory.
+    pub fn len(&self) -> usize
+        ensures { result ≡ length (piece_bytes self.now) }
+    {
+        self.head.len() + self.payload.len()
+    }
+
+    /// Its bytes in one run. This copies the part of the payload: to send a piece, write its two parts.
+    pub fn to_bytes(&self, alloc: Global) -> Result<Bytes, Error>
+        ensures { JoinsBytes self.now result }
+    {
+        match joined(alloc, self.head.as_slice(), self.payload.as_slice()) {
+            Ok(bytes) => Ok(bytes),
+            Err(_) => Err(Error::OutOfMemory),
+        }
+    }
+}
+
+fn joined(alloc: Global, head: &[u8], payload: &[u8]) -> Result<Bytes, AllocError>
+    requires { length head.now + length payload.now < 2 ^ 32 }
+    ensures { IfOk result (λ b. b ≡ head.now ++ payload.now) }
+{
+    let mut out = BytesMut::with_capacity(alloc, head.len() + payload.len())?;
+    out.extend_reserved(head);
+    out.extend_reserved(payload);
+    Ok(out.freeze()?)
+}

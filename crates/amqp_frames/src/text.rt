@@ -1,0 +1,90 @@
+//! What a frame says as bytes: the text of its performative, and its payload.
+
+ghost use Rattle.std.specs.Prelude.{◌≡◌, ◌≤◌, ◌<◌, ◌+◌, ◌^◌, ◌++◌, ◌↔◌, IsTrue, IfOk, length};
+ghost use Rattle.amqp_frames.specs.Frame.{text_of, payload_of};
+
+use crate::frame::FrameBody;
+use bytes::{Bytes, BytesMut};
+use std::alloc::AllocError;
+
+impl FrameBody {
+    /// The length of the performative's text.
+    pub(crate) fn text_len(&self) -> u128
+        ensures value { result ≡ length (text_of self.now) }
+        ensures bound { result < 2 ^ 127 }
+    {
+        match self {
+            FrameBody::Attach(p) => p.encoded_len(),
+            FrameBody::Flow(p) => p.encoded_len(),
+            FrameBody::Transfer {
+                performative,
+                payload: _,
+            } => performative.encoded_len(),
+            FrameBody::Disposition(p) => p.encoded_len(),
+            FrameBody::Detach(p) => p.encoded_len(),
+            FrameBody::Begin(p) => p.encoded_len(),
+            FrameBody::End(p) => p.encoded_len(),
+            FrameBody::Open(p) => p.encoded_len(),
+            FrameBody::Close(p) => p.encoded_len(),
+            FrameBody::Empty => 0,
+        }
+    }
+
+    /// Appends the performative's text, to a buffer that has room for it.
+    pub(crate) fn put_text(&self, out: &mut BytesMut)
+        requires room { length (text_of self.now) ≤ out.old.spare }
+        requires fits { length (text_of self.now) < 2 ^ 32 }
+        ensures { out.new.items ≡ out.old.items ++ text_of self.now }
+    {
+        match self {
+            FrameBody::Attach(p) => p.put(out),
+            FrameBody::Flow(p) => p.put(out),
+            FrameBody::Transfer {
+                performative,
+                payload: _,
+            } => performative.put(out),
+            FrameBody::Disposition(p) => p.put(out),
+            FrameBody::Detach(p) => p.put(out),
+            FrameBody::Begin(p) => p.put(out),
+            FrameBody::End(p) => p.put(out),
+            FrameBody::Open(p) => p.put(out),
+            FrameBody::Close(p) => p.put(out),
+            FrameBody::Empty => {}
+        }
+    }
+
+    /// The length of the payload.
+    pub(crate) fn payload_len(&self) -> usize
+        ensures value { result ≡ length (payload_of self.now) }
+        ensures bound { result < 2 ^ 63 }
+    {
+        match self {
+            FrameBody::Transfer {
+                performative: _,
+                payload,
+            } => payload.len(),
+            _ => 0,
+        }
+    }
+
+    /// The payload, empty where there is none. It shares the frame's bytes.
+    pub(crate) fn payload(&self) -> Result<Bytes, AllocError>
+        ensures { IfOk result (λ b. b ≡ payload_of self.now) }
+    {
+        match self {
+            FrameBody::Transfer {
+                performative: _,
+                payload,
+            } => payload.clone(),
+            _ => Ok(Bytes::new()),
+        }
+    }
+
+    /// Whether text and payload have at most so many bytes.
+    pub(crate) fn is_within(&self, room: u32) -> bool
+        ensures { IsTrue result ↔ (length (text_of self.now) + length (payload_of self.now) ≤ room) }
+    {
+        let payload = self.payload_len() as u128;
+        self.text_len() + payload <= u128::from(room)
+    }
+}
