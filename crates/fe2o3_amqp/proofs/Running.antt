@@ -1,0 +1,109 @@
+-- What has been run so far, and what is said of it at the end.
+use Rattle.std.proofs.Common.{◌≡◌, ◌+◌, List, [], ◌∷◌, ◌++◌, length, refl, ap, sym, subst, ◌∙◌, arith, append_assoc, length-append, Option, Result, MatchResult}
+use Rattle.std.proofs.lemmas.Result.{MatchResult-weaker}
+use Rattle.amqp_types.specs.declared.states.ConnectionState.{ConnectionState}
+use Rattle.amqp_types.specs.Open.{OpenSaid}
+use Rattle.amqp_frames.specs.declared.frame.Frame.{Frame}
+use Rattle.fe2o3_amqp.specs.declared.engine.input.Input.{Input}
+use Rattle.fe2o3_amqp.specs.declared.engine.input.Answer.{Answer}
+use Rattle.fe2o3_amqp.specs.declared.engine.input.StepError.{StepError}
+use Rattle.fe2o3_amqp.specs.declared.engine.input.Stopped.{Stopped}
+use Rattle.fe2o3_amqp.specs.Engine.{EngineView, Entry, Steps, new_engine}
+use Rattle.fe2o3_amqp.specs.History.{Taken, Chain, LeadsTo}
+use Rattle.fe2o3_amqp.specs.Output.{PutOut, Speaks, answer_of, limit_by, limit_after}
+use Rattle.fe2o3_amqp.specs.Headline.{Headline, inputs_of, Ran}
+use Rattle.fe2o3_amqp.proofs.Outputs.{speaks_more, limit_more}
+use Rattle.fe2o3_amqp.proofs.Limits.{carried, step_limit}
+
+pub empty : {X : Type 0} → (xs : List X) → length xs ≡ 0 → xs ≡ []
+empty [] e = refl
+empty (x ∷ xs) e = absurd (omega arith)
+
+inputs_of-append : (xs ys : List Entry) → inputs_of (xs ++ ys) ≡ inputs_of xs ++ inputs_of ys
+inputs_of-append [] ys = refl
+inputs_of-append (e ∷ xs) ys = ap (λ (is' : List Input). e.input ∷ is') (inputs_of-append xs ys)
+
+Taken-none : (v : EngineView) → Taken v v
+Taken-none v = record { gone = []; left = refl; connection_is = refl; limit_is = refl }
+
+Taken-more : (u v w : EngineView) → Taken u v → Taken v w → Taken u w
+Taken-more u v w s t = record {
+  gone = s.gone ++ t.gone;
+  left = s.left ∙ ap (λ (ts : List Frame). s.gone ++ ts) t.left ∙ sym (append_assoc s.gone t.gone w.waiting);
+  connection_is = t.connection_is ∙ s.connection_is;
+  limit_is = t.limit_is ∙ s.limit_is;
+}
+
+Chain-later : (u v w : EngineView) (es : List Entry) → Taken u v → Chain v es w → Chain u es w
+Chain-later u v w [] t c = Taken-more u v w t c
+Chain-later u v w (e ∷ es) t c = (c.0, c.1, Taken-more u v c.0 t c.2, c.3, c.4)
+
+pub Chain-append : (xs ys : List Entry) (u v w : EngineView) → Chain u xs v → Chain v ys w → Chain u (xs ++ ys) w
+Chain-append [] ys u v w c d = Chain-later u v w ys c d
+Chain-append (e ∷ xs) ys u v w c d = (c.0, c.1, c.2, c.3, Chain-append xs ys c.1 v w c.4 d)
+
+-- what has been run so far
+pub record Running (v : EngineView) (inputs : List Input) (answers : List Answer) (v' : EngineView) (inputs' : List Input) (answers' : List Answer) : Type 0 where
+  pub entries : List Entry
+  pub taken : inputs ≡ inputs_of entries ++ inputs'
+  pub counted : length inputs ≡ length entries + length inputs'
+  pub chain : Chain v entries v'
+  pub limit_is : v'.limit ≡ limit_after v.limit entries
+  pub out : List Answer
+  pub appended : answers' ≡ answers ++ out
+  pub said : Speaks v.limit v.waiting entries v'.waiting out
+
+pub Running-start : (v v' : EngineView) (inputs : List Input) (answers answers' out : List Answer) → Taken v v' → answers' ≡ answers ++ out → PutOut v.limit v.waiting v'.waiting out → Running v inputs answers v' inputs answers'
+Running-start v v' inputs answers answers' out t a p = record {
+  entries = [];
+  taken = refl;
+  counted = omega arith;
+  chain = t;
+  limit_is = t.limit_is;
+  out = out;
+  appended = a;
+  said = p;
+}
+
+pub Running-more : (v v1 v2 v3 : EngineView) (inputs inputs1 inputs2 : List Input) (answers answers1 answers2 answers3 out : List Answer) (input : Input) (r : Option StepError) →
+    Running v inputs answers v1 inputs1 answers1 → v1.waiting ≡ [] → inputs1 ≡ input ∷ inputs2 →
+    Steps v1 input r v2 → answers2 ≡ answers1 ++ answer_of r ∷ [] →
+    Taken v2 v3 → answers3 ≡ answers2 ++ out → PutOut v2.limit v2.waiting v3.waiting out →
+    Running v inputs answers v3 inputs2 answers3
+Running-more v v1 v2 v3 inputs inputs1 inputs2 answers answers1 answers2 answers3 out input r g idle popped step pushed t appended put =
+    let e : Entry = record { input = input; heard = step.0; reached = step.1; refusal = r; frames = step.2 } in
+    let frames : e.frames ≡ v2.waiting = (carried v1 v2 e idle step.3).1 in
+    let limit2 : v2.limit ≡ limit_by (limit_after v.limit g.entries) e = step_limit v1 v2 e idle step.3 ∙ ap (λ k. limit_by k e) g.limit_is in
+    let put2 : PutOut (limit_by (limit_after v.limit g.entries) e) e.frames v3.waiting out =
+        subst (λ k. PutOut k e.frames v3.waiting out) limit2 (subst (λ (fs : List Frame). PutOut v2.limit fs v3.waiting out) (sym frames) put) in
+    let before : Speaks v.limit v.waiting g.entries [] g.out = subst (λ (fs : List Frame). Speaks v.limit v.waiting g.entries fs g.out) idle g.said in
+    record {
+      entries = g.entries ++ e ∷ [];
+      taken = g.taken ∙ ap (λ (xs : List Input). inputs_of g.entries ++ xs) popped ∙ sym (append_assoc (inputs_of g.entries) (input ∷ []) inputs2) ∙ ap (λ (xs : List Input). xs ++ inputs2) (sym (inputs_of-append g.entries (e ∷ [])));
+      counted = omega (arith, g.counted, length-append g.entries (e ∷ []), ap length popped);
+      chain = Chain-append g.entries (e ∷ []) v v1 v3 g.chain (v1, v2, Taken-none v1, step.3, t);
+      limit_is = t.limit_is ∙ limit2 ∙ sym (limit_more v.limit g.entries e);
+      out = g.out ++ answer_of r ∷ out;
+      appended = appended ∙ ap (λ (xs : List Answer). xs ++ out) (pushed ∙ ap (λ (xs : List Answer). xs ++ answer_of r ∷ []) g.appended)
+          ∙ append_assoc (answers ++ g.out) (answer_of r ∷ []) out ∙ append_assoc answers g.out (answer_of r ∷ out);
+      said = speaks_more v.limit v.waiting g.entries g.out e v3.waiting out before put2;
+    }
+
+abbrev pub HeadlineLaw : Type 0
+HeadlineLaw = (state : ConnectionState) (o : OpenSaid) (H : List Entry) (w : EngineView) → LeadsTo state o H w → Headline state H
+
+pub Running-Ran : (v v' : EngineView) (inputs inputs' : List Input) (answers answers' : List Answer) (result : Result (Unit {0}) Stopped) → HeadlineLaw →
+    (g : Running v inputs answers v' inputs' answers') → MatchResult result (λ _. (inputs' ≡ []) × (v'.waiting ≡ [])) (λ stopped. stopped.done + length inputs' ≡ length inputs) → Ran v inputs answers result v' inputs' answers'
+Running-Ran v v' inputs inputs' answers answers' result law g m = record {
+  entries = g.entries;
+  runs = record {
+    taken = g.taken;
+    goes_on = λ state o H l.
+        let all : LeadsTo state o (H ++ g.entries) v' = Chain-append H g.entries (new_engine state o) v v' l g.chain in
+        (all, law state o (H ++ g.entries) v' all);
+    out = g.out;
+    appended = g.appended;
+    said = g.said;
+  };
+  result_is = MatchResult-weaker result m (λ x p. p) (λ stopped p. omega (arith, p, g.counted));
+}

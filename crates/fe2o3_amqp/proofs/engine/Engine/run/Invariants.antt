@@ -1,0 +1,12 @@
+use Rattle.std.proofs.Common.{◌≡◌, [], length}
+use Rattle.fe2o3_amqp.proofs.Running.{Running}
+use Rattle.fe2o3_amqp.proofs.engine.Engine.run.Given as goal
+
+abbrev pub invariant-loop-answers : goal.invariant-loop-answers
+invariant-loop-answers l =
+    Running l.fn.self l.fn.inputs.items l.fn.answers.items l.self l.inputs.items l.answers.items
+    × (l.self.waiting ≡ [])
+    × (l.total ≡ length l.fn.inputs.items)
+
+abbrev pub decreases-loop-answers : goal.decreases-loop-answers
+decreases-loop-answers l = length l.inputs.items

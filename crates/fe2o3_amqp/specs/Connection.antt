@@ -1,0 +1,112 @@
+-- What contracts see of a connection, and what each of its calls does.
+use Rattle.std.specs.Prelude.{◌≡◌, ℕ, Option, Some, None, IsSome, Result, Ok, Err, min}
+use Rattle.std.specs.FinMap as map
+use Rattle.amqp_types.specs.declared.states.ConnectionState.{ConnectionState}
+use Rattle.amqp_types.specs.declared.states.ConnectionState.TheVariants.{Opened, CloseReceived}
+use Rattle.amqp_types.specs.Error.{ErrorSaid}
+use Rattle.amqp_types.specs.Open.{OpenSaid}
+use Rattle.amqp_types.specs.Close.{CloseSaid}
+use Rattle.amqp_session.specs.declared.stop.ConnectionStopReason.{ConnectionStopReason}
+use Rattle.amqp_frames.specs.declared.frame.Frame.{Frame}
+use Rattle.amqp_frames.specs.declared.frame.FrameBody.TheVariants as body
+use Rattle.fe2o3_amqp.specs.declared.connection.error.ConnectionStateError.{ConnectionStateError}
+use Rattle.fe2o3_amqp.specs.declared.connection.error.ConnectionStateError.TheVariants as state
+use Rattle.fe2o3_amqp.specs.declared.connection.error.ConnectionInnerError.{ConnectionInnerError}
+use Rattle.fe2o3_amqp.specs.declared.connection.error.ConnectionInnerError.TheVariants as inner
+use Rattle.fe2o3_amqp.specs.Channels.{Held}
+use Rattle.fe2o3_amqp.specs.States.{sends_open, takes_open, sends_close, sends_close_with_error, takes_close}
+
+pub record ConnectionView : Type 0 where
+  pub state : ConnectionState
+  -- why it stopped: the first reason that was recorded
+  pub stop_reason : Option ConnectionStopReason
+  -- the Open of this side
+  pub local_open : OpenSaid
+  -- the highest channel that both sides allow; that of this side until the peer's Open is accepted
+  pub channel_max : ℕ
+  -- the session of each channel that is held
+  pub held : Held
+  -- the session of each channel on which the peer began one
+  pub routes : Held
+
+abbrev pub new_connection : ConnectionState → OpenSaid → ConnectionView
+new_connection s o = record { state = s; stop_reason = None; local_open = o; channel_max = o.channel_max; held = map.empty; routes = map.empty }
+
+-- ---- stop reasons: the first one stays
+
+abbrev pub first_reason : Option ConnectionStopReason → ConnectionStopReason → Option ConnectionStopReason
+first_reason None r = Some r
+first_reason (Some old) r = Some old
+
+abbrev pub stopped : ConnectionView → ConnectionStopReason → ConnectionView
+stopped v r = record v { stop_reason = first_reason v.stop_reason r }
+
+-- ---- Open
+
+abbrev pub open_frame : OpenSaid → Frame
+open_frame o = record { channel = 0; body = body.Open o }
+
+abbrev pub SendOpenStep : ConnectionView → Result Frame ConnectionStateError → ConnectionView → Type 0
+SendOpenStep v (Ok f) w = (s : ConnectionState) × (sends_open v.state ≡ Some s) × (f ≡ open_frame v.local_open) × (w ≡ record v { state = s })
+SendOpenStep v (Err state.IllegalState) w = (sends_open v.state ≡ None) × (w ≡ v)
+SendOpenStep v (Err state.OutOfMemory) w = IsSome (sends_open v.state) × (w ≡ v)
+SendOpenStep v (Err e) w = ⊥
+
+abbrev pub IncomingOpenStep : ConnectionView → OpenSaid → Option ConnectionStateError → ConnectionView → Type 0
+IncomingOpenStep v o None w = (s : ConnectionState) × (takes_open v.state ≡ Some s) × (w ≡ record v { state = s; channel_max = min v.local_open.channel_max o.channel_max })
+IncomingOpenStep v o (Some state.IllegalState) w = (takes_open v.state ≡ None) × (w ≡ v)
+IncomingOpenStep v o (Some e) w = ⊥
+
+-- ---- Close
+
+abbrev pub close_frame : Option ErrorSaid → Frame
+close_frame error = record { channel = 0; body = body.Close (record { error = error }) }
+
+abbrev pub closes_by : Option ErrorSaid → ConnectionState → Option ConnectionState
+closes_by None s = sends_close s
+closes_by (Some e) s = sends_close_with_error s
+
+abbrev pub SendCloseStep : ConnectionView → Option ErrorSaid → Result Frame ConnectionStateError → ConnectionView → Type 0
+SendCloseStep v error (Ok f) w = (s : ConnectionState) × (closes_by error v.state ≡ Some s) × (f ≡ close_frame error) × (w ≡ record v { state = s })
+SendCloseStep v error (Err state.IllegalState) w = (closes_by error v.state ≡ None) × (w ≡ v)
+SendCloseStep v error (Err e) w = ⊥
+
+-- how the peer's Close is told: as an error, unless it answers a Close of this side and has none
+abbrev pub told : ConnectionState → Option ErrorSaid → Option ConnectionStateError
+told s (Some e) = Some (state.RemoteClosedWithError e)
+told CloseReceived None = Some state.RemoteClosed
+told s None = None
+
+abbrev pub IncomingCloseStep : ConnectionView → CloseSaid → Option ConnectionStateError → ConnectionView → Type 0
+IncomingCloseStep v c (Some state.IllegalState) w = (takes_close v.state ≡ None) × (w ≡ v)
+IncomingCloseStep v c refusal w = (s : ConnectionState) × (takes_close v.state ≡ Some s) × (refusal ≡ told s c.error) × (w ≡ record v { state = s })
+
+-- ---- routes: the session to which a frame on a channel of the peer's goes
+
+-- the connection accepts a Begin, and makes the route
+abbrev pub BeginRouteStep : ConnectionView → ℕ → Option ℕ → Result ℕ ConnectionInnerError → ConnectionView → Type 0
+BeginRouteStep v channel remote (Ok number) w = (v.state ≡ Opened) × ((c : ℕ) × (remote ≡ Some c) × (map.get v.held c ≡ Some number)) × (w ≡ record v { routes = map.insert v.routes channel number })
+BeginRouteStep v channel remote (Err inner.IllegalState) w = ¬ (v.state ≡ Opened) × (w ≡ v)
+BeginRouteStep v channel remote (Err (inner.NotImplemented text)) w = (v.state ≡ Opened) × (remote ≡ None) × (text ≡ None) × (w ≡ v)
+BeginRouteStep v channel remote (Err (inner.NotFound text)) w = (v.state ≡ Opened) × ((c : ℕ) × (remote ≡ Some c) × (map.get v.held c ≡ None)) × (text ≡ None) × (w ≡ v)
+BeginRouteStep v channel remote (Err inner.OutOfMemory) w = (v.state ≡ Opened) × ((c : ℕ) × (remote ≡ Some c) × IsSome (map.get v.held c)) × (w ≡ v)
+BeginRouteStep v channel remote (Err e) w = ⊥
+
+-- the connection accepts an End, and takes the route away
+abbrev pub EndRouteStep : ConnectionView → ℕ → Result ℕ ConnectionInnerError → ConnectionView → Type 0
+EndRouteStep v channel (Ok number) w = (v.state ≡ Opened) × (map.get v.routes channel ≡ Some number) × (w ≡ record v { routes = map.remove v.routes channel })
+EndRouteStep v channel (Err inner.IllegalState) w = ¬ (v.state ≡ Opened) × (w ≡ v)
+EndRouteStep v channel (Err (inner.NotFound text)) w = (v.state ≡ Opened) × (map.get v.routes channel ≡ None) × (text ≡ None) × (w ≡ v)
+EndRouteStep v channel (Err e) w = ⊥
+
+-- other frames go along the route, in every state
+abbrev pub RouteStep : ConnectionView → ℕ → Result ℕ ConnectionInnerError → ConnectionView → Type 0
+RouteStep v channel (Ok number) w = (map.get v.routes channel ≡ Some number) × (w ≡ v)
+RouteStep v channel (Err (inner.NotFound text)) w = (map.get v.routes channel ≡ None) × (text ≡ None) × (w ≡ v)
+RouteStep v channel (Err e) w = ⊥
+
+-- ---- what a call answered
+
+abbrev pub refusal_of : {X E : Type 0} → Result X E → Option E
+refusal_of (Ok x) = None
+refusal_of (Err e) = Some e

@@ -1,0 +1,74 @@
+-- What comes out for a history: each entry's answer, and after it the pieces of its frames, under the limit that holds then.
+use Rattle.std.specs.Prelude.{ℕ, ◌≡◌, List, [], ◌∷◌, ◌++◌, Option, Some, None, Result, Ok, Err}
+use Rattle.amqp_frames.specs.declared.frame.Frame.{Frame}
+use Rattle.amqp_frames.specs.declared.frame.FrameBody.{FrameBody}
+use Rattle.amqp_frames.specs.declared.frame.FrameBody.TheVariants as body
+use Rattle.amqp_frames.specs.Piece.{PieceParts}
+use Rattle.amqp_frames.specs.Cut.{Fits, Cut}
+use Rattle.fe2o3_amqp.specs.declared.engine.input.Answer.{Answer}
+use Rattle.fe2o3_amqp.specs.declared.engine.input.Answer.TheVariants.{Done, Refused, Out, TooLarge}
+use Rattle.fe2o3_amqp.specs.declared.engine.input.StepError.{StepError}
+use Rattle.fe2o3_amqp.specs.declared.engine.input.OutputError.{OutputError}
+use Rattle.fe2o3_amqp.specs.declared.engine.input.OutputError.TheVariants as no
+use Rattle.fe2o3_amqp.specs.Engine.{EngineView, Entry, peer_limit}
+
+-- ---- the limit: that of the last Open that was accepted
+
+abbrev pub limit_said : ℕ → FrameBody → ℕ
+limit_said limit (body.Open o) = peer_limit o
+limit_said limit b = limit
+
+abbrev pub limit_heard : ℕ → Option Frame → Option StepError → ℕ
+limit_heard limit (Some f) None = limit_said limit f.body
+limit_heard limit (Some f) (Some e) = limit
+limit_heard limit None refusal = limit
+
+abbrev pub limit_by : ℕ → Entry → ℕ
+limit_by limit e = limit_heard limit e.heard e.refusal
+
+abbrev pub limit_after : ℕ → List Entry → ℕ
+limit_after limit [] = limit
+limit_after limit (e ∷ es) = limit_after (limit_by limit e) es
+
+-- ---- answers
+
+abbrev pub answer_of : Option StepError → Answer
+answer_of None = Done
+answer_of (Some e) = Refused e
+
+-- the answer of one frame: its pieces, or the frame itself where it does not fit
+abbrev pub IsOut : ℕ → Frame → Answer → Type 0
+IsOut limit f (Out pieces) = Fits f limit × Cut f limit pieces.items
+IsOut limit f (TooLarge g) = ¬ Fits f limit × (g ≡ f)
+IsOut limit f Done = ⊥
+IsOut limit f (Refused e) = ⊥
+
+-- each frame's answer, in order
+abbrev pub IsOuts : ℕ → List Frame → List Answer → Type 0
+IsOuts limit [] outs = outs ≡ []
+IsOuts limit (f ∷ fs) outs = (a : Answer) × (rest : List Answer) × (outs ≡ a ∷ rest) × IsOut limit f a × IsOuts limit fs rest
+
+-- frames leave from the front of those that wait, and these are their answers
+pub record PutOut (limit : ℕ) (waiting waiting' : List Frame) (outs : List Answer) : Type 0 where
+  pub gone : List Frame
+  pub left : waiting ≡ gone ++ waiting'
+  pub answers : IsOuts limit gone outs
+
+-- All that waited is put out; then come the answer of the first entry and its frames, and so on. After the last entry a
+-- front of its frames is put out, and the others wait.
+abbrev pub Speaks : ℕ → List Frame → List Entry → List Frame → List Answer → Type 0
+Speaks limit waiting [] waiting' out = PutOut limit waiting waiting' out
+Speaks limit waiting (e ∷ es) waiting' out = (first : List Answer) × (rest : List Answer) × (out ≡ first ++ (answer_of e.refusal ∷ rest))
+    × IsOuts limit waiting first × Speaks (limit_by limit e) e.frames es waiting' rest
+
+-- ---- one frame at a time
+
+abbrev pub NextOutput : {X : Type 0} → (X → List PieceParts) → EngineView → Result (Option X) OutputError → EngineView → Type 0
+NextOutput view v (Ok None) w = (v.waiting ≡ []) × (w ≡ v)
+NextOutput view v (Ok (Some x)) w = (f : Frame) × (fs : List Frame) × (v.waiting ≡ f ∷ fs) × Fits f v.limit × Cut f v.limit (view x) × (w ≡ record v { waiting = fs })
+NextOutput view v (Err (no.TooLarge g)) w = (fs : List Frame) × (v.waiting ≡ g ∷ fs) × (¬ Fits g v.limit) × (w ≡ record v { waiting = fs })
+NextOutput view v (Err no.Memory) w = ¬ (v.waiting ≡ []) × (w ≡ v)
+
+abbrev pub NextAnswer : EngineView → Option Answer → EngineView → Type 0
+NextAnswer v (Some a) w = (f : Frame) × (fs : List Frame) × (v.waiting ≡ f ∷ fs) × IsOut v.limit f a × (w ≡ record v { waiting = fs })
+NextAnswer v None w = w ≡ v

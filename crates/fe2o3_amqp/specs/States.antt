@@ -1,0 +1,45 @@
+-- The states of a connection, as tables: from which state a call moves to which (AMQP 1.0 part 2, section 2.4.6).
+use Rattle.std.specs.Prelude.{Option, Some, None}
+use Rattle.amqp_types.specs.declared.states.ConnectionState.{ConnectionState}
+use Rattle.amqp_types.specs.declared.states.ConnectionState.TheVariants.{HeaderExchange, HeaderSent, OpenPipe, OpenClosePipe, OpenReceived, OpenSent, ClosePipe, Opened, CloseReceived, CloseSent, Discarding, End}
+
+-- this side sends its Open
+abbrev pub sends_open : ConnectionState → Option ConnectionState
+sends_open HeaderExchange = Some OpenSent
+sends_open OpenReceived = Some Opened
+sends_open HeaderSent = Some OpenPipe
+sends_open s = None
+
+-- the peer's Open comes
+abbrev pub takes_open : ConnectionState → Option ConnectionState
+takes_open HeaderExchange = Some OpenReceived
+takes_open OpenSent = Some Opened
+takes_open ClosePipe = Some CloseSent
+takes_open s = None
+
+-- this side sends its Close, without an error
+abbrev pub sends_close : ConnectionState → Option ConnectionState
+sends_close Opened = Some CloseSent
+sends_close OpenSent = Some ClosePipe
+sends_close OpenPipe = Some OpenClosePipe
+sends_close CloseReceived = Some End
+sends_close s = None
+
+-- this side sends its Close, with an error
+abbrev pub sends_close_with_error : ConnectionState → Option ConnectionState
+sends_close_with_error Opened = Some Discarding
+sends_close_with_error OpenSent = Some Discarding
+sends_close_with_error OpenPipe = Some Discarding
+sends_close_with_error CloseReceived = Some End
+sends_close_with_error s = None
+
+-- the peer's Close comes
+abbrev pub takes_close : ConnectionState → Option ConnectionState
+takes_close Opened = Some CloseReceived
+takes_close OpenPipe = Some CloseReceived
+takes_close OpenClosePipe = Some CloseReceived
+takes_close OpenReceived = Some CloseReceived
+takes_close OpenSent = Some CloseReceived
+takes_close CloseSent = Some End
+takes_close Discarding = Some End
+takes_close s = None

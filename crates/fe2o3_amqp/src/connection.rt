@@ -1,0 +1,97 @@
+//! The connection: its state, its Opens, its channels and the routes of received frames.
+
+ghost use Rattle.std.specs.Prelude.{◌≡◌};
+ghost use Rattle.amqp_session.specs.declared.stop.ConnectionStopReason.{ConnectionStopReason};
+ghost use Rattle.fe2o3_amqp.specs.Connection.{new_connection, stopped};
+
+mod channels;
+pub mod error;
+mod open_close;
+mod routes;
+mod routing;
+
+pub use error::{ConnectionInnerError, ConnectionStateError};
+
+use amqp_session::ConnectionStopReason;
+use amqp_types::{ConnectionState, Open};
+use channels::Channels;
+use routes::Routes;
+use std::alloc::Global;
+use std::marker::Model;
+
+/// One side of a connection (AMQP 1.0 part 2, section 2.4). It has no input and no output: received performatives are
+/// given to `on_incoming_` calls, and `send_` calls give the frame that is to be sent.
+#[derive(Drop)]
+pub struct Connection {
+    state: ConnectionState,
+    stop_reason: Option<ConnectionStopReason>,
+    local_open: Open,
+    channel_max: u16,
+    channels: Channels,
+    routes: Routes,
+}
+
+impl Model for Connection {
+    ghost use Rattle.std.specs.Coded.{codes};
+    ghost use Rattle.fe2o3_amqp.specs.Channels.{held_code};
+    ghost use Rattle.fe2o3_amqp.specs.Connection.{ConnectionView};
+
+    ghost Value = { ConnectionView };
+
+    ghost coded = { Prim.hlevel (codes, held_code) };
+
+    ghost view = { λ c. record {
+        state = c.state;
+        stop_reason = c.stop_reason;
+        local_open = c.local_open;
+        channel_max = c.channel_max;
+        held = c.channels;
+        routes = c.routes
+    } };
+}
+
+impl Connection {
+    /// A connection in this state, which is to send this Open. Nothing is held, and no stop reason is recorded.
+    pub fn new(alloc: Global, state: ConnectionState, local_open: Open) -> Connection
+        ensures { result ≡ new_connection state local_open }
+    {
+        Connection {
+            state,
+            stop_reason: None,
+            channel_max: local_open.channel_max,
+            local_open,
+            channels: Channels::new(alloc),
+            routes: Routes::new(alloc),
+        }
+    }
+
+    /// The state.
+    pub fn local_state(&self) -> &ConnectionState
+        ensures { result.now ≡ self.now.state }
+    {
+        &self.state
+    }
+
+    /// The Open that was handed to [`Connection::new`].
+    pub fn local_open(&self) -> &Open
+        ensures { result.now ≡ self.now.local_open }
+    {
+        &self.local_open
+    }
+
+    /// Why the connection stopped, where a reason is recorded.
+    pub fn connection_stop_reason(&self) -> Option<ConnectionStopReason>
+        ensures { result ≡ self.now.stop_reason }
+    {
+        self.stop_reason
+    }
+
+    /// Records why the connection stopped. The first reason stays.
+    pub fn set_connection_stop_reason(&mut self, reason: ConnectionStopReason)
+        ensures { self.new ≡ stopped self.old reason }
+    {
+        if self.stop_reason.is_none() {
+            self.stop_reason = Some(reason);
+        }
+    }
+}
