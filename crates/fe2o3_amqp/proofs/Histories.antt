@@ -31,7 +31,7 @@ Goes fs v w = Spends (opens fs) (closes fs) v.connection.state w.connection.stat
 stays : (v w : EngineView) → v.waiting ≡ [] → w.connection.state ≡ v.connection.state → w.waiting ≡ [] → Goes w.waiting v w
 stays v w idle same none =
     subst (λ (fs : List Frame). Spends (opens fs) (closes fs) v.connection.state w.connection.state) (sym none)
-        (subst (λ (s : ConnectionState). Spends 0 0 v.connection.state s) (sym same) (record { open_spent = omega arith; close_spent = omega arith }))
+    (subst (λ (s : ConnectionState). Spends 0 0 v.connection.state s) (sym same) (record { open_spent = omega arith; close_spent = omega arith }))
 
 -- what is said of the view that a step names holds of the view after it
 names : (P : EngineView → Type 0) (w x : EngineView) → w ≡ x → P x → P w
@@ -60,8 +60,8 @@ open_request v w None idle s =
     let next : ConnectionState = s.2.0 in
     let m : Spends 1 0 v.connection.state next = sends_open_spends v.connection.state next s.2.1 in
     names (λ y. Goes y.waiting v y) w (record v { connection = k; waiting = f ∷ [] }) s.3
-        (subst (λ (g : Frame). Spends (opens (g ∷ [])) (closes (g ∷ [])) v.connection.state k.state) (sym s.2.2)
-            (subst (λ (x : ConnectionView). Spends 1 0 v.connection.state x.state) (sym s.2.3) m))
+    (subst (λ (g : Frame). Spends (opens (g ∷ [])) (closes (g ∷ [])) v.connection.state k.state) (sym s.2.2)
+    (subst (λ (x : ConnectionView). Spends 1 0 v.connection.state x.state) (sym s.2.3) m))
 open_request v w (Some (no.ConnectionState e)) idle s = open_refused v w e s.0 idle s.1 s.2
 open_request v w (Some no.OutOfMemory) idle s = unchanged v w v idle s refl idle
 open_request v w (Some no.OutputWaiting) idle s = absurd s
@@ -87,8 +87,8 @@ close_request v w error None idle s =
     let next : ConnectionState = s.2.0 in
     let m : Spends 0 1 v.connection.state next = closes_by_spends error v.connection.state next s.2.1 in
     names (λ y. Goes y.waiting v y) w _ s.3
-        (subst (λ (g : Frame). Spends (opens (g ∷ [])) (closes (g ∷ [])) v.connection.state k.state) (sym s.2.2)
-            (subst (λ (x : ConnectionView). Spends 0 1 v.connection.state x.state) (sym s.2.3) m))
+    (subst (λ (g : Frame). Spends (opens (g ∷ [])) (closes (g ∷ [])) v.connection.state k.state) (sym s.2.2)
+    (subst (λ (x : ConnectionView). Spends 0 1 v.connection.state x.state) (sym s.2.3) m))
 close_request v w error (Some (no.ConnectionState e)) idle s = close_refused v w error e s.0 idle s.1 s.2
 close_request v w error (Some no.OutOfMemory) idle s = unchanged v w v idle s refl idle
 close_request v w error (Some no.OutputWaiting) idle s = absurd s
@@ -211,7 +211,7 @@ carries v w (input.Close error) h reached r idle s = close_request v w error r i
 step_goes : (v w : EngineView) (e : Entry) → Step v e w → Goes e.frames v w
 step_goes v w e (inl s) =
     subst (λ (fs : List Frame). Spends (opens fs) (closes fs) v.connection.state w.connection.state) (sym s.4)
-        (subst (λ (x : EngineView). Spends 0 0 v.connection.state x.connection.state) (sym s.5) (record { open_spent = omega arith; close_spent = omega arith }))
+    (subst (λ (x : EngineView). Spends 0 0 v.connection.state x.connection.state) (sym s.5) (record { open_spent = omega arith; close_spent = omega arith }))
 step_goes v w e (inr s) =
     subst (λ (fs : List Frame). Spends (opens fs) (closes fs) v.connection.state w.connection.state) (sym s.1) (carries v w e.input e.heard e.reached e.refusal s.0 s.2)
 

@@ -6,3 +6,4 @@ pub mod Limits
 pub mod StateTables
 pub mod Histories
 pub mod Running
+pub mod Digits

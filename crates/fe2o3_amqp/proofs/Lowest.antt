@@ -94,6 +94,7 @@ each_popped x c n next old new items items' sum perm up each d = by (nat_eq c d)
   where
     popped : occurs d items' + mark (nat_eq (x + d) 65535) ≡ occurs d items
     popped = sum_by_popped (λ y. mark (nat_eq (y + d) 65535)) x items items' perm
+
     by : (b : Bool) → nat_eq c d ≡ b → occurs d items' + held_at new d ≡ mark (nat_lt d next)
     by true p =
         let one = ap (λ b. mark b) (tested (x + d) 65535 (omega (arith, same_number c d p))) in
@@ -113,9 +114,11 @@ each_pushed x c next old new items items' sum perm was up each d = by (nat_eq c 
   where
     pushed : occurs d items' ≡ mark (nat_eq (x + d) 65535) + occurs d items
     pushed = sum_by_pushed (λ y. mark (nat_eq (y + d) 65535)) x items items' perm
+
     held_one : (o : Option ℕ) → IsSome o → mark (is_some o) ≡ 1
     held_one (Some y) s = refl
     held_one None s = search rules
+
     by : (b : Bool) → nat_eq c d ≡ b → occurs d items' + held_at new d ≡ mark (nat_lt d next)
     by true p =
         let same = same_number c d p in

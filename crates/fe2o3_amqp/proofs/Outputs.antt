@@ -31,7 +31,7 @@ put_more v u w answers answers1 answers2 a p n pushed =
     let f : Frame = n.0 in
     let same : w.waiting ≡ n.1 = ap (λ (x : EngineView). x.waiting) n.4 in
     let left : v.waiting ≡ (p.put.gone ++ f ∷ []) ++ w.waiting =
-        p.put.left ∙ ap (λ (xs : List Frame). p.put.gone ++ xs) (n.2 ∙ ap (λ (xs : List Frame). f ∷ xs) (sym same)) ∙ sym (append_assoc p.put.gone (f ∷ []) w.waiting) in
+    p.put.left ∙ ap (λ (xs : List Frame). p.put.gone ++ xs) (n.2 ∙ ap (λ (xs : List Frame). f ∷ xs) (sym same)) ∙ sym (append_assoc p.put.gone (f ∷ []) w.waiting) in
     let out : IsOut v.limit f a = subst (λ k. IsOut k f a) p.taken.limit_is n.3 in
     record {
       out = p.out ++ a ∷ [];
@@ -56,9 +56,13 @@ whole limit waiting out p = subst (λ (fs : List Frame). IsOuts limit fs out) (s
 pub speaks_more : (limit : ℕ) (waiting : List Frame) (es : List Entry) (out : List Answer) (e : Entry) (waiting' : List Frame) (out' : List Answer) →
     Speaks limit waiting es [] out → PutOut (limit_by (limit_after limit es) e) e.frames waiting' out' → Speaks limit waiting (es ++ e ∷ []) waiting' (out ++ answer_of e.refusal ∷ out')
 speaks_more limit waiting [] out e waiting' out' s p = (out, out', refl, whole limit waiting out s, p)
-speaks_more limit waiting (x ∷ es) out e waiting' out' s p =
-    (s.0, s.1 ++ answer_of e.refusal ∷ out', ap (λ (xs : List Answer). xs ++ answer_of e.refusal ∷ out') s.2 ∙ append_assoc s.0 (answer_of x.refusal ∷ s.1) (answer_of e.refusal ∷ out'), s.3,
-        speaks_more (limit_by limit x) x.frames es s.1 e waiting' out' s.4 p)
+speaks_more limit waiting (x ∷ es) out e waiting' out' s p = (
+  s.0,
+  s.1 ++ answer_of e.refusal ∷ out',
+  ap (λ (xs : List Answer). xs ++ answer_of e.refusal ∷ out') s.2 ∙ append_assoc s.0 (answer_of x.refusal ∷ s.1) (answer_of e.refusal ∷ out'),
+  s.3,
+  speaks_more (limit_by limit x) x.frames es s.1 e waiting' out' s.4 p,
+)
 
 pub limit_more : (limit : ℕ) (es : List Entry) (e : Entry) → limit_after limit (es ++ e ∷ []) ≡ limit_by (limit_after limit es) e
 limit_more limit [] e = refl

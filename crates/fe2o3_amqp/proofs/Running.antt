@@ -75,7 +75,7 @@ Running-more v v1 v2 v3 inputs inputs1 inputs2 answers answers1 answers2 answers
     let frames : e.frames ≡ v2.waiting = (carried v1 v2 e idle step.3).1 in
     let limit2 : v2.limit ≡ limit_by (limit_after v.limit g.entries) e = step_limit v1 v2 e idle step.3 ∙ ap (λ k. limit_by k e) g.limit_is in
     let put2 : PutOut (limit_by (limit_after v.limit g.entries) e) e.frames v3.waiting out =
-        subst (λ k. PutOut k e.frames v3.waiting out) limit2 (subst (λ (fs : List Frame). PutOut v2.limit fs v3.waiting out) (sym frames) put) in
+    subst (λ k. PutOut k e.frames v3.waiting out) limit2 (subst (λ (fs : List Frame). PutOut v2.limit fs v3.waiting out) (sym frames) put) in
     let before : Speaks v.limit v.waiting g.entries [] g.out = subst (λ (fs : List Frame). Speaks v.limit v.waiting g.entries fs g.out) idle g.said in
     record {
       entries = g.entries ++ e ∷ [];

@@ -6,3 +6,4 @@ pub mod Engine
 pub mod History
 pub mod Output
 pub mod Headline
+pub mod Transcript

@@ -10,11 +10,10 @@ mod open_close;
 mod routes;
 mod routing;
 
-pub use error::{ConnectionInnerError, ConnectionStateError};
-
 use amqp_session::ConnectionStopReason;
 use amqp_types::{ConnectionState, Open};
 use channels::Channels;
+pub use error::{ConnectionInnerError, ConnectionStateError};
 use routes::Routes;
 use std::alloc::Global;
 use std::marker::Model;
@@ -41,12 +40,12 @@ impl Model for Connection {
     ghost coded = { Prim.hlevel (codes, held_code) };
 
     ghost view = { λ c. record {
-        state = c.state;
-        stop_reason = c.stop_reason;
-        local_open = c.local_open;
-        channel_max = c.channel_max;
-        held = c.channels;
-        routes = c.routes
+      state = c.state;
+      stop_reason = c.stop_reason;
+      local_open = c.local_open;
+      channel_max = c.channel_max;
+      held = c.channels;
+      routes = c.routes;
     } };
 }
 

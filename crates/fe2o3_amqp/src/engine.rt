@@ -10,11 +10,10 @@ mod received;
 mod requested;
 mod run;
 
-pub use input::{Answer, Input, OutputError, StepError, Stopped};
-
 use crate::connection::Connection;
 use amqp_frames::{Frame, FrameDecoder, FrameEncoder};
 use amqp_types::{ConnectionState, Open};
+pub use input::{Answer, Input, OutputError, StepError, Stopped};
 use std::alloc::Global;
 use std::collections::VecDeque;
 use std::marker::Model;

@@ -11,5 +11,4 @@ ghost use Rattle.fe2o3_amqp.specs.Headline.{Headline};
 /// are handed out (AMQP 1.0 part 2, section 2.4).
 pub fn law_of_histories()
     ensures { (state : ConnectionState) (o : OpenSaid) (H : List Entry) (w : EngineView) → LeadsTo state o H w → Headline state H }
-{
-}
+{}

@@ -1,9 +1,24 @@
 //! AMQP 1.0 without input or output: a connection and an engine from received bytes to sent bytes.
+//!
+//! What the crates below offer is offered here too, so that a user needs this crate alone.
 #![tactic(auto)]
 
 pub mod connection;
+pub mod definitions;
 pub mod engine;
+pub mod frames;
 pub mod laws;
+pub mod transcript;
 
+pub use amqp_frames::{Frame, FrameBody, FrameDecoder, FrameEncoder, Piece};
+pub use amqp_session::{ConnectionStopReason, IncomingChannel, OutgoingChannel};
+pub use amqp_types::{
+    Attach, Begin, Close, ConnectionState, DeliveryNumber, DeliveryTag, Detach, Disposition, End,
+    Fields, Flow, Handle, Items, Open, Performative, Raw, ReadError, ReceiverSettleMode, Role,
+    SenderSettleMode, SequenceNo, SessionState, Symbol, Transfer, TransferNumber, Uint, ValueRef,
+    WriteError, is_terminal,
+};
 pub use connection::{Connection, ConnectionInnerError, ConnectionStateError};
+pub use definitions::{DEFAULT_CHANNEL_MAX, DEFAULT_MAX_FRAME_SIZE};
 pub use engine::{Answer, Engine, Input, OutputError, StepError, Stopped};
+pub use transcript::{err_name, hex_bytes, out_line, replay};

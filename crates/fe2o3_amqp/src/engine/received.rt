@@ -116,7 +116,10 @@ impl Engine {
         ensures { OpenHeard self.old «open» (refusal_of result) self.new }
     {
         let limit = limit_of(&open);
-        match self.connection.on_incoming_open(IncomingChannel(channel), open) {
+        match self
+            .connection
+            .on_incoming_open(IncomingChannel(channel), open)
+        {
             Ok(()) => {
                 self.encoder = FrameEncoder::new(limit);
                 Ok(())

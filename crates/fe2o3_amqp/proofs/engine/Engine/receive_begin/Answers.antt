@@ -7,4 +7,4 @@ use Rattle.fe2o3_amqp.proofs.engine.Engine.receive_begin.Goals as goal
 pub returns : goal.returns
 returns c =
     subst (λ (v : EngineView). (reached : Option ℕ) × Routed (BeginRouteStep v.connection c.args.channel c.args.begin.remote_channel) v reached (Some c.unreached.result) (record { connection = c.begin_route-found.new.self; limit = c.self.inside.encoder; waiting = c.self.inside.waiting.items })) c.self.view_is
-        (reached_by c.begin_route-found.result, (c.begin_route-found.result, c.begin_route-found.new.self, subst (λ (b : BeginSaid). BeginRouteStep c.self.inside.connection c.args.channel b.remote_channel c.begin_route-found.result c.begin_route-found.new.self) c.begin.view_is c.begin_route-found.ensures, refl, ap (λ e. Some e) c.unreached.ensures, refl))
+    (reached_by c.begin_route-found.result, (c.begin_route-found.result, c.begin_route-found.new.self, subst (λ (b : BeginSaid). BeginRouteStep c.self.inside.connection c.args.channel b.remote_channel c.begin_route-found.result c.begin_route-found.new.self) c.begin.view_is c.begin_route-found.ensures, refl, ap (λ e. Some e) c.unreached.ensures, refl))

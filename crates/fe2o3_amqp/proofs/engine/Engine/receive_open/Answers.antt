@@ -7,9 +7,9 @@ pub returns-in-Ok : goal.returns-in-Ok
 returns-in-Ok c =
     let limit_is = c.new-self-inside.ensures ∙ c.limit_of-limit.ensures in
     subst (λ (v : EngineView). OpenHeard v c.args.«open» None (record { connection = c.on_incoming_open.new.self; limit = c.new-self-inside.result; waiting = c.self.inside.waiting.items })) c.self.view_is
-        (c.on_incoming_open.new.self, c.in-Ok.ensures, ap (λ (n : ℕ). record { connection = c.on_incoming_open.new.self; limit = n; waiting = c.self.inside.waiting.items }) limit_is)
+    (c.on_incoming_open.new.self, c.in-Ok.ensures, ap (λ (n : ℕ). record { connection = c.on_incoming_open.new.self; limit = n; waiting = c.self.inside.waiting.items }) limit_is)
 
 pub returns-in-Err : goal.returns-in-Err
 returns-in-Err c =
     subst (λ (v : EngineView). OpenHeard v c.args.«open» (Some (ConnectionState c.in-Err.error)) (record { connection = c.on_incoming_open.new.self; limit = c.self.inside.encoder; waiting = c.self.inside.waiting.items })) c.self.view_is
-        (c.on_incoming_open.new.self, c.in-Err.ensures, refl)
+    (c.on_incoming_open.new.self, c.in-Err.ensures, refl)

@@ -8,11 +8,11 @@ pub returns-in-Ok-send_open : goal.returns-in-Ok-send_open
 returns-in-Ok-send_open c =
     let pushed = rw c.unwrap.ensures at c.push_back.ensures.items in
     let waits : c.push_back.new.self.items ≡ c.in-Ok-send_open.frame ∷ [] =
-        pushed ∙ ap (λ (xs : List Frame). xs ++ c.in-Ok-send_open.frame ∷ []) (c.reserve.ensures.items ∙ ap (λ (v : EngineView). v.waiting) c.self.view_is ∙ c.requires) in
+    pushed ∙ ap (λ (xs : List Frame). xs ++ c.in-Ok-send_open.frame ∷ []) (c.reserve.ensures.items ∙ ap (λ (v : EngineView). v.waiting) c.self.view_is ∙ c.requires) in
     subst (λ (v : EngineView). OpenRequest v None (record { connection = c.send_open.new.self; limit = c.self.inside.encoder; waiting = c.push_back.new.self.items })) c.self.view_is
-        (c.in-Ok-send_open.frame, c.send_open.new.self, c.in-Ok-send_open.ensures, ap (λ (xs : List Frame). record { connection = c.send_open.new.self; limit = c.self.inside.encoder; waiting = xs }) waits)
+    (c.in-Ok-send_open.frame, c.send_open.new.self, c.in-Ok-send_open.ensures, ap (λ (xs : List Frame). record { connection = c.send_open.new.self; limit = c.self.inside.encoder; waiting = xs }) waits)
 
 pub returns-in-Err : goal.returns-in-Err
 returns-in-Err c =
     subst (λ (v : EngineView). OpenRequest v (Some (ConnectionState c.in-Err.error)) (record { connection = c.send_open.new.self; limit = c.self.inside.encoder; waiting = c.reserve.new.self.items })) c.self.view_is
-        (c.send_open.new.self, c.in-Err.ensures, ap (λ (xs : List Frame). record { connection = c.send_open.new.self; limit = c.self.inside.encoder; waiting = xs }) c.reserve.ensures.items)
+    (c.send_open.new.self, c.in-Err.ensures, ap (λ (xs : List Frame). record { connection = c.send_open.new.self; limit = c.self.inside.encoder; waiting = xs }) c.reserve.ensures.items)

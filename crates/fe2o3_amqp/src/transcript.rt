@@ -1,0 +1,131 @@
+//! Transcripts: lines of text say what an engine is given, and lines of text say what it answers.
+
+mod line;
+mod names;
+
+use crate::definitions::{DEFAULT_CHANNEL_MAX, DEFAULT_MAX_FRAME_SIZE};
+use crate::engine::{Answer, Engine, Input};
+use amqp_types::{ConnectionState, Open};
+pub use line::{hex_bytes, out_line};
+use line::{Asked, asked_by, text_of};
+pub use names::err_name;
+use std::alloc::{AllocError, Global};
+use std::collections::VecDeque;
+use std::io::{self, BufRead, ErrorKind, Write};
+
+/// The status where all lines were read.
+const DONE: u8 = 0;
+
+/// The status where a line could not be read.
+const BAD_LINE: u8 = 2;
+
+/// The status where the input or an output failed, or memory was refused.
+const FAILED: u8 = 3;
+
+/// Runs an engine by the lines of `input`, and answers the status for the process.
+///
+/// The engine is in `HeaderExchange`; its Open has the container-id `replay`, the max-frame-size 262144, the channel-max
+/// 255 and nothing else. A line ends at a line feed. An empty line is skipped; `recv HEX` is a received frame without its
+/// size, with digits in either case; `open` and `close` ask for this side's Open and Close.
+///
+/// `output` gets `out HEX`, in lower case, for each piece, `err NAME` for each refusal, and `err TooLarge` for a frame
+/// that does not fit the peer's limit. What belongs to a line is written, and flushed, before the next line is read.
+///
+/// The status is 0 at the end of the input. At a line that says none of these, `errors` gets `bad line K`, with K
+/// from 1, and the status is 2. Where reading fails, a line that is not UTF-8 among it, or writing, or where memory is
+/// refused, it is 3. The output of earlier lines stands.
+pub fn replay<I: BufRead, O: Write, E: Write>(
+    alloc: Global,
+    input: &mut I,
+    output: &mut O,
+    errors: &mut E,
+) -> u8 {
+    match replay_lines(alloc, input, output) {
+        Ok(None) => DONE,
+        Ok(Some(number)) => bad_line(errors, number),
+        Err(_) => FAILED,
+    }
+}
+
+fn bad_line<E: Write>(errors: &mut E, number: u64) -> u8 {
+    if writeln!(errors, "bad line {number}").is_ok() && errors.flush().is_ok() {
+        BAD_LINE
+    } else {
+        FAILED
+    }
+}
+
+/// Runs the lines; the number of the first that could not be read.
+fn replay_lines<I: BufRead, O: Write>(
+    alloc: Global,
+    input: &mut I,
+    output: &mut O,
+) -> io::Result<Option<u64>> {
+    let mut engine = new_engine(alloc)?;
+    let mut line = Vec::new(alloc);
+    for number in 1..u64::MAX {
+        line.clear();
+        if input.read_until(b'\n', &mut line)? == 0 {
+            return Ok(None);
+        }
+        match asked_by(alloc, text_of(line.as_slice())?)? {
+            Asked::Nothing => {}
+            Asked::Input(input) => answer(alloc, &mut engine, input, output)?,
+            Asked::Unreadable => return Ok(Some(number)),
+        }
+    }
+    Err(io::Error::from(ErrorKind::Other))
+}
+
+fn new_engine(alloc: Global) -> Result<Engine, AllocError> {
+    let open = Open {
+        container_id: String::from_str(alloc, "replay")?,
+        hostname: None,
+        max_frame_size: DEFAULT_MAX_FRAME_SIZE,
+        channel_max: DEFAULT_CHANNEL_MAX,
+        idle_time_out: None,
+        outgoing_locales: None,
+        incoming_locales: None,
+        offered_capabilities: None,
+        desired_capabilities: None,
+        properties: None,
+    };
+    Ok(Engine::new(alloc, ConnectionState::HeaderExchange, open))
+}
+
+/// Gives the engine one input, and writes what it answers.
+fn answer<O: Write>(
+    alloc: Global,
+    engine: &mut Engine,
+    input: Input,
+    output: &mut O,
+) -> io::Result<()> {
+    let mut inputs = VecDeque::new(alloc);
+    let Ok(()) = inputs.push_back(input) else {
+        return Err(io::Error::from(ErrorKind::OutOfMemory));
+    };
+    let mut answers = Vec::new(alloc);
+    let outcome = engine.run(&mut inputs, &mut answers);
+    for answer in answers.iter() {
+        write_answer(alloc, answer, output)?;
+    }
+    output.flush()?;
+    match outcome {
+        Ok(()) => Ok(()),
+        Err(_) => Err(io::Error::from(ErrorKind::OutOfMemory)),
+    }
+}
+
+fn write_answer<O: Write>(alloc: Global, answer: &Answer, output: &mut O) -> io::Result<()> {
+    match answer {
+        Answer::Done => Ok(()),
+        Answer::Refused(error) => writeln!(output, "err {}", err_name(error)),
+        Answer::Out(pieces) => {
+            for piece in pieces.iter() {
+                writeln!(output, "{}", out_line(alloc, piece)?)?;
+            }
+            Ok(())
+        }
+        Answer::TooLarge(_) => writeln!(output, "err TooLarge"),
+    }
+}

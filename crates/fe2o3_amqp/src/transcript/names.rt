@@ -1,0 +1,60 @@
+//! The names of refusals.
+
+ghost use Rattle.std.specs.Prelude.{◌≡◌};
+ghost use Rattle.fe2o3_amqp.specs.Transcript.{name_of, frame_name, state_name, inner_name};
+
+use crate::connection::{ConnectionInnerError, ConnectionStateError};
+use crate::engine::StepError;
+use amqp_frames::Error as FrameError;
+
+/// The name of the refusal: that of its innermost variant.
+pub fn err_name(error: &StepError) -> &'static str
+    ensures { result.now ≡ name_of error.now }
+{
+    match error {
+        StepError::OutputWaiting => "OutputWaiting",
+        StepError::Frame(inner) => frame_name(inner),
+        StepError::ConnectionState(inner) => state_name(inner),
+        StepError::Connection(inner) => inner_name(inner),
+        StepError::NoSession => "NoSession",
+        StepError::OutOfMemory => "OutOfMemory",
+    }
+}
+
+fn frame_name(error: &FrameError) -> &'static str
+    ensures { result.now ≡ frame_name error.now }
+{
+    match error {
+        FrameError::Io(_) => "Io",
+        FrameError::DecodeError => "DecodeError",
+        FrameError::NotImplemented => "NotImplemented",
+        FrameError::TooLarge => "TooLarge",
+        FrameError::OutOfMemory => "OutOfMemory",
+    }
+}
+
+fn state_name(error: &ConnectionStateError) -> &'static str
+    ensures { result.now ≡ state_name error.now }
+{
+    match error {
+        ConnectionStateError::IllegalState => "IllegalState",
+        ConnectionStateError::RemoteClosed => "RemoteClosed",
+        ConnectionStateError::RemoteClosedWithError(_) => "RemoteClosedWithError",
+        ConnectionStateError::TransportError(_) => "TransportError",
+        ConnectionStateError::OutOfMemory => "OutOfMemory",
+    }
+}
+
+fn inner_name(error: &ConnectionInnerError) -> &'static str
+    ensures { result.now ≡ inner_name error.now }
+{
+    match error {
+        ConnectionInnerError::TransportError(_) => "TransportError",
+        ConnectionInnerError::IllegalState => "IllegalState",
+        ConnectionInnerError::NotImplemented(_) => "NotImplemented",
+        ConnectionInnerError::NotFound(_) => "NotFound",
+        ConnectionInnerError::RemoteClosed => "RemoteClosed",
+        ConnectionInnerError::RemoteClosedWithError(_) => "RemoteClosedWithError",
+        ConnectionInnerError::OutOfMemory => "OutOfMemory",
+    }
+}
