@@ -1,5 +1,7 @@
 //! Performatives that several tests send.
 
+ghost use Rattle.std.specs.Prelude.{◌≤◌};
+
 use amqp_frames::{Error, Frame, FrameBody, FrameEncoder, Piece};
 use amqp_types::{DeliveryTag, Handle, Transfer};
 use bytes::Bytes;
