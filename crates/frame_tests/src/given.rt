@@ -2,9 +2,9 @@
 
 ghost use Rattle.std.specs.Prelude.{◌≤◌};
 
-use amqp_frames::{Error, Frame, FrameBody, FrameEncoder, Piece};
+use amqp_frames::{Error, Frame, FrameBody, FrameDecoder, FrameEncoder, Piece};
 use amqp_types::{DeliveryTag, Handle, Transfer};
-use bytes::Bytes;
+use bytes::{Bytes, BytesMut};
 use std::alloc::Global;
 use std::test::Fail;
 
@@ -65,4 +65,28 @@ pub(crate) fn payload(alloc: Global, len: u8) -> Result<Bytes, Fail> {
         bytes.push(byte)?;
     }
     Ok(Bytes::from_vec(bytes)?)
+}
+
+/// Whether the frame is one piece with this header and this body, and that reads back as the frame.
+pub(crate) fn is_said(
+    alloc: Global,
+    frame: Frame,
+    header: [u8; 4],
+    body: &[u8],
+) -> Result<bool, Fail> {
+    let mut want = BytesMut::new(alloc);
+    want.extend_from_slice(&header)?;
+    want.extend_from_slice(body)?;
+    let pieces = FrameEncoder::new(4096).encode(alloc, &frame)?;
+    for piece in &pieces {
+        let bytes = piece.to_bytes(alloc)?;
+        if bytes.as_slice() != want.as_slice() {
+            return Ok(false);
+        }
+        let (read, rest) = FrameDecoder::new().decode(alloc, bytes)?;
+        if read != frame || !rest.is_empty() {
+            return Ok(false);
+        }
+    }
+    Ok(pieces.len() == 1)
 }

@@ -4,6 +4,8 @@
 #[cfg(test)]
 mod given;
 #[cfg(test)]
+mod links;
+#[cfg(test)]
 mod pieces;
 #[cfg(test)]
 mod plain;

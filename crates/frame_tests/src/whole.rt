@@ -1,9 +1,9 @@
 //! Frames that are whole: their bytes, and what is read from bytes.
 
-use crate::given::delivery;
-use amqp_frames::{Error, Frame, FrameBody, FrameDecoder, FrameEncoder};
+use crate::given::{delivery, is_said};
+use amqp_frames::{Error, Frame, FrameBody, FrameDecoder};
 use amqp_types::{Begin, Close, Detach, Error as Reason, Handle, Open, Symbol};
-use bytes::{Bytes, BytesMut};
+use bytes::Bytes;
 use std::alloc::Global;
 use std::test::Fail;
 
@@ -49,25 +49,6 @@ fn detach(alloc: Global) -> Result<Detach, Fail> {
         closed: true,
         error,
     })
-}
-
-/// Whether the frame is one piece with this header and this body, and that reads back as the frame.
-fn is_said(alloc: Global, frame: Frame, header: [u8; 4], body: &[u8]) -> Result<bool, Fail> {
-    let mut want = BytesMut::new(alloc);
-    want.extend_from_slice(&header)?;
-    want.extend_from_slice(body)?;
-    let pieces = FrameEncoder::new(4096).encode(alloc, &frame)?;
-    for piece in &pieces {
-        let bytes = piece.to_bytes(alloc)?;
-        if bytes.as_slice() != want.as_slice() {
-            return Ok(false);
-        }
-        let (read, rest) = FrameDecoder::new().decode(alloc, bytes)?;
-        if read != frame || !rest.is_empty() {
-            return Ok(false);
-        }
-    }
-    Ok(pieces.len() == 1)
 }
 
 #[test]
