@@ -103,7 +103,7 @@ adds_from head step start old new before after n m s e a =
 
 -- ---- the pieces of a transfer
 
-piece_len : (p : PieceParts) (channel : ℕ) (text : List ℕ) → p.head ≡ header_text channel ++ text → length (piece_bytes p) ≡ 4 + length text + length p.payload
+pub piece_len : (p : PieceParts) (channel : ℕ) (text : List ℕ) → p.head ≡ header_text channel ++ text → length (piece_bytes p) ≡ 4 + length text + length p.payload
 piece_len p channel text h =
     let a = length-append p.head p.payload in
     let b : length p.head ≡ suc (suc (suc (suc (length text)))) = ap length h in

@@ -1,3 +1,4 @@
 pub mod Decoded
 pub mod Growth
 pub mod Cutting
+pub mod RoundTripLaws

@@ -4,3 +4,4 @@ pub mod Decoding
 pub mod Piece
 pub mod Cut
 pub mod Pieces
+pub mod RoundTrip

@@ -7,6 +7,7 @@ pub mod encoder;
 pub mod error;
 pub mod frame;
 mod head;
+pub mod laws;
 pub mod piece;
 mod text;
 

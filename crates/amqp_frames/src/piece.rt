@@ -60,7 +60,7 @@ impl Piece {
     pub fn to_bytes(&self, alloc: Global) -> Result<Bytes, Error>
         ensures { JoinsBytes self.now result }
     {
-        match joined(alloc, self.head.as_slice(), self.payload.as_slice()) {
+        match joined(alloc, self.head(), self.payload.as_slice()) {
             Ok(bytes) => Ok(bytes),
             Err(_) => Err(Error::OutOfMemory),
         }

@@ -1,0 +1,80 @@
+-- What holds of the pieces of every frame: they keep the limit, carry the payload, and are read back.
+use Rattle.std.specs.Prelude.{◌≡◌, ◌<◌, ◌≤◌, ◌^◌, ◌⊎◌, ℕ, List, [], ◌∷◌, ◌++◌, length, map, All, true, Result, Ok, Err}
+use Rattle.amqp_values.specs.Reading.{joined}
+use Rattle.amqp_types.specs.declared.performatives.Performative.{Performative}
+use Rattle.amqp_types.specs.declared.performatives.Performative.TheVariants as performative
+use Rattle.amqp_types.specs.Performatives.{IsPerformative, performative_text}
+use Rattle.amqp_types.specs.Transfer.{TransferSaid}
+use Rattle.amqp_frames.specs.declared.frame.Frame.{Frame}
+use Rattle.amqp_frames.specs.declared.frame.FrameBody.{FrameBody}
+use Rattle.amqp_frames.specs.declared.frame.FrameBody.TheVariants.{Attach, Flow, Transfer, Disposition, Detach, Begin, End, Open, Close, Empty}
+use Rattle.amqp_frames.specs.declared.error.Error.{Error}
+use Rattle.amqp_frames.specs.declared.error.Error.TheVariants as no
+use Rattle.amqp_frames.specs.Frame.{IsFrame, Decodes, payload_of}
+use Rattle.amqp_frames.specs.Piece.{PieceParts, piece_bytes}
+use Rattle.amqp_frames.specs.Cut.{Cut, IsCut, Whole, continued, payload_part}
+
+-- ---- limit and payload
+
+abbrev pub KeepsLimit : Type 0
+KeepsLimit = (f : Frame) (m : ℕ) (pieces : List PieceParts) → 4 ≤ m → Cut f m pieces → All (λ p. length (piece_bytes p) ≤ m) pieces
+
+abbrev pub CarriesPayload : Type 0
+CarriesPayload = (f : Frame) (m : ℕ) (pieces : List PieceParts) → Cut f m pieces → joined (map payload_part pieces) ≡ payload_of f.body
+
+-- ---- reading back
+
+-- the performative's canonical text spells it, as that of each performative of a program does whose text is under 2 ^ 32 bytes
+abbrev pub IsSpelled : Performative → Type 0
+IsSpelled p = IsPerformative p (performative_text p)
+
+abbrev pub IsSpelledBody : FrameBody → Type 0
+IsSpelledBody (Attach p) = IsSpelled (performative.Attach p)
+IsSpelledBody (Flow p) = IsSpelled (performative.Flow p)
+IsSpelledBody (Transfer p payload) = IsSpelled (performative.Transfer p)
+IsSpelledBody (Disposition p) = IsSpelled (performative.Disposition p)
+IsSpelledBody (Detach p) = IsSpelled (performative.Detach p)
+IsSpelledBody (Begin p) = IsSpelled (performative.Begin p)
+IsSpelledBody (End p) = IsSpelled (performative.End p)
+IsSpelledBody (Open p) = IsSpelled (performative.Open p)
+IsSpelledBody (Close p) = IsSpelled (performative.Close p)
+IsSpelledBody Empty = Unit {0}
+
+-- the transfers of the pieces of one that is cut
+abbrev pub first_of : TransferSaid → TransferSaid
+first_of t = record t { more = true }
+
+abbrev pub middle_of : TransferSaid → TransferSaid
+middle_of t = record (continued t) { more = true }
+
+-- the piece is the frame of this transfer, with its part of the payload
+abbrev pub Carries : ℕ → TransferSaid → PieceParts → Type 0
+Carries channel t p = IsFrame (record { channel = channel; body = Transfer t p.payload }) (piece_bytes p) []
+
+-- each piece of a transfer that is cut is the frame of a transfer: the first, one in the middle, or the last
+pub record AreTransfers (channel : ℕ) (t : TransferSaid) (pieces : List PieceParts) : Type 0 where
+  pub first : PieceParts
+  pub middle : List PieceParts
+  pub last : PieceParts
+  pub pieces_are : pieces ≡ first ∷ middle ++ last ∷ []
+  pub first_is : Carries channel (first_of t) first
+  pub middle_are : All (Carries channel (middle_of t)) middle
+  pub last_is : Carries channel (continued t) last
+
+abbrev pub CutsAreRead : Type 0
+CutsAreRead =
+    (channel m : ℕ) (t : TransferSaid) (payload : List ℕ) (pieces : List PieceParts) → channel < 2 ^ 16
+    → IsSpelled (performative.Transfer (first_of t)) → IsSpelled (performative.Transfer (middle_of t)) → IsSpelled (performative.Transfer (continued t))
+    → IsCut channel t payload m pieces → AreTransfers channel t pieces
+
+-- what decoding answers, where the bytes are one frame and nothing more
+abbrev pub DecodesTo : Frame → List ℕ → Type 0
+DecodesTo f bytes = (r : Result (Frame × List ℕ) Error) → Decodes bytes r → (r ≡ Ok (f, [])) ⊎ (r ≡ Err no.OutOfMemory)
+
+abbrev pub FramesAreDecoded : Type 0
+FramesAreDecoded = (f : Frame) (bytes : List ℕ) → IsFrame f bytes [] → DecodesTo f bytes
+
+abbrev pub WholesAreRead : Type 0
+WholesAreRead =
+    (f : Frame) (m : ℕ) (pieces : List PieceParts) → f.channel < 2 ^ 16 → IsSpelledBody f.body → Whole f m → Cut f m pieces
+    → (p : PieceParts) × (pieces ≡ p ∷ []) × IsFrame f (piece_bytes p) [] × DecodesTo f (piece_bytes p)
