@@ -57,7 +57,15 @@ body_found n descriptor bytes p rest coded e =
                     | inr x7 ↦ elim (chosen (eqb n 0x18) _ _ _ x7.1) [
                       | inl x8 ↦ kind_found (λ q. Close q) 0x18 n IsCloseBody close_body_at close_body (λ v t h. h) descriptor bytes p rest (eqb-true n 0x18 x8.0) coded x8.1
                       | inr x8 ↦ absurd (let f = x8.1 in cc)
-      ] ] ] ] ] ] ] ] ]
+                    ]
+                  ]
+                ]
+              ]
+            ]
+          ]
+        ]
+      ]
+    ]
 
 performative_found : (bytes : List ℕ) (p : Performative) (rest : List ℕ) → performative_at bytes ≡ Some (p, rest) → (text : List ℕ) × IsPerformative p text × (bytes ≡ text ++ rest)
 unfolding performative_at
@@ -73,7 +81,7 @@ kind_again : {V : Type 0} (code : ℕ) (B : V → List (List ℕ) → Type 0) (b
 unfolding performative_at
 kind_again code B body law wrap v text rest h is =
     let read : descriptor_at (text ++ rest) ≡ Some (code, h.list ++ rest) =
-        ap (λ (t : List ℕ). descriptor_at (t ++ rest)) h.whole ∙ ap descriptor_at (append_assoc h.descriptor h.list rest) ∙ descriptor_again code h.descriptor (h.list ++ rest) h.coded in
+    ap (λ (t : List ℕ). descriptor_at (t ++ rest)) h.whole ∙ ap descriptor_at (append_assoc h.descriptor h.list rest) ∙ descriptor_again code h.descriptor (h.list ++ rest) h.coded in
     let inner : composite_at body (h.list ++ rest) ≡ Some (v, rest) = (composite_law B body law).again v h.list rest h.body in
     rw (read, is (h.list ++ rest), inner) refl
 

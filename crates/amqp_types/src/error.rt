@@ -32,9 +32,9 @@ impl Model for Error {
     ghost Value = { ErrorSaid };
 
     ghost view = { λ p. record {
-        condition = p.condition;
-        description = option_map string_bytes p.description;
-        info = p.info
+      condition = p.condition;
+      description = option_map string_bytes p.description;
+      info = p.info;
     } };
 }
 

@@ -11,13 +11,21 @@ use amqp_values::{Fields, Leaf, Raw, Symbol};
 pub(crate) fn uint_or(n: u32, default: u32) -> Leaf<'static>
     ensures { leaf_text result ≡ uint_or default n }
 {
-    if n == default { Leaf::Null } else { Leaf::Uint(n) }
+    if n == default {
+        Leaf::Null
+    } else {
+        Leaf::Uint(n)
+    }
 }
 
 pub(crate) fn ushort_or(n: u16, default: u16) -> Leaf<'static>
     ensures { leaf_text result ≡ ushort_or default n }
 {
-    if n == default { Leaf::Null } else { Leaf::Ushort(n) }
+    if n == default {
+        Leaf::Null
+    } else {
+        Leaf::Ushort(n)
+    }
 }
 
 pub(crate) fn flag(set: bool) -> Leaf<'static>

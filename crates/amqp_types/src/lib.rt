@@ -3,6 +3,8 @@
 
 pub mod definitions;
 pub mod error;
+mod known;
+pub mod laws;
 mod leaf;
 mod part;
 pub mod performatives;
