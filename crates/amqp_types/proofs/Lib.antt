@@ -1,3 +1,6 @@
 pub mod DefinitionLaws
 pub mod BodyLaws
 pub mod PerformativeLaws
+pub mod FieldCanonical
+pub mod BodyCanonical
+pub mod PerformativeCanonical

@@ -11,3 +11,4 @@ pub mod Detach
 pub mod End
 pub mod Close
 pub mod Performatives
+pub mod Held

@@ -4,6 +4,8 @@
 mod copies;
 pub mod definitions;
 pub mod error;
+mod known;
+pub mod laws;
 mod leaf;
 mod part;
 pub mod performatives;

@@ -54,7 +54,9 @@ list_found (c ∷ bytes) rest p parts e a =
         | inr y ↦ elim (chosen (eqb c 0xd0) _ _ _ y.1) [
           | inl z ↦ wide_found true c bytes rest p parts (eqb-true c 0xd0 z.0) z.1 a
           | inr z ↦ absurd (let n = z.1 in cc)
-        ] ] ]
+        ]
+      ]
+    ]
 
 list_again : (parts : List (List ℕ)) (text rest : List ℕ) → IsList parts text → (p : Parts) × (list_at (text ++ rest) ≡ Some (p, rest)) × Ahead p parts
 unfolding list_at
@@ -71,18 +73,18 @@ no_list rest = refl
 pub composite_law : {V : Type 0} (B : V → List (List ℕ) → Type 0) (body : Parts → Option (V × Parts)) → IsBody B body → IsFormat (IsComposite B) (composite_at body)
 unfolding composite_at
 composite_law B body law = record {
-    found = λ bytes v rest e.
-        let l = bind_some (list_at bytes) (λ l. body l.0 >>= λ v. Some (v.0, l.1)) (v, rest) e in
-        let b = bind_some (body l.0.0) (λ v. Some (v.0, l.0.1)) (v, rest) l.2 in
-        let s = pair_is b.0.0 v l.0.1 rest b.2 in
-        let f = law.found l.0.0 b.0.1 b.0.0 b.1 in
-        let g = list_found bytes l.0.1 l.0.0 f.0 l.1 f.2 in
-        (g.0, record { parts = f.0; body = subst (λ x. B x f.0) s.0 f.1; list = g.1 }, g.2 ∙ ap (λ (x : List ℕ). g.0 ++ x) s.1);
-    again = λ v text rest h.
-        let l = list_again h.parts text rest h.list in
-        let b = law.again l.0 v h.parts h.body l.2 in
-        rw (l.1, b.1) refl;
-    no_null = λ rest. rw (no_list rest) refl
+  found = λ bytes v rest e.
+      let l = bind_some (list_at bytes) (λ l. body l.0 >>= λ v. Some (v.0, l.1)) (v, rest) e in
+      let b = bind_some (body l.0.0) (λ v. Some (v.0, l.0.1)) (v, rest) l.2 in
+      let s = pair_is b.0.0 v l.0.1 rest b.2 in
+      let f = law.found l.0.0 b.0.1 b.0.0 b.1 in
+      let g = list_found bytes l.0.1 l.0.0 f.0 l.1 f.2 in
+      (g.0, record { parts = f.0; body = subst (λ x. B x f.0) s.0 f.1; list = g.1 }, g.2 ∙ ap (λ (x : List ℕ). g.0 ++ x) s.1);
+  again = λ v text rest h.
+      let l = list_again h.parts text rest h.list in
+      let b = law.again l.0 v h.parts h.body l.2 in
+      rw (l.1, b.1) refl;
+  no_null = λ rest. rw (no_list rest) refl;
 }
 
 -- ---- names
@@ -118,7 +120,16 @@ name_found name n e =
                       | inr x8 ↦ elim (chosen (bytes_eq name (codes "amqp:error:list")) _ _ _ x8.1) [
                         | inl x9 ↦ named 0x1d n name _ error_name x9.0 x9.1
                         | inr x9 ↦ absurd (let f = x9.1 in cc)
-      ] ] ] ] ] ] ] ] ] ]
+                      ]
+                    ]
+                  ]
+                ]
+              ]
+            ]
+          ]
+        ]
+      ]
+    ]
 
 name_again : (n : ℕ) (name : List ℕ) → IsName n name → code_of name ≡ Some n
 unfolding code_of
@@ -142,9 +153,11 @@ meaning_found wide c bytes rest n code e =
     let b = bind_some (region_at wide bytes) meaning_at (n, rest) e in
     let m = bind_some (code_of b.0.0) (λ code. Some (code, b.0.1)) (n, rest) b.2 in
     let s = pair_is m.0 n b.0.1 rest m.2 in
-    let f = region_found wide bytes b.0.0 b.0.1 b.1 in
-    (by_width wide 0xa3 0xb3 ∷ f.0 ++ b.0.0, described_by_name n b.0.0 _ (subst (λ k. IsName k b.0.0) s.0 (name_found b.0.0 m.0 m.1)) (var wide f.0 b.0.0 f.1),
-        headed c (by_width wide 0xa3 0xb3) bytes (f.0 ++ b.0.0) rest code (f.2 ∙ ap (λ (x : List ℕ). (f.0 ++ b.0.0) ++ x) s.1))
+    let f = region_found wide bytes b.0.0 b.0.1 b.1 in (
+      by_width wide 0xa3 0xb3 ∷ f.0 ++ b.0.0,
+      described_by_name n b.0.0 _ (subst (λ k. IsName k b.0.0) s.0 (name_found b.0.0 m.0 m.1)) (var wide f.0 b.0.0 f.1),
+      headed c (by_width wide 0xa3 0xb3) bytes (f.0 ++ b.0.0) rest code (f.2 ∙ ap (λ (x : List ℕ). (f.0 ++ b.0.0) ++ x) s.1),
+    )
 
 code_found : (bytes rest : List ℕ) (n : ℕ) → code_at bytes ≡ Some (n, rest) → (text : List ℕ) × IsDescriptor n (0 ∷ text) × (bytes ≡ text ++ rest)
 code_found [] rest n e = absurd cc
@@ -160,7 +173,11 @@ code_found (c ∷ bytes) rest n e =
             | inr u ↦ elim (chosen (eqb c 0xb3) _ _ _ u.1) [
               | inl v ↦ meaning_found true c bytes rest n (eqb-true c 0xb3 v.0) v.1
               | inr v ↦ absurd (let f = v.1 in cc)
-            ] ] ] ] ]
+            ]
+          ]
+        ]
+      ]
+    ]
 
 pub descriptor_found : (bytes rest : List ℕ) (n : ℕ) → descriptor_at bytes ≡ Some (n, rest) → (text : List ℕ) × IsDescriptor n text × (bytes ≡ text ++ rest)
 unfolding descriptor_at
@@ -192,18 +209,20 @@ unfolding described_at
 described_law code B body law =
     let inner = composite_law B body law in
     record {
-        found = λ bytes v rest e.
-            let d = bind_some (descriptor_at bytes) (coded_at code (composite_at body)) (v, rest) e in
-            elim (chosen (eqb d.0.0 code) _ _ _ d.2) [
-              | inl x ↦
-                  let f = descriptor_found bytes d.0.1 d.0.0 d.1 in
-                  let g = inner.found d.0.1 v rest x.1 in
-                  (f.0 ++ g.0, record { descriptor = f.0; list = g.0; coded = subst (λ n. IsDescriptor n f.0) (eqb-true d.0.0 code x.0) f.1; body = g.1; whole = refl },
-                   f.2 ∙ ap (λ (r : List ℕ). f.0 ++ r) g.2 ∙ sym (append_assoc f.0 g.0 rest))
-              | inr x ↦ absurd (let n = x.1 in cc)
-            ];
-        again = λ v text rest h.
-            let e : described_at code body (h.descriptor ++ (h.list ++ rest)) ≡ Some (v, rest) = rw (descriptor_again code h.descriptor (h.list ++ rest) h.coded, eq-eqb code code refl) (inner.again v h.list rest h.body) in
-            ap (λ (t : List ℕ). described_at code body (t ++ rest)) h.whole ∙ ap (described_at code body) (append_assoc h.descriptor h.list rest) ∙ e;
-        no_null = λ rest. rw (no_descriptor rest) refl
+      found = λ bytes v rest e.
+          let d = bind_some (descriptor_at bytes) (coded_at code (composite_at body)) (v, rest) e in
+          elim (chosen (eqb d.0.0 code) _ _ _ d.2) [
+            | inl x ↦
+                let f = descriptor_found bytes d.0.1 d.0.0 d.1 in
+                let g = inner.found d.0.1 v rest x.1 in (
+                  f.0 ++ g.0,
+                  record { descriptor = f.0; list = g.0; coded = subst (λ n. IsDescriptor n f.0) (eqb-true d.0.0 code x.0) f.1; body = g.1; whole = refl },
+                  f.2 ∙ ap (λ (r : List ℕ). f.0 ++ r) g.2 ∙ sym (append_assoc f.0 g.0 rest),
+                )
+            | inr x ↦ absurd (let n = x.1 in cc)
+          ];
+      again = λ v text rest h.
+          let e : described_at code body (h.descriptor ++ (h.list ++ rest)) ≡ Some (v, rest) = rw (descriptor_again code h.descriptor (h.list ++ rest) h.coded, eq-eqb code code refl) (inner.again v h.list rest h.body) in
+          ap (λ (t : List ℕ). described_at code body (t ++ rest)) h.whole ∙ ap (described_at code body) (append_assoc h.descriptor h.list rest) ∙ e;
+      no_null = λ rest. rw (no_descriptor rest) refl;
     }

@@ -18,3 +18,8 @@ pub mod Deeper
 pub mod Cut
 pub mod Mapped
 pub mod Final
+pub mod SlotCanonical
+pub mod NumberCanonical
+pub mod TextCanonical
+pub mod SymbolCanonical
+pub mod CompositeCanonical

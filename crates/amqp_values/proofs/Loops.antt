@@ -18,7 +18,7 @@ joined_more f xs i x lt is = ap joined (more f xs i x lt is) ∙ joined-append (
 pub room_for : {X : Type 0} (f : X → List ℕ) (xs : List X) (i : ℕ) (x : X) → i < length xs → x ≡ get_or xs i x → length (joined (map f (take i xs))) + length (f x) ≤ length (joined (map f xs))
 room_for f xs i x lt is =
     let whole : joined (map f xs) ≡ joined (map f (take (i + 1) xs)) ++ joined (map f (drop (i + 1) xs)) =
-        ap (λ ys. joined (map f ys)) (sym (take-append-drop (i + 1) xs)) ∙ ap joined (map-append f (take (i + 1) xs) (drop (i + 1) xs)) ∙ joined-append (map f (take (i + 1) xs)) (map f (drop (i + 1) xs)) in
+    ap (λ ys. joined (map f ys)) (sym (take-append-drop (i + 1) xs)) ∙ ap joined (map-append f (take (i + 1) xs) (drop (i + 1) xs)) ∙ joined-append (map f (take (i + 1) xs)) (map f (drop (i + 1) xs)) in
     let a = ap length whole ∙ length-append (joined (map f (take (i + 1) xs))) (joined (map f (drop (i + 1) xs))) in
     let b = ap length (joined_more f xs i x lt is) ∙ length-append (joined (map f (take i xs))) (f x) in
     omega (arith, a, b)
@@ -48,7 +48,7 @@ length_keep p [] = go (is_null p)
     go false = omega arith
 length_keep p (t ∷ ts) = omega arith
 
-length_trim : (xs : List (List ℕ)) → length (trim xs) ≤ length xs
+pub length_trim : (xs : List (List ℕ)) → length (trim xs) ≤ length xs
 length_trim [] = omega arith
 length_trim (x ∷ xs) = omega (arith, length_keep x (trim xs), length_trim xs)
 

@@ -42,7 +42,9 @@ uint_found (c ∷ bytes) v rest e =
         | inr b ↦ elim (chosen (eqb c 0x70) _ _ _ b.1) [
           | inl d ↦ let k = eqb-true c 0x70 d.0 in let f = number_found w32 bytes v rest d.1 in (0x70 ∷ f.0, subst (λ n. IsUint n (0x70 ∷ f.0)) (sym f.2) (uint f.0 f.1), headed c 0x70 bytes f.0 rest k f.3)
           | inr d ↦ absurd (let n = d.1 in cc)
-        ] ] ]
+        ]
+      ]
+    ]
 
 uint_again : (v : ℕ) (text rest : List ℕ) → IsUint v text → uint_at (text ++ rest) ≡ Some (v, rest)
 unfolding uint_at
@@ -79,7 +81,8 @@ flag_found (c ∷ bytes) v rest e =
       | inr x ↦ elim (chosen (eqb c 1) _ _ _ x.1) [
         | inl y ↦ let s = pair_is true v bytes rest y.1 in (1 ∷ [], subst (λ b. IsBoolean b (0x56 ∷ 1 ∷ [])) s.0 byte_true, headed c 1 bytes [] rest (eqb-true c 1 y.0) s.1)
         | inr y ↦ absurd (let n = y.1 in cc)
-      ] ]
+      ]
+    ]
 
 boolean_found : (bytes : List ℕ) (v : Bool) (rest : List ℕ) → boolean_at bytes ≡ Some (v, rest) → (text : List ℕ) × IsBoolean v text × (bytes ≡ text ++ rest)
 unfolding boolean_at
@@ -92,7 +95,9 @@ boolean_found (c ∷ bytes) v rest e =
         | inr y ↦ elim (chosen (eqb c 0x56) _ _ _ y.1) [
           | inl z ↦ let f = flag_found bytes v rest z.1 in (0x56 ∷ f.0, f.1, headed c 0x56 bytes f.0 rest (eqb-true c 0x56 z.0) f.2)
           | inr z ↦ absurd (let n = z.1 in cc)
-        ] ] ]
+        ]
+      ]
+    ]
 
 boolean_again : (v : Bool) (text rest : List ℕ) → IsBoolean v text → boolean_at (text ++ rest) ≡ Some (v, rest)
 unfolding boolean_at
@@ -116,7 +121,9 @@ ulong_found (c ∷ bytes) v rest e =
         | inr b ↦ elim (chosen (eqb c 0x80) _ _ _ b.1) [
           | inl d ↦ let k = eqb-true c 0x80 d.0 in let f = number_found w64 bytes v rest d.1 in (0x80 ∷ f.0, subst (λ n. IsUlong n (0x80 ∷ f.0)) (sym f.2) (ulong f.0 f.1), headed c 0x80 bytes f.0 rest k f.3)
           | inr d ↦ absurd (let n = d.1 in cc)
-        ] ] ]
+        ]
+      ]
+    ]
 
 ulong_again : (v : ℕ) (text rest : List ℕ) → IsUlong v text → ulong_at (text ++ rest) ≡ Some (v, rest)
 unfolding ulong_at
@@ -127,7 +134,6 @@ ulong_again _ _ rest (ulong bytes len) = number_again w64 bytes rest len
 pub ulong_format : IsFormat IsUlong ulong_at
 unfolding ulong_at
 ulong_format = record { found = ulong_found; again = ulong_again; no_null = λ rest. refl }
-
 
 ubyte_found : (bytes : List ℕ) (v : ℕ) (rest : List ℕ) → ubyte_at bytes ≡ Some (v, rest) → (text : List ℕ) × IsUbyte v text × (bytes ≡ text ++ rest)
 unfolding ubyte_at
@@ -187,5 +193,5 @@ pub region_again : (wide : Bool) (size inner rest : List ℕ) → IsNumber wide 
 unfolding region_at
 region_again wide size inner rest h =
     ap (λ (x : List ℕ). count_at wide x >>= λ n. cut_at n.0 n.1) (append_assoc size inner rest)
-        ∙ ap (λ (x : Option (ℕ × List ℕ)). x >>= λ n. cut_at n.0 n.1) (count_again wide size (length inner) (inner ++ rest) h)
-        ∙ cut_again (length inner) inner rest refl
+    ∙ ap (λ (x : Option (ℕ × List ℕ)). x >>= λ n. cut_at n.0 n.1) (count_again wide size (length inner) (inner ++ rest) h)
+    ∙ cut_again (length inner) inner rest refl

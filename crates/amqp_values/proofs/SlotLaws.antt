@@ -60,7 +60,7 @@ opt_some at p q v e l h =
 -- what a reading of an optional slot can have been
 opt_cases : {V : Type 0} (at : List ℕ → Option (V × List ℕ)) (p q : Parts) (v : Option V) → optional_at at p ≡ Some (v, q)
     → ((p.left ≡ 0) × (v ≡ None) × (q ≡ p)) ⊎ (((p.left ≡ suc q.left) × (v ≡ None) × (p.bytes ≡ null ++ q.bytes))
-      ⊎ ((p.left ≡ suc q.left) × (x : V) × (v ≡ Some x) × (at p.bytes ≡ Some (x, q.bytes))))
+    ⊎ ((p.left ≡ suc q.left) × (x : V) × (v ≡ Some x) × (at p.bytes ≡ Some (x, q.bytes))))
 unfolding optional_at
 opt_cases {V} at p q v e =
     elim (eqb_tells p.left 0) [
@@ -115,10 +115,10 @@ needed_is (None, p) v q e = absurd cc
 pub required_law : {V : Type 0} (Is : V → List ℕ → Type 0) (at : List ℕ → Option (V × List ℕ)) → IsFormat Is at → IsSlot Is (required_at at)
 unfolding required_at
 required_law Is at law = record {
-    found = λ p q v e.
-        let b = bind_some (optional_at at p) needed (v, q) e in
-        opt_found Is at law p q (Some v) (b.1 ∙ ap (λ x. Some x) (needed_is b.0 v q b.2));
-    again = λ p q v part h s. rw (opt_again Is at law p q (Some v) part h s) refl
+  found = λ p q v e.
+      let b = bind_some (optional_at at p) needed (v, q) e in
+      opt_found Is at law p q (Some v) (b.1 ∙ ap (λ x. Some x) (needed_is b.0 v q b.2));
+  again = λ p q v part h s. rw (opt_again Is at law p q (Some v) part h s) refl;
 }
 
 default_found : {V : Type 0} (d : V) (Is : V → List ℕ → Type 0) (at : List ℕ → Option (V × List ℕ)) → IsFormat Is at
@@ -135,12 +135,12 @@ default_again d Is at law p q v part (inr h) s = rw (opt_again Is at law p q (So
 pub default_law : {V : Type 0} (d : V) (Is : V → List ℕ → Type 0) (at : List ℕ → Option (V × List ℕ)) → IsFormat Is at → IsSlot (OrDefault d Is) (default_at d at)
 unfolding default_at
 default_law {V} d Is at law = record {
-    found = λ p q v e.
-        let b = bind_some (optional_at at p) (λ x. Some (defaulted d x.0, x.1)) (v, q) e in
-        let same : (defaulted d b.0.0, b.0.1) ≡ (v, q) = cc in
-        subst (λ (y : V × Parts). (part : List ℕ) × OrDefault d Is y.0 part × Step p part y.1) same
-            (default_found d Is at law p b.0.1 b.0.0 b.1);
-    again = default_again d Is at law
+  found = λ p q v e.
+      let b = bind_some (optional_at at p) (λ x. Some (defaulted d x.0, x.1)) (v, q) e in
+      let same : (defaulted d b.0.0, b.0.1) ≡ (v, q) = cc in
+      subst (λ (y : V × Parts). (part : List ℕ) × OrDefault d Is y.0 part × Step p part y.1) same
+      (default_found d Is at law p b.0.1 b.0.0 b.1);
+  again = default_again d Is at law;
 }
 
 -- ---- all slots
@@ -167,19 +167,19 @@ then_again P B v w p (part ∷ parts) h a =
 pub then_law : {V W : Type 0} (P : V → List ℕ → Type 0) (B : W → List (List ℕ) → Type 0) (first : Parts → Option (V × Parts)) (others : Parts → Option (W × Parts))
     → IsSlot P first → IsBody B others → IsBody (λ (x : V × W). Slot (P x.0) (B x.1)) (then_at first others)
 then_law {V} {W} P B first others slot body = record {
-    found = λ p q v e.
-        let b = bind_some (first p) (λ x. others x.1 >>= λ y. Some ((x.0, y.0), y.1)) (v, q) e in
-        let c = bind_some (others b.0.1) (λ y. Some ((b.0.0, y.0), y.1)) (v, q) b.2 in
-        let same : ((b.0.0, c.0.0), c.0.1) ≡ (v, q) = cc in
-        let f = slot.found p b.0.1 b.0.0 b.1 in
-        let g = body.found b.0.1 c.0.1 c.0.0 c.1 in
-        subst (λ (y : (V × W) × Parts). (all : List (List ℕ)) × Slot (P y.0.0) (B y.0.1) all × Ahead p all) same
-            (then_found P B b.0.0 c.0.0 p b.0.1 f.0 g.0 f.1 f.2 g.1 g.2);
-    again = λ p v all h a.
-        let t = then_again P B v.0 v.1 p all h a in
-        let e = slot.again p t.0 v.0 t.1 t.3 t.4 in
-        let r = body.again t.0 v.1 t.2 t.5 t.6 in
-        (r.0, rw (e, r.1) refl)
+  found = λ p q v e.
+      let b = bind_some (first p) (λ x. others x.1 >>= λ y. Some ((x.0, y.0), y.1)) (v, q) e in
+      let c = bind_some (others b.0.1) (λ y. Some ((b.0.0, y.0), y.1)) (v, q) b.2 in
+      let same : ((b.0.0, c.0.0), c.0.1) ≡ (v, q) = cc in
+      let f = slot.found p b.0.1 b.0.0 b.1 in
+      let g = body.found b.0.1 c.0.1 c.0.0 c.1 in
+      subst (λ (y : (V × W) × Parts). (all : List (List ℕ)) × Slot (P y.0.0) (B y.0.1) all × Ahead p all) same
+      (then_found P B b.0.0 c.0.0 p b.0.1 f.0 g.0 f.1 f.2 g.1 g.2);
+  again = λ p v all h a.
+      let t = then_again P B v.0 v.1 p all h a in
+      let e = slot.again p t.0 v.0 t.1 t.3 t.4 in
+      let r = body.again t.0 v.1 t.2 t.5 t.6 in
+      (r.0, rw (e, r.1) refl);
 }
 
 empty_is : (bytes : List ℕ) → is_empty bytes ≡ true → bytes ≡ []
@@ -191,9 +191,9 @@ unfolding end_at
 end_found p q e =
     elim (eqb_tells p.left 0) [
       | inl t ↦ let e2 = rw t.0 at e in elim (chosen (is_empty p.bytes) _ _ _ e2) [
-          | inl w ↦ ([], refl, record { count = t.1; bytes = empty_is p.bytes w.0 })
-          | inr w ↦ absurd (let n = w.1 in cc)
-        ]
+        | inl w ↦ ([], refl, record { count = t.1; bytes = empty_is p.bytes w.0 })
+        | inr w ↦ absurd (let n = w.1 in cc)
+      ]
       | inr t ↦ let e2 : None ≡ Some (tt {0}, q) = rw t.0 at e in absurd cc
     ]
 
@@ -212,12 +212,12 @@ end_law = record { found = λ p q v e. end_found p q e; again = λ p v parts h a
 pub named_law : {V W : Type 0} (B : V → List (List ℕ) → Type 0) (at : Parts → Option (V × Parts)) (name : V → W) (fields : W → V)
     → ((v : V) → fields (name v) ≡ v) → ((w : W) → name (fields w) ≡ w) → IsBody B at → IsBody (λ w. B (fields w)) (named_at name at)
 named_law {V} {W} B at name fields back forth law = record {
-    found = λ p q w e.
-        let b = bind_some (at p) (λ x. Some (name x.0, x.1)) (w, q) e in
-        let s = pair_is (name b.0.0) w b.0.1 q b.2 in
-        let f = law.found p b.0.1 b.0.0 b.1 in
-        (f.0, subst (λ (v : V). B v f.0) (sym (back b.0.0) ∙ ap fields s.0) f.1, f.2);
-    again = λ p w parts h a.
-        let r = law.again p (fields w) parts h a in
-        (r.0, rw (r.1, forth w) refl)
+  found = λ p q w e.
+      let b = bind_some (at p) (λ x. Some (name x.0, x.1)) (w, q) e in
+      let s = pair_is (name b.0.0) w b.0.1 q b.2 in
+      let f = law.found p b.0.1 b.0.0 b.1 in
+      (f.0, subst (λ (v : V). B v f.0) (sym (back b.0.0) ∙ ap fields s.0) f.1, f.2);
+  again = λ p w parts h a.
+      let r = law.again p (fields w) parts h a in
+      (r.0, rw (r.1, forth w) refl);
 }

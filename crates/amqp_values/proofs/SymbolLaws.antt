@@ -20,9 +20,12 @@ item_found long bytes s rest e =
     elim (chosen (is_ascii b.0.0) _ _ _ b.2) [
       | inl t ↦
           let p = pair_is b.0.0 s b.0.1 rest t.1 in
-          let f = region_found long bytes b.0.0 b.0.1 b.1 in
-          (f.0, subst (λ (x : List ℕ). IsNumber long f.0 (length x)) p.0 f.1, ap is_ascii (sym p.0) ∙ t.0,
-              f.2 ∙ ap (λ (x : List ℕ). (f.0 ++ x) ++ b.0.1) p.0 ∙ ap (λ (x : List ℕ). (f.0 ++ s) ++ x) p.1)
+          let f = region_found long bytes b.0.0 b.0.1 b.1 in (
+            f.0,
+            subst (λ (x : List ℕ). IsNumber long f.0 (length x)) p.0 f.1,
+            ap is_ascii (sym p.0) ∙ t.0,
+            f.2 ∙ ap (λ (x : List ℕ). (f.0 ++ x) ++ b.0.1) p.0 ∙ ap (λ (x : List ℕ). (f.0 ++ s) ++ x) p.1,
+          )
       | inr t ↦ absurd (let n = t.1 in cc)
     ]
 
@@ -33,11 +36,11 @@ item_again long len s rest h a = rw (region_again long len s rest h, a) refl
 run_found : (n : ℕ) (long : Bool) (bytes : List ℕ) (items : List (List ℕ)) → run_at n long bytes ≡ Some items → IsRun long items bytes × (length items ≡ n)
 unfolding run_at
 run_found zero long bytes items e = elim (chosen (is_empty bytes) _ _ _ e) [
-    | inl t ↦
-        let none : [] ≡ items = some_is [] items t.1 in
-        (subst (λ (x : List ℕ). IsRun long items x) (sym (nothing_is bytes t.0)) (subst (λ (x : List (List ℕ)). IsRun long x []) none no_symbols), ap length (sym none))
-    | inr t ↦ absurd (let n = t.1 in cc)
-  ]
+  | inl t ↦
+      let none : [] ≡ items = some_is [] items t.1 in
+      (subst (λ (x : List ℕ). IsRun long items x) (sym (nothing_is bytes t.0)) (subst (λ (x : List (List ℕ)). IsRun long x []) none no_symbols), ap length (sym none))
+  | inr t ↦ absurd (let n = t.1 in cc)
+]
 run_found (suc n) long bytes items e =
     let x = bind_some (item_at long bytes) (λ x. run_at n long x.1 >>= λ others. Some (x.0 ∷ others)) items e in
     let o = bind_some (run_at n long x.0.1) (λ others. Some (x.0.0 ∷ others)) items x.2 in
@@ -59,15 +62,16 @@ pub data IsAll : List (List ℕ) → List ℕ → Type 0 where
 all_found : (n : ℕ) (bytes : List ℕ) (items : List (List ℕ)) → all_at n bytes ≡ Some items → IsAll items bytes × (length items ≡ n)
 unfolding all_at
 all_found n [] items e = elim (chosen (eqb n 0) _ _ _ e) [
-    | inl t ↦ let none : [] ≡ items = some_is [] items t.1 in (subst (λ (x : List (List ℕ)). IsAll x []) none without, ap length (sym none) ∙ sym (eqb-true n 0 t.0))
-    | inr t ↦ absurd (let n = t.1 in cc)
-  ]
+  | inl t ↦ let none : [] ≡ items = some_is [] items t.1 in (subst (λ (x : List (List ℕ)). IsAll x []) none without, ap length (sym none) ∙ sym (eqb-true n 0 t.0))
+  | inr t ↦ absurd (let n = t.1 in cc)
+]
 all_found n (c ∷ bytes) items e = elim (chosen (eqb c 0xa3) _ _ _ e) [
-    | inl t ↦ let r = run_found n false bytes items t.1 in (subst (λ d. IsAll items (d ∷ bytes)) (sym (eqb-true c 0xa3 t.0)) (with_constructor false items bytes r.0), r.1)
-    | inr t ↦ elim (chosen (eqb c 0xb3) _ _ _ t.1) [
-      | inl u ↦ let r = run_found n true bytes items u.1 in (subst (λ d. IsAll items (d ∷ bytes)) (sym (eqb-true c 0xb3 u.0)) (with_constructor true items bytes r.0), r.1)
-      | inr u ↦ absurd (let n = u.1 in cc)
-    ] ]
+  | inl t ↦ let r = run_found n false bytes items t.1 in (subst (λ d. IsAll items (d ∷ bytes)) (sym (eqb-true c 0xa3 t.0)) (with_constructor false items bytes r.0), r.1)
+  | inr t ↦ elim (chosen (eqb c 0xb3) _ _ _ t.1) [
+    | inl u ↦ let r = run_found n true bytes items u.1 in (subst (λ d. IsAll items (d ∷ bytes)) (sym (eqb-true c 0xb3 u.0)) (with_constructor true items bytes r.0), r.1)
+    | inr u ↦ absurd (let n = u.1 in cc)
+  ]
+]
 
 all_again : (items : List (List ℕ)) (bytes : List ℕ) → IsAll items bytes → all_at (length items) bytes ≡ Some items
 unfolding all_at
@@ -120,15 +124,18 @@ symbols_found : (bytes : List ℕ) (v : List (List ℕ)) (rest : List ℕ) → s
 unfolding symbols_at
 symbols_found [] v rest e = absurd cc
 symbols_found (c ∷ bytes) v rest e = elim (chosen (eqb c 0xa3) _ _ _ e) [
-    | inl t ↦ let f = alone_found false bytes v rest t.1 in (0xa3 ∷ f.0, f.1, headed c 0xa3 bytes f.0 rest (eqb-true c 0xa3 t.0) f.2)
-    | inr t ↦ elim (chosen (eqb c 0xb3) _ _ _ t.1) [
-      | inl u ↦ let f = alone_found true bytes v rest u.1 in (0xb3 ∷ f.0, f.1, headed c 0xb3 bytes f.0 rest (eqb-true c 0xb3 u.0) f.2)
-      | inr u ↦ elim (chosen (eqb c 0xe0) _ _ _ u.1) [
-        | inl w ↦ let f = array_found false bytes v rest w.1 in (0xe0 ∷ f.0, f.1, headed c 0xe0 bytes f.0 rest (eqb-true c 0xe0 w.0) f.2)
-        | inr w ↦ elim (chosen (eqb c 0xf0) _ _ _ w.1) [
-          | inl z ↦ let f = array_found true bytes v rest z.1 in (0xf0 ∷ f.0, f.1, headed c 0xf0 bytes f.0 rest (eqb-true c 0xf0 z.0) f.2)
-          | inr z ↦ absurd (let n = z.1 in cc)
-        ] ] ] ]
+  | inl t ↦ let f = alone_found false bytes v rest t.1 in (0xa3 ∷ f.0, f.1, headed c 0xa3 bytes f.0 rest (eqb-true c 0xa3 t.0) f.2)
+  | inr t ↦ elim (chosen (eqb c 0xb3) _ _ _ t.1) [
+    | inl u ↦ let f = alone_found true bytes v rest u.1 in (0xb3 ∷ f.0, f.1, headed c 0xb3 bytes f.0 rest (eqb-true c 0xb3 u.0) f.2)
+    | inr u ↦ elim (chosen (eqb c 0xe0) _ _ _ u.1) [
+      | inl w ↦ let f = array_found false bytes v rest w.1 in (0xe0 ∷ f.0, f.1, headed c 0xe0 bytes f.0 rest (eqb-true c 0xe0 w.0) f.2)
+      | inr w ↦ elim (chosen (eqb c 0xf0) _ _ _ w.1) [
+        | inl z ↦ let f = array_found true bytes v rest z.1 in (0xf0 ∷ f.0, f.1, headed c 0xf0 bytes f.0 rest (eqb-true c 0xf0 z.0) f.2)
+        | inr z ↦ absurd (let n = z.1 in cc)
+      ]
+    ]
+  ]
+]
 
 symbols_again : (v : List (List ℕ)) (text rest : List ℕ) → IsSymbols v text → symbols_at (text ++ rest) ≡ Some (v, rest)
 unfolding symbols_at

@@ -10,7 +10,7 @@ use Rattle.amqp_values.specs.Text.{by_width, IsVar}
 pub data IsList : List (List ℕ) → List ℕ → Type 0 where
   list0 : IsList [] (0x45 ∷ [])
   list : (wide : Bool) (size count : List ℕ) (parts : List (List ℕ)) → IsNumber wide size (length (count ++ joined parts)) → IsNumber wide count (length parts)
-    → IsList parts (by_width wide 0xc0 0xd0 ∷ size ++ (count ++ joined parts))
+      → IsList parts (by_width wide 0xc0 0xd0 ∷ size ++ (count ++ joined parts))
 
 -- a list with this body
 pub record IsComposite {V : Type 0} (B : V → List (List ℕ) → Type 0) (v : V) (text : List ℕ) : Type 0 where

@@ -12,3 +12,4 @@ pub mod Grammar
 pub mod Raw
 pub mod Parts
 pub mod Outcome
+pub mod Held

@@ -7,14 +7,14 @@ use Rattle.amqp_values.specs.Text.{by_width, is_ascii}
 pub data IsRun (long : Bool) : List (List ℕ) → List ℕ → Type 0 where
   no_symbols : IsRun long [] []
   more_symbols : (len s : List ℕ) (others : List (List ℕ)) (text : List ℕ) → IsNumber long len (length s) → is_ascii s ≡ true → IsRun long others text
-    → IsRun long (s ∷ others) ((len ++ s) ++ text)
+      → IsRun long (s ∷ others) ((len ++ s) ++ text)
 
 -- one symbol, an array of symbols, or an array of none that ends behind its count
 pub data IsSymbols : List (List ℕ) → List ℕ → Type 0 where
   one_symbol : (long : Bool) (len s : List ℕ) → IsNumber long len (length s) → is_ascii s ≡ true → IsSymbols (s ∷ []) (by_width long 0xa3 0xb3 ∷ len ++ s)
   array : (wide long : Bool) (size count : List ℕ) (items : List (List ℕ)) (text : List ℕ)
-    → IsNumber wide size (length (count ++ by_width long 0xa3 0xb3 ∷ text)) → IsNumber wide count (length items)
-    → IsRun long items text → IsSymbols items (by_width wide 0xe0 0xf0 ∷ size ++ (count ++ by_width long 0xa3 0xb3 ∷ text))
+      → IsNumber wide size (length (count ++ by_width long 0xa3 0xb3 ∷ text)) → IsNumber wide count (length items)
+      → IsRun long items text → IsSymbols items (by_width wide 0xe0 0xf0 ∷ size ++ (count ++ by_width long 0xa3 0xb3 ∷ text))
   bare : (wide : Bool) (size count : List ℕ) → IsNumber wide size (length count) → IsNumber wide count 0 → IsSymbols [] (by_width wide 0xe0 0xf0 ∷ size ++ count)
 
 -- ---- their readers

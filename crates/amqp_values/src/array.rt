@@ -74,7 +74,11 @@ pub(crate) fn symbols_len(items: &[Symbol]) -> u128
     ensures small { result ≤ 2 ^ 99 }
 {
     let layout = layout_of(items);
-    if layout.wide { layout.body + 9 } else { layout.body + 3 }
+    if layout.wide {
+        layout.body + 9
+    } else {
+        layout.body + 3
+    }
 }
 
 fn put_number(out: &mut BytesMut, wide: bool, n: u32)
@@ -123,9 +127,17 @@ pub(crate) fn put_symbols(out: &mut BytesMut, items: &[Symbol])
     let layout = layout_of(items);
     let count = items.len() as u32;
     let head = if layout.wide { 4 } else { 1 };
-    out.extend_reserved(&[if layout.wide { codes::ARRAY32 } else { codes::ARRAY8 }]);
+    out.extend_reserved(&[if layout.wide {
+        codes::ARRAY32
+    } else {
+        codes::ARRAY8
+    }]);
     put_number(out, layout.wide, layout.body as u32 + head);
     put_number(out, layout.wide, count);
-    out.extend_reserved(&[if layout.long { codes::SYMBOL32 } else { codes::SYMBOL8 }]);
+    out.extend_reserved(&[if layout.long {
+        codes::SYMBOL32
+    } else {
+        codes::SYMBOL8
+    }]);
     put_run(out, layout.long, items);
 }

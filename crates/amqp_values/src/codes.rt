@@ -1,26 +1,49 @@
 //! Constructor bytes: what stands before a value's data (AMQP 1.0 part 1, section 1.6).
 
 pub const DESCRIBED: u8 = 0x00;
+
 pub const NULL: u8 = 0x40;
+
 pub const TRUE: u8 = 0x41;
+
 pub const FALSE: u8 = 0x42;
+
 pub const UINT0: u8 = 0x43;
+
 pub const ULONG0: u8 = 0x44;
+
 pub const LIST0: u8 = 0x45;
+
 pub const UBYTE: u8 = 0x50;
+
 pub const SMALL_UINT: u8 = 0x52;
+
 pub const SMALL_ULONG: u8 = 0x53;
+
 pub const BOOLEAN: u8 = 0x56;
+
 pub const USHORT: u8 = 0x60;
+
 pub const UINT: u8 = 0x70;
+
 pub const ULONG: u8 = 0x80;
+
 pub const BINARY8: u8 = 0xa0;
+
 pub const STRING8: u8 = 0xa1;
+
 pub const SYMBOL8: u8 = 0xa3;
+
 pub const BINARY32: u8 = 0xb0;
+
 pub const STRING32: u8 = 0xb1;
+
 pub const SYMBOL32: u8 = 0xb3;
+
 pub const LIST8: u8 = 0xc0;
+
 pub const LIST32: u8 = 0xd0;
+
 pub const ARRAY8: u8 = 0xe0;
+
 pub const ARRAY32: u8 = 0xf0;

@@ -36,7 +36,11 @@ fn run(alloc: Global, count: u32, long: bool, bytes: Bytes) -> Result<Vec<Symbol
             return Err(ReadError::OutOfMemory);
         };
     }
-    if rest.is_empty() { Ok(items) } else { Err(ReadError::Malformed) }
+    if rest.is_empty() {
+        Ok(items)
+    } else {
+        Err(ReadError::Malformed)
+    }
 }
 
 /// The region of an array behind its count.
@@ -46,7 +50,11 @@ fn all(alloc: Global, count: u32, bytes: Bytes) -> Result<Vec<Symbol>, ReadError
 {
     let mut bytes = bytes;
     if bytes.is_empty() {
-        return if count == 0 { Ok(Vec::new(alloc)) } else { Err(ReadError::Malformed) };
+        return if count == 0 {
+            Ok(Vec::new(alloc))
+        } else {
+            Err(ReadError::Malformed)
+        };
     }
     match take_byte(&mut bytes)? {
         codes::SYMBOL8 => run(alloc, count, false, bytes),

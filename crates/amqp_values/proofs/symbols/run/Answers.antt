@@ -7,7 +7,7 @@ use Rattle.amqp_values.proofs.symbols.run.Goals as goal
 pub loop-preserved : goal.loop-preserved
 loop-preserved c =
     rw c.in-Ok-push.ensures.items
-        (run_more (run_at c.args.count c.args.long c.args.bytes) c.args.count c.loop.counter c.args.long c.loop.rest c.in-Ok.symbol c.item.new.bytes c.loop.items.items c.loop-test.true c.in-Ok.ensures c.loop.invariant)
+    (run_more (run_at c.args.count c.args.long c.args.bytes) c.args.count c.loop.counter c.args.long c.loop.rest c.in-Ok.symbol c.item.new.bytes c.loop.items.items c.loop-test.true c.in-Ok.ensures c.loop.invariant)
 
 pub returns-in-Err : goal.returns-in-Err
 returns-in-Err c =

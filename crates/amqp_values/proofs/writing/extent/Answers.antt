@@ -17,25 +17,25 @@ loop-i-preserved g c =
     let before : List ℕ = joined (map g.T.Encode.text (take i xs)) in
     let m = joined_more g.T.Encode.text xs i x c.loop-i-test.true c.index-items-i.is in
     let total : c.loop-i.total + c.encoded_len-total.result ≡ length (joined (map g.T.Encode.text (take (i + 1) xs))) =
-        omega (arith, ap length m, length-append before (g.T.Encode.text x), c.encoded_len-total.ensures.value, c.loop-i.invariant.total_is) in
+    omega (arith, ap length m, length-append before (g.T.Encode.text x), c.encoded_len-total.ensures.value, c.loop-i.invariant.total_is) in
     let small : c.loop-i.total + c.encoded_len-total.result ≤ g.T.Encode.most * (i + 1) = omega (arith, c.encoded_len-total.ensures.small, c.loop-i.invariant.total_small) in
     elim c.if-not-is_null.branch [
       | then-not-is_null w ↦ let t = w.if-not-is_null.true in let e = trim_more_part g.T.Encode.text xs i x c.loop-i-test.true c.index-items-i.is (sym c.is_null.ensures ∙ t) in record {
-          count_is = w.count-is ∙ sym (length_more g.T.Encode.text xs i c.loop-i-test.true) ∙ ap length (sym e);
-          size_is = w.size-is ∙ total ∙ ap (λ (r : List (List ℕ)). length (joined r)) (sym e);
-          total_is = total;
-          total_small = small;
-          size_small = omega (arith, w.size-is);
-          count_small = omega (arith, w.count-is);
-        }
+        count_is = w.count-is ∙ sym (length_more g.T.Encode.text xs i c.loop-i-test.true) ∙ ap length (sym e);
+        size_is = w.size-is ∙ total ∙ ap (λ (r : List (List ℕ)). length (joined r)) (sym e);
+        total_is = total;
+        total_small = small;
+        size_small = omega (arith, w.size-is);
+        count_small = omega (arith, w.count-is);
+      }
       | else-not-is_null w ↦ let t = w.if-not-is_null.false in let e = trim_more_null g.T.Encode.text xs i x c.loop-i-test.true c.index-items-i.is (sym c.is_null.ensures ∙ t) in record {
-          count_is = w.count-is ∙ c.loop-i.invariant.count_is ∙ ap length (sym e);
-          size_is = w.size-is ∙ c.loop-i.invariant.size_is ∙ ap (λ (r : List (List ℕ)). length (joined r)) (sym e);
-          total_is = total;
-          total_small = small;
-          size_small = omega (arith, w.size-is, c.loop-i.invariant.size_small);
-          count_small = omega (arith, w.count-is, c.loop-i.invariant.count_small);
-        }
+        count_is = w.count-is ∙ c.loop-i.invariant.count_is ∙ ap length (sym e);
+        size_is = w.size-is ∙ c.loop-i.invariant.size_is ∙ ap (λ (r : List (List ℕ)). length (joined r)) (sym e);
+        total_is = total;
+        total_small = small;
+        size_small = omega (arith, w.size-is, c.loop-i.invariant.size_small);
+        count_small = omega (arith, w.count-is, c.loop-i.invariant.count_small);
+      }
     ]
 
 pub overflow_add-total : goal.overflow_add-total

@@ -18,7 +18,7 @@ loop-item-preserved g c =
     let m = joined_more g.T.Encode.text xs i c.item-item.result c.loop-item-test.true c.item-item.is in
     let len = ap length m ∙ length-append before (g.T.Encode.text c.item-item.result) in
     record {
-        items_are = c.put.ensures.items ∙ ap (λ (r : List ℕ). r ++ g.T.Encode.text c.item-item.result) c.loop-item.invariant.items_are
-            ∙ append_assoc c.args.out.now.items before (g.T.Encode.text c.item-item.result) ∙ ap (λ (r : List ℕ). c.args.out.now.items ++ r) (sym m);
-        spare_is = omega (arith, len, c.put.ensures.spare, c.loop-item.invariant.spare_is);
+      items_are = c.put.ensures.items ∙ ap (λ (r : List ℕ). r ++ g.T.Encode.text c.item-item.result) c.loop-item.invariant.items_are
+          ∙ append_assoc c.args.out.now.items before (g.T.Encode.text c.item-item.result) ∙ ap (λ (r : List ℕ). c.args.out.now.items ++ r) (sym m);
+      spare_is = omega (arith, len, c.put.ensures.spare, c.loop-item.invariant.spare_is);
     }

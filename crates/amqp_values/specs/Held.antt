@@ -1,0 +1,8 @@
+-- What the values that a program holds are known to be, by their types.
+use Rattle.std.specs.Prelude.{List, [], ◌∷◌, ℕ}
+use Rattle.amqp_values.specs.Text.{IsSymbolText}
+
+-- each of them can be spelled as a symbol
+abbrev pub AreSymbols : List (List ℕ) → Type 0
+AreSymbols [] = Unit {0}
+AreSymbols (s ∷ others) = IsSymbolText s × AreSymbols others
