@@ -1,0 +1,141 @@
+//! What the tests start from.
+
+use bytes::Bytes;
+use fe2o3_amqp::definitions::Error as AmqpError;
+use fe2o3_amqp::{
+    Answer, Connection, ConnectionState, ConnectionStateError, Engine, Open, Symbol, err_name,
+    out_line,
+};
+use std::alloc::Global;
+use std::test::Fail;
+
+/// Every state of a connection.
+pub const STATES: [ConnectionState; 14] = [
+    ConnectionState::Start,
+    ConnectionState::HeaderReceived,
+    ConnectionState::HeaderSent,
+    ConnectionState::HeaderExchange,
+    ConnectionState::OpenPipe,
+    ConnectionState::OpenClosePipe,
+    ConnectionState::OpenReceived,
+    ConnectionState::OpenSent,
+    ConnectionState::ClosePipe,
+    ConnectionState::Opened,
+    ConnectionState::CloseReceived,
+    ConnectionState::CloseSent,
+    ConnectionState::Discarding,
+    ConnectionState::End,
+];
+
+/// The state after, where the table names the state before.
+pub fn after(
+    table: &[(ConnectionState, ConnectionState)],
+    state: ConnectionState,
+) -> Option<ConnectionState> {
+    for row in table {
+        if row.0 == state {
+            return Some(row.1);
+        }
+    }
+    None
+}
+
+/// Whether it is the refusal of a state that does not take a call.
+pub fn is_refused(error: ConnectionStateError) -> bool {
+    error == ConnectionStateError::IllegalState
+}
+
+/// The new state, where it is one.
+pub fn answered(
+    is_right: bool,
+    old: ConnectionState,
+    new: ConnectionState,
+) -> Result<Option<ConnectionState>, Fail> {
+    if !is_right {
+        return Err(Fail::new("another answer"));
+    }
+    Ok(if new == old { None } else { Some(new) })
+}
+
+/// An Open with this name and these limits, and nothing else.
+pub fn plain_open(alloc: Global, name: &str, size: u32, channels: u16) -> Result<Open, Fail> {
+    Ok(Open {
+        container_id: String::from_str(alloc, name)?,
+        hostname: None,
+        max_frame_size: size,
+        channel_max: channels,
+        idle_time_out: None,
+        outgoing_locales: None,
+        incoming_locales: None,
+        offered_capabilities: None,
+        desired_capabilities: None,
+        properties: None,
+    })
+}
+
+/// A connection in this state, whose Open is named `a`.
+pub fn connection(alloc: Global, state: ConnectionState) -> Result<Connection, Fail> {
+    Ok(Connection::new(alloc, state, plain_open(alloc, "a", 262144, 255)?))
+}
+
+/// An engine whose connection is that.
+pub fn engine(alloc: Global, state: ConnectionState) -> Result<Engine, Fail> {
+    Ok(Engine::new(alloc, state, plain_open(alloc, "a", 262144, 255)?))
+}
+
+/// An error with this condition, and nothing else.
+pub fn error(alloc: Global, condition: &str) -> Result<AmqpError, Fail> {
+    match Symbol::new(String::from_str(alloc, condition)?) {
+        Some(condition) => Ok(AmqpError {
+            condition,
+            description: None,
+            info: None,
+        }),
+        None => Err(Fail::new("no such value")),
+    }
+}
+
+/// An Open of the peer's: container-id `p`, max-frame-size 512, channel-max 3.
+pub fn peer_open() -> Bytes {
+    Bytes::from_static(&[
+        0x02, 0, 0, 0, 0x00, 0x53, 0x10, 0xc0, 0x0d, 4, 0xa1, 1, b'p', 0x40, 0x70, 0, 0, 2, 0,
+        0x60, 0, 3,
+    ])
+}
+
+/// A Close without an error.
+pub fn peer_close() -> Bytes {
+    Bytes::from_static(&[0x02, 0, 0, 0, 0x00, 0x53, 0x18, 0x45])
+}
+
+/// A frame without a body.
+pub fn empty() -> Bytes {
+    Bytes::from_static(&[0x02, 0, 0, 0])
+}
+
+/// One line for each answer, and for each piece.
+pub fn said(alloc: Global, answers: &Vec<Answer>) -> Result<String, Fail> {
+    let mut text = String::new(alloc);
+    for answer in answers.iter() {
+        match answer {
+            Answer::Done => text.push_str("done\n")?,
+            Answer::Refused(error) => {
+                text.push_str(err_name(error))?;
+                text.push_str("\n")?;
+            }
+            Answer::Out(pieces) => {
+                for piece in pieces.iter() {
+                    text.push_str(out_line(alloc, piece)?.as_str())?;
+                    text.push_str("\n")?;
+                }
+            }
+            Answer::TooLarge(_) => text.push_str("too large\n")?,
+        }
+    }
+    Ok(text)
+}
+
+/// The state of an engine's connection.
+pub fn connection_state(engine: &Engine) -> ConnectionState {
+    *engine.connection().local_state()
+}

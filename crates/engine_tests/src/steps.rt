@@ -1,0 +1,124 @@
+//! Single inputs of an engine.
+
+use crate::given::{connection_state, empty, engine, error, peer_close, peer_open};
+use bytes::Bytes;
+use fe2o3_amqp::{
+    ConnectionState, ConnectionStopReason, Engine, Input, OutputError, err_name, out_line,
+};
+use std::alloc::Global;
+use std::test::Fail;
+
+/// What an input is answered.
+fn answer(engine: &mut Engine, input: Input) -> &'static str {
+    match engine.step(input) {
+        Ok(()) => "done",
+        Err(error) => err_name(&error),
+    }
+}
+
+/// The lines of the first frame that waits.
+fn put_out(alloc: Global, engine: &mut Engine) -> Result<String, Fail> {
+    match engine.next_output() {
+        Ok(None) => Ok(String::from_str(alloc, "nothing")?),
+        Ok(Some(pieces)) => {
+            let mut text = String::new(alloc);
+            for piece in pieces.iter() {
+                text.push_str(out_line(alloc, piece)?.as_str())?;
+            }
+            Ok(text)
+        }
+        Err(OutputError::TooLarge(_)) => Ok(String::from_str(alloc, "too large")?),
+        Err(OutputError::Memory) => Ok(String::from_str(alloc, "memory")?),
+    }
+}
+
+#[test]
+fn an_open_goes_out(rt: HostRuntime) -> Result<(), Fail> {
+    let mut engine = engine(rt.alloc(), ConnectionState::HeaderExchange)?;
+    assert!(rt; !engine.has_output());
+    assert_eq!(rt; answer(&mut engine, Input::Open), "done");
+    assert!(rt; engine.has_output());
+    assert_eq!(rt; connection_state(&engine), ConnectionState::OpenSent);
+    assert_eq!(rt; answer(&mut engine, Input::Open), "OutputWaiting");
+    let want = "out 02000000005310c00d04a101614070000400006000ff";
+    assert_eq!(rt; put_out(rt.alloc(), &mut engine)?.as_str(), want);
+    assert!(rt; !engine.has_output());
+    assert_eq!(rt; put_out(rt.alloc(), &mut engine)?.as_str(), "nothing");
+    Ok(())
+}
+
+#[test]
+fn a_close_goes_out(rt: HostRuntime) -> Result<(), Fail> {
+    let mut engine = engine(rt.alloc(), ConnectionState::Opened)?;
+    assert_eq!(rt; answer(&mut engine, Input::Close(None)), "done");
+    assert_eq!(rt;
+        put_out(rt.alloc(), &mut engine)?.as_str(),
+        "out 0200000000531845"
+    );
+    let reason = engine.connection().connection_stop_reason();
+    assert_eq!(rt; reason, Some(ConnectionStopReason::Closed));
+    Ok(())
+}
+
+#[test]
+fn a_close_with_an_error_goes_out(rt: HostRuntime) -> Result<(), Fail> {
+    let error = error(rt.alloc(), "a:b")?;
+    let mut engine = engine(rt.alloc(), ConnectionState::Opened)?;
+    assert_eq!(rt; answer(&mut engine, Input::Close(Some(error))), "done");
+    let want = "out 02000000005318c00c0100531dc00601a303613a62";
+    assert_eq!(rt; put_out(rt.alloc(), &mut engine)?.as_str(), want);
+    assert_eq!(rt; connection_state(&engine), ConnectionState::Discarding);
+    Ok(())
+}
+
+#[test]
+fn received_frames_move_the_state(rt: HostRuntime) -> Result<(), Fail> {
+    let mut engine = engine(rt.alloc(), ConnectionState::OpenSent)?;
+    assert_eq!(rt; answer(&mut engine, Input::Received(empty())), "done");
+    assert_eq!(rt; answer(&mut engine, Input::Received(peer_open())), "done");
+    assert_eq!(rt; connection_state(&engine), ConnectionState::Opened);
+    assert_eq!(rt;
+        answer(&mut engine, Input::Received(peer_open())),
+        "IllegalState"
+    );
+    assert_eq!(rt;
+        answer(&mut engine, Input::Received(peer_close())),
+        "RemoteClosed"
+    );
+    assert_eq!(rt; connection_state(&engine), ConnectionState::CloseReceived);
+    let reason = engine.connection().connection_stop_reason();
+    assert_eq!(rt; reason, Some(ConnectionStopReason::RemoteClosed));
+    Ok(())
+}
+
+/// What a new engine answers these bytes, if its connection does not move.
+fn refusal(
+    alloc: Global,
+    state: ConnectionState,
+    bytes: &'static [u8],
+) -> Result<&'static str, Fail> {
+    let mut engine = engine(alloc, state)?;
+    let name = answer(&mut engine, Input::Received(Bytes::from_static(bytes)));
+    if connection_state(&engine) == state {
+        Ok(name)
+    } else {
+        Err(Fail::new("the state moved"))
+    }
+}
+
+#[test]
+fn what_is_no_frame_is_refused(rt: HostRuntime) -> Result<(), Fail> {
+    let rows: [(&'static [u8], &'static str); 6] = [
+        (b"\x02\x01\0\0", "NotImplemented"),
+        (b"\x03\0\0\0\0\0\0\0", "NotImplemented"),
+        (b"\x02\0\0", "DecodeError"),
+        (b"", "DecodeError"),
+        (b"\x02\0\0\0\0\x53\x10\x45", "DecodeError"),
+        (b"\x02\0\0\x07\0\x53\x17\x45", "NotFound"),
+    ];
+    for (bytes, want) in rows {
+        let name = refusal(rt.alloc(), ConnectionState::Opened, bytes)?;
+        assert_eq!(rt; name, want, "{bytes:?}");
+    }
+    Ok(())
+}
