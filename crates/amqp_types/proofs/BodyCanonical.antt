@@ -1,5 +1,5 @@
 -- The canonical text of each composite that a program holds is in the grammar: a line for each field.
-use Rattle.std.proofs.Common.{◌≡◌, ℕ, ◌≤◌, List, Option, refl, arith}
+use Rattle.std.proofs.Common.{Option, refl, arith}
 use Rattle.std.specs.Prelude.{IfSome}
 use Rattle.amqp_values.specs.Slots.{Optional}
 use Rattle.amqp_values.specs.Writing.{described_text, optional_text}

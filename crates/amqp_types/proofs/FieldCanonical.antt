@@ -1,5 +1,5 @@
 -- The canonical texts of definitions, and of optional fields, stand in their slots.
-use Rattle.std.proofs.Common.{◌≡◌, ℕ, ◌<◌, ◌^◌, Bool, true, false, List, Option, Some, None, refl, inl, inr}
+use Rattle.std.proofs.Common.{ℕ, Bool, true, false, List, Option, Some, None, refl, inl, inr}
 use Rattle.std.specs.Prelude.{IfSome}
 use Rattle.std.specs.Str.{IsUtf8}
 use Rattle.amqp_types.specs.declared.definitions.Role.{Role}
@@ -7,7 +7,7 @@ use Rattle.amqp_types.specs.declared.definitions.SenderSettleMode.{SenderSettleM
 use Rattle.amqp_types.specs.declared.definitions.SenderSettleMode.TheVariants.{Unsettled, Settled, Mixed}
 use Rattle.amqp_types.specs.declared.definitions.ReceiverSettleMode.{ReceiverSettleMode}
 use Rattle.amqp_types.specs.declared.definitions.ReceiverSettleMode.TheVariants.{First, Second}
-use Rattle.amqp_values.specs.Number.{IsUbyte, IsUshort, IsUint, IsUlong, IsBoolean, is_true}
+use Rattle.amqp_values.specs.Number.{IsUshort, IsUint, IsUlong, IsBoolean, is_true}
 use Rattle.amqp_values.specs.Text.{IsBinary, IsString}
 use Rattle.amqp_values.specs.Symbols.{IsSymbols}
 use Rattle.amqp_values.specs.Raw.{IsRaw, SpellsRaw, IsMap, SpellsMap}
@@ -19,7 +19,7 @@ use Rattle.amqp_values.proofs.NumberCanonical.{ubyte_canonical, ushort_canonical
 use Rattle.amqp_values.proofs.TextCanonical.{binary_canonical, string_canonical, raw_canonical, map_canonical}
 use Rattle.amqp_values.proofs.SymbolCanonical.{symbols_canonical}
 use Rattle.amqp_values.proofs.Utf8.{utf8_true}
-use Rattle.amqp_types.specs.Definitions.{is_receiver, sender_code, receiver_code, IsRole, IsSenderMode, IsReceiverMode, role_text, receiver_mode_text, sender_mode_or_mixed, receiver_mode_or_first, flag_text, value_text}
+use Rattle.amqp_types.specs.Definitions.{is_receiver, receiver_code, IsRole, IsSenderMode, IsReceiverMode, role_text, receiver_mode_text, sender_mode_or_mixed, receiver_mode_or_first, flag_text, value_text}
 use Rattle.amqp_types.specs.Held.{IsShort, IsWord, IsLong}
 
 pub text_canonical : (s : List ℕ) → IsUtf8 s → IsCanonical (IsString s) (string_text s)

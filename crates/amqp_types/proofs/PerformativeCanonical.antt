@@ -1,5 +1,4 @@
 -- The canonical text of each performative that a program holds is in the grammar.
-use Rattle.std.proofs.Common.{List, ℕ}
 use Rattle.amqp_types.specs.declared.performatives.Performative.{Performative}
 use Rattle.amqp_types.specs.declared.performatives.Performative.TheVariants.{Open, Begin, Attach, Flow, Transfer, Disposition, Detach, End, Close}
 use Rattle.amqp_types.specs.Performatives.{IsPerformative, performative_text}

@@ -1,11 +1,10 @@
 -- A performative is read exactly by its grammar.
-use Rattle.std.proofs.Common.{◌≡◌, ℕ, Bool, true, false, cond, eqb, List, ◌∷◌, ◌++◌, Option, Some, None, refl, sym, ap, subst, ◌∙◌, inl, inr, ◌⊎◌, append_assoc}
-use Rattle.std.proofs.lemmas.Bool.{eqb-true, eq-eqb}
+use Rattle.std.proofs.Common.{◌≡◌, ℕ, eqb, List, ◌∷◌, ◌++◌, Option, Some, None, refl, sym, ap, subst, ◌∙◌, inl, inr, append_assoc}
+use Rattle.std.proofs.lemmas.Bool.{eqb-true}
 use Rattle.amqp_values.specs.declared.parts.Parts.{Parts}
 use Rattle.amqp_types.specs.declared.performatives.Performative.{Performative}
 use Rattle.amqp_types.specs.declared.performatives.Performative.TheVariants.{Open, Begin, Attach, Flow, Transfer, Disposition, Detach, End, Close}
-use Rattle.amqp_values.specs.Reading.{◌>>=◌}
-use Rattle.amqp_values.specs.Composite.{IsComposite, IsDescribed, IsDescriptor, composite_at, descriptor_at}
+use Rattle.amqp_values.specs.Composite.{IsDescribed, IsDescriptor, composite_at, descriptor_at}
 use Rattle.amqp_values.proofs.Format.{IsFormat, bind_some, pair_is, chosen}
 use Rattle.amqp_values.proofs.SlotLaws.{IsBody}
 use Rattle.amqp_values.proofs.CompositeLaws.{composite_law, descriptor_found, descriptor_again, no_descriptor}

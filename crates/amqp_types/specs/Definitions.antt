@@ -1,5 +1,5 @@
 -- Roles and settle modes, by the numbers that they are written as (AMQP 1.0 part 2, section 2.8).
-use Rattle.std.specs.Prelude.{◌≡◌, ℕ, List, Option, Some, None, Bool, true, false, ◌==◌, if◌then◌else◌}
+use Rattle.std.specs.Prelude.{ℕ, List, Option, Some, None, Bool, true, false, ◌==◌, if◌then◌else◌}
 use Rattle.amqp_types.specs.declared.definitions.Role.{Role}
 use Rattle.amqp_types.specs.declared.definitions.Role.TheVariants.{Sender, Receiver}
 use Rattle.amqp_types.specs.declared.definitions.SenderSettleMode.{SenderSettleMode}

@@ -1,5 +1,5 @@
 -- What the fields of each composite that a program holds are known to be, by their types.
-use Rattle.std.specs.Prelude.{ℕ, ◌<◌, ◌^◌, List, Option, IfSome}
+use Rattle.std.specs.Prelude.{ℕ, ◌<◌, ◌^◌, IfSome}
 use Rattle.std.specs.Str.{IsUtf8}
 use Rattle.amqp_values.specs.Text.{IsSymbolText}
 use Rattle.amqp_values.specs.Raw.{IsRaw, IsMap}

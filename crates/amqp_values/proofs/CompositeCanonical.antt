@@ -1,5 +1,5 @@
 -- The canonical text of a described list is in the grammar, if its fields stand in their slots.
-use Rattle.std.proofs.Common.{◌≡◌, ℕ, suc, ◌+◌, ◌^◌, ◌<◌, ◌≤◌, Bool, true, false, ltb, eqb, List, [], ◌∷◌, ◌++◌, length, refl, sym, ap, subst, ◌∙◌, arith, inl, inr}
+use Rattle.std.proofs.Common.{◌≡◌, ℕ, suc, ◌+◌, ◌^◌, ◌<◌, ◌≤◌, true, false, ltb, eqb, List, [], ◌∷◌, ◌++◌, length, refl, subst, arith, inl, inr}
 use Rattle.std.specs.Int.{w32, to_be_bytes}
 use Rattle.std.proofs.Math.Numerals.{add-one}
 use Rattle.std.proofs.lemmas.Bool.{ne_eqb}
@@ -7,7 +7,7 @@ use Rattle.std.proofs.lemmas.List.{length-append}
 use Rattle.amqp_values.specs.Reading.{IsNumber, one, joined}
 use Rattle.amqp_values.specs.Composite.{IsList, list0, list, IsDescribed, described_small}
 use Rattle.amqp_values.specs.Writing.{trim, list_head, list_text, described_text}
-use Rattle.amqp_values.proofs.SlotCanonical.{yes_or_no, Fits, IsCanonical, other_canonical, Trims}
+use Rattle.amqp_values.proofs.SlotCanonical.{yes_or_no, Fits, Trims}
 use Rattle.amqp_values.proofs.NumberCanonical.{number_canonical}
 use Rattle.amqp_values.proofs.Loops.{length_trim, size_le}
 

@@ -1,10 +1,10 @@
 -- Described lists are read exactly by their grammar.
-use Rattle.std.proofs.Common.{◌≡◌, ℕ, zero, suc, ◌+◌, ◌<◌, ◌≤◌, Bool, true, false, cond, eqb, List, [], ◌∷◌, ◌++◌, length, Option, Some, None, refl, sym, ap, subst, ◌∙◌, arith, inl, inr, ◌⊎◌, append_assoc}
+use Rattle.std.proofs.Common.{◌≡◌, ℕ, Bool, true, false, eqb, List, [], ◌∷◌, ◌++◌, length, Option, Some, None, refl, sym, ap, subst, ◌∙◌, arith, inl, inr, append_assoc}
 use Rattle.std.specs.Prelude.{codes, bytes_eq}
-use Rattle.std.specs.Int.{w64, from_be_bytes}
+use Rattle.std.specs.Int.{w64}
 use Rattle.std.proofs.lemmas.Bool.{eqb-true, eq-eqb}
 use Rattle.amqp_values.specs.declared.parts.Parts.{Parts}
-use Rattle.amqp_values.specs.Reading.{◌>>=◌, byte_at, number_at, count_at, region_at, IsNumber, joined}
+use Rattle.amqp_values.specs.Reading.{◌>>=◌, count_at, region_at, IsNumber, joined}
 use Rattle.amqp_values.specs.Text.{by_width, IsVar, var}
 use Rattle.amqp_values.specs.Composite.{IsList, list0, list, IsComposite, IsName, open_name, begin_name, attach_name, flow_name, transfer_name, disposition_name, detach_name, end_name, close_name, error_name, IsDescriptor, described0, described_small, described_by_number, described_by_name, IsDescribed, counted_parts, list_at, composite_at, code_of, meaning_at, code_at, descriptor_at, coded_at, described_at}
 use Rattle.amqp_values.proofs.Format.{IsFormat, bind_some, chosen, pair_is, some_is}

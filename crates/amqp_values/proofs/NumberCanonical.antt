@@ -1,11 +1,11 @@
 -- The canonical texts of numbers and booleans are in the grammar.
-use Rattle.std.proofs.Common.{◌≡◌, ℕ, ◌^◌, ◌<◌, Bool, true, false, ltb, eqb, List, [], ◌∷◌, ◌++◌, length, refl, sym, subst, inl, inr}
-use Rattle.std.specs.Int.{w16, w32, w64, from_be_bytes, to_be_bytes}
+use Rattle.std.proofs.Common.{ℕ, ◌^◌, ◌<◌, Bool, true, false, ltb, ◌∷◌, refl, subst, inl, inr}
+use Rattle.std.specs.Int.{w16, w32, w64, to_be_bytes}
 use Rattle.std.proofs.lemmas.Nat.{from_be_bytes-to_be_bytes_2, from_be_bytes-to_be_bytes_4, from_be_bytes-to_be_bytes_8}
 use Rattle.std.proofs.lemmas.Bool.Decides.{eqb_tells}
 use Rattle.amqp_values.specs.Reading.{IsNumber, one, four}
 use Rattle.amqp_values.specs.Number.{IsUbyte, ubyte, IsUshort, ushort, IsUint, uint0, small_uint, uint, IsUlong, ulong0, small_ulong, ulong, IsBoolean, is_true, is_false}
-use Rattle.amqp_values.specs.Slots.{null, is_null, OrDefault}
+use Rattle.amqp_values.specs.Slots.{OrDefault}
 use Rattle.amqp_values.specs.Writing.{ubyte_text, ushort_text, uint_text, ulong_text, boolean_text, number_text, uint_or, ushort_or}
 use Rattle.amqp_values.proofs.SlotCanonical.{yes_or_no, IsCanonical, other_canonical, null_canonical}
 

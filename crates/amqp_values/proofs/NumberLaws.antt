@@ -1,8 +1,8 @@
 -- Each number's reader is exactly its grammar.
-use Rattle.std.proofs.Common.{◌≡◌, ℕ, zero, suc, ◌+◌, ◌-◌, ◌<◌, ◌≤◌, Bool, true, false, cond, ltb, eqb, List, [], ◌∷◌, ◌++◌, length, take, drop, Option, Some, None, refl, sym, ap, subst, ◌∙◌, arith, inl, inr, ◌⊎◌, append_assoc}
+use Rattle.std.proofs.Common.{◌≡◌, ℕ, ◌≤◌, Bool, true, false, ltb, eqb, List, [], ◌∷◌, ◌++◌, length, take, drop, Option, Some, refl, sym, ap, subst, ◌∙◌, arith, inl, inr, append_assoc}
 use Rattle.std.specs.Int.{Width, w16, w32, w64, byte_len, from_be_bytes}
-use Rattle.std.proofs.lemmas.Bool.{eqb-true, eq-eqb, ne_eqb, ltb-true, ltb-false, le-ltb}
-use Rattle.std.proofs.lemmas.List.{take_at, drop_at, take-append-drop, length-append, length-take, append-nil}
+use Rattle.std.proofs.lemmas.Bool.{eqb-true, ltb-false, le-ltb}
+use Rattle.std.proofs.lemmas.List.{take_at, drop_at, take-append-drop, length-append, length-take}
 use Rattle.amqp_values.specs.Reading.{◌>>=◌, byte_at, number_at, cut_at, count_at, region_at, IsNumber, one, four}
 use Rattle.amqp_values.specs.Number.{IsUbyte, ubyte, ubyte_at, IsUshort, ushort, ushort_at, IsUint, uint0, small_uint, uint, uint_at, IsUlong, ulong0, small_ulong, ulong, ulong_at, IsBoolean, is_true, is_false, byte_true, byte_false, flag_at, boolean_at}
 use Rattle.amqp_values.proofs.Format.{IsFormat, bind_some, chosen, pair_is}

@@ -1,10 +1,9 @@
 -- The canonical text of a field stands in its slot, and nulls at the end may be cut.
-use Rattle.std.proofs.Common.{◌≡◌, ℕ, ◌+◌, ◌^◌, ◌<◌, ◌≤◌, Bool, true, false, cond, List, [], ◌∷◌, ◌++◌, length, Option, Some, None, refl, sym, ap, subst, ◌∙◌, arith, inl, inr, ◌⊎◌, lit<}
+use Rattle.std.proofs.Common.{◌≡◌, ℕ, ◌^◌, ◌<◌, Bool, true, false, List, [], ◌∷◌, ◌++◌, length, Option, Some, None, refl, sym, subst, arith, inl, inr, ◌⊎◌, lit<}
 use Rattle.std.specs.Prelude.{IfSome}
-use Rattle.std.proofs.lemmas.Bool.Decides.{eqb_tells}
 use Rattle.std.proofs.lemmas.List.{length-append}
 use Rattle.amqp_values.specs.Reading.{joined}
-use Rattle.amqp_values.specs.Slots.{null, is_null, Slot, NoMore, Optional, OrDefault}
+use Rattle.amqp_values.specs.Slots.{null, is_null, Slot, NoMore, Optional}
 use Rattle.amqp_values.specs.Writing.{keep, trim, optional_text}
 
 pub yes_or_no : (b : Bool) → (b ≡ true) ⊎ (b ≡ false)

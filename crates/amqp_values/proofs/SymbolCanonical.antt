@@ -1,14 +1,12 @@
 -- The canonical text of multiple symbols is in the grammar.
-use Rattle.std.proofs.Common.{◌≡◌, ℕ, ◌+◌, ◌^◌, ◌<◌, ◌≤◌, Bool, true, false, List, [], ◌∷◌, ◌++◌, length, map, refl, sym, ap, subst, ◌∙◌, arith, inl, inr}
-use Rattle.std.specs.Int.{w32, to_be_bytes}
+use Rattle.std.proofs.Common.{◌≡◌, ℕ, ◌+◌, ◌^◌, ◌<◌, ◌≤◌, Bool, true, false, List, [], ◌∷◌, ◌++◌, length, refl, sym, subst, arith}
 use Rattle.std.proofs.lemmas.List.{length-append}
-use Rattle.amqp_values.specs.Reading.{IsNumber, joined}
-use Rattle.amqp_values.specs.Text.{by_width, IsSymbolText}
+use Rattle.amqp_values.specs.Reading.{IsNumber}
 use Rattle.amqp_values.specs.Symbols.{IsRun, no_symbols, more_symbols, IsSymbols, array}
 use Rattle.amqp_values.specs.Slots.{is_null}
 use Rattle.amqp_values.specs.Writing.{number_text, item_text, is_long, run_text, array_text, is_wide, symbols_body, symbols_text}
 use Rattle.amqp_values.specs.Held.{AreSymbols}
-use Rattle.amqp_values.proofs.SlotCanonical.{yes_or_no, Fits, IsCanonical, other_canonical}
+use Rattle.amqp_values.proofs.SlotCanonical.{Fits, IsCanonical, other_canonical}
 use Rattle.amqp_values.proofs.NumberCanonical.{number_canonical}
 
 run_is : (long : Bool) (items : List (List ℕ)) → AreSymbols items → IsRun long items (run_text long items)

@@ -1,8 +1,8 @@
 -- Multiple symbols are read exactly by their grammar.
-use Rattle.std.proofs.Common.{◌≡◌, ℕ, zero, suc, ◌+◌, ◌<◌, ◌≤◌, Bool, true, false, cond, eqb, List, [], ◌∷◌, ◌++◌, length, Option, Some, None, refl, sym, ap, subst, ◌∙◌, arith, inl, inr, ◌⊎◌, append_assoc}
+use Rattle.std.proofs.Common.{◌≡◌, ℕ, zero, suc, Bool, true, false, cond, eqb, List, [], ◌∷◌, ◌++◌, length, Some, None, refl, sym, ap, subst, ◌∙◌, inl, inr}
 use Rattle.std.proofs.lemmas.Bool.{eqb-true}
 use Rattle.std.proofs.lemmas.List.{append-nil}
-use Rattle.amqp_values.specs.Reading.{◌>>=◌, byte_at, count_at, region_at, is_empty, IsNumber}
+use Rattle.amqp_values.specs.Reading.{◌>>=◌, count_at, region_at, is_empty, IsNumber}
 use Rattle.amqp_values.specs.Text.{by_width, is_ascii}
 use Rattle.amqp_values.specs.Symbols.{IsRun, no_symbols, more_symbols, IsSymbols, one_symbol, array, bare, item_at, run_at, all_at, array_at, alone_at, symbols_at}
 use Rattle.amqp_values.proofs.Format.{IsFormat, bind_some, chosen, pair_is, some_is}

@@ -1,15 +1,14 @@
 -- The canonical texts of binaries, strings, symbols and raw values are in the grammar.
-use Rattle.std.proofs.Common.{◌≡◌, ℕ, ◌+◌, ◌^◌, ◌<◌, ◌≤◌, Bool, true, false, ltb, eqb, List, [], ◌∷◌, ◌++◌, length, Option, Some, None, refl, sym, ap, ◌∙◌, arith, inl, inr}
+use Rattle.std.proofs.Common.{◌≡◌, ℕ, ◌^◌, ◌<◌, true, false, ltb, eqb, List, [], ◌∷◌, ◌++◌, length, Some, None, refl, ap, ◌∙◌, arith, inl, inr}
 use Rattle.std.specs.Int.{w32, to_be_bytes}
 use Rattle.std.specs.Str.{is_utf8}
 use Rattle.std.proofs.lemmas.Bool.{eqb-true}
 use Rattle.std.proofs.lemmas.List.{length-append}
-use Rattle.amqp_values.specs.Reading.{IsNumber, one}
-use Rattle.amqp_values.specs.Text.{by_width, IsVar, var, IsBinary, IsString, IsSymbol, IsSymbolText}
+use Rattle.amqp_values.specs.Reading.{one}
+use Rattle.amqp_values.specs.Text.{IsVar, var, IsBinary, IsString, IsSymbol, IsSymbolText}
 use Rattle.amqp_values.specs.Raw.{IsRaw, SpellsRaw, IsMap, SpellsMap, raw_at}
-use Rattle.amqp_values.specs.Slots.{null, is_null}
+use Rattle.amqp_values.specs.Slots.{is_null}
 use Rattle.amqp_values.specs.Writing.{var_text, binary_text, string_text, symbol_text}
-use Rattle.amqp_values.proofs.Format.{IsFormat}
 use Rattle.amqp_values.proofs.Law.{raw_format}
 use Rattle.amqp_values.proofs.SlotCanonical.{yes_or_no, Fits, IsCanonical, other_canonical}
 use Rattle.amqp_values.proofs.NumberCanonical.{number_canonical}

@@ -1,9 +1,8 @@
 -- Binaries, strings and symbols are read exactly by their grammar.
-use Rattle.std.proofs.Common.{◌≡◌, ℕ, ◌+◌, ◌<◌, ◌≤◌, Bool, true, false, cond, eqb, List, [], ◌∷◌, ◌++◌, length, Option, Some, None, refl, sym, ap, subst, ◌∙◌, arith, inl, inr, ◌⊎◌}
+use Rattle.std.proofs.Common.{◌≡◌, ℕ, Bool, true, false, cond, eqb, List, [], ◌∷◌, ◌++◌, Option, Some, None, refl, sym, ap, subst, ◌∙◌, inl, inr}
 use Rattle.std.specs.Str.{is_utf8}
 use Rattle.std.proofs.lemmas.Bool.{eqb-true, eq-eqb}
-use Rattle.amqp_values.specs.Reading.{◌>>=◌, region_at, IsNumber}
-use Rattle.amqp_values.specs.Text.{by_width, IsVar, var, var_at, binary_at, IsBinary, IsString, IsSymbol, is_ascii, tested_at, string_at, symbol_at}
+use Rattle.amqp_values.specs.Text.{IsVar, var, var_at, binary_at, IsBinary, IsString, IsSymbol, is_ascii, tested_at, string_at, symbol_at}
 use Rattle.amqp_values.proofs.Format.{IsFormat, bind_some, chosen, pair_is}
 use Rattle.amqp_values.proofs.NumberLaws.{headed, region_found, region_again}
 

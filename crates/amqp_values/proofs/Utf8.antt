@@ -1,4 +1,4 @@
-use Rattle.std.proofs.Common.{◌≡◌, ℕ, Bool, true, false, List, [], ◌∷◌, zero, suc, ◌<◌, get_or, ltb, ◌&&◌, Option, Some, None, refl, sym, ◌∙◌, arith}
+use Rattle.std.proofs.Common.{◌≡◌, ℕ, Bool, true, false, List, [], ◌∷◌, zero, suc, ◌<◌, get_or, ltb, ◌&&◌, Some, None, refl, arith}
 use Rattle.std.specs.Prelude.{Result, Ok, Err, MatchResult, IsOk}
 use Rattle.amqp_values.specs.Text.{var_at, string_at, is_ascii}
 use Rattle.std.specs.Str.{IsUtf8, is_utf8}

@@ -1,5 +1,5 @@
 -- The fields of a list, in order (AMQP 1.0 part 1, section 1.4).
-use Rattle.std.specs.Prelude.{◌≡◌, ℕ, ◌-◌, List, [], ◌∷◌, ◌++◌, drop, Option, Some, None, Bool, true, false, ◌==◌, if◌then◌else◌, ◌⊎◌}
+use Rattle.std.specs.Prelude.{◌≡◌, ℕ, ◌-◌, List, [], ◌∷◌, drop, Option, Some, None, Bool, false, ◌==◌, if◌then◌else◌, ◌⊎◌}
 use Rattle.amqp_values.specs.declared.parts.Parts.{Parts}
 use Rattle.amqp_values.specs.Reading.{◌>>=◌, is_empty}
 

@@ -44,7 +44,11 @@ fn show(alloc: Global, frame: Frame) -> anyhow::Result<String> {
         Err(ReadError::Malformed) => Ok(format!(in alloc; "{channel} malformed")?),
         Err(error) => Err(error.into()),
         Ok((performative, payload)) => {
-            let mark = if is_read_back(alloc, &performative)? { "" } else { " is not read back" };
+            let mark = if is_read_back(alloc, &performative)? {
+                ""
+            } else {
+                " is not read back"
+            };
             let len = payload.len();
             Ok(format!(in alloc; "{channel} {performative:?} {len}{mark}")?)
         }

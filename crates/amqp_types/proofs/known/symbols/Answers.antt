@@ -1,4 +1,4 @@
-use Rattle.std.proofs.Common.{◌≡◌, ℕ, List, [], ◌∷◌, ◌++◌, subst, sym}
+use Rattle.std.proofs.Common.{ℕ, List, [], ◌∷◌, ◌++◌}
 use Rattle.std.proofs.lemmas.List.{take_more}
 use Rattle.amqp_values.specs.Text.{IsSymbolText}
 use Rattle.amqp_values.specs.Held.{AreSymbols}

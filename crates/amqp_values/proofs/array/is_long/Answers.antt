@@ -1,4 +1,4 @@
-use Rattle.std.proofs.Common.{◌≡◌, ◌∙◌, List, ℕ, length, sym, ap, true, false, ltb, not, arith}
+use Rattle.std.proofs.Common.{◌∙◌, List, ℕ, length, sym, ap, ltb, not}
 use Rattle.std.proofs.Math.Numerals.{add-one}
 use Rattle.amqp_values.proofs.ArrayItems.{all_more, all_fails, whole}
 use Rattle.amqp_values.proofs.array.is_long.Goals as goal

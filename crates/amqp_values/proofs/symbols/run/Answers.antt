@@ -1,4 +1,4 @@
-use Rattle.std.proofs.Common.{◌≡◌, sym, ◌∙◌, true, false, Vec, Global}
+use Rattle.std.proofs.Common.{sym, ◌∙◌, true, false, Vec, Global}
 use Rattle.amqp_values.specs.declared.symbol.Symbol.{Symbol}
 use Rattle.amqp_values.specs.Symbols.{run_at}
 use Rattle.amqp_values.proofs.Runs.{run_more, run_failed, run_done, run_left, no_bytes}

@@ -1,9 +1,7 @@
-use Rattle.std.proofs.Common.{◌++◌, List, ℕ, arith, ap, ◌∙◌, sym, length, take, map, ◌≡◌, ◌+◌, ◌*◌, ◌≤◌, ◌^◌, true, false}
+use Rattle.std.proofs.Common.{List, ℕ, arith, ap, ◌∙◌, sym, length, take, map, ◌≡◌, ◌+◌, ◌*◌, ◌≤◌}
 use Rattle.std.proofs.lemmas.List.{length-append}
 use Rattle.std.proofs.Math.Nat.{mul-le-mul_left}
-use Rattle.amqp_values.specs.Slots.{is_null}
 use Rattle.amqp_values.specs.Reading.{joined}
-use Rattle.amqp_values.specs.Writing.{trim}
 use Rattle.amqp_values.proofs.Loops.{joined_more, trim_more_null, trim_more_part, length_more}
 use Rattle.amqp_values.proofs.writing.extent.Goals as goal
 use Rattle.amqp_values.proofs.writing.extent.Goals.{then-not-is_null, else-not-is_null}

@@ -1,4 +1,4 @@
-use Rattle.std.proofs.Common.{◌≡◌, ◌≤◌, ◌*◌, ◌^◌, length, take, map}
+use Rattle.std.proofs.Common.{◌≡◌, ◌≤◌, ◌*◌, length, take, map}
 use Rattle.amqp_values.specs.Reading.{joined}
 use Rattle.amqp_values.specs.Writing.{trim}
 use Rattle.amqp_values.proofs.writing.extent.Given as goal

@@ -1,4 +1,4 @@
-use Rattle.std.proofs.Common.{◌++◌, List, ℕ, arith, ap, ◌∙◌, sym, append_assoc, length, take, map, ◌≡◌, ◌+◌}
+use Rattle.std.proofs.Common.{◌++◌, List, ℕ, arith, ap, ◌∙◌, sym, append_assoc, length, take, map}
 use Rattle.std.proofs.lemmas.List.{length-append}
 use Rattle.amqp_values.specs.Reading.{joined}
 use Rattle.amqp_values.proofs.Loops.{joined_more, room_for}

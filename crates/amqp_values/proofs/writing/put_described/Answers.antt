@@ -1,6 +1,5 @@
-use Rattle.std.proofs.Common.{arith, ap, length, map, w64, Fits, ◌≡◌, ◌≤◌, ℕ, List, sym}
-use Rattle.amqp_values.specs.Reading.{joined}
-use Rattle.amqp_values.specs.Writing.{list_text, trim}
+use Rattle.std.proofs.Common.{arith, ap, length, map, ℕ, List}
+use Rattle.amqp_values.specs.Writing.{list_text}
 use Rattle.amqp_values.proofs.Loops.{size_le}
 use Rattle.amqp_values.proofs.writing.put_described.Goals as goal
 

@@ -1,4 +1,4 @@
-use Rattle.std.proofs.Common.{◌≡◌, ◌∙◌, List, ℕ, string_bytes, subst}
+use Rattle.std.proofs.Common.{◌≡◌, ◌∙◌, string_bytes, subst}
 use Rattle.std.specs.Str.{IsUtf8}
 use Rattle.amqp_values.proofs.Utf8.{string_is, no_string}
 use Rattle.amqp_values.proofs.text.StringField.read.Goals as goal

@@ -1,0 +1,52 @@
+//! Bytes as hexadecimal digits, and what a performative that they spell is written as.
+
+use amqp_types::{Performative, ReadError};
+use bytes::{Bytes, BytesMut};
+use std::alloc::Global;
+use std::test::Fail;
+
+/// The bytes of these digits; spaces are left out.
+pub fn bytes(alloc: Global, digits: &str) -> Result<Bytes, Fail> {
+    let mut dense = String::new(alloc);
+    for digit in digits.chars() {
+        if digit != ' ' {
+            dense.push(digit)?;
+        }
+    }
+    let bytes = hex::decode(alloc, dense.as_str())?;
+    Ok(Bytes::copy_from_slice(alloc, bytes.as_slice())?)
+}
+
+/// The performative that the digits spell, with nothing behind it.
+pub fn read(alloc: Global, digits: &str) -> Result<Performative, Fail> {
+    let (performative, rest) = Performative::read(alloc, bytes(alloc, digits)?)?;
+    if rest.is_empty() {
+        Ok(performative)
+    } else {
+        Err("bytes are left".into())
+    }
+}
+
+/// The digits of the text that is written, which has the length that was said.
+pub fn written(alloc: Global, performative: &Performative) -> Result<String, Fail> {
+    let mut out = BytesMut::new(alloc);
+    performative.write(&mut out, u32::MAX)?;
+    if performative.encoded_len() != out.len() as u128 {
+        return Err("the length is not what was said".into());
+    }
+    Ok(hex::encode(alloc, out.as_slice())?)
+}
+
+/// The digits of what is written for a performative in this spelling; "malformed" where it is none.
+pub fn rewritten(alloc: Global, digits: &str) -> Result<String, Fail> {
+    match Performative::read(alloc, bytes(alloc, digits)?) {
+        Ok((performative, _)) => written(alloc, &performative),
+        Err(ReadError::Malformed) => Ok(String::from_str(alloc, "malformed")?),
+        Err(ReadError::OutOfMemory) => Err("out of memory".into()),
+    }
+}
+
+/// The same digits without spaces.
+pub fn dense(alloc: Global, digits: &str) -> Result<String, Fail> {
+    Ok(hex::encode(alloc, bytes(alloc, digits)?.as_slice())?)
+}

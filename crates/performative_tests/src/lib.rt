@@ -1,0 +1,13 @@
+//! Tests of the performatives, with bytes written by hand from the standard's tables.
+#![tactic(auto)]
+
+#[cfg(test)]
+mod digits;
+#[cfg(test)]
+mod fields;
+#[cfg(test)]
+mod hostile;
+#[cfg(test)]
+mod spellings;
+#[cfg(test)]
+mod writing;
