@@ -7,8 +7,7 @@ ghost use Rattle.amqp_types.specs.Open.{open_body_at, open_fields, open_first_sa
 ghost use Rattle.amqp_types.specs.declared.performatives.Performative.TheVariants as performative;
 ghost use Rattle.amqp_types.specs.Performatives.{performative_text};
 
-use crate::copies;
-use crate::leaf;
+use crate::{copies, leaf};
 use amqp_values::writing::{described_len, put_described};
 use amqp_values::{Composite, Fields, Leaf, Parts, ReadError, Symbol};
 use bytes::BytesMut;
