@@ -1,0 +1,3 @@
+pub mod LinkFlow
+pub mod Settings
+pub mod Errors
