@@ -1,10 +1,12 @@
 //! Sessions of AMQP 1.0: transfers within the peer's window, links and what they relay, and why a session stopped.
 #![tactic(auto)]
 
+pub mod deliveries;
 pub mod error;
 pub mod flow;
 pub mod frame;
 pub mod numbers;
+pub mod session;
 pub mod settings;
 pub mod stop;
 

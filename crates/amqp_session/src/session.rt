@@ -1,0 +1,4 @@
+//! A session: its state, its numbers, and its links.
+
+pub(crate) mod held;
+pub(crate) mod transfers;
