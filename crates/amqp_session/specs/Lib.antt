@@ -6,3 +6,6 @@ pub mod Deliveries
 pub mod Transfers
 pub mod Sending
 pub mod States
+pub mod Receiving
+pub mod Links
+pub mod Relay

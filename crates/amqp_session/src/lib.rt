@@ -5,7 +5,9 @@ pub mod deliveries;
 pub mod error;
 pub mod flow;
 pub mod frame;
+pub mod link;
 pub mod numbers;
+pub mod relay;
 pub mod session;
 pub mod settings;
 pub mod stop;
@@ -17,5 +19,6 @@ pub use error::{
 pub use flow::LinkFlow;
 pub use frame::{SessionFrame, SessionFrameBody, SessionOutgoingItem};
 pub use numbers::{IncomingChannel, InputHandle, OutgoingChannel, OutputHandle};
+pub use relay::LinkRelay;
 pub use settings::{DEFAULT_WINDOW, SessionSettings};
 pub use stop::{ConnectionStopReason, SessionStopReason};
