@@ -1,10 +1,11 @@
 -- Transfers that are handed out, one at a time.
-use Rattle.std.proofs.Common.{◌≡◌, ℕ, suc, zero, ◌<◌, ◌-◌, drop, ◌+◌, ◌%◌, ◌^◌, ◌++◌, take, append_assoc, List, [], ◌∷◌, refl, ap, arith, Bool, true, false, cond, Some, None, sym, ◌∙◌, length}
+use Rattle.std.proofs.Common.{◌≡◌, ℕ, suc, zero, ◌<◌, ◌-◌, drop, ◌+◌, ◌%◌, ◌^◌, ◌++◌, take, append_assoc, List, [], ◌∷◌, refl, ap, arith, Bool, true, false, cond, Some, None, sym, ◌∙◌, length, min}
 use Rattle.std.specs.Option.{option_map}
 use Rattle.amqp_session.specs.declared.deliveries.Delivery.{Delivery}
 use Rattle.amqp_session.specs.declared.frame.SessionFrame.{SessionFrame}
 use Rattle.amqp_session.specs.declared.frame.SessionFrameBody.TheVariants as Body
 use Rattle.amqp_session.specs.Deliveries.{noted}
+use Rattle.amqp_session.specs.Sending.{SendingView, drained}
 use Rattle.amqp_session.specs.Transfers.{HeldSaid, frame_of, first_of, numbered, firsts, kept_tag, record_of, opened}
 
 -- a delivery's number counts only modulo 2 ^ 32
@@ -52,3 +53,14 @@ pub turn : (c i count : ℕ) (h : HeldSaid) (old new : List HeldSaid) (f : Sessi
 turn c i count h old new f out out' rows rows' a b lt eo eout ef er eb =
     let n : count - i ≡ suc (count - (i + 1)) = omega arith in
     rw (n, eo, eout, ef, er) (refl, said_more c (count - (i + 1)) h new out a b eb, firsts_more (count - (i + 1)) h new a b eb, opened_more (count - (i + 1)) h new rows a b eb)
+
+-- where the window is used up, nothing goes out
+pub still : (channel initial next window delivery : ℕ) (held : List HeldSaid) → window ≡ 0 → next < 2 ^ 32 → delivery < 2 ^ 32 →
+    (let v : SendingView = record { channel = channel; initial = initial; next = next; window = window; delivery = delivery; held = held } in drained v ≡ v)
+still channel initial next window delivery held e hn hd =
+    let en : (next + min window (length held)) % 2 ^ 32 ≡ next = omega arith in
+    let ew : window - length held ≡ window = omega arith in
+    let et : take window held ≡ [] = ap (λ k. take k held) e in
+    let ed : (delivery + firsts (take window held)) % 2 ^ 32 ≡ delivery = omega (arith, ap firsts et) in
+    let eh : drop window held ≡ held = ap (λ k. drop k held) e in
+    rw (en, ew, ed, eh) refl

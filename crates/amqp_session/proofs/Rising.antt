@@ -9,7 +9,7 @@ use Rattle.std.specs.List.{insert}
 use Rattle.std.proofs.lemmas.List.{get_or-map}
 use Rattle.std.proofs.lemmas.List.Edits.{insert_end}
 use Rattle.amqp_session.specs.declared.deliveries.Delivery.{Delivery}
-use Rattle.amqp_session.specs.Deliveries.{recorded, noted, Above, IsRising, number_at}
+use Rattle.amqp_session.specs.Deliveries.{recorded, noted, Above, Under, IsRising, IsTable, number_at}
 
 -- a comparison halves what is left
 pub halved : (c w w' n : ℕ) → 0 < w → w' ≤ w / 2 → 2 ^ c * w ≤ n → (2 ^ (c + 1) * w' ≤ n) × (2 ^ (c + 1) ≤ 2 * n + 1)
@@ -155,3 +155,25 @@ recorded_before rows place d h below above rising other =
       | inr (inl less) ↦ let a = above place (omega arith) (omega arith) in let r = rising_at rows rising place i less lt in omega (arith, a, r)
       | inr (inr more) ↦ absurd (omega arith)
     ])
+
+under_recorded : (n : ℕ) (d : Delivery) (rows : List Delivery) → d.number < n → Under n rows → Under n (recorded d rows)
+under_recorded n d [] h a = (h, tt)
+under_recorded n d (e ∷ es) h a =
+    elim (cases_order e.number d.number) [
+      | inl same ↦ subst (λ xs. Under n xs) (sym (recorded_same d e es same)) (h, a.1)
+      | inr (inl less) ↦ subst (λ xs. Under n xs) (sym (recorded_less d e es less)) (a.0, under_recorded n d es h a.1)
+      | inr (inr more) ↦ subst (λ xs. Under n xs) (sym (recorded_more d e es more)) (h, (a.0, a.1))
+    ]
+
+-- a table with a record more is one
+pub recorded_table : (d : Delivery) (rows : List Delivery) → d.number < 2 ^ 32 → IsTable rows → IsTable (recorded d rows)
+recorded_table d rows h t = (recorded_rising d rows t.0, under_recorded (2 ^ 32) d rows h t.1)
+
+few_above : (m n : ℕ) (rows : List Delivery) → Above m rows → IsRising rows → Under n rows → m < n → m + length rows < n
+few_above m n [] a r u h = omega arith
+few_above m n (e ∷ es) a r u h = let more = few_above e.number n es r.0 r.1 u.1 u.0 in omega (arith, a.0, more)
+
+-- rising numbers below n are at most n
+pub few_rows : (n : ℕ) (rows : List Delivery) → IsRising rows → Under n rows → length rows ≤ n
+few_rows n [] r u = omega arith
+few_rows n (e ∷ es) r u = let more = few_above e.number n es r.0 r.1 u.1 u.0 in omega (arith, more)

@@ -1,5 +1,5 @@
 -- Open deliveries: one record for each number, by rising number (AMQP 1.0 part 2, section 2.6.12).
-use Rattle.std.specs.Prelude.{ℕ, ◌<◌, List, [], ◌∷◌, Option, Some, None, if◌then◌else◌, nat_eq, nat_lt, map, slice_index}
+use Rattle.std.specs.Prelude.{ℕ, ◌<◌, ◌^◌, List, [], ◌∷◌, Option, Some, None, if◌then◌else◌, nat_eq, nat_lt, map, slice_index}
 use Rattle.amqp_types.specs.declared.definitions.Role.{Role}
 use Rattle.amqp_types.specs.declared.definitions.Role.TheVariants.{Sender, Receiver}
 use Rattle.amqp_session.specs.declared.deliveries.Delivery.{Delivery}
@@ -23,6 +23,15 @@ Above n (e ∷ es) = (n < e.number) × Above n es
 abbrev pub IsRising : List Delivery → Type 0
 IsRising [] = Unit {0}
 IsRising (e ∷ es) = Above e.number es × IsRising es
+
+-- all numbers are below n
+abbrev pub Under : ℕ → List Delivery → Type 0
+Under n [] = Unit {0}
+Under n (e ∷ es) = (e.number < n) × Under n es
+
+-- The records of a table: their numbers rise, and are of four bytes.
+abbrev pub IsTable : List Delivery → Type 0
+IsTable rows = IsRising rows × Under (2 ^ 32) rows
 
 -- the number at a place
 abbrev pub number_at : List Delivery → ℕ → ℕ

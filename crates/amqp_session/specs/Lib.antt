@@ -9,3 +9,6 @@ pub mod States
 pub mod Receiving
 pub mod Links
 pub mod Relay
+pub mod Session
+pub mod Items
+pub mod Step

@@ -1,5 +1,6 @@
 -- What a session begins with (AMQP 1.0 part 2, section 2.7.2).
 use Rattle.std.specs.Prelude.{ℕ, List, Option, None}
+use Rattle.amqp_types.specs.Begin.{BeginSaid}
 
 pub record SettingsSaid : Type 0 where
   pub next_outgoing_id : ℕ
@@ -19,4 +20,17 @@ default_settings = record {
   offered_capabilities = None;
   desired_capabilities = None;
   properties = None;
+}
+
+-- the Begin that names them, the channel of the Begin that it answers, and the number of the next transfer
+abbrev pub begin_of : SettingsSaid → Option ℕ → ℕ → BeginSaid
+begin_of s remote_channel next_outgoing_id = record {
+  remote_channel = remote_channel;
+  next_outgoing_id = next_outgoing_id;
+  incoming_window = s.incoming_window;
+  outgoing_window = s.outgoing_window;
+  handle_max = s.handle_max;
+  offered_capabilities = s.offered_capabilities;
+  desired_capabilities = s.desired_capabilities;
+  properties = s.properties;
 }

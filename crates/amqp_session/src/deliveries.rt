@@ -41,7 +41,7 @@ pub(crate) struct Deliveries {
 
 impl Model for Deliveries {
     ghost use Rattle.std.specs.VecDeque.{deque_capacity};
-    ghost use Rattle.amqp_session.specs.Deliveries.{TableView, IsRising};
+    ghost use Rattle.amqp_session.specs.Deliveries.{TableView, IsTable};
 
     ghost Value = { TableView };
 
@@ -52,7 +52,7 @@ impl Model for Deliveries {
       comparisons = t.count.comparisons;
     } };
 
-    ghost invariant = { λ t. IsRising t.rows.items };
+    ghost invariant = { λ t. IsTable t.rows.items };
 }
 
 impl Deliveries {
@@ -75,6 +75,7 @@ impl Deliveries {
     pub(crate) fn len(&self) -> usize
         ensures len { result ≡ length self.now.rows }
         ensures rising { IsRising self.now.rows }
+        ensures few { result ≤ 2 ^ 32 }
     {
         self.rows.len()
     }

@@ -12,6 +12,7 @@ pub mod session;
 pub mod settings;
 pub mod stop;
 
+pub use deliveries::WalkCount;
 pub use error::{
     AllocLinkError, BeginError, Error, LinkRelayError, SessionInnerError, SessionStateError,
     TryEndError,
@@ -20,5 +21,6 @@ pub use flow::LinkFlow;
 pub use frame::{SessionFrame, SessionFrameBody, SessionOutgoingItem};
 pub use numbers::{IncomingChannel, InputHandle, OutgoingChannel, OutputHandle};
 pub use relay::LinkRelay;
+pub use session::Session;
 pub use settings::{DEFAULT_WINDOW, SessionSettings};
 pub use stop::{ConnectionStopReason, SessionStopReason};

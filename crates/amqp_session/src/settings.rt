@@ -1,9 +1,9 @@
 //! What a session begins with (AMQP 1.0 part 2, section 2.7.2).
 
 ghost use Rattle.std.specs.Prelude.{◌≡◌};
-ghost use Rattle.amqp_session.specs.Settings.{default_settings};
+ghost use Rattle.amqp_session.specs.Settings.{default_settings, begin_of};
 
-use amqp_types::{Fields, Handle, Symbol, Uint};
+use amqp_types::{Begin, Fields, Handle, Symbol, Uint};
 use std::marker::Model;
 
 /// The incoming and the outgoing window of a session whose settings name none: 5000 transfers.
@@ -58,6 +58,22 @@ impl SessionSettings {
             offered_capabilities: None,
             desired_capabilities: None,
             properties: None,
+        }
+    }
+
+    /// The Begin that names these settings.
+    pub(crate) fn into_begin(self, remote_channel: Option<u16>, next_outgoing_id: u32) -> Begin
+        ensures { result ≡ begin_of self remote_channel next_outgoing_id }
+    {
+        Begin {
+            remote_channel,
+            next_outgoing_id,
+            incoming_window: self.incoming_window,
+            outgoing_window: self.outgoing_window,
+            handle_max: self.handle_max,
+            offered_capabilities: self.offered_capabilities,
+            desired_capabilities: self.desired_capabilities,
+            properties: self.properties,
         }
     }
 }

@@ -1,14 +1,16 @@
 //! The sending half of a session: the one place that numbers a transfer and lowers the window.
 
-ghost use Rattle.std.specs.Prelude.{◌≡◌, ℕ, ◌+◌, ◌-◌, ◌^◌, ◌%◌, ◌<◌, ◌≤◌, ◌++◌, [], ◌∷◌, length, take, drop, vec_len, vec_capacity, unwrap_or, OnOk, OnErr};
+ghost use Rattle.std.specs.Prelude.{◌≡◌, ℕ, ◌+◌, ◌-◌, ◌^◌, ◌%◌, ◌<◌, ◌≤◌, ◌++◌, [], ◌∷◌, length, take, drop, vec_len, vec_capacity, unwrap_or, OnOk, OnErr, IfOk};
 ghost use Rattle.std.specs.VecDeque.{deque_len, deque_capacity};
 ghost use Rattle.amqp_session.specs.Transfers.{numbered, firsts, opened};
 ghost use Rattle.amqp_session.specs.Deliveries.{noted};
+ghost use Rattle.amqp_session.specs.Items.{HandsOut};
+ghost use Rattle.amqp_session.specs.Step.{is_some_held};
 ghost use Rattle.amqp_session.specs.Sending.{new_sending, joined, begun, moved, ready_count, let_out, opened_by, drained};
 
 use super::held::Held;
 use crate::deliveries::{Deliveries, Delivery};
-use crate::frame::SessionFrame;
+use crate::frame::{SessionFrame, SessionOutgoingItem};
 use crate::numbers::OutgoingChannel;
 use std::alloc::{AllocError, Global};
 use std::collections::VecDeque;
@@ -27,6 +29,8 @@ pub(crate) struct Sending {
 }
 
 impl Model for Sending {
+    ghost use Rattle.amqp_session.specs.Items.{HandsOut};
+    ghost use Rattle.amqp_session.specs.Step.{is_some_held};
     ghost use Rattle.amqp_session.specs.Sending.{SendingView};
 
     ghost Value = { SendingView };
@@ -136,8 +140,106 @@ impl Sending {
 
     /// How many transfers the window lets out.
     pub(crate) fn ready(&self) -> usize
-        ensures { result ≡ ready_count self.now }
+        ensures value { result ≡ ready_count self.now }
+        ensures few { result < 2 ^ 32 }
     {
         self.held.len().min(self.window as usize)
+    }
+
+    /// Hands out what the window lets out, and records the deliveries that it opens.
+    pub(crate) fn drain(&mut self, frames: &mut Vec<SessionFrame>, deliveries: &mut Deliveries)
+        requires room { vec_len frames.old + ready_count self.old ≤ vec_capacity frames.old }
+        requires records { length deliveries.old.rows + ready_count self.old ≤ deliveries.old.capacity }
+        ensures drained { self.new ≡ drained self.old }
+        ensures frames { frames.new.items ≡ frames.old.items ++ let_out self.old }
+        ensures opened { deliveries.new.rows ≡ opened_by self.old deliveries.old.rows }
+    {
+        let count = self.held.len().min(self.window as usize);
+        self.delivery = hand_out(
+            &mut self.held,
+            frames,
+            deliveries,
+            self.channel,
+            count,
+            self.delivery,
+        );
+        self.next = self.next.wrapping_add(count as u32);
+        self.window -= count as u32;
+    }
+
+    /// The transfer waits: the window is used up. On a refusal nothing changes.
+    fn hold_back(&mut self, held: Held) -> Result<(), AllocError>
+        requires { self.old.window ≡ 0 }
+        ensures ok { OnOk result (self.new ≡ drained (joined self.old held)) }
+        ensures err { OnErr result (self.new ≡ self.old) }
+    {
+        // The proof reads the ranges of the two numbers that wrap.
+        let (_next, _delivery) = (self.next, self.delivery);
+        self.held.push_back(held)?;
+        Ok(())
+    }
+
+    /// The transfer goes out alone: none waits, and the window is not used up.
+    fn send_alone(&mut self, held: Held, deliveries: &mut Deliveries) -> SessionFrame
+        requires alone { self.old.held ≡ [] }
+        requires open_window { 0 < self.old.window }
+        requires records { length deliveries.old.rows < deliveries.old.capacity }
+        ensures frame { let_out (joined self.old held) ≡ result ∷ [] }
+        ensures drained { self.new ≡ drained (joined self.old held) }
+        ensures opened { deliveries.new.rows ≡ opened_by (joined self.old held) deliveries.old.rows }
+    {
+        let out = held.numbered(self.channel, self.delivery);
+        note(deliveries, out.delivery);
+        self.delivery = out.next;
+        self.next = self.next.wrapping_add(1);
+        self.window -= 1;
+        out.frame
+    }
+
+    /// The transfer goes behind those that wait, and the window lets out what it can. On a refusal nothing changes.
+    fn send_behind(
+        &mut self,
+        alloc: Global,
+        held: Held,
+        deliveries: &mut Deliveries,
+    ) -> Result<Vec<SessionFrame>, AllocError>
+        ensures frames { IfOk result (λ frames. frames.items ≡ let_out (joined self.old held)) }
+        ensures drained { OnOk result (self.new ≡ drained (joined self.old held)) }
+        ensures opened { OnOk result (deliveries.new.rows ≡ opened_by (joined self.old held) deliveries.old.rows) }
+        ensures err { OnErr result (self.new ≡ self.old) }
+        ensures err_rows { OnErr result (deliveries.new.rows ≡ deliveries.old.rows) }
+    {
+        self.held.reserve(1)?;
+        let count = (self.held.len() + 1).min(self.window as usize);
+        let mut frames = Vec::with_capacity(alloc, count)?;
+        deliveries.reserve(count)?;
+        self.held.push_back_reserved(held);
+        self.drain(&mut frames, deliveries);
+        Ok(frames)
+    }
+
+    /// Takes a transfer: it waits while the window is used up; else those that wait go out first, and then it, while the
+    /// window lasts. On a refusal nothing changes.
+    pub(crate) fn send(
+        &mut self,
+        alloc: Global,
+        held: Held,
+        deliveries: &mut Deliveries,
+    ) -> Result<Option<SessionOutgoingItem>, AllocError>
+        ensures item { IfOk result (λ item. HandsOut (is_some_held self.old.held) (let_out (joined self.old held)) item) }
+        ensures drained { OnOk result (self.new ≡ drained (joined self.old held)) }
+        ensures opened { OnOk result (deliveries.new.rows ≡ opened_by (joined self.old held) deliveries.old.rows) }
+        ensures err { OnErr result (self.new ≡ self.old) }
+        ensures err_rows { OnErr result (deliveries.new.rows ≡ deliveries.old.rows) }
+    {
+        if self.window == 0 {
+            self.hold_back(held)?;
+            return Ok(None);
+        }
+        if self.held.is_empty() {
+            deliveries.reserve(1)?;
+            return Ok(Some(SessionOutgoingItem::SingleFrame(self.send_alone(held, deliveries))));
+        }
+        Ok(Some(SessionOutgoingItem::MultipleFrames(self.send_behind(alloc, held, deliveries)?)))
     }
 }

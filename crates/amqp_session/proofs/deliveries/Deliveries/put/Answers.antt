@@ -1,8 +1,8 @@
-use Rattle.std.proofs.Common.{◌≡◌, ℕ, ◌<◌, ◌≤◌, length, List, ap, sym, subst, ◌∙◌, slice_set, IsTrue, slice_index}
+use Rattle.std.proofs.Common.{arith, ◌≡◌, ℕ, ◌<◌, ◌≤◌, length, List, ap, sym, subst, ◌∙◌, slice_set, IsTrue, slice_index}
 use Rattle.std.specs.List.{insert}
 use Rattle.amqp_session.specs.declared.deliveries.Delivery.{Delivery}
-use Rattle.amqp_session.specs.Deliveries.{TableView, IsRising, number_at, recorded}
-use Rattle.amqp_session.proofs.Rising.{recorded_on, recorded_before, recorded_rising}
+use Rattle.amqp_session.specs.Deliveries.{TableView, IsRising, IsTable, number_at, recorded}
+use Rattle.amqp_session.proofs.Rising.{recorded_on, recorded_before, recorded_table}
 use Rattle.amqp_session.proofs.deliveries.Deliveries.put.Goals as goal
 use Rattle.amqp_session.proofs.deliveries.Deliveries.put.Goals.{in-Some-1, in-None-1}
 
@@ -28,13 +28,13 @@ pub invariant_of-self : goal.invariant_of-self
 invariant_of-self c =
     let e = ap (λ (t : TableView). t.rows) c.self.view_is in
     let f = ap (λ (t : TableView). t.rows) c.place_of-place.ensures.same in
-    subst IsRising (placed_on _ _ _ c.place_of-place.result c.args.delivery e f (c.stands_at.ensures.there c.if-stands_at.true) c.place_of-place.ensures.below) (recorded_rising c.args.delivery _ c.self.invariant)
+    subst IsTable (placed_on _ _ _ c.place_of-place.result c.args.delivery e f (c.stands_at.ensures.there c.if-stands_at.true) c.place_of-place.ensures.below) (recorded_table c.args.delivery _ (omega arith) c.self.invariant)
 
 pub invariant_of-self-then-stands_at-2 : goal.invariant_of-self-then-stands_at-2
 invariant_of-self-then-stands_at-2 c =
     let e = ap (λ (t : TableView). t.rows) c.self.view_is in
     let f = ap (λ (t : TableView). t.rows) c.place_of-place.ensures.same in
-    subst IsRising (placed_on _ _ _ c.place_of-place.result c.args.delivery e f (c.stands_at.ensures.there c.if-stands_at.true) c.place_of-place.ensures.below) (recorded_rising c.args.delivery _ c.self.invariant)
+    subst IsTable (placed_on _ _ _ c.place_of-place.result c.args.delivery e f (c.stands_at.ensures.there c.if-stands_at.true) c.place_of-place.ensures.below) (recorded_table c.args.delivery _ (omega arith) c.self.invariant)
 
 pub returns-then-stands_at-clause-rows : goal.returns-then-stands_at-clause-rows
 returns-then-stands_at-clause-rows c =
@@ -51,14 +51,14 @@ pub invariant_of-self-else-stands_at : goal.invariant_of-self-else-stands_at
 invariant_of-self-else-stands_at c =
     let e = ap (λ (t : TableView). t.rows) c.self.view_is in
     let f = ap (λ (t : TableView). t.rows) c.place_of-place.ensures.same in
-    let placed = placed_between _ _ _ c.place_of-place.result c.args.delivery e f c.self.invariant c.place_of-place.ensures.within (c.stands_at.ensures.not_there c.if-stands_at.false) c.place_of-place.ensures.below c.place_of-place.ensures.above in
+    let placed = placed_between _ _ _ c.place_of-place.result c.args.delivery e f c.self.invariant.0 c.place_of-place.ensures.within (c.stands_at.ensures.not_there c.if-stands_at.false) c.place_of-place.ensures.below c.place_of-place.ensures.above in
     let items = rw c.unwrap.ensures at c.insert.ensures.items in
-    subst IsRising (placed ∙ sym items) (recorded_rising c.args.delivery _ c.self.invariant)
+    subst IsTable (placed ∙ sym items) (recorded_table c.args.delivery _ (omega arith) c.self.invariant)
 
 pub returns-else-stands_at-clause-rows : goal.returns-else-stands_at-clause-rows
 returns-else-stands_at-clause-rows c =
     let e = ap (λ (t : TableView). t.rows) c.self.view_is in
     let f = ap (λ (t : TableView). t.rows) c.place_of-place.ensures.same in
-    let placed = placed_between _ _ _ c.place_of-place.result c.args.delivery e f c.self.invariant c.place_of-place.ensures.within (c.stands_at.ensures.not_there c.if-stands_at.false) c.place_of-place.ensures.below c.place_of-place.ensures.above in
+    let placed = placed_between _ _ _ c.place_of-place.result c.args.delivery e f c.self.invariant.0 c.place_of-place.ensures.within (c.stands_at.ensures.not_there c.if-stands_at.false) c.place_of-place.ensures.below c.place_of-place.ensures.above in
     let items = rw c.unwrap.ensures at c.insert.ensures.items in
     items ∙ sym placed ∙ ap (λ rows. recorded c.args.delivery rows) (e ∙ f)
