@@ -1,3 +1,5 @@
 pub mod Rising
 pub mod Numbering
 pub mod Flows
+pub mod Books
+pub mod Histories

@@ -12,3 +12,5 @@ pub mod Relay
 pub mod Session
 pub mod Items
 pub mod Step
+pub mod History
+pub mod Headline

@@ -34,6 +34,9 @@ pub record Relays (R : Type 0) : Type 1 where
   pub disposition_gives : DispositionGives R
   pub detach_gives : DetachGives R
 
+abbrev pub relays : {R : Type 0} → AttachGives R → FlowGives R → TransferGives R → DispositionGives R → DetachGives R → Relays R
+relays a f t d e = record { attach_gives = a; flow_gives = f; transfer_gives = t; disposition_gives = d; detach_gives = e }
+
 -- A question: how the relay stood, what it was asked, its answer, and how it then stood.
 pub record AttachQuestion (R : Type 0) : Type 0 where
   pub before : R

@@ -5,6 +5,7 @@ pub mod deliveries;
 pub mod error;
 pub mod flow;
 pub mod frame;
+pub mod laws;
 pub mod link;
 pub mod numbers;
 pub mod relay;

@@ -1,0 +1,20 @@
+//! What holds over every history of a session: laws, on functions that do nothing.
+
+ghost use Rattle.std.specs.Prelude.{List};
+ghost use Rattle.amqp_session.specs.Relay.{relays};
+ghost use Rattle.amqp_session.specs.Session.{SessionView};
+ghost use Rattle.amqp_session.specs.History.{Entry, Made, LeadsTo};
+ghost use Rattle.amqp_session.specs.Headline.{Headline, Stands};
+
+use crate::relay::LinkRelay;
+
+/// Whatever calls a session has seen, its numbers, its window, what waits and its state are what its history gives; and the
+/// transfers handed out, and then those held back, are all requested ones but untagged, unmapped and memory refusals, in
+/// order, each delivery numbered once, each inside the peer's latest window; after an accepted transfer or mapped Flow one
+/// waits only while it is used up (AMQP 1.0 part 2, section 2.5.6).
+pub fn law_of_views<R: LinkRelay>()
+    ensures stands { let g = relays R.attach_gives R.flow_gives R.transfer_gives R.disposition_gives R.detach_gives in
+        (m : Made) (h : List (Entry R)) (v : SessionView R) → LeadsTo g m h v → Stands m h v }
+    ensures headline { let g = relays R.attach_gives R.flow_gives R.transfer_gives R.disposition_gives R.detach_gives in
+        (m : Made) (h : List (Entry R)) (v : SessionView R) → LeadsTo g m h v → Headline m h }
+{}
