@@ -1,31 +1,19 @@
 -- The books of the sending half: numbers, window and what waits.
-use Rattle.std.proofs.Common.{◌≡◌, ℕ, suc, zero, ◌<◌, ◌≤◌, ◌-◌, ◌+◌, ◌%◌, ◌^◌, ◌++◌, [], ◌∷◌, List, length, take, drop, refl, ap, arith, sym, subst, ◌∙◌, min, append_assoc, append-nil, length-append, length-take, length-drop, Bool, true, false, cond, Option, Some, None, Result, Ok, Err, unwrap_or, ◌⊎◌, inl, inr}
-use Rattle.std.proofs.lemmas.List.{drop_all, take-append-le, drop-append-le, drop-drop, take_min, drop_min}
-use Rattle.std.proofs.lemmas.Bool.{cases_lt}
+use Rattle.std.proofs.Common.{◌≡◌, ℕ, suc, zero, ◌<◌, ◌≤◌, ◌-◌, ◌+◌, ◌%◌, ◌^◌, ◌++◌, [], ◌∷◌, List, length, take, drop, refl, ap, arith, sym, subst, ◌∙◌, min, append_assoc, append-nil, length-append, length-take, length-drop, Bool, true, false, cond, Option, Some, None, unwrap_or}
+use Rattle.std.proofs.lemmas.List.{take-append-le, drop-append-le, drop-drop, take_min, drop_min}
 use Rattle.std.specs.Option.{option_map}
-use Rattle.amqp_types.specs.Flow.{FlowSaid}
-use Rattle.amqp_types.specs.Begin.{BeginSaid}
-use Rattle.amqp_types.specs.declared.states.SessionState.{SessionState}
 use Rattle.amqp_session.specs.declared.flow.LinkFlow.{LinkFlow}
 use Rattle.amqp_session.specs.declared.frame.SessionFrame.{SessionFrame}
-use Rattle.amqp_session.specs.declared.frame.SessionFrameBody.TheVariants as Body
 use Rattle.amqp_session.specs.declared.frame.SessionOutgoingItem.{SessionOutgoingItem}
 use Rattle.amqp_session.specs.declared.frame.SessionOutgoingItem.TheVariants.{SingleFrame, MultipleFrames}
-use Rattle.amqp_session.specs.declared.error.SessionInnerError.{SessionInnerError}
-use Rattle.amqp_session.specs.declared.error.SessionInnerError.TheVariants as Refused
-use Rattle.amqp_session.specs.declared.error.SessionStateError.{SessionStateError}
-use Rattle.amqp_session.specs.declared.error.SessionStateError.TheVariants as Begins
-use Rattle.amqp_session.specs.declared.error.LinkRelayError.{LinkRelayError}
-use Rattle.amqp_session.specs.Serial.{past, In, remaining}
-use Rattle.amqp_session.specs.States.{is_mapped, sends_begin, takes_begin, sends_end, takes_end}
+use Rattle.amqp_session.specs.Serial.{In, remaining}
+use Rattle.amqp_session.specs.States.{is_mapped}
 use Rattle.amqp_session.specs.Transfers.{HeldSaid, frame_of, first_of, numbered, firsts}
-use Rattle.amqp_session.specs.Sending.{SendingView, new_sending, joined, moved, begun, let_out, drained}
+use Rattle.amqp_session.specs.Sending.{SendingView, joined, moved, begun, let_out, drained}
 use Rattle.amqp_session.specs.Items.{HandsOut, item_frames, first_frame, is_some_list}
-use Rattle.amqp_session.specs.Relay.{Relays, FlowGives, FlowQuestion}
-use Rattle.amqp_session.specs.Session.{SessionView, new_session, flow_frame, lets, let_gone}
-use Rattle.amqp_session.specs.Step.{has_error, IsUntagged, waits, flow_moved, FlowFits, FlowGoes, FlowAnswered, FlowUnasked, LinkFlowStep, FlowTaken, FlowStep, TakeTransferStep, LinkTransferStep, TransferAnswered, TransferUnasked, SendTransferStep}
-use Rattle.amqp_session.specs.History.{Entry, SendsBegin, SendsEnd, TakesBegin, TakesEnd, AllocatesLink, AllocatesIncomingLink, DeallocatesLink, TakesAttach, TakesFlow, TakesTransfer, TakesDisposition, TakesDetach, SendsAttach, SendsFlow, SendsTransfer, SendsDisposition, SendsDetach, SendsSessionFlow, RecordsStop, Made, Step, Chain, LeadsTo}
-use Rattle.amqp_session.specs.Headline.{answer_frames, frames, transfer_in, transfers_in, accepted_by, handed, accepted, waiting, number, window_by, window_from, window, state_by, state_from, state, Answers, AllAnswered, Accounts, Inside, LetsOut, WaitsOnly, Headline, Books, Stands}
+use Rattle.amqp_session.specs.Session.{SessionView, flow_frame, lets, let_gone}
+use Rattle.amqp_session.specs.Step.{FlowGoes}
+use Rattle.amqp_session.specs.Headline.{transfer_in, transfers_in, Books}
 use Rattle.amqp_session.proofs.Numbering.{numbered_same}
 
 -- ---- numbers past the wrap

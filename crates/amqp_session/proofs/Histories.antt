@@ -1,33 +1,28 @@
 -- The law of views, by induction over the calls of a session.
-use Rattle.std.proofs.Common.{◌≡◌, ℕ, suc, zero, ◌<◌, ◌≤◌, ◌-◌, ◌+◌, ◌%◌, ◌^◌, ◌++◌, [], ◌∷◌, List, length, take, drop, refl, ap, arith, sym, subst, ◌∙◌, min, append_assoc, append-nil, length-append, length-take, length-drop, Bool, true, false, cond, Option, Some, None, Result, Ok, Err, unwrap_or, ◌⊎◌, inl, inr}
-use Rattle.std.proofs.lemmas.List.{drop_all, take-append-le, drop-append-le, drop-drop, take_min, drop_min}
+use Rattle.std.proofs.Common.{◌≡◌, ℕ, ◌<◌, ◌+◌, ◌%◌, ◌^◌, ◌++◌, [], ◌∷◌, List, length, take, refl, ap, arith, sym, subst, ◌∙◌, append_assoc, append-nil, length-append, length-take, Bool, true, false, cond, Option, Some, None, Result, Ok, Err, unwrap_or, ◌⊎◌, inl, inr}
+use Rattle.std.proofs.lemmas.List.{drop_all}
 use Rattle.std.proofs.lemmas.Bool.{cases_lt}
-use Rattle.std.specs.Option.{option_map}
 use Rattle.amqp_types.specs.Flow.{FlowSaid}
-use Rattle.amqp_types.specs.Begin.{BeginSaid}
 use Rattle.amqp_types.specs.declared.states.SessionState.{SessionState}
 use Rattle.amqp_session.specs.declared.flow.LinkFlow.{LinkFlow}
 use Rattle.amqp_session.specs.declared.frame.SessionFrame.{SessionFrame}
-use Rattle.amqp_session.specs.declared.frame.SessionFrameBody.TheVariants as Body
 use Rattle.amqp_session.specs.declared.frame.SessionOutgoingItem.{SessionOutgoingItem}
 use Rattle.amqp_session.specs.declared.frame.SessionOutgoingItem.TheVariants.{SingleFrame, MultipleFrames}
 use Rattle.amqp_session.specs.declared.error.SessionInnerError.{SessionInnerError}
 use Rattle.amqp_session.specs.declared.error.SessionInnerError.TheVariants as Refused
-use Rattle.amqp_session.specs.declared.error.SessionStateError.{SessionStateError}
 use Rattle.amqp_session.specs.declared.error.SessionStateError.TheVariants as Begins
 use Rattle.amqp_session.specs.declared.error.LinkRelayError.{LinkRelayError}
-use Rattle.amqp_session.specs.Serial.{past, In, remaining}
-use Rattle.amqp_session.specs.States.{is_mapped, sends_begin, takes_begin, sends_end, takes_end}
-use Rattle.amqp_session.specs.Transfers.{HeldSaid, frame_of, first_of, numbered, firsts}
-use Rattle.amqp_session.specs.Sending.{SendingView, new_sending, joined, moved, begun, let_out, drained}
-use Rattle.amqp_session.specs.Items.{HandsOut, item_frames, first_frame, is_some_list}
-use Rattle.amqp_session.specs.Relay.{Relays, FlowGives, FlowQuestion}
-use Rattle.amqp_session.specs.Session.{SessionView, new_session, flow_frame, lets, let_gone}
-use Rattle.amqp_session.specs.Step.{has_error, IsUntagged, waits, flow_moved, FlowFits, FlowGoes, FlowAnswered, FlowUnasked, LinkFlowStep, FlowTaken, FlowStep, TakeTransferStep, LinkTransferStep, TransferAnswered, TransferUnasked, SendTransferStep}
-use Rattle.amqp_session.specs.History.{Entry, SendsBegin, SendsEnd, TakesBegin, TakesEnd, AllocatesLink, AllocatesIncomingLink, DeallocatesLink, TakesAttach, TakesFlow, TakesTransfer, TakesDisposition, TakesDetach, SendsAttach, SendsFlow, SendsTransfer, SendsDisposition, SendsDetach, SendsSessionFlow, RecordsStop, Made, Step, Chain, LeadsTo}
-use Rattle.amqp_session.specs.Headline.{answer_frames, frames, transfer_in, transfers_in, accepted_by, handed, accepted, waiting, number, window_by, window_from, window, state_by, state_from, state, Answers, AllAnswered, Accounts, Inside, LetsOut, WaitsOnly, Headline, Books, Stands}
-use Rattle.amqp_session.proofs.Numbering.{numbered_same}
-use Rattle.amqp_session.proofs.Books.{inside_at, remaining_after, used_up, length-numbered, numbered-append, firsts-append, take-nil, take-add, transfers_in-append, transfers_in-numbered, hands_frames, Books-joined, Books-moved, Books-begun, Books-drained, Books-same, Goes, Books-goes, goes_by, echo_has_none, flow_goes, send_goes}
+use Rattle.amqp_session.specs.Serial.{In, remaining}
+use Rattle.amqp_session.specs.States.{is_mapped}
+use Rattle.amqp_session.specs.Transfers.{HeldSaid}
+use Rattle.amqp_session.specs.Sending.{SendingView, let_out, drained}
+use Rattle.amqp_session.specs.Items.{item_frames}
+use Rattle.amqp_session.specs.Relay.{Relays, FlowQuestion}
+use Rattle.amqp_session.specs.Session.{SessionView, new_session, let_gone}
+use Rattle.amqp_session.specs.Step.{waits, flow_moved, FlowAnswered, FlowUnasked, FlowTaken, TakeTransferStep, TransferAnswered, TransferUnasked, SendTransferStep}
+use Rattle.amqp_session.specs.History.{Entry, SendsBegin, SendsEnd, TakesBegin, TakesEnd, TakesFlow, TakesTransfer, SendsFlow, SendsTransfer, SendsSessionFlow, RecordsStop, Made, Step, Chain, LeadsTo}
+use Rattle.amqp_session.specs.Headline.{frames, transfers_in, accepted_by, handed, accepted, waiting, number, window_by, window_from, window, state_by, state_from, Answers, LetsOut, Headline, Books, Stands}
+use Rattle.amqp_session.proofs.Books.{inside_at, used_up, length-numbered, Books-joined, Books-moved, Books-begun, Books-same, Goes, Books-goes, flow_goes, send_goes}
 
 -- ---- what each call does to the sending half and to the state
 

@@ -1,5 +1,5 @@
 -- Transfers that are handed out, one at a time.
-use Rattle.std.proofs.Common.{◌≡◌, ℕ, suc, zero, ◌<◌, ◌-◌, drop, ◌+◌, ◌%◌, ◌^◌, ◌++◌, take, append_assoc, List, [], ◌∷◌, refl, ap, arith, Bool, true, false, cond, Some, None, sym, ◌∙◌, length, min}
+use Rattle.std.proofs.Common.{◌≡◌, ℕ, suc, ◌<◌, ◌-◌, drop, ◌+◌, ◌%◌, ◌^◌, ◌++◌, take, append_assoc, List, [], ◌∷◌, refl, ap, arith, cond, Some, None, ◌∙◌, length, min}
 use Rattle.std.specs.Option.{option_map}
 use Rattle.amqp_session.specs.declared.deliveries.Delivery.{Delivery}
 use Rattle.amqp_session.specs.declared.frame.SessionFrame.{SessionFrame}

@@ -1,7 +1,5 @@
 -- What holds of every history of one session, said of the history alone (AMQP 1.0 part 2, section 2.5.6).
-use Rattle.std.specs.Prelude.{◌≡◌, ◌⊎◌, ◌<◌, ◌≤◌, ◌+◌, ◌%◌, ◌^◌, ℕ, Bool, true, false, List, [], ◌∷◌, ◌++◌, length, take, drop, Option, Some, None, Result, Ok, Err, unwrap_or}
-use Rattle.amqp_types.specs.Begin.{BeginSaid}
-use Rattle.amqp_types.specs.Flow.{FlowSaid}
+use Rattle.std.specs.Prelude.{◌≡◌, ◌⊎◌, ◌<◌, ◌≤◌, ◌+◌, ◌%◌, ◌^◌, ℕ, true, false, List, [], ◌∷◌, ◌++◌, length, take, drop, Option, Result, Ok, Err, unwrap_or}
 use Rattle.amqp_types.specs.declared.states.SessionState.{SessionState}
 use Rattle.amqp_session.specs.declared.frame.SessionFrame.{SessionFrame}
 use Rattle.amqp_session.specs.declared.frame.SessionFrameBody.{SessionFrameBody}
@@ -16,7 +14,7 @@ use Rattle.amqp_session.specs.Sending.{SendingView}
 use Rattle.amqp_session.specs.Session.{SessionView}
 use Rattle.amqp_session.specs.Step.{IsUntagged, has_error}
 use Rattle.amqp_session.specs.Transfers.{HeldSaid, numbered, firsts}
-use Rattle.amqp_session.specs.History.{Entry, SendsBegin, SendsEnd, TakesBegin, TakesEnd, AllocatesLink, AllocatesIncomingLink, DeallocatesLink, TakesAttach, TakesFlow, TakesTransfer, TakesDisposition, TakesDetach, SendsAttach, SendsFlow, SendsTransfer, SendsDisposition, SendsDetach, SendsSessionFlow, RecordsStop, Made}
+use Rattle.amqp_session.specs.History.{Entry, SendsBegin, SendsEnd, TakesBegin, TakesEnd, TakesFlow, SendsTransfer, Made}
 
 -- ---- what a call took and handed out
 

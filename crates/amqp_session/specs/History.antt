@@ -1,6 +1,5 @@
 -- The history of one session: its calls with their arguments, answers and questions to relays, the oldest first.
-use Rattle.std.specs.Prelude.{◌≡◌, ◌<◌, ◌^◌, ℕ, Bool, List, [], ◌∷◌, ◌++◌, Option, Some, None, Result, Ok, Err, Vec}
-use Rattle.std.specs.declared.alloc.Global.{Global}
+use Rattle.std.specs.Prelude.{◌≡◌, ◌<◌, ◌^◌, ℕ, Bool, List, [], ◌∷◌, Option, Result}
 use Rattle.amqp_types.specs.Error.{ErrorSaid}
 use Rattle.amqp_types.specs.Begin.{BeginSaid}
 use Rattle.amqp_types.specs.End.{EndSaid}
@@ -23,7 +22,6 @@ use Rattle.amqp_session.specs.declared.error.AllocLinkError.{AllocLinkError}
 use Rattle.amqp_session.specs.Settings.{SettingsSaid}
 use Rattle.amqp_session.specs.Transfers.{HeldSaid}
 use Rattle.amqp_session.specs.Relay.{Relays, AttachQuestion, FlowQuestion, TransferQuestion, DispositionQuestion, DetachQuestion}
-use Rattle.amqp_session.specs.Items.{item_frames}
 use Rattle.amqp_session.specs.Session.{SessionView, new_session}
 use Rattle.amqp_session.specs.Step.{SendBeginStep, SendEndStep, TakeBeginStep, TakeEndStep, SendTransferStep, FlowStep, TakeTransferStep, SendFlowStep, SessionFlowStep, StopStep}
 

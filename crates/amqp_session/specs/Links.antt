@@ -1,5 +1,5 @@
 -- What contracts see of a session's links (AMQP 1.0 part 2, section 2.6).
-use Rattle.std.specs.Prelude.{◌≡◌, ℕ, List, [], Option, Some, nat_eq, option_copied}
+use Rattle.std.specs.Prelude.{ℕ, List, [], Option, nat_eq}
 use Rattle.std.specs.Map.{lookup, set_value}
 use Rattle.amqp_session.specs.declared.link.Attached.{Attached}
 use Rattle.amqp_session.specs.declared.link.Named.{Named}

@@ -8,7 +8,6 @@ use Rattle.amqp_types.specs.declared.definitions.DeliveryTag.{DeliveryTag}
 use Rattle.amqp_session.specs.declared.numbers.OutputHandle.{OutputHandle}
 use Rattle.amqp_session.specs.declared.flow.LinkFlow.{LinkFlow}
 use Rattle.amqp_session.specs.declared.error.LinkRelayError.{LinkRelayError}
-use Rattle.amqp_session.specs.declared.link.Attached.{Attached}
 use Rattle.amqp_session.specs.Links.{LinksView, attached_at, put_at}
 
 -- What relays of a kind may answer: for each question a relation of old state, arguments, answer and new state.

@@ -1,12 +1,11 @@
 -- What contracts see of a session, and the frames that it makes (AMQP 1.0 part 2, sections 2.5 and 2.7).
-use Rattle.std.specs.Prelude.{ℕ, List, [], Option, Some, None, Bool, true, false, if◌then◌else◌, ◌/◌, nat_le}
+use Rattle.std.specs.Prelude.{ℕ, List, [], Option, Some, None, Bool, false, if◌then◌else◌, ◌/◌, nat_le}
 use Rattle.amqp_types.specs.Error.{ErrorSaid}
 use Rattle.amqp_types.specs.Flow.{FlowSaid}
 use Rattle.amqp_types.specs.declared.states.SessionState.{SessionState}
 use Rattle.amqp_session.specs.declared.flow.LinkFlow.{LinkFlow}
 use Rattle.amqp_session.specs.declared.frame.SessionFrame.{SessionFrame}
 use Rattle.amqp_session.specs.declared.frame.SessionFrameBody.TheVariants as Body
-use Rattle.amqp_session.specs.declared.deliveries.Delivery.{Delivery}
 use Rattle.amqp_session.specs.declared.deliveries.WalkCount.{WalkCount}
 use Rattle.amqp_session.specs.declared.session.receiving.Receiving.{Receiving}
 use Rattle.amqp_session.specs.declared.stop.ConnectionStopReason.{ConnectionStopReason}
@@ -14,7 +13,7 @@ use Rattle.amqp_session.specs.declared.stop.SessionStopReason.{SessionStopReason
 use Rattle.amqp_session.specs.Settings.{SettingsSaid, begin_of}
 use Rattle.amqp_session.specs.States.{is_mapped}
 use Rattle.amqp_session.specs.Sending.{SendingView, new_sending, let_out, opened_by, drained}
-use Rattle.amqp_session.specs.Receiving.{nothing_received, counted, rested}
+use Rattle.amqp_session.specs.Receiving.{nothing_received}
 use Rattle.amqp_session.specs.Deliveries.{OpenView}
 use Rattle.amqp_session.specs.Links.{LinksView, no_links}
 

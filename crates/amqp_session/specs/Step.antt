@@ -1,6 +1,6 @@
 -- What each call of a session does: its answer, the frames handed out with it, the questions to relays, and the session
 -- after it. A refusal's case says that no refusal before it stands.
-use Rattle.std.specs.Prelude.{◌≡◌, ◌<◌, ◌^◌, ◌⊎◌, ℕ, Bool, true, false, List, [], ◌∷◌, ◌++◌, Option, Some, None, Result, Ok, Err, IsSome, unwrap_or, length, nat_eq}
+use Rattle.std.specs.Prelude.{◌≡◌, ◌<◌, ◌^◌, ◌⊎◌, ℕ, Bool, true, false, List, [], ◌∷◌, ◌++◌, Option, Some, None, Result, Ok, Err, IsSome, unwrap_or}
 use Rattle.std.specs.Option.{option_map}
 use Rattle.amqp_types.specs.declared.definitions.DeliveryTag.{DeliveryTag}
 use Rattle.amqp_types.specs.Error.{ErrorSaid}
@@ -24,7 +24,7 @@ use Rattle.amqp_session.specs.Errors.{inner_of_relay}
 use Rattle.amqp_session.specs.LinkFlow.{link_flow_of}
 use Rattle.amqp_session.specs.States.{is_mapped, sends_begin, takes_begin, sends_end, takes_end, answers_end}
 use Rattle.amqp_session.specs.Transfers.{HeldSaid}
-use Rattle.amqp_session.specs.Sending.{SendingView, joined, begun, moved, let_out}
+use Rattle.amqp_session.specs.Sending.{joined, begun, moved}
 use Rattle.amqp_session.specs.Receiving.{told, counted, rested}
 use Rattle.amqp_session.specs.Deliveries.{noted}
 use Rattle.amqp_session.specs.Links.{LinksView, attached_at}

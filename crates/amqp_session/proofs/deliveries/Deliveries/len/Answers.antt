@@ -1,4 +1,4 @@
-use Rattle.std.proofs.Common.{rules, ◌≡◌, ◌≤◌, ◌^◌, length, arith, ap, ◌∙◌}
+use Rattle.std.proofs.Common.{rules, ◌≡◌, ◌^◌, length, arith}
 use Rattle.std.specs.VecDeque.{deque_len}
 use Rattle.amqp_session.proofs.Rising.{few_rows}
 use Rattle.amqp_session.proofs.deliveries.Deliveries.len.Goals as goal

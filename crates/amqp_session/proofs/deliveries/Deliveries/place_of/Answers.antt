@@ -1,5 +1,5 @@
-use Rattle.std.proofs.Common.{◌≡◌, ℕ, ◌+◌, ◌-◌, ◌*◌, ◌^◌, ◌<◌, ◌≤◌, ◌/◌, length, arith, ap, sym, subst, ◌∙◌, refl}
-use Rattle.amqp_session.specs.Deliveries.{TableView, number_at, IsRising}
+use Rattle.std.proofs.Common.{◌≡◌, ℕ, ◌+◌, ◌-◌, ◌<◌, ◌≤◌, ◌/◌, length, arith, ap, subst, ◌∙◌, refl}
+use Rattle.amqp_session.specs.Deliveries.{TableView, number_at}
 use Rattle.amqp_session.proofs.Rising.{halved, below_place, above_place, few}
 use Rattle.amqp_session.proofs.deliveries.Deliveries.place_of.Goals as goal
 

@@ -1,4 +1,4 @@
-use Rattle.std.proofs.Common.{arith, ◌≡◌, ℕ, ◌<◌, ◌≤◌, length, List, ap, sym, subst, ◌∙◌, slice_set, IsTrue, slice_index}
+use Rattle.std.proofs.Common.{arith, ◌≡◌, ℕ, ◌<◌, ◌≤◌, length, List, ap, sym, subst, ◌∙◌, slice_set}
 use Rattle.std.specs.List.{insert}
 use Rattle.amqp_session.specs.declared.deliveries.Delivery.{Delivery}
 use Rattle.amqp_session.specs.Deliveries.{TableView, IsRising, IsTable, number_at, recorded}

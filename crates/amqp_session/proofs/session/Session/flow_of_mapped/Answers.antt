@@ -1,4 +1,4 @@
-use Rattle.std.proofs.Common.{◌≡◌, ◌++◌, Option, Some, None, Ok, Err, refl, ap, ◌∙◌, subst, true}
+use Rattle.std.proofs.Common.{◌≡◌, ◌++◌, Option, Some, Ok, Err, refl, ap, ◌∙◌, subst, true}
 use Rattle.amqp_session.specs.declared.frame.SessionFrame.{SessionFrame}
 use Rattle.amqp_session.specs.Items.{HandsOut, is_some_list, first_frame}
 use Rattle.amqp_session.specs.States.{is_mapped}

@@ -1,7 +1,5 @@
-use Rattle.std.proofs.Common.{◌≡◌, Option, Some, None, Ok, Err, refl, ap, ◌∙◌, sym}
-use Rattle.amqp_session.specs.Deliveries.{TableView, noted}
-use Rattle.amqp_session.specs.Session.{SessionView}
-use Rattle.amqp_session.specs.Step.{named_delivery, named_by}
+use Rattle.std.proofs.Common.{Some, Ok, Err, refl, ap}
+use Rattle.amqp_session.specs.Deliveries.{TableView}
 use Rattle.amqp_session.proofs.Flows.{sender_room_taken, named_is}
 use Rattle.amqp_session.proofs.session.Session.transfer_of_link.Goals as goal
 

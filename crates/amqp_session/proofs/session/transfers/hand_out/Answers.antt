@@ -1,7 +1,5 @@
-use Rattle.std.proofs.Common.{rules, ◌≡◌, ℕ, suc, ◌+◌, ◌-◌, ◌^◌, ◌%◌, ◌<◌, ◌≤◌, ◌++◌, [], ◌∷◌, length, take, drop, vec_len, vec_capacity, List, arith, ap, sym, ◌∙◌}
-use Rattle.std.proofs.lemmas.Grind.{common_steps}
+use Rattle.std.proofs.Common.{◌≡◌, ◌-◌, length, arith, ap, ◌∙◌}
 use Rattle.amqp_session.specs.Deliveries.{noted}
-use Rattle.amqp_session.specs.Transfers.{numbered, firsts, frame_of, first_of, record_of, opened}
 use Rattle.amqp_session.proofs.Numbering.{turn}
 use Rattle.amqp_session.proofs.Rising.{noted_length}
 use Rattle.amqp_session.proofs.session.transfers.hand_out.Goals as goal

@@ -1,4 +1,4 @@
-use Rattle.std.proofs.Common.{◌≡◌, ℕ, ◌+◌, ◌-◌, ◌^◌, ◌%◌, ◌<◌, ◌≤◌, ◌++◌, [], ◌∷◌, length, take, drop, vec_len, vec_capacity}
+use Rattle.std.proofs.Common.{◌≡◌, ◌+◌, ◌-◌, ◌^◌, ◌%◌, ◌<◌, ◌≤◌, ◌++◌, length, take, drop, vec_len, vec_capacity}
 use Rattle.amqp_session.specs.Transfers.{numbered, firsts, opened}
 use Rattle.amqp_session.proofs.session.transfers.hand_out.Given as goal
 

@@ -1,4 +1,4 @@
-use Rattle.std.proofs.Common.{◌≡◌, ℕ, ◌^◌, ◌<◌, ap, sym, ◌∙◌, arith}
+use Rattle.std.proofs.Common.{◌≡◌, ap, sym, ◌∙◌, arith}
 use Rattle.amqp_session.specs.Sending.{SendingView}
 use Rattle.amqp_session.proofs.Numbering.{still}
 use Rattle.amqp_session.proofs.session.transfers.Sending.hold_back.Goals as goal
