@@ -3,3 +3,4 @@ pub mod Numbering
 pub mod Flows
 pub mod Books
 pub mod Histories
+pub mod SessionFlows
