@@ -1,0 +1,6 @@
+pub mod Rising
+pub mod Numbering
+pub mod Flows
+pub mod Books
+pub mod Histories
+pub mod SessionFlows

@@ -1,0 +1,16 @@
+pub mod LinkFlow
+pub mod Settings
+pub mod Errors
+pub mod Serial
+pub mod Deliveries
+pub mod Transfers
+pub mod Sending
+pub mod States
+pub mod Receiving
+pub mod Links
+pub mod Relay
+pub mod Session
+pub mod Items
+pub mod Step
+pub mod History
+pub mod Headline

@@ -1,8 +1,27 @@
-//! Sessions of AMQP 1.0: channels and handles, and why a session or a connection stopped.
+//! Sessions of AMQP 1.0: transfers within the peer's window, links and what they relay, and why a session stopped.
 #![tactic(auto)]
 
+pub mod deliveries;
+pub mod error;
+pub mod flow;
+pub mod frame;
+pub mod laws;
+pub mod link;
 pub mod numbers;
+pub mod relay;
+pub mod session;
+pub mod settings;
 pub mod stop;
 
-pub use numbers::{IncomingChannel, OutgoingChannel};
-pub use stop::ConnectionStopReason;
+pub use deliveries::WalkCount;
+pub use error::{
+    AllocLinkError, BeginError, Error, LinkRelayError, SessionInnerError, SessionStateError,
+    TryEndError,
+};
+pub use flow::LinkFlow;
+pub use frame::{SessionFrame, SessionFrameBody, SessionOutgoingItem};
+pub use numbers::{IncomingChannel, InputHandle, OutgoingChannel, OutputHandle};
+pub use relay::LinkRelay;
+pub use session::Session;
+pub use settings::{DEFAULT_WINDOW, SessionSettings};
+pub use stop::{ConnectionStopReason, SessionStopReason};

@@ -1,6 +1,8 @@
-//! Channels by their direction: the numbers are of one kind, and a mistake of direction does not compile.
+//! Channels and handles by their direction: the numbers are of one kind, and a mistake of direction does not compile.
 
 ghost use Rattle.std.specs.Prelude.{◌≡◌};
+
+use amqp_types::Handle;
 
 /// The channel of frames that this side sends for a session (AMQP 1.0 part 2, section 2.3.1). Equality, order and hash
 /// are those of the number.
@@ -11,6 +13,16 @@ pub struct OutgoingChannel(pub u16);
 /// those of the number.
 #[derive(Clone, Copy, Debug, PartialEq, Eq, PartialOrd, Ord, Hash)]
 pub struct IncomingChannel(pub u16);
+
+/// The handle under which this side names a link in the frames that it sends (AMQP 1.0 part 2, section 2.6.2). Equality,
+/// order and hash are those of the number.
+#[derive(Clone, Copy, Debug, PartialEq, Eq, PartialOrd, Ord, Hash)]
+pub struct OutputHandle(pub u32);
+
+/// The handle under which the peer names a link in the frames that it sends (AMQP 1.0 part 2, section 2.6.2). Equality,
+/// order and hash are those of the number.
+#[derive(Clone, Copy, Debug, PartialEq, Eq, PartialOrd, Ord, Hash)]
+pub struct InputHandle(pub u32);
 
 impl From<OutgoingChannel> for u16 {
     ghost from_gives = { λ c n. n ≡ c.0 };
@@ -25,5 +37,37 @@ impl From<IncomingChannel> for u16 {
 
     fn from(channel: IncomingChannel) -> u16 {
         channel.0
+    }
+}
+
+impl From<Handle> for OutputHandle {
+    ghost from_gives = { λ h o. o ≡ record { 0 = h.0 } };
+
+    fn from(handle: Handle) -> OutputHandle {
+        OutputHandle(handle.0)
+    }
+}
+
+impl From<OutputHandle> for Handle {
+    ghost from_gives = { λ o h. h ≡ record { 0 = o.0 } };
+
+    fn from(handle: OutputHandle) -> Handle {
+        Handle(handle.0)
+    }
+}
+
+impl From<Handle> for InputHandle {
+    ghost from_gives = { λ h i. i ≡ record { 0 = h.0 } };
+
+    fn from(handle: Handle) -> InputHandle {
+        InputHandle(handle.0)
+    }
+}
+
+impl From<InputHandle> for Handle {
+    ghost from_gives = { λ i h. h ≡ record { 0 = i.0 } };
+
+    fn from(handle: InputHandle) -> Handle {
+        Handle(handle.0)
     }
 }

@@ -1,4 +1,7 @@
-//! Why a connection stopped.
+//! Why a connection or a session stopped.
+
+ghost use Rattle.std.specs.Prelude.{◌≡◌};
+ghost use Rattle.amqp_session.specs.declared.stop.SessionStopReason.TheVariants.{ConnectionStopped};
 
 /// Why a connection stopped. The first reason that is recorded stays.
 #[derive(Clone, Copy, Debug, PartialEq, Eq)]
@@ -11,4 +14,27 @@ pub enum ConnectionStopReason {
     RemoteClosed,
     /// The peer closed it with an error.
     RemoteClosedWithError,
+}
+
+/// Why a session stopped. The first reason that is recorded stays.
+#[derive(Clone, Copy, Debug, PartialEq, Eq)]
+pub enum SessionStopReason {
+    /// This side ended it.
+    Ended,
+    /// This side ended it with an error.
+    EndedWithError,
+    /// The peer ended it.
+    RemoteEnded,
+    /// The peer ended it with an error.
+    RemoteEndedWithError,
+    /// Its connection stopped.
+    ConnectionStopped(ConnectionStopReason),
+}
+
+impl From<ConnectionStopReason> for SessionStopReason {
+    ghost from_gives = { λ c s. s ≡ ConnectionStopped c };
+
+    fn from(reason: ConnectionStopReason) -> SessionStopReason {
+        SessionStopReason::ConnectionStopped(reason)
+    }
 }

@@ -1,0 +1,50 @@
+-- What a flow lets out, by the state.
+use Rattle.std.proofs.Common.{◌≡◌, List, [], ◌++◌, Option, Bool, true, false, cond, append-nil, refl, ℕ}
+use Rattle.std.specs.Option.{option_map}
+use Rattle.amqp_session.specs.declared.deliveries.Delivery.{Delivery}
+use Rattle.amqp_session.specs.declared.flow.LinkFlow.{LinkFlow}
+use Rattle.amqp_session.specs.declared.frame.SessionFrame.{SessionFrame}
+use Rattle.amqp_session.specs.declared.frame.SessionOutgoingItem.{SessionOutgoingItem}
+use Rattle.amqp_session.specs.Items.{HandsOut, is_some_list, first_frame}
+use Rattle.amqp_session.specs.States.{is_mapped}
+use Rattle.amqp_session.specs.Sending.{SendingView, let_out, opened_by, drained}
+use Rattle.amqp_session.specs.Session.{SessionView, flow_frame}
+use Rattle.amqp_types.specs.declared.definitions.DeliveryTag.{DeliveryTag}
+use Rattle.amqp_session.specs.Deliveries.{noted}
+use Rattle.amqp_session.specs.Step.{FlowGoes, named_delivery, named_by}
+
+stays : {V : Type 0} → (b : Bool) (out first : List SessionFrame) (item : Option SessionOutgoingItem) (w v gone : V) → b ≡ false → HandsOut false first item → w ≡ v →
+    HandsOut (is_some_list (cond b out [])) (first ++ cond b out []) item × (w ≡ cond b gone v)
+stays b out first item w v gone e h q = rw (e, append-nil first) (h, q)
+
+goes : {V : Type 0} → (b : Bool) (out first : List SessionFrame) (item : Option SessionOutgoingItem) (w v gone : V) → b ≡ true → HandsOut (is_some_list out) (first ++ out) item → w ≡ gone →
+    HandsOut (is_some_list (cond b out [])) (first ++ cond b out []) item × (w ≡ cond b gone v)
+goes b out first item w v gone e h q = rw e (h, q)
+
+-- outside Mapped the first frame goes out alone
+pub unmapped_goes : {R : Type 0} → (v w : SessionView R) (echo : Option LinkFlow) (item : Option SessionOutgoingItem) → is_mapped v.state ≡ false →
+    HandsOut false (first_frame (option_map (flow_frame v) echo)) item → w ≡ v → FlowGoes v echo item w
+unmapped_goes v w echo item e h q = stays (is_mapped v.state) _ _ item w v _ e h q
+
+-- in Mapped what the window lets out goes behind it
+pub mapped_goes : {R : Type 0} → (v w : SessionView R) (echo : Option LinkFlow) (item : Option SessionOutgoingItem) → is_mapped v.state ≡ true →
+    HandsOut (is_some_list (let_out v.sending)) (first_frame (option_map (flow_frame v) echo) ++ let_out v.sending) item →
+    w ≡ record v { sending = drained v.sending; deliveries = record v.deliveries { receiver = opened_by v.sending v.deliveries.receiver } } → FlowGoes v echo item w
+mapped_goes v w echo item e h q = goes (is_mapped v.state) _ _ item w v _ e h q
+
+-- the session after it, by its parts
+pub parts_gone : {R : Type 0} → (v : SessionView R) (s : SendingView) (rows room : List Delivery) → s ≡ drained v.sending → rows ≡ opened_by v.sending room → room ≡ v.deliveries.receiver →
+    record v { sending = s; deliveries = record v.deliveries { receiver = rows } } ≡ record v { sending = drained v.sending; deliveries = record v.deliveries { receiver = opened_by v.sending v.deliveries.receiver } }
+parts_gone v s rows room es er e = rw (es, er, e) refl
+
+-- the session after room was taken
+pub room_taken : {R : Type 0} → (v : SessionView R) (rows : List Delivery) → rows ≡ v.deliveries.receiver → record v { deliveries = record v.deliveries { receiver = rows } } ≡ v
+room_taken v rows e = rw e refl
+
+pub sender_room_taken : {R : Type 0} → (v : SessionView R) (rows : List Delivery) → rows ≡ v.deliveries.sender → record v { deliveries = record v.deliveries { sender = rows } } ≡ v
+sender_room_taken v rows e = rw e refl
+
+-- the session after a delivery that the relay named
+pub named_is : {R : Type 0} → (v : SessionView R) (handle : ℕ) (named : Option (ℕ × DeliveryTag)) (rows room : List Delivery) → rows ≡ noted (named_delivery handle named) room → room ≡ v.deliveries.sender →
+    record v { deliveries = record v.deliveries { sender = rows } } ≡ named_by v handle named
+named_is v handle named rows room er e = rw (er, e) refl

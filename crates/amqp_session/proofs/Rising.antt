@@ -1,0 +1,179 @@
+-- Sorted tables of deliveries.
+use Rattle.std.proofs.Common.{◌≡◌, ℕ, suc, zero, ◌+◌, ◌-◌, ◌*◌, ◌/◌, ◌^◌, ◌<◌, ◌≤◌, inl, inr, arith, add-one, List, [], ◌∷◌, ◌++◌, length, ap, sym, subst, ◌∙◌, refl, true, false, cond, nat_lt, nat_eq, Option, Some, None, set, slice_index_or}
+use Rattle.std.proofs.Math.Nat.{mul-le-mul_left, pow-suc}
+use Rattle.std.proofs.Math.Pow.{pow-lt}
+use Rattle.std.proofs.lemmas.Bool.{cases_lt, cases_order}
+use Rattle.std.proofs.lemmas.Bool.Decides.{nat_tests}
+use Rattle.std.proofs.lemmas.Grind.{common_steps}
+use Rattle.std.specs.List.{insert}
+use Rattle.std.proofs.lemmas.List.{get_or-map}
+use Rattle.std.proofs.lemmas.List.Edits.{insert_end}
+use Rattle.amqp_session.specs.declared.deliveries.Delivery.{Delivery}
+use Rattle.amqp_session.specs.Deliveries.{recorded, noted, Above, Under, IsRising, IsTable, number_at}
+
+-- a comparison halves what is left
+pub halved : (c w w' n : ℕ) → 0 < w → w' ≤ w / 2 → 2 ^ c * w ≤ n → (2 ^ (c + 1) * w' ≤ n) × (2 ^ (c + 1) ≤ 2 * n + 1)
+halved c w w' n some half left =
+    let e : 2 ^ (c + 1) ≡ 2 ^ c * 2 = rw add-one (pow-suc 2 c) in
+    let twice : 2 * w' ≤ w = omega arith in
+    let below = mul-le-mul_left (2 ^ c) twice in
+    let one : 1 ≤ w = some in
+    let least = mul-le-mul_left (2 ^ c) one in
+    rw e (omega (arith, below, left), omega (arith, least, left))
+
+-- few comparisons are made
+pub few : (c n : ℕ) → n < 2 ^ 64 → 2 ^ c ≤ 2 * n + 1 → c < 2 ^ 32 - 1
+few c n small cost =
+    elim (cases_lt c 66) [
+      | inl lt ↦ omega (arith, lt)
+      | inr ge ↦ absurd (let big : 2 ^ 65 < 2 ^ c = pow-lt (let h : 65 < c = omega (arith, ge) in h) in omega (arith, big, cost, small))
+    ]
+
+pub above_at : (n : ℕ) (rows : List Delivery) → Above n rows → (i : ℕ) → i < length rows → n < number_at rows i
+above_at n [] a i h = absurd (omega arith)
+above_at n (e ∷ es) a zero h = a.0
+above_at n (e ∷ es) a (suc i) h = above_at n es a.1 i (omega arith)
+
+pub rising_at : (rows : List Delivery) → IsRising rows → (i j : ℕ) → i < j → j < length rows → number_at rows i < number_at rows j
+rising_at [] r i j lt h = absurd (omega arith)
+rising_at (e ∷ es) r i zero lt h = absurd (omega arith)
+rising_at (e ∷ es) r zero (suc j) lt h = above_at e.number es r.0 j (omega arith)
+rising_at (e ∷ es) r (suc i) (suc j) lt h = rising_at es r.1 i j (omega arith) (omega arith)
+
+-- what is before a place with a smaller number is smaller
+pub below_place : (rows : List Delivery) (at first : ℕ) → IsRising rows → at < length rows → number_at rows at < first → (i : ℕ) → i < at + 1 → number_at rows i < first
+below_place rows at first rising within less i h =
+    elim (cases_order i at) [
+      | inl e ↦ subst (λ k. number_at rows k < first) (sym e) less
+      | inr (inl lt) ↦ let r = rising_at rows rising i at lt within in omega (arith, r, less)
+      | inr (inr gt) ↦ absurd (omega arith)
+    ]
+
+-- what is after a place with a number that is no smaller is no smaller
+pub above_place : (rows : List Delivery) (at first : ℕ) → IsRising rows → first ≤ number_at rows at → (i : ℕ) → at ≤ i → i < length rows → first ≤ number_at rows i
+above_place rows at first rising more i h within =
+    elim (cases_order i at) [
+      | inl e ↦ subst (λ k. first ≤ number_at rows k) (sym e) more
+      | inr (inl lt) ↦ absurd (omega arith)
+      | inr (inr gt) ↦ let r = rising_at rows rising at i gt within in omega (arith, r, more)
+    ]
+
+-- the tests of a record's number
+recorded_less : (d e : Delivery) (es : List Delivery) → e.number < d.number → recorded d (e ∷ es) ≡ e ∷ recorded d es
+recorded_less d e es h = let t : nat_lt e.number d.number ≡ true = grind (arith, nat_tests, common_steps) in ap (λ b. cond b (e ∷ recorded d es) (cond (nat_eq e.number d.number) (d ∷ es) (d ∷ e ∷ es))) t
+
+recorded_same : (d e : Delivery) (es : List Delivery) → e.number ≡ d.number → recorded d (e ∷ es) ≡ d ∷ es
+recorded_same d e es h =
+    let t : nat_lt e.number d.number ≡ false = grind (arith, nat_tests, common_steps) in
+    let u : nat_eq e.number d.number ≡ true = grind (arith, nat_tests, common_steps) in
+    ap (λ b. cond b (e ∷ recorded d es) (cond (nat_eq e.number d.number) (d ∷ es) (d ∷ e ∷ es))) t ∙ ap (λ b. cond b (d ∷ es) (d ∷ e ∷ es)) u
+
+recorded_more : (d e : Delivery) (es : List Delivery) → d.number < e.number → recorded d (e ∷ es) ≡ d ∷ e ∷ es
+recorded_more d e es h =
+    let t : nat_lt e.number d.number ≡ false = grind (arith, nat_tests, common_steps) in
+    let u : nat_eq e.number d.number ≡ false = grind (arith, nat_tests, common_steps) in
+    ap (λ b. cond b (e ∷ recorded d es) (cond (nat_eq e.number d.number) (d ∷ es) (d ∷ e ∷ es))) t ∙ ap (λ b. cond b (d ∷ es) (d ∷ e ∷ es)) u
+
+-- a record between smaller numbers and larger ones
+pub recorded_at : (rows : List Delivery) (place : ℕ) (d : Delivery) → place ≤ length rows → ((i : ℕ) → i < place → number_at rows i < d.number) → ((i : ℕ) → place ≤ i → i < length rows → d.number < number_at rows i) → recorded d rows ≡ insert rows place d
+recorded_at [] zero d h below above = refl
+recorded_at [] (suc place) d h below above = absurd (omega arith)
+recorded_at (e ∷ es) zero d h below above = recorded_more d e es (above 0 (omega arith) (omega arith))
+recorded_at (e ∷ es) (suc place) d h below above =
+    recorded_less d e es (below 0 (omega arith))
+    ∙ ap (λ xs. e ∷ xs) (recorded_at es place d (omega arith) (λ i lt. below (suc i) (omega arith)) (λ i ge lt. above (suc i) (omega arith) (omega arith)))
+
+-- a record in the place of the one of its number
+pub recorded_on : (rows : List Delivery) (place : ℕ) (d : Delivery) → place < length rows → ((i : ℕ) → i < place → number_at rows i < d.number) → number_at rows place ≡ d.number → recorded d rows ≡ set rows place d
+recorded_on [] place d h below same = absurd (omega arith)
+recorded_on (e ∷ es) zero d h below same = recorded_same d e es same
+recorded_on (e ∷ es) (suc place) d h below same =
+    recorded_less d e es (below 0 (omega arith))
+    ∙ ap (λ xs. e ∷ xs) (recorded_on es place d (omega arith) (λ i lt. below (suc i) (omega arith)) same)
+
+above_less : (m n : ℕ) (rows : List Delivery) → m < n → Above n rows → Above m rows
+above_less m n [] h a = tt
+above_less m n (e ∷ es) h a = (omega (arith, h, a.0), above_less m n es h a.1)
+
+above_same : (m n : ℕ) (rows : List Delivery) → m ≡ n → Above n rows → Above m rows
+above_same m n rows e a = subst (λ k. Above k rows) (sym e) a
+
+above_recorded : (n : ℕ) (d : Delivery) (rows : List Delivery) → n < d.number → Above n rows → Above n (recorded d rows)
+above_recorded n d [] h a = (h, tt)
+above_recorded n d (e ∷ es) h a =
+    elim (cases_order e.number d.number) [
+      | inl same ↦ subst (λ xs. Above n xs) (sym (recorded_same d e es same)) (h, a.1)
+      | inr (inl less) ↦ subst (λ xs. Above n xs) (sym (recorded_less d e es less)) (a.0, above_recorded n d es h a.1)
+      | inr (inr more) ↦ subst (λ xs. Above n xs) (sym (recorded_more d e es more)) (h, (a.0, a.1))
+    ]
+
+-- the numbers still rise
+pub recorded_rising : (d : Delivery) (rows : List Delivery) → IsRising rows → IsRising (recorded d rows)
+recorded_rising d [] r = (tt, tt)
+recorded_rising d (e ∷ es) r =
+    elim (cases_order e.number d.number) [
+      | inl same ↦ subst IsRising (sym (recorded_same d e es same)) (above_same d.number e.number es (sym same) r.0, r.1)
+      | inr (inl less) ↦ subst IsRising (sym (recorded_less d e es less)) (above_recorded e.number d es less r.0, recorded_rising d es r.1)
+      | inr (inr more) ↦ subst IsRising (sym (recorded_more d e es more)) ((more, above_less d.number e.number es more r.0), (r.0, r.1))
+    ]
+
+pub recorded_length : (d : Delivery) (rows : List Delivery) → length (recorded d rows) ≤ length rows + 1
+recorded_length d [] = omega arith
+recorded_length d (e ∷ es) =
+    elim (cases_order e.number d.number) [
+      | inl same ↦ omega (arith, ap length (recorded_same d e es same))
+      | inr (inl less) ↦ omega (arith, ap length (recorded_less d e es less), recorded_length d es)
+      | inr (inr more) ↦ omega (arith, ap length (recorded_more d e es more))
+    ]
+
+pub noted_length : (d : Option Delivery) (rows : List Delivery) → length (noted d rows) ≤ length rows + 1
+noted_length None rows = omega arith
+noted_length (Some d) rows = recorded_length d rows
+
+-- a record that was read
+pub number_read : (rows : List Delivery) (i : ℕ) (x : Delivery) → i < length rows → x ≡ slice_index_or rows i x → number_at rows i ≡ x.number
+number_read rows i x h e = get_or-map (λ (d : Delivery). d.number) rows i x 0 h ∙ ap (λ (d : Delivery). d.number) (sym e)
+
+-- where the last number is smaller, all are
+pub last_place : (rows : List Delivery) (n number : ℕ) (x : Delivery) → IsRising rows → n ≡ length rows → 0 < n → x ≡ slice_index_or rows (n - 1) x → x.number < number → (i : ℕ) → i < length rows → number_at rows i < number
+last_place rows n number x rising e some read less i h =
+    let within : n - 1 < length rows = omega arith in
+    let at : number_at rows (n - 1) < number = subst (λ k. k < number) (sym (number_read rows (n - 1) x within read)) less in
+    below_place rows (n - 1) number rising within at i (omega arith)
+
+-- a record behind all others
+pub recorded_last : (rows : List Delivery) (d : Delivery) → ((i : ℕ) → i < length rows → number_at rows i < d.number) → recorded d rows ≡ rows ++ d ∷ []
+recorded_last rows d below =
+    recorded_at rows (length rows) d (omega arith) below (λ i ge lt. absurd (omega arith)) ∙ insert_end rows d
+
+-- a record before the first number that is larger
+pub recorded_before : (rows : List Delivery) (place : ℕ) (d : Delivery) → place ≤ length rows → ((i : ℕ) → i < place → number_at rows i < d.number) → ((i : ℕ) → place ≤ i → i < length rows → d.number ≤ number_at rows i) →
+    IsRising rows → (place < length rows → ¬ (number_at rows place ≡ d.number)) → recorded d rows ≡ insert rows place d
+recorded_before rows place d h below above rising other =
+    recorded_at rows place d h below (λ i ge lt. elim (cases_order place i) [
+      | inl e ↦ let a = above i ge lt in let o : ¬ (number_at rows i ≡ d.number) = subst (λ k. ¬ (number_at rows k ≡ d.number)) e (other (omega arith)) in omega (arith, a, o)
+      | inr (inl less) ↦ let a = above place (omega arith) (omega arith) in let r = rising_at rows rising place i less lt in omega (arith, a, r)
+      | inr (inr more) ↦ absurd (omega arith)
+    ])
+
+under_recorded : (n : ℕ) (d : Delivery) (rows : List Delivery) → d.number < n → Under n rows → Under n (recorded d rows)
+under_recorded n d [] h a = (h, tt)
+under_recorded n d (e ∷ es) h a =
+    elim (cases_order e.number d.number) [
+      | inl same ↦ subst (λ xs. Under n xs) (sym (recorded_same d e es same)) (h, a.1)
+      | inr (inl less) ↦ subst (λ xs. Under n xs) (sym (recorded_less d e es less)) (a.0, under_recorded n d es h a.1)
+      | inr (inr more) ↦ subst (λ xs. Under n xs) (sym (recorded_more d e es more)) (h, (a.0, a.1))
+    ]
+
+-- a table with a record more is one
+pub recorded_table : (d : Delivery) (rows : List Delivery) → d.number < 2 ^ 32 → IsTable rows → IsTable (recorded d rows)
+recorded_table d rows h t = (recorded_rising d rows t.0, under_recorded (2 ^ 32) d rows h t.1)
+
+few_above : (m n : ℕ) (rows : List Delivery) → Above m rows → IsRising rows → Under n rows → m < n → m + length rows < n
+few_above m n [] a r u h = omega arith
+few_above m n (e ∷ es) a r u h = let more = few_above e.number n es r.0 r.1 u.1 u.0 in omega (arith, a.0, more)
+
+-- rising numbers below n are at most n
+pub few_rows : (n : ℕ) (rows : List Delivery) → IsRising rows → Under n rows → length rows ≤ n
+few_rows n [] r u = omega arith
+few_rows n (e ∷ es) r u = let more = few_above e.number n es r.0 r.1 u.1 u.0 in omega (arith, more)

@@ -1,0 +1,22 @@
+use Rattle.std.proofs.Common.{Some, Ok, Err, refl, ap}
+use Rattle.amqp_session.specs.Deliveries.{TableView}
+use Rattle.amqp_session.proofs.Flows.{sender_room_taken, named_is}
+use Rattle.amqp_session.proofs.session.Session.transfer_of_link.Goals as goal
+
+pub returns-in-Err : goal.returns-in-Err
+returns-in-Err g c =
+    let a = c.in-Err.ensures in
+    let rows = ap (λ (t : TableView). t.rows) c.in-Ok.ensures.rows in
+    rw (← c.self.view_is) (
+      Some (record { before = a.before; handle = a.handle; transfer = c.args.transfer; payload = c.args.payload; answer = Err c.in-Err.error; after = a.after }),
+      (c.ask_transfer.new.self, refl, refl, a.asks, (c.from.ensures, sender_room_taken _ _ rows)),
+    )
+
+pub returns-in-Ok-ask_transfer : goal.returns-in-Ok-ask_transfer
+returns-in-Ok-ask_transfer g c =
+    let a = c.in-Ok-ask_transfer.ensures in
+    let rows = ap (λ (t : TableView). t.rows) c.in-Ok.ensures.rows in
+    rw (← c.self.view_is) (
+      Some (record { before = a.before; handle = a.handle; transfer = c.args.transfer; payload = c.args.payload; answer = Ok c.in-Ok-ask_transfer.named; after = a.after }),
+      (c.ask_transfer.new.self, refl, refl, a.asks, (refl, named_is _ _ _ _ _ c.record_named.ensures rows)),
+    )

@@ -1,0 +1,61 @@
+-- Open deliveries: one record for each number, by rising number (AMQP 1.0 part 2, section 2.6.12).
+use Rattle.std.specs.Prelude.{ℕ, ◌<◌, ◌^◌, List, [], ◌∷◌, Option, Some, None, if◌then◌else◌, nat_eq, nat_lt, map, slice_index}
+use Rattle.amqp_types.specs.declared.definitions.Role.{Role}
+use Rattle.amqp_types.specs.declared.definitions.Role.TheVariants.{Sender, Receiver}
+use Rattle.amqp_session.specs.declared.deliveries.Delivery.{Delivery}
+
+-- the records with this one among them: it takes the place of an older one of its number
+abbrev pub recorded : Delivery → List Delivery → List Delivery
+recorded d [] = d ∷ []
+recorded d (e ∷ es) = if nat_lt e.number d.number then e ∷ recorded d es else (if nat_eq e.number d.number then d ∷ es else d ∷ e ∷ es)
+
+-- the same, where there is a record
+abbrev pub noted : Option Delivery → List Delivery → List Delivery
+noted None rows = rows
+noted (Some d) rows = recorded d rows
+
+-- all numbers are above n
+abbrev pub Above : ℕ → List Delivery → Type 0
+Above n [] = Unit {0}
+Above n (e ∷ es) = (n < e.number) × Above n es
+
+-- the numbers rise
+abbrev pub IsRising : List Delivery → Type 0
+IsRising [] = Unit {0}
+IsRising (e ∷ es) = Above e.number es × IsRising es
+
+-- all numbers are below n
+abbrev pub Under : ℕ → List Delivery → Type 0
+Under n [] = Unit {0}
+Under n (e ∷ es) = (e.number < n) × Under n es
+
+-- The records of a table: their numbers rise, and are of four bytes.
+abbrev pub IsTable : List Delivery → Type 0
+IsTable rows = IsRising rows × Under (2 ^ 32) rows
+
+-- the number at a place
+abbrev pub number_at : List Delivery → ℕ → ℕ
+number_at rows i = slice_index (map (λ row. row.number) rows) i
+
+-- the record of a number
+abbrev pub record_at : ℕ → List Delivery → Option Delivery
+record_at n [] = None
+record_at n (e ∷ es) = if nat_eq e.number n then Some e else record_at n es
+
+-- Deliveries by the role of the peer that will speak of them: those that this side sent, which the peer settles as
+-- receiver; and those that it received, which the peer settles as sender.
+pub record OpenView : Type 0 where
+  pub receiver : List Delivery
+  pub sender : List Delivery
+
+abbrev pub of_role : Role → OpenView → List Delivery
+of_role Receiver v = v.receiver
+of_role Sender v = v.sender
+
+-- A table of deliveries: its records, how many it has room for, and how much of it the walk that began last has read:
+-- records, and numbers alone.
+pub record TableView : Type 0 where
+  pub rows : List Delivery
+  pub capacity : ℕ
+  pub turns : ℕ
+  pub comparisons : ℕ

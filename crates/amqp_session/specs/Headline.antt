@@ -1,0 +1,157 @@
+-- What holds of every history of one session, said of the history alone (AMQP 1.0 part 2, section 2.5.6).
+use Rattle.std.specs.Prelude.{◌≡◌, ◌⊎◌, ◌<◌, ◌≤◌, ◌+◌, ◌%◌, ◌^◌, ℕ, true, false, List, [], ◌∷◌, ◌++◌, length, take, drop, Option, Result, Ok, Err, unwrap_or}
+use Rattle.amqp_types.specs.declared.states.SessionState.{SessionState}
+use Rattle.amqp_session.specs.declared.frame.SessionFrame.{SessionFrame}
+use Rattle.amqp_session.specs.declared.frame.SessionFrameBody.{SessionFrameBody}
+use Rattle.amqp_session.specs.declared.frame.SessionFrameBody.TheVariants as Body
+use Rattle.amqp_session.specs.declared.frame.SessionOutgoingItem.{SessionOutgoingItem}
+use Rattle.amqp_session.specs.declared.error.SessionInnerError.{SessionInnerError}
+use Rattle.amqp_session.specs.Items.{item_frames}
+use Rattle.amqp_session.specs.declared.error.SessionInnerError.TheVariants as Refused
+use Rattle.amqp_session.specs.Serial.{In, remaining}
+use Rattle.amqp_session.specs.States.{is_mapped, sends_begin, takes_begin, sends_end, takes_end}
+use Rattle.amqp_session.specs.Sending.{SendingView}
+use Rattle.amqp_session.specs.Session.{SessionView}
+use Rattle.amqp_session.specs.Step.{IsUntagged, has_error}
+use Rattle.amqp_session.specs.Transfers.{HeldSaid, numbered, firsts}
+use Rattle.amqp_session.specs.History.{Entry, SendsBegin, SendsEnd, TakesBegin, TakesEnd, TakesFlow, SendsTransfer, Made}
+
+-- ---- what a call took and handed out
+
+-- the frames that a call's answer hands out
+abbrev pub answer_frames : Result (Option SessionOutgoingItem) SessionInnerError → List SessionFrame
+answer_frames (Ok item) = item_frames item
+answer_frames (Err e) = []
+
+-- the frames among which transfers are: of a flow that came, or of a transfer that was asked for
+abbrev pub frames : {R : Type 0} → Entry R → List SessionFrame
+frames (TakesFlow f asked result) = answer_frames result
+frames (SendsTransfer h result) = answer_frames result
+frames e = []
+
+abbrev pub transfer_in : SessionFrameBody → SessionFrame → List SessionFrame
+transfer_in (Body.Transfer t payload) f = f ∷ []
+transfer_in b f = []
+
+-- the transfers among frames
+abbrev pub transfers_in : List SessionFrame → List SessionFrame
+transfers_in [] = []
+transfers_in (f ∷ fs) = transfer_in f.body f ++ transfers_in fs
+
+abbrev pub accepted_by : {R : Type 0} → Entry R → List HeldSaid
+accepted_by (SendsTransfer h (Ok item)) = h ∷ []
+accepted_by e = []
+
+-- ---- of a history
+
+-- the transfers that were handed out, in order
+abbrev pub handed : {R : Type 0} → List (Entry R) → List SessionFrame
+handed [] = []
+handed (e ∷ es) = transfers_in (frames e) ++ handed es
+
+-- the transfers that were accepted, in order
+abbrev pub accepted : {R : Type 0} → List (Entry R) → List HeldSaid
+accepted [] = []
+accepted (e ∷ es) = accepted_by e ++ accepted es
+
+-- those that were not handed out yet
+abbrev pub waiting : {R : Type 0} → List (Entry R) → List HeldSaid
+waiting H = drop (length (handed H)) (accepted H)
+
+-- the number of the next transfer
+abbrev pub number : {R : Type 0} → Made → List (Entry R) → ℕ
+number m H = (m.settings.next_outgoing_id + length (handed H)) % 2 ^ 32
+
+-- The window that a call gives where n is the number of the next transfer: a Begin from there on; a Flow, whatever its answer,
+-- from the number that it says, or from the first one where it says none.
+abbrev pub window_by : {R : Type 0} → Made → ℕ → ℕ × ℕ → Entry R → ℕ × ℕ
+window_by m n old (TakesBegin channel b (Ok u)) = (n % 2 ^ 32, b.incoming_window)
+window_by m n old (TakesFlow f asked result) = (unwrap_or f.next_incoming_id m.settings.next_outgoing_id, f.incoming_window)
+window_by m n old e = old
+
+abbrev pub window_from : {R : Type 0} → Made → ℕ → ℕ × ℕ → List (Entry R) → ℕ × ℕ
+window_from m n old [] = old
+window_from m n old (e ∷ es) = window_from m (n + length (transfers_in (frames e))) (window_by m n old e) es
+
+-- the base and the width of the latest window
+abbrev pub window : {R : Type 0} → Made → List (Entry R) → ℕ × ℕ
+window m H = window_from m m.settings.next_outgoing_id (0, 0) H
+
+-- The state that a call leaves: by the table of the call, where it is not refused. A received End moves the state whatever it
+-- is answered.
+abbrev pub state_by : {R : Type 0} → SessionState → Entry R → SessionState
+state_by s (SendsBegin (Ok frame)) = unwrap_or (sends_begin s) s
+state_by s (SendsEnd error (Ok frame)) = unwrap_or (sends_end (has_error error) s) s
+state_by s (TakesBegin channel b (Ok u)) = unwrap_or (takes_begin s) s
+state_by s (TakesEnd channel e result) = unwrap_or (takes_end s) s
+state_by s e = s
+
+abbrev pub state_from : {R : Type 0} → SessionState → List (Entry R) → SessionState
+state_from s [] = s
+state_from s (e ∷ es) = state_from (state_by s e) es
+
+-- the state after a history
+abbrev pub state : {R : Type 0} → Made → List (Entry R) → SessionState
+state m H = state_from m.state H
+
+-- ---- the headline
+
+-- Each transfer that is asked for is accepted, or is refused for want of memory, or with IllegalState: that exactly where it is
+-- the first of its delivery and has no tag, or the state is not Mapped.
+abbrev pub Answers : SessionState → HeldSaid → Result (Option SessionOutgoingItem) SessionInnerError → Type 0
+Answers s h (Ok item) = (is_mapped s ≡ true) × ¬ (IsUntagged h)
+Answers s h (Err Refused.IllegalState) = (is_mapped s ≡ false) ⊎ IsUntagged h
+Answers s h (Err Refused.OutOfMemory) = (is_mapped s ≡ true) × ¬ (IsUntagged h)
+Answers s h (Err e) = ⊥
+
+abbrev pub AllAnswered : {R : Type 0} → Made → List (Entry R) → Type 0
+AllAnswered m H = (before after : List (Entry _)) (h : HeldSaid) (result : Result (Option SessionOutgoingItem) SessionInnerError) →
+    H ≡ before ++ SendsTransfer h result ∷ after → Answers (state m before) h result
+
+-- Handed out, then held back: all accepted ones, in order, each delivery numbered once, on its first frame.
+pub record Accounts {R : Type 0} (m : Made) (H : List (Entry R)) : Type 0 where
+  pub handed_out : handed H ≡ numbered m.channel 0 (take (length (handed H)) (accepted H))
+  pub no_more : length (handed H) ≤ length (accepted H)
+
+-- Each transfer is inside the window that holds as it is handed out.
+abbrev pub Inside : {R : Type 0} → Made → List (Entry R) → Type 0
+Inside m H = (before after : List (Entry _)) (e : Entry _) → H ≡ before ++ e ∷ after →
+    (k : ℕ) → k < length (transfers_in (frames e)) → In ((number m before + k) % 2 ^ 32) (window m (before ++ e ∷ []))
+
+-- a transfer that was accepted, or a Flow that was accepted in Mapped: it lets out what the window allows
+abbrev pub LetsOut : {R : Type 0} → SessionState → Entry R → Type 0
+LetsOut s (SendsTransfer h (Ok item)) = Unit {0}
+LetsOut s (TakesFlow f asked (Ok item)) = is_mapped s ≡ true
+LetsOut s e = ⊥
+
+-- After it one waits only while the window is used up.
+abbrev pub WaitsOnly : {R : Type 0} → Made → List (Entry R) → Type 0
+WaitsOnly m H = (before after : List (Entry _)) (e : Entry _) → H ≡ before ++ e ∷ after → LetsOut (state m before) e →
+    (waiting (before ++ e ∷ []) ≡ []) ⊎ ¬ (In (number m (before ++ e ∷ [])) (window m (before ++ e ∷ [])))
+
+pub record Headline {R : Type 0} (m : Made) (H : List (Entry R)) : Type 0 where
+  pub accounts : Accounts m H
+  pub all_answered : AllAnswered m H
+  pub inside : Inside m H
+  pub waits_only : WaitsOnly m H
+
+-- ---- the law of views
+
+-- a view of the sending half is what these accepted transfers, these frames and this window give
+pub record Books (channel initial : ℕ) (A : List HeldSaid) (F : List SessionFrame) (w : ℕ × ℕ) (v : SendingView) : Type 0 where
+  pub channel_is : v.channel ≡ channel
+  pub initial_is : v.initial ≡ initial
+  pub next_is : v.next ≡ (initial + length F) % 2 ^ 32
+  pub delivery_is : v.delivery ≡ firsts (take (length F) A) % 2 ^ 32
+  pub held_is : v.held ≡ drop (length F) A
+  pub window_is : v.window ≡ remaining v.next w
+  pub base_fits : w.0 < 2 ^ 32
+  pub width_fits : w.1 < 2 ^ 32
+  pub handed_out : F ≡ numbered channel 0 (take (length F) A)
+  pub no_more : length F ≤ length A
+
+-- The view is what the history gives: the numbers of transfers and deliveries, what waits, what is left of the window, and the
+-- state.
+pub record Stands {R : Type 0} (m : Made) (H : List (Entry R)) (v : SessionView R) : Type 0 where
+  pub sending_is : Books m.channel m.settings.next_outgoing_id (accepted H) (handed H) (window m H) v.sending
+  pub state_is : v.state ≡ state m H

@@ -1,0 +1,21 @@
+-- The part of a Flow that speaks of one link (AMQP 1.0 part 2, section 2.7.4).
+use Rattle.std.specs.Prelude.{ℕ, Option}
+use Rattle.std.specs.Option.{option_map}
+use Rattle.amqp_types.specs.Flow.{FlowSaid}
+use Rattle.amqp_session.specs.declared.flow.LinkFlow.{LinkFlow}
+
+-- the link's fields of a flow, under this handle
+abbrev pub link_flow_of : ℕ → FlowSaid → LinkFlow
+link_flow_of h f = record {
+  handle = record { 0 = h };
+  delivery_count = f.delivery_count;
+  link_credit = f.link_credit;
+  available = f.available;
+  drain = f.drain;
+  echo = f.echo;
+  properties = f.properties;
+}
+
+-- the link's part of a flow, where it names a link
+abbrev pub link_part : FlowSaid → Option LinkFlow
+link_part f = option_map (λ h. link_flow_of h f) f.handle

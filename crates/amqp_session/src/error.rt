@@ -1,0 +1,265 @@
+//! Why a call of a session is refused.
+
+ghost use Rattle.std.specs.Prelude.{◌≡◌};
+ghost use Rattle.amqp_session.specs.Errors.{inner_of_state, inner_of_relay, error_of_inner, error_of_state, error_of_relay, begin_of_state};
+
+use crate::stop::{ConnectionStopReason, SessionStopReason};
+use amqp_types::Error as ErrorCondition;
+
+/// Why a Begin or an End is refused, or how the peer ended the session.
+#[derive(Debug, Drop, PartialEq, thiserror::Error)]
+pub enum SessionStateError {
+    /// The state does not allow the call.
+    #[error("Illegal session state")]
+    IllegalState,
+    /// The connection stopped before. No call of a session answers this.
+    #[error("The connection stopped: {:?}", .0)]
+    ConnectionStopped(ConnectionStopReason),
+    /// The peer ended the session.
+    #[error("Remote session ended")]
+    RemoteEnded,
+    /// The peer ended the session with an error.
+    #[error("Remote ended with error")]
+    RemoteEndedWithError(ErrorCondition),
+    /// Memory was refused.
+    #[error("Out of memory")]
+    OutOfMemory,
+}
+
+/// Why a link gets no handle.
+#[derive(Clone, Copy, Debug, PartialEq, Eq, thiserror::Error)]
+pub enum AllocLinkError {
+    /// The session has not begun on both sides.
+    #[error("The session is not in a state that permits link allocation")]
+    SessionNotMapped,
+    /// The session stopped.
+    #[error("The session stopped before the link was attached: {:?}", .0)]
+    SessionStopped(SessionStopReason),
+    /// A live link has the name.
+    #[error("Link name must be unique")]
+    DuplicatedLinkName,
+    /// No handle of four bytes is left.
+    #[error("No output handle is left")]
+    HandlesExhausted,
+    /// Memory was refused.
+    #[error("Out of memory")]
+    OutOfMemory,
+}
+
+/// Why a relay refuses what it is asked.
+#[derive(Clone, Copy, Debug, PartialEq, Eq, thiserror::Error)]
+pub enum LinkRelayError {
+    /// The link is not attached.
+    #[error("A frame was received for a link that is not attached")]
+    UnattachedHandle,
+    /// A transfer came to the sending end of a link.
+    #[error("Found Transfer frame being sent to a Sender")]
+    TransferFrameToSender,
+    /// Memory was refused.
+    #[error("Out of memory")]
+    OutOfMemory,
+}
+
+/// Why any other call of a session is refused.
+#[derive(Debug, Drop, PartialEq, thiserror::Error)]
+pub enum SessionInnerError {
+    /// The input handle has no attached link.
+    #[error("A frame (other than attach) was received referencing a handle which is not currently in use of an attached link.")]
+    UnattachedHandle,
+    /// No link of this side has the name of the peer's attach.
+    #[error("Remote sent an attach with a name that cannot be found locally")]
+    RemoteAttachingLinkNameNotFound,
+    /// The link of the peer's attach is attached already.
+    #[error("An attach was received using a handle that is already in use for an attached link.")]
+    HandleInUse,
+    /// The state does not allow the call, or the first transfer of a delivery has no tag.
+    #[error("Illegal session state")]
+    IllegalState,
+    /// The connection stopped before.
+    #[error("The connection stopped: {:?}", .0)]
+    ConnectionStopped(ConnectionStopReason),
+    /// A transfer came to the sending end of a link.
+    #[error("Found Transfer frame being sent to a Sender")]
+    TransferFrameToSender,
+    /// The peer ended the session.
+    #[error("Remote session ended")]
+    RemoteEnded,
+    /// The peer ended the session with an error.
+    #[error("Remote ended with error")]
+    RemoteEndedWithError(ErrorCondition),
+    /// No transaction has the number. No call of a session answers this.
+    #[error("Unknown transaction ID")]
+    UnknownTxnId,
+    /// Memory was refused.
+    #[error("Out of memory")]
+    OutOfMemory,
+}
+
+/// What a handle of a session answers.
+#[derive(Debug, Drop, PartialEq, thiserror::Error)]
+pub enum Error {
+    /// The input handle has no attached link.
+    #[error("A frame (other than attach) was received referencing a handle which is not currently in use of an attached link.")]
+    UnattachedHandle,
+    /// No link of this side has the name of the peer's attach.
+    #[error("Remote sent an attach with a name that cannot be found locally")]
+    RemoteAttachingLinkNameNotFound,
+    /// The link of the peer's attach is attached already.
+    #[error("An attach was received using a handle that is already in use for an attached link.")]
+    HandleInUse,
+    /// The state does not allow the call.
+    #[error("Illegal session state")]
+    IllegalState,
+    /// The connection stopped before.
+    #[error("The connection stopped: {:?}", .0)]
+    ConnectionStopped(ConnectionStopReason),
+    /// A transfer came to the sending end of a link.
+    #[error("Found Transfer frame being sent to a Sender")]
+    TransferFrameToSender,
+    /// The peer ended the session.
+    #[error("Remote session ended")]
+    RemoteEnded,
+    /// The peer ended the session with an error.
+    #[error("Remote ended with error")]
+    RemoteEndedWithError(ErrorCondition),
+    /// No transaction has the number.
+    #[error("Unknown transaction ID")]
+    UnknownTxnId,
+    /// Memory was refused.
+    #[error("Out of memory")]
+    OutOfMemory,
+}
+
+/// Why a session does not begin.
+#[derive(Debug, Drop, PartialEq, thiserror::Error)]
+pub enum BeginError {
+    /// The state does not allow a Begin.
+    #[error("Illegal session state")]
+    IllegalState,
+    /// The connection stopped.
+    #[error("The connection stopped: {:?}", .0)]
+    ConnectionStopped(ConnectionStopReason),
+    /// The connection has not been opened yet.
+    #[error("The connection has not been opened")]
+    ConnectionNotOpened,
+    /// The peer ended the session.
+    #[error("Remote session ended")]
+    RemoteEnded,
+    /// The peer ended the session with an error.
+    #[error("Remote ended with error")]
+    RemoteEndedWithError(ErrorCondition),
+    /// Every channel up to the agreed maximum is held.
+    #[error("Local channel-max reached")]
+    LocalChannelMaxReached,
+    /// Memory was refused.
+    #[error("Out of memory")]
+    OutOfMemory,
+}
+
+/// Why a handle has no outcome of a session's end to give.
+#[derive(Clone, Copy, Debug, PartialEq, Eq, thiserror::Error)]
+pub enum TryEndError {
+    /// The session's end was given out before.
+    #[error("Session is already ended")]
+    AlreadyEnded,
+    /// The peer's End has not come.
+    #[error("The session has not received a remote end frame")]
+    RemoteEndNotReceived,
+}
+
+impl From<SessionStateError> for SessionInnerError {
+    ghost from_gives = { λ e x. x ≡ inner_of_state e };
+
+    fn from(error: SessionStateError) -> SessionInnerError {
+        match error {
+            SessionStateError::IllegalState => SessionInnerError::IllegalState,
+            SessionStateError::ConnectionStopped(reason) => {
+                SessionInnerError::ConnectionStopped(reason)
+            }
+            SessionStateError::RemoteEnded => SessionInnerError::RemoteEnded,
+            SessionStateError::RemoteEndedWithError(condition) => {
+                SessionInnerError::RemoteEndedWithError(condition)
+            }
+            SessionStateError::OutOfMemory => SessionInnerError::OutOfMemory,
+        }
+    }
+}
+
+impl From<LinkRelayError> for SessionInnerError {
+    ghost from_gives = { λ e x. x ≡ inner_of_relay e };
+
+    fn from(error: LinkRelayError) -> SessionInnerError {
+        match error {
+            LinkRelayError::UnattachedHandle => SessionInnerError::UnattachedHandle,
+            LinkRelayError::TransferFrameToSender => SessionInnerError::TransferFrameToSender,
+            LinkRelayError::OutOfMemory => SessionInnerError::OutOfMemory,
+        }
+    }
+}
+
+impl From<SessionInnerError> for Error {
+    ghost from_gives = { λ e x. x ≡ error_of_inner e };
+
+    fn from(error: SessionInnerError) -> Error {
+        match error {
+            SessionInnerError::UnattachedHandle => Error::UnattachedHandle,
+            SessionInnerError::RemoteAttachingLinkNameNotFound => {
+                Error::RemoteAttachingLinkNameNotFound
+            }
+            SessionInnerError::HandleInUse => Error::HandleInUse,
+            SessionInnerError::IllegalState => Error::IllegalState,
+            SessionInnerError::ConnectionStopped(reason) => Error::ConnectionStopped(reason),
+            SessionInnerError::TransferFrameToSender => Error::TransferFrameToSender,
+            SessionInnerError::RemoteEnded => Error::RemoteEnded,
+            SessionInnerError::RemoteEndedWithError(condition) => {
+                Error::RemoteEndedWithError(condition)
+            }
+            SessionInnerError::UnknownTxnId => Error::UnknownTxnId,
+            SessionInnerError::OutOfMemory => Error::OutOfMemory,
+        }
+    }
+}
+
+impl From<LinkRelayError> for Error {
+    ghost from_gives = { λ e x. x ≡ error_of_relay e };
+
+    fn from(error: LinkRelayError) -> Error {
+        match error {
+            LinkRelayError::UnattachedHandle => Error::UnattachedHandle,
+            LinkRelayError::TransferFrameToSender => Error::TransferFrameToSender,
+            LinkRelayError::OutOfMemory => Error::OutOfMemory,
+        }
+    }
+}
+
+impl From<SessionStateError> for Error {
+    ghost from_gives = { λ e x. x ≡ error_of_state e };
+
+    fn from(error: SessionStateError) -> Error {
+        match error {
+            SessionStateError::IllegalState => Error::IllegalState,
+            SessionStateError::ConnectionStopped(reason) => Error::ConnectionStopped(reason),
+            SessionStateError::RemoteEnded => Error::RemoteEnded,
+            SessionStateError::RemoteEndedWithError(condition) => {
+                Error::RemoteEndedWithError(condition)
+            }
+            SessionStateError::OutOfMemory => Error::OutOfMemory,
+        }
+    }
+}
+
+impl From<SessionStateError> for BeginError {
+    ghost from_gives = { λ e x. x ≡ begin_of_state e };
+
+    fn from(error: SessionStateError) -> BeginError {
+        match error {
+            SessionStateError::IllegalState => BeginError::IllegalState,
+            SessionStateError::ConnectionStopped(reason) => BeginError::ConnectionStopped(reason),
+            SessionStateError::RemoteEnded => BeginError::RemoteEnded,
+            SessionStateError::RemoteEndedWithError(condition) => {
+                BeginError::RemoteEndedWithError(condition)
+            }
+            SessionStateError::OutOfMemory => BeginError::OutOfMemory,
+        }
+    }
+}

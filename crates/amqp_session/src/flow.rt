@@ -1,0 +1,48 @@
+//! The part of a Flow that speaks of one link (AMQP 1.0 part 2, section 2.7.4).
+
+ghost use Rattle.std.specs.Prelude.{◌≡◌};
+ghost use Rattle.std.specs.Result.{result_ok};
+ghost use Rattle.amqp_session.specs.LinkFlow.{link_part};
+
+use amqp_types::{Fields, Flow, Handle};
+
+/// The fields of a Flow that a link sends or gets. The fields of the session are the session's own.
+#[derive(Clone, Debug, Drop, PartialEq)]
+pub struct LinkFlow {
+    /// The link.
+    pub handle: Handle,
+    /// The delivery count of the link.
+    pub delivery_count: Option<u32>,
+    /// How many messages may come on the link.
+    pub link_credit: Option<u32>,
+    /// How many messages wait at the sender.
+    pub available: Option<u32>,
+    /// Whether the credit is to be used up.
+    pub drain: bool,
+    /// Whether a flow is wanted in answer.
+    pub echo: bool,
+    /// Anything else.
+    pub properties: Option<Fields>,
+}
+
+impl TryFrom<Flow> for LinkFlow {
+    type Error = ();
+
+    ghost try_from_gives = { λ flow r. result_ok r ≡ link_part flow };
+
+    /// The link's part of a flow. Fails exactly where the flow names no handle.
+    fn try_from(flow: Flow) -> Result<LinkFlow, ()> {
+        let Some(handle) = flow.handle else {
+            return Err(());
+        };
+        Ok(LinkFlow {
+            handle,
+            delivery_count: flow.delivery_count,
+            link_credit: flow.link_credit,
+            available: flow.available,
+            drain: flow.drain,
+            echo: flow.echo,
+            properties: flow.properties,
+        })
+    }
+}

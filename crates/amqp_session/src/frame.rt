@@ -1,0 +1,72 @@
+//! Frames of a session: a channel, and what is said on it (AMQP 1.0 part 2, section 2.3).
+
+ghost use Rattle.std.specs.Prelude.{◌≡◌};
+
+use amqp_types::{Attach, Begin, Detach, Disposition, End, Flow, Transfer};
+use bytes::Bytes;
+use std::fmt;
+
+/// A frame that a session sends or gets.
+#[derive(Debug, Drop, PartialEq)]
+pub struct SessionFrame {
+    /// The channel: 0 to 65535.
+    pub channel: u16,
+    /// What is said.
+    pub body: SessionFrameBody,
+}
+
+/// What a session's frame says.
+#[derive(Drop, PartialEq)]
+pub enum SessionFrameBody {
+    Attach(Attach),
+    Flow(Flow),
+    Transfer {
+        performative: Transfer,
+        /// The message, or the part of it that this transfer carries. It is moved or cut, never copied.
+        payload: Bytes,
+    },
+    Disposition(Disposition),
+    Detach(Detach),
+    Begin(Begin),
+    End(End),
+}
+
+/// What a call of a session hands out.
+#[derive(Debug, Drop, PartialEq)]
+pub enum SessionOutgoingItem {
+    SingleFrame(SessionFrame),
+    /// At least one frame, in order.
+    MultipleFrames(Vec<SessionFrame>),
+}
+
+impl fmt::Debug for SessionFrameBody {
+    fn fmt<W: fmt::Write>(&self, f: &mut fmt::Formatter<W>) -> fmt::Result {
+        match self {
+            SessionFrameBody::Attach(p) => write!(f, "Attach({p:?})"),
+            SessionFrameBody::Flow(p) => write!(f, "Flow({p:?})"),
+            SessionFrameBody::Transfer {
+                performative,
+                payload,
+            } => {
+                let len = payload.len();
+                write!(
+                    f,
+                    "Transfer {{ performative: {performative:?}, payload.len: {len} }}"
+                )
+            }
+            SessionFrameBody::Disposition(p) => write!(f, "Disposition({p:?})"),
+            SessionFrameBody::Detach(p) => write!(f, "Detach({p:?})"),
+            SessionFrameBody::Begin(p) => write!(f, "Begin({p:?})"),
+            SessionFrameBody::End(p) => write!(f, "End({p:?})"),
+        }
+    }
+}
+
+impl SessionFrame {
+    /// The frame of these parts.
+    pub fn new(channel: u16, body: SessionFrameBody) -> SessionFrame
+        ensures { result ≡ record { channel = channel; body = body } }
+    {
+        SessionFrame { channel, body }
+    }
+}

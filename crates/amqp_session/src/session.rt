@@ -1,0 +1,188 @@
+//! A session: its state, its numbers, its links and its open deliveries (AMQP 1.0 part 2, section 2.5).
+
+ghost use Rattle.std.specs.Prelude.{◌≡◌, ◌+◌, ℕ, length};
+ghost use Rattle.amqp_session.specs.States.{is_mapped};
+ghost use Rattle.amqp_session.specs.Session.{new_session};
+ghost use Rattle.amqp_session.specs.Step.{StopStep};
+
+mod begin_end;
+pub(crate) mod held;
+mod incoming;
+mod outgoing;
+pub mod receiving;
+pub(crate) mod transfers;
+
+use self::receiving::Receiving;
+use self::transfers::Sending;
+use crate::deliveries::{Deliveries, WalkCount};
+use crate::link::Links;
+use crate::numbers::{IncomingChannel, OutgoingChannel};
+use crate::relay::LinkRelay;
+use crate::settings::SessionSettings;
+use crate::stop::{ConnectionStopReason, SessionStopReason};
+use amqp_types::SessionState;
+use std::alloc::Global;
+use std::marker::Model;
+
+/// A session, which a connection or a test drives: it takes and makes frames, and waits for nothing.
+///
+/// Calls that begin with `on_incoming_` take what the peer sent; those that begin with `on_outgoing_`, and `send_begin`
+/// and `send_end`, what this side wants to send, and give the frames. A refused call of the state changes nothing. After a
+/// refusal for want of memory nothing went out, and only the numbers of what was received have moved.
+#[derive(Drop)]
+pub struct Session<R> {
+    alloc: Global,
+    state: SessionState,
+    settings: SessionSettings,
+    outgoing_channel: OutgoingChannel,
+    incoming_channel: Option<IncomingChannel>,
+    connection_stop: Option<ConnectionStopReason>,
+    session_stop: Option<SessionStopReason>,
+    sending: Sending,
+    receiving: Receiving,
+    links: Links<R>,
+    sent: Deliveries,
+    received: Deliveries,
+    last_walk: WalkCount,
+}
+
+impl<R> Model for Session<R> {
+    ghost use Rattle.std.specs.Option.{option_map};
+    ghost use Rattle.amqp_session.specs.Session.{SessionView};
+
+    ghost Value = { SessionView R };
+
+    ghost view = { λ s. record {
+      state = s.state;
+      settings = s.settings;
+      outgoing_channel = s.outgoing_channel.0;
+      incoming_channel = option_map (λ c. c.0) s.incoming_channel;
+      connection_stop = s.connection_stop;
+      session_stop = s.session_stop;
+      sending = s.sending;
+      receiving = s.receiving;
+      links = s.links;
+      deliveries = record { receiver = s.sent.rows; sender = s.received.rows };
+      last_walk = s.last_walk;
+    } };
+}
+
+impl<R: LinkRelay> Session<R> {
+    /// A session with these settings on an outgoing channel, in a state, with the reason why its connection stopped, if it
+    /// did. Nothing waits, no link is attached, no delivery is open, and what the peer says is 0.
+    pub fn new(
+        alloc: Global,
+        settings: SessionSettings,
+        outgoing_channel: OutgoingChannel,
+        state: SessionState,
+        connection_stop: Option<ConnectionStopReason>,
+    ) -> Self
+        ensures { result ≡ new_session settings outgoing_channel.0 state connection_stop }
+    {
+        let next_outgoing_id = settings.next_outgoing_id;
+        Session {
+            alloc,
+            state,
+            settings,
+            outgoing_channel,
+            incoming_channel: None,
+            connection_stop,
+            session_stop: None,
+            sending: Sending::new(alloc, outgoing_channel, next_outgoing_id),
+            receiving: Receiving::new(),
+            links: Links::new(alloc),
+            sent: Deliveries::new(alloc),
+            received: Deliveries::new(alloc),
+            last_walk: WalkCount {
+                turns: 0,
+                comparisons: 0,
+            },
+        }
+    }
+
+    /// The state (AMQP 1.0 part 2, section 2.5.5).
+    pub fn local_state(&self) -> &SessionState
+        ensures { result.now ≡ self.now.state }
+    {
+        &self.state
+    }
+
+    /// Whether a transfer is taken: exactly in `Mapped`.
+    pub fn can_send(&self) -> bool
+        ensures { result ≡ is_mapped self.now.state }
+    {
+        matches!(self.state, SessionState::Mapped)
+    }
+
+    /// The channel of the frames that go out.
+    pub fn outgoing_channel(&self) -> OutgoingChannel
+        ensures { result.0 ≡ self.now.outgoing_channel }
+    {
+        self.outgoing_channel
+    }
+
+    /// Why the session stopped, if that is recorded.
+    pub fn session_stop_reason(&self) -> Option<SessionStopReason>
+        ensures { result ≡ self.now.session_stop }
+    {
+        self.session_stop
+    }
+
+    /// Why the connection had stopped when the session was made, if it had.
+    pub fn connection_stop_reason(&self) -> Option<ConnectionStopReason>
+        ensures { result ≡ self.now.connection_stop }
+    {
+        self.connection_stop
+    }
+
+    /// Records why the session stopped, where no reason is recorded yet: the first one stays.
+    pub fn set_session_stop_reason(&mut self, reason: SessionStopReason)
+        ensures { StopStep self.old reason self.new }
+    {
+        if self.session_stop.is_none() {
+            self.session_stop = Some(reason);
+        }
+    }
+
+    /// The number of the next transfer that goes out, modulo 2^32 (section 2.5.6).
+    pub fn next_outgoing_id(&self) -> u32
+        ensures { result ≡ self.now.sending.next }
+    {
+        self.sending.next()
+    }
+
+    /// The number of the next transfer that is expected, modulo 2^32 (section 2.5.6).
+    pub fn next_incoming_id(&self) -> u32
+        ensures { result ≡ self.now.receiving.next }
+    {
+        self.receiving.next
+    }
+
+    /// How many transfers the peer still takes: 0 to 4294967295 (section 2.5.6).
+    pub fn remote_incoming_window(&self) -> u32
+        ensures { result ≡ self.now.sending.window }
+    {
+        self.sending.window()
+    }
+
+    /// How many transfers the peer may still send: 0 to 4294967295 (section 2.5.6).
+    pub fn remote_outgoing_window(&self) -> u32
+        ensures { result ≡ self.now.receiving.window }
+    {
+        self.receiving.window
+    }
+
+    /// How many transfers wait for the peer's window.
+    pub fn held_back(&self) -> usize
+        ensures { result ≡ length self.now.sending.held }
+    {
+        self.sending.held_back()
+    }
+
+    /// How many deliveries are open: sent or received, and not settled.
+    pub fn open_deliveries(&self) -> usize
+        ensures { result ≡ length self.now.deliveries.receiver + length self.now.deliveries.sender }
+    {
+        self.sent.len() + self.received.len()
+    }
+}

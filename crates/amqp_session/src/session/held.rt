@@ -1,0 +1,119 @@
+//! Transfers that wait for the window, and the frames that they go out as.
+
+ghost use Rattle.std.specs.Prelude.{◌≡◌, ℕ, ◌+◌, ◌%◌, ◌^◌, IfOk};
+ghost use Rattle.std.specs.Option.{option_map};
+ghost use Rattle.amqp_session.specs.Transfers.{frame_of, record_of, first_of, kept_tag};
+
+use crate::deliveries::Delivery;
+use crate::frame::{SessionFrame, SessionFrameBody};
+use crate::numbers::{InputHandle, OutgoingChannel};
+use amqp_types::{DeliveryTag, Transfer};
+use bytes::Bytes;
+use std::alloc::AllocError;
+use std::marker::Model;
+
+/// A transfer that was accepted, for the link of an input handle.
+///
+/// The tag that its record will keep is taken as it is accepted, so that nothing needs memory as it goes out.
+#[derive(Drop)]
+pub(crate) struct Held {
+    input_handle: InputHandle,
+    transfer: Transfer,
+    payload: Bytes,
+    is_first: bool,
+    tag: Option<DeliveryTag>,
+}
+
+impl Model for Held {
+    ghost use Rattle.std.specs.Prelude.{◌≡◌};
+    ghost use Rattle.std.specs.Option.{option_map};
+    ghost use Rattle.amqp_session.specs.Transfers.{HeldSaid, kept_tag};
+
+    ghost Value = { HeldSaid };
+
+    ghost view = { λ h. record {
+      input_handle = h.input_handle.0;
+      transfer = h.transfer;
+      payload = h.payload;
+      is_first = h.is_first;
+    } };
+
+    ghost invariant = { λ h. option_map (λ t. t.0) h.tag ≡ kept_tag h.is_first h.transfer };
+}
+
+/// What goes out for one transfer that waited.
+#[derive(Drop)]
+pub(crate) struct Numbered {
+    /// Its frame.
+    pub(crate) frame: SessionFrame,
+    /// The delivery that it opens.
+    pub(crate) delivery: Option<Delivery>,
+    /// The number of the next delivery.
+    pub(crate) next: u32,
+}
+
+/// The tag under which a delivery is recorded: that of its first transfer, unless it is settled already.
+fn tag_to_keep(transfer: &Transfer, is_first: bool) -> Result<Option<DeliveryTag>, AllocError>
+    ensures { IfOk result (λ tag. option_map (λ t. t.0) tag ≡ kept_tag is_first transfer.now) }
+{
+    if !is_first || transfer.settled.unwrap_or(false) {
+        return Ok(None);
+    }
+    transfer.delivery_tag.clone()
+}
+
+impl Held {
+    /// The transfer, ready to wait. Its payload and tag are moved or shared, never copied.
+    pub(crate) fn new(
+        input_handle: InputHandle,
+        transfer: Transfer,
+        payload: Bytes,
+        is_first: bool,
+    ) -> Result<Held, AllocError>
+        ensures { IfOk result (λ held. held ≡ record { input_handle = input_handle.0; transfer = transfer; payload = payload; is_first = is_first }) }
+    {
+        let tag = tag_to_keep(&transfer, is_first)?;
+        Ok(Held {
+            input_handle,
+            transfer,
+            payload,
+            is_first,
+            tag,
+        })
+    }
+
+    /// The frame, where this is the number of the next delivery: a first frame takes it, and any other has none.
+    pub(crate) fn numbered(self, channel: OutgoingChannel, delivery: u32) -> Numbered
+        ensures frame { result.frame ≡ frame_of channel.0 delivery self }
+        ensures delivery { result.delivery ≡ record_of delivery self }
+        ensures next { result.next ≡ (delivery + first_of self) % 2 ^ 32 }
+    {
+        let Held {
+            input_handle,
+            mut transfer,
+            payload,
+            is_first,
+            tag,
+        } = self;
+        transfer.delivery_id = if is_first { Some(delivery) } else { None };
+        Numbered {
+            frame: SessionFrame::new(
+                channel.0,
+                SessionFrameBody::Transfer {
+                    performative: transfer,
+                    payload,
+                },
+            ),
+            delivery: tag.map(|tag| Delivery {
+                number: delivery,
+                input_handle,
+                tag,
+            }),
+            next: if is_first {
+                delivery.wrapping_add(1)
+            } else {
+                delivery
+            },
+        }
+    }
+}

@@ -1,0 +1,274 @@
+//! What a session takes from its peer for its links (AMQP 1.0 part 2, section 2.5.6).
+
+ghost use Rattle.std.specs.Prelude.{◌≡◌, ◌≤◌, ◌<◌, ◌^◌, ◌+◌, ◌++◌, ℕ, [], true, false, Option, Some, None, IsSome, IfOk, OnOk, length, vec_len, vec_capacity};
+ghost use Rattle.std.specs.Option.{option_map};
+ghost use Rattle.amqp_session.specs.LinkFlow.{link_flow_of};
+ghost use Rattle.amqp_session.specs.Items.{HandsOut, is_some_list, first_frame};
+ghost use Rattle.amqp_session.specs.Deliveries.{noted};
+ghost use Rattle.amqp_session.specs.States.{is_mapped};
+ghost use Rattle.amqp_session.specs.Links.{attached_at};
+ghost use Rattle.amqp_session.specs.Relay.{FlowQuestion, TransferQuestion};
+ghost use Rattle.amqp_session.specs.Sending.{let_out, drained, opened_by, ready_count, moved};
+ghost use Rattle.amqp_session.specs.Session.{flow_frame};
+ghost use Rattle.amqp_session.specs.Step.{FlowStep, LinkFlowStep, FlowUnasked, FlowFits, TakeTransferStep, LinkTransferStep, flow_moved, named_delivery};
+
+use super::Session;
+use super::transfers::Sending;
+use crate::deliveries::{Deliveries, Delivery};
+use crate::error::SessionInnerError;
+use crate::flow::LinkFlow;
+use crate::frame::{SessionFrame, SessionOutgoingItem};
+use crate::numbers::InputHandle;
+use crate::relay::LinkRelay;
+use amqp_types::{DeliveryNumber, DeliveryTag, Disposition, Flow, Transfer};
+use bytes::Bytes;
+use std::alloc::{AllocError, Global};
+
+/// Room for what a flow lets out: for a list of frames, and for the deliveries that they open. None is taken where nothing
+/// goes out.
+fn take_room(
+    alloc: Global,
+    count: usize,
+    deliveries: &mut Deliveries,
+) -> Result<Vec<SessionFrame>, AllocError>
+    requires { count + 1 < 2 ^ 64 }
+    ensures frames { IfOk result (λ frames. frames.items ≡ []) }
+    ensures room { IfOk result (λ frames. vec_len frames + count ≤ vec_capacity frames) }
+    ensures first { IfOk result (λ frames. 0 < count → vec_len frames + count + 1 ≤ vec_capacity frames) }
+    ensures records { OnOk result (length deliveries.new.rows + count ≤ deliveries.new.capacity) }
+    ensures rows { deliveries.new.rows ≡ deliveries.old.rows }
+{
+    if count == 0 {
+        deliveries.reserve(0)?;
+        return Ok(Vec::new(alloc));
+    }
+    let frames = Vec::with_capacity(alloc, count + 1)?;
+    deliveries.reserve(count)?;
+    Ok(frames)
+}
+
+/// Hands out a frame that stands first, if any, and behind it what the window lets out.
+fn hand_on(
+    first: Option<SessionFrame>,
+    sending: &mut Sending,
+    deliveries: &mut Deliveries,
+    room: Vec<SessionFrame>,
+) -> Option<SessionOutgoingItem>
+    requires empty { room.items ≡ [] }
+    requires room { vec_len room + ready_count sending.old ≤ vec_capacity room }
+    requires first { 0 < ready_count sending.old → vec_len room + ready_count sending.old + 1 ≤ vec_capacity room }
+    requires records { length deliveries.old.rows + ready_count sending.old ≤ deliveries.old.capacity }
+    ensures item { HandsOut (is_some_list (let_out sending.old)) (first_frame first ++ let_out sending.old) result }
+    ensures sending { sending.new ≡ drained sending.old }
+    ensures opened { deliveries.new.rows ≡ opened_by sending.old deliveries.old.rows }
+{
+    let mut frames = room;
+    if sending.ready() == 0 {
+        sending.drain(&mut frames, deliveries);
+        return alone(first);
+    }
+    if let Some(frame) = first {
+        frames.push(frame).unwrap();
+    }
+    sending.drain(&mut frames, deliveries);
+    Some(SessionOutgoingItem::MultipleFrames(frames))
+}
+
+/// One frame alone, if any.
+fn alone(frame: Option<SessionFrame>) -> Option<SessionOutgoingItem>
+    ensures { HandsOut false (first_frame frame) result }
+{
+    match frame {
+        None => None,
+        Some(frame) => Some(SessionOutgoingItem::SingleFrame(frame)),
+    }
+}
+
+/// What a flow says of the link that it names.
+fn link_flow(input: InputHandle, flow: Flow) -> LinkFlow
+    ensures { result ≡ link_flow_of input.0 flow }
+{
+    LinkFlow {
+        handle: input.into(),
+        delivery_count: flow.delivery_count,
+        link_credit: flow.link_credit,
+        available: flow.available,
+        drain: flow.drain,
+        echo: flow.echo,
+        properties: flow.properties,
+    }
+}
+
+impl<R: LinkRelay> Session<R> {
+    /// Takes the peer's Flow: it gives both windows and the peer's next number, in every state and whatever is then
+    /// answered. A flow that names a link goes on to its relay. What goes out is the relay's flow, if any, and behind it, in
+    /// `Mapped`, the transfers that waited and that the new window lets out: a list of frames where a transfer goes out.
+    ///
+    /// `UnattachedHandle` where no link is attached under the handle. `OutOfMemory` where memory is refused: for what goes
+    /// out it is taken before the relay is asked. An error of the relay is passed on. Nothing goes out then, and only the
+    /// windows and numbers have moved.
+    pub fn on_incoming_flow(
+        &mut self,
+        flow: Flow,
+    ) -> Result<Option<SessionOutgoingItem>, SessionInnerError>
+        ensures { (asked : Option (FlowQuestion R)) × FlowStep R.flow_gives self.old flow asked result self.new }
+    {
+        self.move_windows(&flow);
+        match flow.handle {
+            None => self.flow_of_session(),
+            Some(handle) => {
+                let input = InputHandle::from(handle);
+                self.flow_of_link(input, link_flow(input, flow))
+            }
+        }
+    }
+
+    /// Takes a transfer of the peer and its payload: its number is counted, whatever is then answered. The relay of its link
+    /// gets it, and the delivery that the relay names is open from now on. The answer is always `None`.
+    ///
+    /// `UnattachedHandle` where no link is attached under the handle. `OutOfMemory` where memory is refused: for the record
+    /// of a delivery it is taken before the relay is asked. An error of the relay is passed on. Nothing is recorded then.
+    pub fn on_incoming_transfer(
+        &mut self,
+        transfer: Transfer,
+        payload: Bytes,
+    ) -> Result<Option<Disposition>, SessionInnerError>
+        ensures { (asked : Option (TransferQuestion R)) × TakeTransferStep R.transfer_gives self.old transfer payload asked result self.new }
+    {
+        self.receiving.count_transfer();
+        let input = InputHandle::from(transfer.handle);
+        self.transfer_of_link(input, transfer, payload)
+    }
+
+    /// What follows for the link of a transfer.
+    fn transfer_of_link(
+        &mut self,
+        input: InputHandle,
+        transfer: Transfer,
+        payload: Bytes,
+    ) -> Result<Option<Disposition>, SessionInnerError>
+        ensures { (asked : Option (TransferQuestion R)) × LinkTransferStep R.transfer_gives self.old input.0 transfer payload asked result self.new }
+    {
+        if !self.links.is_attached(input) {
+            return Err(SessionInnerError::UnattachedHandle);
+        }
+        let Ok(()) = self.received.reserve(1) else {
+            return Err(SessionInnerError::OutOfMemory);
+        };
+        match self.links.ask_transfer(input, transfer, payload) {
+            Err(error) => Err(SessionInnerError::from(error)),
+            Ok(named) => {
+                record_named(&mut self.received, input, named);
+                Ok(None)
+            }
+        }
+    }
+
+    /// The windows and numbers that a flow says.
+    fn move_windows(&mut self, flow: &Flow)
+        ensures moved { self.new ≡ flow_moved self.old flow.now }
+        ensures fits { FlowFits self.old flow.now }
+    {
+        self.sending
+            .move_window(flow.next_incoming_id, flow.incoming_window);
+        self.receiving
+            .tell(flow.next_outgoing_id, flow.outgoing_window);
+    }
+
+    /// What a flow lets out that names no link.
+    fn flow_of_session(&mut self) -> Result<Option<SessionOutgoingItem>, SessionInnerError>
+        ensures { FlowUnasked self.old None result self.new }
+    {
+        if !self.can_send() {
+            return Ok(None);
+        }
+        let Ok(room) = take_room(self.alloc, self.sending.ready(), &mut self.sent) else {
+            return Err(SessionInnerError::OutOfMemory);
+        };
+        Ok(hand_on(None, &mut self.sending, &mut self.sent, room))
+    }
+
+    /// What a flow for a link lets out.
+    fn flow_of_link(
+        &mut self,
+        input: InputHandle,
+        flow: LinkFlow,
+    ) -> Result<Option<SessionOutgoingItem>, SessionInnerError>
+        ensures { (asked : Option (FlowQuestion R)) × LinkFlowStep R.flow_gives self.old input.0 flow asked result self.new }
+    {
+        if !self.links.is_attached(input) {
+            return Err(SessionInnerError::UnattachedHandle);
+        }
+        if self.can_send() {
+            self.flow_of_mapped(input, flow)
+        } else {
+            self.flow_of_unmapped(input, flow)
+        }
+    }
+
+    /// In `Mapped` the relay's flow goes out, and behind it what the window lets out.
+    fn flow_of_mapped(
+        &mut self,
+        input: InputHandle,
+        flow: LinkFlow,
+    ) -> Result<Option<SessionOutgoingItem>, SessionInnerError>
+        requires mapped { is_mapped self.old.state ≡ true }
+        requires attached { IsSome (attached_at input.0 self.old.links) }
+        ensures { (asked : Option (FlowQuestion R)) × LinkFlowStep R.flow_gives self.old input.0 flow asked result self.new }
+    {
+        let Ok(room) = take_room(self.alloc, self.sending.ready(), &mut self.sent) else {
+            return Err(SessionInnerError::OutOfMemory);
+        };
+        match self.links.ask_flow(input, flow) {
+            Err(error) => Err(SessionInnerError::from(error)),
+            Ok(echo) => {
+                let first = self.echo(echo);
+                Ok(hand_on(first, &mut self.sending, &mut self.sent, room))
+            }
+        }
+    }
+
+    /// Outside `Mapped` the relay's flow alone goes out.
+    fn flow_of_unmapped(
+        &mut self,
+        input: InputHandle,
+        flow: LinkFlow,
+    ) -> Result<Option<SessionOutgoingItem>, SessionInnerError>
+        requires mapped { is_mapped self.old.state ≡ false }
+        requires attached { IsSome (attached_at input.0 self.old.links) }
+        ensures { (asked : Option (FlowQuestion R)) × LinkFlowStep R.flow_gives self.old input.0 flow asked result self.new }
+    {
+        match self.links.ask_flow(input, flow) {
+            Err(error) => Err(SessionInnerError::from(error)),
+            Ok(echo) => Ok(alone(self.echo(echo))),
+        }
+    }
+
+    /// The frame of the relay's flow, if any.
+    fn echo(&self, flow: Option<LinkFlow>) -> Option<SessionFrame>
+        ensures { result ≡ option_map (flow_frame self.now) flow }
+    {
+        match flow {
+            None => None,
+            Some(flow) => Some(self.on_outgoing_flow(flow)),
+        }
+    }
+}
+
+/// Records the delivery that a relay named, if any.
+fn record_named(
+    deliveries: &mut Deliveries,
+    input: InputHandle,
+    named: Option<(DeliveryNumber, DeliveryTag)>,
+)
+    requires { length deliveries.old.rows < deliveries.old.capacity }
+    ensures { deliveries.new.rows ≡ noted (named_delivery input.0 named) deliveries.old.rows }
+{
+    if let Some((number, tag)) = named {
+        deliveries.record(Delivery {
+            number,
+            input_handle: input,
+            tag,
+        });
+    }
+}

@@ -1,0 +1,107 @@
+//! What a session sends for its links, and its own flows (AMQP 1.0 part 2, section 2.5.6).
+
+ghost use Rattle.std.specs.Prelude.{◌≡◌, ◌/◌};
+ghost use Rattle.amqp_session.specs.Session.{session_flow, flow_frame, is_due};
+ghost use Rattle.amqp_session.specs.Step.{SendFlowStep, SendTransferStep, SessionFlowStep};
+
+use super::Session;
+use super::held::Held;
+use crate::error::SessionInnerError;
+use crate::flow::LinkFlow;
+use crate::frame::{SessionFrame, SessionFrameBody, SessionOutgoingItem};
+use crate::numbers::InputHandle;
+use crate::relay::LinkRelay;
+use amqp_types::{Flow, Transfer};
+use bytes::Bytes;
+
+impl<R: LinkRelay> Session<R> {
+    /// The frame of a link's flow, with the session's numbers and windows. Takes no memory, and changes nothing.
+    pub fn on_outgoing_flow(&self, flow: LinkFlow) -> SessionFrame
+        ensures { SendFlowStep self.now flow result self.now }
+    {
+        SessionFrame::new(
+            self.outgoing_channel.0,
+            SessionFrameBody::Flow(Flow {
+                handle: Some(flow.handle),
+                delivery_count: flow.delivery_count,
+                link_credit: flow.link_credit,
+                available: flow.available,
+                drain: flow.drain,
+                echo: flow.echo,
+                properties: flow.properties,
+                ..self.session_flow()
+            }),
+        )
+    }
+
+    /// Takes a transfer for the link of an input handle, with its payload: the first of its delivery, or a later one.
+    ///
+    /// It waits while the peer's window is used up (`None`). Else those that wait go out first, and then it, while the window
+    /// lasts. A first transfer gets the number of the next delivery as it goes out, and the delivery is open from then on
+    /// unless it is settled already. Any other transfer has no delivery-id, whatever it came with.
+    ///
+    /// `IllegalState` outside `Mapped`, and where the first transfer of a delivery has no tag. `OutOfMemory` where memory is
+    /// refused. Nothing changes then.
+    pub fn on_outgoing_transfer(
+        &mut self,
+        input_handle: InputHandle,
+        transfer: Transfer,
+        payload: Bytes,
+        is_first: bool,
+    ) -> Result<Option<SessionOutgoingItem>, SessionInnerError>
+        ensures { SendTransferStep self.old (record { input_handle = input_handle.0; transfer = transfer; payload = payload; is_first = is_first }) result self.new }
+    {
+        if !self.can_send() || (is_first && transfer.delivery_tag.is_none()) {
+            return Err(SessionInnerError::IllegalState);
+        }
+        let Ok(held) = Held::new(input_handle, transfer, payload, is_first) else {
+            return Err(SessionInnerError::OutOfMemory);
+        };
+        match self.sending.send(self.alloc, held, &mut self.sent) {
+            Ok(item) => Ok(item),
+            Err(_) => Err(SessionInnerError::OutOfMemory),
+        }
+    }
+
+    /// A flow of the session alone, in `Mapped`, where the transfers that came since the last one are at least half of the
+    /// incoming window, rounded down: it opens the peer's window again. Takes no memory.
+    pub fn maybe_outgoing_session_flow(&mut self) -> Option<SessionOutgoingItem>
+        ensures { SessionFlowStep self.old result self.new }
+    {
+        if !self.is_flow_due() {
+            return None;
+        }
+        let flow = self.session_flow();
+        self.receiving.rest();
+        Some(SessionOutgoingItem::SingleFrame(SessionFrame::new(
+            self.outgoing_channel.0,
+            SessionFrameBody::Flow(flow),
+        )))
+    }
+
+    /// Whether a session flow is due.
+    fn is_flow_due(&self) -> bool
+        ensures { result ≡ is_due self.now }
+    {
+        self.can_send() && self.settings.incoming_window / 2 <= self.receiving.count
+    }
+
+    /// What a flow of the session alone says.
+    pub(super) fn session_flow(&self) -> Flow
+        ensures { result ≡ session_flow self.now }
+    {
+        Flow {
+            next_incoming_id: Some(self.receiving.next),
+            incoming_window: self.settings.incoming_window,
+            next_outgoing_id: self.sending.next(),
+            outgoing_window: self.settings.outgoing_window,
+            handle: None,
+            delivery_count: None,
+            link_credit: None,
+            available: None,
+            drain: false,
+            echo: false,
+            properties: None,
+        }
+    }
+}

@@ -1,0 +1,245 @@
+//! The sending half of a session: the one place that numbers a transfer and lowers the window.
+
+ghost use Rattle.std.specs.Prelude.{◌≡◌, ℕ, ◌+◌, ◌-◌, ◌^◌, ◌%◌, ◌<◌, ◌≤◌, ◌++◌, [], ◌∷◌, length, take, drop, vec_len, vec_capacity, unwrap_or, OnOk, OnErr, IfOk};
+ghost use Rattle.std.specs.VecDeque.{deque_len, deque_capacity};
+ghost use Rattle.amqp_session.specs.Transfers.{numbered, firsts, opened};
+ghost use Rattle.amqp_session.specs.Deliveries.{noted};
+ghost use Rattle.amqp_session.specs.Items.{HandsOut};
+ghost use Rattle.amqp_session.specs.Step.{is_some_held};
+ghost use Rattle.amqp_session.specs.Sending.{new_sending, joined, begun, moved, ready_count, let_out, opened_by, drained};
+
+use super::held::Held;
+use crate::deliveries::{Deliveries, Delivery};
+use crate::frame::{SessionFrame, SessionOutgoingItem};
+use crate::numbers::OutgoingChannel;
+use std::alloc::{AllocError, Global};
+use std::collections::VecDeque;
+use std::marker::Model;
+
+/// The numbers of the transfers and deliveries that this side sends, the peer's window, and the transfers that wait for it
+/// (AMQP 1.0 part 2, section 2.5.6).
+#[derive(Drop)]
+pub(crate) struct Sending {
+    channel: OutgoingChannel,
+    initial: u32,
+    next: u32,
+    window: u32,
+    delivery: u32,
+    held: VecDeque<Held>,
+}
+
+impl Model for Sending {
+    ghost use Rattle.amqp_session.specs.Items.{HandsOut};
+    ghost use Rattle.amqp_session.specs.Step.{is_some_held};
+    ghost use Rattle.amqp_session.specs.Sending.{SendingView};
+
+    ghost Value = { SendingView };
+
+    ghost view = { λ s. record {
+      channel = s.channel.0;
+      initial = s.initial;
+      next = s.next;
+      window = s.window;
+      delivery = s.delivery;
+      held = s.held.items;
+    } };
+}
+
+/// Records the delivery, if any.
+fn note(deliveries: &mut Deliveries, delivery: Option<Delivery>)
+    requires room { length deliveries.old.rows < deliveries.old.capacity }
+    ensures rows { deliveries.new.rows ≡ noted delivery deliveries.old.rows }
+    ensures capacity { deliveries.old.capacity ≤ deliveries.new.capacity }
+{
+    if let Some(delivery) = delivery {
+        deliveries.record(delivery);
+    }
+}
+
+/// Hands out the first `count` that wait, each delivery numbered once, and records the deliveries that they open.
+fn hand_out(
+    held: &mut VecDeque<Held>,
+    frames: &mut Vec<SessionFrame>,
+    deliveries: &mut Deliveries,
+    channel: OutgoingChannel,
+    count: usize,
+    first: u32,
+) -> u32
+    requires enough { count ≤ length held.old.items }
+    requires room { vec_len frames.old + count ≤ vec_capacity frames.old }
+    requires records { length deliveries.old.rows + count ≤ deliveries.old.capacity }
+    ensures held { held.new.items ≡ drop count held.old.items }
+    ensures frames { frames.new.items ≡ frames.old.items ++ numbered channel.0 first (take count held.old.items) }
+    ensures opened { deliveries.new.rows ≡ opened first (take count held.old.items) deliveries.old.rows }
+    ensures delivery { result ≡ (first + firsts (take count held.old.items)) % 2 ^ 32 }
+{
+    let mut delivery = first;
+    for i in 0..count {
+        let waiting = held.pop_front().unwrap();
+        let out = waiting.numbered(channel, delivery);
+        delivery = out.next;
+        note(deliveries, out.delivery);
+        frames.push(out.frame).unwrap();
+    }
+    delivery
+}
+
+impl Sending {
+    /// Nothing waits, nothing went out, and the window is 0.
+    pub(crate) fn new(alloc: Global, channel: OutgoingChannel, next_outgoing_id: u32) -> Sending
+        ensures { result ≡ new_sending channel.0 next_outgoing_id }
+    {
+        Sending {
+            channel,
+            initial: next_outgoing_id,
+            next: next_outgoing_id,
+            window: 0,
+            delivery: 0,
+            held: VecDeque::new(alloc),
+        }
+    }
+
+    /// The number of the next transfer.
+    pub(crate) fn next(&self) -> u32
+        ensures { result ≡ self.now.next }
+    {
+        self.next
+    }
+
+    /// How many transfers may still go out.
+    pub(crate) fn window(&self) -> u32
+        ensures { result ≡ self.now.window }
+    {
+        self.window
+    }
+
+    /// How many transfers wait.
+    pub(crate) fn held_back(&self) -> usize
+        ensures { result ≡ length self.now.held }
+    {
+        self.held.len()
+    }
+
+    /// A received Begin gives the window.
+    pub(crate) fn begin_window(&mut self, width: u32)
+        ensures begun { self.new ≡ begun self.old width }
+        ensures fits { width < 2 ^ 32 }
+    {
+        self.window = width;
+    }
+
+    /// A received Flow gives the window from `base` on, and from the first number where the peer does not know a next one.
+    pub(crate) fn move_window(&mut self, base: Option<u32>, width: u32)
+        ensures moved { self.new ≡ moved self.old base width }
+        ensures width { width < 2 ^ 32 }
+        ensures base { unwrap_or base self.old.initial < 2 ^ 32 }
+    {
+        let base = base.unwrap_or(self.initial);
+        self.window = width.saturating_sub(self.next.wrapping_sub(base));
+    }
+
+    /// How many transfers the window lets out.
+    pub(crate) fn ready(&self) -> usize
+        ensures value { result ≡ ready_count self.now }
+        ensures few { result < 2 ^ 32 }
+    {
+        self.held.len().min(self.window as usize)
+    }
+
+    /// Hands out what the window lets out, and records the deliveries that it opens.
+    pub(crate) fn drain(&mut self, frames: &mut Vec<SessionFrame>, deliveries: &mut Deliveries)
+        requires room { vec_len frames.old + ready_count self.old ≤ vec_capacity frames.old }
+        requires records { length deliveries.old.rows + ready_count self.old ≤ deliveries.old.capacity }
+        ensures drained { self.new ≡ drained self.old }
+        ensures frames { frames.new.items ≡ frames.old.items ++ let_out self.old }
+        ensures opened { deliveries.new.rows ≡ opened_by self.old deliveries.old.rows }
+    {
+        let count = self.held.len().min(self.window as usize);
+        self.delivery = hand_out(
+            &mut self.held,
+            frames,
+            deliveries,
+            self.channel,
+            count,
+            self.delivery,
+        );
+        self.next = self.next.wrapping_add(count as u32);
+        self.window -= count as u32;
+    }
+
+    /// The transfer waits: the window is used up. On a refusal nothing changes.
+    fn hold_back(&mut self, held: Held) -> Result<(), AllocError>
+        requires { self.old.window ≡ 0 }
+        ensures ok { OnOk result (self.new ≡ drained (joined self.old held)) }
+        ensures err { OnErr result (self.new ≡ self.old) }
+    {
+        // The proof reads the ranges of the two numbers that wrap.
+        let (_next, _delivery) = (self.next, self.delivery);
+        self.held.push_back(held)?;
+        Ok(())
+    }
+
+    /// The transfer goes out alone: none waits, and the window is not used up.
+    fn send_alone(&mut self, held: Held, deliveries: &mut Deliveries) -> SessionFrame
+        requires alone { self.old.held ≡ [] }
+        requires open_window { 0 < self.old.window }
+        requires records { length deliveries.old.rows < deliveries.old.capacity }
+        ensures frame { let_out (joined self.old held) ≡ result ∷ [] }
+        ensures drained { self.new ≡ drained (joined self.old held) }
+        ensures opened { deliveries.new.rows ≡ opened_by (joined self.old held) deliveries.old.rows }
+    {
+        let out = held.numbered(self.channel, self.delivery);
+        note(deliveries, out.delivery);
+        self.delivery = out.next;
+        self.next = self.next.wrapping_add(1);
+        self.window -= 1;
+        out.frame
+    }
+
+    /// The transfer goes behind those that wait, and the window lets out what it can. On a refusal nothing changes.
+    fn send_behind(
+        &mut self,
+        alloc: Global,
+        held: Held,
+        deliveries: &mut Deliveries,
+    ) -> Result<Vec<SessionFrame>, AllocError>
+        ensures frames { IfOk result (λ frames. frames.items ≡ let_out (joined self.old held)) }
+        ensures drained { OnOk result (self.new ≡ drained (joined self.old held)) }
+        ensures opened { OnOk result (deliveries.new.rows ≡ opened_by (joined self.old held) deliveries.old.rows) }
+        ensures err { OnErr result (self.new ≡ self.old) }
+        ensures err_rows { OnErr result (deliveries.new.rows ≡ deliveries.old.rows) }
+    {
+        self.held.reserve(1)?;
+        let count = (self.held.len() + 1).min(self.window as usize);
+        let mut frames = Vec::with_capacity(alloc, count)?;
+        deliveries.reserve(count)?;
+        self.held.push_back_reserved(held);
+        self.drain(&mut frames, deliveries);
+        Ok(frames)
+    }
+
+    /// Takes a transfer: it waits while the window is used up; else those that wait go out first, and then it, while the
+    /// window lasts. On a refusal nothing changes.
+    pub(crate) fn send(
+        &mut self,
+        alloc: Global,
+        held: Held,
+        deliveries: &mut Deliveries,
+    ) -> Result<Option<SessionOutgoingItem>, AllocError>
+        ensures item { IfOk result (λ item. HandsOut (is_some_held self.old.held) (let_out (joined self.old held)) item) }
+        ensures drained { OnOk result (self.new ≡ drained (joined self.old held)) }
+        ensures opened { OnOk result (deliveries.new.rows ≡ opened_by (joined self.old held) deliveries.old.rows) }
+        ensures err { OnErr result (self.new ≡ self.old) }
+        ensures err_rows { OnErr result (deliveries.new.rows ≡ deliveries.old.rows) }
+    {
+        if self.window == 0 {
+            self.hold_back(held)?;
+            return Ok(None);
+        }
+        if self.held.is_empty() {
+            deliveries.reserve(1)?;
+            return Ok(Some(SessionOutgoingItem::SingleFrame(self.send_alone(held, deliveries))));
+        }
+        Ok(Some(SessionOutgoingItem::MultipleFrames(self.send_behind(alloc, held, deliveries)?)))
+    }
+}

@@ -1,0 +1,79 @@
+//! What a session begins with (AMQP 1.0 part 2, section 2.7.2).
+
+ghost use Rattle.std.specs.Prelude.{◌≡◌};
+ghost use Rattle.amqp_session.specs.Settings.{default_settings, begin_of};
+
+use amqp_types::{Begin, Fields, Handle, Symbol, Uint};
+use std::marker::Model;
+
+/// The incoming and the outgoing window of a session whose settings name none: 5000 transfers.
+pub const DEFAULT_WINDOW: Uint = 5000;
+
+/// What this side of a session begins with; a Begin carries it to the peer.
+#[derive(Clone, Debug, Drop)]
+pub struct SessionSettings {
+    /// The number of the first transfer that goes out.
+    pub next_outgoing_id: u32,
+    /// How many transfers may come before a flow grants more.
+    pub incoming_window: u32,
+    /// How many transfers this side keeps.
+    pub outgoing_window: u32,
+    /// The highest handle that the peer may use.
+    pub handle_max: Handle,
+    /// What this side can do.
+    pub offered_capabilities: Option<Vec<Symbol>>,
+    /// What it wants the peer to do.
+    pub desired_capabilities: Option<Vec<Symbol>>,
+    /// Anything else.
+    pub properties: Option<Fields>,
+}
+
+impl Model for SessionSettings {
+    ghost use Rattle.std.specs.Option.{option_map};
+    ghost use Rattle.amqp_session.specs.Settings.{SettingsSaid};
+
+    ghost Value = { SettingsSaid };
+
+    ghost view = { λ s. record {
+      next_outgoing_id = s.next_outgoing_id;
+      incoming_window = s.incoming_window;
+      outgoing_window = s.outgoing_window;
+      handle_max = s.handle_max.0;
+      offered_capabilities = option_map (λ v. v.items) s.offered_capabilities;
+      desired_capabilities = option_map (λ v. v.items) s.desired_capabilities;
+      properties = s.properties;
+    } };
+}
+
+impl SessionSettings {
+    /// Number 0 first, both windows 5000, any handle, and nothing else.
+    pub fn new() -> SessionSettings
+        ensures { result ≡ default_settings }
+    {
+        SessionSettings {
+            next_outgoing_id: 0,
+            incoming_window: DEFAULT_WINDOW,
+            outgoing_window: DEFAULT_WINDOW,
+            handle_max: Handle(u32::MAX),
+            offered_capabilities: None,
+            desired_capabilities: None,
+            properties: None,
+        }
+    }
+
+    /// The Begin that names these settings.
+    pub(crate) fn into_begin(self, remote_channel: Option<u16>, next_outgoing_id: u32) -> Begin
+        ensures { result ≡ begin_of self remote_channel next_outgoing_id }
+    {
+        Begin {
+            remote_channel,
+            next_outgoing_id,
+            incoming_window: self.incoming_window,
+            outgoing_window: self.outgoing_window,
+            handle_max: self.handle_max,
+            offered_capabilities: self.offered_capabilities,
+            desired_capabilities: self.desired_capabilities,
+            properties: self.properties,
+        }
+    }
+}

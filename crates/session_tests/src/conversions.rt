@@ -1,0 +1,76 @@
+//! Each conversion of numbers, flows, reasons and errors.
+
+use crate::made::flow;
+use amqp_session::{
+    BeginError, ConnectionStopReason, Error, IncomingChannel, InputHandle, LinkFlow,
+    LinkRelayError, OutgoingChannel, OutputHandle, SessionFrame, SessionFrameBody,
+    SessionInnerError, SessionStateError, SessionStopReason,
+};
+use amqp_types::Handle;
+use bytes::Bytes;
+use std::test::Fail;
+
+#[test]
+fn numbers_keep_their_value(rt: HostRuntime) {
+    assert_eq!(rt; u16::from(OutgoingChannel(3)), 3);
+    assert_eq!(rt; u16::from(IncomingChannel(4)), 4);
+    assert!(rt; OutputHandle::from(Handle(5)) == OutputHandle(5));
+    assert!(rt; Handle::from(OutputHandle(6)) == Handle(6));
+    assert!(rt; InputHandle::from(Handle(7)) == InputHandle(7));
+    assert!(rt; Handle::from(InputHandle(8)) == Handle(8));
+    assert!(rt; InputHandle(1) < InputHandle(2));
+}
+
+#[test]
+fn a_link_flow_needs_a_handle(rt: HostRuntime) -> Result<(), Fail> {
+    assert!(rt; LinkFlow::try_from(flow(None, 1)).is_err());
+    let mut of_link = flow(None, 1);
+    of_link.handle = Some(Handle(2));
+    of_link.link_credit = Some(9);
+    let Ok(link_flow) = LinkFlow::try_from(of_link) else {
+        return Err(Fail::from("a link flow"));
+    };
+    assert!(rt; link_flow.handle == Handle(2));
+    assert_eq!(rt; link_flow.link_credit, Some(9));
+    Ok(())
+}
+
+#[test]
+fn errors_go_on_under_their_names(rt: HostRuntime) {
+    assert!(rt;
+        SessionInnerError::from(SessionStateError::RemoteEnded) == SessionInnerError::RemoteEnded
+    );
+    assert!(rt;
+        SessionInnerError::from(LinkRelayError::TransferFrameToSender)
+            == SessionInnerError::TransferFrameToSender
+    );
+    assert!(rt; Error::from(LinkRelayError::UnattachedHandle) == Error::UnattachedHandle);
+    assert!(rt; Error::from(SessionInnerError::HandleInUse) == Error::HandleInUse);
+    assert!(rt; Error::from(SessionStateError::OutOfMemory) == Error::OutOfMemory);
+    assert!(rt; BeginError::from(SessionStateError::IllegalState) == BeginError::IllegalState);
+    assert!(rt;
+        SessionStopReason::from(ConnectionStopReason::Closed)
+            == SessionStopReason::ConnectionStopped(ConnectionStopReason::Closed)
+    );
+}
+
+#[test]
+fn errors_and_frames_are_printed(rt: HostRuntime) -> Result<(), Fail> {
+    let text = format!(in rt.alloc(); "{}", SessionStateError::IllegalState)?;
+    assert_eq!(rt; text.as_str(), "Illegal session state");
+    let text = format!(in rt.alloc();
+        "{}",
+        SessionInnerError::ConnectionStopped(ConnectionStopReason::Closed)
+    )?;
+    assert_eq!(rt; text.as_str(), "The connection stopped: Closed");
+    let frame = SessionFrame::new(
+        1,
+        SessionFrameBody::Transfer {
+            performative: crate::made::transfer(None),
+            payload: Bytes::from_static(b"12345"),
+        },
+    );
+    let text = format!(in rt.alloc(); "{frame:?}")?;
+    assert!(rt; text.as_str().ends_with("payload.len: 5 } }"));
+    Ok(())
+}

@@ -1,0 +1,196 @@
+//! What the tests make: sessions, transfers and flows.
+
+use amqp_session::{
+    InputHandle, LinkRelay, OutgoingChannel, Session, SessionFrame, SessionFrameBody,
+    SessionInnerError, SessionOutgoingItem, SessionSettings,
+};
+use amqp_types::{Begin, DeliveryTag, Flow, Handle, SessionState, Transfer};
+use bytes::Bytes;
+use std::alloc::Global;
+
+/// A session of default settings on channel 0 in a state.
+pub fn session<R: LinkRelay>(alloc: Global, state: SessionState) -> Session<R> {
+    Session::new(
+        alloc,
+        SessionSettings::new(),
+        OutgoingChannel(0),
+        state,
+        None,
+    )
+}
+
+/// A session that begins at a number, in a state.
+pub fn session_from<R: LinkRelay>(
+    alloc: Global,
+    next_outgoing_id: u32,
+    state: SessionState,
+) -> Session<R> {
+    let mut settings = SessionSettings::new();
+    settings.next_outgoing_id = next_outgoing_id;
+    Session::new(alloc, settings, OutgoingChannel(0), state, None)
+}
+
+/// A mapped session with an incoming window.
+pub fn session_of_window<R: LinkRelay>(alloc: Global, incoming_window: u32) -> Session<R> {
+    let mut settings = SessionSettings::new();
+    settings.incoming_window = incoming_window;
+    Session::new(
+        alloc,
+        settings,
+        OutgoingChannel(0),
+        SessionState::Mapped,
+        None,
+    )
+}
+
+/// A Begin that answers channel 0 and has a window.
+pub fn begin(incoming_window: u32) -> Begin {
+    Begin {
+        remote_channel: Some(0),
+        next_outgoing_id: 0,
+        incoming_window,
+        outgoing_window: 8,
+        handle_max: Handle(u32::MAX),
+        offered_capabilities: None,
+        desired_capabilities: None,
+        properties: None,
+    }
+}
+
+/// A flow of the session, with a window from a number on.
+pub fn flow(next_incoming_id: Option<u32>, incoming_window: u32) -> Flow {
+    Flow {
+        next_incoming_id,
+        incoming_window,
+        next_outgoing_id: 0,
+        outgoing_window: 8,
+        handle: None,
+        delivery_count: None,
+        link_credit: None,
+        available: None,
+        drain: false,
+        echo: false,
+        properties: None,
+    }
+}
+
+/// A transfer on handle 0, with a tag or none.
+pub fn transfer(tag: Option<&'static [u8]>) -> Transfer {
+    Transfer {
+        handle: Handle(0),
+        delivery_id: Some(77),
+        delivery_tag: tag.map(|tag| DeliveryTag(Bytes::from_static(tag))),
+        message_format: Some(0),
+        settled: Some(false),
+        more: false,
+        rcv_settle_mode: None,
+        state: None,
+        resume: false,
+        aborted: false,
+        batchable: false,
+    }
+}
+
+/// What a call answered: the delivery-ids of its frames, or why it was refused.
+#[derive(Clone, Copy, Debug, PartialEq, Eq)]
+pub enum Answer {
+    /// For each of the first four frames its delivery-id: NONE where it has none, ABSENT where there is no frame.
+    Out([u32; 4]),
+    Illegal,
+    Unattached,
+    Refused,
+}
+
+pub const NONE: u32 = 1000;
+
+pub const ABSENT: u32 = 2000;
+
+/// No frame.
+pub const NOTHING: Answer = Answer::Out([ABSENT; 4]);
+
+/// The delivery-id of a transfer's frame.
+fn delivery_id(frame: &SessionFrame) -> u32 {
+    match &frame.body {
+        SessionFrameBody::Transfer { performative, .. } => performative.delivery_id.unwrap_or(NONE),
+        _ => 3000,
+    }
+}
+
+/// The delivery-ids of several frames.
+fn several(frames: &[SessionFrame]) -> [u32; 4] {
+    let mut ids = [ABSENT; 4];
+    for i in 0..4 {
+        if i < frames.len() {
+            ids[i] = delivery_id(&frames[i]);
+        }
+    }
+    ids
+}
+
+/// The delivery-ids of an item.
+fn ids(item: &Option<SessionOutgoingItem>) -> [u32; 4] {
+    match item {
+        None => [ABSENT; 4],
+        Some(SessionOutgoingItem::SingleFrame(frame)) => {
+            [delivery_id(frame), ABSENT, ABSENT, ABSENT]
+        }
+        Some(SessionOutgoingItem::MultipleFrames(frames)) => several(frames.as_slice()),
+    }
+}
+
+/// What an answer says.
+fn said(answer: Result<Option<SessionOutgoingItem>, SessionInnerError>) -> Answer {
+    match answer {
+        Ok(item) => Answer::Out(ids(&item)),
+        Err(SessionInnerError::IllegalState) => Answer::Illegal,
+        Err(SessionInnerError::UnattachedHandle) => Answer::Unattached,
+        Err(_error) => Answer::Refused,
+    }
+}
+
+/// Asks for a transfer on input handle 0.
+pub fn send<R: LinkRelay>(
+    session: &mut Session<R>,
+    tag: Option<&'static [u8]>,
+    is_first: bool,
+) -> Answer {
+    let payload = Bytes::from_static(b"payload");
+    said(session.on_outgoing_transfer(InputHandle(0), transfer(tag), payload, is_first))
+}
+
+/// A flow of the session comes.
+pub fn grant<R: LinkRelay>(session: &mut Session<R>, from: Option<u32>, window: u32) -> Answer {
+    said(session.on_incoming_flow(flow(from, window)))
+}
+
+/// A flow for a link comes that nothing is attached to.
+pub fn grant_link<R: LinkRelay>(session: &mut Session<R>, from: u32, window: u32) -> Answer {
+    let mut of_link = flow(Some(from), window);
+    of_link.handle = Some(Handle(9));
+    said(session.on_incoming_flow(of_link))
+}
+
+/// A transfer comes for a handle that nothing is attached to.
+pub fn receive<R: LinkRelay>(session: &mut Session<R>) -> bool {
+    let payload = Bytes::from_static(b"m");
+    matches!(
+        session.on_incoming_transfer(transfer(Some(b"t")), payload),
+        Err(SessionInnerError::UnattachedHandle)
+    )
+}
+
+/// Whether a session flow goes out, and the number that it expects.
+pub fn session_flow<R: LinkRelay>(session: &mut Session<R>) -> Option<u32> {
+    match session.maybe_outgoing_session_flow() {
+        Some(SessionOutgoingItem::SingleFrame(frame)) => expected(&frame),
+        _item => None,
+    }
+}
+
+/// The number that a flow of the session alone expects.
+fn expected(frame: &SessionFrame) -> Option<u32> {
+    match &frame.body {
+        SessionFrameBody::Flow(flow) if flow.handle.is_none() => flow.next_incoming_id,
+        _ => None,
+    }
+}

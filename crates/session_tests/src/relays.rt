@@ -1,0 +1,125 @@
+//! Two kinds of relay: one whose answers are known, and one that has a choice.
+
+ghost use Rattle.std.specs.Prelude.{◌≡◌, ◌⊎◌, Bool, true, false, Option, Some, None, Ok, Err, not};
+ghost use Rattle.amqp_session.specs.declared.error.LinkRelayError.TheVariants.{TransferFrameToSender};
+
+use amqp_session::{LinkFlow, LinkRelay, LinkRelayError, OutputHandle};
+use amqp_types::{Attach, DeliveryNumber, DeliveryTag, Detach, Raw, Role, Transfer};
+use bytes::Bytes;
+
+/// Accepts what it is told, and has nothing to say.
+#[derive(Drop)]
+pub struct Quiet;
+
+impl LinkRelay for Quiet {
+    ghost attach_gives = { λ old attach answer new. (answer ≡ Ok tt) × (new ≡ old) };
+
+    ghost flow_gives = { λ old handle flow answer new. (answer ≡ Ok None) × (new ≡ old) };
+
+    ghost transfer_gives = { λ old transfer payload answer new. (answer ≡ Ok None) × (new ≡ old) };
+
+    ghost disposition_gives = { λ old role settled state tag answer new. (answer ≡ not settled) × (new ≡ old) };
+
+    ghost detach_gives = { λ old handle detach remote_initiated answer new. (answer ≡ None) × (new ≡ old) };
+
+    fn on_incoming_attach(&mut self, _attach: Attach) -> Result<(), LinkRelayError> {
+        Ok(())
+    }
+
+    fn on_incoming_flow(
+        &mut self,
+        _handle: OutputHandle,
+        _flow: LinkFlow,
+    ) -> Result<Option<LinkFlow>, LinkRelayError> {
+        Ok(None)
+    }
+
+    fn on_incoming_transfer(
+        &mut self,
+        _transfer: Transfer,
+        _payload: Bytes,
+    ) -> Result<Option<(DeliveryNumber, DeliveryTag)>, LinkRelayError> {
+        Ok(None)
+    }
+
+    fn on_incoming_disposition(
+        &mut self,
+        _role: Role,
+        settled: bool,
+        _state: Option<&Raw>,
+        _tag: &DeliveryTag,
+    ) -> bool {
+        !settled
+    }
+
+    fn on_incoming_detach(
+        &mut self,
+        _handle: OutputHandle,
+        _detach: Detach,
+        _remote_initiated: bool,
+    ) -> Option<Detach> {
+        None
+    }
+}
+
+/// Takes as many flows as it has credit for, and refuses transfers. Its relations say less than it does: any answer to a
+/// flow may come.
+#[derive(Drop)]
+pub struct Choosing {
+    pub credit: u32,
+}
+
+impl LinkRelay for Choosing {
+    ghost attach_gives = { λ old attach answer new. (answer ≡ Ok tt) ⊎ (new ≡ old) };
+
+    ghost flow_gives = { λ old handle flow answer new. (answer ≡ Ok None) ⊎ (answer ≡ Ok (Some flow)) };
+
+    ghost transfer_gives = { λ old transfer payload answer new. answer ≡ Err TransferFrameToSender };
+
+    ghost disposition_gives = { λ old role settled state tag answer new. new ≡ old };
+
+    ghost detach_gives = { λ old handle detach remote_initiated answer new. (answer ≡ None) ⊎ (answer ≡ Some detach) };
+
+    fn on_incoming_attach(&mut self, _attach: Attach) -> Result<(), LinkRelayError> {
+        Ok(())
+    }
+
+    fn on_incoming_flow(
+        &mut self,
+        _handle: OutputHandle,
+        flow: LinkFlow,
+    ) -> Result<Option<LinkFlow>, LinkRelayError> {
+        if self.credit == 0 {
+            return Ok(None);
+        }
+        self.credit -= 1;
+        Ok(Some(flow))
+    }
+
+    fn on_incoming_transfer(
+        &mut self,
+        _transfer: Transfer,
+        _payload: Bytes,
+    ) -> Result<Option<(DeliveryNumber, DeliveryTag)>, LinkRelayError> {
+        Err(LinkRelayError::TransferFrameToSender)
+    }
+
+    fn on_incoming_disposition(
+        &mut self,
+        _role: Role,
+        _settled: bool,
+        _state: Option<&Raw>,
+        _tag: &DeliveryTag,
+    ) -> bool {
+        self.credit > 0
+    }
+
+    fn on_incoming_detach(
+        &mut self,
+        _handle: OutputHandle,
+        detach: Detach,
+        remote_initiated: bool,
+    ) -> Option<Detach> {
+        if remote_initiated { Some(detach) } else { None }
+    }
+}
