@@ -8,15 +8,16 @@ pub mod definitions;
 pub mod engine;
 pub mod frames;
 pub mod laws;
+pub mod session;
 pub mod transcript;
 
 pub use amqp_frames::{Frame, FrameBody, FrameDecoder, FrameEncoder, Piece};
-pub use amqp_session::{ConnectionStopReason, IncomingChannel, OutgoingChannel};
+pub use amqp_session::{ConnectionStopReason, DEFAULT_WINDOW, IncomingChannel, OutgoingChannel};
 pub use amqp_types::{
     Attach, Begin, Close, ConnectionState, DeliveryNumber, DeliveryTag, Detach, Disposition, End,
     Fields, Flow, Handle, Items, Open, Performative, Raw, ReadError, ReceiverSettleMode, Role,
-    SenderSettleMode, SequenceNo, SessionState, Symbol, Transfer, TransferNumber, Uint, ValueRef,
-    WriteError, is_terminal,
+    SenderSettleMode, SequenceNo, SessionState, Symbol, Transfer, TransferNumber, TransferText,
+    Uint, ValueRef, WriteError, is_terminal,
 };
 pub use connection::{Connection, ConnectionInnerError, ConnectionStateError};
 pub use definitions::{DEFAULT_CHANNEL_MAX, DEFAULT_MAX_FRAME_SIZE};

@@ -1,0 +1,7 @@
+//! Sessions. The engine does not drive them yet.
+
+pub use amqp_session::{
+    AllocLinkError, BeginError, Error, InputHandle, LinkFlow, LinkRelay, LinkRelayError,
+    OutputHandle, Session, SessionFrame, SessionFrameBody, SessionInnerError, SessionOutgoingItem,
+    SessionSettings, SessionStateError, SessionStopReason, TryEndError, WalkCount,
+};
