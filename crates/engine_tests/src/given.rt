@@ -3,10 +3,10 @@
 use bytes::Bytes;
 use fe2o3_amqp::definitions::Error as AmqpError;
 use fe2o3_amqp::{
-    Answer, Connection, ConnectionState, ConnectionStateError, Engine, Open, Symbol, err_name,
-    out_line,
+    Answer, Connection, ConnectionState, ConnectionStateError, Engine, Open, Piece, Symbol,
+    err_name, out_line,
 };
-use std::alloc::Global;
+use std::alloc::{AllocError, Global};
 use std::test::Fail;
 
 /// Every state of a connection.
@@ -113,24 +113,38 @@ pub fn empty() -> Bytes {
     Bytes::from_static(&[0x02, 0, 0, 0])
 }
 
+fn push_line(text: &mut String, line: &str) -> Result<(), AllocError> {
+    text.push_str(line)?;
+    text.push_str("\n")?;
+    Ok(())
+}
+
+/// One line for each piece.
+pub fn push_pieces(
+    alloc: Global,
+    text: &mut String,
+    pieces: &Vec<Piece>,
+) -> Result<(), AllocError> {
+    for piece in pieces.iter() {
+        push_line(text, out_line(alloc, piece)?.as_str())?;
+    }
+    Ok(())
+}
+
+fn push_answer(alloc: Global, text: &mut String, answer: &Answer) -> Result<(), AllocError> {
+    match answer {
+        Answer::Done => push_line(text, "done"),
+        Answer::Refused(error) => push_line(text, err_name(error)),
+        Answer::Out(pieces) => push_pieces(alloc, text, pieces),
+        Answer::TooLarge(_) => push_line(text, "too large"),
+    }
+}
+
 /// One line for each answer, and for each piece.
-pub fn said(alloc: Global, answers: &Vec<Answer>) -> Result<String, Fail> {
+pub fn said(alloc: Global, answers: &Vec<Answer>) -> Result<String, AllocError> {
     let mut text = String::new(alloc);
     for answer in answers.iter() {
-        match answer {
-            Answer::Done => text.push_str("done\n")?,
-            Answer::Refused(error) => {
-                text.push_str(err_name(error))?;
-                text.push_str("\n")?;
-            }
-            Answer::Out(pieces) => {
-                for piece in pieces.iter() {
-                    text.push_str(out_line(alloc, piece)?.as_str())?;
-                    text.push_str("\n")?;
-                }
-            }
-            Answer::TooLarge(_) => text.push_str("too large\n")?,
-        }
+        push_answer(alloc, &mut text, answer)?;
     }
     Ok(text)
 }

@@ -8,6 +8,8 @@ mod given;
 #[cfg(test)]
 mod opening;
 #[cfg(test)]
+mod runs;
+#[cfg(test)]
 mod steps;
 #[cfg(test)]
 mod transcripts;
