@@ -1,4 +1,4 @@
-//! Heads of pieces: header and performative, each written with one reservation.
+//! Heads of pieces: header and performative, each written into one buffer of a size known beforehand.
 
 ghost use Rattle.std.specs.Prelude.{◌≡◌, ◌≤◌, ◌<◌, ◌+◌, ◌^◌, ◌++◌, IfOk, length};
 ghost use Rattle.amqp_types.specs.Transfer.{said_in};

@@ -4,6 +4,8 @@
 #[cfg(test)]
 mod closing;
 #[cfg(test)]
+mod driving;
+#[cfg(test)]
 mod given;
 #[cfg(test)]
 mod opening;
