@@ -5,6 +5,7 @@
 mod closing;
 #[cfg(test)]
 mod driving;
+pub mod example;
 #[cfg(test)]
 mod given;
 #[cfg(test)]
