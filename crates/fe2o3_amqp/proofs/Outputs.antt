@@ -1,15 +1,21 @@
 -- What is put out, step by step.
-use Rattle.std.proofs.Common.{◌≡◌, ℕ, List, [], ◌∷◌, ◌++◌, refl, ap, sym, subst, ◌∙◌, append_assoc, Some}
+use Rattle.std.proofs.Common.{◌≡◌, ◌<◌, ℕ, slice_index_or, List, [], ◌∷◌, ◌++◌, refl, ap, sym, subst, ◌∙◌, append_assoc, Some, length, arith}
 use Rattle.std.proofs.lemmas.List.{append-nil}
 use Rattle.amqp_frames.specs.declared.frame.Frame.{Frame}
+use Rattle.amqp_frames.specs.Cut.{Fits}
 use Rattle.fe2o3_amqp.specs.declared.engine.input.Answer.{Answer}
 use Rattle.fe2o3_amqp.specs.Engine.{EngineView, Entry}
 use Rattle.fe2o3_amqp.specs.History.{Taken}
-use Rattle.fe2o3_amqp.specs.Output.{IsOut, IsOuts, PutOut, Speaks, NextAnswer, answer_of, limit_by, limit_after}
+use Rattle.fe2o3_amqp.specs.Output.{FirstFits, IsOut, IsOuts, PutOut, Speaks, NextAnswer, answer_of, limit_by, limit_after}
 
 pub outs_more : (limit : ℕ) (fs : List Frame) (f : Frame) (outs : List Answer) (a : Answer) → IsOuts limit fs outs → IsOut limit f a → IsOuts limit (fs ++ f ∷ []) (outs ++ a ∷ [])
 outs_more limit [] f outs a h o = (a, [], ap (λ (xs : List Answer). xs ++ a ∷ []) h, o, refl)
 outs_more limit (g ∷ fs) f outs a h o = (h.0, h.1 ++ a ∷ [], ap (λ (xs : List Answer). xs ++ a ∷ []) h.2, h.3, outs_more limit fs f h.1 a h.4 o)
+
+-- the front of a queue fits where what was lent from its front does
+pub first_fits : (limit : ℕ) (fs : List Frame) (g : Frame) → 0 < length fs → g ≡ slice_index_or fs 0 g → Fits g limit → FirstFits limit fs
+first_fits limit [] g h is fits = absurd (omega (arith, h))
+first_fits limit (f ∷ fs) g h is fits = subst (λ x. Fits x limit) is fits
 
 -- what a loop has put out so far
 pub record PutSoFar (v : EngineView) (answers : List Answer) (w : EngineView) (answers' : List Answer) : Type 0 where

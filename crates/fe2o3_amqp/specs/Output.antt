@@ -63,11 +63,16 @@ Speaks limit waiting (e ∷ es) waiting' out = (first : List Answer) × (rest : 
 
 -- ---- one frame at a time
 
+-- a frame waits, and the first one fits
+abbrev pub FirstFits : ℕ → List Frame → Type 0
+FirstFits limit [] = ⊥
+FirstFits limit (f ∷ fs) = Fits f limit
+
 abbrev pub NextOutput : {X : Type 0} → (X → List PieceParts) → EngineView → Result (Option X) OutputError → EngineView → Type 0
 NextOutput view v (Ok None) w = (v.waiting ≡ []) × (w ≡ v)
 NextOutput view v (Ok (Some x)) w = (f : Frame) × (fs : List Frame) × (v.waiting ≡ f ∷ fs) × Fits f v.limit × Cut f v.limit (view x) × (w ≡ record v { waiting = fs })
 NextOutput view v (Err (no.TooLarge g)) w = (fs : List Frame) × (v.waiting ≡ g ∷ fs) × (¬ Fits g v.limit) × (w ≡ record v { waiting = fs })
-NextOutput view v (Err no.Memory) w = ¬ (v.waiting ≡ []) × (w ≡ v)
+NextOutput view v (Err no.Memory) w = FirstFits v.limit v.waiting × (w ≡ v)
 
 abbrev pub NextAnswer : EngineView → Option Answer → EngineView → Type 0
 NextAnswer v (Some a) w = (f : Frame) × (fs : List Frame) × (v.waiting ≡ f ∷ fs) × IsOut v.limit f a × (w ≡ record v { waiting = fs })
