@@ -1,5 +1,7 @@
 pub mod AsMap
 pub mod Lowest
+pub mod Asked
+pub mod Beginning
 pub mod Engines
 pub mod Outputs
 pub mod Limits

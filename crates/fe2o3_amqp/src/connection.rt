@@ -9,11 +9,12 @@ pub mod error;
 mod open_close;
 mod routes;
 mod routing;
+mod sessions;
 
 use amqp_session::ConnectionStopReason;
 use amqp_types::{ConnectionState, Open};
 use channels::Channels;
-pub use error::{ConnectionInnerError, ConnectionStateError};
+pub use error::{AllocSessionError, ConnectionInnerError, ConnectionStateError};
 use routes::Routes;
 use std::alloc::Global;
 use std::marker::Model;

@@ -3,6 +3,7 @@
 ghost use Rattle.std.specs.Prelude.{◌≡◌};
 ghost use Rattle.fe2o3_amqp.specs.ConnectionErrors.{inner_of};
 
+use amqp_session::ConnectionStopReason;
 use amqp_types::Error as AmqpError;
 
 /// Why a change of the connection's state is refused, or how the peer closed.
@@ -20,6 +21,23 @@ pub enum ConnectionStateError {
     /// The transport failed. No call answers it: the transport is above.
     #[error("{0}")]
     TransportError(String),
+    /// Memory was refused: nothing has changed.
+    #[error("out of memory")]
+    OutOfMemory,
+}
+
+/// Why a session gets no channel.
+#[derive(Clone, Copy, Debug, PartialEq, Eq, thiserror::Error)]
+pub enum AllocSessionError {
+    /// No Open has come or gone out yet.
+    #[error("Connection is not opened")]
+    ConnectionNotOpened,
+    /// The connection stopped, for this reason.
+    #[error("Connection stopped {:?}", .0)]
+    ConnectionStopped(ConnectionStopReason),
+    /// All channels up to the highest that both sides allow are held.
+    #[error("Channel max reached")]
+    ChannelMaxReached,
     /// Memory was refused: nothing has changed.
     #[error("out of memory")]
     OutOfMemory,
