@@ -7,5 +7,9 @@ pub mod Outputs
 pub mod Limits
 pub mod StateTables
 pub mod Histories
+pub mod Effects
+pub mod Projection
+pub mod Routing
+pub mod Telling
 pub mod Running
 pub mod Digits

@@ -1,5 +1,6 @@
 -- The headline: what holds of every history of an engine, said of the history alone.
-use Rattle.std.specs.Prelude.{ℕ, ◌≡◌, ◌≤◌, ◌+◌, List, [], ◌∷◌, ◌++◌, length, Result, MatchResult}
+use Rattle.std.specs.Prelude.{ℕ, ◌≡◌, ◌≤◌, ◌+◌, ◌⊎◌, List, [], ◌∷◌, ◌++◌, length, Option, Some, None, Result, Ok, MatchResult}
+use Rattle.amqp_types.specs.declared.states.SessionState.TheVariants.{Unmapped}
 use Rattle.amqp_types.specs.declared.states.ConnectionState.{ConnectionState}
 use Rattle.amqp_types.specs.declared.states.ConnectionState.TheVariants.{HeaderExchange}
 use Rattle.amqp_types.specs.Open.{OpenSaid}
@@ -9,9 +10,22 @@ use Rattle.amqp_frames.specs.declared.frame.FrameBody.TheVariants as body
 use Rattle.fe2o3_amqp.specs.declared.engine.input.Input.{Input}
 use Rattle.fe2o3_amqp.specs.declared.engine.input.Answer.{Answer}
 use Rattle.fe2o3_amqp.specs.declared.engine.input.Stopped.{Stopped}
+use Rattle.fe2o3_amqp.specs.declared.engine.input.Input.TheVariants as input
+use Rattle.fe2o3_amqp.specs.declared.engine.input.StepError.TheVariants as no
+use Rattle.fe2o3_amqp.specs.declared.connection.error.ConnectionInnerError.TheVariants as inner
+use Rattle.amqp_session.specs.declared.stop.ConnectionStopReason.{ConnectionStopReason}
+use Rattle.amqp_session.specs.declared.frame.SessionFrame.{SessionFrame}
+use Rattle.amqp_session.specs.Settings.{SettingsSaid}
+use Rattle.amqp_session.specs.Session.{SessionView}
+use Rattle.amqp_session.specs.History as session
+use Rattle.amqp_session.specs.Headline as single
 use Rattle.amqp_session.specs.Relay.{Relays}
 use Rattle.fe2o3_amqp.specs.EngineView.{EngineView}
+use Rattle.fe2o3_amqp.specs.Connection.{not_found}
+use Rattle.fe2o3_amqp.specs.Waits.{sent}
+use Rattle.fe2o3_amqp.specs.Sessions.{Calls, EndCalls, FlowCalls, TransferCalls, StopCalls, BeginHeardCalls, EndHeardCalls, FlowHeardCalls, TransferHeardCalls, calls_frames}
 use Rattle.fe2o3_amqp.specs.Engine.{Entry}
+use Rattle.fe2o3_amqp.specs.Reach.{of_session, begun, route}
 use Rattle.fe2o3_amqp.specs.History.{LeadsTo}
 use Rattle.fe2o3_amqp.specs.Output.{Speaks}
 
@@ -40,7 +54,70 @@ handed (e ∷ es) = e.frames ++ handed es
 
 -- ---- the headline
 
+-- A frame goes along the route of its channel, and to no other session; without a route it is NotFound.
+abbrev pub GoesAlong : {R : Type 0} → Option ℕ → Entry R → Type 0
+GoesAlong None e = (e.reached ≡ None) × (e.refusal ≡ Some (no.Connection not_found))
+GoesAlong (Some n) e = (e.reached ≡ Some n) × ¬ (e.refusal ≡ Some (no.Connection not_found))
+
+-- a Flow and a Transfer go along in every state of the connection, and an End unless that refuses it
+abbrev pub Passes : {R : Type 0} → FrameBody → Option ℕ → Entry R → Type 0
+Passes (body.Flow p) route e = GoesAlong route e
+Passes (body.Transfer p payload) route e = GoesAlong route e
+Passes (body.End p) route e = GoesAlong route e ⊎ ((e.reached ≡ None) × (e.refusal ≡ Some (no.Connection inner.IllegalState)))
+Passes b route e = Unit {0}
+
+abbrev pub FramesReach : {R : Type 0} → List (Entry R) → Type 0
+FramesReach H = (before after : List (Entry _)) (e : Entry _) → H ≡ before ++ e ∷ after → (f : Frame) → e.heard ≡ Some f → Passes f.body (route f.channel before) e
+
+-- ---- an entry says what its calls of the session say
+
+abbrev pub NoCalls : {R : Type 0} → Calls R
+NoCalls v calls refusal = ⊥
+
+abbrev pub BeginCalls : {R : Type 0} → Calls R
+BeginCalls v calls refusal = (f : SessionFrame) × (calls ≡ session.SendsBegin (Ok f) ∷ []) × (refusal ≡ None)
+
+-- what a frame asks of the session that it reaches
+abbrev pub heard_calls : {R : Type 0} → ℕ → FrameBody → Calls R
+heard_calls c (body.Begin b) = BeginHeardCalls c b
+heard_calls c (body.End e) = EndHeardCalls c e
+heard_calls c (body.Flow f) = FlowHeardCalls f
+heard_calls c (body.Transfer t payload) = TransferHeardCalls t payload
+heard_calls c b = NoCalls
+
+-- what an input asks of the session that it reaches
+abbrev pub asked_calls : {R : Type 0} → Input → Option Frame → Calls R
+asked_calls (input.Received bytes) (Some f) = heard_calls f.channel f.body
+asked_calls (input.Received bytes) None = NoCalls
+asked_calls input.Open heard = NoCalls
+asked_calls (input.Close error) heard = NoCalls
+asked_calls (input.Begin n settings) heard = BeginCalls
+asked_calls (input.End n error) heard = EndCalls error
+asked_calls (input.Flow n l) heard = FlowCalls l
+asked_calls (input.Transfer n h t payload first) heard = TransferCalls (record { input_handle = h.0; transfer = t; payload = payload; is_first = first })
+asked_calls (input.Release n) heard = NoCalls
+asked_calls (input.Stop n reason) heard = StopCalls reason
+
+-- An entry that reached a session made these calls of it as it stood, was refused as they were, and handed out their frames.
+pub record Told {R : Type 0} (e : Entry R) : Type 0 where
+  pub stood : SessionView R
+  pub asked : asked_calls e.input e.heard stood e.calls e.refusal
+  pub frames : e.frames ≡ sent (calls_frames e.calls)
+
+abbrev pub AllTold : {R : Type 0} → List (Entry R) → Type 0
+AllTold H = (before after : List (Entry _)) (e : Entry _) → H ≡ before ++ e ∷ after → (n : ℕ) → e.reached ≡ Some n → ¬ (e.refusal ≡ Some no.NoSession) → Told e
+
 pub record Headline {R : Type 0} (state : ConnectionState) (H : List (Entry R)) : Type 0 where
+  -- each session that was begun keeps its own headline: order, one number for each delivery, inside the window, waits only
+  -- while it is used up
+  pub each : (n : ℕ) (settings : SettingsSaid) (channel : ℕ) → begun n H ≡ Some (settings, channel) →
+      (stop : Option ConnectionStopReason) × single.Headline (record { settings = settings; channel = channel; state = Unmapped; stop = stop }) (of_session n H)
+  -- and no other session has any call
+  pub unknown : (n : ℕ) → begun n H ≡ None → of_session n H ≡ []
+  -- frames reach the last begun session of their channel
+  pub frames_reach : FramesReach H
+  -- what reaches a session is its calls
+  pub told : AllTold H
   -- where the headers were exchanged, at most one Open and one Close go out
   pub one_open : state ≡ HeaderExchange → opens (handed H) ≤ 1
   pub one_close : state ≡ HeaderExchange → closes (handed H) ≤ 1

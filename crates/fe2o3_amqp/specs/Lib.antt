@@ -8,6 +8,7 @@ pub mod Sessions
 pub mod SessionCalls
 pub mod Engine
 pub mod History
+pub mod Reach
 pub mod Output
 pub mod Headline
 pub mod ReplayRelay
