@@ -103,7 +103,7 @@ reaches g finds u m e asks b (inl s) = idle g u m e (S m _ s.6) s.4 b
 reaches g finds u m e asks b (inr s) = does g u (record u { connection = s.1 }) m e s.0 asks refl b s.3
 
 -- the channel of a Begin that goes out
-begin_channel : {R : Type 0} (g : Relays R) (settings : SettingsSaid) (channel : ℕ) (stop : Option ConnectionStopReason) (f : SessionFrame) (after : SessionView R) →
+pub begin_channel : {R : Type 0} (g : Relays R) (settings : SettingsSaid) (channel : ℕ) (stop : Option ConnectionStopReason) (f : SessionFrame) (after : SessionView R) →
     session.Chain g (new_session settings channel Unmapped stop) (session.SendsBegin (Ok f) ∷ []) after → f.channel ≡ channel
 begin_channel g settings channel stop f after c = ap (λ (x : SessionFrame). x.channel) c.1.1
 

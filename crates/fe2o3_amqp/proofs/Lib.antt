@@ -11,5 +11,7 @@ pub mod Effects
 pub mod Projection
 pub mod Routing
 pub mod Telling
+pub mod Holding
+pub mod Keeping
 pub mod Running
 pub mod Digits

@@ -74,11 +74,11 @@ chain_append g (e ∷ xs) ys v m w c d = (c.0, c.1, chain_append g xs ys c.0 m w
 none_made : {R : Type 0} (g : Relays R) (s : SessionView R) (cs : List (session.Entry R)) → cs ≡ [] → session.Chain g s cs s
 none_made g s cs e = subst (λ (xs : List (session.Entry _)). session.Chain g s xs s) (sym e) refl
 
-abbrev Goes : {R : Type 0} → Relays R → EngineView R → ℕ → SessionView R → List (session.Entry R) → Type 0
+abbrev pub Goes : {R : Type 0} → Relays R → EngineView R → ℕ → SessionView R → List (session.Entry R) → Type 0
 Goes g m n s calls = (t : SessionView _) × (lookup (nat_eq n) m.sessions ≡ Some t) × session.Chain g s calls t
 
 -- one step, for a session that is there
-one : {R : Type 0} (g : Relays R) (n : ℕ) (u m : EngineView R) (e : Entry R) (s : SessionView R) → Effect g u e m → lookup (nat_eq n) u.sessions ≡ Some s → Goes g m n s (calls_at n e)
+pub one : {R : Type 0} (g : Relays R) (n : ℕ) (u m : EngineView R) (e : Entry R) (s : SessionView R) → Effect g u e m → lookup (nat_eq n) u.sessions ≡ Some s → Goes g m n s (calls_at n e)
 one g n u m e s (inl x) h = (s, ap (lookup (nat_eq n)) x.sessions_is ∙ h, none_made g s (calls_at n e) (not_number n e x.no_calls))
 one g n u m e s (inr (inl x)) h = by (nat_eq n x.number) refl
   where

@@ -39,7 +39,7 @@ use Rattle.fe2o3_amqp.specs.Reach.{route_said, route_by, route_from, route}
 use Rattle.fe2o3_amqp.specs.Headline.{GoesAlong, Passes, FramesReach}
 use Rattle.fe2o3_amqp.proofs.AsMap.{same_test}
 
-abbrev routes_of : {R : Type 0} → EngineView R → Held
+abbrev pub routes_of : {R : Type 0} → EngineView R → Held
 routes_of v = v.connection.routes
 
 K : {R : Type 0} (x y : EngineView R) → x ≡ y → x.connection.routes ≡ y.connection.routes
@@ -219,7 +219,7 @@ passes_by g v w c asks reached calls r (inr s) = does_routes g (record v { conne
 
 -- ---- a step and the route of one channel
 
-abbrev At : {R : Type 0} → ℕ → EngineView R → EngineView R → Option Frame → Option ℕ → Type 0
+abbrev pub At : {R : Type 0} → ℕ → EngineView R → EngineView R → Option Frame → Option ℕ → Type 0
 At c v w heard reached = map.get (routes_of w) c ≡ route_by c heard reached (map.get (routes_of v) c)
 
 quiet : {R : Type 0} (c : ℕ) (v w : EngineView R) (f : Frame) (reached : Option ℕ) → route_said c f.body reached (map.get (routes_of v) c) ≡ map.get (routes_of v) c → routes_of w ≡ routes_of v → At c v w (Some f) reached
@@ -263,7 +263,7 @@ carries g c v w (input.Transfer n i t payload first) h reached calls r s = unhea
 carries g c v w (input.Release n) h reached calls r s = unheard c v w h reached s.0 (release_request v w n.0 reached calls r s.1)
 carries g c v w (input.Stop n reason) h reached calls r s = unheard c v w h reached s.0 (does_routes g v w n.0 _ reached calls r s.1)
 
-step_route : {R : Type 0} (g : Relays R) (c : ℕ) (v w : EngineView R) (e : Entry R) → Step g v e w → At c v w e.heard e.reached
+pub step_route : {R : Type 0} (g : Relays R) (c : ℕ) (v w : EngineView R) (e : Entry R) → Step g v e w → At c v w e.heard e.reached
 step_route g c v w e (inl s) = unheard c v w e.heard e.reached s.2 (K w v s.5)
 step_route g c v w e (inr s) = carries g c v w e.input e.heard e.reached e.calls e.refusal s.2
 
@@ -366,9 +366,9 @@ step_passes : {R : Type 0} (g : Relays R) (v w : EngineView R) (e : Entry R) (f 
 step_passes g v w e f is (inl s) = absurd (some_none (sym is ∙ s.2))
 step_passes g v w e f is (inr s) = input_passes g v w e.input e f is s.2
 
-pub frames_reach : {R : Type 0} (g : Relays R) (start : ConnectionState) (o : OpenSaid) (H : List (Entry R)) (w : EngineView R) → LeadsTo g start o H w → FramesReach H
-frames_reach g start o H w l before after e is f heard =
-    let r = Chain-split g before (e ∷ after) (new_engine start o) w (subst (λ (es : List (Entry _)). Chain g (new_engine start o) es w) is l) in
+pub frames_reach : {R : Type 0} (g : Relays R) (made : ConnectionState) (o : OpenSaid) (H : List (Entry R)) (w : EngineView R) → LeadsTo g made o H w → FramesReach H
+frames_reach g made o H w l before after e is f heard =
+    let r = Chain-split g before (e ∷ after) (new_engine made o) w (subst (λ (es : List (Entry _)). Chain g (new_engine made o) es w) is l) in
     subst (λ x. Passes f.body x e)
-    (ap (λ (m : Held). map.get m f.channel) (taken_routes r.0 r.2.0 r.2.2) ∙ route_law g f.channel before (new_engine start o) r.0 r.1 ∙ ap (λ x. route_from f.channel x before) (get-empty nat_cmp f.channel))
+    (ap (λ (m : Held). map.get m f.channel) (taken_routes r.0 r.2.0 r.2.2) ∙ route_law g f.channel before (new_engine made o) r.0 r.1 ∙ ap (λ x. route_from f.channel x before) (get-empty nat_cmp f.channel))
     (step_passes g r.2.0 r.2.1 e f heard r.2.3)

@@ -115,7 +115,7 @@ step_told : {R : Type 0} (g : Relays R) (v w : EngineView R) (e : Entry R) → I
 step_told g v w e r (inl s) = untouched e r s.3.0
 step_told g v w e r (inr s) = carries g v w e.input e.heard e.reached e.calls e.refusal e.frames s.1 r s.2
 
-pub all_told : {R : Type 0} (g : Relays R) (start : ConnectionState) (o : OpenSaid) (H : List (Entry R)) (w : EngineView R) → LeadsTo g start o H w → AllTold H
-all_told g start o H w l before after e is n reached known =
-    let r = Chain-split g before (e ∷ after) (new_engine start o) w (subst (λ (es : List (Entry _)). Chain g (new_engine start o) es w) is l) in
+pub all_told : {R : Type 0} (g : Relays R) (made : ConnectionState) (o : OpenSaid) (H : List (Entry R)) (w : EngineView R) → LeadsTo g made o H w → AllTold H
+all_told g made o H w l before after e is n reached known =
+    let r = Chain-split g before (e ∷ after) (new_engine made o) w (subst (λ (es : List (Entry _)). Chain g (new_engine made o) es w) is l) in
     step_told g r.2.0 r.2.1 e ((n, reached), known) r.2.3

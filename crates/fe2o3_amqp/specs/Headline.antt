@@ -4,6 +4,7 @@ use Rattle.amqp_types.specs.declared.states.SessionState.TheVariants.{Unmapped}
 use Rattle.amqp_types.specs.declared.states.ConnectionState.{ConnectionState}
 use Rattle.amqp_types.specs.declared.states.ConnectionState.TheVariants.{HeaderExchange}
 use Rattle.amqp_types.specs.Open.{OpenSaid}
+use Rattle.amqp_types.specs.Begin.{BeginSaid}
 use Rattle.amqp_frames.specs.declared.frame.Frame.{Frame}
 use Rattle.amqp_frames.specs.declared.frame.FrameBody.{FrameBody}
 use Rattle.amqp_frames.specs.declared.frame.FrameBody.TheVariants as body
@@ -25,7 +26,7 @@ use Rattle.fe2o3_amqp.specs.Connection.{not_found}
 use Rattle.fe2o3_amqp.specs.Waits.{sent}
 use Rattle.fe2o3_amqp.specs.Sessions.{Calls, EndCalls, FlowCalls, TransferCalls, StopCalls, BeginHeardCalls, EndHeardCalls, FlowHeardCalls, TransferHeardCalls, calls_frames}
 use Rattle.fe2o3_amqp.specs.Engine.{Entry}
-use Rattle.fe2o3_amqp.specs.Reach.{of_session, begun, route}
+use Rattle.fe2o3_amqp.specs.Reach.{of_session, begun, route, held}
 use Rattle.fe2o3_amqp.specs.History.{LeadsTo}
 use Rattle.fe2o3_amqp.specs.Output.{Speaks}
 
@@ -68,6 +69,19 @@ Passes b route e = Unit {0}
 
 abbrev pub FramesReach : {R : Type 0} → List (Entry R) → Type 0
 FramesReach H = (before after : List (Entry _)) (e : Entry _) → H ≡ before ++ e ∷ after → (f : Frame) → e.heard ≡ Some f → Passes f.body (route f.channel before) e
+
+-- a Begin of the peer's reaches the session that holds the channel that it answers
+abbrev pub RoutesFollow : {R : Type 0} → List (Entry R) → Type 0
+RoutesFollow H = (before after : List (Entry _)) (e : Entry _) → H ≡ before ++ e ∷ after → (c : ℕ) (b : BeginSaid) → e.heard ≡ Some (record { channel = c; body = body.Begin b }) → (n : ℕ) → e.reached ≡ Some n →
+    (d : ℕ) × (b.remote_channel ≡ Some d) × (held d before ≡ Some n)
+
+-- the session that a received frame reaches is there
+abbrev pub AllKnown : {R : Type 0} → List (Entry R) → Type 0
+AllKnown H = (before after : List (Entry _)) (e : Entry _) → H ≡ before ++ e ∷ after → (f : Frame) → e.heard ≡ Some f → ¬ (e.refusal ≡ Some no.NoSession)
+
+-- no session holds two channels
+abbrev pub HeldOnce : {R : Type 0} → List (Entry R) → Type 0
+HeldOnce H = (c d n : ℕ) → held c H ≡ Some n → held d H ≡ Some n → c ≡ d
 
 -- ---- an entry says what its calls of the session say
 
@@ -116,6 +130,9 @@ pub record Headline {R : Type 0} (state : ConnectionState) (H : List (Entry R)) 
   pub unknown : (n : ℕ) → begun n H ≡ None → of_session n H ≡ []
   -- frames reach the last begun session of their channel
   pub frames_reach : FramesReach H
+  pub routes_follow : RoutesFollow H
+  pub all_known : AllKnown H
+  pub held_once : HeldOnce H
   -- what reaches a session is its calls
   pub told : AllTold H
   -- where the headers were exchanged, at most one Open and one Close go out

@@ -76,3 +76,26 @@ route_from c old (e ∷ es) = route_from c (route_by c e.heard e.reached old) es
 -- the session of the last Begin on the peer's channel c that reached one, if no End on it reached one since
 abbrev pub route : {R : Type 0} → ℕ → List (Entry R) → Option ℕ
 route c H = route_from c None H
+
+-- ---- channels: that of a Begin that goes out is held by its session, until that is released
+
+abbrev pub held_by : ℕ → Input → Option StepError → List Frame → Option ℕ → Option ℕ
+held_by c (input.Begin k settings) None frames old = cond (nat_eq c (channel_of frames)) (Some k.0) old
+held_by c (input.Begin k settings) (Some e) frames old = old
+held_by c (input.Release k) None frames old = cond (is_number k.0 old) None old
+held_by c (input.Release k) (Some e) frames old = old
+held_by c (input.Received bytes) refusal frames old = old
+held_by c input.Open refusal frames old = old
+held_by c (input.Close error) refusal frames old = old
+held_by c (input.End k error) refusal frames old = old
+held_by c (input.Flow k l) refusal frames old = old
+held_by c (input.Transfer k h t payload first) refusal frames old = old
+held_by c (input.Stop k reason) refusal frames old = old
+
+abbrev pub held_from : {R : Type 0} → ℕ → Option ℕ → List (Entry R) → Option ℕ
+held_from c old [] = old
+held_from c old (e ∷ es) = held_from c (held_by c e.input e.refusal e.frames old) es
+
+-- the session that holds this side's channel c
+abbrev pub held : {R : Type 0} → ℕ → List (Entry R) → Option ℕ
+held c H = held_from c None H
