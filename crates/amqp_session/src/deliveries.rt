@@ -158,7 +158,8 @@ impl Deliveries {
 
     /// Whether all numbers are below this one.
     fn is_last(&self, number: u32) -> bool
-        ensures { IsTrue result → (i : ℕ) → i < length self.now.rows → number_at self.now.rows i < number }
+        ensures last { IsTrue result → (i : ℕ) → i < length self.now.rows → number_at self.now.rows i < number }
+        ensures not_last { result ≡ false → number ≤ number_at self.now.rows (length self.now.rows - 1) }
     {
         match self.rows.back() {
             None => true,
