@@ -6,6 +6,8 @@ use Rattle.amqp_session.specs.declared.frame.SessionFrameBody.{SessionFrameBody}
 use Rattle.amqp_session.specs.declared.frame.SessionFrameBody.TheVariants as Body
 use Rattle.amqp_session.specs.declared.frame.SessionOutgoingItem.{SessionOutgoingItem}
 use Rattle.amqp_session.specs.declared.error.SessionInnerError.{SessionInnerError}
+use Rattle.amqp_session.specs.declared.deliveries.Delivery.{Delivery}
+use Rattle.amqp_session.specs.declared.session.receiving.Receiving.{Receiving}
 use Rattle.amqp_session.specs.Items.{item_frames}
 use Rattle.amqp_session.specs.declared.error.SessionInnerError.TheVariants as Refused
 use Rattle.amqp_session.specs.Serial.{In, remaining}
@@ -13,7 +15,9 @@ use Rattle.amqp_session.specs.States.{is_mapped, sends_begin, takes_begin, sends
 use Rattle.amqp_session.specs.Sending.{SendingView}
 use Rattle.amqp_session.specs.Session.{SessionView}
 use Rattle.amqp_session.specs.Step.{IsUntagged, has_error}
-use Rattle.amqp_session.specs.Transfers.{HeldSaid, numbered, firsts}
+use Rattle.amqp_session.specs.Transfers.{HeldSaid, numbered, firsts, opened}
+use Rattle.amqp_session.specs.Links.{no_links}
+use Rattle.amqp_session.specs.Heard.{next_incoming, peer_window, unsaid, peer_channel, received_open, stop_reason, HasNoLinks}
 use Rattle.amqp_session.specs.History.{Entry, SendsBegin, SendsEnd, TakesBegin, TakesEnd, TakesFlow, SendsTransfer, Made}
 
 -- ---- what a call took and handed out
@@ -135,6 +139,25 @@ pub record Headline {R : Type 0} (m : Made) (H : List (Entry R)) : Type 0 where
   pub inside : Inside m H
   pub waits_only : WaitsOnly m H
 
+-- ---- the deliveries of this side
+
+-- the transfers that go out with a call, where these calls came before it: those that waited first, and then its own
+abbrev pub sent_with : {R : Type 0} → List (Entry R) → Entry R → List HeldSaid
+sent_with before e = take (length (transfers_in (frames e))) (waiting before ++ accepted_by e)
+
+-- how many deliveries have begun to go out
+abbrev pub begun_in : {R : Type 0} → List (Entry R) → ℕ
+begun_in H = firsts (take (length (handed H)) (accepted H))
+
+-- The open ones: each is recorded with the frame that carries its number, unless it is settled already, and takes the place of
+-- an older one of its number.
+abbrev pub sent_open_from : {R : Type 0} → List (Entry R) → List Delivery → List (Entry R) → List Delivery
+sent_open_from before rows [] = rows
+sent_open_from before rows (e ∷ es) = sent_open_from (before ++ e ∷ []) (opened (begun_in before) (sent_with before e) rows) es
+
+abbrev pub sent_open : {R : Type 0} → List (Entry R) → List Delivery
+sent_open H = sent_open_from [] [] H
+
 -- ---- the law of views
 
 -- a view of the sending half is what these accepted transfers, these frames and this window give
@@ -150,8 +173,24 @@ pub record Books (channel initial : ℕ) (A : List HeldSaid) (F : List SessionFr
   pub handed_out : F ≡ numbered channel 0 (take (length F) A)
   pub no_more : length F ≤ length A
 
--- The view is what the history gives: the numbers of transfers and deliveries, what waits, what is left of the window, and the
--- state.
+-- a view of the receiving half is what this history gives
+pub record Hears {R : Type 0} (H : List (Entry R)) (r : Receiving) : Type 0 where
+  pub next_is : r.next ≡ next_incoming H
+  pub window_is : r.window ≡ peer_window H
+  pub count_is : r.count ≡ unsaid H
+
+-- The view is what the session was made with and what the history gives: the numbers of transfers and deliveries in both
+-- directions, what waits, what is left of both windows, the transfers not yet told to the peer, the state, the peer's channel,
+-- the stop reason, and the open deliveries of both roles. Links come of their own calls alone.
 pub record Stands {R : Type 0} (m : Made) (H : List (Entry R)) (v : SessionView R) : Type 0 where
   pub sending_is : Books m.channel m.settings.next_outgoing_id (accepted H) (handed H) (window m H) v.sending
   pub state_is : v.state ≡ state m H
+  pub receiving_is : Hears H v.receiving
+  pub sent_open_is : v.deliveries.receiver ≡ sent_open H
+  pub received_open_is : v.deliveries.sender ≡ received_open H
+  pub incoming_channel_is : v.incoming_channel ≡ peer_channel H
+  pub session_stop_is : v.session_stop ≡ stop_reason H
+  pub settings_is : v.settings ≡ m.settings
+  pub outgoing_channel_is : v.outgoing_channel ≡ m.channel
+  pub connection_stop_is : v.connection_stop ≡ m.stop
+  pub links_are : HasNoLinks H → v.links ≡ no_links

@@ -13,4 +13,5 @@ pub mod Session
 pub mod Items
 pub mod Step
 pub mod History
+pub mod Heard
 pub mod Headline

@@ -2,11 +2,21 @@
 #![tactic(auto)]
 
 #[cfg(test)]
+mod begin_end;
+#[cfg(test)]
 mod conversions;
+#[cfg(test)]
+mod flow_fields;
 #[cfg(test)]
 mod flows;
 #[cfg(test)]
+mod forms;
+#[cfg(test)]
 mod made;
+#[cfg(test)]
+mod reads;
+#[cfg(test)]
+mod refusals;
 #[cfg(test)]
 mod relays;
 #[cfg(test)]
