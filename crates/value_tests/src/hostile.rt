@@ -84,7 +84,8 @@ fn arrays_and_maps_nest_64_times(rt: HostRuntime) -> Result<(), Fail> {
     Ok(())
 }
 
-/// Lengths, sizes and counts of 32 bits that say more than what follows.
+/// Lengths, sizes and counts of 32 bits that say more than what follows. None of these asks for memory: the test passes too
+/// where the first request is refused (`rt try --test --fail-alloc 1`).
 const TOO_LONG: [&'static [u8]; 12] = [
     &[0xb0, 0xff, 0xff, 0xff, 0xff, 0x61],
     &[0xb1, 0xff, 0xff, 0xff, 0xff, 0x61],
