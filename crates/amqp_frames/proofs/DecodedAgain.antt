@@ -7,11 +7,11 @@ use Rattle.amqp_types.specs.declared.performatives.transfer.TransferText.TheVari
 use Rattle.amqp_types.specs.Performatives.{performative_text}
 use Rattle.amqp_types.specs.Spelled.{IsSpelledIfShort, CutIsSpelled}
 use Rattle.amqp_types.specs.Transfer.{TransferSaid}
-use Rattle.amqp_frames.specs.declared.frame.FrameBody.TheVariants.{Transfer}
+use Rattle.amqp_frames.specs.declared.frame.FrameBody.TheVariants.{Transfer, Empty}
 use Rattle.amqp_frames.specs.Frame.{body_of, text_of}
 use Rattle.amqp_frames.specs.Piece.{PieceParts, piece_bytes}
 use Rattle.amqp_frames.specs.Cut.{IsCut, Whole, continued, first_text, middle_text, last_text}
-use Rattle.amqp_frames.specs.RoundTrip.{IsSpelled, IsSpelledBody, Carries, DecodedAs, WholeIsDecoded, CutIsDecoded, frame_of, first_of, middle_of}
+use Rattle.amqp_frames.specs.RoundTrip.{IsSpelled, IsSpelledBody, Carries, DecodedAs, WholeIsDecoded, CutIsDecoded, EmptyIsDecoded, frame_of, first_of, middle_of}
 use Rattle.amqp_frames.proofs.Cutting.{piece_len}
 use Rattle.amqp_frames.proofs.RoundTripLaws.{wholes_are_read, cuts_are_read, frames_are_decoded}
 
@@ -46,6 +46,11 @@ pub whole_is_decoded : (p : Performative) → IsSpelledIfShort p → WholeIsDeco
 whole_is_decoded p spelled channel m payload pieces lt limit whole cut =
     let is = spelled_body p payload (spelled (whole_short channel m p payload limit whole)) in
     let h = wholes_are_read (frame_of channel p payload) m pieces lt is whole cut in
+    (h.0, h.1, h.3)
+
+pub empty_is_decoded : EmptyIsDecoded
+empty_is_decoded channel m pieces lt cut =
+    let h = wholes_are_read (record { channel = channel; body = Empty }) m pieces lt tt (omega arith) cut in
     (h.0, h.1, h.3)
 
 -- ---- a transfer that is cut

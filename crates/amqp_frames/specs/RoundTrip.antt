@@ -92,6 +92,12 @@ WholeIsDecoded p =
     → Whole (frame_of channel p payload) m → Cut (frame_of channel p payload) m pieces
     → (piece : PieceParts) × (pieces ≡ piece ∷ []) × DecodesTo (frame_of channel p payload) (piece_bytes piece)
 
+-- so is the empty frame
+abbrev pub EmptyIsDecoded : Type 0
+EmptyIsDecoded =
+    (channel m : ℕ) (pieces : List PieceParts) → channel < 2 ^ 16 → Cut (record { channel = channel; body = Empty }) m pieces
+    → (piece : PieceParts) × (pieces ≡ piece ∷ []) × DecodesTo (record { channel = channel; body = Empty }) (piece_bytes piece)
+
 -- the piece is decoded as the frame of this transfer, with its part of the payload
 abbrev pub DecodedAs : ℕ → TransferSaid → PieceParts → Type 0
 DecodedAs channel t p = DecodesTo (record { channel = channel; body = Transfer t p.payload }) (piece_bytes p)
