@@ -240,7 +240,7 @@ module _ {R : Type 0} (g : Relays R) where
   word_fits v w (TakesFlow f asked result) s = s.0.next_outgoing_id
   word_fits v w e s = tt
 
-  stands-more : (m : Made) (H : List (Entry R)) (e : Entry R) (v u : SessionView R) → Stands m H v → Step g v e u → Stands m (H ++ e ∷ []) u
+  pub stands-more : (m : Made) (H : List (Entry R)) (e : Entry R) (v u : SessionView R) → Stands m H v → Step g v e u → Stands m (H ++ e ∷ []) u
   stands-more m H e v u b s = let r = rest_step g v u e s in record {
     receiving_is = subst (λ (x : Receiving). Hears (H ++ e ∷ []) x) (sym (ap (λ (x : Rest). x.receiving) r)) (hears_more H v.receiving e (word_fits v u e s) b.receiving_is);
     sent_open_is = sent_step m H v u e s b.sending_is ∙ ap (λ rows. opened (begun_in H) (sent_with H e) rows) b.sent_open_is ∙ sym (sent_open_more [] [] H e);
@@ -262,7 +262,7 @@ module _ {R : Type 0} (g : Relays R) where
   stands-chain m G (e ∷ H) v u b c =
       subst (λ K. Stands m K u) (append_assoc G (e ∷ []) H) (stands-chain m (G ++ e ∷ []) H c.0 u (stands-more m G e v c.0 b c.1) c.2)
 
-  stands-new : (m : Made) → m.settings.next_outgoing_id < 2 ^ 32 → Stands {R = R} m [] (new_session m.settings m.channel m.state m.stop)
+  pub stands-new : (m : Made) → m.settings.next_outgoing_id < 2 ^ 32 → Stands {R = R} m [] (new_session m.settings m.channel m.state m.stop)
   stands-new m h = record {
     sending_is = record {
       channel_is = refl;

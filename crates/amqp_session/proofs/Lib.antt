@@ -6,3 +6,4 @@ pub mod Heard
 pub mod Since
 pub mod Histories
 pub mod SessionFlows
+pub mod Channels

@@ -14,4 +14,5 @@ pub mod Items
 pub mod Step
 pub mod History
 pub mod Heard
+pub mod Handed
 pub mod Headline

@@ -8,6 +8,7 @@ ghost use Rattle.amqp_session.specs.Relay.{relays};
 ghost use Rattle.amqp_session.specs.Session.{SessionView};
 ghost use Rattle.amqp_session.specs.History.{Entry, Made, LeadsTo};
 ghost use Rattle.amqp_session.specs.Headline.{Headline, Stands};
+ghost use Rattle.amqp_session.specs.Handed.{OnChannel, calls_frames};
 
 use crate::relay::LinkRelay;
 
@@ -21,6 +22,12 @@ pub fn law_of_views<R: LinkRelay>()
         (m : Made) (h : List (Entry R)) (v : SessionView R) → LeadsTo g m h v → Stands m h v }
     ensures headline { let g = relays R.attach_gives R.flow_gives R.transfer_gives R.disposition_gives R.detach_gives in
         (m : Made) (h : List (Entry R)) (v : SessionView R) → LeadsTo g m h v → Headline m h }
+{}
+
+/// Every frame that a session hands out, of whatever kind, is on the channel that the session was made with.
+pub fn law_of_channels<R: LinkRelay>()
+    ensures { let g = relays R.attach_gives R.flow_gives R.transfer_gives R.disposition_gives R.detach_gives in
+        (m : Made) (h : List (Entry R)) (v : SessionView R) → LeadsTo g m h v → OnChannel m.channel (calls_frames h) }
 {}
 
 /// After the session was asked for a session flow in `Mapped`, the count of the transfers that came since the last one is 0

@@ -23,7 +23,8 @@ use Rattle.fe2o3_amqp.specs.declared.engine.input.StepError.TheVariants as no
 use Rattle.fe2o3_amqp.specs.Connection.{ConnectionView, BeginRouteStep, EndRouteStep, RouteStep}
 use Rattle.fe2o3_amqp.specs.Waits.{sent}
 use Rattle.fe2o3_amqp.specs.EngineView.{EngineView}
-use Rattle.fe2o3_amqp.specs.Sessions.{Calls, Called, Unknown, Does, Reaches, Begun, BeginRequest, ReleaseRequest, calls_frames}
+use Rattle.amqp_session.specs.Handed.{calls_frames}
+use Rattle.fe2o3_amqp.specs.Sessions.{Calls, Called, Unknown, Does, Reaches, Begun, BeginRequest, ReleaseRequest}
 use Rattle.fe2o3_amqp.specs.Engine.{Entry, Step, Carries, Received, Heard, OpenRequest, CloseRequest, OpenHeard}
 use Rattle.fe2o3_amqp.specs.Reach.{begun_by, channel_of}
 

@@ -28,7 +28,8 @@ use Rattle.fe2o3_amqp.specs.States.{takes_close}
 use Rattle.fe2o3_amqp.specs.Connection.{ConnectionView, SendOpenStep, SendCloseStep, IncomingCloseStep, BeginRouteStep, EndRouteStep, RouteStep, closes_by}
 use Rattle.fe2o3_amqp.specs.Waits.{body_of, sent}
 use Rattle.fe2o3_amqp.specs.EngineView.{EngineView, new_engine}
-use Rattle.fe2o3_amqp.specs.Sessions.{Calls, Called, Unknown, Does, Reaches, BeginRequest, ReleaseRequest, calls_frames}
+use Rattle.amqp_session.specs.Handed.{calls_frames}
+use Rattle.fe2o3_amqp.specs.Sessions.{Calls, Called, Unknown, Does, Reaches, BeginRequest, ReleaseRequest}
 use Rattle.fe2o3_amqp.specs.Engine.{Entry, Step, Carries, Received, Heard, OpenRequest, CloseRequest, OpenHeard, CloseHeard, recorded, remote_reason}
 use Rattle.fe2o3_amqp.specs.History.{Chain, LeadsTo}
 use Rattle.fe2o3_amqp.specs.Headline.{opens, closes, is_open, is_close, handed}

@@ -32,7 +32,8 @@ use Rattle.fe2o3_amqp.specs.States.{takes_close}
 use Rattle.fe2o3_amqp.specs.Connection.{ConnectionView, SendOpenStep, SendCloseStep, IncomingOpenStep, IncomingCloseStep, BeginRouteStep, EndRouteStep, RouteStep}
 use Rattle.fe2o3_amqp.specs.Waits.{sent}
 use Rattle.fe2o3_amqp.specs.EngineView.{EngineView}
-use Rattle.fe2o3_amqp.specs.Sessions.{Calls, Does, Reaches, Begun, BeginRequest, ReleaseRequest, calls_frames}
+use Rattle.amqp_session.specs.Handed.{calls_frames}
+use Rattle.fe2o3_amqp.specs.Sessions.{Calls, Does, Reaches, Begun, BeginRequest, ReleaseRequest}
 use Rattle.fe2o3_amqp.specs.Engine.{Entry, Step, Carries, Received, Heard, OpenRequest, CloseRequest, OpenHeard, CloseHeard, recorded, remote_reason}
 use Rattle.fe2o3_amqp.specs.Reach.{is_number, channel_of, held_by}
 use Rattle.fe2o3_amqp.proofs.Effects.{begin_channel}

@@ -13,5 +13,6 @@ pub mod Routing
 pub mod Telling
 pub mod Holding
 pub mod Keeping
+pub mod OnChannel
 pub mod Running
 pub mod Digits

@@ -24,7 +24,8 @@ use Rattle.amqp_session.specs.Relay.{Relays}
 use Rattle.fe2o3_amqp.specs.EngineView.{EngineView}
 use Rattle.fe2o3_amqp.specs.Connection.{not_found}
 use Rattle.fe2o3_amqp.specs.Waits.{sent}
-use Rattle.fe2o3_amqp.specs.Sessions.{Calls, EndCalls, FlowCalls, TransferCalls, StopCalls, BeginHeardCalls, EndHeardCalls, FlowHeardCalls, TransferHeardCalls, calls_frames}
+use Rattle.amqp_session.specs.Handed.{calls_frames}
+use Rattle.fe2o3_amqp.specs.Sessions.{Calls, EndCalls, FlowCalls, TransferCalls, StopCalls, BeginHeardCalls, EndHeardCalls, FlowHeardCalls, TransferHeardCalls}
 use Rattle.fe2o3_amqp.specs.Engine.{Entry}
 use Rattle.fe2o3_amqp.specs.Reach.{of_session, begun, route, held}
 use Rattle.fe2o3_amqp.specs.History.{LeadsTo}
@@ -121,6 +122,15 @@ pub record Told {R : Type 0} (e : Entry R) : Type 0 where
 abbrev pub AllTold : {R : Type 0} → List (Entry R) → Type 0
 AllTold H = (before after : List (Entry _)) (e : Entry _) → H ≡ before ++ e ∷ after → (n : ℕ) → e.reached ≡ Some n → ¬ (e.refusal ≡ Some no.NoSession) → Told e
 
+-- each frame of a session is on its channel
+abbrev pub AllOn : ℕ → List Frame → Type 0
+AllOn channel [] = Unit {0}
+AllOn channel (f ∷ fs) = (f.channel ≡ channel) × AllOn channel fs
+
+abbrev pub OnItsChannel : {R : Type 0} → List (Entry R) → Type 0
+OnItsChannel H = (before after : List (Entry _)) (e : Entry _) → H ≡ before ++ e ∷ after → (n : ℕ) (settings : SettingsSaid) (channel : ℕ) → begun n H ≡ Some (settings, channel) →
+    e.reached ≡ Some n → ¬ (e.refusal ≡ Some no.NoSession) → AllOn channel e.frames
+
 pub record Headline {R : Type 0} (state : ConnectionState) (H : List (Entry R)) : Type 0 where
   -- each session that was begun keeps its own headline: order, one number for each delivery, inside the window, waits only
   -- while it is used up
@@ -135,6 +145,7 @@ pub record Headline {R : Type 0} (state : ConnectionState) (H : List (Entry R)) 
   pub held_once : HeldOnce H
   -- what reaches a session is its calls
   pub told : AllTold H
+  pub on_its_channel : OnItsChannel H
   -- where the headers were exchanged, at most one Open and one Close go out
   pub one_open : state ≡ HeaderExchange → opens (handed H) ≤ 1
   pub one_close : state ≡ HeaderExchange → closes (handed H) ≤ 1

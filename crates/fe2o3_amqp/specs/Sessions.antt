@@ -24,6 +24,7 @@ use Rattle.amqp_session.specs.Settings.{SettingsSaid}
 use Rattle.amqp_session.specs.Session.{SessionView, new_session}
 use Rattle.amqp_session.specs.Step.{StopStep, SendBeginStep}
 use Rattle.amqp_session.specs.Transfers.{HeldSaid}
+use Rattle.amqp_session.specs.Handed.{calls_frames}
 use Rattle.amqp_session.specs.History as session
 use Rattle.fe2o3_amqp.specs.declared.connection.error.ConnectionInnerError.{ConnectionInnerError}
 use Rattle.fe2o3_amqp.specs.declared.engine.input.StepError.{StepError}
@@ -32,29 +33,7 @@ use Rattle.fe2o3_amqp.specs.Connection.{ConnectionView, AllocateStep, Holds, giv
 use Rattle.fe2o3_amqp.specs.EngineView.{EngineView}
 use Rattle.fe2o3_amqp.specs.Waits.{sent}
 
--- ---- frames and refusals
-
-abbrev pub answer_frame : Result SessionFrame SessionStateError → List SessionFrame
-answer_frame (Ok f) = f ∷ []
-answer_frame (Err e) = []
-
-abbrev pub answer_frames : Result (Option SessionOutgoingItem) SessionInnerError → List SessionFrame
-answer_frames (Ok item) = item_frames item
-answer_frames (Err e) = []
-
--- the frames that one call of a session hands out
-abbrev pub call_frames : {R : Type 0} → session.Entry R → List SessionFrame
-call_frames (session.SendsBegin result) = answer_frame result
-call_frames (session.SendsEnd error result) = answer_frame result
-call_frames (session.TakesFlow f asked result) = answer_frames result
-call_frames (session.SendsTransfer h result) = answer_frames result
-call_frames (session.SendsFlow l f) = f ∷ []
-call_frames (session.SendsSessionFlow item) = item_frames item
-call_frames c = []
-
-abbrev pub calls_frames : {R : Type 0} → List (session.Entry R) → List SessionFrame
-calls_frames [] = []
-calls_frames (c ∷ cs) = call_frames c ++ calls_frames cs
+-- ---- refusals
 
 abbrev pub told_state : {X : Type 0} → Result X SessionStateError → Option StepError
 told_state (Ok x) = None

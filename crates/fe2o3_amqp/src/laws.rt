@@ -10,7 +10,7 @@ ghost use Rattle.fe2o3_amqp.specs.History.{LeadsTo};
 ghost use Rattle.fe2o3_amqp.specs.Headline.{Headline};
 
 use amqp_session::LinkRelay;
-use amqp_session::laws::law_of_views;
+use amqp_session::laws::{law_of_channels, law_of_views};
 
 /// Every legal history keeps the headline; among the rest, where the headers were exchanged at most one Open and one Close
 /// are handed out (AMQP 1.0 part 2, section 2.4).
@@ -18,4 +18,5 @@ pub fn law_of_histories<R: LinkRelay>()
     ensures { (state : ConnectionState) (o : OpenSaid) (H : List (Entry R)) (w : EngineView R) → LeadsTo (relays R.attach_gives R.flow_gives R.transfer_gives R.disposition_gives R.detach_gives) state o H w → Headline state H }
 {
     law_of_views::<R>();
+    law_of_channels::<R>();
 }

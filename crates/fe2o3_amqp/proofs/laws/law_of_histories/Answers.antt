@@ -12,6 +12,7 @@ use Rattle.fe2o3_amqp.proofs.Projection.{legal, same_some}
 use Rattle.fe2o3_amqp.proofs.Routing.{frames_reach}
 use Rattle.fe2o3_amqp.proofs.Telling.{all_told}
 use Rattle.fe2o3_amqp.proofs.Keeping.{routes_follow, all_known, once_held}
+use Rattle.fe2o3_amqp.proofs.OnChannel.{on_channel}
 use Rattle.fe2o3_amqp.proofs.laws.law_of_histories.Goals as goal
 
 pub returns : goal.returns
@@ -36,6 +37,7 @@ returns g c = λ state o H w l.
       all_known = all_known gives state o H w l;
       held_once = once_held gives state o H w l;
       told = all_told gives state o H w l;
+      on_its_channel = on_channel gives c.law_of_channels.ensures state o H w l (all_told gives state o H w l);
       one_open = λ e. (ones e).0;
       one_close = λ e. (ones e).1;
     }
