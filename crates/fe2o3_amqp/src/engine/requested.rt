@@ -166,11 +166,11 @@ impl<R: LinkRelay> Engine<R> {
         let Some(session) = self.sessions.get(&number) else {
             return Err(StepError::NoSession);
         };
-        let channel = session.outgoing_channel();
-        if self.connection.holder(channel.0) != Some(number) {
+        let held = session.outgoing_channel();
+        if self.connection.holder(held.0) != Some(number) {
             return Err(StepError::Connection(ConnectionInnerError::NotFound(None)));
         }
-        self.connection.deallocate_session(channel);
+        self.connection.deallocate_session(held);
         Ok(())
     }
 }
