@@ -242,7 +242,7 @@ routes_follow g made o H w l before after e is c b heard n reached =
 
 -- ---- what a frame reaches is there
 
-abbrev Honest : {R : Type 0} → Calls R → Type 0
+abbrev pub Honest : {R : Type 0} → Calls R → Type 0
 Honest asks = (s : SessionView _) (cs : List (session.Entry _)) (r : Option StepError) → asks s cs r → ¬ (r ≡ Some no.NoSession)
 
 does_known : {R : Type 0} (g : Relays R) (v w : EngineView R) (n : ℕ) (asks : Calls R) (reached : Option ℕ) (calls : List (session.Entry R)) (r : Option StepError) → Honest asks → IsThere v n → Does g v n asks reached calls r w → ¬ (r ≡ Some no.NoSession)
@@ -257,15 +257,15 @@ reaches_known : {R : Type 0} (g : Relays R) (finds : Result ℕ ConnectionInnerE
 reaches_known g finds v w asks reached calls r honest there (inl s) = λ e. let x = sym s.5 ∙ e in cc
 reaches_known g finds v w asks reached calls r honest there (inr s) = does_known g (record v { connection = s.1 }) w s.0 asks reached calls r honest (there s.0 s.1 s.2) s.3
 
-state_there : {X : Type 0} (r : Result X _) → ¬ (told_state r ≡ Some no.NoSession)
+pub state_there : {X : Type 0} (r : Result X _) → ¬ (told_state r ≡ Some no.NoSession)
 state_there (Ok x) = λ e. cc
 state_there (Err x) = λ e. cc
 
-session_there : {X : Type 0} (r : Result X _) → ¬ (told_session r ≡ Some no.NoSession)
+pub session_there : {X : Type 0} (r : Result X _) → ¬ (told_session r ≡ Some no.NoSession)
 session_there (Ok x) = λ e. cc
 session_there (Err x) = λ e. cc
 
-not_none : (r s : Option StepError) → r ≡ s → ¬ (s ≡ Some no.NoSession) → ¬ (r ≡ Some no.NoSession)
+pub not_none : (r s : Option StepError) → r ≡ s → ¬ (s ≡ Some no.NoSession) → ¬ (r ≡ Some no.NoSession)
 not_none r s e h = λ x. h (sym e ∙ x)
 
 refusal_known : (r : Option StepError) (x : StepError) → r ≡ Some x → ¬ (x ≡ no.NoSession) → ¬ (r ≡ Some no.NoSession)
@@ -274,7 +274,7 @@ refusal_known r x e h = λ y. h (same_refusal x no.NoSession (sym e ∙ y))
     same_refusal : (a b : StepError) → Some a ≡ Some b → a ≡ b
     same_refusal a b z = cc
 
-none_known : (r : Option StepError) → r ≡ None → ¬ (r ≡ Some no.NoSession)
+pub none_known : (r : Option StepError) → r ≡ None → ¬ (r ≡ Some no.NoSession)
 none_known r e = λ y. some_none (sym y ∙ e)
 
 open_known : {R : Type 0} (v w : EngineView R) (o : OpenSaid) (r : Option StepError) → OpenHeard v o r w → ¬ (r ≡ Some no.NoSession)

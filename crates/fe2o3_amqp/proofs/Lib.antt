@@ -13,6 +13,8 @@ pub mod Routing
 pub mod Telling
 pub mod Holding
 pub mod Keeping
+pub mod Naming
+pub mod Standing
 pub mod OnChannel
 pub mod Running
 pub mod Digits

@@ -1,5 +1,7 @@
 -- The headline: what holds of every history of an engine, said of the history alone.
-use Rattle.std.specs.Prelude.{ℕ, ◌≡◌, ◌≤◌, ◌+◌, ◌⊎◌, List, [], ◌∷◌, ◌++◌, length, Option, Some, None, Result, Ok, MatchResult}
+use Rattle.std.specs.Prelude.{ℕ, ◌≡◌, ◌≤◌, ◌+◌, ◌⊎◌, List, [], ◌∷◌, ◌++◌, length, Option, Some, None, Result, Ok, MatchResult, nat_eq}
+use Rattle.std.specs.Map.{lookup}
+use Rattle.std.specs.FinMap as map
 use Rattle.amqp_types.specs.declared.states.SessionState.TheVariants.{Unmapped}
 use Rattle.amqp_types.specs.declared.states.ConnectionState.{ConnectionState}
 use Rattle.amqp_types.specs.declared.states.ConnectionState.TheVariants.{HeaderExchange}
@@ -21,7 +23,7 @@ use Rattle.amqp_session.specs.Session.{SessionView}
 use Rattle.amqp_session.specs.History as session
 use Rattle.amqp_session.specs.Headline as single
 use Rattle.amqp_session.specs.Relay.{Relays}
-use Rattle.fe2o3_amqp.specs.EngineView.{EngineView}
+use Rattle.fe2o3_amqp.specs.EngineView.{EngineView, own_limit}
 use Rattle.fe2o3_amqp.specs.Connection.{not_found}
 use Rattle.fe2o3_amqp.specs.Waits.{sent}
 use Rattle.amqp_session.specs.Handed.{calls_frames}
@@ -29,7 +31,7 @@ use Rattle.fe2o3_amqp.specs.Sessions.{Calls, EndCalls, FlowCalls, TransferCalls,
 use Rattle.fe2o3_amqp.specs.Engine.{Entry}
 use Rattle.fe2o3_amqp.specs.Reach.{of_session, begun, route, held}
 use Rattle.fe2o3_amqp.specs.History.{LeadsTo}
-use Rattle.fe2o3_amqp.specs.Output.{Speaks}
+use Rattle.fe2o3_amqp.specs.Output.{Speaks, limit_after}
 
 -- ---- how many Opens and Closes were handed out
 
@@ -55,6 +57,23 @@ handed [] = []
 handed (e ∷ es) = e.frames ++ handed es
 
 -- ---- the headline
+
+-- the session that a request on a session names
+abbrev pub names : Input → Option ℕ
+names (input.End n error) = Some n.0
+names (input.Flow n l) = Some n.0
+names (input.Transfer n h t payload first) = Some n.0
+names (input.Stop n reason) = Some n.0
+names (input.Received bytes) = None
+names input.Open = None
+names (input.Close error) = None
+names (input.Begin n settings) = None
+names (input.Release n) = None
+
+-- A request on a session that was begun reaches it, in whatever state the connection is; on one that was not, it is NoSession.
+abbrev pub RequestsReach : {R : Type 0} → List (Entry R) → Type 0
+RequestsReach H = (before after : List (Entry _)) (e : Entry _) → H ≡ before ++ e ∷ after → (n : ℕ) → names e.input ≡ Some n → ¬ (e.refusal ≡ Some no.OutputWaiting) →
+    (e.reached ≡ Some n) × (begun n before ≡ None → e.refusal ≡ Some no.NoSession) × (e.refusal ≡ Some no.NoSession → begun n before ≡ None)
 
 -- A frame goes along the route of its channel, and to no other session; without a route it is NotFound.
 abbrev pub GoesAlong : {R : Type 0} → Option ℕ → Entry R → Type 0
@@ -138,6 +157,8 @@ pub record Headline {R : Type 0} (state : ConnectionState) (H : List (Entry R)) 
       (stop : Option ConnectionStopReason) × single.Headline (record { settings = settings; channel = channel; state = Unmapped; stop = stop }) (of_session n H)
   -- and no other session has any call
   pub unknown : (n : ℕ) → begun n H ≡ None → of_session n H ≡ []
+  -- requests reach the session that they name
+  pub requests_reach : RequestsReach H
   -- frames reach the last begun session of their channel
   pub frames_reach : FramesReach H
   pub routes_follow : RoutesFollow H
@@ -149,6 +170,19 @@ pub record Headline {R : Type 0} (state : ConnectionState) (H : List (Entry R)) 
   -- where the headers were exchanged, at most one Open and one Close go out
   pub one_open : state ≡ HeaderExchange → opens (handed H) ≤ 1
   pub one_close : state ≡ HeaderExchange → closes (handed H) ≤ 1
+
+-- ---- the law of views: what contracts see of an engine is what its history gives
+
+pub record Stands {R : Type 0} (made : ConnectionState) (o : OpenSaid) (H : List (Entry R)) (v : EngineView R) : Type 0 where
+  -- each session that was begun, and no other
+  pub sessions_are : (n : ℕ) (settings : SettingsSaid) (channel : ℕ) → begun n H ≡ Some (settings, channel) →
+      (stop : Option ConnectionStopReason) × (s : SessionView R) × (lookup (nat_eq n) v.sessions ≡ Some s)
+      × single.Stands (record { settings = settings; channel = channel; state = Unmapped; stop = stop }) (of_session n H) s
+  pub no_other : (n : ℕ) → begun n H ≡ None → lookup (nat_eq n) v.sessions ≡ None
+  -- channels, routes, and the limit of a piece
+  pub held_is : (c : ℕ) → map.get v.connection.held c ≡ held c H
+  pub routes_are : (c : ℕ) → map.get v.connection.routes c ≡ route c H
+  pub limit_is : v.limit ≡ limit_after (own_limit o) H
 
 -- ---- what a run does
 

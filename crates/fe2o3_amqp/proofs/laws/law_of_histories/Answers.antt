@@ -13,6 +13,7 @@ use Rattle.fe2o3_amqp.proofs.Routing.{frames_reach}
 use Rattle.fe2o3_amqp.proofs.Telling.{all_told}
 use Rattle.fe2o3_amqp.proofs.Keeping.{routes_follow, all_known, once_held}
 use Rattle.fe2o3_amqp.proofs.OnChannel.{on_channel}
+use Rattle.fe2o3_amqp.proofs.Naming.{requests_reach}
 use Rattle.fe2o3_amqp.proofs.laws.law_of_histories.Goals as goal
 
 pub returns : goal.returns
@@ -32,6 +33,7 @@ returns g c = λ state o H w l.
         | inl none ↦ none.1
         | inr some ↦ absurd (some_none (sym some.2.begun_is ∙ b))
       ];
+      requests_reach = requests_reach gives state o H w l;
       frames_reach = frames_reach gives state o H w l;
       routes_follow = routes_follow gives state o H w l;
       all_known = all_known gives state o H w l;
