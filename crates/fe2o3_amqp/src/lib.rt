@@ -14,9 +14,10 @@ pub mod transcript;
 
 pub use amqp_frames::{Frame, FrameBody, FrameDecoder, FrameEncoder, Piece};
 pub use amqp_session::{
-    ConnectionStopReason, DEFAULT_WINDOW, IncomingChannel, InputHandle, LinkFlow, LinkRelay,
-    LinkRelayError, OutgoingChannel, OutputHandle, Session, SessionFrame, SessionFrameBody,
-    SessionInnerError, SessionOutgoingItem, SessionSettings, SessionStateError, SessionStopReason,
+    BeginError, ConnectionStopReason, DEFAULT_WINDOW, IncomingChannel, InputHandle, LinkFlow,
+    LinkRelay, LinkRelayError, OutgoingChannel, OutputHandle, Session, SessionFrame,
+    SessionFrameBody, SessionInnerError, SessionOutgoingItem, SessionSettings, SessionStateError,
+    SessionStopReason,
 };
 pub use amqp_types::{
     Attach, Begin, Close, ConnectionState, DeliveryNumber, DeliveryTag, Detach, Disposition, End,
@@ -24,7 +25,10 @@ pub use amqp_types::{
     SenderSettleMode, SequenceNo, SessionState, Symbol, Transfer, TransferNumber, TransferText,
     Uint, ValueRef, WriteError, is_terminal,
 };
-pub use connection::{AllocSessionError, Connection, ConnectionInnerError, ConnectionStateError};
+pub use connection::{
+    AllocSessionError, Connection, ConnectionInnerError, ConnectionStateError, NegotiationError,
+    OpenError, TryCloseError,
+};
 pub use definitions::{DEFAULT_CHANNEL_MAX, DEFAULT_MAX_FRAME_SIZE};
 pub use engine::{Answer, Engine, Input, OutputError, StepError, Stopped};
 pub use numbers::SessionNo;

@@ -1,9 +1,9 @@
 //! Why a call of a connection is refused.
 
 ghost use Rattle.std.specs.Prelude.{◌≡◌};
-ghost use Rattle.fe2o3_amqp.specs.ConnectionErrors.{inner_of};
+ghost use Rattle.fe2o3_amqp.specs.ConnectionErrors.{inner_of, error_of_state, error_of_inner, begin_of};
 
-use amqp_session::ConnectionStopReason;
+use amqp_session::{BeginError, ConnectionStopReason};
 use amqp_types::Error as AmqpError;
 
 /// Why a change of the connection's state is refused, or how the peer closed.
@@ -83,6 +83,93 @@ impl From<ConnectionStateError> for ConnectionInnerError {
                 ConnectionInnerError::TransportError(text)
             }
             ConnectionStateError::OutOfMemory => ConnectionInnerError::OutOfMemory,
+        }
+    }
+}
+
+/// Why a connection fails, as its user is told.
+#[derive(Debug, Drop, PartialEq, thiserror::Error)]
+pub enum Error {
+    /// The transport failed.
+    #[error("{0}")]
+    TransportError(String),
+    /// The state does not take this.
+    #[error("Illegal local state")]
+    IllegalState,
+    /// What is asked for is left out.
+    #[error("Not implemented {:?}", .0)]
+    NotImplemented(Option<String>),
+    /// No session is on this channel.
+    #[error("Not found {:?}", .0)]
+    NotFound(Option<String>),
+    /// What is asked for is not allowed.
+    #[error("Not allowed {:?}", .0)]
+    NotAllowed(Option<String>),
+    /// The peer closed the connection.
+    #[error("Remote peer closed")]
+    RemoteClosed,
+    /// The peer closed the connection with this error.
+    #[error("Remote peer closed connection with error {:?}", .0)]
+    RemoteClosedWithError(AmqpError),
+    /// Memory was refused.
+    #[error("out of memory")]
+    OutOfMemory,
+}
+
+/// Why a handle has no outcome of a connection's close to give. No call answers it yet.
+#[derive(Clone, Copy, Debug, PartialEq, Eq, thiserror::Error)]
+pub enum TryCloseError {
+    /// The outcome was given out before.
+    #[error("Connection is already closed")]
+    AlreadyClosed,
+    /// The peer's Close has not come.
+    #[error("The connection has not received a close frame from the remote peer")]
+    RemoteCloseNotReceived,
+}
+
+impl From<ConnectionStateError> for Error {
+    ghost from_gives = { λ s e. e ≡ error_of_state s };
+
+    fn from(error: ConnectionStateError) -> Error {
+        match error {
+            ConnectionStateError::IllegalState => Error::IllegalState,
+            ConnectionStateError::RemoteClosed => Error::RemoteClosed,
+            ConnectionStateError::RemoteClosedWithError(error) => {
+                Error::RemoteClosedWithError(error)
+            }
+            ConnectionStateError::TransportError(text) => Error::TransportError(text),
+            ConnectionStateError::OutOfMemory => Error::OutOfMemory,
+        }
+    }
+}
+
+impl From<ConnectionInnerError> for Error {
+    ghost from_gives = { λ i e. e ≡ error_of_inner i };
+
+    fn from(error: ConnectionInnerError) -> Error {
+        match error {
+            ConnectionInnerError::TransportError(text) => Error::TransportError(text),
+            ConnectionInnerError::IllegalState => Error::IllegalState,
+            ConnectionInnerError::NotImplemented(text) => Error::NotImplemented(text),
+            ConnectionInnerError::NotFound(text) => Error::NotFound(text),
+            ConnectionInnerError::RemoteClosed => Error::RemoteClosed,
+            ConnectionInnerError::RemoteClosedWithError(error) => {
+                Error::RemoteClosedWithError(error)
+            }
+            ConnectionInnerError::OutOfMemory => Error::OutOfMemory,
+        }
+    }
+}
+
+impl From<AllocSessionError> for BeginError {
+    ghost from_gives = { λ a e. e ≡ begin_of a };
+
+    fn from(error: AllocSessionError) -> BeginError {
+        match error {
+            AllocSessionError::ConnectionNotOpened => BeginError::ConnectionNotOpened,
+            AllocSessionError::ConnectionStopped(reason) => BeginError::ConnectionStopped(reason),
+            AllocSessionError::ChannelMaxReached => BeginError::LocalChannelMaxReached,
+            AllocSessionError::OutOfMemory => BeginError::OutOfMemory,
         }
     }
 }
