@@ -4,6 +4,8 @@
 #[cfg(test)]
 mod closing;
 #[cfg(test)]
+mod conversions;
+#[cfg(test)]
 mod driving;
 pub mod example;
 #[cfg(test)]
