@@ -9,3 +9,5 @@ mod outcomes;
 mod parts;
 #[cfg(test)]
 mod raw_values;
+#[cfg(test)]
+mod symbols;
