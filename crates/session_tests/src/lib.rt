@@ -18,6 +18,8 @@ mod reads;
 #[cfg(test)]
 mod refusals;
 #[cfg(test)]
+mod relay_answers;
+#[cfg(test)]
 mod relays;
 #[cfg(test)]
 mod states;

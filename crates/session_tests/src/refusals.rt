@@ -1,7 +1,7 @@
 //! Want of memory: nothing went out, and what waited stands as before. The test holds at whichever request for memory one is
 //! refused, as `rt try --test --fail-alloc N` does, and with none refused.
 
-use crate::made::{Answer, NOTHING, begin, grant, grant_link, send};
+use crate::made::{ABSENT, Answer, NONE, NOTHING, begin, grant, grant_link, send};
 use crate::relays::Quiet;
 use amqp_session::{
     IncomingChannel, LinkRelay, OutgoingChannel, Session, SessionSettings, SessionStateError,
@@ -114,22 +114,23 @@ fn drained(one: &mut Session<Quiet>) -> bool {
     send_twice(one, true) == Some(NOTHING)
         && send_twice(one, false) == Some(NOTHING)
         && send_twice(one, true) == Some(NOTHING)
-        && grant_twice(one, 0, 1, 1) == Some(Answer::Out([0, 2000, 2000, 2000]))
-        && grant_twice(one, 0, 3, 2) == Some(Answer::Out([1000, 1, 2000, 2000]))
+        && grant_twice(one, 0, 1, 1) == Some(Answer::Out([0, ABSENT, ABSENT, ABSENT]))
+        && grant_twice(one, 0, 3, 2) == Some(Answer::Out([NONE, 1, ABSENT, ABSENT]))
 }
 
 /// A transfer waits; the window of a refused flow lets it out before a new one.
 fn sent_behind(one: &mut Session<Quiet>) -> bool {
     send_twice(one, true) == Some(NOTHING)
         && grant_link(one, 3, 2) == Answer::Unattached
-        && send_twice(one, true) == Some(Answer::Out([2, 3, 2000, 2000]))
+        && send_twice(one, true) == Some(Answer::Out([2, 3, ABSENT, ABSENT]))
 }
 
 /// Transfers go out alone, each with the next number.
 fn sent_alone(one: &mut Session<Quiet>) -> bool {
     let mut is_right = grant_twice(one, 5, 9, 9) == Some(NOTHING);
     for id in 4..13 {
-        is_right = is_right && send_twice(one, true) == Some(Answer::Out([id, 2000, 2000, 2000]));
+        is_right = is_right
+            && send_twice(one, true) == Some(Answer::Out([id, ABSENT, ABSENT, ABSENT]));
     }
     is_right
 }
