@@ -20,8 +20,8 @@ use std::hash::{Hash, Hasher};
 /// Whatever calls a session has seen, what it shows is what its history gives: the numbers and windows of both directions,
 /// what waits, the state, the peer's channel, the stop reason and the open deliveries of both roles. And the transfers handed
 /// out, and then those held back, are all requested ones but untagged, unmapped and memory refusals, in order, each delivery
-/// numbered once, each inside the peer's latest window; after an accepted transfer or mapped Flow one waits only while it is
-/// used up (AMQP 1.0 part 2, section 2.5.6).
+/// numbered once, on its first frame alone, each inside the peer's latest window; after an accepted transfer or mapped Flow one
+/// waits only while it is used up (AMQP 1.0 part 2, section 2.5.6).
 pub fn law_of_views<R: LinkRelay>()
     ensures stands { let g = relays R.attach_gives R.flow_gives R.transfer_gives R.disposition_gives R.detach_gives in
         (m : Made) (h : List (Entry R)) (v : SessionView R) → LeadsTo g m h v → Stands m h v }
