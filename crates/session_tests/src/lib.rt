@@ -12,6 +12,8 @@ mod flows;
 #[cfg(test)]
 mod forms;
 #[cfg(test)]
+mod laws;
+#[cfg(test)]
 mod made;
 #[cfg(test)]
 mod reads;

@@ -1,5 +1,4 @@
-//! Want of memory: nothing went out, and what waited stands as before. The test holds at whichever request for memory one is
-//! refused, as `rt try --test --fail-alloc N` does, and with none refused.
+//! Want of memory: nothing went out, and what waited stands as before.
 
 use crate::made::{ABSENT, Answer, NONE, NOTHING, begin, grant, grant_link, send};
 use crate::relays::Quiet;
@@ -11,7 +10,7 @@ use std::alloc::{AllocError, Global};
 use std::test::Fail;
 
 /// What a session shows.
-#[derive(Clone, Copy, Debug, PartialEq, Eq)]
+#[derive(Clone, Copy, PartialEq)]
 struct Shown {
     state: SessionState,
     numbers: (u32, u32),
@@ -135,6 +134,7 @@ fn sent_alone(one: &mut Session<Quiet>) -> bool {
     is_right
 }
 
+/// It holds at whichever request for memory one is refused, as `rt try --test --fail-alloc N` does, and with none refused.
 #[test]
 fn want_of_memory_changes_nothing(rt: HostRuntime) -> Result<(), Fail> {
     let mut one = unmapped(rt.alloc())?;
