@@ -1,5 +1,5 @@
 -- The law of views, by induction over the calls of a session.
-use Rattle.std.proofs.Common.{◌≡◌, ℕ, ◌<◌, ◌+◌, ◌%◌, ◌^◌, ◌++◌, [], ◌∷◌, List, length, take, refl, ap, arith, sym, subst, ◌∙◌, append_assoc, append-nil, length-append, length-take, Bool, true, false, cond, min, Option, Some, None, Result, Ok, Err, unwrap_or, ◌⊎◌, inl, inr}
+use Rattle.std.proofs.Common.{◌≡◌, ℕ, ◌<◌, ◌+◌, ◌%◌, ◌^◌, ◌++◌, [], ◌∷◌, List, length, take, refl, ap, arith, sym, subst, ◌∙◌, append_assoc, append-nil, length-append, length-take, Bool, true, false, cond, min, Option, Some, None, slice_get, Result, Ok, Err, unwrap_or, ◌⊎◌, inl, inr}
 use Rattle.std.proofs.lemmas.List.{drop_all, take_min}
 use Rattle.std.proofs.lemmas.Bool.{cases_lt}
 use Rattle.amqp_types.specs.Flow.{FlowSaid}
@@ -25,7 +25,7 @@ use Rattle.amqp_session.specs.Session.{SessionView, new_session, let_gone}
 use Rattle.amqp_session.specs.Step.{waits, flow_moved, FlowAnswered, FlowUnasked, FlowTaken, TakeTransferStep, TransferAnswered, TransferUnasked, SendTransferStep}
 use Rattle.amqp_session.specs.History.{Entry, SendsBegin, SendsEnd, TakesBegin, TakesEnd, TakesFlow, TakesTransfer, SendsFlow, SendsTransfer, SendsSessionFlow, RecordsStop, Made, Step, Chain, LeadsTo}
 use Rattle.amqp_session.specs.Headline.{frames, transfers_in, accepted_by, handed, accepted, waiting, number, window_by, window_from, window, state_by, state_from, Answers, LetsOut, Headline, Books, begun_in, sent_with, Hears, Stands}
-use Rattle.amqp_session.proofs.Books.{inside_at, used_up, length-numbered, Books-joined, Books-moved, Books-begun, Books-same, Goes, Books-goes, flow_goes, send_goes}
+use Rattle.amqp_session.proofs.Books.{inside_at, used_up, length-numbered, numbered_first, Books-joined, Books-moved, Books-begun, Books-same, Goes, Books-goes, flow_goes, send_goes}
 use Rattle.amqp_session.proofs.Numbering.{opened_same}
 use Rattle.amqp_session.proofs.Heard.{Rest, stops, rest_step, links_step}
 use Rattle.amqp_session.proofs.Since.{WordFits, hears_more, channel_more, received_more, stop_more, sent_open_more, no_links_before}
@@ -348,6 +348,9 @@ module _ {R : Type 0} (g : Relays R) where
   pub headline_law : (m : Made) (H : List (Entry R)) (v : SessionView R) → LeadsTo g m H v → Headline m H
   headline_law m H v l = record {
     accounts = let b = stands_law m H v l in record { handed_out = b.sending_is.handed_out; no_more = b.sending_is.no_more };
+    first_alone = λ k h f asked out.
+        let b = stands_law m H v l in
+        numbered_first m.channel 0 (length (handed H)) k (accepted H) h f asked (subst (λ (fs : List SessionFrame). slice_get fs k ≡ Some f) b.sending_is.handed_out out);
     all_answered = λ before after h result is.
         let r = chain-split before (SendsTransfer h result ∷ after) (new_session m.settings m.channel m.state m.stop) v (subst (λ K. Chain g (new_session m.settings m.channel m.state m.stop) K v) is l.1) in
         let b = stands_law m before r.0 (l.0, r.1) in

@@ -1,5 +1,5 @@
 -- What holds of every history of one session, said of the history alone (AMQP 1.0 part 2, section 2.5.6).
-use Rattle.std.specs.Prelude.{◌≡◌, ◌⊎◌, ◌<◌, ◌≤◌, ◌+◌, ◌%◌, ◌^◌, ℕ, true, false, List, [], ◌∷◌, ◌++◌, length, take, drop, Option, Result, Ok, Err, unwrap_or}
+use Rattle.std.specs.Prelude.{◌≡◌, ◌⊎◌, ◌<◌, ◌≤◌, ◌+◌, ◌%◌, ◌^◌, ℕ, true, false, List, [], ◌∷◌, ◌++◌, length, take, drop, slice_get, Option, Some, None, is_some, Result, Ok, Err, unwrap_or}
 use Rattle.amqp_types.specs.declared.states.SessionState.{SessionState}
 use Rattle.amqp_session.specs.declared.frame.SessionFrame.{SessionFrame}
 use Rattle.amqp_session.specs.declared.frame.SessionFrameBody.{SessionFrameBody}
@@ -117,6 +117,16 @@ pub record Accounts {R : Type 0} (m : Made) (H : List (Entry R)) : Type 0 where
   pub handed_out : handed H ≡ numbered m.channel 0 (take (length (handed H)) (accepted H))
   pub no_more : length (handed H) ≤ length (accepted H)
 
+-- the delivery-id that a frame carries
+abbrev pub carried : SessionFrameBody → Option ℕ
+carried (Body.Transfer t payload) = t.delivery_id
+carried b = None
+
+-- A frame carries a delivery-id exactly where it is the first of its delivery, whatever the request came with: one that goes on
+-- with a delivery never does.
+abbrev pub FirstAlone : {R : Type 0} → List (Entry R) → Type 0
+FirstAlone H = (k : ℕ) (h : HeldSaid) (f : SessionFrame) → slice_get (accepted H) k ≡ Some h → slice_get (handed H) k ≡ Some f → is_some (carried f.body) ≡ h.is_first
+
 -- Each transfer is inside the window that holds as it is handed out.
 abbrev pub Inside : {R : Type 0} → Made → List (Entry R) → Type 0
 Inside m H = (before after : List (Entry _)) (e : Entry _) → H ≡ before ++ e ∷ after →
@@ -135,6 +145,7 @@ WaitsOnly m H = (before after : List (Entry _)) (e : Entry _) → H ≡ before +
 
 pub record Headline {R : Type 0} (m : Made) (H : List (Entry R)) : Type 0 where
   pub accounts : Accounts m H
+  pub first_alone : FirstAlone H
   pub all_answered : AllAnswered m H
   pub inside : Inside m H
   pub waits_only : WaitsOnly m H

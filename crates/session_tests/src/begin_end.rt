@@ -98,7 +98,7 @@ fn an_end_without_an_error_has_none(rt: HostRuntime) {
 }
 
 /// How a received End is answered.
-#[derive(Clone, Copy, Debug, PartialEq, Eq)]
+#[derive(Clone, Copy, PartialEq)]
 enum Told {
     Taken,
     Ended,

@@ -11,7 +11,7 @@ use bytes::Bytes;
 use std::alloc::Global;
 
 /// In what form frames are handed out, and how many.
-#[derive(Clone, Copy, Debug, PartialEq, Eq)]
+#[derive(Clone, Copy, PartialEq)]
 enum Form {
     Nothing,
     Single,

@@ -12,11 +12,15 @@ mod flows;
 #[cfg(test)]
 mod forms;
 #[cfg(test)]
+mod laws;
+#[cfg(test)]
 mod made;
 #[cfg(test)]
 mod reads;
 #[cfg(test)]
 mod refusals;
+#[cfg(test)]
+mod relay_answers;
 #[cfg(test)]
 mod relays;
 #[cfg(test)]

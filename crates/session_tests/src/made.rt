@@ -120,7 +120,7 @@ pub fn transfer(tag: Option<&'static [u8]>) -> Transfer {
 }
 
 /// What a call answered: the delivery-ids of its frames, or why it was refused.
-#[derive(Clone, Copy, Debug, PartialEq, Eq)]
+#[derive(Clone, Copy, PartialEq)]
 pub enum Answer {
     /// For each of the first four frames its delivery-id: NONE where it has none, ABSENT where there is no frame.
     Out([u32; 4]),

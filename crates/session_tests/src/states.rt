@@ -1,7 +1,8 @@
 //! The table of states: seven states, and the calls that depend on them or move them.
 
 use crate::made::{
-    Answer, NOTHING, begin, end_with, grant, send, session, session_flow, session_with_window,
+    ABSENT, Answer, NOTHING, begin, end_with, grant, send, session, session_flow,
+    session_with_window,
 };
 use crate::relays::{Choosing, Quiet};
 use amqp_session::{IncomingChannel, Session, SessionStateError};
@@ -134,7 +135,7 @@ fn brings_session_flows(alloc: Global, from: SessionState) -> bool {
 
 /// Whether what waits goes out with a flow in the state: the one transfer, and the window is used up.
 fn lets_out(one: &mut Session<Quiet>) -> bool {
-    grant(one, Some(0), 1) == Answer::Out([0, 2000, 2000, 2000])
+    grant(one, Some(0), 1) == Answer::Out([0, ABSENT, ABSENT, ABSENT])
         && one.held_back() == 0
         && one.remote_incoming_window() == 0
 }

@@ -42,7 +42,7 @@ invariant_of-self-else-stands_at c =
     let e = ap (λ (t : TableView). t.rows) c.self.view_is in
     let f = ap (λ (t : TableView). t.rows) c.place_of-place.ensures.same in
     let placed = placed_between _ _ _ c.place_of-place.result c.args.delivery e f c.self.invariant.0 c.place_of-place.ensures.within (c.stands_at.ensures.not_there c.if-stands_at.false) c.place_of-place.ensures.below c.place_of-place.ensures.above in
-    let items = rw c.unwrap.ensures at c.insert.ensures.items in
+    let items : c.insert.new.self.items ≡ insert c.self.inside.rows.items c.place_of-place.result c.args.delivery = rw c.unwrap.ensures at c.insert.ensures.items in
     subst IsTable (placed ∙ sym items) (recorded_table c.args.delivery _ (omega arith) c.self.invariant)
 
 pub returns-else-stands_at-clause-rows : goal.returns-else-stands_at-clause-rows
@@ -50,5 +50,5 @@ returns-else-stands_at-clause-rows c =
     let e = ap (λ (t : TableView). t.rows) c.self.view_is in
     let f = ap (λ (t : TableView). t.rows) c.place_of-place.ensures.same in
     let placed = placed_between _ _ _ c.place_of-place.result c.args.delivery e f c.self.invariant.0 c.place_of-place.ensures.within (c.stands_at.ensures.not_there c.if-stands_at.false) c.place_of-place.ensures.below c.place_of-place.ensures.above in
-    let items = rw c.unwrap.ensures at c.insert.ensures.items in
+    let items : c.insert.new.self.items ≡ insert c.self.inside.rows.items c.place_of-place.result c.args.delivery = rw c.unwrap.ensures at c.insert.ensures.items in
     items ∙ sym placed ∙ ap (λ rows. recorded c.args.delivery rows) (e ∙ f)
