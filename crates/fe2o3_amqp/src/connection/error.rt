@@ -30,13 +30,13 @@ pub enum ConnectionStateError {
 #[derive(Clone, Copy, Debug, PartialEq, Eq, thiserror::Error)]
 pub enum AllocSessionError {
     /// No Open has come or gone out yet.
-    #[error("Connection is not opened")]
+    #[error("The connection has not been opened")]
     ConnectionNotOpened,
     /// The connection stopped, for this reason.
-    #[error("Connection stopped {:?}", .0)]
+    #[error("The connection stopped: {:?}", .0)]
     ConnectionStopped(ConnectionStopReason),
     /// All channels up to the highest that both sides allow are held.
-    #[error("Channel max reached")]
+    #[error("Reached connection channel max")]
     ChannelMaxReached,
     /// Memory was refused: nothing has changed.
     #[error("out of memory")]
@@ -120,7 +120,7 @@ pub enum Error {
 #[derive(Clone, Copy, Debug, PartialEq, Eq, thiserror::Error)]
 pub enum TryCloseError {
     /// The outcome was given out before.
-    #[error("Connection is already closed")]
+    #[error("Illegal local state")]
     AlreadyClosed,
     /// The peer's Close has not come.
     #[error("The connection has not received a close frame from the remote peer")]

@@ -23,10 +23,10 @@ pub enum OpenError {
     #[error("TLS connector is not found")]
     TlsConnectorNotFound,
     /// The scheme is neither of the two that are known.
-    #[error("Invalid scheme")]
+    #[error("Invalid scheme. Only \"amqp\" and \"amqps\" are supported.")]
     InvalidScheme,
     /// The scheme can't carry this SASL mechanism.
-    #[error("Invalid scheme for SASL EXTERNAL")]
+    #[error("SASL EXTERNAL mechanism requires \"amqps\" scheme.")]
     InvalidSchemeForSaslExternal,
     /// The peer's protocol header is another one.
     #[error("Protocol header mismatch. Found {0:?}")]
