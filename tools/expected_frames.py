@@ -227,7 +227,7 @@ def expected(frame, said):
         name = TABLES[code][0]
         return f"{channel} {name}({show_composite(TABLES[code], said['fields'], body[at:end])}) {said['payload']}"
     except Refused:
-        return f"{channel} malformed"
+        return "malformed"
 
 
 def main():
@@ -241,7 +241,7 @@ def main():
             wanted.append(expected(bytes.fromhex(given[-1]), fields))
     (CRATE / "stdin").write_text("\n".join(given) + "\n")
     (CRATE / "stdout").write_text("\n".join(wanted) + "\n")
-    refused = sum(line.endswith(" malformed") for line in wanted)
+    refused = sum(line == "malformed" for line in wanted)
     print(f"{len(wanted)} frames, {refused} refused")
 
 

@@ -2,3 +2,4 @@ pub mod Decoded
 pub mod Growth
 pub mod Cutting
 pub mod RoundTripLaws
+pub mod DecodedAgain

@@ -10,7 +10,7 @@ use Rattle.amqp_frames.specs.declared.frame.FrameBody.{FrameBody}
 use Rattle.amqp_frames.specs.declared.frame.FrameBody.TheVariants.{Attach, Flow, Transfer, Disposition, Detach, Begin, End, Open, Close, Empty}
 use Rattle.amqp_frames.specs.declared.error.Error.{Error}
 use Rattle.amqp_frames.specs.declared.error.Error.TheVariants as no
-use Rattle.amqp_frames.specs.Frame.{IsFrame, Decodes, payload_of}
+use Rattle.amqp_frames.specs.Frame.{IsFrame, Decodes, body_of, payload_of}
 use Rattle.amqp_frames.specs.Piece.{PieceParts, piece_bytes}
 use Rattle.amqp_frames.specs.Cut.{Cut, IsCut, Whole, continued, payload_part}
 
@@ -78,3 +78,41 @@ abbrev pub WholesAreRead : Type 0
 WholesAreRead =
     (f : Frame) (m : ℕ) (pieces : List PieceParts) → f.channel < 2 ^ 16 → IsSpelledBody f.body → Whole f m → Cut f m pieces
     → (p : PieceParts) × (pieces ≡ p ∷ []) × IsFrame f (piece_bytes p) [] × DecodesTo f (piece_bytes p)
+
+-- ---- decoding what was encoded
+
+-- the frame of this performative; a payload stands behind a transfer alone
+abbrev pub frame_of : ℕ → Performative → List ℕ → Frame
+frame_of channel p payload = record { channel = channel; body = (body_of p payload).0 }
+
+-- a frame that is whole is decoded from its one piece
+abbrev pub WholeIsDecoded : Performative → Type 0
+WholeIsDecoded p =
+    (channel m : ℕ) (payload : List ℕ) (pieces : List PieceParts) → channel < 2 ^ 16 → m < 2 ^ 32
+    → Whole (frame_of channel p payload) m → Cut (frame_of channel p payload) m pieces
+    → (piece : PieceParts) × (pieces ≡ piece ∷ []) × DecodesTo (frame_of channel p payload) (piece_bytes piece)
+
+-- so is the empty frame
+abbrev pub EmptyIsDecoded : Type 0
+EmptyIsDecoded =
+    (channel m : ℕ) (pieces : List PieceParts) → channel < 2 ^ 16 → Cut (record { channel = channel; body = Empty }) m pieces
+    → (piece : PieceParts) × (pieces ≡ piece ∷ []) × DecodesTo (record { channel = channel; body = Empty }) (piece_bytes piece)
+
+-- the piece is decoded as the frame of this transfer, with its part of the payload
+abbrev pub DecodedAs : ℕ → TransferSaid → PieceParts → Type 0
+DecodedAs channel t p = DecodesTo (record { channel = channel; body = Transfer t p.payload }) (piece_bytes p)
+
+-- each piece of a transfer that is cut is decoded: as the first transfer, one in the middle, or the last
+pub record AreDecoded (channel : ℕ) (t : TransferSaid) (pieces : List PieceParts) : Type 0 where
+  pub first : PieceParts
+  pub middle : List PieceParts
+  pub last : PieceParts
+  pub pieces_are : pieces ≡ first ∷ middle ++ last ∷ []
+  pub first_is : DecodedAs channel (first_of t) first
+  pub middle_are : All (DecodedAs channel (middle_of t)) middle
+  pub last_is : DecodedAs channel (continued t) last
+
+abbrev pub CutIsDecoded : Performative → Type 0
+CutIsDecoded p =
+    (t : TransferSaid) (channel m : ℕ) (payload : List ℕ) (pieces : List PieceParts) → p ≡ performative.Transfer t → channel < 2 ^ 16 → m < 2 ^ 32
+    → IsCut channel t payload m pieces → AreDecoded channel t pieces

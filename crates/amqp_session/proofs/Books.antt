@@ -1,5 +1,5 @@
 -- The books of the sending half: numbers, window and what waits.
-use Rattle.std.proofs.Common.{◌≡◌, ℕ, suc, zero, ◌<◌, ◌≤◌, ◌-◌, ◌+◌, ◌%◌, ◌^◌, ◌++◌, [], ◌∷◌, List, length, take, drop, refl, ap, arith, sym, subst, ◌∙◌, min, append_assoc, append-nil, length-append, length-take, length-drop, Bool, true, false, cond, Option, Some, None, unwrap_or}
+use Rattle.std.proofs.Common.{◌≡◌, ℕ, suc, zero, ◌<◌, ◌≤◌, ◌-◌, ◌+◌, ◌%◌, ◌^◌, ◌++◌, [], ◌∷◌, List, length, take, drop, refl, ap, arith, sym, subst, ◌∙◌, min, append_assoc, append-nil, length-append, length-take, length-drop, Bool, true, false, cond, Option, Some, None, is_some, slice_get, unwrap_or}
 use Rattle.std.proofs.lemmas.List.{take-append-le, drop-append-le, drop-drop, take_min, drop_min}
 use Rattle.std.specs.Option.{option_map}
 use Rattle.amqp_session.specs.declared.flow.LinkFlow.{LinkFlow}
@@ -13,7 +13,7 @@ use Rattle.amqp_session.specs.Sending.{SendingView, joined, moved, begun, let_ou
 use Rattle.amqp_session.specs.Items.{HandsOut, item_frames, first_frame, is_some_list}
 use Rattle.amqp_session.specs.Session.{SessionView, flow_frame, lets, let_gone}
 use Rattle.amqp_session.specs.Step.{FlowGoes}
-use Rattle.amqp_session.specs.Headline.{transfer_in, transfers_in, Books}
+use Rattle.amqp_session.specs.Headline.{transfer_in, transfers_in, carried, Books}
 use Rattle.amqp_session.proofs.Numbering.{numbered_same}
 
 -- ---- numbers past the wrap
@@ -66,6 +66,20 @@ pub hands_frames : (b : Bool) (fs : List SessionFrame) (item : Option SessionOut
 hands_frames b fs None h = sym h
 hands_frames b fs (Some (SingleFrame f)) h = sym h.1
 hands_frames b fs (Some (MultipleFrames v)) h = sym h.1
+
+-- a frame carries a delivery-id where it is the first of its delivery
+is_some_if : (b : Bool) (n : ℕ) → is_some (cond b (Some n) None) ≡ b
+is_some_if true n = refl
+is_some_if false n = refl
+
+pub numbered_first : (c n m k : ℕ) (hs : List HeldSaid) (h : HeldSaid) (f : SessionFrame) → slice_get hs k ≡ Some h → slice_get (numbered c n (take m hs)) k ≡ Some f → is_some (carried f.body) ≡ h.is_first
+numbered_first c n m k [] h f e g = absurd (cc)
+numbered_first c n zero k (x ∷ hs) h f e g = absurd (cc)
+numbered_first c n (suc m) zero (x ∷ hs) h f e g =
+    let same : x ≡ h = ap (λ o. unwrap_or o x) e in
+    let frame : frame_of c n x ≡ f = ap (λ o. unwrap_or o f) g in
+    ap (λ (y : SessionFrame). is_some (carried y.body)) (sym frame) ∙ is_some_if x.is_first (n % 2 ^ 32) ∙ ap (λ (y : HeldSaid). y.is_first) same
+numbered_first c n (suc m) (suc k) (x ∷ hs) h f e g = numbered_first c (n + first_of x) m k hs h f e g
 
 -- ---- the books of the sending half
 

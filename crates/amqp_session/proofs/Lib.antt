@@ -2,5 +2,8 @@ pub mod Rising
 pub mod Numbering
 pub mod Flows
 pub mod Books
+pub mod Heard
+pub mod Since
 pub mod Histories
 pub mod SessionFlows
+pub mod Channels

@@ -141,6 +141,12 @@ last_place rows n number x rising e some read less i h =
     let at : number_at rows (n - 1) < number = subst (λ k. k < number) (sym (number_read rows (n - 1) x within read)) less in
     below_place rows (n - 1) number rising within at i (omega arith)
 
+-- where the last number is no smaller, it stands there
+pub last_more : (rows : List Delivery) (n number : ℕ) (x : Delivery) → n ≡ length rows → 0 < n → x ≡ slice_index_or rows (n - 1) x → number ≤ x.number → number ≤ number_at rows (length rows - 1)
+last_more rows n number x e some read more =
+    let within : n - 1 < length rows = omega arith in
+    subst (λ k. number ≤ number_at rows (k - 1)) e (subst (λ k. number ≤ k) (sym (number_read rows (n - 1) x within read)) more)
+
 -- a record behind all others
 pub recorded_last : (rows : List Delivery) (d : Delivery) → ((i : ℕ) → i < length rows → number_at rows i < d.number) → recorded d rows ≡ rows ++ d ∷ []
 recorded_last rows d below =

@@ -1,11 +1,13 @@
 -- What holds of every history of one session, said of the history alone (AMQP 1.0 part 2, section 2.5.6).
-use Rattle.std.specs.Prelude.{◌≡◌, ◌⊎◌, ◌<◌, ◌≤◌, ◌+◌, ◌%◌, ◌^◌, ℕ, true, false, List, [], ◌∷◌, ◌++◌, length, take, drop, Option, Result, Ok, Err, unwrap_or}
+use Rattle.std.specs.Prelude.{◌≡◌, ◌⊎◌, ◌<◌, ◌≤◌, ◌+◌, ◌%◌, ◌^◌, ℕ, true, false, List, [], ◌∷◌, ◌++◌, length, take, drop, slice_get, Option, Some, None, is_some, Result, Ok, Err, unwrap_or}
 use Rattle.amqp_types.specs.declared.states.SessionState.{SessionState}
 use Rattle.amqp_session.specs.declared.frame.SessionFrame.{SessionFrame}
 use Rattle.amqp_session.specs.declared.frame.SessionFrameBody.{SessionFrameBody}
 use Rattle.amqp_session.specs.declared.frame.SessionFrameBody.TheVariants as Body
 use Rattle.amqp_session.specs.declared.frame.SessionOutgoingItem.{SessionOutgoingItem}
 use Rattle.amqp_session.specs.declared.error.SessionInnerError.{SessionInnerError}
+use Rattle.amqp_session.specs.declared.deliveries.Delivery.{Delivery}
+use Rattle.amqp_session.specs.declared.session.receiving.Receiving.{Receiving}
 use Rattle.amqp_session.specs.Items.{item_frames}
 use Rattle.amqp_session.specs.declared.error.SessionInnerError.TheVariants as Refused
 use Rattle.amqp_session.specs.Serial.{In, remaining}
@@ -13,7 +15,9 @@ use Rattle.amqp_session.specs.States.{is_mapped, sends_begin, takes_begin, sends
 use Rattle.amqp_session.specs.Sending.{SendingView}
 use Rattle.amqp_session.specs.Session.{SessionView}
 use Rattle.amqp_session.specs.Step.{IsUntagged, has_error}
-use Rattle.amqp_session.specs.Transfers.{HeldSaid, numbered, firsts}
+use Rattle.amqp_session.specs.Transfers.{HeldSaid, numbered, firsts, opened}
+use Rattle.amqp_session.specs.Links.{no_links}
+use Rattle.amqp_session.specs.Heard.{next_incoming, peer_window, unsaid, peer_channel, received_open, stop_reason, HasNoLinks}
 use Rattle.amqp_session.specs.History.{Entry, SendsBegin, SendsEnd, TakesBegin, TakesEnd, TakesFlow, SendsTransfer, Made}
 
 -- ---- what a call took and handed out
@@ -113,6 +117,16 @@ pub record Accounts {R : Type 0} (m : Made) (H : List (Entry R)) : Type 0 where
   pub handed_out : handed H ≡ numbered m.channel 0 (take (length (handed H)) (accepted H))
   pub no_more : length (handed H) ≤ length (accepted H)
 
+-- the delivery-id that a frame carries
+abbrev pub carried : SessionFrameBody → Option ℕ
+carried (Body.Transfer t payload) = t.delivery_id
+carried b = None
+
+-- A frame carries a delivery-id exactly where it is the first of its delivery, whatever the request came with: one that goes on
+-- with a delivery never does.
+abbrev pub FirstAlone : {R : Type 0} → List (Entry R) → Type 0
+FirstAlone H = (k : ℕ) (h : HeldSaid) (f : SessionFrame) → slice_get (accepted H) k ≡ Some h → slice_get (handed H) k ≡ Some f → is_some (carried f.body) ≡ h.is_first
+
 -- Each transfer is inside the window that holds as it is handed out.
 abbrev pub Inside : {R : Type 0} → Made → List (Entry R) → Type 0
 Inside m H = (before after : List (Entry _)) (e : Entry _) → H ≡ before ++ e ∷ after →
@@ -131,9 +145,29 @@ WaitsOnly m H = (before after : List (Entry _)) (e : Entry _) → H ≡ before +
 
 pub record Headline {R : Type 0} (m : Made) (H : List (Entry R)) : Type 0 where
   pub accounts : Accounts m H
+  pub first_alone : FirstAlone H
   pub all_answered : AllAnswered m H
   pub inside : Inside m H
   pub waits_only : WaitsOnly m H
+
+-- ---- the deliveries of this side
+
+-- the transfers that go out with a call, where these calls came before it: those that waited first, and then its own
+abbrev pub sent_with : {R : Type 0} → List (Entry R) → Entry R → List HeldSaid
+sent_with before e = take (length (transfers_in (frames e))) (waiting before ++ accepted_by e)
+
+-- how many deliveries have begun to go out
+abbrev pub begun_in : {R : Type 0} → List (Entry R) → ℕ
+begun_in H = firsts (take (length (handed H)) (accepted H))
+
+-- The open ones: each is recorded with the frame that carries its number, unless it is settled already, and takes the place of
+-- an older one of its number.
+abbrev pub sent_open_from : {R : Type 0} → List (Entry R) → List Delivery → List (Entry R) → List Delivery
+sent_open_from before rows [] = rows
+sent_open_from before rows (e ∷ es) = sent_open_from (before ++ e ∷ []) (opened (begun_in before) (sent_with before e) rows) es
+
+abbrev pub sent_open : {R : Type 0} → List (Entry R) → List Delivery
+sent_open H = sent_open_from [] [] H
 
 -- ---- the law of views
 
@@ -150,8 +184,24 @@ pub record Books (channel initial : ℕ) (A : List HeldSaid) (F : List SessionFr
   pub handed_out : F ≡ numbered channel 0 (take (length F) A)
   pub no_more : length F ≤ length A
 
--- The view is what the history gives: the numbers of transfers and deliveries, what waits, what is left of the window, and the
--- state.
+-- a view of the receiving half is what this history gives
+pub record Hears {R : Type 0} (H : List (Entry R)) (r : Receiving) : Type 0 where
+  pub next_is : r.next ≡ next_incoming H
+  pub window_is : r.window ≡ peer_window H
+  pub count_is : r.count ≡ unsaid H
+
+-- The view is what the session was made with and what the history gives: the numbers of transfers and deliveries in both
+-- directions, what waits, what is left of both windows, the transfers not yet told to the peer, the state, the peer's channel,
+-- the stop reason, and the open deliveries of both roles. Links come of their own calls alone.
 pub record Stands {R : Type 0} (m : Made) (H : List (Entry R)) (v : SessionView R) : Type 0 where
   pub sending_is : Books m.channel m.settings.next_outgoing_id (accepted H) (handed H) (window m H) v.sending
   pub state_is : v.state ≡ state m H
+  pub receiving_is : Hears H v.receiving
+  pub sent_open_is : v.deliveries.receiver ≡ sent_open H
+  pub received_open_is : v.deliveries.sender ≡ received_open H
+  pub incoming_channel_is : v.incoming_channel ≡ peer_channel H
+  pub session_stop_is : v.session_stop ≡ stop_reason H
+  pub settings_is : v.settings ≡ m.settings
+  pub outgoing_channel_is : v.outgoing_channel ≡ m.channel
+  pub connection_stop_is : v.connection_stop ≡ m.stop
+  pub links_are : HasNoLinks H → v.links ≡ no_links

@@ -13,4 +13,6 @@ pub mod Session
 pub mod Items
 pub mod Step
 pub mod History
+pub mod Heard
+pub mod Handed
 pub mod Headline

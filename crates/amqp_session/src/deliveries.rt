@@ -1,6 +1,7 @@
 //! Tables of open deliveries, sorted by number, that are read by counted reads alone.
 
-ghost use Rattle.std.specs.Prelude.{◌≡◌, ℕ, ◌+◌, ◌-◌, ◌*◌, ◌^◌, ◌<◌, ◌≤◌, [], length, OnOk, IsTrue, false};
+ghost use Rattle.std.specs.Prelude.{◌≡◌, ℕ, ◌+◌, ◌-◌, ◌*◌, ◌^◌, ◌<◌, ◌≤◌, ⊤, [], length, slice_get, slice_set, Some, OnOk, IsTrue, false};
+ghost use Rattle.std.specs.VecDeque.{deque_capacity};
 ghost use Rattle.amqp_session.specs.Deliveries.{TableView, IsRising, number_at, recorded};
 
 use crate::numbers::InputHandle;
@@ -55,7 +56,21 @@ impl Model for Deliveries {
     ghost invariant = { λ t. IsTable t.rows.items };
 }
 
+/// A record takes the place of the one that stands there.
+fn replace(rows: &mut VecDeque<Delivery>, place: usize, delivery: Delivery)
+    requires within { place < length rows.old.items }
+    ensures items { rows.new.items ≡ slice_set rows.old.items place delivery }
+    ensures capacity { deque_capacity rows.new ≡ deque_capacity rows.old }
+{
+    rows[place] = delivery;
+}
+
 impl Deliveries {
+    ghost use Rattle.std.specs.Borrow.{sem};
+    ghost use denote.Follow.{follows_so};
+    ghost use mathlib.Core.Option.{none};
+    ghost use Rattle.amqp_session.specs.contracts.deliveries.Deliveries.{the_row};
+
     /// A table with no record.
     pub(crate) fn new(alloc: Global) -> Deliveries
         ensures rows { result.rows ≡ [] }
@@ -108,6 +123,17 @@ impl Deliveries {
         self.rows[at].number
     }
 
+    /// The record at a place: one turn.
+    pub(crate) fn delivery(&mut self, at: usize) -> &Delivery
+        requires within { at < length self.old.rows }
+        requires few { self.old.turns < 2 ^ 64 - 1 }
+        ensures value { slice_get self.old.rows at ≡ Some result.now }
+        ensures* counted { sem 𝓛 (follows_so the_row the_row self.entry.ghost_name none (λ _ _. ⊤) (λ v. v ≡ record self.old { turns = self.old.turns + 1 })) }
+    {
+        self.count.turns += 1;
+        &self.rows[at]
+    }
+
     /// Takes room for more records. On a refusal the table stays as it is.
     pub(crate) fn reserve(&mut self, additional: usize) -> Result<(), AllocError>
         ensures room { OnOk result (length self.new.rows + additional ≤ self.new.capacity) }
@@ -132,7 +158,8 @@ impl Deliveries {
 
     /// Whether all numbers are below this one.
     fn is_last(&self, number: u32) -> bool
-        ensures { IsTrue result → (i : ℕ) → i < length self.now.rows → number_at self.now.rows i < number }
+        ensures last { IsTrue result → (i : ℕ) → i < length self.now.rows → number_at self.now.rows i < number }
+        ensures not_last { result ≡ false → number ≤ number_at self.now.rows (length self.now.rows - 1) }
     {
         match self.rows.back() {
             None => true,
@@ -149,7 +176,7 @@ impl Deliveries {
     {
         let place = self.place_of(delivery.number);
         if self.stands_at(place, delivery.number) {
-            self.rows[place] = delivery;
+            replace(&mut self.rows, place, delivery);
         } else {
             self.rows.insert(place, delivery).unwrap();
         }

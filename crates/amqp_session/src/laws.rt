@@ -1,6 +1,9 @@
-//! What holds over every history of a session: laws, on functions that do nothing.
+//! Laws: what holds over every history of a session, on functions that do nothing; and of the numbers with a direction.
 
-ghost use Rattle.std.specs.Prelude.{List, Option, ◌≡◌, ◌⊎◌, ◌<◌, ◌/◌, true};
+ghost use Rattle.std.specs.Prelude.{List, Option, ◌≡◌, ◌⊎◌, ◌<◌, ◌/◌, nat_eq, true};
+ghost use Rattle.std.specs.List.{fold};
+ghost use Rattle.std.specs.Hash as fed;
+ghost use Rattle.std.specs.Ordering.{nat_cmp};
 ghost use Rattle.amqp_session.specs.declared.frame.SessionOutgoingItem.{SessionOutgoingItem};
 ghost use Rattle.amqp_session.specs.States.{is_mapped};
 ghost use Rattle.amqp_session.specs.Step.{SessionFlowStep};
@@ -8,18 +11,29 @@ ghost use Rattle.amqp_session.specs.Relay.{relays};
 ghost use Rattle.amqp_session.specs.Session.{SessionView};
 ghost use Rattle.amqp_session.specs.History.{Entry, Made, LeadsTo};
 ghost use Rattle.amqp_session.specs.Headline.{Headline, Stands};
+ghost use Rattle.amqp_session.specs.Handed.{OnChannel, calls_frames};
 
+use crate::numbers::{IncomingChannel, InputHandle, OutgoingChannel, OutputHandle};
 use crate::relay::LinkRelay;
+use std::cmp::Ordering;
+use std::hash::{Hash, Hasher};
 
-/// Whatever calls a session has seen, its numbers, its window, what waits and its state are what its history gives; and the
-/// transfers handed out, and then those held back, are all requested ones but untagged, unmapped and memory refusals, in
-/// order, each delivery numbered once, each inside the peer's latest window; after an accepted transfer or mapped Flow one
+/// Whatever calls a session has seen, what it shows is what its history gives: the numbers and windows of both directions,
+/// what waits, the state, the peer's channel, the stop reason and the open deliveries of both roles. And the transfers handed
+/// out, and then those held back, are all requested ones but untagged, unmapped and memory refusals, in order, each delivery
+/// numbered once, on its first frame alone, each inside the peer's latest window; after an accepted transfer or mapped Flow one
 /// waits only while it is used up (AMQP 1.0 part 2, section 2.5.6).
 pub fn law_of_views<R: LinkRelay>()
     ensures stands { let g = relays R.attach_gives R.flow_gives R.transfer_gives R.disposition_gives R.detach_gives in
         (m : Made) (h : List (Entry R)) (v : SessionView R) → LeadsTo g m h v → Stands m h v }
     ensures headline { let g = relays R.attach_gives R.flow_gives R.transfer_gives R.disposition_gives R.detach_gives in
         (m : Made) (h : List (Entry R)) (v : SessionView R) → LeadsTo g m h v → Headline m h }
+{}
+
+/// Every frame that a session hands out, of whatever kind, is on the channel that the session was made with.
+pub fn law_of_channels<R: LinkRelay>()
+    ensures { let g = relays R.attach_gives R.flow_gives R.transfer_gives R.disposition_gives R.detach_gives in
+        (m : Made) (h : List (Entry R)) (v : SessionView R) → LeadsTo g m h v → OnChannel m.channel (calls_frames h) }
 {}
 
 /// After the session was asked for a session flow in `Mapped`, the count of the transfers that came since the last one is 0
@@ -29,3 +43,63 @@ pub fn law_of_session_flows<R: LinkRelay>()
     ensures { (v w : SessionView R) (item : Option SessionOutgoingItem) → SessionFlowStep v item w → is_mapped v.state ≡ true →
         (w.receiving.count ≡ 0) ⊎ (w.receiving.count < v.settings.incoming_window / 2) }
 {}
+
+/// Whether two channels that this side sends on are equal, and how they compare: as their numbers do. The first is
+/// hashed as its number.
+pub fn law_of_outgoing_channels<H: Hasher>(
+    outgoing: OutgoingChannel,
+    other: OutgoingChannel,
+    state: &mut H,
+) -> (bool, Ordering)
+    ensures equality { result.0 ≡ nat_eq outgoing.0 other.0 }
+    ensures order { result.1 ≡ nat_cmp outgoing.0 other.0 }
+    ensures hash { state.new ≡ fold H.write state.old (fed.u16 outgoing.0) }
+{
+    outgoing.hash(state);
+    (outgoing == other, outgoing.cmp(&other))
+}
+
+/// Whether two channels that the peer sends on are equal, and how they compare: as their numbers do. The first is
+/// hashed as its number.
+pub fn law_of_incoming_channels<H: Hasher>(
+    incoming: IncomingChannel,
+    other: IncomingChannel,
+    state: &mut H,
+) -> (bool, Ordering)
+    ensures equality { result.0 ≡ nat_eq incoming.0 other.0 }
+    ensures order { result.1 ≡ nat_cmp incoming.0 other.0 }
+    ensures hash { state.new ≡ fold H.write state.old (fed.u16 incoming.0) }
+{
+    incoming.hash(state);
+    (incoming == other, incoming.cmp(&other))
+}
+
+/// Whether two handles of this side are equal, and how they compare: as their numbers do. The first is
+/// hashed as its number.
+pub fn law_of_output_handles<H: Hasher>(
+    output: OutputHandle,
+    other: OutputHandle,
+    state: &mut H,
+) -> (bool, Ordering)
+    ensures equality { result.0 ≡ nat_eq output.0 other.0 }
+    ensures order { result.1 ≡ nat_cmp output.0 other.0 }
+    ensures hash { state.new ≡ fold H.write state.old (fed.u32 output.0) }
+{
+    output.hash(state);
+    (output == other, output.cmp(&other))
+}
+
+/// Whether two handles of the peer are equal, and how they compare: as their numbers do. The first is
+/// hashed as its number.
+pub fn law_of_input_handles<H: Hasher>(
+    input: InputHandle,
+    other: InputHandle,
+    state: &mut H,
+) -> (bool, Ordering)
+    ensures equality { result.0 ≡ nat_eq input.0 other.0 }
+    ensures order { result.1 ≡ nat_cmp input.0 other.0 }
+    ensures hash { state.new ≡ fold H.write state.old (fed.u32 input.0) }
+{
+    input.hash(state);
+    (input == other, input.cmp(&other))
+}

@@ -4,3 +4,5 @@ pub mod PerformativeLaws
 pub mod FieldCanonical
 pub mod BodyCanonical
 pub mod PerformativeCanonical
+pub mod CutCanonical
+pub mod ItemsWalk

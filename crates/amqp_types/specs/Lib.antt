@@ -12,3 +12,5 @@ pub mod End
 pub mod Close
 pub mod Performatives
 pub mod Held
+pub mod Spelled
+pub mod Items

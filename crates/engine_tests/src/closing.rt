@@ -183,5 +183,6 @@ fn a_pipelined_connection_closes_twice(rt: HostRuntime) -> Result<(), Fail> {
     assert_eq!(rt; *connection.local_state(), ConnectionState::CloseReceived);
     assert!(rt; closes(&mut connection));
     assert_eq!(rt; *connection.local_state(), ConnectionState::End);
+    drop(connection);
     Ok(())
 }

@@ -1,15 +1,15 @@
 //! The example of the README.
 
 use bytes::Bytes;
-use fe2o3_amqp::{Answer, Engine, Input, err_name};
+use fe2o3_amqp::{Answer, Engine, Input, LinkRelay, err_name};
 use std::alloc::Global;
 use std::collections::VecDeque;
 use std::io::{self, ErrorKind, Write};
 
 /// Gives the engine one received frame, without its size; what is to be sent goes to `peer`, and refusals to `log`.
-pub fn received<P: Write, L: Write>(
+pub fn received<R: LinkRelay, P: Write, L: Write>(
     alloc: Global,
-    engine: &mut Engine,
+    engine: &mut Engine<R>,
     frame: Bytes,
     peer: &mut P,
     log: &mut L,

@@ -3,11 +3,14 @@
 use bytes::Bytes;
 use fe2o3_amqp::definitions::Error as AmqpError;
 use fe2o3_amqp::{
-    Answer, Connection, ConnectionState, ConnectionStateError, Engine, Open, Piece, Symbol,
-    err_name, out_line,
+    Answer, Connection, ConnectionState, ConnectionStateError, Engine, Open, Piece, ReplayRelay,
+    Symbol, err_name, out_line,
 };
 use std::alloc::{AllocError, Global};
 use std::test::Fail;
+
+/// An engine whose links are relayed as those of transcripts are.
+pub type ReplayEngine = Engine<ReplayRelay>;
 
 /// Every state of a connection.
 pub const STATES: [ConnectionState; 14] = [
@@ -73,14 +76,30 @@ pub fn plain_open(alloc: Global, name: &str, size: u32, channels: u16) -> Result
     })
 }
 
+/// An Open without a name, with the usual limits, and nothing else.
+pub fn unnamed_open(alloc: Global) -> Open {
+    Open {
+        container_id: String::new(alloc),
+        hostname: None,
+        max_frame_size: 262144,
+        channel_max: 255,
+        idle_time_out: None,
+        outgoing_locales: None,
+        incoming_locales: None,
+        offered_capabilities: None,
+        desired_capabilities: None,
+        properties: None,
+    }
+}
+
+/// A connection in this state, whose Open has no name.
+pub fn unnamed(alloc: Global, state: ConnectionState) -> Connection {
+    Connection::new(alloc, state, unnamed_open(alloc))
+}
+
 /// A connection in this state, whose Open is named `a`.
 pub fn connection(alloc: Global, state: ConnectionState) -> Result<Connection, Fail> {
     Ok(Connection::new(alloc, state, plain_open(alloc, "a", 262144, 255)?))
-}
-
-/// An engine whose connection is that.
-pub fn engine(alloc: Global, state: ConnectionState) -> Result<Engine, Fail> {
-    Ok(Engine::new(alloc, state, plain_open(alloc, "a", 262144, 255)?))
 }
 
 /// An error with this condition, and nothing else.
@@ -120,15 +139,18 @@ fn push_line(text: &mut String, line: &str) -> Result<(), AllocError> {
 }
 
 /// One line for each piece.
-pub fn push_pieces(
-    alloc: Global,
-    text: &mut String,
-    pieces: &Vec<Piece>,
-) -> Result<(), AllocError> {
+fn push_pieces(alloc: Global, text: &mut String, pieces: &Vec<Piece>) -> Result<(), AllocError> {
     for piece in pieces.iter() {
         push_line(text, out_line(alloc, piece)?.as_str())?;
     }
     Ok(())
+}
+
+/// The lines of these pieces.
+pub fn pieces_said(alloc: Global, pieces: &Vec<Piece>) -> Result<String, AllocError> {
+    let mut text = String::new(alloc);
+    push_pieces(alloc, &mut text, pieces)?;
+    Ok(text)
 }
 
 fn push_answer(alloc: Global, text: &mut String, answer: &Answer) -> Result<(), AllocError> {
@@ -150,6 +172,6 @@ pub fn said(alloc: Global, answers: &Vec<Answer>) -> Result<String, AllocError> 
 }
 
 /// The state of an engine's connection.
-pub fn connection_state(engine: &Engine) -> ConnectionState {
+pub fn connection_state(engine: &ReplayEngine) -> ConnectionState {
     *engine.connection().local_state()
 }

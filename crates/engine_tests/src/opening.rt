@@ -80,6 +80,7 @@ fn the_own_open_is_kept(rt: HostRuntime) -> Result<(), Fail> {
     assert_eq!(rt; connection.local_open().container_id.as_str(), "a");
     assert_eq!(rt; connection.local_open().max_frame_size, 262144u32);
     assert_eq!(rt; connection.local_open().channel_max, 255u16);
+    drop(connection);
     Ok(())
 }
 
@@ -93,5 +94,6 @@ fn the_first_stop_reason_stays(rt: HostRuntime) -> Result<(), Fail> {
         connection.connection_stop_reason(),
         Some(ConnectionStopReason::RemoteClosed)
     );
+    drop(connection);
     Ok(())
 }

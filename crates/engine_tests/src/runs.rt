@@ -1,11 +1,11 @@
 //! Whole runs of an engine.
 
-use crate::given::{engine, plain_open, said};
+use crate::asking::{answer, engine_in};
+use crate::given::{ReplayEngine, said, unnamed_open};
 use bytes::Bytes;
 use fe2o3_amqp::{Answer, ConnectionState, Engine, Input};
 use std::alloc::{AllocError, Global};
 use std::collections::VecDeque;
-use std::test::Fail;
 
 /// Received bytes and then a Close.
 fn inputs(alloc: Global, bytes: &'static [u8]) -> Option<VecDeque<Input>> {
@@ -20,7 +20,11 @@ fn inputs(alloc: Global, bytes: &'static [u8]) -> Option<VecDeque<Input>> {
 }
 
 /// The answers to these inputs, if all are taken.
-fn answers(alloc: Global, engine: &mut Engine, mut inputs: VecDeque<Input>) -> Option<Vec<Answer>> {
+fn answers(
+    alloc: Global,
+    engine: &mut ReplayEngine,
+    mut inputs: VecDeque<Input>,
+) -> Option<Vec<Answer>> {
     let mut answers = Vec::new(alloc);
     let outcome = engine.run(&mut inputs, &mut answers);
     if outcome.is_ok() && inputs.is_empty() {
@@ -31,7 +35,11 @@ fn answers(alloc: Global, engine: &mut Engine, mut inputs: VecDeque<Input>) -> O
 }
 
 /// The answers to received bytes and then to a Close.
-fn ran(alloc: Global, engine: &mut Engine, bytes: &'static [u8]) -> Result<String, AllocError> {
+fn ran(
+    alloc: Global,
+    engine: &mut ReplayEngine,
+    bytes: &'static [u8],
+) -> Result<String, AllocError> {
     let Some(inputs) = inputs(alloc, bytes) else {
         return Err(AllocError);
     };
@@ -41,59 +49,73 @@ fn ran(alloc: Global, engine: &mut Engine, bytes: &'static [u8]) -> Result<Strin
     }
 }
 
-#[test]
-fn a_run_takes_all_inputs(rt: HostRuntime) -> Result<(), Fail> {
-    let mut engine = engine(rt.alloc(), ConnectionState::Opened)?;
-    let text = ran(rt.alloc(), &mut engine, b"\x02\x01\0\0")?;
-    assert_eq!(rt;
-        text.as_str(),
-        "NotImplemented\ndone\nout 0200000000531845\n"
-    );
-    Ok(())
+/// Whether the answers to received bytes and then to a Close are these.
+fn runs_to(alloc: Global, engine: &mut ReplayEngine, bytes: &'static [u8], want: &str) -> bool {
+    match ran(alloc, engine, bytes) {
+        Ok(text) => text.as_str() == want,
+        Err(_) => false,
+    }
 }
 
 #[test]
-fn what_waits_is_put_out_first(rt: HostRuntime) -> Result<(), Fail> {
-    let mut engine = engine(rt.alloc(), ConnectionState::HeaderExchange)?;
-    assert!(rt; engine.step(Input::Open).is_ok());
-    let text = ran(rt.alloc(), &mut engine, b"\x02\0\0\0")?;
-    let want =
-        "out 02000000005310c00d04a101614070000400006000ff\ndone\ndone\nout 0200000000531845\n";
-    assert_eq!(rt; text.as_str(), want);
-    Ok(())
+fn a_run_takes_all_inputs(rt: HostRuntime) {
+    let mut engine = engine_in(rt.alloc(), ConnectionState::Opened);
+    let want = "NotImplemented\ndone\nout 0200000000531845\n";
+    assert!(rt; runs_to(rt.alloc(), &mut engine, b"\x02\x01\0\0", want));
+    drop(engine);
 }
 
-/// An engine whose Open has a name of 600 bytes.
-fn long_named(alloc: Global) -> Result<Engine, Fail> {
+#[test]
+fn what_waits_is_put_out_first(rt: HostRuntime) {
+    let mut engine = engine_in(rt.alloc(), ConnectionState::HeaderExchange);
+    assert_eq!(rt; answer(&mut engine, Input::Open), "done");
+    let want = "out 02000000005310c00c04a1004070000400006000ff\ndone\ndone\nout 0200000000531845\n";
+    assert!(rt; runs_to(rt.alloc(), &mut engine, b"\x02\0\0\0", want));
+    drop(engine);
+}
+
+/// A name of 600 bytes.
+fn long_name(alloc: Global) -> Result<String, AllocError> {
     let mut name = String::new(alloc);
     for _ in 0..60 {
         name.push_str("ten bytes.")?;
     }
-    let open = plain_open(alloc, name.as_str(), 262144, 255)?;
-    Ok(Engine::new(alloc, ConnectionState::HeaderExchange, open))
+    Ok(name)
 }
 
-/// Whether the peer's Open is taken, and this side's goes to those that wait.
-fn opens(engine: &mut Engine, peer: &'static [u8]) -> bool {
-    engine
-        .step(Input::Received(Bytes::from_static(peer)))
-        .is_ok()
-        && engine.step(Input::Open).is_ok()
+/// Whether this side's Open does not go out, once the peer's is taken.
+fn limits(alloc: Global, name: String, peer: &'static [u8]) -> bool {
+    let mut open = unnamed_open(alloc);
+    open.container_id = name;
+    let mut engine: ReplayEngine = Engine::new(alloc, ConnectionState::HeaderExchange, open);
+    let is_right = answer(&mut engine, Input::Received(Bytes::from_static(peer))) == "done"
+        && answer(&mut engine, Input::Open) == "done"
+        && runs_to(
+            alloc,
+            &mut engine,
+            b"\x02\0\0\0",
+            "too large\ndone\ndone\nout 0200000000531845\n",
+        );
+    drop(engine);
+    is_right
+}
+
+/// The same, with a name that is too long for the peer.
+fn is_limited(alloc: Global, peer: &'static [u8]) -> bool {
+    match long_name(alloc) {
+        Ok(name) => limits(alloc, name, peer),
+        Err(_) => false,
+    }
 }
 
 #[test]
-fn the_peer_limits_what_goes_out(rt: HostRuntime) -> Result<(), Fail> {
+fn the_peer_limits_what_goes_out(rt: HostRuntime) {
     // max-frame-size 512, and 16, which counts as 512
     let peers: [&'static [u8]; 2] = [
         b"\x02\0\0\0\0\x53\x10\xc0\x0a\x03\xa1\x01p\x40\x70\0\0\x02\0",
         b"\x02\0\0\0\0\x53\x10\xc0\x0a\x03\xa1\x01p\x40\x70\0\0\0\x10",
     ];
     for peer in peers {
-        let mut engine = long_named(rt.alloc())?;
-        assert!(rt; opens(&mut engine, peer));
-        let text = ran(rt.alloc(), &mut engine, b"\x02\0\0\0")?;
-        let want = "too large\ndone\ndone\nout 0200000000531845\n";
-        assert_eq!(rt; text.as_str(), want, "{peer:?}");
+        assert!(rt; is_limited(rt.alloc(), peer), "{peer:?}");
     }
-    Ok(())
 }

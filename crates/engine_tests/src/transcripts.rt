@@ -1,14 +1,13 @@
 //! Transcripts.
 
+use crate::replaying::replays;
 use fe2o3_amqp::frames::Error as FrameError;
-use fe2o3_amqp::{
-    ConnectionInnerError, ConnectionStateError, StepError, err_name, hex_bytes, replay,
-};
+use fe2o3_amqp::{ConnectionInnerError, ConnectionStateError, StepError, err_name, hex_bytes};
 use std::alloc::Global;
 use std::test::Fail;
 
 #[test]
-fn transcripts_are_replayed(rt: HostRuntime) -> Result<(), Fail> {
+fn transcripts_are_replayed(rt: HostRuntime) {
     // lines, output, errors, status
     let rows: [(&'static [u8], &'static [u8], &'static [u8], u8); 12] = [
         (b"", b"", b"", 0),
@@ -40,15 +39,11 @@ fn transcripts_are_replayed(rt: HostRuntime) -> Result<(), Fail> {
         (b"recv 020000070053 1745\n", b"", b"bad line 1\n", 2),
     ];
     for (lines, output, errors, status) in rows {
-        let mut input = lines;
-        let mut written = Vec::new(rt.alloc());
-        let mut told = Vec::new(rt.alloc());
-        let result = replay(rt.alloc(), &mut input, &mut written, &mut told);
-        assert_eq!(rt; result, status, "{lines:?}");
-        assert_eq!(rt; written.as_slice(), output, "{lines:?}");
-        assert_eq!(rt; told.as_slice(), errors, "{lines:?}");
+        assert!(rt;
+            replays(rt.alloc(), lines, output, errors, status),
+            "{lines:?}"
+        );
     }
-    Ok(())
 }
 
 /// Whether the text says these bytes.

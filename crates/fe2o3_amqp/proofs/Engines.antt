@@ -4,10 +4,17 @@ use Rattle.amqp_types.specs.declared.states.ConnectionState.{ConnectionState}
 use Rattle.amqp_session.specs.declared.stop.ConnectionStopReason.{ConnectionStopReason}
 use Rattle.amqp_frames.specs.declared.frame.Frame.{Frame}
 use Rattle.fe2o3_amqp.specs.Connection.{ConnectionView}
-use Rattle.fe2o3_amqp.specs.Engine.{EngineView, has_frames, recorded}
+use Rattle.amqp_session.specs.Session.{SessionView}
+use Rattle.fe2o3_amqp.specs.Waits.{has_frames}
+use Rattle.fe2o3_amqp.specs.EngineView.{EngineView}
+use Rattle.fe2o3_amqp.specs.Engine.{recorded}
 
-pub same_engine : (k k' : ConnectionView) (limit : ℕ) (fs fs' : List Frame) → k ≡ k' → fs ≡ fs' → ◌≡◌ {A = EngineView} (record { connection = k; limit = limit; waiting = fs }) (record { connection = k'; limit = limit; waiting = fs' })
-same_engine k k' limit fs fs' e f = ap (λ x. record { connection = x; limit = limit; waiting = fs }) e ∙ ap (λ (x : List Frame). record { connection = k'; limit = limit; waiting = x }) f
+pub same_engine : {R : Type 0} (k k' : ConnectionView) (es es' : List (ℕ × SessionView R)) (limit : ℕ) (fs fs' : List Frame) → k ≡ k' → es ≡ es' → fs ≡ fs' →
+    ◌≡◌ {A = EngineView R} (record { connection = k; sessions = es; limit = limit; waiting = fs }) (record { connection = k'; sessions = es'; limit = limit; waiting = fs' })
+same_engine k k' es es' limit fs fs' e f h =
+    ap (λ x. record { connection = x; sessions = es; limit = limit; waiting = fs }) e
+    ∙ ap (λ x. record { connection = k'; sessions = x; limit = limit; waiting = fs }) f
+    ∙ ap (λ (x : List Frame). record { connection = k'; sessions = es'; limit = limit; waiting = x }) h
 
 pub recorded_as : (next next' : Option ConnectionState) (r r' : ConnectionStopReason) (k : ConnectionView) → next ≡ next' → r ≡ r' → recorded next r k ≡ recorded next' r' k
 recorded_as next next' r r' k e f = ap (λ x. recorded x r k) e ∙ ap (λ x. recorded next' x k) f

@@ -8,7 +8,9 @@ use Rattle.fe2o3_amqp.specs.declared.engine.input.Input.{Input}
 use Rattle.fe2o3_amqp.specs.declared.engine.input.Answer.{Answer}
 use Rattle.fe2o3_amqp.specs.declared.engine.input.StepError.{StepError}
 use Rattle.fe2o3_amqp.specs.declared.engine.input.Stopped.{Stopped}
-use Rattle.fe2o3_amqp.specs.Engine.{EngineView, Entry, Steps, new_engine}
+use Rattle.amqp_session.specs.Relay.{Relays}
+use Rattle.fe2o3_amqp.specs.EngineView.{EngineView, new_engine}
+use Rattle.fe2o3_amqp.specs.Engine.{Entry, Steps}
 use Rattle.fe2o3_amqp.specs.History.{Taken, Chain, LeadsTo}
 use Rattle.fe2o3_amqp.specs.Output.{PutOut, Speaks, answer_of, limit_by, limit_after}
 use Rattle.fe2o3_amqp.specs.Headline.{Headline, inputs_of, Ran}
@@ -19,42 +21,43 @@ pub empty : {X : Type 0} → (xs : List X) → length xs ≡ 0 → xs ≡ []
 empty [] e = refl
 empty (x ∷ xs) e = absurd (omega arith)
 
-inputs_of-append : (xs ys : List Entry) → inputs_of (xs ++ ys) ≡ inputs_of xs ++ inputs_of ys
+inputs_of-append : {R : Type 0} (xs ys : List (Entry R)) → inputs_of (xs ++ ys) ≡ inputs_of xs ++ inputs_of ys
 inputs_of-append [] ys = refl
 inputs_of-append (e ∷ xs) ys = ap (λ (is' : List Input). e.input ∷ is') (inputs_of-append xs ys)
 
-Taken-none : (v : EngineView) → Taken v v
-Taken-none v = record { gone = []; left = refl; connection_is = refl; limit_is = refl }
+Taken-none : {R : Type 0} (v : EngineView R) → Taken v v
+Taken-none v = record { gone = []; left = refl; connection_is = refl; sessions_is = refl; limit_is = refl }
 
-Taken-more : (u v w : EngineView) → Taken u v → Taken v w → Taken u w
+Taken-more : {R : Type 0} (u v w : EngineView R) → Taken u v → Taken v w → Taken u w
 Taken-more u v w s t = record {
   gone = s.gone ++ t.gone;
   left = s.left ∙ ap (λ (ts : List Frame). s.gone ++ ts) t.left ∙ sym (append_assoc s.gone t.gone w.waiting);
   connection_is = t.connection_is ∙ s.connection_is;
+  sessions_is = t.sessions_is ∙ s.sessions_is;
   limit_is = t.limit_is ∙ s.limit_is;
 }
 
-Chain-later : (u v w : EngineView) (es : List Entry) → Taken u v → Chain v es w → Chain u es w
-Chain-later u v w [] t c = Taken-more u v w t c
-Chain-later u v w (e ∷ es) t c = (c.0, c.1, Taken-more u v c.0 t c.2, c.3, c.4)
+Chain-later : {R : Type 0} (gives : Relays R) (u v w : EngineView R) (es : List (Entry R)) → Taken u v → Chain gives v es w → Chain gives u es w
+Chain-later gives u v w [] t c = Taken-more u v w t c
+Chain-later gives u v w (e ∷ es) t c = (c.0, c.1, Taken-more u v c.0 t c.2, c.3, c.4)
 
-pub Chain-append : (xs ys : List Entry) (u v w : EngineView) → Chain u xs v → Chain v ys w → Chain u (xs ++ ys) w
-Chain-append [] ys u v w c d = Chain-later u v w ys c d
-Chain-append (e ∷ xs) ys u v w c d = (c.0, c.1, c.2, c.3, Chain-append xs ys c.1 v w c.4 d)
+pub Chain-append : {R : Type 0} (gives : Relays R) (xs ys : List (Entry R)) (u v w : EngineView R) → Chain gives u xs v → Chain gives v ys w → Chain gives u (xs ++ ys) w
+Chain-append gives [] ys u v w c d = Chain-later gives u v w ys c d
+Chain-append gives (e ∷ xs) ys u v w c d = (c.0, c.1, c.2, c.3, Chain-append gives xs ys c.1 v w c.4 d)
 
 -- what has been run so far
-pub record Running (v : EngineView) (inputs : List Input) (answers : List Answer) (v' : EngineView) (inputs' : List Input) (answers' : List Answer) : Type 0 where
-  pub entries : List Entry
+pub record Running {R : Type 0} (gives : Relays R) (v : EngineView R) (inputs : List Input) (answers : List Answer) (v' : EngineView R) (inputs' : List Input) (answers' : List Answer) : Type 0 where
+  pub entries : List (Entry R)
   pub taken : inputs ≡ inputs_of entries ++ inputs'
   pub counted : length inputs ≡ length entries + length inputs'
-  pub chain : Chain v entries v'
+  pub chain : Chain gives v entries v'
   pub limit_is : v'.limit ≡ limit_after v.limit entries
   pub out : List Answer
   pub appended : answers' ≡ answers ++ out
   pub said : Speaks v.limit v.waiting entries v'.waiting out
 
-pub Running-start : (v v' : EngineView) (inputs : List Input) (answers answers' out : List Answer) → Taken v v' → answers' ≡ answers ++ out → PutOut v.limit v.waiting v'.waiting out → Running v inputs answers v' inputs answers'
-Running-start v v' inputs answers answers' out t a p = record {
+pub Running-start : {R : Type 0} (gives : Relays R) (v v' : EngineView R) (inputs : List Input) (answers answers' out : List Answer) → Taken v v' → answers' ≡ answers ++ out → PutOut v.limit v.waiting v'.waiting out → Running gives v inputs answers v' inputs answers'
+Running-start gives v v' inputs answers answers' out t a p = record {
   entries = [];
   taken = refl;
   counted = omega arith;
@@ -65,15 +68,15 @@ Running-start v v' inputs answers answers' out t a p = record {
   said = p;
 }
 
-pub Running-more : (v v1 v2 v3 : EngineView) (inputs inputs1 inputs2 : List Input) (answers answers1 answers2 answers3 out : List Answer) (input : Input) (r : Option StepError) →
-    Running v inputs answers v1 inputs1 answers1 → v1.waiting ≡ [] → inputs1 ≡ input ∷ inputs2 →
-    Steps v1 input r v2 → answers2 ≡ answers1 ++ answer_of r ∷ [] →
+pub Running-more : {R : Type 0} (gives : Relays R) (v v1 v2 v3 : EngineView R) (inputs inputs1 inputs2 : List Input) (answers answers1 answers2 answers3 out : List Answer) (input : Input) (r : Option StepError) →
+    Running gives v inputs answers v1 inputs1 answers1 → v1.waiting ≡ [] → inputs1 ≡ input ∷ inputs2 →
+    Steps gives v1 input r v2 → answers2 ≡ answers1 ++ answer_of r ∷ [] →
     Taken v2 v3 → answers3 ≡ answers2 ++ out → PutOut v2.limit v2.waiting v3.waiting out →
-    Running v inputs answers v3 inputs2 answers3
-Running-more v v1 v2 v3 inputs inputs1 inputs2 answers answers1 answers2 answers3 out input r g idle popped step pushed t appended put =
-    let e : Entry = record { input = input; heard = step.0; reached = step.1; refusal = r; frames = step.2 } in
-    let frames : e.frames ≡ v2.waiting = (carried v1 v2 e idle step.3).1 in
-    let limit2 : v2.limit ≡ limit_by (limit_after v.limit g.entries) e = step_limit v1 v2 e idle step.3 ∙ ap (λ k. limit_by k e) g.limit_is in
+    Running gives v inputs answers v3 inputs2 answers3
+Running-more gives v v1 v2 v3 inputs inputs1 inputs2 answers answers1 answers2 answers3 out input r g idle popped step pushed t appended put =
+    let e : Entry _ = record { input = input; heard = step.0; reached = step.1; calls = step.2; refusal = r; frames = step.3 } in
+    let frames : e.frames ≡ v2.waiting = (carried gives v1 v2 e idle step.4).1 in
+    let limit2 : v2.limit ≡ limit_by (limit_after v.limit g.entries) e = step_limit gives v1 v2 e idle step.4 ∙ ap (λ k. limit_by k e) g.limit_is in
     let put2 : PutOut (limit_by (limit_after v.limit g.entries) e) e.frames v3.waiting out =
     subst (λ k. PutOut k e.frames v3.waiting out) limit2 (subst (λ (fs : List Frame). PutOut v2.limit fs v3.waiting out) (sym frames) put) in
     let before : Speaks v.limit v.waiting g.entries [] g.out = subst (λ (fs : List Frame). Speaks v.limit v.waiting g.entries fs g.out) idle g.said in
@@ -81,7 +84,7 @@ Running-more v v1 v2 v3 inputs inputs1 inputs2 answers answers1 answers2 answers
       entries = g.entries ++ e ∷ [];
       taken = g.taken ∙ ap (λ (xs : List Input). inputs_of g.entries ++ xs) popped ∙ sym (append_assoc (inputs_of g.entries) (input ∷ []) inputs2) ∙ ap (λ (xs : List Input). xs ++ inputs2) (sym (inputs_of-append g.entries (e ∷ [])));
       counted = omega (arith, g.counted, length-append g.entries (e ∷ []), ap length popped);
-      chain = Chain-append g.entries (e ∷ []) v v1 v3 g.chain (v1, v2, Taken-none v1, step.3, t);
+      chain = Chain-append gives g.entries (e ∷ []) v v1 v3 g.chain (v1, v2, Taken-none v1, step.4, t);
       limit_is = t.limit_is ∙ limit2 ∙ sym (limit_more v.limit g.entries e);
       out = g.out ++ answer_of r ∷ out;
       appended = appended ∙ ap (λ (xs : List Answer). xs ++ out) (pushed ∙ ap (λ (xs : List Answer). xs ++ answer_of r ∷ []) g.appended)
@@ -89,17 +92,17 @@ Running-more v v1 v2 v3 inputs inputs1 inputs2 answers answers1 answers2 answers
       said = speaks_more v.limit v.waiting g.entries g.out e v3.waiting out before put2;
     }
 
-abbrev pub HeadlineLaw : Type 0
-HeadlineLaw = (state : ConnectionState) (o : OpenSaid) (H : List Entry) (w : EngineView) → LeadsTo state o H w → Headline state H
+abbrev pub HeadlineLaw : {R : Type 0} → Relays R → Type 0
+HeadlineLaw gives = (state : ConnectionState) (o : OpenSaid) (H : List (Entry _)) (w : EngineView _) → LeadsTo gives state o H w → Headline state H
 
-pub Running-Ran : (v v' : EngineView) (inputs inputs' : List Input) (answers answers' : List Answer) (result : Result (Unit {0}) Stopped) → HeadlineLaw →
-    (g : Running v inputs answers v' inputs' answers') → MatchResult result (λ _. (inputs' ≡ []) × (v'.waiting ≡ [])) (λ stopped. stopped.done + length inputs' ≡ length inputs) → Ran v inputs answers result v' inputs' answers'
-Running-Ran v v' inputs inputs' answers answers' result law g m = record {
+pub Running-Ran : {R : Type 0} (gives : Relays R) (v v' : EngineView R) (inputs inputs' : List Input) (answers answers' : List Answer) (result : Result (Unit {0}) Stopped) → HeadlineLaw gives →
+    (g : Running gives v inputs answers v' inputs' answers') → MatchResult result (λ _. (inputs' ≡ []) × (v'.waiting ≡ [])) (λ stopped. stopped.done + length inputs' ≡ length inputs) → Ran gives v inputs answers result v' inputs' answers'
+Running-Ran gives v v' inputs inputs' answers answers' result law g m = record {
   entries = g.entries;
   runs = record {
     taken = g.taken;
     goes_on = λ state o H l.
-        let all : LeadsTo state o (H ++ g.entries) v' = Chain-append H g.entries (new_engine state o) v v' l g.chain in
+        let all : LeadsTo gives state o (H ++ g.entries) v' = Chain-append gives H g.entries (new_engine state o) v v' l g.chain in
         (all, law state o (H ++ g.entries) v' all);
     out = g.out;
     appended = g.appended;

@@ -1,19 +1,25 @@
 -- What contracts see of a connection, and what each of its calls does.
-use Rattle.std.specs.Prelude.{◌≡◌, ℕ, Option, Some, None, IsSome, Result, Ok, Err, min}
+use Rattle.std.specs.Prelude.{◌≡◌, ◌≤◌, ℕ, Bool, true, false, Option, Some, None, IsSome, unwrap_or, Result, Ok, Err, min}
 use Rattle.std.specs.FinMap as map
 use Rattle.amqp_types.specs.declared.states.ConnectionState.{ConnectionState}
 use Rattle.amqp_types.specs.declared.states.ConnectionState.TheVariants.{Opened, CloseReceived}
+use Rattle.amqp_types.specs.declared.states.ConnectionState.TheVariants as at
 use Rattle.amqp_types.specs.Error.{ErrorSaid}
 use Rattle.amqp_types.specs.Open.{OpenSaid}
 use Rattle.amqp_types.specs.Close.{CloseSaid}
 use Rattle.amqp_session.specs.declared.stop.ConnectionStopReason.{ConnectionStopReason}
+use Rattle.amqp_session.specs.declared.stop.ConnectionStopReason.TheVariants.{Closed}
+use Rattle.amqp_session.specs.declared.frame.SessionFrame.{SessionFrame}
 use Rattle.amqp_frames.specs.declared.frame.Frame.{Frame}
 use Rattle.amqp_frames.specs.declared.frame.FrameBody.TheVariants as body
 use Rattle.fe2o3_amqp.specs.declared.connection.error.ConnectionStateError.{ConnectionStateError}
 use Rattle.fe2o3_amqp.specs.declared.connection.error.ConnectionStateError.TheVariants as state
 use Rattle.fe2o3_amqp.specs.declared.connection.error.ConnectionInnerError.{ConnectionInnerError}
 use Rattle.fe2o3_amqp.specs.declared.connection.error.ConnectionInnerError.TheVariants as inner
-use Rattle.fe2o3_amqp.specs.Channels.{Held}
+use Rattle.fe2o3_amqp.specs.declared.connection.error.AllocSessionError.{AllocSessionError}
+use Rattle.fe2o3_amqp.specs.declared.connection.error.AllocSessionError.TheVariants as full
+use Rattle.fe2o3_amqp.specs.declared.numbers.SessionNo.{SessionNo}
+use Rattle.fe2o3_amqp.specs.Channels.{Held, IsLowestFree}
 use Rattle.fe2o3_amqp.specs.States.{sends_open, takes_open, sends_close, sends_close_with_error, takes_close}
 
 pub record ConnectionView : Type 0 where
@@ -81,6 +87,50 @@ abbrev pub IncomingCloseStep : ConnectionView → CloseSaid → Option Connectio
 IncomingCloseStep v c (Some state.IllegalState) w = (takes_close v.state ≡ None) × (w ≡ v)
 IncomingCloseStep v c refusal w = (s : ConnectionState) × (takes_close v.state ≡ Some s) × (refusal ≡ told s c.error) × (w ≡ record v { state = s })
 
+-- ---- channels: the lowest one that is not held goes to a session
+
+-- the states before an Open may go out or come
+abbrev pub is_unopened : ConnectionState → Bool
+is_unopened at.Start = true
+is_unopened at.HeaderSent = true
+is_unopened at.HeaderReceived = true
+is_unopened at.HeaderExchange = true
+is_unopened s = false
+
+-- the states after a Close went out
+abbrev pub has_stopped : ConnectionState → Bool
+has_stopped at.CloseSent = true
+has_stopped at.Discarding = true
+has_stopped at.End = true
+has_stopped s = false
+
+abbrev pub Allots : ConnectionState → Type 0
+Allots s = (is_unopened s ≡ false) × (has_stopped s ≡ false)
+
+abbrev pub AllocateStep : ConnectionView → ℕ → Result ℕ AllocSessionError → ConnectionView → Type 0
+AllocateStep v number (Ok channel) w = Allots v.state × IsLowestFree v.held channel × (channel ≤ v.channel_max) × (w ≡ record v { held = map.insert v.held channel number })
+AllocateStep v number (Err full.ConnectionNotOpened) w = (is_unopened v.state ≡ true) × (w ≡ v)
+AllocateStep v number (Err (full.ConnectionStopped reason)) w = (has_stopped v.state ≡ true) × (reason ≡ unwrap_or v.stop_reason Closed) × (w ≡ v)
+AllocateStep v number (Err full.ChannelMaxReached) w = Allots v.state × ((d : ℕ) → d ≤ v.channel_max → IsSome (map.get v.held d)) × (w ≡ v)
+AllocateStep v number (Err full.OutOfMemory) w = Allots v.state × ((d : ℕ) × IsLowestFree v.held d × (d ≤ v.channel_max)) × (w ≡ v)
+
+-- the session holds the channel
+abbrev pub Holds : ConnectionView → ℕ → ℕ → Type 0
+Holds v channel number = map.get v.held channel ≡ Some number
+
+abbrev pub given_back : ConnectionView → ℕ → ConnectionView
+given_back v channel = record v { held = map.remove v.held channel }
+
+abbrev pub DeallocateStep : ConnectionView → ℕ → Bool → ConnectionView → Type 0
+DeallocateStep v channel true w = IsSome (map.get v.held channel) × (w ≡ given_back v channel)
+DeallocateStep v channel false w = (map.get v.held channel ≡ None) × (w ≡ v)
+
+abbrev pub not_found : ConnectionInnerError
+not_found = inner.NotFound None
+
+abbrev pub not_implemented : ConnectionInnerError
+not_implemented = inner.NotImplemented None
+
 -- ---- routes: the session to which a frame on a channel of the peer's goes
 
 -- the connection accepts a Begin, and makes the route
@@ -110,3 +160,12 @@ RouteStep v channel (Err e) w = ⊥
 abbrev pub refusal_of : {X E : Type 0} → Result X E → Option E
 refusal_of (Ok x) = None
 refusal_of (Err e) = Some e
+
+-- what a call that makes or takes a route answers: the number of the session, with the frame for it
+abbrev pub passed_on : SessionFrame → Result ℕ ConnectionInnerError → Result (SessionNo × SessionFrame) ConnectionInnerError
+passed_on frame (Ok number) = Ok (record { 0 = number }, frame)
+passed_on frame (Err e) = Err e
+
+abbrev pub result_map : {X Y E : Type 0} → (X → Y) → Result X E → Result Y E
+result_map f (Ok x) = Ok (f x)
+result_map f (Err e) = Err e

@@ -2,8 +2,14 @@ pub mod States
 pub mod Channels
 pub mod ConnectionErrors
 pub mod Connection
+pub mod Waits
+pub mod EngineView
+pub mod Sessions
+pub mod SessionCalls
 pub mod Engine
 pub mod History
+pub mod Reach
 pub mod Output
 pub mod Headline
+pub mod ReplayRelay
 pub mod Transcript

@@ -10,7 +10,8 @@ use Rattle.fe2o3_amqp.specs.declared.engine.input.Answer.TheVariants.{Done, Refu
 use Rattle.fe2o3_amqp.specs.declared.engine.input.StepError.{StepError}
 use Rattle.fe2o3_amqp.specs.declared.engine.input.OutputError.{OutputError}
 use Rattle.fe2o3_amqp.specs.declared.engine.input.OutputError.TheVariants as no
-use Rattle.fe2o3_amqp.specs.Engine.{EngineView, Entry, peer_limit}
+use Rattle.fe2o3_amqp.specs.EngineView.{EngineView, peer_limit}
+use Rattle.fe2o3_amqp.specs.Engine.{Entry}
 
 -- ---- the limit: that of the last Open that was accepted
 
@@ -23,10 +24,10 @@ limit_heard limit (Some f) None = limit_said limit f.body
 limit_heard limit (Some f) (Some e) = limit
 limit_heard limit None refusal = limit
 
-abbrev pub limit_by : ℕ → Entry → ℕ
+abbrev pub limit_by : {R : Type 0} → ℕ → Entry R → ℕ
 limit_by limit e = limit_heard limit e.heard e.refusal
 
-abbrev pub limit_after : ℕ → List Entry → ℕ
+abbrev pub limit_after : {R : Type 0} → ℕ → List (Entry R) → ℕ
 limit_after limit [] = limit
 limit_after limit (e ∷ es) = limit_after (limit_by limit e) es
 
@@ -56,7 +57,7 @@ pub record PutOut (limit : ℕ) (waiting waiting' : List Frame) (outs : List Ans
 
 -- All that waited is put out; then come the answer of the first entry and its frames, and so on. After the last entry a
 -- front of its frames is put out, and the others wait.
-abbrev pub Speaks : ℕ → List Frame → List Entry → List Frame → List Answer → Type 0
+abbrev pub Speaks : {R : Type 0} → ℕ → List Frame → List (Entry R) → List Frame → List Answer → Type 0
 Speaks limit waiting [] waiting' out = PutOut limit waiting waiting' out
 Speaks limit waiting (e ∷ es) waiting' out = (first : List Answer) × (rest : List Answer) × (out ≡ first ++ (answer_of e.refusal ∷ rest))
     × IsOuts limit waiting first × Speaks (limit_by limit e) e.frames es waiting' rest
@@ -68,12 +69,12 @@ abbrev pub FirstFits : ℕ → List Frame → Type 0
 FirstFits limit [] = ⊥
 FirstFits limit (f ∷ fs) = Fits f limit
 
-abbrev pub NextOutput : {X : Type 0} → (X → List PieceParts) → EngineView → Result (Option X) OutputError → EngineView → Type 0
+abbrev pub NextOutput : {R X : Type 0} → (X → List PieceParts) → EngineView R → Result (Option X) OutputError → EngineView R → Type 0
 NextOutput view v (Ok None) w = (v.waiting ≡ []) × (w ≡ v)
 NextOutput view v (Ok (Some x)) w = (f : Frame) × (fs : List Frame) × (v.waiting ≡ f ∷ fs) × Fits f v.limit × Cut f v.limit (view x) × (w ≡ record v { waiting = fs })
 NextOutput view v (Err (no.TooLarge g)) w = (fs : List Frame) × (v.waiting ≡ g ∷ fs) × (¬ Fits g v.limit) × (w ≡ record v { waiting = fs })
 NextOutput view v (Err no.Memory) w = FirstFits v.limit v.waiting × (w ≡ v)
 
-abbrev pub NextAnswer : EngineView → Option Answer → EngineView → Type 0
+abbrev pub NextAnswer : {R : Type 0} → EngineView R → Option Answer → EngineView R → Type 0
 NextAnswer v (Some a) w = (f : Frame) × (fs : List Frame) × (v.waiting ≡ f ∷ fs) × IsOut v.limit f a × (w ≡ record v { waiting = fs })
 NextAnswer v None w = w ≡ v

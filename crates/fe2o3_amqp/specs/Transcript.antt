@@ -8,6 +8,12 @@ use Rattle.fe2o3_amqp.specs.declared.connection.error.ConnectionStateError.{Conn
 use Rattle.fe2o3_amqp.specs.declared.connection.error.ConnectionStateError.TheVariants as state
 use Rattle.fe2o3_amqp.specs.declared.connection.error.ConnectionInnerError.{ConnectionInnerError}
 use Rattle.fe2o3_amqp.specs.declared.connection.error.ConnectionInnerError.TheVariants as inner
+use Rattle.fe2o3_amqp.specs.declared.connection.error.AllocSessionError.{AllocSessionError}
+use Rattle.fe2o3_amqp.specs.declared.connection.error.AllocSessionError.TheVariants as full
+use Rattle.amqp_session.specs.declared.error.SessionStateError.{SessionStateError}
+use Rattle.amqp_session.specs.declared.error.SessionStateError.TheVariants as begun
+use Rattle.amqp_session.specs.declared.error.SessionInnerError.{SessionInnerError}
+use Rattle.amqp_session.specs.declared.error.SessionInnerError.TheVariants as session
 use Rattle.fe2o3_amqp.specs.declared.engine.input.StepError.{StepError}
 use Rattle.fe2o3_amqp.specs.declared.engine.input.StepError.TheVariants as no
 
@@ -44,10 +50,39 @@ inner_name inner.RemoteClosed = codes "RemoteClosed"
 inner_name (inner.RemoteClosedWithError e) = codes "RemoteClosedWithError"
 inner_name inner.OutOfMemory = codes "OutOfMemory"
 
+abbrev pub alloc_name : AllocSessionError → List ℕ
+alloc_name full.ConnectionNotOpened = codes "ConnectionNotOpened"
+alloc_name (full.ConnectionStopped reason) = codes "ConnectionStopped"
+alloc_name full.ChannelMaxReached = codes "ChannelMaxReached"
+alloc_name full.OutOfMemory = codes "OutOfMemory"
+
+abbrev pub session_state_name : SessionStateError → List ℕ
+session_state_name begun.IllegalState = codes "IllegalState"
+session_state_name (begun.ConnectionStopped reason) = codes "ConnectionStopped"
+session_state_name begun.RemoteEnded = codes "RemoteEnded"
+session_state_name (begun.RemoteEndedWithError e) = codes "RemoteEndedWithError"
+session_state_name begun.OutOfMemory = codes "OutOfMemory"
+
+abbrev pub session_name : SessionInnerError → List ℕ
+session_name session.UnattachedHandle = codes "UnattachedHandle"
+session_name session.RemoteAttachingLinkNameNotFound = codes "RemoteAttachingLinkNameNotFound"
+session_name session.HandleInUse = codes "HandleInUse"
+session_name session.IllegalState = codes "IllegalState"
+session_name (session.ConnectionStopped reason) = codes "ConnectionStopped"
+session_name session.TransferFrameToSender = codes "TransferFrameToSender"
+session_name session.RemoteEnded = codes "RemoteEnded"
+session_name (session.RemoteEndedWithError e) = codes "RemoteEndedWithError"
+session_name session.UnknownTxnId = codes "UnknownTxnId"
+session_name session.OutOfMemory = codes "OutOfMemory"
+
 abbrev pub name_of : StepError → List ℕ
 name_of no.OutputWaiting = codes "OutputWaiting"
 name_of (no.Frame e) = frame_name e
 name_of (no.ConnectionState e) = state_name e
 name_of (no.Connection e) = inner_name e
+name_of (no.AllocSession e) = alloc_name e
+name_of (no.SessionState e) = session_state_name e
+name_of (no.Session e) = session_name e
+name_of no.SessionInUse = codes "SessionInUse"
 name_of no.NoSession = codes "NoSession"
 name_of no.OutOfMemory = codes "OutOfMemory"

@@ -7,13 +7,18 @@ ghost use Rattle.fe2o3_amqp.specs.Connection.{new_connection, stopped};
 mod channels;
 pub mod error;
 mod open_close;
+pub mod opening;
 mod routes;
 mod routing;
+mod sessions;
 
 use amqp_session::ConnectionStopReason;
 use amqp_types::{ConnectionState, Open};
 use channels::Channels;
-pub use error::{ConnectionInnerError, ConnectionStateError};
+pub use error::{
+    AllocSessionError, ConnectionInnerError, ConnectionStateError, Error, TryCloseError,
+};
+pub use opening::{NegotiationError, OpenError};
 use routes::Routes;
 use std::alloc::Global;
 use std::marker::Model;

@@ -1,7 +1,11 @@
 //! The engine: received frames and local requests go in, the bytes of frames come out.
 
-ghost use Rattle.std.specs.Prelude.{◌≡◌};
-ghost use Rattle.fe2o3_amqp.specs.Engine.{new_engine, Steps, own_limit, has_frames};
+ghost use Rattle.std.specs.Prelude.{◌≡◌, Some, IfSome, is_some, nat_eq};
+ghost use Rattle.std.specs.Map.{lookup};
+ghost use Rattle.amqp_session.specs.Relay.{relays};
+ghost use Rattle.fe2o3_amqp.specs.Waits.{has_frames};
+ghost use Rattle.fe2o3_amqp.specs.EngineView.{new_engine, own_limit};
+ghost use Rattle.fe2o3_amqp.specs.Engine.{Steps};
 ghost use Rattle.fe2o3_amqp.specs.Connection.{refusal_of};
 
 pub mod input;
@@ -9,36 +13,43 @@ mod output;
 mod received;
 mod requested;
 mod run;
+mod sessions;
+mod waiting;
 
 use crate::connection::Connection;
-use amqp_frames::{Frame, FrameDecoder, FrameEncoder};
+use crate::numbers::SessionNo;
+use amqp_frames::{FrameDecoder, FrameEncoder};
+use amqp_session::{LinkRelay, Session};
 use amqp_types::{ConnectionState, Open};
+use indexmap::IndexMap;
 pub use input::{Answer, Input, OutputError, StepError, Stopped};
 use std::alloc::Global;
-use std::collections::VecDeque;
 use std::marker::Model;
+use waiting::Waiting;
 
-/// A connection with its frames: what the peer sends and what this side wants go in, and what is to be sent comes out, or
-/// why it is refused (AMQP 1.0 part 2, sections 2.3 and 2.4). It does no input or output itself.
+/// A connection with its sessions and its frames: what the peer sends and what this side wants go in, and what is to be sent
+/// comes out, or why it is refused (AMQP 1.0 part 2, sections 2.3 to 2.5). It does no input or output itself. `R` relays
+/// what comes for the links of its sessions.
 #[derive(Drop)]
-pub struct Engine {
+pub struct Engine<R> {
     alloc: Global,
     connection: Connection,
+    sessions: IndexMap<u32, Session<R>>,
     decoder: FrameDecoder,
     encoder: FrameEncoder,
-    waiting: VecDeque<Frame>,
+    waiting: Waiting,
 }
 
-impl Model for Engine {
+impl<R> Model for Engine<R> {
     ghost use Rattle.std.specs.Coded.{codes};
     ghost use Rattle.fe2o3_amqp.specs.Channels.{held_code};
-    ghost use Rattle.fe2o3_amqp.specs.Engine.{EngineView};
+    ghost use Rattle.fe2o3_amqp.specs.EngineView.{EngineView};
 
-    ghost Value = { EngineView };
+    ghost Value = { EngineView R };
 
     ghost coded = { Prim.hlevel (codes, held_code) };
 
-    ghost view = { λ e. record { connection = e.connection; limit = e.encoder; waiting = e.waiting.items } };
+    ghost view = { λ e. record { connection = e.connection; sessions = e.sessions.entries; limit = e.encoder; waiting = e.waiting } };
 }
 
 /// The limit of a piece before the peer's Open.
@@ -48,10 +59,10 @@ fn first_limit(local_open: &Open) -> u32
     local_open.max_frame_size.saturating_sub(4).max(4)
 }
 
-impl Engine {
-    /// An engine whose connection is in this state and is to send this Open. Until the peer's Open is accepted, a piece
-    /// has at most the `max_frame_size` of `local_open` less four bytes, and never less than four.
-    pub fn new(alloc: Global, state: ConnectionState, local_open: Open) -> Engine
+impl<R: LinkRelay> Engine<R> {
+    /// An engine whose connection is in this state and is to send this Open, with no session. Until the peer's Open is
+    /// accepted, a piece has at most the `max_frame_size` of `local_open` less four bytes, and never less than four.
+    pub fn new(alloc: Global, state: ConnectionState, local_open: Open) -> Engine<R>
         ensures { result ≡ new_engine state local_open }
     {
         Engine {
@@ -59,7 +70,8 @@ impl Engine {
             encoder: FrameEncoder::new(first_limit(&local_open)),
             decoder: FrameDecoder::new(),
             connection: Connection::new(alloc, state, local_open),
-            waiting: VecDeque::new(alloc),
+            sessions: IndexMap::new(alloc),
+            waiting: Waiting::none(alloc),
         }
     }
 
@@ -70,21 +82,31 @@ impl Engine {
         &self.connection
     }
 
+    /// The session with this number, if it was begun. It stays, also when it has ended.
+    pub fn session(&self, number: SessionNo) -> Option<&Session<R>>
+        ensures found { IfSome result (λ s. lookup (nat_eq number.0) self.now.sessions ≡ Some s.now) }
+        ensures known { is_some result ≡ is_some (lookup (nat_eq number.0) self.now.sessions) }
+    {
+        self.sessions.get(&number.0)
+    }
+
     /// Whether frames wait to be put out.
     pub fn has_output(&self) -> bool
         ensures { result ≡ has_frames self.now.waiting }
     {
-        !self.waiting.is_empty()
+        self.waiting.has_frames()
     }
 
-    /// Takes one input: the connection does what it asks, and the frames that this hands out wait to be put out.
+    /// Takes one input: connection and sessions do what it asks, and the frames that this hands out wait to be put out.
     ///
-    /// `OutputWaiting` where frames still wait; `OutOfMemory` where memory is refused before anything was done: nothing
-    /// has then changed. `Frame` where received bytes are no frame. Every other refusal is that of the connection.
+    /// `OutputWaiting` where frames still wait, and nothing has then changed. `Frame` where received bytes are no frame,
+    /// `OutOfMemory` where memory is refused before anything was done, `NoSession` and `SessionInUse` where no session has
+    /// the number, or one has it: nothing has then changed. Every other refusal is that of the connection or the session.
     pub fn step(&mut self, input: Input) -> Result<(), StepError>
-        ensures { Steps self.old input (refusal_of result) self.new }
+        ensures { Steps (relays R.attach_gives R.flow_gives R.transfer_gives R.disposition_gives R.detach_gives) self.old input (refusal_of result) self.new }
     {
         if self.has_output() {
+            drop(input);
             return Err(StepError::OutputWaiting);
         }
         self.carry_out(input)

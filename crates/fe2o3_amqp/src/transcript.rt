@@ -2,6 +2,7 @@
 
 mod line;
 mod names;
+pub mod relay;
 
 use crate::definitions::{DEFAULT_CHANNEL_MAX, DEFAULT_MAX_FRAME_SIZE};
 use crate::engine::{Answer, Engine, Input};
@@ -9,6 +10,7 @@ use amqp_types::{ConnectionState, Open};
 pub use line::{hex_bytes, out_line};
 use line::{Asked, asked_by, text_of};
 pub use names::err_name;
+pub use relay::ReplayRelay;
 use std::alloc::{AllocError, Global};
 use std::collections::VecDeque;
 use std::io::{self, BufRead, ErrorKind, Write};
@@ -26,7 +28,11 @@ const FAILED: u8 = 3;
 ///
 /// The engine is in `HeaderExchange`; its Open has the container-id `replay`, the max-frame-size 262144, the channel-max
 /// 255 and nothing else. A line ends at a line feed. An empty line is skipped; `recv HEX` is a received frame without its
-/// size, with digits in either case; `open` and `close` ask for this side's Open and Close.
+/// size, with digits in either case; `open` and `close` ask for this side's Open and Close. `begin N` begins session N, with
+/// default settings; `end N` ends it without an error; `release N` gives its channel back. `send N HEX` has session N send
+/// one performative with what follows it, which is a Flow that names a link or a Transfer: the input handle has the number
+/// of the transfer's handle, it is the first of its delivery exactly where it has a tag, and what follows is its payload.
+/// N is a decimal number to 4294967295. Links are relayed by a [`ReplayRelay`].
 ///
 /// `output` gets `out HEX`, in lower case, for each piece, `err NAME` for each refusal, and `err TooLarge` for a frame
 /// that does not fit the peer's limit. What belongs to a line is written, and flushed, before the next line is read.
@@ -77,7 +83,7 @@ fn replay_lines<I: BufRead, O: Write>(
     Err(io::Error::from(ErrorKind::Other))
 }
 
-fn new_engine(alloc: Global) -> Result<Engine, AllocError> {
+fn new_engine(alloc: Global) -> Result<Engine<ReplayRelay>, AllocError> {
     let open = Open {
         container_id: String::from_str(alloc, "replay")?,
         hostname: None,
@@ -96,7 +102,7 @@ fn new_engine(alloc: Global) -> Result<Engine, AllocError> {
 /// Gives the engine one input, and writes what it answers.
 fn answer<O: Write>(
     alloc: Global,
-    engine: &mut Engine,
+    engine: &mut Engine<ReplayRelay>,
     input: Input,
     output: &mut O,
 ) -> io::Result<()> {

@@ -93,6 +93,13 @@ fn the_room_beside_a_transfer(rt: HostRuntime) {
 }
 
 #[test]
+fn a_copy_of_an_encoder_has_its_limit(rt: HostRuntime) -> Result<(), Fail> {
+    let copy = FrameEncoder::new(24).clone()?;
+    assert_eq!(rt; copy.payload_room(&delivery(0)), Some(4));
+    Ok(())
+}
+
+#[test]
 fn a_piece_as_one_run_of_bytes(rt: HostRuntime) -> Result<(), Fail> {
     let alloc = rt.alloc();
     let pieces = pieces(alloc, 24, continuation(false), payload(alloc, 2)?)?;

@@ -2,9 +2,9 @@
 
 use crate::given::{delivery, is_said};
 use amqp_frames::{Error, Frame, FrameBody, FrameDecoder};
-use amqp_types::{Begin, Close, Detach, Error as Reason, Handle, Open, Symbol};
+use amqp_types::{Begin, Close, Detach, Error as Reason, Handle, Open, ReadError, Symbol};
 use bytes::Bytes;
-use std::alloc::Global;
+use std::alloc::{AllocError, Global};
 use std::test::Fail;
 
 fn open(alloc: Global) -> Result<Open, Fail> {
@@ -152,6 +152,13 @@ fn bytes_that_are_no_frame(rt: HostRuntime) {
             Err(error) => assert_eq!(rt; error, want, "{bytes:?}"),
         }
     }
+}
+
+#[test]
+fn errors_of_reading_and_of_memory(rt: HostRuntime) {
+    assert_eq!(rt; Error::from(ReadError::Malformed), Error::DecodeError);
+    assert_eq!(rt; Error::from(ReadError::OutOfMemory), Error::OutOfMemory);
+    assert_eq!(rt; Error::from(AllocError), Error::OutOfMemory);
 }
 
 #[test]

@@ -78,6 +78,14 @@ fn fields_have_their_values_and_defaults(rt: HostRuntime) -> Result<(), Fail> {
             r#"Begin(Begin { remote_channel: Some(1), next_outgoing_id: 0, incoming_window: 0, outgoing_window: 0, handle_max: Handle(4294967295), offered_capabilities: None, desired_capabilities: None, properties: None })"#,
         ),
         (
+            "005311 c00b06 40 43 5201 5208 40 a30178",
+            r#"Begin(Begin { remote_channel: None, next_outgoing_id: 0, incoming_window: 1, outgoing_window: 8, handle_max: Handle(4294967295), offered_capabilities: Some([Symbol("x")]), desired_capabilities: None, properties: None })"#,
+        ),
+        (
+            "005311 c00b06 40 43 5201 5208 40 e00100",
+            r#"Begin(Begin { remote_channel: None, next_outgoing_id: 0, incoming_window: 1, outgoing_window: 8, handle_max: Handle(4294967295), offered_capabilities: Some([]), desired_capabilities: None, properties: None })"#,
+        ),
+        (
             "005312 c01f0e a10161 5203 41 5000 5001 45 00532845 c10100 41 43 44 a30178 e00100 c10100",
             r#"Attach(Attach { name: "a", handle: Handle(3), role: Receiver, snd_settle_mode: Unsettled, rcv_settle_mode: Second, source: Some(Raw { bytes: b"E" }), target: Some(Raw { bytes: b"\0S(E" }), unsettled: Some(Fields { raw: Raw { bytes: b"\xc1\x01\0" } }), incomplete_unsettled: true, initial_delivery_count: Some(0), max_message_size: Some(0), offered_capabilities: Some([Symbol("x")]), desired_capabilities: Some([]), properties: Some(Fields { raw: Raw { bytes: b"\xc1\x01\0" } }) })"#,
         ),

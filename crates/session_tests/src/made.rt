@@ -4,9 +4,10 @@ use amqp_session::{
     InputHandle, LinkRelay, OutgoingChannel, Session, SessionFrame, SessionFrameBody,
     SessionInnerError, SessionOutgoingItem, SessionSettings,
 };
-use amqp_types::{Begin, DeliveryTag, Flow, Handle, SessionState, Transfer};
+use amqp_types::{Begin, DeliveryTag, End, Error, Flow, Handle, SessionState, Symbol, Transfer};
 use bytes::Bytes;
 use std::alloc::Global;
+use std::test::Fail;
 
 /// A session of default settings on channel 0 in a state.
 pub fn session<R: LinkRelay>(alloc: Global, state: SessionState) -> Session<R> {
@@ -32,15 +33,42 @@ pub fn session_from<R: LinkRelay>(
 
 /// A mapped session with an incoming window.
 pub fn session_of_window<R: LinkRelay>(alloc: Global, incoming_window: u32) -> Session<R> {
+    session_with_window(alloc, SessionState::Mapped, incoming_window)
+}
+
+/// A session with an incoming window, in a state.
+pub fn session_with_window<R: LinkRelay>(
+    alloc: Global,
+    state: SessionState,
+    incoming_window: u32,
+) -> Session<R> {
     let mut settings = SessionSettings::new();
     settings.incoming_window = incoming_window;
-    Session::new(
-        alloc,
-        settings,
-        OutgoingChannel(0),
-        SessionState::Mapped,
-        None,
-    )
+    Session::new(alloc, settings, OutgoingChannel(0), state, None)
+}
+
+/// A session on channel 3, in a state: number 7 first, windows 2 and 4, handles up to 9.
+pub fn session_of<R: LinkRelay>(alloc: Global, state: SessionState) -> Session<R> {
+    let mut settings = SessionSettings::new();
+    settings.next_outgoing_id = 7;
+    settings.incoming_window = 2;
+    settings.outgoing_window = 4;
+    settings.handle_max = Handle(9);
+    Session::new(alloc, settings, OutgoingChannel(3), state, None)
+}
+
+/// An End with an error of this condition.
+pub fn end_with(alloc: Global, condition: &str) -> Result<End, Fail> {
+    match Symbol::new(String::from_str(alloc, condition)?) {
+        Some(condition) => Ok(End {
+            error: Some(Error {
+                condition,
+                description: None,
+                info: None,
+            }),
+        }),
+        None => Err(Fail::new("no such value")),
+    }
 }
 
 /// A Begin that answers channel 0 and has a window.
@@ -92,12 +120,13 @@ pub fn transfer(tag: Option<&'static [u8]>) -> Transfer {
 }
 
 /// What a call answered: the delivery-ids of its frames, or why it was refused.
-#[derive(Clone, Copy, Debug, PartialEq, Eq)]
+#[derive(Clone, Copy, PartialEq)]
 pub enum Answer {
     /// For each of the first four frames its delivery-id: NONE where it has none, ABSENT where there is no frame.
     Out([u32; 4]),
     Illegal,
     Unattached,
+    OutOfMemory,
     Refused,
 }
 
@@ -144,6 +173,7 @@ fn said(answer: Result<Option<SessionOutgoingItem>, SessionInnerError>) -> Answe
         Ok(item) => Answer::Out(ids(&item)),
         Err(SessionInnerError::IllegalState) => Answer::Illegal,
         Err(SessionInnerError::UnattachedHandle) => Answer::Unattached,
+        Err(SessionInnerError::OutOfMemory) => Answer::OutOfMemory,
         Err(_error) => Answer::Refused,
     }
 }

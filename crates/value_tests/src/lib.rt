@@ -2,8 +2,12 @@
 #![tactic(auto)]
 
 #[cfg(test)]
+mod hostile;
+#[cfg(test)]
 mod outcomes;
 #[cfg(test)]
 mod parts;
 #[cfg(test)]
 mod raw_values;
+#[cfg(test)]
+mod symbols;

@@ -1,8 +1,12 @@
 //! What an engine is given, and what it answers.
 
-use crate::connection::{ConnectionInnerError, ConnectionStateError};
+use crate::connection::{AllocSessionError, ConnectionInnerError, ConnectionStateError};
+use crate::numbers::SessionNo;
 use amqp_frames::{Error as FrameError, Frame, Piece};
-use amqp_types::Error;
+use amqp_session::{
+    InputHandle, LinkFlow, SessionInnerError, SessionSettings, SessionStateError, SessionStopReason,
+};
+use amqp_types::{Error, Transfer};
 use bytes::Bytes;
 
 /// A received frame, or a local request.
@@ -14,6 +18,20 @@ pub enum Input {
     Open,
     /// This side's Close is to be sent, with an error or without.
     Close(Option<Error>),
+    /// A session is begun, under a number that no session of the engine had, on the lowest channel that is free.
+    Begin(SessionNo, SessionSettings),
+    /// The session is ended, with an error or without, or the peer's End is answered.
+    End(SessionNo, Option<Error>),
+    /// A flow of a link of the session is to be sent.
+    Flow(SessionNo, LinkFlow),
+    /// A transfer of the link of the input handle is to be sent, with its payload: the first of its delivery, or a later
+    /// one.
+    Transfer(SessionNo, InputHandle, Transfer, Bytes, bool),
+    /// The session's channel is given back, for another session. Callers do so after the exchange of End: frames of the
+    /// session would still carry the channel.
+    Release(SessionNo),
+    /// Why the session stopped is recorded, where no reason is recorded yet.
+    Stop(SessionNo, SessionStopReason),
 }
 
 /// Why an input is refused.
@@ -31,9 +49,21 @@ pub enum StepError {
     /// The connection does not pass the frame on to a session.
     #[error("{0}")]
     Connection(ConnectionInnerError),
-    /// No session has this number.
+    /// The session gets no channel. Nothing has changed.
+    #[error("{0}")]
+    AllocSession(AllocSessionError),
+    /// The session's state does not take this, or the peer ended it.
+    #[error("{0}")]
+    SessionState(SessionStateError),
+    /// The session, or the relay of one of its links, refuses this.
+    #[error("{0}")]
+    Session(SessionInnerError),
+    /// No session has this number. Nothing has changed.
     #[error("no session")]
     NoSession,
+    /// A session of this number is there. Nothing has changed.
+    #[error("session in use")]
+    SessionInUse,
     /// Memory was refused before anything was done. Nothing has changed.
     #[error("out of memory")]
     OutOfMemory,

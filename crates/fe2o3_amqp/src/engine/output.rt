@@ -8,9 +8,10 @@ ghost use Rattle.fe2o3_amqp.specs.Output.{NextOutput, NextAnswer, PutOut};
 use super::Engine;
 use super::input::{Answer, OutputError};
 use amqp_frames::{Error, Piece};
+use amqp_session::LinkRelay;
 use std::alloc::AllocError;
 
-impl Engine {
+impl<R: LinkRelay> Engine<R> {
     /// Takes out the first frame that waits, as the pieces that are to be sent for it, in order; `None` where none waits.
     ///
     /// `TooLarge` hands back a frame that does not fit the limit, whole or cut; it waits no longer. `Memory` where memory
@@ -18,17 +19,15 @@ impl Engine {
     pub fn next_output(&mut self) -> Result<Option<Vec<Piece>>, OutputError>
         ensures { NextOutput (λ v. v.items) self.old result self.new }
     {
-        let Some(frame) = self.waiting.front() else {
+        let Some(frame) = self.waiting.first() else {
             return Ok(None);
         };
         match self.encoder.encode(self.alloc, frame) {
             Ok(pieces) => {
-                drop(self.waiting.pop_front().unwrap());
+                drop(self.waiting.take().unwrap());
                 Ok(Some(pieces))
             }
-            Err(Error::TooLarge) => {
-                Err(OutputError::TooLarge(self.waiting.pop_front().unwrap()))
-            }
+            Err(Error::TooLarge) => { Err(OutputError::TooLarge(self.waiting.take().unwrap())) }
             Err(_) => Err(OutputError::Memory),
         }
     }

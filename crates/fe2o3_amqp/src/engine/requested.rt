@@ -1,15 +1,29 @@
 //! Local requests: what this side wants to be sent.
 
-ghost use Rattle.std.specs.Prelude.{◌≡◌, ℕ, Option, Some, None, []};
+ghost use Rattle.std.specs.Prelude.{◌≡◌, ℕ, Option, Some, None, List, [], ◌<◌, ◌^◌};
+ghost use Rattle.amqp_types.specs.declared.states.SessionState.TheVariants.{Unmapped};
+ghost use Rattle.amqp_session.specs.Session.{new_session};
 ghost use Rattle.amqp_frames.specs.declared.frame.Frame.{Frame};
 ghost use Rattle.amqp_session.specs.declared.stop.ConnectionStopReason.{ConnectionStopReason};
+ghost use Rattle.amqp_session.specs.Relay.{relays};
+ghost use Rattle.amqp_session.specs.History as session;
 ghost use Rattle.fe2o3_amqp.specs.Connection.{refusal_of};
+ghost use Rattle.fe2o3_amqp.specs.Sessions.{Does, BeginRequest, BegunStep, ReleaseRequest};
+ghost use Rattle.fe2o3_amqp.specs.SessionCalls.{asks};
 ghost use Rattle.fe2o3_amqp.specs.Engine.{OpenRequest, CloseRequest, Carries, close_reason};
 
 use super::Engine;
 use super::input::{Input, StepError};
-use amqp_session::ConnectionStopReason;
-use amqp_types::Error;
+use super::sessions::{SessionCall, ask};
+use super::waiting::Waiting;
+use crate::connection::ConnectionInnerError;
+use crate::numbers::SessionNo;
+use amqp_session::{
+    ConnectionStopReason, LinkRelay, OutgoingChannel, Session, SessionFrame, SessionOutgoingItem,
+    SessionSettings, SessionStateError,
+};
+use amqp_types::{Error, SessionState};
+use std::alloc::Global;
 
 /// Why the connection stops with a Close of this side.
 fn reason_of(error: &Option<Error>) -> ConnectionStopReason
@@ -21,15 +35,44 @@ fn reason_of(error: &Option<Error>) -> ConnectionStopReason
     }
 }
 
-impl Engine {
+/// A new session that has sent its Begin, and the frame.
+fn begun<R: LinkRelay>(
+    alloc: Global,
+    settings: SessionSettings,
+    channel: OutgoingChannel,
+    stop: Option<ConnectionStopReason>,
+) -> Result<(Session<R>, SessionFrame), SessionStateError>
+    ensures begun { BegunStep (new_session settings channel.0 Unmapped stop) result }
+    ensures fits { settings.next_outgoing_id < 2 ^ 32 }
+{
+    let mut session = Session::new(alloc, settings, channel, SessionState::Unmapped, stop);
+    match session.send_begin() {
+        Ok(frame) => Ok((session, frame)),
+        Err(error) => {
+            drop(session);
+            Err(error)
+        }
+    }
+}
+
+impl<R: LinkRelay> Engine<R> {
     pub(super) fn carry_out(&mut self, input: Input) -> Result<(), StepError>
         requires { self.old.waiting ≡ [] }
-        ensures { (heard : Option Frame) × (reached : Option ℕ) × Carries self.old input heard reached (refusal_of result) self.new }
+        ensures { (heard : Option Frame) × (reached : Option ℕ) × (calls : List (session.Entry R)) × Carries (relays R.attach_gives R.flow_gives R.transfer_gives R.disposition_gives R.detach_gives) self.old input heard reached calls (refusal_of result) self.new }
     {
         match input {
             Input::Received(bytes) => self.receive(bytes),
             Input::Open => self.request_open(),
             Input::Close(error) => self.request_close(error),
+            Input::Begin(number, settings) => self.request_begin(number.0, settings),
+            Input::End(number, error) => self.ask_session(number.0, SessionCall::End(error)),
+            Input::Flow(number, flow) => self.ask_session(number.0, SessionCall::Flow(flow)),
+            Input::Transfer(number, input, transfer, payload, is_first) => {
+                let call = SessionCall::Transfer(input, transfer, payload, is_first);
+                self.ask_session(number.0, call)
+            }
+            Input::Release(number) => self.request_release(number.0),
+            Input::Stop(number, reason) => self.ask_session(number.0, SessionCall::Stop(reason)),
         }
     }
 
@@ -37,12 +80,9 @@ impl Engine {
         requires { self.old.waiting ≡ [] }
         ensures { OpenRequest self.old (refusal_of result) self.new }
     {
-        let Ok(()) = self.waiting.reserve(1) else {
-            return Err(StepError::OutOfMemory);
-        };
         match self.connection.send_open() {
             Ok(frame) => {
-                self.waiting.push_back(frame).unwrap();
+                self.waiting.put(Waiting::one(self.alloc, frame));
                 Ok(())
             }
             Err(error) => Err(StepError::ConnectionState(error)),
@@ -53,17 +93,84 @@ impl Engine {
         requires { self.old.waiting ≡ [] }
         ensures { CloseRequest self.old error (refusal_of result) self.new }
     {
-        let Ok(()) = self.waiting.reserve(1) else {
-            return Err(StepError::OutOfMemory);
-        };
         let reason = reason_of(&error);
         match self.connection.send_close(error) {
             Ok(frame) => {
                 self.connection.set_connection_stop_reason(reason);
-                self.waiting.push_back(frame).unwrap();
+                self.waiting.put(Waiting::one(self.alloc, frame));
                 Ok(())
             }
             Err(error) => Err(StepError::ConnectionState(error)),
         }
+    }
+
+    /// Asks the session with this number, and lets what it hands out wait.
+    pub(super) fn ask_session(&mut self, number: u32, call: SessionCall) -> Result<(), StepError>
+        requires { self.old.waiting ≡ [] }
+        ensures { (reached : Option ℕ) × (calls : List (session.Entry R)) × Does (relays R.attach_gives R.flow_gives R.transfer_gives R.disposition_gives R.detach_gives) self.old number (asks call) reached calls (refusal_of result) self.new }
+    {
+        let Some(session) = self.sessions.get_mut(&number) else {
+            drop(call);
+            return Err(StepError::NoSession);
+        };
+        match ask(session, call) {
+            Ok(item) => {
+                self.waiting.put(Waiting::of(self.alloc, item));
+                Ok(())
+            }
+            Err(error) => Err(error),
+        }
+    }
+
+    /// Makes a session on the lowest free channel, and sends its Begin. What memory refuses leaves no trace.
+    fn request_begin(&mut self, number: u32, settings: SessionSettings) -> Result<(), StepError>
+        requires { self.old.waiting ≡ [] }
+        ensures { (reached : Option ℕ) × (calls : List (session.Entry R)) × BeginRequest (relays R.attach_gives R.flow_gives R.transfer_gives R.disposition_gives R.detach_gives) self.old number settings reached calls (refusal_of result) self.new }
+    {
+        if self.sessions.contains_key(&number) {
+            drop(settings);
+            return Err(StepError::SessionInUse);
+        }
+        let Ok(()) = self.sessions.reserve(1) else {
+            drop(settings);
+            return Err(StepError::OutOfMemory);
+        };
+        let channel = match self.connection.allocate_session(SessionNo(number)) {
+            Ok(channel) => channel,
+            Err(error) => {
+                drop(settings);
+                return Err(StepError::AllocSession(error));
+            }
+        };
+        let stop = self.connection.connection_stop_reason();
+        match begun(self.alloc, settings, channel, stop) {
+            Ok((session, frame)) => {
+                drop(self.sessions.insert(number, session).unwrap());
+                self.waiting.put(Waiting::of(
+                    self.alloc,
+                    Some(SessionOutgoingItem::SingleFrame(frame)),
+                ));
+                Ok(())
+            }
+            Err(error) => {
+                self.connection.deallocate_session(channel);
+                Err(StepError::SessionState(error))
+            }
+        }
+    }
+
+    /// Gives the session's channel back, where it still holds it.
+    fn request_release(&mut self, number: u32) -> Result<(), StepError>
+        ensures { (reached : Option ℕ) × (calls : List (session.Entry R)) × ReleaseRequest self.old number reached calls (refusal_of result) self.new }
+    {
+        let Some(session) = self.sessions.get(&number) else {
+            return Err(StepError::NoSession);
+        };
+        let held = session.outgoing_channel();
+        if self.connection.holder(held.0) != Some(number) {
+            return Err(StepError::Connection(ConnectionInnerError::NotFound(None)));
+        }
+        self.connection.deallocate_session(held);
+        Ok(())
     }
 }

@@ -1,6 +1,7 @@
 //! Runs: many inputs in a row, with all that is to be sent for them.
 
 ghost use Rattle.std.specs.Prelude.{◌≡◌};
+ghost use Rattle.amqp_session.specs.Relay.{relays};
 ghost use Rattle.fe2o3_amqp.specs.Connection.{refusal_of};
 ghost use Rattle.fe2o3_amqp.specs.Output.{answer_of};
 ghost use Rattle.fe2o3_amqp.specs.Headline.{Ran};
@@ -8,6 +9,7 @@ ghost use Rattle.fe2o3_amqp.specs.Headline.{Ran};
 use super::Engine;
 use super::input::{Answer, Input, StepError, Stopped};
 use crate::laws::law_of_histories;
+use amqp_session::LinkRelay;
 use std::collections::VecDeque;
 
 fn answered(outcome: Result<(), StepError>) -> Answer
@@ -19,7 +21,7 @@ fn answered(outcome: Result<(), StepError>) -> Answer
     }
 }
 
-impl Engine {
+impl<R: LinkRelay> Engine<R> {
     /// Runs the inputs, from the front, and appends the answers: what waits is put out first; then for each input `Done`
     /// or `Refused`, and after it one `Out` or `TooLarge` for each frame that it hands out.
     ///
@@ -30,9 +32,9 @@ impl Engine {
         inputs: &mut VecDeque<Input>,
         answers: &mut Vec<Answer>,
     ) -> Result<(), Stopped>
-        ensures { Ran self.old inputs.old.items answers.old.items result self.new inputs.new.items answers.new.items }
+        ensures { Ran (relays R.attach_gives R.flow_gives R.transfer_gives R.disposition_gives R.detach_gives) self.old inputs.old.items answers.old.items result self.new inputs.new.items answers.new.items }
     {
-        law_of_histories();
+        law_of_histories::<R>();
         let total = inputs.len();
         let Ok(()) = self.put_out(answers) else {
             return Err(Stopped { done: 0 });

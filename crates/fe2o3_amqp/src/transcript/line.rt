@@ -6,7 +6,10 @@ ghost use Rattle.hex.specs.Hex.{encode_lower};
 ghost use Rattle.fe2o3_amqp.specs.Transcript.{bytes_of};
 
 use crate::engine::Input;
+use crate::numbers::SessionNo;
 use amqp_frames::Piece;
+use amqp_session::{InputHandle, LinkFlow, SessionSettings};
+use amqp_types::{Performative, ReadError};
 use bytes::Bytes;
 use hex::FromHexError;
 use std::alloc::{AllocError, Global};
@@ -35,17 +38,87 @@ pub(super) fn asked_by(alloc: Global, text: &str) -> Result<Asked, AllocError> {
         "" => Ok(Asked::Nothing),
         "open" => Ok(Asked::Input(Input::Open)),
         "close" => Ok(Asked::Input(Input::Close(None))),
-        _ => received(alloc, text),
+        _ => match text.split_once(' ') {
+            Some((word, rest)) => asked_with(alloc, word, rest),
+            None => Ok(Asked::Unreadable),
+        },
     }
 }
 
-fn received(alloc: Global, text: &str) -> Result<Asked, AllocError> {
-    let Some(digits) = text.strip_prefix("recv ") else {
-        return Ok(Asked::Unreadable);
-    };
+/// What a line asks for that has something behind its first word.
+fn asked_with(alloc: Global, word: &str, rest: &str) -> Result<Asked, AllocError> {
+    match word {
+        "recv" => received(alloc, rest),
+        "send" => sent(alloc, rest),
+        _ => match number_of(rest) {
+            Some(number) => Ok(of_session(word, number)),
+            None => Ok(Asked::Unreadable),
+        },
+    }
+}
+
+/// What a line asks for that has a session's number behind its word.
+fn of_session(word: &str, number: SessionNo) -> Asked {
+    match word {
+        "begin" => Asked::Input(Input::Begin(number, SessionSettings::new())),
+        "end" => Asked::Input(Input::End(number, None)),
+        "release" => Asked::Input(Input::Release(number)),
+        _ => Asked::Unreadable,
+    }
+}
+
+/// The number that decimal digits say, without a sign; `None` where it is no number to 4294967295.
+fn number_of(text: &str) -> Option<SessionNo> {
+    if text.starts_with('+') {
+        return None;
+    }
+    match text.parse::<u32>() {
+        Ok(number) => Some(SessionNo(number)),
+        Err(_) => None,
+    }
+}
+
+fn received(alloc: Global, digits: &str) -> Result<Asked, AllocError> {
     match hex_bytes(alloc, digits)? {
         Some(bytes) => Ok(Asked::Input(Input::Received(bytes))),
         None => Ok(Asked::Unreadable),
+    }
+}
+
+fn sent(alloc: Global, text: &str) -> Result<Asked, AllocError> {
+    let Some((number, digits)) = text.split_once(' ') else {
+        return Ok(Asked::Unreadable);
+    };
+    let Some(number) = number_of(number) else {
+        return Ok(Asked::Unreadable);
+    };
+    match hex_bytes(alloc, digits)? {
+        Some(bytes) => performative(alloc, number, bytes),
+        None => Ok(Asked::Unreadable),
+    }
+}
+
+fn performative(alloc: Global, number: SessionNo, bytes: Bytes) -> Result<Asked, AllocError> {
+    match Performative::read(alloc, bytes) {
+        Ok((performative, rest)) => Ok(asked_of(number, performative, rest)),
+        Err(ReadError::Malformed) => Ok(Asked::Unreadable),
+        Err(ReadError::OutOfMemory) => Err(AllocError),
+    }
+}
+
+/// What is asked of a session with a performative and what follows it.
+fn asked_of(number: SessionNo, performative: Performative, rest: Bytes) -> Asked {
+    match performative {
+        Performative::Flow(flow) => match LinkFlow::try_from(flow) {
+            Ok(flow) => Asked::Input(Input::Flow(number, flow)),
+            Err(()) => Asked::Unreadable,
+        },
+        Performative::Transfer(transfer) => {
+            let input = InputHandle::from(transfer.handle);
+            let is_first = transfer.delivery_tag.is_some();
+            Asked::Input(Input::Transfer(number, input, transfer, rest, is_first))
+        }
+        _ => Asked::Unreadable,
     }
 }
 

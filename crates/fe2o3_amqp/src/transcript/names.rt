@@ -1,11 +1,12 @@
 //! The names of refusals.
 
 ghost use Rattle.std.specs.Prelude.{◌≡◌};
-ghost use Rattle.fe2o3_amqp.specs.Transcript.{name_of, frame_name, state_name, inner_name};
+ghost use Rattle.fe2o3_amqp.specs.Transcript.{name_of, frame_name, state_name, inner_name, alloc_name, session_state_name, session_name};
 
-use crate::connection::{ConnectionInnerError, ConnectionStateError};
+use crate::connection::{AllocSessionError, ConnectionInnerError, ConnectionStateError};
 use crate::engine::StepError;
 use amqp_frames::Error as FrameError;
+use amqp_session::{SessionInnerError, SessionStateError};
 
 /// The name of the refusal: that of its innermost variant.
 pub fn err_name(error: &StepError) -> &'static str
@@ -16,6 +17,10 @@ pub fn err_name(error: &StepError) -> &'static str
         StepError::Frame(inner) => frame_name(inner),
         StepError::ConnectionState(inner) => state_name(inner),
         StepError::Connection(inner) => inner_name(inner),
+        StepError::AllocSession(inner) => alloc_name(inner),
+        StepError::SessionState(inner) => session_state_name(inner),
+        StepError::Session(inner) => session_name(inner),
+        StepError::SessionInUse => "SessionInUse",
         StepError::NoSession => "NoSession",
         StepError::OutOfMemory => "OutOfMemory",
     }
@@ -56,5 +61,45 @@ fn inner_name(error: &ConnectionInnerError) -> &'static str
         ConnectionInnerError::RemoteClosed => "RemoteClosed",
         ConnectionInnerError::RemoteClosedWithError(_) => "RemoteClosedWithError",
         ConnectionInnerError::OutOfMemory => "OutOfMemory",
+    }
+}
+
+fn alloc_name(error: &AllocSessionError) -> &'static str
+    ensures { result.now ≡ alloc_name error.now }
+{
+    match error {
+        AllocSessionError::ConnectionNotOpened => "ConnectionNotOpened",
+        AllocSessionError::ConnectionStopped(_) => "ConnectionStopped",
+        AllocSessionError::ChannelMaxReached => "ChannelMaxReached",
+        AllocSessionError::OutOfMemory => "OutOfMemory",
+    }
+}
+
+fn session_state_name(error: &SessionStateError) -> &'static str
+    ensures { result.now ≡ session_state_name error.now }
+{
+    match error {
+        SessionStateError::IllegalState => "IllegalState",
+        SessionStateError::ConnectionStopped(_) => "ConnectionStopped",
+        SessionStateError::RemoteEnded => "RemoteEnded",
+        SessionStateError::RemoteEndedWithError(_) => "RemoteEndedWithError",
+        SessionStateError::OutOfMemory => "OutOfMemory",
+    }
+}
+
+fn session_name(error: &SessionInnerError) -> &'static str
+    ensures { result.now ≡ session_name error.now }
+{
+    match error {
+        SessionInnerError::UnattachedHandle => "UnattachedHandle",
+        SessionInnerError::RemoteAttachingLinkNameNotFound => "RemoteAttachingLinkNameNotFound",
+        SessionInnerError::HandleInUse => "HandleInUse",
+        SessionInnerError::IllegalState => "IllegalState",
+        SessionInnerError::ConnectionStopped(_) => "ConnectionStopped",
+        SessionInnerError::TransferFrameToSender => "TransferFrameToSender",
+        SessionInnerError::RemoteEnded => "RemoteEnded",
+        SessionInnerError::RemoteEndedWithError(_) => "RemoteEndedWithError",
+        SessionInnerError::UnknownTxnId => "UnknownTxnId",
+        SessionInnerError::OutOfMemory => "OutOfMemory",
     }
 }

@@ -4,7 +4,6 @@ use Rattle.amqp_session.specs.declared.deliveries.Delivery.{Delivery}
 use Rattle.amqp_session.specs.Deliveries.{TableView, IsRising, IsTable, number_at, recorded}
 use Rattle.amqp_session.proofs.Rising.{recorded_on, recorded_before, recorded_table}
 use Rattle.amqp_session.proofs.deliveries.Deliveries.put.Goals as goal
-use Rattle.amqp_session.proofs.deliveries.Deliveries.put.Goals.{in-Some-1, in-None-1}
 
 -- the record takes the place of the one that stands there
 placed_on : (inside found old : List Delivery) (place : ℕ) (d : Delivery) → inside ≡ found → found ≡ old → (place < length found) × (number_at found place ≡ d.number) →
@@ -28,31 +27,22 @@ pub invariant_of-self : goal.invariant_of-self
 invariant_of-self c =
     let e = ap (λ (t : TableView). t.rows) c.self.view_is in
     let f = ap (λ (t : TableView). t.rows) c.place_of-place.ensures.same in
-    subst IsTable (placed_on _ _ _ c.place_of-place.result c.args.delivery e f (c.stands_at.ensures.there c.if-stands_at.true) c.place_of-place.ensures.below) (recorded_table c.args.delivery _ (omega arith) c.self.invariant)
-
-pub invariant_of-self-then-stands_at-2 : goal.invariant_of-self-then-stands_at-2
-invariant_of-self-then-stands_at-2 c =
-    let e = ap (λ (t : TableView). t.rows) c.self.view_is in
-    let f = ap (λ (t : TableView). t.rows) c.place_of-place.ensures.same in
-    subst IsTable (placed_on _ _ _ c.place_of-place.result c.args.delivery e f (c.stands_at.ensures.there c.if-stands_at.true) c.place_of-place.ensures.below) (recorded_table c.args.delivery _ (omega arith) c.self.invariant)
+    let placed = placed_on _ _ _ c.place_of-place.result c.args.delivery e f (c.stands_at.ensures.there c.if-stands_at.true) c.place_of-place.ensures.below in
+    subst IsTable (placed ∙ sym c.replace.ensures.items) (recorded_table c.args.delivery _ (omega arith) c.self.invariant)
 
 pub returns-then-stands_at-clause-rows : goal.returns-then-stands_at-clause-rows
 returns-then-stands_at-clause-rows c =
     let e = ap (λ (t : TableView). t.rows) c.self.view_is in
     let f = ap (λ (t : TableView). t.rows) c.place_of-place.ensures.same in
     let placed = placed_on _ _ _ c.place_of-place.result c.args.delivery e f (c.stands_at.ensures.there c.if-stands_at.true) c.place_of-place.ensures.below in
-    let same = sym placed ∙ ap (λ rows. recorded c.args.delivery rows) (e ∙ f) in
-    elim c.match-index_mut-delivery.branch [
-      | in-Some-1 w ↦ ap (λ (t : TableView). t.rows) w.self-is ∙ same
-      | in-None-1 w ↦ ap (λ (t : TableView). t.rows) w.self-is ∙ same
-    ]
+    c.replace.ensures.items ∙ sym placed ∙ ap (λ rows. recorded c.args.delivery rows) (e ∙ f)
 
 pub invariant_of-self-else-stands_at : goal.invariant_of-self-else-stands_at
 invariant_of-self-else-stands_at c =
     let e = ap (λ (t : TableView). t.rows) c.self.view_is in
     let f = ap (λ (t : TableView). t.rows) c.place_of-place.ensures.same in
     let placed = placed_between _ _ _ c.place_of-place.result c.args.delivery e f c.self.invariant.0 c.place_of-place.ensures.within (c.stands_at.ensures.not_there c.if-stands_at.false) c.place_of-place.ensures.below c.place_of-place.ensures.above in
-    let items = rw c.unwrap.ensures at c.insert.ensures.items in
+    let items : c.insert.new.self.items ≡ insert c.self.inside.rows.items c.place_of-place.result c.args.delivery = rw c.unwrap.ensures at c.insert.ensures.items in
     subst IsTable (placed ∙ sym items) (recorded_table c.args.delivery _ (omega arith) c.self.invariant)
 
 pub returns-else-stands_at-clause-rows : goal.returns-else-stands_at-clause-rows
@@ -60,5 +50,5 @@ returns-else-stands_at-clause-rows c =
     let e = ap (λ (t : TableView). t.rows) c.self.view_is in
     let f = ap (λ (t : TableView). t.rows) c.place_of-place.ensures.same in
     let placed = placed_between _ _ _ c.place_of-place.result c.args.delivery e f c.self.invariant.0 c.place_of-place.ensures.within (c.stands_at.ensures.not_there c.if-stands_at.false) c.place_of-place.ensures.below c.place_of-place.ensures.above in
-    let items = rw c.unwrap.ensures at c.insert.ensures.items in
+    let items : c.insert.new.self.items ≡ insert c.self.inside.rows.items c.place_of-place.result c.args.delivery = rw c.unwrap.ensures at c.insert.ensures.items in
     items ∙ sym placed ∙ ap (λ rows. recorded c.args.delivery rows) (e ∙ f)

@@ -5,7 +5,7 @@ use Rattle.fe2o3_amqp.proofs.engine.Engine.put_out.Goals as goal
 
 -- an answer more
 pub loop-answers-preserved : goal.loop-answers-preserved
-loop-answers-preserved c =
+loop-answers-preserved g c =
     let pushed = rw c.unwrap.ensures at c.push.ensures.items in
     let same : c.reserve.new.self.items ≡ c.loop-answers.answers.items = c.reserve.ensures.items in
     let n = rw c.in-Some.is at c.next_answer.ensures in

@@ -1,12 +1,13 @@
 use Rattle.std.proofs.Common.{◌≡◌, [], length}
+use Rattle.amqp_session.specs.Relay.{relays}
 use Rattle.fe2o3_amqp.proofs.Running.{Running}
 use Rattle.fe2o3_amqp.proofs.engine.Engine.run.Given as goal
 
 abbrev pub invariant-loop-answers : goal.invariant-loop-answers
-invariant-loop-answers l =
-    Running l.fn.self l.fn.inputs.items l.fn.answers.items l.self l.inputs.items l.answers.items
+invariant-loop-answers g l =
+    Running (relays g.R.LinkRelay.attach_gives g.R.LinkRelay.flow_gives g.R.LinkRelay.transfer_gives g.R.LinkRelay.disposition_gives g.R.LinkRelay.detach_gives) l.fn.self l.fn.inputs.items l.fn.answers.items l.self l.inputs.items l.answers.items
     × (l.self.waiting ≡ [])
     × (l.total ≡ length l.fn.inputs.items)
 
 abbrev pub decreases-loop-answers : goal.decreases-loop-answers
-decreases-loop-answers l = length l.inputs.items
+decreases-loop-answers g l = length l.inputs.items

@@ -1,5 +1,4 @@
-use Rattle.std.proofs.Common.{◌≡◌, ◌++◌, List, ℕ, ap, sym, ◌∙◌, append_assoc, codes, string_bytes}
-use Rattle.amqp_frames.specs.Piece.{piece_bytes}
+use Rattle.std.proofs.Common.{◌≡◌, ◌++◌, List, ℕ, ap, ◌∙◌, append_assoc, codes, string_bytes}
 use Rattle.hex.specs.Hex.{encode_lower, lower_digits}
 use Rattle.fe2o3_amqp.proofs.Digits.{encode_with-append}
 use Rattle.fe2o3_amqp.proofs.transcript.line.out_line.Goals as goal

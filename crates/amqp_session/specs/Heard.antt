@@ -1,0 +1,136 @@
+-- What a history says of the peer: its channel, the numbers of its transfers, and the deliveries that its transfers opened
+-- (AMQP 1.0 part 2, section 2.5.6). And why the session stopped.
+use Rattle.std.specs.Prelude.{ℕ, ◌+◌, ◌-◌, ◌%◌, ◌^◌, min, Bool, true, false, if◌then◌else◌, List, [], ◌∷◌, Option, Some, None, Result, Ok, Err}
+use Rattle.amqp_types.specs.declared.definitions.DeliveryTag.{DeliveryTag}
+use Rattle.amqp_session.specs.declared.deliveries.Delivery.{Delivery}
+use Rattle.amqp_session.specs.declared.stop.SessionStopReason.{SessionStopReason}
+use Rattle.amqp_session.specs.declared.error.LinkRelayError.{LinkRelayError}
+use Rattle.amqp_session.specs.Deliveries.{noted}
+use Rattle.amqp_session.specs.Step.{named_delivery}
+use Rattle.amqp_session.specs.History.{Entry, TakesBegin, TakesFlow, TakesTransfer, SendsSessionFlow, RecordsStop, AllocatesLink, AllocatesIncomingLink, DeallocatesLink, TakesAttach, TakesDetach, SendsAttach, SendsDetach}
+
+-- ---- the calls since the last one of a kind
+
+-- whether one of the kind is among these
+abbrev pub has_kind : {R : Type 0} → (Entry R → Bool) → List (Entry R) → Bool
+has_kind kind [] = false
+has_kind kind (e ∷ es) = if kind e then true else has_kind kind es
+
+-- those behind the last one of the kind; all, where there is none
+abbrev pub since : {R : Type 0} → (Entry R → Bool) → List (Entry R) → List (Entry R)
+since kind [] = []
+since kind (e ∷ es) = if has_kind kind es then since kind es else (if kind e then es else e ∷ es)
+
+-- The peer says its numbers: by a Begin that is accepted, and by any Flow.
+abbrev pub says_numbers : {R : Type 0} → Entry R → Bool
+says_numbers (TakesBegin channel b (Ok u)) = true
+says_numbers (TakesFlow f asked result) = true
+says_numbers e = false
+
+-- a session flow goes out
+abbrev pub is_session_flow : {R : Type 0} → Entry R → Bool
+is_session_flow (SendsSessionFlow (Some item)) = true
+is_session_flow e = false
+
+-- ---- the peer's transfers
+
+-- the transfers that came
+abbrev pub came_by : {R : Type 0} → Entry R → ℕ
+came_by (TakesTransfer t payload asked result) = 1
+came_by e = 0
+
+abbrev pub came : {R : Type 0} → List (Entry R) → ℕ
+came [] = 0
+came (e ∷ es) = came_by e + came es
+
+-- the number of the peer's next transfer and its outgoing window, as the peer says them
+abbrev pub word_by : {R : Type 0} → ℕ × ℕ → Entry R → ℕ × ℕ
+word_by old (TakesBegin channel b (Ok u)) = (b.next_outgoing_id, b.outgoing_window)
+word_by old (TakesFlow f asked result) = (f.next_outgoing_id, f.outgoing_window)
+word_by old e = old
+
+abbrev pub word_from : {R : Type 0} → ℕ × ℕ → List (Entry R) → ℕ × ℕ
+word_from old [] = old
+word_from old (e ∷ es) = word_from (word_by old e) es
+
+-- its latest word: both are 0 before the first one
+abbrev pub word : {R : Type 0} → List (Entry R) → ℕ × ℕ
+word H = word_from (0, 0) H
+
+-- the next incoming id: the number that the peer said last, and one more for each transfer that came since
+abbrev pub next_incoming : {R : Type 0} → List (Entry R) → ℕ
+next_incoming H = ((word H).0 + came (since says_numbers H)) % 2 ^ 32
+
+-- what these calls leave of a window: one less for each transfer, and never less than none
+abbrev pub left_by : {R : Type 0} → ℕ → Entry R → ℕ
+left_by w (TakesTransfer t payload asked result) = w - 1
+left_by w e = w
+
+abbrev pub left : {R : Type 0} → ℕ → List (Entry R) → ℕ
+left w [] = w
+left w (e ∷ es) = left (left_by w e) es
+
+-- the remote outgoing window: what is left of the one that the peer said last
+abbrev pub peer_window : {R : Type 0} → List (Entry R) → ℕ
+peer_window H = left (word H).1 (since says_numbers H)
+
+-- the count: the transfers that came since the last session flow, as far as four bytes can say
+abbrev pub unsaid : {R : Type 0} → List (Entry R) → ℕ
+unsaid H = min (came (since is_session_flow H)) 4294967295
+
+-- ---- the peer's channel
+
+abbrev pub channel_by : {R : Type 0} → Option ℕ → Entry R → Option ℕ
+channel_by old (TakesBegin channel b (Ok u)) = Some channel
+channel_by old e = old
+
+abbrev pub channel_from : {R : Type 0} → Option ℕ → List (Entry R) → Option ℕ
+channel_from old [] = old
+channel_from old (e ∷ es) = channel_from (channel_by old e) es
+
+-- that of the latest Begin that was accepted
+abbrev pub peer_channel : {R : Type 0} → List (Entry R) → Option ℕ
+peer_channel H = channel_from None H
+
+-- ---- the deliveries that the peer's transfers opened
+
+-- what a relay named
+abbrev pub named_of : Result (Option (ℕ × DeliveryTag)) LinkRelayError → Option (ℕ × DeliveryTag)
+named_of (Ok named) = named
+named_of (Err e) = None
+
+-- The open ones with the one that a relay names for a received transfer, under the transfer's handle: it takes the place of
+-- an older one of its number.
+abbrev pub named_with : {R : Type 0} → List Delivery → Entry R → List Delivery
+named_with rows (TakesTransfer t payload (Some q) result) = noted (named_delivery t.handle (named_of q.answer)) rows
+named_with rows e = rows
+
+abbrev pub received_open_from : {R : Type 0} → List Delivery → List (Entry R) → List Delivery
+received_open_from rows [] = rows
+received_open_from rows (e ∷ es) = received_open_from (named_with rows e) es
+
+abbrev pub received_open : {R : Type 0} → List (Entry R) → List Delivery
+received_open H = received_open_from [] H
+
+-- ---- the stop reason, and links
+
+-- the first reason that was recorded
+abbrev pub stop_reason : {R : Type 0} → List (Entry R) → Option SessionStopReason
+stop_reason [] = None
+stop_reason (RecordsStop reason ∷ es) = Some reason
+stop_reason (e ∷ es) = stop_reason es
+
+-- the calls that make, attach or release a link
+abbrev pub IsLinkCall : {R : Type 0} → Entry R → Type 0
+IsLinkCall (AllocatesLink name relay result) = Unit {0}
+IsLinkCall (AllocatesIncomingLink name relay input result) = Unit {0}
+IsLinkCall (DeallocatesLink handle was) = Unit {0}
+IsLinkCall (TakesAttach a asked result) = Unit {0}
+IsLinkCall (TakesDetach d asked result) = Unit {0}
+IsLinkCall (SendsAttach a frame) = Unit {0}
+IsLinkCall (SendsDetach d expects_echo result) = Unit {0}
+IsLinkCall e = ⊥
+
+abbrev pub HasNoLinks : {R : Type 0} → List (Entry R) → Type 0
+HasNoLinks [] = Unit {0}
+HasNoLinks (e ∷ es) = ¬ (IsLinkCall e) × HasNoLinks es

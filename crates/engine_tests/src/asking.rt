@@ -1,0 +1,128 @@
+//! Asking an engine, one input at a time.
+
+use crate::given::{ReplayEngine, pieces_said, unnamed_open};
+use bytes::Bytes;
+use fe2o3_amqp::{
+    ConnectionState, DeliveryTag, Engine, Handle, Input, InputHandle, Piece, SessionNo,
+    SessionSettings, SessionState, SessionStopReason, Transfer, err_name, hex_bytes,
+};
+use std::alloc::{AllocError, Global};
+
+/// What an input is answered.
+pub fn answer(engine: &mut ReplayEngine, input: Input) -> &'static str {
+    match engine.step(input) {
+        Ok(()) => "done",
+        Err(error) => err_name(&error),
+    }
+}
+
+/// What a received frame is answered, that hexadecimal digits say.
+pub fn hear(alloc: Global, engine: &mut ReplayEngine, digits: &str) -> &'static str {
+    match hex_bytes(alloc, digits) {
+        Ok(Some(bytes)) => answer(engine, Input::Received(bytes)),
+        _ => "no bytes",
+    }
+}
+
+/// The pieces of the first frame that waits.
+pub fn pieces(engine: &mut ReplayEngine) -> Option<Vec<Piece>> {
+    match engine.next_output() {
+        Ok(pieces) => pieces,
+        Err(error) => {
+            drop(error);
+            None
+        }
+    }
+}
+
+/// The lines of the first frame that waits, if one waits.
+fn next_lines(alloc: Global, engine: &mut ReplayEngine) -> Result<String, AllocError> {
+    match pieces(engine) {
+        Some(pieces) => pieces_said(alloc, &pieces),
+        None => Ok(String::new(alloc)),
+    }
+}
+
+/// Whether these lines, each with a line feed, are those of the first frame that waits; without a line no frame waits.
+pub fn puts_out(alloc: Global, engine: &mut ReplayEngine, lines: &str) -> bool {
+    match next_lines(alloc, engine) {
+        Ok(text) => text.as_str() == lines,
+        Err(_) => false,
+    }
+}
+
+/// An engine in this state, whose Open has no name.
+pub fn engine_in(alloc: Global, state: ConnectionState) -> ReplayEngine {
+    Engine::new(alloc, state, unnamed_open(alloc))
+}
+
+/// The same in `Opened`.
+pub fn opened(alloc: Global) -> ReplayEngine {
+    engine_in(alloc, ConnectionState::Opened)
+}
+
+/// Whether a session begins, of default settings; its Begin is taken out.
+pub fn begins(engine: &mut ReplayEngine, number: u32) -> bool {
+    let begin = Input::Begin(SessionNo(number), SessionSettings::new());
+    answer(engine, begin) == "done" && pieces(engine).is_some()
+}
+
+/// A first transfer on handle 0, with a tag.
+pub fn first_transfer(tag: &'static [u8]) -> Transfer {
+    Transfer {
+        handle: Handle(0),
+        delivery_id: None,
+        delivery_tag: Some(DeliveryTag(Bytes::from_static(tag))),
+        message_format: None,
+        settled: None,
+        more: false,
+        rcv_settle_mode: None,
+        state: None,
+        resume: false,
+        aborted: false,
+        batchable: false,
+    }
+}
+
+/// What the request of a first transfer is answered.
+pub fn send(
+    engine: &mut ReplayEngine,
+    number: u32,
+    tag: &'static [u8],
+    payload: Bytes,
+) -> &'static str {
+    let transfer = first_transfer(tag);
+    let number = SessionNo(number);
+    answer(
+        engine,
+        Input::Transfer(number, InputHandle(0), transfer, payload, true),
+    )
+}
+
+/// The state of a session, if it was begun.
+pub fn state_of(engine: &ReplayEngine, number: u32) -> Option<SessionState> {
+    match engine.session(SessionNo(number)) {
+        Some(session) => Some(*session.local_state()),
+        None => None,
+    }
+}
+
+/// Why a session stopped, where a reason is recorded.
+pub fn reason_of(engine: &ReplayEngine, number: u32) -> Option<SessionStopReason> {
+    match engine.session(SessionNo(number)) {
+        Some(session) => session.session_stop_reason(),
+        None => None,
+    }
+}
+
+/// The next number of a session, how many transfers its peer still takes, and how many wait; all 9 where there is none.
+pub fn numbers_of(engine: &ReplayEngine, number: u32) -> (u32, u32, usize) {
+    match engine.session(SessionNo(number)) {
+        Some(session) => (
+            session.next_outgoing_id(),
+            session.remote_incoming_window(),
+            session.held_back(),
+        ),
+        None => (9, 9, 9),
+    }
+}

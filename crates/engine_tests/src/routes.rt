@@ -1,0 +1,118 @@
+//! Routes of received frames in an engine with two sessions.
+
+use crate::asking::{answer, begins, hear, numbers_of, opened, reason_of, state_of};
+use crate::given::ReplayEngine;
+use bytes::Bytes;
+use fe2o3_amqp::{IncomingChannel, Input, SessionNo, SessionState, SessionStopReason};
+use std::alloc::Global;
+
+/// The peer's Begin on channel 7, which names channel 0 and grants a window of 8.
+const FOR_ZERO: &str = "02000007005311c009046000004352085208";
+
+/// The same, which names channel 1.
+const FOR_ONE: &str = "02000007005311c009046000014352085208";
+
+/// The peer's End on channel 7.
+const END: &str = "0200000700531745";
+
+/// The session to which channel 7 of the peer's leads; 1000 where it leads to none.
+fn led(engine: &ReplayEngine) -> u32 {
+    match engine
+        .connection()
+        .session_tx_by_incoming_channel(IncomingChannel(7))
+    {
+        Some(number) => number.0,
+        None => 1000,
+    }
+}
+
+/// Whether sessions 0 and 1 begin, and a Begin of the peer's on channel 7 answers each in turn.
+fn maps_both(alloc: Global, engine: &mut ReplayEngine) -> bool {
+    begins(engine, 0)
+        && begins(engine, 1)
+        && hear(alloc, engine, FOR_ZERO) == "done"
+        && led(engine) == 0
+        && hear(alloc, engine, FOR_ONE) == "done"
+}
+
+/// Whether a third Begin then leads the channel back to session 0, and the peer ends that.
+fn ends_zero(alloc: Global, engine: &mut ReplayEngine) -> bool {
+    maps_both(alloc, engine)
+        && hear(alloc, engine, FOR_ZERO) == "IllegalState"
+        && led(engine) == 0
+        && hear(alloc, engine, END) == "RemoteEnded"
+}
+
+#[test]
+fn the_last_begin_makes_the_route(rt: HostRuntime) {
+    let mut engine = opened(rt.alloc());
+    assert!(rt; maps_both(rt.alloc(), &mut engine));
+    assert_eq!(rt; led(&engine), 1);
+    assert!(rt; state_of(&engine, 0) == Some(SessionState::Mapped));
+    assert!(rt; state_of(&engine, 1) == Some(SessionState::Mapped));
+    drop(engine);
+}
+
+#[test]
+fn an_end_takes_the_route_away(rt: HostRuntime) {
+    let mut engine = opened(rt.alloc());
+    assert!(rt; ends_zero(rt.alloc(), &mut engine));
+    assert_eq!(rt; led(&engine), 1000);
+    assert!(rt; state_of(&engine, 0) == Some(SessionState::EndReceived));
+    assert!(rt; reason_of(&engine, 0) == Some(SessionStopReason::RemoteEnded));
+    assert!(rt; reason_of(&engine, 1).is_none());
+    assert_eq!(rt; hear(rt.alloc(), &mut engine, END), "NotFound");
+    drop(engine);
+}
+
+/// What the request is answered that records an end of this side as the reason.
+fn stop(engine: &mut ReplayEngine, number: u32) -> &'static str {
+    answer(
+        engine,
+        Input::Stop(SessionNo(number), SessionStopReason::Ended),
+    )
+}
+
+#[test]
+fn the_first_stop_reason_of_a_session_stays(rt: HostRuntime) {
+    let mut engine = opened(rt.alloc());
+    assert!(rt; ends_zero(rt.alloc(), &mut engine));
+    assert_eq!(rt; stop(&mut engine, 0), "done");
+    assert_eq!(rt; stop(&mut engine, 1), "done");
+    assert_eq!(rt; stop(&mut engine, 2), "NoSession");
+    assert!(rt; reason_of(&engine, 0) == Some(SessionStopReason::RemoteEnded));
+    assert!(rt; reason_of(&engine, 1) == Some(SessionStopReason::Ended));
+    drop(engine);
+}
+
+/// What the peer's Begin on a channel is answered, which names channel 0 and grants a window of 100.
+fn begun_on(alloc: Global, engine: &mut ReplayEngine, channel: u16) -> &'static str {
+    let [high, low] = channel.to_be_bytes();
+    let frame = [
+        0x02, 0, high, low, 0, 0x53, 0x11, 0xc0, 9, 4, 0x60, 0, 0, 0x43, 0x52, 100, 0x52, 8,
+    ];
+    match Bytes::copy_from_slice(alloc, &frame) {
+        Ok(bytes) => answer(engine, Input::Received(bytes)),
+        Err(_) => "no bytes",
+    }
+}
+
+/// Whether such a Begin is refused by the session on every channel.
+fn all_refused(alloc: Global, engine: &mut ReplayEngine) -> bool {
+    for channel in 0..=u16::MAX {
+        if begun_on(alloc, engine, channel) != "IllegalState" {
+            return false;
+        }
+    }
+    true
+}
+
+#[test]
+fn begins_on_every_channel_change_no_session(rt: HostRuntime) {
+    let mut engine = opened(rt.alloc());
+    assert!(rt; begins(&mut engine, 0));
+    assert_eq!(rt; hear(rt.alloc(), &mut engine, FOR_ZERO), "done");
+    assert!(rt; all_refused(rt.alloc(), &mut engine));
+    assert_eq!(rt; numbers_of(&engine, 0), (0, 8, 0));
+    drop(engine);
+}

@@ -1,0 +1,27 @@
+-- What contracts see of an engine.
+use Rattle.std.specs.Prelude.{◌-◌, ℕ, List, [], max}
+use Rattle.amqp_types.specs.declared.states.ConnectionState.{ConnectionState}
+use Rattle.amqp_types.specs.Open.{OpenSaid}
+use Rattle.amqp_session.specs.Session.{SessionView}
+use Rattle.amqp_frames.specs.declared.frame.Frame.{Frame}
+use Rattle.fe2o3_amqp.specs.Connection.{ConnectionView, new_connection}
+
+pub record EngineView (R : Type 0) : Type 0 where
+  pub connection : ConnectionView
+  -- in the order in which they were begun; none is ever removed
+  pub sessions : List (ℕ × SessionView R)
+  -- how many bytes a piece may have
+  pub limit : ℕ
+  -- frames that are not yet put out, oldest first
+  pub waiting : List Frame
+
+-- ---- the limit of a piece: the size that a side allows, without the size field; no peer may ask for less than 512 bytes
+
+abbrev pub own_limit : OpenSaid → ℕ
+own_limit o = max (o.max_frame_size - 4) 4
+
+abbrev pub peer_limit : OpenSaid → ℕ
+peer_limit o = max o.max_frame_size 512 - 4
+
+abbrev pub new_engine : {R : Type 0} → ConnectionState → OpenSaid → EngineView R
+new_engine s o = record { connection = new_connection s o; sessions = []; limit = own_limit o; waiting = [] }

@@ -1,0 +1,129 @@
+//! Each performative by itself: the length of its text, and its text put into a buffer with room for it.
+
+ghost use Rattle.std.specs.Prelude.{◌≤◌, ◌<◌, ◌^◌, length};
+ghost use Rattle.amqp_types.specs.Performatives.{performative_text};
+
+use crate::digits::{dense, read};
+use amqp_types::laws::text_is_read;
+use amqp_types::{DeliveryTag, Handle, Performative, Transfer, TransferText};
+use bytes::{Bytes, BytesMut};
+use std::alloc::Global;
+use std::test::Fail;
+
+/// One of each kind, in its canonical text.
+const TEXTS: [&'static str; 9] = [
+    "005310 c00401 a10161",
+    "005311 c00704 600001 43 43 43",
+    "005312 c00603 a10161 43 41",
+    "005313 c00604 40 43 43 5207",
+    "005314 c00603 43 40 a00107",
+    "005315 c00504 41 43 40 41",
+    "005316 c00302 43 41",
+    "005317 c00a01 00531d c00401 a30178",
+    "005318 45",
+];
+
+/// The length that the performative of that kind tells.
+fn len(performative: &Performative) -> u128 {
+    match performative {
+        Performative::Open(p) => p.encoded_len(),
+        Performative::Begin(p) => p.encoded_len(),
+        Performative::Attach(p) => p.encoded_len(),
+        Performative::Flow(p) => p.encoded_len(),
+        Performative::Transfer(p) => p.encoded_len(),
+        Performative::Disposition(p) => p.encoded_len(),
+        Performative::Detach(p) => p.encoded_len(),
+        Performative::End(p) => p.encoded_len(),
+        Performative::Close(p) => p.encoded_len(),
+    }
+}
+
+/// Puts the text, as the performative of that kind does.
+fn put(performative: &Performative, out: &mut BytesMut)
+    requires room { length (performative_text performative.now) ≤ out.old.spare }
+    requires fits { length (performative_text performative.now) < 2 ^ 32 }
+{
+    match performative {
+        Performative::Open(p) => p.put(out),
+        Performative::Begin(p) => p.put(out),
+        Performative::Attach(p) => p.put(out),
+        Performative::Flow(p) => p.put(out),
+        Performative::Transfer(p) => p.put(out),
+        Performative::Disposition(p) => p.put(out),
+        Performative::Detach(p) => p.put(out),
+        Performative::End(p) => p.put(out),
+        Performative::Close(p) => p.put(out),
+    }
+}
+
+/// The digits of the text that is put, which has to have the length that was told.
+fn put_alone(alloc: Global, performative: &Performative) -> Result<String, Fail> {
+    let len = performative.encoded_len();
+    if 1000 < len {
+        return Err("a long text".into());
+    }
+    let mut out = BytesMut::with_capacity(alloc, len as usize)?;
+    put(performative, &mut out);
+    Ok(hex::encode(alloc, out.as_slice())?)
+}
+
+/// Whether the text is put as it is read, and is as long as was told.
+fn is_put(alloc: Global, digits: &str) -> Result<bool, Fail> {
+    let performative = read(alloc, digits)?;
+    text_is_read(&performative);
+    let text = put_alone(alloc, &performative)?;
+    let len = len(&performative);
+    Ok(text == dense(alloc, digits)? && len == (text.len() / 2) as u128)
+}
+
+#[test]
+fn each_performative_puts_its_text(rt: HostRuntime) -> Result<(), Fail> {
+    for digits in TEXTS {
+        assert!(rt; is_put(rt.alloc(), digits)?, "{digits}");
+    }
+    Ok(())
+}
+
+/// The transfer of a whole delivery.
+fn delivery() -> Transfer {
+    Transfer {
+        handle: Handle(0),
+        delivery_id: Some(0),
+        delivery_tag: Some(DeliveryTag(Bytes::from_static(&[0, 0, 0, 1]))),
+        message_format: Some(0),
+        settled: Some(false),
+        more: false,
+        rcv_settle_mode: None,
+        state: None,
+        resume: false,
+        aborted: false,
+        batchable: false,
+    }
+}
+
+fn put_in(alloc: Global, transfer: &Transfer, text: TransferText) -> Result<String, Fail> {
+    let len = transfer.encoded_len_in(text);
+    if 1000 < len {
+        return Err("a long text".into());
+    }
+    let mut out = BytesMut::with_capacity(alloc, len as usize)?;
+    transfer.put_in(text, &mut out);
+    Ok(hex::encode(alloc, out.as_slice())?)
+}
+
+#[test]
+fn the_texts_of_a_transfer_that_is_cut(rt: HostRuntime) -> Result<(), Fail> {
+    let rows = [
+        (TransferText::Whole, "005314c00b054343a004000000014342"),
+        (TransferText::First, "005314c00c064343a00400000001434241"),
+        (TransferText::Middle, "005314c007064340404040 41"),
+        (TransferText::Last, "005314c0020143"),
+    ];
+    for (text, want) in rows {
+        let transfer = delivery();
+        let said = put_in(rt.alloc(), &transfer, text)?;
+        assert_eq!(rt; said, dense(rt.alloc(), want)?);
+        assert_eq!(rt; transfer.encoded_len_in(text), (said.len() / 2) as u128);
+    }
+    Ok(())
+}

@@ -1,0 +1,150 @@
+//! Want of memory: nothing went out, and what waited stands as before.
+
+use crate::made::{ABSENT, Answer, NONE, NOTHING, begin, grant, grant_link, send};
+use crate::relays::Quiet;
+use amqp_session::{
+    IncomingChannel, LinkRelay, OutgoingChannel, Session, SessionSettings, SessionStateError,
+};
+use amqp_types::{SessionState, Symbol};
+use std::alloc::{AllocError, Global};
+use std::test::Fail;
+
+/// What a session shows.
+#[derive(Clone, Copy, PartialEq)]
+struct Shown {
+    state: SessionState,
+    numbers: (u32, u32),
+    windows: (u32, u32),
+    held_back: usize,
+    open: usize,
+}
+
+/// What a session shows now.
+fn view<R: LinkRelay>(session: &Session<R>) -> Shown {
+    Shown {
+        state: *session.local_state(),
+        numbers: (session.next_outgoing_id(), session.next_incoming_id()),
+        windows: (
+            session.remote_incoming_window(),
+            session.remote_outgoing_window(),
+        ),
+        held_back: session.held_back(),
+        open: session.open_deliveries(),
+    }
+}
+
+/// A transfer is sent, and once more where memory is refused; none where the session then showed another thing.
+fn send_twice(one: &mut Session<Quiet>, is_first: bool) -> Option<Answer> {
+    let before = view(one);
+    let answer = send(one, Some(b"t"), is_first);
+    if answer != Answer::OutOfMemory {
+        return Some(answer);
+    }
+    if view(one) != before {
+        return None;
+    }
+    Some(send(one, Some(b"t"), is_first))
+}
+
+/// A flow comes that leaves so much of the window, and once more where memory is refused: the windows have moved then, and
+/// nothing else. None where the session showed another thing.
+fn grant_twice(one: &mut Session<Quiet>, from: u32, width: u32, left: u32) -> Option<Answer> {
+    let before = view(one);
+    let answer = grant(one, Some(from), width);
+    if answer != Answer::OutOfMemory {
+        return Some(answer);
+    }
+    let moved = Shown {
+        windows: (left, 8),
+        ..before
+    };
+    if view(one) != moved {
+        return None;
+    }
+    Some(grant(one, Some(from), width))
+}
+
+/// Settings with a capability, so that a Begin takes memory for their copy.
+fn settings(alloc: Global) -> Result<SessionSettings, AllocError> {
+    let mut settings = SessionSettings::new();
+    let mut offered = Vec::new(alloc);
+    if let Some(symbol) = Symbol::new(String::from_str(alloc, "x")?) {
+        offered.push(symbol)?;
+    }
+    settings.offered_capabilities = Some(offered);
+    Ok(settings)
+}
+
+/// A session of such settings.
+fn unmapped(alloc: Global) -> Result<Session<Quiet>, AllocError> {
+    let settings = match settings(alloc) {
+        Ok(settings) => settings,
+        Err(_refused) => settings(alloc)?,
+    };
+    Ok(Session::new(
+        alloc,
+        settings,
+        OutgoingChannel(0),
+        SessionState::Unmapped,
+        None,
+    ))
+}
+
+/// How a Begin is answered: whether it goes out, or none where memory is refused.
+fn send_begin(one: &mut Session<Quiet>) -> Option<bool> {
+    match one.send_begin() {
+        Ok(_frame) => Some(true),
+        Err(SessionStateError::OutOfMemory) => None,
+        Err(_error) => Some(false),
+    }
+}
+
+/// A Begin goes out, and once more where memory is refused: the session shows what it showed.
+fn begin_twice(one: &mut Session<Quiet>) -> bool {
+    let before = view(one);
+    match send_begin(one) {
+        Some(is_sent) => is_sent,
+        None => view(one) == before && send_begin(one) == Some(true),
+    }
+}
+
+/// Three transfers wait, then the first goes out alone, and the others behind it.
+fn drained(one: &mut Session<Quiet>) -> bool {
+    send_twice(one, true) == Some(NOTHING)
+        && send_twice(one, false) == Some(NOTHING)
+        && send_twice(one, true) == Some(NOTHING)
+        && grant_twice(one, 0, 1, 1) == Some(Answer::Out([0, ABSENT, ABSENT, ABSENT]))
+        && grant_twice(one, 0, 3, 2) == Some(Answer::Out([NONE, 1, ABSENT, ABSENT]))
+}
+
+/// A transfer waits; the window of a refused flow lets it out before a new one.
+fn sent_behind(one: &mut Session<Quiet>) -> bool {
+    send_twice(one, true) == Some(NOTHING)
+        && grant_link(one, 3, 2) == Answer::Unattached
+        && send_twice(one, true) == Some(Answer::Out([2, 3, ABSENT, ABSENT]))
+}
+
+/// Transfers go out alone, each with the next number.
+fn sent_alone(one: &mut Session<Quiet>) -> bool {
+    let mut is_right = grant_twice(one, 5, 9, 9) == Some(NOTHING);
+    for id in 4..13 {
+        is_right = is_right
+            && send_twice(one, true) == Some(Answer::Out([id, ABSENT, ABSENT, ABSENT]));
+    }
+    is_right
+}
+
+/// It holds at whichever request for memory one is refused, as `rt try --test --fail-alloc N` does, and with none refused.
+#[test]
+fn want_of_memory_changes_nothing(rt: HostRuntime) -> Result<(), Fail> {
+    let mut one = unmapped(rt.alloc())?;
+    assert!(rt; begin_twice(&mut one));
+    assert!(rt; one.on_incoming_begin(IncomingChannel(1), begin(0)).is_ok());
+    assert!(rt; drained(&mut one));
+    assert!(rt; sent_behind(&mut one));
+    assert!(rt; sent_alone(&mut one));
+    assert_eq!(rt; one.held_back(), 0);
+    assert_eq!(rt; one.next_outgoing_id(), 14);
+    assert_eq!(rt; one.open_deliveries(), 13);
+    Ok(())
+}

@@ -1,0 +1,58 @@
+//! Both kinds of relay answer through the trait alone.
+
+use crate::made::transfer;
+use crate::relays::{Choosing, Quiet};
+use amqp_session::{LinkFlow, LinkRelay, LinkRelayError, OutputHandle};
+use amqp_types::{DeliveryTag, Handle, Role};
+use bytes::Bytes;
+
+/// A flow of handle 6 with credit 20, and nothing else.
+fn flow() -> LinkFlow {
+    LinkFlow {
+        handle: Handle(6),
+        delivery_count: None,
+        link_credit: Some(20),
+        available: None,
+        drain: false,
+        echo: true,
+        properties: None,
+    }
+}
+
+/// The credit of a relay's flow in answer to one, if any.
+fn credit_of_answer<R: LinkRelay>(relay: &mut R) -> Option<u32> {
+    match relay.on_incoming_flow(OutputHandle(1), flow()) {
+        Ok(Some(answer)) => answer.link_credit,
+        _answer => None,
+    }
+}
+
+/// Whether a relay takes a transfer, and names no delivery.
+fn takes_transfer<R: LinkRelay>(relay: &mut R) -> Result<bool, LinkRelayError> {
+    let named = relay.on_incoming_transfer(transfer(Some(b"t")), Bytes::from_static(b"m"))?;
+    Ok(named.is_none())
+}
+
+/// Whether a relay wants an unsettled disposition echoed.
+fn wants_echo<R: LinkRelay>(relay: &mut R) -> bool {
+    let tag = DeliveryTag(Bytes::from_static(b"t"));
+    relay.on_incoming_disposition(Role::Receiver, false, None, &tag)
+}
+
+#[test]
+fn a_quiet_relay_takes_what_comes(rt: HostRuntime) {
+    let mut quiet = Quiet;
+    assert!(rt; credit_of_answer(&mut quiet).is_none());
+    assert!(rt; takes_transfer(&mut quiet) == Ok(true));
+    assert!(rt; wants_echo(&mut quiet));
+}
+
+#[test]
+fn a_choosing_relay_answers_while_it_has_credit(rt: HostRuntime) {
+    let mut choosing = Choosing { credit: 1 };
+    assert!(rt; wants_echo(&mut choosing));
+    assert!(rt; credit_of_answer(&mut choosing) == Some(20));
+    assert!(rt; credit_of_answer(&mut choosing).is_none());
+    assert!(rt; takes_transfer(&mut choosing) == Err(LinkRelayError::TransferFrameToSender));
+    assert!(rt; !wants_echo(&mut choosing));
+}

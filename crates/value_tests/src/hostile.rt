@@ -1,0 +1,112 @@
+//! Values of anyone: deep ones, and numbers that promise more than there is.
+
+use amqp_values::{Raw, ReadError};
+use bytes::{Bytes, BytesMut};
+use std::alloc::Global;
+use std::test::Fail;
+
+/// Whether the bytes are one value and nothing more; `None` where memory was refused.
+fn is_value(bytes: Bytes) -> Option<bool> {
+    match Raw::read(bytes) {
+        Ok((_, rest)) => Some(rest.is_empty()),
+        Err(ReadError::Malformed) => Some(false),
+        Err(ReadError::OutOfMemory) => None,
+    }
+}
+
+/// A value of this depth: described values, one inside the other, round a value of no depth.
+fn described(alloc: Global, depth: u8) -> Result<Bytes, Fail> {
+    let mut text = BytesMut::new(alloc);
+    for _ in 0..depth {
+        text.extend_from_slice(&[0x00, 0x53, 0x24])?;
+    }
+    text.extend_from_slice(&[0x41])?;
+    Ok(text.freeze()?)
+}
+
+/// A value of this depth: descriptors, one inside the other.
+fn in_descriptors(alloc: Global, depth: u8) -> Result<Bytes, Fail> {
+    let mut text = BytesMut::new(alloc);
+    for _ in 0..depth {
+        text.extend_from_slice(&[0x00])?;
+    }
+    text.extend_from_slice(&[0x44])?;
+    for _ in 0..depth {
+        text.extend_from_slice(&[0x41])?;
+    }
+    Ok(text.freeze()?)
+}
+
+/// Arrays of one element each, one inside the other, round one without an element: as deep as one more than their number.
+fn arrays(alloc: Global, around: u8) -> Result<Bytes, Fail> {
+    let mut text = BytesMut::new(alloc);
+    text.extend_from_slice(&[0xe0])?;
+    for inside in (0..around).rev() {
+        let size = inside.saturating_mul(3).saturating_add(5);
+        text.extend_from_slice(&[size, 1, 0xe0])?;
+    }
+    text.extend_from_slice(&[2, 0, 0x40])?;
+    Ok(text.freeze()?)
+}
+
+/// Maps, one inside the other as the value of a key, round an empty one: as deep as one more than their number.
+fn maps(alloc: Global, around: u8) -> Result<Bytes, Fail> {
+    let mut text = BytesMut::new(alloc);
+    for inside in (0..around).rev() {
+        let size = u32::from(inside) * 11 + 9;
+        text.extend_from_slice(&[0xd1])?;
+        text.extend_from_slice(&size.to_be_bytes())?;
+        text.extend_from_slice(&[0, 0, 0, 2, 0x52, 7])?;
+    }
+    text.extend_from_slice(&[0xc1, 1, 0])?;
+    Ok(text.freeze()?)
+}
+
+#[test]
+fn described_values_nest_64_times(rt: HostRuntime) -> Result<(), Fail> {
+    for (depth, want) in [(63, true), (64, true), (65, false)] {
+        let text = described(rt.alloc(), depth)?;
+        assert_eq!(rt; is_value(text), Some(want), "depth {depth}");
+        let text = in_descriptors(rt.alloc(), depth)?;
+        assert_eq!(rt; is_value(text), Some(want), "depth {depth}");
+    }
+    Ok(())
+}
+
+#[test]
+fn arrays_and_maps_nest_64_times(rt: HostRuntime) -> Result<(), Fail> {
+    for (around, want) in [(62, true), (63, true), (64, false)] {
+        let text = arrays(rt.alloc(), around)?;
+        assert_eq!(rt; is_value(text), Some(want), "arrays round {around}");
+        let text = maps(rt.alloc(), around)?;
+        assert_eq!(rt; is_value(text), Some(want), "maps round {around}");
+    }
+    Ok(())
+}
+
+/// Lengths, sizes and counts of 32 bits that say more than what follows. None of these asks for memory: the test passes too
+/// where the first request is refused (`rt try --test --fail-alloc 1`).
+const TOO_LONG: [&'static [u8]; 12] = [
+    &[0xb0, 0xff, 0xff, 0xff, 0xff, 0x61],
+    &[0xb1, 0xff, 0xff, 0xff, 0xff, 0x61],
+    &[0xb3, 0xff, 0xff, 0xff, 0xff, 0x61],
+    &[0xd0, 0xff, 0xff, 0xff, 0xff, 0, 0, 0, 1, 0x40],
+    &[0xd0, 0, 0, 0, 5, 0xff, 0xff, 0xff, 0xff, 0x40],
+    &[0xd1, 0xff, 0xff, 0xff, 0xff, 0, 0, 0, 2, 0x40, 0x40],
+    &[0xd1, 0, 0, 0, 6, 0xff, 0xff, 0xff, 0xfe, 0x40, 0x40],
+    &[0xf0, 0xff, 0xff, 0xff, 0xff, 0, 0, 0, 1, 0x50, 7],
+    &[0xf0, 0, 0, 0, 6, 0xff, 0xff, 0xff, 0xff, 0x50, 7],
+    &[0xf0, 0, 0, 0, 7, 0xff, 0xff, 0xff, 0xff, 0xa0, 1, 7],
+    &[
+        0xf0, 0, 0, 0, 8, 0xff, 0xff, 0xff, 0xff, 0x00, 0x44, 0x50, 7,
+    ],
+    &[0xf0, 0, 0, 0, 8, 0xff, 0xff, 0xff, 0xff, 0xe0, 2, 0, 0x40],
+];
+
+#[test]
+fn lengths_of_32_bits_against_short_input(rt: HostRuntime) {
+    for bytes in TOO_LONG {
+        let answer = is_value(Bytes::from_static(bytes));
+        assert!(rt; answer == Some(false));
+    }
+}

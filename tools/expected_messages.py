@@ -1,0 +1,114 @@
+#!/usr/bin/env python3
+"""Writes the input and the expected output of the program message_tests from the recorded frames.
+
+    tools/expected_messages.py          writes crates/message_tests/{stdin,stdout}
+
+A message that was recorded as several transfers is one line of the input: the other side's max-frame-size less four, and
+the frames. What is expected is made from what another implementation's decoder said of the first frame, and from the
+payload's bytes: the transfer's texts are spelled here, and the payload is cut byte by byte.
+"""
+
+import hashlib
+import json
+from pathlib import Path
+
+CRATES = Path(__file__).resolve().parent.parent / "crates"
+CAPTURES = CRATES / "codec_tests" / "captures"
+OPEN, TRANSFER = 0x10, 0x14
+HANDLE, DELIVERY_ID, TAG, FORMAT, SETTLED, MORE, RECEIVER, STATE = range(8)
+
+# ---- the canonical text of a transfer (AMQP 1.0 part 2, section 2.7.5)
+
+
+def uint(n):
+    if n is None:
+        return b"\x40"
+    if n == 0:
+        return b"\x43"
+    return bytes([0x52, n]) if n < 256 else b"\x70" + n.to_bytes(4, "big")
+
+
+def tag(said):
+    if said is None:
+        return b"\x40"
+    of = bytes.fromhex(said["bin"])
+    assert len(of) < 256
+    return bytes([0xA0, len(of)]) + of
+
+
+def flag(said):
+    return {None: b"\x40", True: b"\x41", False: b"\x42"}[said]
+
+
+def text(transfer, more, goes_on):
+    """The transfer's text; one that goes on with a delivery does not say again what concerns the whole delivery."""
+    if goes_on:
+        fields = [uint(transfer[HANDLE])] + [b"\x40"] * 4
+    else:
+        fields = [uint(transfer[HANDLE]), uint(transfer[DELIVERY_ID]), tag(transfer[TAG]), uint(transfer[FORMAT]), flag(transfer[SETTLED])]
+    fields.append(flag(True) if more else b"\x40")
+    while fields[-1] == b"\x40":
+        fields.pop()
+    body = bytes([len(fields)]) + b"".join(fields)
+    return b"\x00\x53\x14\xc0" + bytes([len(body)]) + body
+
+
+# ---- the cut (part 2, section 2.6.14)
+
+
+def cut(header, transfer, payload, limit):
+    """The head of each piece, and its part of the payload."""
+    first, middle, last = [header + text(transfer, more, on) for more, on in [(True, False), (True, True), (False, True)]]
+    pieces, head, part = [], first, b""
+    for n in range(len(payload)):
+        if len(head) + len(part) == limit:
+            pieces.append((head, part))
+            head, part = middle, b""
+        part += payload[n : n + 1]
+    return pieces + [(last, part)]
+
+
+# ---- the recorded messages
+
+
+def messages():
+    """Each recorded message of several frames: the limit, its frames, its first transfer and its payload."""
+    for frames in sorted(CAPTURES.glob("*.txt")):
+        said = [json.loads(line) for line in frames.with_suffix(".fields.jsonl").read_text().splitlines()]
+        sizes, begun = {}, {}
+        for line, one in zip(frames.read_text().splitlines(), said):
+            side, frame = line.split(" ")
+            fields = (one["fields"] or []) + [None] * 11 if one["code"] is not None else []
+            if one["code"] == OPEN:
+                sizes[side] = fields[2]
+            if one["code"] != TRANSFER:
+                continue
+            of = begun.setdefault((side, one["ch"], fields[HANDLE]), [])
+            of.append((frame, fields, bytes.fromhex(frame)[len(frame) // 2 - one["payload"] :]))
+            if fields[MORE]:
+                continue
+            del begun[(side, one["ch"], fields[HANDLE])]
+            if len(of) > 1:
+                other = sizes["B" if side == "A" else "A"]
+                yield other - 4, [frame for frame, _, _ in of], of[0][1], b"".join(part for _, _, part in of)
+
+
+def main():
+    given, wanted = [], []
+    for limit, frames, transfer, payload in messages():
+        assert not any(transfer[RECEIVER:])
+        header = bytes.fromhex(frames[0])[:4]
+        pieces = cut(header, transfer, payload, limit)
+        assert len(header + text(transfer, False, False) + payload) > limit
+        digest = hashlib.sha256(payload).hexdigest()
+        given.append(f"{limit} {' '.join(frames)}")
+        wanted.append(f"{len(pieces)} pieces, {len(payload)} bytes, whole, {digest}")
+        wanted += [f"{head.hex()} {len(part)}" for head, part in pieces]
+    crate = CRATES / "message_tests"
+    (crate / "stdin").write_text("\n".join(given) + "\n")
+    (crate / "stdout").write_text("\n".join(wanted) + "\n")
+    print(f"{len(given)} messages")
+
+
+if __name__ == "__main__":
+    main()
