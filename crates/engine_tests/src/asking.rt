@@ -51,7 +51,8 @@ pub fn puts_out(alloc: Global, engine: &mut ReplayEngine, lines: &str) -> bool {
     }
 }
 
-/// An engine in this state, whose Open has no name.
+/// An engine in this state, whose Open has no name. Tests drop it by name: where a scope's end lets it go, the proof takes
+/// minutes.
 pub fn engine_in(alloc: Global, state: ConnectionState) -> ReplayEngine {
     Engine::new(alloc, state, unnamed_open(alloc))
 }

@@ -40,6 +40,15 @@ fn channels_are_given_by_the_state(rt: HostRuntime) {
     }
 }
 
+#[test]
+fn the_recorded_reason_is_told(rt: HostRuntime) {
+    let mut connection = unnamed(rt.alloc(), ConnectionState::End);
+    connection.set_connection_stop_reason(ConnectionStopReason::RemoteClosed);
+    let want = AllocSessionError::ConnectionStopped(ConnectionStopReason::RemoteClosed);
+    assert!(rt; connection.allocate_session(SessionNo(0)).err() == Some(want));
+    drop(connection);
+}
+
 /// The channel that a session is given; 1000 where the maximum is reached, 2000 where it is refused otherwise.
 fn given(connection: &mut Connection, number: u32) -> u16 {
     match connection.allocate_session(SessionNo(number)) {
@@ -98,8 +107,9 @@ fn begin(remote_channel: Option<u16>) -> Begin {
 fn begun(connection: &mut Connection, channel: u16, remote_channel: Option<u16>) -> u32 {
     match connection.on_incoming_begin(IncomingChannel(channel), begin(remote_channel)) {
         Ok((number, frame)) => {
+            let is_right = frame.channel == channel;
             drop(frame);
-            number.0
+            if is_right { number.0 } else { 2000 }
         }
         Err(error) => {
             drop(error);
@@ -112,8 +122,9 @@ fn begun(connection: &mut Connection, channel: u16, remote_channel: Option<u16>)
 fn ended(connection: &mut Connection, channel: u16) -> u32 {
     match connection.on_incoming_end(IncomingChannel(channel), End { error: None }) {
         Ok((number, frame)) => {
+            let is_right = frame.channel == channel;
             drop(frame);
-            number.0
+            if is_right { number.0 } else { 2000 }
         }
         Err(error) => {
             drop(error);

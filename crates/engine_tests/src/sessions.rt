@@ -1,11 +1,14 @@
 //! Sessions in an engine: begun, granted a window, ended.
 
 use crate::asking::{
-    answer, begins, hear, numbers_of, opened, puts_out, reason_of, send, state_of,
+    answer, begins, first_transfer, hear, numbers_of, opened, puts_out, reason_of, send, state_of,
 };
 use crate::given::ReplayEngine;
 use bytes::Bytes;
-use fe2o3_amqp::{Input, SessionNo, SessionSettings, SessionState, SessionStopReason};
+use fe2o3_amqp::{
+    Flow, Input, InputHandle, OutgoingChannel, ReplayRelay, Session, SessionInnerError, SessionNo,
+    SessionSettings, SessionState, SessionStopReason,
+};
 use std::alloc::Global;
 
 /// The peer's Begin on channel 5, which names channel 0 and grants a window of 1.
@@ -144,4 +147,71 @@ fn a_refused_begin_makes_a_route(rt: HostRuntime) {
     assert_eq!(rt; hear(rt.alloc(), &mut engine, FLOW), "done");
     assert_eq!(rt; numbers_of(&engine, 0), (0, 0, 0));
     drop(engine);
+}
+
+/// A session alone that has sent its Begin.
+fn begun(alloc: Global) -> Session<ReplayRelay> {
+    let settings = SessionSettings::new();
+    Session::new(
+        alloc,
+        settings,
+        OutgoingChannel(0),
+        SessionState::BeginSent,
+        None,
+    )
+}
+
+/// Whether a flow that expects transfer 0 and grants 2 is taken, and nothing goes out.
+fn is_granted(session: &mut Session<ReplayRelay>) -> bool {
+    let flow = Flow {
+        next_incoming_id: Some(0),
+        incoming_window: 2,
+        next_outgoing_id: 0,
+        outgoing_window: 8,
+        handle: None,
+        delivery_count: None,
+        link_credit: None,
+        available: None,
+        drain: false,
+        echo: false,
+        properties: None,
+    };
+    match session.on_incoming_flow(flow) {
+        Ok(item) => {
+            let is_none = item.is_none();
+            drop(item);
+            is_none
+        }
+        Err(error) => {
+            drop(error);
+            false
+        }
+    }
+}
+
+/// Whether a transfer is refused by the state.
+fn is_refused(session: &mut Session<ReplayRelay>) -> bool {
+    let transfer = first_transfer(b"\x0a");
+    match session.on_outgoing_transfer(InputHandle(0), transfer, Bytes::new(), true) {
+        Ok(item) => {
+            drop(item);
+            false
+        }
+        Err(error) => {
+            let is_illegal = error == SessionInnerError::IllegalState;
+            drop(error);
+            is_illegal
+        }
+    }
+}
+
+/// A flow counts before the peer's Begin, but no transfer is taken.
+#[test]
+fn a_flow_counts_before_the_peers_begin(rt: HostRuntime) {
+    let mut session = begun(rt.alloc());
+    assert!(rt; is_granted(&mut session));
+    assert_eq!(rt; session.remote_incoming_window(), 2);
+    assert!(rt; is_refused(&mut session));
+    assert_eq!(rt; session.next_outgoing_id(), 0);
+    drop(session);
 }

@@ -1,6 +1,6 @@
 //! Single inputs of an engine.
 
-use crate::asking::{answer, engine_in, puts_out};
+use crate::asking::{answer, engine_in, hear, puts_out};
 use crate::given::{connection_state, empty, peer_close, peer_open};
 use bytes::Bytes;
 use fe2o3_amqp::{ConnectionState, ConnectionStopReason, Input};
@@ -48,6 +48,23 @@ fn received_frames_move_the_state(rt: HostRuntime) {
     assert_eq!(rt; connection_state(&engine), ConnectionState::CloseReceived);
     let reason = engine.connection().connection_stop_reason();
     assert_eq!(rt; reason, Some(ConnectionStopReason::RemoteClosed));
+    drop(engine);
+}
+
+/// The peer's Close has an error; it answers one of this side.
+#[test]
+fn the_reason_of_the_first_close_stays(rt: HostRuntime) {
+    let close = "02000000005318c00c0100531dc00601a303613a62";
+    let mut engine = engine_in(rt.alloc(), ConnectionState::Opened);
+    assert_eq!(rt; answer(&mut engine, Input::Close(None)), "done");
+    assert!(rt; puts_out(rt.alloc(), &mut engine, "out 0200000000531845\n"));
+    assert_eq!(rt;
+        hear(rt.alloc(), &mut engine, close),
+        "RemoteClosedWithError"
+    );
+    assert_eq!(rt; connection_state(&engine), ConnectionState::End);
+    let reason = engine.connection().connection_stop_reason();
+    assert_eq!(rt; reason, Some(ConnectionStopReason::Closed));
     drop(engine);
 }
 
