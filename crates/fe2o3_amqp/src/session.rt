@@ -1,4 +1,4 @@
-//! Sessions. The engine does not drive them yet.
+//! Sessions, by themselves or in an engine.
 
 pub use amqp_session::{
     AllocLinkError, BeginError, Error, InputHandle, LinkFlow, LinkRelay, LinkRelayError,
