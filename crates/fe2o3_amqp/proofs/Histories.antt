@@ -148,7 +148,7 @@ incoming_close v k c (Some state.RemoteClosed) s = taken_close v k s.0 s.1 s.3
 incoming_close v k c (Some (state.RemoteClosedWithError x)) s = taken_close v k s.0 s.1 s.3
 incoming_close v k c (Some (state.TransportError x)) s = taken_close v k s.0 s.1 s.3
 
-recorded_state : (next : Option ConnectionState) (r : ConnectionStopReason) (k : ConnectionView) → (recorded next r k).state ≡ k.state
+pub recorded_state : (next : Option ConnectionState) (r : ConnectionStopReason) (k : ConnectionView) → (recorded next r k).state ≡ k.state
 recorded_state None r k = refl
 recorded_state (Some at.Start) r k = refl
 recorded_state (Some at.HeaderReceived) r k = refl
@@ -174,7 +174,7 @@ close_heard v w c r idle s =
     let same : k.state ≡ before.state = ap (λ (x : ConnectionView). x.state) s.2.2 ∙ recorded_state (takes_close v.connection.state) (remote_reason c.error) before in
     moves v w (record v { connection = k }) idle s.4 idle (subst (λ (x : ConnectionState). Spends 0 0 v.connection.state x) (sym same) m)
 
-begin_routed : (v k : ConnectionView) (c : ℕ) (remote : Option ℕ) (found : Result ℕ ConnectionInnerError) → BeginRouteStep v c remote found k → k.state ≡ v.state
+pub begin_routed : (v k : ConnectionView) (c : ℕ) (remote : Option ℕ) (found : Result ℕ ConnectionInnerError) → BeginRouteStep v c remote found k → k.state ≡ v.state
 begin_routed v k c remote (Ok n) s = ap (λ (x : ConnectionView). x.state) s.2
 begin_routed v k c remote (Err inner.IllegalState) s = ap (λ (x : ConnectionView). x.state) s.1
 begin_routed v k c remote (Err (inner.NotImplemented t)) s = ap (λ (x : ConnectionView). x.state) s.3
@@ -184,7 +184,7 @@ begin_routed v k c remote (Err (inner.TransportError x)) s = absurd s
 begin_routed v k c remote (Err inner.RemoteClosed) s = absurd s
 begin_routed v k c remote (Err (inner.RemoteClosedWithError x)) s = absurd s
 
-end_routed : (v k : ConnectionView) (c : ℕ) (found : Result ℕ ConnectionInnerError) → EndRouteStep v c found k → k.state ≡ v.state
+pub end_routed : (v k : ConnectionView) (c : ℕ) (found : Result ℕ ConnectionInnerError) → EndRouteStep v c found k → k.state ≡ v.state
 end_routed v k c (Ok n) s = ap (λ (x : ConnectionView). x.state) s.2
 end_routed v k c (Err inner.IllegalState) s = ap (λ (x : ConnectionView). x.state) s.1
 end_routed v k c (Err (inner.NotFound t)) s = ap (λ (x : ConnectionView). x.state) s.3
@@ -194,7 +194,7 @@ end_routed v k c (Err inner.RemoteClosed) s = absurd s
 end_routed v k c (Err (inner.RemoteClosedWithError x)) s = absurd s
 end_routed v k c (Err inner.OutOfMemory) s = absurd s
 
-route_kept : (v k : ConnectionView) (c : ℕ) (found : Result ℕ ConnectionInnerError) → RouteStep v c found k → k.state ≡ v.state
+pub route_kept : (v k : ConnectionView) (c : ℕ) (found : Result ℕ ConnectionInnerError) → RouteStep v c found k → k.state ≡ v.state
 route_kept v k c (Ok n) s = ap (λ (x : ConnectionView). x.state) s.1
 route_kept v k c (Err (inner.NotFound t)) s = ap (λ (x : ConnectionView). x.state) s.2
 route_kept v k c (Err inner.IllegalState) s = absurd s

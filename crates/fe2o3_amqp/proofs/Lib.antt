@@ -10,6 +10,8 @@ pub mod Histories
 pub mod Effects
 pub mod Projection
 pub mod Routing
+pub mod Stating
+pub mod Reaching
 pub mod Telling
 pub mod Holding
 pub mod Keeping

@@ -1,9 +1,8 @@
 -- Routes, by the history, and the frames that go along them.
 use Rattle.std.proofs.Common.{◌≡◌, ◌⊎◌, ◌++◌, ℕ, List, [], ◌∷◌, Option, Some, None, Result, Ok, Err, refl, ap, sym, subst, ◌∙◌, inl, inr, cond, nat_eq, Bool, true, false}
 use Rattle.std.specs.FinMap as map
-use Rattle.std.specs.FinMap.{get-empty, get-insert, get-remove}
+use Rattle.std.specs.FinMap.{get-insert, get-remove}
 use Rattle.std.specs.Cmp.{nat_cmp_total}
-use Rattle.std.specs.Ordering.{nat_cmp}
 use Rattle.amqp_types.specs.declared.states.ConnectionState.{ConnectionState}
 use Rattle.amqp_types.specs.declared.states.ConnectionState.TheVariants as at
 use Rattle.amqp_types.specs.Error.{ErrorSaid}
@@ -31,12 +30,12 @@ use Rattle.fe2o3_amqp.specs.declared.engine.input.StepError.TheVariants as no
 use Rattle.fe2o3_amqp.specs.Channels.{Held}
 use Rattle.fe2o3_amqp.specs.States.{takes_close}
 use Rattle.fe2o3_amqp.specs.Connection.{ConnectionView, SendOpenStep, SendCloseStep, IncomingOpenStep, IncomingCloseStep, BeginRouteStep, EndRouteStep, RouteStep, not_found}
-use Rattle.fe2o3_amqp.specs.EngineView.{EngineView, new_engine}
+use Rattle.fe2o3_amqp.specs.EngineView.{EngineView}
 use Rattle.fe2o3_amqp.specs.Sessions.{Calls, Called, Unknown, Does, Reaches, BeginRequest, ReleaseRequest, told_state, told_session}
 use Rattle.fe2o3_amqp.specs.Engine.{Entry, Step, Carries, Received, Heard, OpenRequest, CloseRequest, OpenHeard, CloseHeard, recorded, remote_reason}
-use Rattle.fe2o3_amqp.specs.History.{Taken, Chain, LeadsTo}
+use Rattle.fe2o3_amqp.specs.History.{Taken, Chain}
 use Rattle.fe2o3_amqp.specs.Reach.{route_said, route_by, route_from, route}
-use Rattle.fe2o3_amqp.specs.Headline.{GoesAlong, Passes, FramesReach}
+use Rattle.fe2o3_amqp.specs.Headline.{GoesAlong, Passes}
 use Rattle.fe2o3_amqp.proofs.AsMap.{same_test}
 
 abbrev pub routes_of : {R : Type 0} → EngineView R → Held
@@ -267,7 +266,7 @@ pub step_route : {R : Type 0} (g : Relays R) (c : ℕ) (v w : EngineView R) (e :
 step_route g c v w e (inl s) = unheard c v w e.heard e.reached s.2 (K w v s.5)
 step_route g c v w e (inr s) = carries g c v w e.input e.heard e.reached e.calls e.refusal s.2
 
-taken_routes : {R : Type 0} (v u : EngineView R) → Taken v u → routes_of u ≡ routes_of v
+pub taken_routes : {R : Type 0} (v u : EngineView R) → Taken v u → routes_of u ≡ routes_of v
 taken_routes v u t = C u.connection v.connection t.connection_is
 
 -- the route of a channel is what the history says
@@ -313,23 +312,23 @@ along : {R : Type 0} (g : Relays R) (v w : EngineView R) (c : ℕ) (asks : Calls
 along g v w c asks e found (inl s) = let n = no_route v.connection s.1 c s.0 s.2 in subst (λ o. GoesAlong o e) (sym n.0) (s.3, s.5 ∙ ap (λ x. Some (no.Connection x)) n.1)
 along g v w c asks e found (inr s) = subst (λ o. GoesAlong o e) (sym s.2.0) (reached_one g (record v { connection = s.1 }) w s.0 asks e found s.3)
 
-abbrev EndGoes : {R : Type 0} → Option ℕ → Entry R → Type 0
-EndGoes route e = GoesAlong route e ⊎ ((e.reached ≡ None) × (e.refusal ≡ Some (no.Connection inner.IllegalState)))
+abbrev EndGoes : {R : Type 0} → ConnectionState → Option ℕ → Entry R → Type 0
+EndGoes s route e = (s ≡ at.Opened → GoesAlong route e) × (¬ (s ≡ at.Opened) → (e.reached ≡ None) × (e.refusal ≡ Some (no.Connection inner.IllegalState)))
 
-end_stopped : {R : Type 0} (v k : ConnectionView) (c : ℕ) (x : ConnectionInnerError) (e : Entry R) → EndRouteStep v c (Err x) k → e.reached ≡ None → e.refusal ≡ Some (no.Connection x) → EndGoes (map.get v.routes c) e
-end_stopped v k c inner.IllegalState e s a b = inr (a, b)
-end_stopped v k c (inner.NotFound t) e s a b = inl (subst (λ o. GoesAlong o e) (sym s.1) (a, b ∙ ap (λ y. Some (no.Connection (inner.NotFound y))) s.2))
+end_stopped : {R : Type 0} (v k : ConnectionView) (c : ℕ) (x : ConnectionInnerError) (e : Entry R) → EndRouteStep v c (Err x) k → e.reached ≡ None → e.refusal ≡ Some (no.Connection x) → EndGoes v.state (map.get v.routes c) e
+end_stopped v k c inner.IllegalState e s a b = (λ o. absurd (s.0 o), λ n. (a, b))
+end_stopped v k c (inner.NotFound t) e s a b = (λ o. subst (λ z. GoesAlong z e) (sym s.1) (a, b ∙ ap (λ y. Some (no.Connection (inner.NotFound y))) s.2), λ n. absurd (n s.0))
 end_stopped v k c (inner.NotImplemented t) e s a b = absurd s
 end_stopped v k c inner.OutOfMemory e s a b = absurd s
 end_stopped v k c (inner.TransportError y) e s a b = absurd s
 end_stopped v k c inner.RemoteClosed e s a b = absurd s
 end_stopped v k c (inner.RemoteClosedWithError y) e s a b = absurd s
 
-end_along : {R : Type 0} (g : Relays R) (v w : EngineView R) (c : ℕ) (asks : Calls R) (e : Entry R) → Found asks → Reaches g (EndRouteStep v.connection c) v asks e.reached e.calls e.refusal w → EndGoes (map.get (routes_of v) c) e
+end_along : {R : Type 0} (g : Relays R) (v w : EngineView R) (c : ℕ) (asks : Calls R) (e : Entry R) → Found asks → Reaches g (EndRouteStep v.connection c) v asks e.reached e.calls e.refusal w → EndGoes v.connection.state (map.get (routes_of v) c) e
 end_along g v w c asks e found (inl s) = end_stopped v.connection s.1 c s.0 e s.2 s.3 s.5
-end_along g v w c asks e found (inr s) = inl (subst (λ o. GoesAlong o e) (sym s.2.1) (reached_one g (record v { connection = s.1 }) w s.0 asks e found s.3))
+end_along g v w c asks e found (inr s) = (λ o. subst (λ z. GoesAlong z e) (sym s.2.1) (reached_one g (record v { connection = s.1 }) w s.0 asks e found s.3), λ n. absurd (n s.2.0))
 
-passes : {R : Type 0} (g : Relays R) (v w : EngineView R) (c : ℕ) (b : FrameBody) (e : Entry R) → Heard g v c b e.reached e.calls e.refusal w → Passes b (map.get (routes_of v) c) e
+passes : {R : Type 0} (g : Relays R) (v w : EngineView R) (c : ℕ) (b : FrameBody) (e : Entry R) → Heard g v c b e.reached e.calls e.refusal w → Passes b v.connection.state (map.get (routes_of v) c) e
 passes g v w c (body.Flow p) e s = along g v w c _ e (λ t cs r a. subst (λ x. ¬ (x ≡ Some (no.Connection not_found))) (sym a.3) (session_found a.1)) s
 passes g v w c (body.Transfer p payload) e s = along g v w c _ e (λ t cs r a. subst (λ x. ¬ (x ≡ Some (no.Connection not_found))) (sym a.4) (session_found a.1)) s
 passes g v w c (body.End p) e s = end_along g v w c _ e (λ t cs r a. subst (λ x. ¬ (x ≡ Some (no.Connection not_found))) (sym a.2) (state_found a.0)) s
@@ -347,11 +346,11 @@ some_none e = cc
 same_frame : (f h : Frame) → Some f ≡ Some h → f ≡ h
 same_frame f h e = cc
 
-heard_passes : {R : Type 0} (g : Relays R) (v w : EngineView R) (bytes : List ℕ) (e : Entry R) (f : Frame) → e.heard ≡ Some f → Received g v bytes e.heard e.reached e.calls e.refusal w → Passes f.body (map.get (routes_of v) f.channel) e
+heard_passes : {R : Type 0} (g : Relays R) (v w : EngineView R) (bytes : List ℕ) (e : Entry R) (f : Frame) → e.heard ≡ Some f → Received g v bytes e.heard e.reached e.calls e.refusal w → Passes f.body v.connection.state (map.get (routes_of v) f.channel) e
 heard_passes g v w bytes e f is (inl s) = absurd (some_none (sym is ∙ s.2))
-heard_passes g v w bytes e f is (inr s) = subst (λ (h : Frame). Passes h.body (map.get (routes_of v) h.channel) e) (same_frame s.0 f (sym s.3 ∙ is)) (passes g v w s.0.channel s.0.body e s.4)
+heard_passes g v w bytes e f is (inr s) = subst (λ (h : Frame). Passes h.body v.connection.state (map.get (routes_of v) h.channel) e) (same_frame s.0 f (sym s.3 ∙ is)) (passes g v w s.0.channel s.0.body e s.4)
 
-input_passes : {R : Type 0} (g : Relays R) (v w : EngineView R) (i : Input) (e : Entry R) (f : Frame) → e.heard ≡ Some f → Carries g v i e.heard e.reached e.calls e.refusal w → Passes f.body (map.get (routes_of v) f.channel) e
+input_passes : {R : Type 0} (g : Relays R) (v w : EngineView R) (i : Input) (e : Entry R) (f : Frame) → e.heard ≡ Some f → Carries g v i e.heard e.reached e.calls e.refusal w → Passes f.body v.connection.state (map.get (routes_of v) f.channel) e
 input_passes g v w (input.Received bytes) e f is s = heard_passes g v w bytes e f is s
 input_passes g v w input.Open e f is s = absurd (some_none (sym is ∙ s.0))
 input_passes g v w (input.Close error) e f is s = absurd (some_none (sym is ∙ s.0))
@@ -362,13 +361,6 @@ input_passes g v w (input.Transfer k h t payload first) e f is s = absurd (some_
 input_passes g v w (input.Release k) e f is s = absurd (some_none (sym is ∙ s.0))
 input_passes g v w (input.Stop k reason) e f is s = absurd (some_none (sym is ∙ s.0))
 
-step_passes : {R : Type 0} (g : Relays R) (v w : EngineView R) (e : Entry R) (f : Frame) → e.heard ≡ Some f → Step g v e w → Passes f.body (map.get (routes_of v) f.channel) e
+pub step_passes : {R : Type 0} (g : Relays R) (v w : EngineView R) (e : Entry R) (f : Frame) → e.heard ≡ Some f → Step g v e w → Passes f.body v.connection.state (map.get (routes_of v) f.channel) e
 step_passes g v w e f is (inl s) = absurd (some_none (sym is ∙ s.2))
 step_passes g v w e f is (inr s) = input_passes g v w e.input e f is s.2
-
-pub frames_reach : {R : Type 0} (g : Relays R) (made : ConnectionState) (o : OpenSaid) (H : List (Entry R)) (w : EngineView R) → LeadsTo g made o H w → FramesReach H
-frames_reach g made o H w l before after e is f heard =
-    let r = Chain-split g before (e ∷ after) (new_engine made o) w (subst (λ (es : List (Entry _)). Chain g (new_engine made o) es w) is l) in
-    subst (λ x. Passes f.body x e)
-    (ap (λ (m : Held). map.get m f.channel) (taken_routes r.0 r.2.0 r.2.2) ∙ route_law g f.channel before (new_engine made o) r.0 r.1 ∙ ap (λ x. route_from f.channel x before) (get-empty nat_cmp f.channel))
-    (step_passes g r.2.0 r.2.1 e f heard r.2.3)

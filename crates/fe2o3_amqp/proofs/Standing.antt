@@ -20,6 +20,7 @@ use Rattle.fe2o3_amqp.proofs.Beginning.{some_none}
 use Rattle.fe2o3_amqp.proofs.Limits.{step_limit}
 use Rattle.fe2o3_amqp.proofs.Projection.{legal, same_some}
 use Rattle.fe2o3_amqp.proofs.Routing.{route_law}
+use Rattle.fe2o3_amqp.proofs.Stating.{state_law}
 use Rattle.fe2o3_amqp.proofs.Keeping.{holds}
 
 limit_step : {R : Type 0} (g : Relays R) (v w : EngineView R) (e : Entry R) → Step g v e w → w.limit ≡ limit_by v.limit e
@@ -47,6 +48,7 @@ stands g law made o H w l = record {
     | inl none ↦ none.2
     | inr some ↦ absurd (some_none (sym some.2.begun_is ∙ b))
   ];
+  state_is = state_law g H (new_engine made o) w l;
   held_is = λ c. holds g c made o H w l;
   routes_are = λ c. route_law g c H (new_engine made o) w l ∙ ap (λ x. route_from c x H) (get-empty nat_cmp c);
   limit_is = limit_law g H (new_engine made o) w l;

@@ -1,10 +1,10 @@
 -- The headline: what holds of every history of an engine, said of the history alone.
-use Rattle.std.specs.Prelude.{ℕ, ◌≡◌, ◌≤◌, ◌+◌, ◌⊎◌, List, [], ◌∷◌, ◌++◌, length, Option, Some, None, Result, Ok, MatchResult, nat_eq}
+use Rattle.std.specs.Prelude.{ℕ, ◌≡◌, ◌≤◌, ◌+◌, List, [], ◌∷◌, ◌++◌, length, Option, Some, None, Result, Ok, MatchResult, nat_eq}
 use Rattle.std.specs.Map.{lookup}
 use Rattle.std.specs.FinMap as map
 use Rattle.amqp_types.specs.declared.states.SessionState.TheVariants.{Unmapped}
 use Rattle.amqp_types.specs.declared.states.ConnectionState.{ConnectionState}
-use Rattle.amqp_types.specs.declared.states.ConnectionState.TheVariants.{HeaderExchange}
+use Rattle.amqp_types.specs.declared.states.ConnectionState.TheVariants.{HeaderExchange, Opened}
 use Rattle.amqp_types.specs.Open.{OpenSaid}
 use Rattle.amqp_types.specs.Begin.{BeginSaid}
 use Rattle.amqp_frames.specs.declared.frame.Frame.{Frame}
@@ -29,7 +29,7 @@ use Rattle.fe2o3_amqp.specs.Waits.{sent}
 use Rattle.amqp_session.specs.Handed.{calls_frames}
 use Rattle.fe2o3_amqp.specs.Sessions.{Calls, EndCalls, FlowCalls, TransferCalls, StopCalls, BeginHeardCalls, EndHeardCalls, FlowHeardCalls, TransferHeardCalls}
 use Rattle.fe2o3_amqp.specs.Engine.{Entry}
-use Rattle.fe2o3_amqp.specs.Reach.{of_session, begun, route, held}
+use Rattle.fe2o3_amqp.specs.Reach.{of_session, begun, state_from, route, held}
 use Rattle.fe2o3_amqp.specs.History.{LeadsTo}
 use Rattle.fe2o3_amqp.specs.Output.{Speaks, limit_after}
 
@@ -80,15 +80,15 @@ abbrev pub GoesAlong : {R : Type 0} → Option ℕ → Entry R → Type 0
 GoesAlong None e = (e.reached ≡ None) × (e.refusal ≡ Some (no.Connection not_found))
 GoesAlong (Some n) e = (e.reached ≡ Some n) × ¬ (e.refusal ≡ Some (no.Connection not_found))
 
--- a Flow and a Transfer go along in every state of the connection, and an End unless that refuses it
-abbrev pub Passes : {R : Type 0} → FrameBody → Option ℕ → Entry R → Type 0
-Passes (body.Flow p) route e = GoesAlong route e
-Passes (body.Transfer p payload) route e = GoesAlong route e
-Passes (body.End p) route e = GoesAlong route e ⊎ ((e.reached ≡ None) × (e.refusal ≡ Some (no.Connection inner.IllegalState)))
-Passes b route e = Unit {0}
+-- a Flow and a Transfer go along in every state of the connection; an End in Opened alone
+abbrev pub Passes : {R : Type 0} → FrameBody → ConnectionState → Option ℕ → Entry R → Type 0
+Passes (body.Flow p) state route e = GoesAlong route e
+Passes (body.Transfer p payload) state route e = GoesAlong route e
+Passes (body.End p) state route e = (state ≡ Opened → GoesAlong route e) × (¬ (state ≡ Opened) → (e.reached ≡ None) × (e.refusal ≡ Some (no.Connection inner.IllegalState)))
+Passes b state route e = Unit {0}
 
-abbrev pub FramesReach : {R : Type 0} → List (Entry R) → Type 0
-FramesReach H = (before after : List (Entry _)) (e : Entry _) → H ≡ before ++ e ∷ after → (f : Frame) → e.heard ≡ Some f → Passes f.body (route f.channel before) e
+abbrev pub FramesReach : {R : Type 0} → ConnectionState → List (Entry R) → Type 0
+FramesReach state H = (before after : List (Entry _)) (e : Entry _) → H ≡ before ++ e ∷ after → (f : Frame) → e.heard ≡ Some f → Passes f.body (state_from state before) (route f.channel before) e
 
 -- a Begin of the peer's reaches the session that holds the channel that it answers
 abbrev pub RoutesFollow : {R : Type 0} → List (Entry R) → Type 0
@@ -160,7 +160,7 @@ pub record Headline {R : Type 0} (state : ConnectionState) (H : List (Entry R)) 
   -- requests reach the session that they name
   pub requests_reach : RequestsReach H
   -- frames reach the last begun session of their channel
-  pub frames_reach : FramesReach H
+  pub frames_reach : FramesReach state H
   pub routes_follow : RoutesFollow H
   pub all_known : AllKnown H
   pub held_once : HeldOnce H
@@ -179,7 +179,8 @@ pub record Stands {R : Type 0} (made : ConnectionState) (o : OpenSaid) (H : List
       (stop : Option ConnectionStopReason) × (s : SessionView R) × (lookup (nat_eq n) v.sessions ≡ Some s)
       × single.Stands (record { settings = settings; channel = channel; state = Unmapped; stop = stop }) (of_session n H) s
   pub no_other : (n : ℕ) → begun n H ≡ None → lookup (nat_eq n) v.sessions ≡ None
-  -- channels, routes, and the limit of a piece
+  -- the connection's state, channels, routes, and the limit of a piece
+  pub state_is : v.connection.state ≡ state_from made H
   pub held_is : (c : ℕ) → map.get v.connection.held c ≡ held c H
   pub routes_are : (c : ℕ) → map.get v.connection.routes c ≡ route c H
   pub limit_is : v.limit ≡ limit_after (own_limit o) H

@@ -1,5 +1,6 @@
 -- What a history says of sessions, channels and routes: by its entries alone, the oldest first.
-use Rattle.std.specs.Prelude.{ℕ, List, [], ◌∷◌, ◌++◌, Option, Some, None, Bool, false, cond, nat_eq}
+use Rattle.std.specs.Prelude.{ℕ, List, [], ◌∷◌, ◌++◌, Option, Some, None, Bool, false, cond, nat_eq, unwrap_or}
+use Rattle.amqp_types.specs.declared.states.ConnectionState.{ConnectionState}
 use Rattle.amqp_session.specs.Settings.{SettingsSaid}
 use Rattle.amqp_session.specs.History as session
 use Rattle.amqp_frames.specs.declared.frame.Frame.{Frame}
@@ -8,6 +9,8 @@ use Rattle.amqp_frames.specs.declared.frame.FrameBody.TheVariants as body
 use Rattle.fe2o3_amqp.specs.declared.engine.input.Input.{Input}
 use Rattle.fe2o3_amqp.specs.declared.engine.input.Input.TheVariants as input
 use Rattle.fe2o3_amqp.specs.declared.engine.input.StepError.{StepError}
+use Rattle.fe2o3_amqp.specs.States.{sends_open, takes_open, takes_close}
+use Rattle.fe2o3_amqp.specs.Connection.{closes_by}
 use Rattle.fe2o3_amqp.specs.Engine.{Entry}
 
 -- it is this number
@@ -24,6 +27,24 @@ calls_at n e = cond (is_number n e.reached) e.calls []
 abbrev pub of_session : {R : Type 0} → ℕ → List (Entry R) → List (session.Entry R)
 of_session n [] = []
 of_session n (e ∷ es) = calls_at n e ++ of_session n es
+
+-- ---- the connection's state, by its tables
+
+-- a frame that came moves it: an Open where it is accepted, a Close by the table whatever it is told as
+abbrev pub state_heard : ConnectionState → FrameBody → Option StepError → ConnectionState
+state_heard s (body.Open o) None = unwrap_or (takes_open s) s
+state_heard s (body.Close c) refusal = unwrap_or (takes_close s) s
+state_heard s b refusal = s
+
+abbrev pub state_by : ConnectionState → Input → Option Frame → Option StepError → ConnectionState
+state_by s input.Open heard None = unwrap_or (sends_open s) s
+state_by s (input.Close error) heard None = unwrap_or (closes_by error s) s
+state_by s (input.Received bytes) (Some f) refusal = state_heard s f.body refusal
+state_by s i heard refusal = s
+
+abbrev pub state_from : {R : Type 0} → ConnectionState → List (Entry R) → ConnectionState
+state_from s [] = s
+state_from s (e ∷ es) = state_from (state_by s e.input e.heard e.refusal) es
 
 -- ---- how a session was begun
 

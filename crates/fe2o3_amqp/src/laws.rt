@@ -11,8 +11,8 @@ ghost use Rattle.fe2o3_amqp.specs.Headline.{Headline, Stands};
 
 use amqp_session::{LinkRelay, laws as session};
 
-/// Whatever an engine has been given, what contracts see of it is what its history gives: its sessions, the channels that they hold,
-/// the routes of received frames, and the limit of a piece.
+/// Whatever an engine has been given, what contracts see of it is what its history gives: its sessions, the state of its
+/// connection, the channels that are held, the routes of received frames, and the limit of a piece.
 pub fn law_of_views<R: LinkRelay>()
     ensures { (state : ConnectionState) (o : OpenSaid) (H : List (Entry R)) (w : EngineView R) → LeadsTo (relays R.attach_gives R.flow_gives R.transfer_gives R.disposition_gives R.detach_gives) state o H w → Stands state o H w }
 {

@@ -9,7 +9,7 @@ use Rattle.fe2o3_amqp.specs.Reach.{of_session, begun}
 use Rattle.fe2o3_amqp.proofs.Beginning.{some_none}
 use Rattle.fe2o3_amqp.proofs.Histories.{one_each}
 use Rattle.fe2o3_amqp.proofs.Projection.{legal, same_some}
-use Rattle.fe2o3_amqp.proofs.Routing.{frames_reach}
+use Rattle.fe2o3_amqp.proofs.Reaching.{frames_reach}
 use Rattle.fe2o3_amqp.proofs.Telling.{all_told}
 use Rattle.fe2o3_amqp.proofs.Keeping.{routes_follow, all_known, once_held}
 use Rattle.fe2o3_amqp.proofs.OnChannel.{on_channel}
