@@ -17,32 +17,13 @@ its flows and transfers, which name links, UnattachedHandle: their windows count
 import json
 from pathlib import Path
 
+from canonical import boolean, composite, tag, uint
+
 ROOT = Path(__file__).resolve().parent.parent
 CAPTURE = ROOT / "crates" / "codec_tests" / "captures" / "proton-duo-window"
 CRATE = ROOT / "crates" / "exchange_tests"
 
 OPEN, BEGIN, ATTACH, FLOW, TRANSFER, DISPOSITION, DETACH, END, CLOSE = range(0x10, 0x19)
-
-
-def uint(value):
-    if value is None:
-        return b"\x40"
-    if value == 0:
-        return b"\x43"
-    return bytes([0x52, value]) if value < 256 else b"\x70" + value.to_bytes(4, "big")
-
-
-def boolean(value):
-    return b"\x40" if value is None else (b"\x41" if value else b"\x42")
-
-
-def composite(code, fields):
-    while fields and fields[-1] == b"\x40":
-        fields.pop()
-    if not fields:
-        return bytes([0x00, 0x53, code, 0x45])
-    data = b"".join(fields)
-    return bytes([0x00, 0x53, code, 0xC0, len(data) + 1, len(fields)]) + data
 
 
 class Message:
@@ -55,9 +36,8 @@ class Message:
         self.is_first = is_first
 
     def text(self, delivery):
-        tag = bytes.fromhex(self.tag["bin"])
         more = True if self.more else None
-        first = [uint(delivery), b"\xa0" + bytes([len(tag)]) + tag, uint(self.format), boolean(self.settled)]
+        first = [uint(delivery), tag(self.tag), uint(self.format), boolean(self.settled)]
         middle = first if self.is_first else [b"\x40"] * 4
         return composite(TRANSFER, [uint(self.handle)] + middle + [boolean(more)]) + self.payload
 

@@ -12,32 +12,12 @@ import hashlib
 import json
 from pathlib import Path
 
+from canonical import boolean, composite, tag, uint
+
 CRATES = Path(__file__).resolve().parent.parent / "crates"
 CAPTURES = CRATES / "codec_tests" / "captures"
 OPEN, TRANSFER = 0x10, 0x14
 HANDLE, DELIVERY_ID, TAG, FORMAT, SETTLED, MORE, RECEIVER, STATE = range(8)
-
-# ---- the canonical text of a transfer (AMQP 1.0 part 2, section 2.7.5)
-
-
-def uint(n):
-    if n is None:
-        return b"\x40"
-    if n == 0:
-        return b"\x43"
-    return bytes([0x52, n]) if n < 256 else b"\x70" + n.to_bytes(4, "big")
-
-
-def tag(said):
-    if said is None:
-        return b"\x40"
-    of = bytes.fromhex(said["bin"])
-    assert len(of) < 256
-    return bytes([0xA0, len(of)]) + of
-
-
-def flag(said):
-    return {None: b"\x40", True: b"\x41", False: b"\x42"}[said]
 
 
 def text(transfer, more, goes_on):
@@ -45,12 +25,8 @@ def text(transfer, more, goes_on):
     if goes_on:
         fields = [uint(transfer[HANDLE])] + [b"\x40"] * 4
     else:
-        fields = [uint(transfer[HANDLE]), uint(transfer[DELIVERY_ID]), tag(transfer[TAG]), uint(transfer[FORMAT]), flag(transfer[SETTLED])]
-    fields.append(flag(True) if more else b"\x40")
-    while fields[-1] == b"\x40":
-        fields.pop()
-    body = bytes([len(fields)]) + b"".join(fields)
-    return b"\x00\x53\x14\xc0" + bytes([len(body)]) + body
+        fields = [uint(transfer[HANDLE]), uint(transfer[DELIVERY_ID]), tag(transfer[TAG]), uint(transfer[FORMAT]), boolean(transfer[SETTLED])]
+    return composite(TRANSFER, fields + [boolean(True if more else None)])
 
 
 # ---- the cut (part 2, section 2.6.14)

@@ -1,0 +1,31 @@
+"""The canonical spelling of what recorded transfers and flows hold (AMQP 1.0 part 1, section 1.6), for the scripts beside it."""
+
+
+def uint(value):
+    if value is None:
+        return b"\x40"
+    if value == 0:
+        return b"\x43"
+    return bytes([0x52, value]) if value < 256 else b"\x70" + value.to_bytes(4, "big")
+
+
+def boolean(value):
+    return b"\x40" if value is None else (b"\x41" if value else b"\x42")
+
+
+def tag(said):
+    if said is None:
+        return b"\x40"
+    of = bytes.fromhex(said["bin"])
+    assert len(of) < 256
+    return bytes([0xA0, len(of)]) + of
+
+
+def composite(code, fields):
+    fields = list(fields)
+    while fields and fields[-1] == b"\x40":
+        fields.pop()
+    if not fields:
+        return bytes([0x00, 0x53, code, 0x45])
+    data = b"".join(fields)
+    return bytes([0x00, 0x53, code, 0xC0, len(data) + 1, len(fields)]) + data
