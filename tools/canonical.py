@@ -29,3 +29,19 @@ def composite(code, fields):
         return bytes([0x00, 0x53, code, 0x45])
     data = b"".join(fields)
     return bytes([0x00, 0x53, code, 0xC0, len(data) + 1, len(fields)]) + data
+
+
+def ushort(value):
+    return b"\x40" if value is None else b"\x60" + value.to_bytes(2, "big")
+
+
+def symbol(text):
+    of = text.encode("ascii")
+    assert len(of) < 256
+    return bytes([0xA3, len(of)]) + of
+
+
+def string(value):
+    of = value.encode()
+    assert len(of) < 256
+    return bytes([0xA1, len(of)]) + of

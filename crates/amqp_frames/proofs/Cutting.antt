@@ -1,31 +1,21 @@
 -- Pieces: one more at a time, and all together.
-use Rattle.std.proofs.Common.{◌≡◌, ℕ, suc, ◌+◌, ◌-◌, ◌*◌, ◌/◌, ◌<◌, ◌≤◌, List, [], ◌∷◌, ◌++◌, length, take, drop, map, refl, sym, ap, subst, ◌∙◌, arith, append_assoc}
+use Rattle.std.proofs.Common.{◌≡◌, ℕ, suc, ◌+◌, ◌-◌, ◌*◌, ◌/◌, ◌<◌, ◌≤◌, List, [], ◌∷◌, ◌++◌, length, take, drop, map, sym, ap, subst, ◌∙◌, arith, append_assoc}
 use Rattle.std.specs.Prelude.{Result, Ok, cond}
 use Rattle.std.specs.Result.{is_ok}
 use Rattle.std.proofs.Math.Nat.{mul-le-mul_left}
 use Rattle.std.proofs.lemmas.List.{length-append, length-take-le, length-drop, append-nil, map_push, take-append-drop}
-use Rattle.std.proofs.lemmas.List.Elements.{All-nil, All-push}
+use Rattle.std.proofs.lemmas.List.Elements.{All-push}
 use Rattle.amqp_values.specs.Reading.{joined}
 use Rattle.amqp_values.proofs.Trim.{joined-append}
 use Rattle.amqp_types.specs.Transfer.{TransferSaid}
 use Rattle.amqp_frames.specs.Frame.{header_text}
-use Rattle.amqp_frames.specs.Piece.{PieceParts, piece_bytes}
+use Rattle.amqp_frames.specs.Piece.{PieceParts, piece_bytes, payload_part}
 use Rattle.std.specs.Prelude.{slice_index_or}
-use Rattle.amqp_frames.specs.Cut.{payload_part, first_text, middle_text, last_text, room, IsCut}
-use Rattle.amqp_frames.specs.Pieces.{Adds, InPieces, LeavesRoom}
+use Rattle.amqp_frames.specs.Cut.{first_text, middle_text, last_text, room, LeavesRoom, IsCut}
+use Rattle.amqp_frames.specs.Pieces.{Adds, InPieces}
 use Rattle.amqp_frames.proofs.Growth.{middle_longer}
 
 -- ---- pieces in the middle
-
-pub adds_none : (head : List ℕ) (step : ℕ) (old : List PieceParts) (before : List ℕ) (n : ℕ) → n ≡ 0 → Adds head step old old before before n
-adds_none head step old before n e = record {
-  middle = [];
-  added = sym (append-nil old);
-  heads = All-nil (λ p. p.head ≡ head);
-  full = All-nil (λ p. length p.payload ≡ step);
-  parts = refl;
-  left = omega arith;
-}
 
 joined_push : (xs : List PieceParts) (p : PieceParts) → joined (map payload_part (xs ++ p ∷ [])) ≡ joined (map payload_part xs) ++ p.payload
 joined_push xs p =
@@ -56,9 +46,6 @@ enough step i count left total e lt le = let h : i + 1 ≤ count = omega arith i
 
 last_size : (l front step left : ℕ) → front < l → 0 < step → left + step * ((l - front - 1) / step) ≡ l - front → (1 ≤ left) × (left ≤ step)
 last_size l front step left some pos e = (omega arith, omega arith)
-
-pub middle_long : (l front step : ℕ) → front < l → 0 < step → step * ((l - front - 1) / step) ≤ l - front
-middle_long l front step some pos = omega arith
 
 pub in_pieces : (channel : ℕ) (t : TransferSaid) (payload : List ℕ) (front step : ℕ) (first last : PieceParts) (all done : List PieceParts) (rest after : List ℕ)
     → front < length payload → 0 < step → first.head ≡ header_text channel ++ first_text t → first.payload ≡ take front payload → rest ≡ drop front payload

@@ -5,13 +5,14 @@ use Rattle.amqp_types.specs.declared.performatives.Performative.{Performative}
 use Rattle.amqp_types.specs.declared.performatives.Performative.TheVariants as performative
 use Rattle.amqp_types.specs.declared.performatives.transfer.TransferText.TheVariants as text
 use Rattle.amqp_types.specs.Performatives.{performative_text}
-use Rattle.amqp_types.specs.Spelled.{IsSpelledIfShort, CutIsSpelled}
-use Rattle.amqp_types.specs.Transfer.{TransferSaid}
+use Rattle.amqp_types.specs.Spelled.{IsSpelledIfShort, CutIsSpelled, TextsAreSpelled}
+use Rattle.amqp_types.specs.Transfer.{TransferSaid, said_in}
 use Rattle.amqp_frames.specs.declared.frame.FrameBody.TheVariants.{Transfer, Empty}
 use Rattle.amqp_frames.specs.Frame.{body_of, text_of}
 use Rattle.amqp_frames.specs.Piece.{PieceParts, piece_bytes}
-use Rattle.amqp_frames.specs.Cut.{IsCut, Whole, continued, first_text, middle_text, last_text}
-use Rattle.amqp_frames.specs.RoundTrip.{IsSpelled, IsSpelledBody, Carries, DecodedAs, WholeIsDecoded, CutIsDecoded, EmptyIsDecoded, frame_of, first_of, middle_of}
+use Rattle.amqp_frames.specs.ReadBack.{DecodedAs, AreDecoded}
+use Rattle.amqp_frames.specs.Cut.{IsCut, Whole, first_text, middle_text, last_text}
+use Rattle.amqp_frames.specs.RoundTrip.{IsSpelled, IsSpelledBody, Carries, WholeIsDecoded, CutIsDecoded, EmptyIsDecoded, frame_of}
 use Rattle.amqp_frames.proofs.Cutting.{piece_len}
 use Rattle.amqp_frames.proofs.RoundTripLaws.{wholes_are_read, cuts_are_read, frames_are_decoded}
 
@@ -67,18 +68,23 @@ last_short channel m t payload pieces limit c = let l = piece_len c.last channel
 decoded_as : (channel : ℕ) (t : TransferSaid) (p : PieceParts) → Carries channel t p → DecodedAs channel t p
 decoded_as channel t p h = frames_are_decoded (record { channel = channel; body = Transfer t p.payload }) (piece_bytes p) h
 
-pub cut_is_decoded : (p : Performative) → CutIsSpelled p → CutIsDecoded p
-cut_is_decoded p spelled t channel m payload pieces is lt limit c =
+pub transfer_is_decoded : (t : TransferSaid) (channel m : ℕ) (payload : List ℕ) (pieces : List PieceParts) → TextsAreSpelled t → channel < 2 ^ 16 → m < 2 ^ 32
+    → IsCut channel t payload m pieces → AreDecoded channel t payload pieces
+transfer_is_decoded t channel m payload pieces spelled lt limit c =
     let read = cuts_are_read channel m t payload pieces lt
-    (spelled t text.First is (first_short channel m t payload pieces limit c))
-    (spelled t text.Middle is (middle_short channel m t payload pieces limit c))
-    (spelled t text.Last is (last_short channel m t payload pieces limit c)) c in
+    (spelled text.First (first_short channel m t payload pieces limit c))
+    (spelled text.Middle (middle_short channel m t payload pieces limit c))
+    (spelled text.Last (last_short channel m t payload pieces limit c)) c in
     record {
       first = read.first;
       middle = read.middle;
       last = read.last;
       pieces_are = read.pieces_are;
-      first_is = decoded_as channel (first_of t) read.first read.first_is;
-      middle_are = All-weaker (Carries channel (middle_of t)) (DecodedAs channel (middle_of t)) (decoded_as channel (middle_of t)) read.middle read.middle_are;
-      last_is = decoded_as channel (continued t) read.last read.last_is;
+      first_is = decoded_as channel (said_in text.First t) read.first read.first_is;
+      middle_are = All-weaker (Carries channel (said_in text.Middle t)) (DecodedAs channel (said_in text.Middle t)) (decoded_as channel (said_in text.Middle t)) read.middle read.middle_are;
+      last_is = decoded_as channel (said_in text.Last t) read.last read.last_is;
+      parts = c.parts;
     }
+
+pub cut_is_decoded : (p : Performative) → CutIsSpelled p → CutIsDecoded p
+cut_is_decoded p spelled t channel m payload pieces is lt limit c = transfer_is_decoded t channel m payload pieces (spelled t is) lt limit c

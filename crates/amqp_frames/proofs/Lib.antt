@@ -1,4 +1,5 @@
 pub mod Decoded
+pub mod Headed
 pub mod Growth
 pub mod Cutting
 pub mod RoundTripLaws

@@ -10,15 +10,17 @@ use Rattle.amqp_values.specs.Reading.{joined}
 use Rattle.amqp_types.specs.declared.performatives.Performative.{Performative}
 use Rattle.amqp_types.specs.declared.performatives.Performative.TheVariants as performative
 use Rattle.amqp_types.specs.Performatives.{IsPerformative}
-use Rattle.amqp_types.specs.Transfer.{TransferSaid}
+use Rattle.amqp_types.specs.declared.performatives.transfer.TransferText.TheVariants as text
+use Rattle.amqp_types.specs.Transfer.{TransferSaid, said_in}
 use Rattle.amqp_frames.specs.declared.frame.Frame.{Frame}
 use Rattle.amqp_frames.specs.declared.frame.FrameBody.{FrameBody}
 use Rattle.amqp_frames.specs.declared.frame.FrameBody.TheVariants.{Attach, Flow, Transfer, Disposition, Detach, Begin, End, Open, Close, Empty}
 use Rattle.amqp_frames.specs.declared.error.Error.TheVariants as no
 use Rattle.amqp_frames.specs.Frame.{IsFrame, HasHeader, header_text, text_of, payload_of, body_of}
-use Rattle.amqp_frames.specs.Piece.{PieceParts, piece_bytes}
-use Rattle.amqp_frames.specs.Cut.{IsCut, IsCutBody, continued, room, payload_part, transfer_text}
-use Rattle.amqp_frames.specs.RoundTrip.{KeepsLimit, CarriesPayload, IsSpelled, IsSpelledBody, Carries, CutsAreRead, FramesAreDecoded, WholesAreRead, first_of, middle_of}
+use Rattle.amqp_frames.specs.Piece.{PieceParts, piece_bytes, payload_part}
+use Rattle.amqp_frames.specs.ReadBack.{DecodesTo}
+use Rattle.amqp_frames.specs.Cut.{IsCut, IsCutBody, IsWholePiece, room, transfer_text}
+use Rattle.amqp_frames.specs.RoundTrip.{KeepsLimit, CarriesPayload, IsSpelled, IsSpelledBody, Carries, CutsAreRead, FramesAreDecoded, WholesAreRead}
 use Rattle.amqp_frames.proofs.Cutting.{piece_len}
 
 -- ---- the limit
@@ -127,9 +129,9 @@ cuts_are_read channel m t payload pieces lt first middle last c = record {
   middle = c.middle;
   last = c.last;
   pieces_are = c.pieces_are;
-  first_is = carried channel (first_of t) c.first lt first c.first_is;
-  middle_are = λ k d h. carried channel (middle_of t) (slice_index_or c.middle k d) lt middle (c.middle_are k d h);
-  last_is = carried channel (continued t) c.last lt last c.last_is;
+  first_is = carried channel (said_in text.First t) c.first lt first c.first_is;
+  middle_are = λ k d h. carried channel (said_in text.Middle t) (slice_index_or c.middle k d) lt middle (c.middle_are k d h);
+  last_is = carried channel (said_in text.Last t) c.last lt last c.last_is;
 }
 
 -- ---- decoding
@@ -152,6 +154,9 @@ frames_are_decoded f bytes h (Err no.NotImplemented) d = absurd (d.1 (frame_head
 frames_are_decoded f bytes h (Err no.OutOfMemory) d = inr refl
 frames_are_decoded f bytes h (Err no.TooLarge) d = absurd d
 frames_are_decoded f bytes h (Err (no.Io text)) d = absurd d
+
+pub piece_is_decoded : (f : Frame) (p : PieceParts) → f.channel < 2 ^ 16 → IsSpelledBody f.body → IsWholePiece f p → DecodesTo f (piece_bytes p)
+piece_is_decoded f p lt is w = frames_are_decoded f (piece_bytes p) (whole_reads f.channel f.body p lt is w.0 w.1)
 
 pub wholes_are_read : WholesAreRead
 wholes_are_read f m pieces lt is whole (inl w) =

@@ -1,34 +1,49 @@
 -- How a frame is cut into pieces that keep a limit (AMQP 1.0 part 2, section 2.6.14).
-use Rattle.std.specs.Prelude.{◌≡◌, ◌<◌, ◌≤◌, ◌+◌, ◌-◌, ◌⊎◌, ℕ, List, [], ◌∷◌, ◌++◌, length, map, All, true, nat_lt, if◌then◌else◌, Option, Some, None, Result, Ok, Err}
+use Rattle.std.specs.Prelude.{◌≡◌, ◌<◌, ◌≤◌, ◌+◌, ◌-◌, ◌⊎◌, ℕ, List, [], ◌∷◌, ◌++◌, length, map, All, nat_lt}
+use Rattle.std.specs.Prelude.{if◌then◌else◌, Option, Some, None, Result, Ok, Err}
 use Rattle.amqp_values.specs.Reading.{joined}
 use Rattle.amqp_types.specs.declared.performatives.Performative.TheVariants as performative
-use Rattle.amqp_types.specs.Transfer.{TransferSaid}
+use Rattle.amqp_types.specs.declared.performatives.transfer.TransferText.TheVariants as text
+use Rattle.amqp_types.specs.Transfer.{TransferSaid, said_in}
 use Rattle.amqp_types.specs.Performatives.{performative_text}
 use Rattle.amqp_frames.specs.declared.frame.Frame.{Frame}
 use Rattle.amqp_frames.specs.declared.frame.FrameBody.{FrameBody}
-use Rattle.amqp_frames.specs.declared.frame.FrameBody.TheVariants.{Attach, Flow, Transfer, Disposition, Detach, Begin, End, Open, Close, Empty}
+use Rattle.amqp_frames.specs.declared.frame.FrameBody.TheVariants.{Attach, Flow, Transfer, Disposition, Detach, Begin}
+use Rattle.amqp_frames.specs.declared.frame.FrameBody.TheVariants.{End, Open, Close, Empty}
 use Rattle.amqp_frames.specs.declared.error.Error.{Error}
 use Rattle.amqp_frames.specs.declared.error.Error.TheVariants as no
 use Rattle.amqp_frames.specs.Frame.{header_text, text_of, payload_of}
-use Rattle.amqp_frames.specs.Piece.{PieceParts, piece_bytes}
+use Rattle.amqp_frames.specs.Piece.{PieceParts, piece_bytes, payload_part}
+use Rattle.amqp_frames.specs.ReadBack.{DecodesTo, AreDecoded}
 
 -- ---- the texts of a transfer that is cut
 
 abbrev pub transfer_text : TransferSaid → List ℕ
 transfer_text t = performative_text (performative.Transfer t)
 
--- A later piece does not say again what the first one said of the delivery.
-abbrev pub continued : TransferSaid → TransferSaid
-continued t = record t { delivery_id = None; delivery_tag = None; message_format = None; settled = None; rcv_settle_mode = None }
-
 abbrev pub first_text : TransferSaid → List ℕ
-first_text t = transfer_text (record t { more = true })
+first_text t = transfer_text (said_in text.First t)
 
 abbrev pub middle_text : TransferSaid → List ℕ
-middle_text t = transfer_text (record (continued t) { more = true })
+middle_text t = transfer_text (said_in text.Middle t)
 
 abbrev pub last_text : TransferSaid → List ℕ
-last_text t = transfer_text (continued t)
+last_text t = transfer_text (said_in text.Last t)
+
+-- ---- a transfer alone is cut
+
+-- this holds of the transfer and its payload; of any other body, nothing does
+abbrev pub OnTransfer : (TransferSaid → List ℕ → Type 0) → FrameBody → Type 0
+OnTransfer P (Transfer t payload) = P t payload
+OnTransfer P (Attach p) = ⊥
+OnTransfer P (Flow p) = ⊥
+OnTransfer P (Disposition p) = ⊥
+OnTransfer P (Detach p) = ⊥
+OnTransfer P (Begin p) = ⊥
+OnTransfer P (End p) = ⊥
+OnTransfer P (Open p) = ⊥
+OnTransfer P (Close p) = ⊥
+OnTransfer P Empty = ⊥
 
 -- ---- which frames fit
 
@@ -40,17 +55,11 @@ abbrev pub Whole : Frame → ℕ → Type 0
 Whole f m = length (text_of f.body) + length (payload_of f.body) ≤ room m
 
 -- the first piece holds its text, and each later one more than its text
+abbrev pub LeavesRoom : TransferSaid → ℕ → Type 0
+LeavesRoom t m = (length (first_text t) ≤ room m) × (length (middle_text t) < room m)
+
 abbrev pub IsCuttable : FrameBody → ℕ → Type 0
-IsCuttable (Transfer t payload) m = (length (first_text t) ≤ room m) × (length (middle_text t) < room m)
-IsCuttable (Attach p) m = ⊥
-IsCuttable (Flow p) m = ⊥
-IsCuttable (Disposition p) m = ⊥
-IsCuttable (Detach p) m = ⊥
-IsCuttable (Begin p) m = ⊥
-IsCuttable (End p) m = ⊥
-IsCuttable (Open p) m = ⊥
-IsCuttable (Close p) m = ⊥
-IsCuttable Empty m = ⊥
+IsCuttable body m = OnTransfer (λ t payload. LeavesRoom t m) body
 
 abbrev pub Fits : Frame → ℕ → Type 0
 Fits f m = Whole f m ⊎ IsCuttable f.body m
@@ -64,9 +73,6 @@ room_beside t m = if nat_lt (room m) (length (transfer_text t)) then None else S
 -- all bytes of the frame in one piece
 abbrev pub IsWholePiece : Frame → PieceParts → Type 0
 IsWholePiece f p = (p.head ≡ header_text f.channel ++ text_of f.body) × (p.payload ≡ payload_of f.body)
-
-abbrev pub payload_part : PieceParts → List ℕ
-payload_part p = p.payload
 
 -- A first piece, any number in the middle, and a last one; each but the last is full, and the last one is not empty.
 -- The parts joined are the payload.
@@ -86,16 +92,7 @@ pub record IsCut (channel : ℕ) (t : TransferSaid) (payload : List ℕ) (m : �
   pub parts : joined (map payload_part pieces) ≡ payload
 
 abbrev pub IsCutBody : ℕ → FrameBody → ℕ → List PieceParts → Type 0
-IsCutBody channel (Transfer t payload) m pieces = IsCut channel t payload m pieces
-IsCutBody channel (Attach p) m pieces = ⊥
-IsCutBody channel (Flow p) m pieces = ⊥
-IsCutBody channel (Disposition p) m pieces = ⊥
-IsCutBody channel (Detach p) m pieces = ⊥
-IsCutBody channel (Begin p) m pieces = ⊥
-IsCutBody channel (End p) m pieces = ⊥
-IsCutBody channel (Open p) m pieces = ⊥
-IsCutBody channel (Close p) m pieces = ⊥
-IsCutBody channel Empty m pieces = ⊥
+IsCutBody channel body m pieces = OnTransfer (λ t payload. IsCut channel t payload m pieces) body
 
 -- a frame that is whole is one piece; one that is not is cut
 abbrev pub Cut : Frame → ℕ → List PieceParts → Type 0
@@ -103,9 +100,23 @@ Cut f m pieces =
     (Whole f m × ((p : PieceParts) × (pieces ≡ p ∷ []) × IsWholePiece f p))
     ⊎ ((¬ Whole f m) × IsCutBody f.channel f.body m pieces)
 
+-- ---- what decoding gives of the pieces
+
+abbrev pub ReadBackBody : ℕ → FrameBody → List PieceParts → Type 0
+ReadBackBody channel body pieces = OnTransfer (λ t payload. AreDecoded channel t payload pieces) body
+
+-- The one piece of a frame that is whole is decoded as that frame. The pieces of one that is cut are decoded as its first,
+-- middle and last transfers.
+abbrev pub ReadBack : Frame → ℕ → List PieceParts → Type 0
+ReadBack f m pieces =
+    (Whole f m × ((p : PieceParts) × (pieces ≡ p ∷ []) × DecodesTo f (piece_bytes p)))
+    ⊎ ((¬ Whole f m) × ReadBackBody f.channel f.body pieces)
+
+-- ---- encoding
+
 -- what encoding answers, seen as a list of pieces
 abbrev pub Encodes : {X : Type 0} → (X → List PieceParts) → Frame → ℕ → Result X Error → Type 0
-Encodes view f m (Ok x) = Fits f m × Cut f m (view x)
+Encodes view f m (Ok x) = Fits f m × Cut f m (view x) × ReadBack f m (view x)
 Encodes view f m (Err no.TooLarge) = ¬ Fits f m
 Encodes view f m (Err no.OutOfMemory) = Fits f m
 Encodes view f m (Err no.DecodeError) = ⊥

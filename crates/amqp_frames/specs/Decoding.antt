@@ -1,10 +1,11 @@
 -- What the parts of decoding answer.
-use Rattle.std.specs.Prelude.{◌≡◌, ◌<◌, ◌≤◌, ℕ, List, ◌∷◌, ◌++◌, length, drop, Result, Ok, Err}
+use Rattle.std.specs.Prelude.{◌≡◌, ◌<◌, ◌≤◌, ℕ, List, [], ◌∷◌, ◌++◌, length, drop, Option, Some, None, Result, Ok, Err}
 use Rattle.std.specs.Int.{w16, from_be_bytes}
-use Rattle.amqp_frames.specs.declared.frame.FrameBody.{FrameBody}
+use Rattle.amqp_types.specs.declared.performatives.kind.Kind.{Kind}
+use Rattle.amqp_types.specs.Kinds.{kind_at}
 use Rattle.amqp_frames.specs.declared.error.Error.{Error}
 use Rattle.amqp_frames.specs.declared.error.Error.TheVariants as no
-use Rattle.amqp_frames.specs.Frame.{IsBody, HasHeader}
+use Rattle.amqp_frames.specs.Frame.{HasHeader}
 
 -- a header stands before the body, and tells this channel
 pub record IsHeader (bytes : List ℕ) (n : ℕ) : Type 0 where
@@ -21,11 +22,12 @@ ReadsHeader bytes (Err no.OutOfMemory) = ⊥
 ReadsHeader bytes (Err no.TooLarge) = ⊥
 ReadsHeader bytes (Err (no.Io text)) = ⊥
 
--- the one body and rest that stand in the bytes
-abbrev pub ReadsBody : List ℕ → Result (FrameBody × List ℕ) Error → Type 0
-ReadsBody bytes (Ok x) = IsBody x.0 bytes x.1 × ((b : FrameBody) (rest : List ℕ) → IsBody b bytes rest → ◌≡◌ {A = FrameBody × List ℕ} (b, rest) x)
-ReadsBody bytes (Err no.DecodeError) = (b : FrameBody) (rest : List ℕ) → ¬ IsBody b bytes rest
-ReadsBody bytes (Err no.NotImplemented) = ⊥
-ReadsBody bytes (Err no.OutOfMemory) = Unit {0}
-ReadsBody bytes (Err no.TooLarge) = ⊥
-ReadsBody bytes (Err (no.Io text)) = ⊥
+-- no body and no kind, or the descriptor of a kind and what is behind it
+abbrev pub Names : List ℕ → List ℕ → Result (Option Kind) Error → Type 0
+Names bytes left (Ok None) = (bytes ≡ []) × (left ≡ [])
+Names bytes left (Ok (Some k)) = ¬ (bytes ≡ []) × (kind_at bytes ≡ Some (k, left))
+Names bytes left (Err no.DecodeError) = ¬ (bytes ≡ []) × (kind_at bytes ≡ None)
+Names bytes left (Err no.OutOfMemory) = ¬ (bytes ≡ [])
+Names bytes left (Err no.NotImplemented) = ⊥
+Names bytes left (Err no.TooLarge) = ⊥
+Names bytes left (Err (no.Io text)) = ⊥

@@ -6,7 +6,8 @@ use Rattle.amqp_types.specs.declared.performatives.Performative.TheVariants as p
 use Rattle.amqp_types.specs.Performatives.{IsPerformative, performative_text}
 use Rattle.amqp_frames.specs.declared.frame.Frame.{Frame}
 use Rattle.amqp_frames.specs.declared.frame.FrameBody.{FrameBody}
-use Rattle.amqp_frames.specs.declared.frame.FrameBody.TheVariants.{Attach, Flow, Transfer, Disposition, Detach, Begin, End, Open, Close, Empty}
+use Rattle.amqp_frames.specs.declared.frame.FrameBody.TheVariants.{Attach, Flow, Transfer, Disposition, Detach, Begin}
+use Rattle.amqp_frames.specs.declared.frame.FrameBody.TheVariants.{End, Open, Close, Empty}
 use Rattle.amqp_frames.specs.declared.error.Error.{Error}
 use Rattle.amqp_frames.specs.declared.error.Error.TheVariants as no
 
@@ -57,7 +58,7 @@ abbrev pub Decodes : List ℕ → Result (Frame × List ℕ) Error → Type 0
 Decodes bytes (Ok x) = IsFrame x.0 bytes x.1 × ((f : Frame) (rest : List ℕ) → IsFrame f bytes rest → ◌≡◌ {A = Frame × List ℕ} (f, rest) x)
 Decodes bytes (Err no.DecodeError) = (length bytes < 4) ⊎ (HasHeader bytes × ((f : Frame) (rest : List ℕ) → ¬ IsFrame f bytes rest))
 Decodes bytes (Err no.NotImplemented) = (4 ≤ length bytes) × ¬ HasHeader bytes
-Decodes bytes (Err no.OutOfMemory) = (4 ≤ length bytes) × HasHeader bytes
+Decodes bytes (Err no.OutOfMemory) = (4 < length bytes) × HasHeader bytes
 Decodes bytes (Err no.TooLarge) = ⊥
 Decodes bytes (Err (no.Io text)) = ⊥
 

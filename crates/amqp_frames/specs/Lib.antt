@@ -1,7 +1,9 @@
 pub mod FrameError
 pub mod Frame
 pub mod Decoding
+pub mod Head
 pub mod Piece
+pub mod ReadBack
 pub mod Cut
 pub mod Pieces
 pub mod RoundTrip

@@ -10,6 +10,9 @@ pub record PieceParts : Type 0 where
 abbrev pub piece_bytes : PieceParts → List ℕ
 piece_bytes p = p.head ++ p.payload
 
+abbrev pub payload_part : PieceParts → List ℕ
+payload_part p = p.payload
+
 -- at most 4294967295 bytes
 pub record IsPiece (p : PieceParts) : Type 0 where
   pub short : length (piece_bytes p) < 2 ^ 32

@@ -1,12 +1,13 @@
 -- What the parts of encoding make.
-use Rattle.std.specs.Prelude.{◌≡◌, ◌<◌, ◌≤◌, ◌+◌, ℕ, List, [], ◌∷◌, ◌++◌, length, map, All, Result, Ok, Err}
+use Rattle.std.specs.Prelude.{◌≡◌, ◌≤◌, ◌+◌, ℕ, List, [], ◌∷◌, ◌++◌, length, map, All, Result, Ok, Err}
 use Rattle.amqp_values.specs.Reading.{joined}
 use Rattle.amqp_types.specs.Transfer.{TransferSaid}
 use Rattle.amqp_frames.specs.declared.error.Error.{Error}
 use Rattle.amqp_frames.specs.declared.error.Error.TheVariants as no
 use Rattle.amqp_frames.specs.Frame.{header_text}
-use Rattle.amqp_frames.specs.Piece.{PieceParts}
-use Rattle.amqp_frames.specs.Cut.{first_text, middle_text, last_text, room, payload_part, IsCut}
+use Rattle.amqp_frames.specs.Piece.{PieceParts, payload_part}
+use Rattle.amqp_frames.specs.Cut.{first_text, middle_text, last_text, LeavesRoom, IsCut}
+use Rattle.amqp_frames.specs.ReadBack.{AreDecoded}
 
 -- pieces with this head were added, each with so many bytes off the front of what was left
 pub record Adds (head : List ℕ) (step : ℕ) (old new : List PieceParts) (before after : List ℕ) (taken : ℕ) : Type 0 where
@@ -32,13 +33,9 @@ pub record InPieces (channel : ℕ) (t : TransferSaid) (payload : List ℕ) (fro
   pub last_step : length last.payload ≤ step
   pub parts : joined (map payload_part pieces) ≡ payload
 
--- the texts of a transfer that is cut leave room for its payload
-abbrev pub LeavesRoom : TransferSaid → ℕ → Type 0
-LeavesRoom t m = (length (first_text t) ≤ room m) × (length (middle_text t) < room m)
-
 -- what cutting answers, where the transfer does not fit whole
 abbrev pub CutsTo : {X : Type 0} → (X → List PieceParts) → ℕ → TransferSaid → List ℕ → ℕ → Result X Error → Type 0
-CutsTo view channel t payload m (Ok x) = LeavesRoom t m × IsCut channel t payload m (view x)
+CutsTo view channel t payload m (Ok x) = LeavesRoom t m × IsCut channel t payload m (view x) × AreDecoded channel t payload (view x)
 CutsTo view channel t payload m (Err no.TooLarge) = ¬ LeavesRoom t m
 CutsTo view channel t payload m (Err no.OutOfMemory) = LeavesRoom t m
 CutsTo view channel t payload m (Err no.DecodeError) = ⊥

@@ -1,18 +1,19 @@
 -- What holds of the pieces of every frame: they keep the limit, carry the payload, and are read back.
-use Rattle.std.specs.Prelude.{◌≡◌, ◌<◌, ◌≤◌, ◌^◌, ◌⊎◌, ℕ, List, [], ◌∷◌, ◌++◌, length, map, All, true, Result, Ok, Err}
+use Rattle.std.specs.Prelude.{◌≡◌, ◌<◌, ◌≤◌, ◌^◌, ℕ, List, [], ◌∷◌, ◌++◌, length, map, All}
 use Rattle.amqp_values.specs.Reading.{joined}
 use Rattle.amqp_types.specs.declared.performatives.Performative.{Performative}
 use Rattle.amqp_types.specs.declared.performatives.Performative.TheVariants as performative
 use Rattle.amqp_types.specs.Performatives.{IsPerformative, performative_text}
-use Rattle.amqp_types.specs.Transfer.{TransferSaid}
+use Rattle.amqp_types.specs.declared.performatives.transfer.TransferText.TheVariants as text
+use Rattle.amqp_types.specs.Transfer.{TransferSaid, said_in}
 use Rattle.amqp_frames.specs.declared.frame.Frame.{Frame}
 use Rattle.amqp_frames.specs.declared.frame.FrameBody.{FrameBody}
-use Rattle.amqp_frames.specs.declared.frame.FrameBody.TheVariants.{Attach, Flow, Transfer, Disposition, Detach, Begin, End, Open, Close, Empty}
-use Rattle.amqp_frames.specs.declared.error.Error.{Error}
-use Rattle.amqp_frames.specs.declared.error.Error.TheVariants as no
-use Rattle.amqp_frames.specs.Frame.{IsFrame, Decodes, body_of, payload_of}
-use Rattle.amqp_frames.specs.Piece.{PieceParts, piece_bytes}
-use Rattle.amqp_frames.specs.Cut.{Cut, IsCut, Whole, continued, payload_part}
+use Rattle.amqp_frames.specs.declared.frame.FrameBody.TheVariants.{Attach, Flow, Transfer, Disposition, Detach, Begin}
+use Rattle.amqp_frames.specs.declared.frame.FrameBody.TheVariants.{End, Open, Close, Empty}
+use Rattle.amqp_frames.specs.Frame.{IsFrame, body_of, payload_of}
+use Rattle.amqp_frames.specs.Piece.{PieceParts, piece_bytes, payload_part}
+use Rattle.amqp_frames.specs.ReadBack.{DecodesTo, AreDecoded}
+use Rattle.amqp_frames.specs.Cut.{Cut, IsCut, Whole}
 
 -- ---- limit and payload
 
@@ -40,13 +41,6 @@ IsSpelledBody (Open p) = IsSpelled (performative.Open p)
 IsSpelledBody (Close p) = IsSpelled (performative.Close p)
 IsSpelledBody Empty = Unit {0}
 
--- the transfers of the pieces of one that is cut
-abbrev pub first_of : TransferSaid → TransferSaid
-first_of t = record t { more = true }
-
-abbrev pub middle_of : TransferSaid → TransferSaid
-middle_of t = record (continued t) { more = true }
-
 -- the piece is the frame of this transfer, with its part of the payload
 abbrev pub Carries : ℕ → TransferSaid → PieceParts → Type 0
 Carries channel t p = IsFrame (record { channel = channel; body = Transfer t p.payload }) (piece_bytes p) []
@@ -57,19 +51,16 @@ pub record AreTransfers (channel : ℕ) (t : TransferSaid) (pieces : List PieceP
   pub middle : List PieceParts
   pub last : PieceParts
   pub pieces_are : pieces ≡ first ∷ middle ++ last ∷ []
-  pub first_is : Carries channel (first_of t) first
-  pub middle_are : All (Carries channel (middle_of t)) middle
-  pub last_is : Carries channel (continued t) last
+  pub first_is : Carries channel (said_in text.First t) first
+  pub middle_are : All (Carries channel (said_in text.Middle t)) middle
+  pub last_is : Carries channel (said_in text.Last t) last
 
 abbrev pub CutsAreRead : Type 0
 CutsAreRead =
     (channel m : ℕ) (t : TransferSaid) (payload : List ℕ) (pieces : List PieceParts) → channel < 2 ^ 16
-    → IsSpelled (performative.Transfer (first_of t)) → IsSpelled (performative.Transfer (middle_of t)) → IsSpelled (performative.Transfer (continued t))
+    → IsSpelled (performative.Transfer (said_in text.First t)) → IsSpelled (performative.Transfer (said_in text.Middle t))
+    → IsSpelled (performative.Transfer (said_in text.Last t))
     → IsCut channel t payload m pieces → AreTransfers channel t pieces
-
--- what decoding answers, where the bytes are one frame and nothing more
-abbrev pub DecodesTo : Frame → List ℕ → Type 0
-DecodesTo f bytes = (r : Result (Frame × List ℕ) Error) → Decodes bytes r → (r ≡ Ok (f, [])) ⊎ (r ≡ Err no.OutOfMemory)
 
 abbrev pub FramesAreDecoded : Type 0
 FramesAreDecoded = (f : Frame) (bytes : List ℕ) → IsFrame f bytes [] → DecodesTo f bytes
@@ -98,21 +89,7 @@ EmptyIsDecoded =
     (channel m : ℕ) (pieces : List PieceParts) → channel < 2 ^ 16 → Cut (record { channel = channel; body = Empty }) m pieces
     → (piece : PieceParts) × (pieces ≡ piece ∷ []) × DecodesTo (record { channel = channel; body = Empty }) (piece_bytes piece)
 
--- the piece is decoded as the frame of this transfer, with its part of the payload
-abbrev pub DecodedAs : ℕ → TransferSaid → PieceParts → Type 0
-DecodedAs channel t p = DecodesTo (record { channel = channel; body = Transfer t p.payload }) (piece_bytes p)
-
--- each piece of a transfer that is cut is decoded: as the first transfer, one in the middle, or the last
-pub record AreDecoded (channel : ℕ) (t : TransferSaid) (pieces : List PieceParts) : Type 0 where
-  pub first : PieceParts
-  pub middle : List PieceParts
-  pub last : PieceParts
-  pub pieces_are : pieces ≡ first ∷ middle ++ last ∷ []
-  pub first_is : DecodedAs channel (first_of t) first
-  pub middle_are : All (DecodedAs channel (middle_of t)) middle
-  pub last_is : DecodedAs channel (continued t) last
-
 abbrev pub CutIsDecoded : Performative → Type 0
 CutIsDecoded p =
-    (t : TransferSaid) (channel m : ℕ) (payload : List ℕ) (pieces : List PieceParts) → p ≡ performative.Transfer t → channel < 2 ^ 16 → m < 2 ^ 32
-    → IsCut channel t payload m pieces → AreDecoded channel t pieces
+    (t : TransferSaid) (channel m : ℕ) (payload : List ℕ) (pieces : List PieceParts)
+    → p ≡ performative.Transfer t → channel < 2 ^ 16 → m < 2 ^ 32 → IsCut channel t payload m pieces → AreDecoded channel t payload pieces

@@ -8,12 +8,13 @@ ghost use Rattle.amqp_frames.specs.Pieces.{Adds, CutsTo, InPieces};
 use crate::error::Error;
 use crate::head::transfer_head;
 use crate::piece::Piece;
+use amqp_types::laws::transfer_is_spelled;
 use amqp_types::{Transfer, TransferText};
 use bytes::Bytes;
 use std::alloc::{AllocError, Global};
 
 /// The pieces of a transfer that does not fit whole, each of at most `limit` bytes; `TooLarge` exactly where the texts of
-/// its pieces leave no room for the payload.
+/// its pieces leave no room for the payload. The pieces are decoded as its first, middle and last transfers.
 pub(crate) fn cut(
     alloc: Global,
     channel: u16,
@@ -36,12 +37,13 @@ pub(crate) fn cut(
     }
     let front = (room - first) as usize;
     let step = (room - middle) as usize;
+    transfer_is_spelled(transfer);
     let pieces = in_pieces(alloc, channel, transfer, payload, front, step)?;
     Ok(pieces)
 }
 
-/// The pieces with so much of the payload in the first, and so much in each one in the middle. The last one has the rest,
-/// which is something, and no more than one in the middle. Their number is known before the first is made.
+/// The first piece takes `front` bytes of the payload, each one in the middle `step` bytes, and the last one what is left:
+/// at least one byte, and at most `step`. The number of pieces is known before the first is made.
 fn in_pieces(
     alloc: Global,
     channel: u16,
@@ -77,7 +79,7 @@ fn in_pieces(
     Ok(pieces)
 }
 
-/// Appends so many pieces from the middle. They share one head, which is not written where there are none.
+/// Appends `count` pieces from the middle. They share one head, which is written only if there are any.
 fn put_middle(
     alloc: Global,
     channel: u16,
@@ -100,7 +102,7 @@ fn put_middle(
     put_parts(&head, pieces, rest, step, count)
 }
 
-/// Appends so many pieces with this head, each with the next part.
+/// Appends `count` pieces with this head, each with the next `step` bytes of the payload.
 fn put_parts(
     head: &Bytes,
     pieces: &mut Vec<Piece>,

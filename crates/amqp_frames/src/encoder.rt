@@ -3,20 +3,24 @@
 ghost use Rattle.std.specs.Prelude.{◌≡◌, ◌≤◌, ◌<◌, ◌+◌, ◌^◌, ℕ, [], ◌∷◌, IfOk, length};
 ghost use Rattle.amqp_frames.specs.Frame.{text_of, payload_of};
 ghost use Rattle.amqp_frames.specs.Cut.{Encodes, IsWholePiece, Whole, room_beside};
+ghost use Rattle.amqp_frames.specs.Piece.{piece_bytes};
+ghost use Rattle.amqp_frames.specs.ReadBack.{DecodesTo};
 
 use crate::cut::cut;
 use crate::error::Error;
 use crate::frame::{Frame, FrameBody};
 use crate::head::whole_head;
+use crate::laws::whole_is_read;
 use crate::piece::Piece;
 use amqp_types::Transfer;
 use std::alloc::{AllocError, Global};
 use std::marker::Model;
 
-/// Encodes frames for a peer: each piece has at most so many bytes.
+/// Encodes frames for a peer, into pieces that are no longer than the peer takes.
 #[derive(Clone, Debug, Drop)]
 pub struct FrameEncoder {
-    max_frame_size: u32,
+    /// The most bytes of a piece: 4 less than the peer's max-frame-size, which counts the frame's size too.
+    max_piece_len: u32,
 }
 
 impl Model for FrameEncoder {
@@ -24,9 +28,9 @@ impl Model for FrameEncoder {
 
     ghost Value = { ℕ };
 
-    ghost view = { λ e. e.max_frame_size };
+    ghost view = { λ e. e.max_piece_len };
 
-    ghost invariant = { λ e. 4 ≤ e.max_frame_size };
+    ghost invariant = { λ e. 4 ≤ e.max_piece_len };
 }
 
 impl FrameEncoder {
@@ -36,7 +40,9 @@ impl FrameEncoder {
         requires { 4 ≤ max_frame_size }
         ensures { result ≡ max_frame_size }
     {
-        FrameEncoder { max_frame_size }
+        FrameEncoder {
+            max_piece_len: max_frame_size,
+        }
     }
 
     /// The pieces of the frame, in the order in which they are to be sent.
@@ -45,10 +51,14 @@ impl FrameEncoder {
     /// first one says what concerns the whole delivery (AMQP 1.0 part 2, section 2.6.14). `TooLarge` exactly where no
     /// cut fits, or another performative is too long; `OutOfMemory` where memory is refused. Payload parts are cuts of the
     /// payload: none is copied.
+    ///
+    /// The pieces are read back. [`FrameDecoder`](crate::FrameDecoder) decodes the one piece of a frame as that frame. It
+    /// decodes the pieces of a transfer that was cut as its first, middle and last transfers, each with its part of the
+    /// payload.
     pub fn encode(&self, alloc: Global, frame: &Frame) -> Result<Vec<Piece>, Error>
         ensures { Encodes (λ v. v.items) frame.now self.now result }
     {
-        let limit = self.max_frame_size;
+        let limit = self.max_piece_len;
         if frame.body.is_within(limit - 4) {
             let pieces = whole(alloc, frame)?;
             return Ok(pieces);
@@ -56,12 +66,12 @@ impl FrameEncoder {
         in_pieces(alloc, frame, limit)
     }
 
-    /// How many bytes of payload fit beside this transfer as it is, in one piece; `None` where its own text does not fit.
+    /// How many bytes of payload fit beside this transfer in one piece; `None` where its own text does not fit.
     /// Takes no memory.
     pub fn payload_room(&self, transfer: &Transfer) -> Option<u32>
         ensures { result ≡ room_beside transfer.now self.now }
     {
-        let room = self.max_frame_size - 4;
+        let room = self.max_piece_len - 4;
         let len = transfer.encoded_len();
         if u128::from(room) < len {
             return None;
@@ -73,8 +83,9 @@ impl FrameEncoder {
 /// The one piece of a frame that is whole.
 fn whole(alloc: Global, frame: &Frame) -> Result<Vec<Piece>, AllocError>
     requires { length (text_of frame.now.body) + length (payload_of frame.now.body) + 4 < 2 ^ 32 }
-    ensures { IfOk result (λ v. (p : _) × (v.items ≡ p ∷ []) × IsWholePiece frame.now p) }
+    ensures { IfOk result (λ v. (p : _) × (v.items ≡ p ∷ []) × IsWholePiece frame.now p × DecodesTo frame.now (piece_bytes p)) }
 {
+    whole_is_read(frame);
     let mut pieces = Vec::with_capacity(alloc, 1)?;
     let payload = frame.body.payload()?;
     let head = whole_head(alloc, frame.channel, &frame.body)?;

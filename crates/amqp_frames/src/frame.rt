@@ -1,4 +1,4 @@
-//! Frames: a channel, and what is said on it (AMQP 1.0 part 2, section 2.3).
+//! Frames: a channel and a body (AMQP 1.0 part 2, section 2.3).
 
 ghost use Rattle.std.specs.Prelude.{◌≡◌};
 ghost use Rattle.amqp_frames.specs.declared.frame.FrameBody.TheVariants.{Empty};
@@ -12,18 +12,18 @@ use std::fmt;
 pub struct Frame {
     /// The channel: 0 to 65535.
     pub channel: u16,
-    /// What is said.
+    /// The body.
     pub body: FrameBody,
 }
 
-/// What a frame says.
+/// The body of a frame: a performative, or nothing.
 #[derive(Drop, PartialEq)]
 pub enum FrameBody {
     Attach(Attach),
     Flow(Flow),
     Transfer {
         performative: Transfer,
-        /// The message, or the part of it that this transfer carries. A cut of what was received: none is copied.
+        /// The message, or the part of it that this transfer carries. The decoder cuts it off the received bytes, and copies none.
         payload: Bytes,
     },
     Disposition(Disposition),
@@ -32,7 +32,7 @@ pub enum FrameBody {
     End(End),
     Open(Open),
     Close(Close),
-    /// No body: the frame only tells that its sender is there.
+    /// No body: the frame only shows that its sender is alive.
     Empty,
 }
 
@@ -84,14 +84,14 @@ impl Frame {
         self.channel
     }
 
-    /// What is said.
+    /// The body.
     pub fn body(&self) -> &FrameBody
         ensures { result.now ≡ self.now.body }
     {
         &self.body
     }
 
-    /// What is said, taken out.
+    /// The body, moved out.
     pub fn into_body(self) -> FrameBody
         ensures { result ≡ self.body }
     {

@@ -10,7 +10,7 @@ use amqp_types::{Transfer, TransferText};
 use bytes::{Bytes, BytesMut};
 use std::alloc::{AllocError, Global};
 
-/// A buffer with the header, and room for so many bytes behind it.
+/// A buffer with the header, and room for `len` bytes behind it.
 fn header(alloc: Global, channel: u16, len: usize) -> Result<BytesMut, AllocError>
     requires { len < 2 ^ 32 }
     ensures { IfOk result (λ b. (b.items ≡ header_text channel) × (len ≤ b.spare)) }

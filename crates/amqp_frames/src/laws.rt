@@ -1,9 +1,16 @@
-//! Laws of frames and their pieces. The functions do nothing: their contracts hold of all frames.
+//! Laws of frames and their pieces. A law answers nothing, and does nothing but call other laws: its contract holds of
+//! every frame that it is called with.
 
-ghost use Rattle.amqp_frames.specs.RoundTrip.{CarriesPayload, CutIsDecoded, CutsAreRead, EmptyIsDecoded, FramesAreDecoded, KeepsLimit, WholeIsDecoded, WholesAreRead};
+ghost use Rattle.std.specs.Prelude.{◌<◌, ◌^◌, length};
+ghost use Rattle.amqp_frames.specs.Cut.{IsWholePiece};
+ghost use Rattle.amqp_frames.specs.Frame.{text_of};
+ghost use Rattle.amqp_frames.specs.Piece.{PieceParts, piece_bytes};
+ghost use Rattle.amqp_frames.specs.ReadBack.{DecodesTo};
+ghost use Rattle.amqp_frames.specs.RoundTrip.{CarriesPayload, CutIsDecoded, CutsAreRead, EmptyIsDecoded, FramesAreDecoded};
+ghost use Rattle.amqp_frames.specs.RoundTrip.{IsSpelledBody, KeepsLimit, WholeIsDecoded, WholesAreRead};
 
-use amqp_types::Performative;
-use amqp_types::laws::text_is_read;
+use crate::frame::{Frame, FrameBody};
+use amqp_types::{Performative, laws};
 
 /// The pieces of a frame keep the limit, and their parts joined are the payload.
 pub fn pieces_keep_the_limit()
@@ -19,7 +26,7 @@ pub fn pieces_are_read()
     ensures decoded { FramesAreDecoded }
 {}
 
-/// What was encoded is decoded: each frame that says this performative, on every channel, with every payload, at every limit
+/// What was encoded is decoded: each frame of this performative, on every channel, with every payload, at every limit
 /// of at most 4294967295 that it fits, and each empty frame. A frame that is whole is decoded from its one piece, and
 /// leaves nothing; the pieces of a transfer that is cut are decoded as its first, middle and last transfers, each with its
 /// part of the payload.
@@ -28,5 +35,38 @@ pub fn encoded_is_decoded(performative: &Performative)
     ensures cut { CutIsDecoded performative.now }
     ensures empty { EmptyIsDecoded }
 {
-    text_is_read(performative);
+    laws::text_is_read(performative);
+}
+
+/// All bytes of a frame in one piece are decoded as that frame.
+pub(crate) fn whole_is_read(frame: &Frame)
+    ensures { length (text_of frame.now.body) < 2 ^ 32 → (p : PieceParts) → IsWholePiece frame.now p → DecodesTo frame.now (piece_bytes p) }
+{
+    is_channel(frame.channel);
+    body_is_spelled(&frame.body);
+}
+
+fn is_channel(_channel: u16)
+    ensures { _channel < 2 ^ 16 }
+{}
+
+/// The text of a body spells what it says, if it has at most 4294967295 bytes.
+fn body_is_spelled(body: &FrameBody)
+    ensures { length (text_of body.now) < 2 ^ 32 → IsSpelledBody body.now }
+{
+    match body {
+        FrameBody::Attach(p) => laws::attach_is_spelled(p),
+        FrameBody::Flow(p) => laws::flow_is_spelled(p),
+        FrameBody::Transfer {
+            performative,
+            payload: _,
+        } => laws::transfer_is_spelled(performative),
+        FrameBody::Disposition(p) => laws::disposition_is_spelled(p),
+        FrameBody::Detach(p) => laws::detach_is_spelled(p),
+        FrameBody::Begin(p) => laws::begin_is_spelled(p),
+        FrameBody::End(p) => laws::end_is_spelled(p),
+        FrameBody::Open(p) => laws::open_is_spelled(p),
+        FrameBody::Close(p) => laws::close_is_spelled(p),
+        FrameBody::Empty => {}
+    }
 }

@@ -11,7 +11,7 @@ pub mod laws;
 pub mod piece;
 mod text;
 
-pub use decoder::FrameDecoder;
+pub use decoder::{FrameDecoder, FrameHead};
 pub use encoder::FrameEncoder;
 pub use error::Error;
 pub use frame::{Frame, FrameBody};

@@ -49,7 +49,7 @@ impl Piece {
         &self.payload
     }
 
-    /// The number of its bytes: at most the limit of the encoder that made it. Takes no memory.
+    /// Its length in bytes: at most the limit of the encoder that made it. Takes no memory.
     pub fn len(&self) -> usize
         ensures { result ≡ length (piece_bytes self.now) }
     {

@@ -1,4 +1,4 @@
-//! What a frame says as bytes: the text of its performative, and its payload.
+//! The body of a frame as bytes: the text of its performative, and its payload.
 
 ghost use Rattle.std.specs.Prelude.{◌≡◌, ◌≤◌, ◌<◌, ◌+◌, ◌^◌, ◌++◌, ◌↔◌, IsTrue, IfOk, length};
 ghost use Rattle.amqp_frames.specs.Frame.{text_of, payload_of};
@@ -80,7 +80,7 @@ impl FrameBody {
         }
     }
 
-    /// Whether text and payload have at most so many bytes.
+    /// Whether text and payload have at most `room` bytes.
     pub(crate) fn is_within(&self, room: u32) -> bool
         ensures { IsTrue result ↔ (length (text_of self.now) + length (payload_of self.now) ≤ room) }
     {

@@ -1,18 +1,13 @@
 -- The books of the sending half: numbers, window and what waits.
 use Rattle.std.proofs.Common.{◌≡◌, ℕ, suc, zero, ◌<◌, ◌≤◌, ◌-◌, ◌+◌, ◌%◌, ◌^◌, ◌++◌, [], ◌∷◌, List, length, take, drop, refl, ap, arith, sym, subst, ◌∙◌, min, append_assoc, append-nil, length-append, length-take, length-drop, Bool, true, false, cond, Option, Some, None, is_some, slice_get, unwrap_or}
 use Rattle.std.proofs.lemmas.List.{take-append-le, drop-append-le, drop-drop, take_min, drop_min}
-use Rattle.std.specs.Option.{option_map}
-use Rattle.amqp_session.specs.declared.flow.LinkFlow.{LinkFlow}
 use Rattle.amqp_session.specs.declared.frame.SessionFrame.{SessionFrame}
 use Rattle.amqp_session.specs.declared.frame.SessionOutgoingItem.{SessionOutgoingItem}
 use Rattle.amqp_session.specs.declared.frame.SessionOutgoingItem.TheVariants.{SingleFrame, MultipleFrames}
 use Rattle.amqp_session.specs.Serial.{In, remaining}
-use Rattle.amqp_session.specs.States.{is_mapped}
 use Rattle.amqp_session.specs.Transfers.{HeldSaid, frame_of, first_of, numbered, firsts}
 use Rattle.amqp_session.specs.Sending.{SendingView, joined, moved, begun, let_out, drained}
-use Rattle.amqp_session.specs.Items.{HandsOut, item_frames, first_frame, is_some_list}
-use Rattle.amqp_session.specs.Session.{SessionView, flow_frame, lets, let_gone}
-use Rattle.amqp_session.specs.Step.{FlowGoes}
+use Rattle.amqp_session.specs.Items.{HandsOut, item_frames}
 use Rattle.amqp_session.specs.Headline.{transfer_in, transfers_in, carried, Books}
 use Rattle.amqp_session.proofs.Numbering.{numbered_same}
 
@@ -88,8 +83,6 @@ Books-joined c i A F w v h b =
     let taken : take (length F) (A ++ h ∷ []) ≡ take (length F) A = take-append-le (length F) A (h ∷ []) b.no_more in
     let dropped : drop (length F) (A ++ h ∷ []) ≡ drop (length F) A ++ h ∷ [] = drop-append-le (length F) A (h ∷ []) b.no_more in
     record {
-      channel_is = b.channel_is;
-      initial_is = b.initial_is;
       next_is = b.next_is;
       delivery_is = b.delivery_is ∙ sym (ap (λ xs. firsts xs % 2 ^ 32) taken);
       held_is = ap (λ xs. xs ++ h ∷ []) b.held_is ∙ sym dropped;
@@ -100,27 +93,20 @@ Books-joined c i A F w v h b =
       no_more = omega (arith, b.no_more, length-append A (h ∷ []));
     }
 
-pub Books-moved : (c i : ℕ) (A : List HeldSaid) (F : List SessionFrame) (w : ℕ × ℕ) (v : SendingView) (base : Option ℕ) (width : ℕ) → width < 2 ^ 32 → unwrap_or base v.initial < 2 ^ 32 → Books c i A F w v →
-    Books c i A F (unwrap_or base i, width) (moved v base width)
-Books-moved c i A F w v base width hw hb b =
-    let same : unwrap_or base v.initial ≡ unwrap_or base i = ap (λ n. unwrap_or base n) b.initial_is in
-    record {
-      channel_is = b.channel_is;
-      initial_is = b.initial_is;
-      next_is = b.next_is;
-      delivery_is = b.delivery_is;
-      held_is = b.held_is;
-      window_is = ap (λ n. remaining v.next (n, width)) same;
-      base_fits = subst (λ n. n < 2 ^ 32) same hb;
-      width_fits = hw;
-      handed_out = b.handed_out;
-      no_more = b.no_more;
-    }
+pub Books-moved : (c i : ℕ) (A : List HeldSaid) (F : List SessionFrame) (w : ℕ × ℕ) (v : SendingView) (base width : ℕ) → width < 2 ^ 32 → base < 2 ^ 32 → Books c i A F w v → Books c i A F (base, width) (moved v base width)
+Books-moved c i A F w v base width hw hb b = record {
+  next_is = b.next_is;
+  delivery_is = b.delivery_is;
+  held_is = b.held_is;
+  window_is = refl;
+  base_fits = hb;
+  width_fits = hw;
+  handed_out = b.handed_out;
+  no_more = b.no_more;
+}
 
 pub Books-begun : (c i : ℕ) (A : List HeldSaid) (F : List SessionFrame) (w : ℕ × ℕ) (v : SendingView) (n : ℕ) → n < 2 ^ 32 → Books c i A F w v → Books c i A F ((i + length F) % 2 ^ 32, n) (begun v n)
 Books-begun c i A F w v n fits b = record {
-  channel_is = b.channel_is;
-  initial_is = b.initial_is;
   next_is = b.next_is;
   delivery_is = b.delivery_is;
   held_is = b.held_is;
@@ -131,23 +117,21 @@ Books-begun c i A F w v n fits b = record {
   no_more = b.no_more;
 }
 
-pub Books-drained : (c i : ℕ) (A : List HeldSaid) (F : List SessionFrame) (w : ℕ × ℕ) (v : SendingView) → Books c i A F w v → Books c i A (F ++ let_out v) w (drained v)
+pub Books-drained : (c i : ℕ) (A : List HeldSaid) (F : List SessionFrame) (w : ℕ × ℕ) (v : SendingView) → Books c i A F w v → Books c i A (F ++ let_out c v) w (drained v)
 Books-drained c i A F w v b =
-    let more : length (F ++ let_out v) ≡ length F + min v.window (length v.held) =
-    length-append F (let_out v) ∙ ap (λ k. length F + k) (length-numbered v.channel v.delivery (take v.window v.held) ∙ length-take v.window v.held) in
+    let more : length (F ++ let_out c v) ≡ length F + min v.window (length v.held) =
+    length-append F (let_out c v) ∙ ap (λ k. length F + k) (length-numbered c v.delivery (take v.window v.held) ∙ length-take v.window v.held) in
     let left : length v.held ≡ length A - length F = ap length b.held_is ∙ length-drop (length F) A in
-    let taken : take (length (F ++ let_out v)) A ≡ take (length F) A ++ take v.window v.held =
+    let taken : take (length (F ++ let_out c v)) A ≡ take (length F) A ++ take v.window v.held =
     ap (λ k. take k A) more ∙ take-add (length F) (min v.window (length v.held)) A ∙ ap (λ xs. take (length F) A ++ take (min v.window (length v.held)) xs) (sym b.held_is) ∙ ap (λ xs. take (length F) A ++ xs) (take_min v.window v.held) in
     let next_fits : v.next < 2 ^ 32 = omega (arith, b.next_is) in
     let few : min v.window (length v.held) ≤ remaining v.next w = omega (arith, b.window_is) in
     let lost : remaining v.next w - min v.window (length v.held) ≡ v.window - length v.held = omega (arith, b.window_is) in
     let counted : (firsts (take (length F) A) + firsts (take v.window v.held)) % 2 ^ 32 ≡ (v.delivery + firsts (take v.window v.held)) % 2 ^ 32 = omega (arith, b.delivery_is) in
     let same : v.delivery % 2 ^ 32 ≡ (0 + firsts (take (length F) A)) % 2 ^ 32 = omega (arith, b.delivery_is) in
-    let out : numbered v.channel v.delivery (take v.window v.held) ≡ numbered c (0 + firsts (take (length F) A)) (take v.window v.held) =
-    ap (λ k. numbered k v.delivery (take v.window v.held)) b.channel_is ∙ numbered_same c (take v.window v.held) v.delivery (0 + firsts (take (length F) A)) same in
+    let out : numbered c v.delivery (take v.window v.held) ≡ numbered c (0 + firsts (take (length F) A)) (take v.window v.held) =
+    numbered_same c (take v.window v.held) v.delivery (0 + firsts (take (length F) A)) same in
     record {
-      channel_is = b.channel_is;
-      initial_is = b.initial_is;
       next_is = omega (arith, more, b.next_is);
       delivery_is = sym (ap (λ xs. firsts xs % 2 ^ 32) taken ∙ ap (λ k. k % 2 ^ 32) (firsts-append (take (length F) A) (take v.window v.held)) ∙ counted);
       held_is = sym (ap (λ k. drop k A) more ∙ sym (drop-drop (min v.window (length v.held)) (length F) A) ∙ ap (λ xs. drop (min v.window (length v.held)) xs) (sym b.held_is) ∙ drop_min v.window v.held);
@@ -158,32 +142,15 @@ Books-drained c i A F w v b =
       no_more = omega (arith, more, left, b.no_more);
     }
 
-pub Books-same : (c i : ℕ) (A : List HeldSaid) (F : List SessionFrame) (w : ℕ × ℕ) (v u : SendingView) → u ≡ v → Books c i A F w v → Books c i (A ++ []) (F ++ []) w u
-Books-same c i A F w v u eu b = rw (eu, append-nil A, append-nil F) b
+-- what goes out of a sending half on a channel, where it may or may not
+abbrev pub Goes : Bool → ℕ → SendingView → List SessionFrame → SendingView → Type 0
+Goes true c v out w = (out ≡ let_out c v) × (w ≡ drained v)
+Goes false c v out w = (out ≡ []) × (w ≡ v)
 
--- what goes out of a sending half, where it may or may not
-abbrev pub Goes : Bool → SendingView → List SessionFrame → SendingView → Type 0
-Goes true v out w = (out ≡ let_out v) × (w ≡ drained v)
-Goes false v out w = (out ≡ []) × (w ≡ v)
-
-pub Books-goes : (b : Bool) (c i : ℕ) (A : List HeldSaid) (F out : List SessionFrame) (w : ℕ × ℕ) (v u : SendingView) → Goes b v out u → Books c i A F w v → Books c i A (F ++ out) w u
+pub Books-goes : (b : Bool) (c i : ℕ) (A : List HeldSaid) (F out : List SessionFrame) (w : ℕ × ℕ) (v u : SendingView) → Goes b c v out u → Books c i A F w v → Books c i A (F ++ out) w u
 Books-goes true c i A F out w v u g b = rw (g.0, g.1) (Books-drained c i A F w v b)
 Books-goes false c i A F out w v u g b = rw (g.0, g.1, append-nil F) b
 
-pub goes_by : {R : Type 0} → (b : Bool) (v w gone : SessionView R) (out : List SessionFrame) → gone.sending ≡ drained v.sending → out ≡ transfers_in (cond b (let_out v.sending) []) → w ≡ cond b gone v → Goes b v.sending out w.sending
-goes_by true v w gone out d e q = (e ∙ transfers_in-numbered v.sending.channel v.sending.delivery (take v.sending.window v.sending.held), ap (λ (u : SessionView _). u.sending) q ∙ d)
-goes_by false v w gone out d e q = (e, ap (λ (u : SessionView _). u.sending) q)
-
-pub echo_has_none : {R : Type 0} → (v : SessionView R) (echo : Option LinkFlow) → transfers_in (first_frame (option_map (flow_frame v) echo)) ≡ []
-echo_has_none v None = refl
-echo_has_none v (Some l) = refl
-
-pub flow_goes : {R : Type 0} → (v w : SessionView R) (echo : Option LinkFlow) (item : Option SessionOutgoingItem) → FlowGoes v echo item w → Goes (is_mapped v.state) v.sending (transfers_in (item_frames item)) w.sending
-flow_goes v w echo item g =
-    let first : List SessionFrame = first_frame (option_map (flow_frame v) echo) in
-    let all = hands_frames (is_some_list (lets v)) (first ++ lets v) item g.0 in
-    let out = ap transfers_in all ∙ transfers_in-append first (lets v) ∙ ap (λ ts. ts ++ transfers_in (lets v)) (echo_has_none v echo) in
-    goes_by (is_mapped v.state) v w _ (transfers_in (item_frames item)) refl out g.1
-
-pub send_goes : {R : Type 0} → (v w : SessionView R) (b : Bool) (item : Option SessionOutgoingItem) → HandsOut b (lets v) item → w ≡ let_gone v → Goes (is_mapped v.state) v.sending (transfers_in (item_frames item)) w.sending
-send_goes v w b item h q = goes_by (is_mapped v.state) v w _ (transfers_in (item_frames item)) refl (ap transfers_in (hands_frames b (lets v) item h)) q
+pub goes_by : (b : Bool) (c : ℕ) (v u : SendingView) (out : List SessionFrame) → out ≡ transfers_in (cond b (let_out c v) []) → u ≡ cond b (drained v) v → Goes b c v out u
+goes_by true c v u out e q = (e ∙ transfers_in-numbered c v.delivery (take v.window v.held), q)
+goes_by false c v u out e q = (e, q)

@@ -13,28 +13,35 @@ use Rattle.amqp_types.specs.declared.definitions.DeliveryTag.{DeliveryTag}
 use Rattle.amqp_session.specs.Deliveries.{noted}
 use Rattle.amqp_session.specs.Step.{FlowGoes, named_delivery, named_by}
 
-stays : {V : Type 0} → (b : Bool) (out first : List SessionFrame) (item : Option SessionOutgoingItem) (w v gone : V) → b ≡ false → HandsOut false first item → w ≡ v →
-    HandsOut (is_some_list (cond b out [])) (first ++ cond b out []) item × (w ≡ cond b gone v)
-stays b out first item w v gone e h q = rw (e, append-nil first) (h, q)
+-- the session after what it lets out, where it may
+abbrev gone_where : {R : Type 0} → Bool → SessionView R → SessionView R
+gone_where b v = record v {
+  sending = cond b (drained v.sending) v.sending;
+  deliveries = record v.deliveries { receiver = cond b (opened_by v.sending v.deliveries.receiver) v.deliveries.receiver };
+}
 
-goes : {V : Type 0} → (b : Bool) (out first : List SessionFrame) (item : Option SessionOutgoingItem) (w v gone : V) → b ≡ true → HandsOut (is_some_list out) (first ++ out) item → w ≡ gone →
-    HandsOut (is_some_list (cond b out [])) (first ++ cond b out []) item × (w ≡ cond b gone v)
-goes b out first item w v gone e h q = rw e (h, q)
+stays : {R : Type 0} → (b : Bool) (out first : List SessionFrame) (item : Option SessionOutgoingItem) (w v : SessionView R) → b ≡ false → HandsOut false first item → w ≡ v →
+    HandsOut (is_some_list (cond b out [])) (first ++ cond b out []) item × (w ≡ gone_where b v)
+stays b out first item w v e h q = rw (e, append-nil first) (h, q)
+
+goes : {R : Type 0} → (b : Bool) (out first : List SessionFrame) (item : Option SessionOutgoingItem) (w v : SessionView R) → b ≡ true → HandsOut (is_some_list out) (first ++ out) item → w ≡ gone_where true v →
+    HandsOut (is_some_list (cond b out [])) (first ++ cond b out []) item × (w ≡ gone_where b v)
+goes b out first item w v e h q = rw e (h, q)
 
 -- outside Mapped the first frame goes out alone
 pub unmapped_goes : {R : Type 0} → (v w : SessionView R) (echo : Option LinkFlow) (item : Option SessionOutgoingItem) → is_mapped v.state ≡ false →
     HandsOut false (first_frame (option_map (flow_frame v) echo)) item → w ≡ v → FlowGoes v echo item w
-unmapped_goes v w echo item e h q = stays (is_mapped v.state) _ _ item w v _ e h q
+unmapped_goes v w echo item e h q = stays (is_mapped v.state) _ _ item w v e h q
 
 -- in Mapped what the window lets out goes behind it
 pub mapped_goes : {R : Type 0} → (v w : SessionView R) (echo : Option LinkFlow) (item : Option SessionOutgoingItem) → is_mapped v.state ≡ true →
-    HandsOut (is_some_list (let_out v.sending)) (first_frame (option_map (flow_frame v) echo) ++ let_out v.sending) item →
-    w ≡ record v { sending = drained v.sending; deliveries = record v.deliveries { receiver = opened_by v.sending v.deliveries.receiver } } → FlowGoes v echo item w
-mapped_goes v w echo item e h q = goes (is_mapped v.state) _ _ item w v _ e h q
+    HandsOut (is_some_list (let_out v.outgoing_channel v.sending)) (first_frame (option_map (flow_frame v) echo) ++ let_out v.outgoing_channel v.sending) item →
+    w ≡ gone_where true v → FlowGoes v echo item w
+mapped_goes v w echo item e h q = goes (is_mapped v.state) _ _ item w v e h q
 
 -- the session after it, by its parts
 pub parts_gone : {R : Type 0} → (v : SessionView R) (s : SendingView) (rows room : List Delivery) → s ≡ drained v.sending → rows ≡ opened_by v.sending room → room ≡ v.deliveries.receiver →
-    record v { sending = s; deliveries = record v.deliveries { receiver = rows } } ≡ record v { sending = drained v.sending; deliveries = record v.deliveries { receiver = opened_by v.sending v.deliveries.receiver } }
+    record v { sending = s; deliveries = record v.deliveries { receiver = rows } } ≡ gone_where true v
 parts_gone v s rows room es er e = rw (es, er, e) refl
 
 -- the session after room was taken

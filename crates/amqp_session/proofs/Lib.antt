@@ -1,8 +1,12 @@
+pub mod AsMap
+pub mod Attaching
+pub mod Taking
 pub mod Rising
+pub mod Opening
 pub mod Numbering
 pub mod Flows
 pub mod Books
-pub mod Heard
+pub mod Effects
 pub mod Since
 pub mod Histories
 pub mod SessionFlows

@@ -55,9 +55,9 @@ turn c i count h old new f out out' rows rows' a b lt eo eout ef er eb =
     rw (n, eo, eout, ef, er) (refl, said_more c (count - (i + 1)) h new out a b eb, firsts_more (count - (i + 1)) h new a b eb, opened_more (count - (i + 1)) h new rows a b eb)
 
 -- where the window is used up, nothing goes out
-pub still : (channel initial next window delivery : ℕ) (held : List HeldSaid) → window ≡ 0 → next < 2 ^ 32 → delivery < 2 ^ 32 →
-    (let v : SendingView = record { channel = channel; initial = initial; next = next; window = window; delivery = delivery; held = held } in drained v ≡ v)
-still channel initial next window delivery held e hn hd =
+pub still : (next window delivery : ℕ) (held : List HeldSaid) → window ≡ 0 → next < 2 ^ 32 → delivery < 2 ^ 32 →
+    (let v : SendingView = record { next = next; window = window; delivery = delivery; held = held } in drained v ≡ v)
+still next window delivery held e hn hd =
     let en : (next + min window (length held)) % 2 ^ 32 ≡ next = omega arith in
     let ew : window - length held ≡ window = omega arith in
     let et : take window held ≡ [] = ap (λ k. take k held) e in

@@ -59,16 +59,16 @@ above_place rows at first rising more i h within =
     ]
 
 -- the tests of a record's number
-recorded_less : (d e : Delivery) (es : List Delivery) → e.number < d.number → recorded d (e ∷ es) ≡ e ∷ recorded d es
+pub recorded_less : (d e : Delivery) (es : List Delivery) → e.number < d.number → recorded d (e ∷ es) ≡ e ∷ recorded d es
 recorded_less d e es h = let t : nat_lt e.number d.number ≡ true = grind (arith, nat_tests, common_steps) in ap (λ b. cond b (e ∷ recorded d es) (cond (nat_eq e.number d.number) (d ∷ es) (d ∷ e ∷ es))) t
 
-recorded_same : (d e : Delivery) (es : List Delivery) → e.number ≡ d.number → recorded d (e ∷ es) ≡ d ∷ es
+pub recorded_same : (d e : Delivery) (es : List Delivery) → e.number ≡ d.number → recorded d (e ∷ es) ≡ d ∷ es
 recorded_same d e es h =
     let t : nat_lt e.number d.number ≡ false = grind (arith, nat_tests, common_steps) in
     let u : nat_eq e.number d.number ≡ true = grind (arith, nat_tests, common_steps) in
     ap (λ b. cond b (e ∷ recorded d es) (cond (nat_eq e.number d.number) (d ∷ es) (d ∷ e ∷ es))) t ∙ ap (λ b. cond b (d ∷ es) (d ∷ e ∷ es)) u
 
-recorded_more : (d e : Delivery) (es : List Delivery) → d.number < e.number → recorded d (e ∷ es) ≡ d ∷ e ∷ es
+pub recorded_more : (d e : Delivery) (es : List Delivery) → d.number < e.number → recorded d (e ∷ es) ≡ d ∷ e ∷ es
 recorded_more d e es h =
     let t : nat_lt e.number d.number ≡ false = grind (arith, nat_tests, common_steps) in
     let u : nat_eq e.number d.number ≡ false = grind (arith, nat_tests, common_steps) in

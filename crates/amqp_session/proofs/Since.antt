@@ -3,11 +3,13 @@ use Rattle.std.proofs.Common.{◌≡◌, ℕ, ◌<◌, ◌+◌, ◌-◌, ◌%◌
 use Rattle.amqp_session.specs.declared.deliveries.Delivery.{Delivery}
 use Rattle.amqp_session.specs.declared.session.receiving.Receiving.{Receiving}
 use Rattle.amqp_session.specs.declared.stop.SessionStopReason.{SessionStopReason}
-use Rattle.amqp_session.specs.Transfers.{opened}
 use Rattle.amqp_session.specs.History.{Entry, TakesBegin, TakesFlow, TakesTransfer, SendsSessionFlow, RecordsStop}
-use Rattle.amqp_session.specs.Heard.{has_kind, since, says_numbers, is_session_flow, came_by, came, word_by, word_from, word, next_incoming, left_by, left, peer_window, unsaid, channel_by, channel_from, named_with, received_open_from, stop_reason, HasNoLinks}
-use Rattle.amqp_session.specs.Headline.{begun_in, sent_with, sent_open_from, Hears}
-use Rattle.amqp_session.proofs.Heard.{hears, stops}
+use Rattle.amqp_session.specs.Heard.{has_kind, since, says_numbers, is_session_flow, came_by, came, word_by, word_from, word, next_incoming, left_by, left, peer_window, unsaid, channel_by, channel_from, stop_reason, IsLinkCall, HasNoLinks}
+use Rattle.amqp_session.specs.Headline.{open_by, open_from, Hears}
+use Rattle.amqp_types.specs.declared.definitions.Role.{Role}
+use Rattle.amqp_session.specs.Session.{SessionView}
+use Rattle.amqp_session.specs.Linked.{Taken, taken_by, taken_from}
+use Rattle.amqp_session.proofs.Effects.{hears, stops, WordFits}
 
 -- ---- the calls since the last one of a kind
 
@@ -67,44 +69,34 @@ still H e r w s f c l h = record {
   count_is = rw (unsaid_more H e, f, came_more (since is_session_flow H) e, c) (omega (arith, h.count_is));
 }
 
--- the numbers that a call says are of four bytes
-abbrev pub WordFits : {R : Type 0} → Entry R → Type 0
-WordFits (TakesBegin channel b (Ok u)) = b.next_outgoing_id < 2 ^ 32
-WordFits (TakesFlow f asked result) = f.next_outgoing_id < 2 ^ 32
-WordFits e = Unit {0}
-
-pub hears_more : {R : Type 0} → (H : List (Entry R)) (r : Receiving) (e : Entry R) → WordFits e → Hears H r → Hears (H ++ e ∷ []) (hears r e)
-hears_more H r (TakesBegin channel b (Ok u)) fits h = let e : Entry _ = TakesBegin channel b (Ok u) in record {
-  next_is = rw (next_more H e) (omega (arith, fits));
+pub hears_more : {R : Type 0} → (H : List (Entry R)) (v : SessionView R) (r : Receiving) (e : Entry R) → WordFits v e → Hears H r → Hears (H ++ e ∷ []) (hears r e)
+hears_more H v r (TakesBegin channel b (Ok u)) fits h = let e : Entry _ = TakesBegin channel b (Ok u) in record {
+  next_is = rw (next_more H e) (omega (arith, fits.next_outgoing_id));
   window_is = rw (peer_window_more H e) refl;
   count_is = rw (unsaid_more H e, came_more (since is_session_flow H) e) (omega (arith, h.count_is));
 }
-hears_more H r (TakesFlow f asked result) fits h = let e : Entry _ = TakesFlow f asked result in record {
-  next_is = rw (next_more H e) (omega (arith, fits));
+hears_more H v r (TakesFlow f asked result) fits h = let e : Entry _ = TakesFlow f asked result in record {
+  next_is = rw (next_more H e) (omega (arith, fits.next_outgoing_id));
   window_is = rw (peer_window_more H e) refl;
   count_is = rw (unsaid_more H e, came_more (since is_session_flow H) e) (omega (arith, h.count_is));
 }
-hears_more H r (TakesTransfer t payload asked result) fits h = let e : Entry _ = TakesTransfer t payload asked result in record {
+hears_more H v r (TakesTransfer t payload asked result) fits h = let e : Entry _ = TakesTransfer t payload asked result in record {
   next_is = rw (next_more H e, came_more (since says_numbers H) e) (omega (arith, h.next_is));
   window_is = rw (peer_window_more H e, left_more (word H).1 (since says_numbers H) e) (ap (λ n. n - 1) h.window_is);
   count_is = rw (unsaid_more H e, came_more (since is_session_flow H) e) (omega (arith, h.count_is));
 }
-hears_more H r (SendsSessionFlow (Some item)) fits h = let e : Entry _ = SendsSessionFlow (Some item) in record {
+hears_more H v r (SendsSessionFlow (Some item)) fits h = let e : Entry _ = SendsSessionFlow (Some item) in record {
   next_is = rw (next_more H e, came_more (since says_numbers H) e) (omega (arith, h.next_is));
   window_is = rw (peer_window_more H e, left_more (word H).1 (since says_numbers H) e) h.window_is;
   count_is = rw (unsaid_more H e) refl;
 }
-hears_more H r e fits h = still H e r refl refl refl refl refl h
+hears_more H v r e fits h = still H e r refl refl refl refl refl h
 
 -- ---- channel, stop reason and open deliveries
 
 pub channel_more : {R : Type 0} → (o : Option ℕ) (H : List (Entry R)) (e : Entry R) → channel_from o (H ++ e ∷ []) ≡ channel_by (channel_from o H) e
 channel_more o [] e = refl
 channel_more o (x ∷ H) e = channel_more (channel_by o x) H e
-
-pub received_more : {R : Type 0} → (rows : List Delivery) (H : List (Entry R)) (e : Entry R) → received_open_from rows (H ++ e ∷ []) ≡ named_with (received_open_from rows H) e
-received_more rows [] e = refl
-received_more rows (x ∷ H) e = received_more (named_with rows x) H e
 
 stop_stays : {R : Type 0} → (reason : SessionStopReason) (e : Entry R) → Some reason ≡ stops (Some reason) e
 stop_stays reason (RecordsStop other) = refl
@@ -119,14 +111,22 @@ stop_more [] e = first_stop e
 stop_more (RecordsStop reason ∷ H) e = stop_stays reason e
 stop_more (x ∷ H) e = stop_more H e
 
-pub sent_open_more : {R : Type 0} → (before : List (Entry R)) (rows : List Delivery) (H : List (Entry R)) (e : Entry R) →
-    sent_open_from before rows (H ++ e ∷ []) ≡ opened (begun_in (before ++ H)) (sent_with (before ++ H) e) (sent_open_from before rows H)
-sent_open_more before rows [] e = ap (λ b. opened (begun_in b) (sent_with b e) rows) (sym (append-nil before))
-sent_open_more before rows (x ∷ H) e =
-    let more : List Delivery = opened (begun_in before) (sent_with before x) rows in
-    sent_open_more (before ++ x ∷ []) more H e
-    ∙ ap (λ b. opened (begun_in b) (sent_with b e) (sent_open_from (before ++ x ∷ []) more H)) (append_assoc before (x ∷ []) H)
+pub open_more : {R : Type 0} → (role : Role) (n : ℕ) (before : List (Entry R)) (old : Option Delivery) (H : List (Entry R)) (e : Entry R) →
+    open_from role n before old (H ++ e ∷ []) ≡ open_by role n (before ++ H) (open_from role n before old H) e
+open_more role n before old [] e = ap (λ b. open_by role n b old e) (sym (append-nil before))
+open_more role n before old (x ∷ H) e =
+    let more : Option Delivery = open_by role n before old x in
+    open_more role n (before ++ x ∷ []) more H e
+    ∙ ap (λ b. open_by role n b (open_from role n (before ++ x ∷ []) more H) e) (append_assoc before (x ∷ []) H)
+
+pub taken_more : {R : Type 0} → (k : ℕ) (o : Taken) (H : List (Entry R)) (e : Entry R) → taken_from k o (H ++ e ∷ []) ≡ taken_by k (taken_from k o H) e
+taken_more k o [] e = refl
+taken_more k o (x ∷ H) e = taken_more k (taken_by k o x) H e
 
 pub no_links_before : {R : Type 0} → (H : List (Entry R)) (e : Entry R) → HasNoLinks (H ++ e ∷ []) → HasNoLinks H
 no_links_before [] e n = tt
 no_links_before (x ∷ H) e n = (n.0, no_links_before H e n.1)
+
+pub last_is_none : {R : Type 0} → (H : List (Entry R)) (e : Entry R) → HasNoLinks (H ++ e ∷ []) → ¬ (IsLinkCall e)
+last_is_none [] e n = n.0
+last_is_none (x ∷ H) e n = last_is_none H e n.1

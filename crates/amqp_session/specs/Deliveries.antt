@@ -14,6 +14,21 @@ abbrev pub noted : Option Delivery → List Delivery → List Delivery
 noted None rows = rows
 noted (Some d) rows = recorded d rows
 
+-- the list of it, where there is a record
+abbrev pub listed : Option Delivery → List Delivery
+listed None = []
+listed (Some d) = d ∷ []
+
+-- its number is of four bytes
+abbrev pub RecordFits : Option Delivery → Type 0
+RecordFits None = Unit {0}
+RecordFits (Some d) = d.number < 2 ^ 32
+
+-- the newest record of this number: the last one among these, or an older one where they have none
+abbrev pub newest : ℕ → Option Delivery → List Delivery → Option Delivery
+newest n old [] = old
+newest n old (d ∷ ds) = newest n (if nat_eq d.number n then Some d else old) ds
+
 -- all numbers are above n
 abbrev pub Above : ℕ → List Delivery → Type 0
 Above n [] = Unit {0}

@@ -1,5 +1,5 @@
 -- What holds of every history of one session, said of the history alone (AMQP 1.0 part 2, section 2.5.6).
-use Rattle.std.specs.Prelude.{◌≡◌, ◌⊎◌, ◌<◌, ◌≤◌, ◌+◌, ◌%◌, ◌^◌, ℕ, true, false, List, [], ◌∷◌, ◌++◌, length, take, drop, slice_get, Option, Some, None, is_some, Result, Ok, Err, unwrap_or}
+use Rattle.std.specs.Prelude.{◌≡◌, ◌⊎◌, ◌<◌, ◌≤◌, ◌+◌, ◌%◌, ◌^◌, ℕ, Bool, true, false, if◌then◌else◌, List, [], ◌∷◌, ◌++◌, length, take, drop, slice_get, Option, Some, None, is_some, Result, Ok, Err, unwrap_or}
 use Rattle.amqp_types.specs.declared.states.SessionState.{SessionState}
 use Rattle.amqp_session.specs.declared.frame.SessionFrame.{SessionFrame}
 use Rattle.amqp_session.specs.declared.frame.SessionFrameBody.{SessionFrameBody}
@@ -8,30 +8,24 @@ use Rattle.amqp_session.specs.declared.frame.SessionOutgoingItem.{SessionOutgoin
 use Rattle.amqp_session.specs.declared.error.SessionInnerError.{SessionInnerError}
 use Rattle.amqp_session.specs.declared.deliveries.Delivery.{Delivery}
 use Rattle.amqp_session.specs.declared.session.receiving.Receiving.{Receiving}
-use Rattle.amqp_session.specs.Items.{item_frames}
+use Rattle.amqp_session.specs.Handed.{call_frames}
 use Rattle.amqp_session.specs.declared.error.SessionInnerError.TheVariants as Refused
 use Rattle.amqp_session.specs.Serial.{In, remaining}
 use Rattle.amqp_session.specs.States.{is_mapped, sends_begin, takes_begin, sends_end, takes_end}
 use Rattle.amqp_session.specs.Sending.{SendingView}
 use Rattle.amqp_session.specs.Session.{SessionView}
 use Rattle.amqp_session.specs.Step.{IsUntagged, has_error}
-use Rattle.amqp_session.specs.Transfers.{HeldSaid, numbered, firsts, opened}
+use Rattle.amqp_session.specs.Transfers.{HeldSaid, numbered, firsts, records}
+use Rattle.amqp_session.specs.Deliveries.{listed, newest, IsTable, record_at, of_role}
+use Rattle.amqp_types.specs.declared.definitions.Role.{Role}
+use Rattle.amqp_types.specs.declared.definitions.Role.TheVariants.{Sender, Receiver}
+use Rattle.std.specs.FinMap as map
 use Rattle.amqp_session.specs.Links.{no_links}
-use Rattle.amqp_session.specs.Heard.{next_incoming, peer_window, unsaid, peer_channel, received_open, stop_reason, HasNoLinks}
+use Rattle.amqp_session.specs.Linked.{taken_at}
+use Rattle.amqp_session.specs.Heard.{next_incoming, peer_window, unsaid, peer_channel, named_with, stop_reason, HasNoLinks}
 use Rattle.amqp_session.specs.History.{Entry, SendsBegin, SendsEnd, TakesBegin, TakesEnd, TakesFlow, SendsTransfer, Made}
 
 -- ---- what a call took and handed out
-
--- the frames that a call's answer hands out
-abbrev pub answer_frames : Result (Option SessionOutgoingItem) SessionInnerError → List SessionFrame
-answer_frames (Ok item) = item_frames item
-answer_frames (Err e) = []
-
--- the frames among which transfers are: of a flow that came, or of a transfer that was asked for
-abbrev pub frames : {R : Type 0} → Entry R → List SessionFrame
-frames (TakesFlow f asked result) = answer_frames result
-frames (SendsTransfer h result) = answer_frames result
-frames e = []
 
 abbrev pub transfer_in : SessionFrameBody → SessionFrame → List SessionFrame
 transfer_in (Body.Transfer t payload) f = f ∷ []
@@ -48,10 +42,10 @@ accepted_by e = []
 
 -- ---- of a history
 
--- the transfers that were handed out, in order
+-- the transfers that were handed out, by whatever call, in order
 abbrev pub handed : {R : Type 0} → List (Entry R) → List SessionFrame
 handed [] = []
-handed (e ∷ es) = transfers_in (frames e) ++ handed es
+handed (e ∷ es) = transfers_in (call_frames e) ++ handed es
 
 -- the transfers that were accepted, in order
 abbrev pub accepted : {R : Type 0} → List (Entry R) → List HeldSaid
@@ -75,7 +69,7 @@ window_by m n old e = old
 
 abbrev pub window_from : {R : Type 0} → Made → ℕ → ℕ × ℕ → List (Entry R) → ℕ × ℕ
 window_from m n old [] = old
-window_from m n old (e ∷ es) = window_from m (n + length (transfers_in (frames e))) (window_by m n old e) es
+window_from m n old (e ∷ es) = window_from m (n + length (transfers_in (call_frames e))) (window_by m n old e) es
 
 -- the base and the width of the latest window
 abbrev pub window : {R : Type 0} → Made → List (Entry R) → ℕ × ℕ
@@ -130,7 +124,7 @@ FirstAlone H = (k : ℕ) (h : HeldSaid) (f : SessionFrame) → slice_get (accept
 -- Each transfer is inside the window that holds as it is handed out.
 abbrev pub Inside : {R : Type 0} → Made → List (Entry R) → Type 0
 Inside m H = (before after : List (Entry _)) (e : Entry _) → H ≡ before ++ e ∷ after →
-    (k : ℕ) → k < length (transfers_in (frames e)) → In ((number m before + k) % 2 ^ 32) (window m (before ++ e ∷ []))
+    (k : ℕ) → k < length (transfers_in (call_frames e)) → In ((number m before + k) % 2 ^ 32) (window m (before ++ e ∷ []))
 
 -- a transfer that was accepted, or a Flow that was accepted in Mapped: it lets out what the window allows
 abbrev pub LetsOut : {R : Type 0} → SessionState → Entry R → Type 0
@@ -150,31 +144,42 @@ pub record Headline {R : Type 0} (m : Made) (H : List (Entry R)) : Type 0 where
   pub inside : Inside m H
   pub waits_only : WaitsOnly m H
 
--- ---- the deliveries of this side
+-- ---- open deliveries, of each role of the peer that will speak of them (section 2.6.12)
 
 -- the transfers that go out with a call, where these calls came before it: those that waited first, and then its own
 abbrev pub sent_with : {R : Type 0} → List (Entry R) → Entry R → List HeldSaid
-sent_with before e = take (length (transfers_in (frames e))) (waiting before ++ accepted_by e)
+sent_with before e = take (length (transfers_in (call_frames e))) (waiting before ++ accepted_by e)
 
 -- how many deliveries have begun to go out
 abbrev pub begun_in : {R : Type 0} → List (Entry R) → ℕ
 begun_in H = firsts (take (length (handed H)) (accepted H))
 
--- The open ones: each is recorded with the frame that carries its number, unless it is settled already, and takes the place of
--- an older one of its number.
-abbrev pub sent_open_from : {R : Type 0} → List (Entry R) → List Delivery → List (Entry R) → List Delivery
-sent_open_from before rows [] = rows
-sent_open_from before rows (e ∷ es) = sent_open_from (before ++ e ∷ []) (opened (begun_in before) (sent_with before e) rows) es
+-- The records that a call adds, where these calls came before it. Of what this side sent: one with the frame that carries the
+-- delivery's number, unless it is settled already. Of what it received: the one that a relay names.
+abbrev pub adds : {R : Type 0} → Role → List (Entry R) → Entry R → List Delivery
+adds Receiver before e = records (begun_in before) (sent_with before e)
+adds Sender before e = listed (named_with e)
 
-abbrev pub sent_open : {R : Type 0} → List (Entry R) → List Delivery
-sent_open H = sent_open_from [] [] H
+-- whether a call takes a number away: no call does yet
+abbrev pub takes_away : {R : Type 0} → Role → Entry R → ℕ → Bool
+takes_away role e n = false
+
+-- the open delivery of a role and number after a call, and after these calls
+abbrev pub open_by : {R : Type 0} → Role → ℕ → List (Entry R) → Option Delivery → Entry R → Option Delivery
+open_by role n before old e = newest n (if takes_away role e n then None else old) (adds role before e)
+
+abbrev pub open_from : {R : Type 0} → Role → ℕ → List (Entry R) → Option Delivery → List (Entry R) → Option Delivery
+open_from role n before old [] = old
+open_from role n before old (e ∷ es) = open_from role n (before ++ e ∷ []) (open_by role n before old e) es
+
+-- the newest record of a role and number that no call took away since
+abbrev pub open_at : {R : Type 0} → Role → ℕ → List (Entry R) → Option Delivery
+open_at role n H = open_from role n [] None H
 
 -- ---- the law of views
 
 -- a view of the sending half is what these accepted transfers, these frames and this window give
 pub record Books (channel initial : ℕ) (A : List HeldSaid) (F : List SessionFrame) (w : ℕ × ℕ) (v : SendingView) : Type 0 where
-  pub channel_is : v.channel ≡ channel
-  pub initial_is : v.initial ≡ initial
   pub next_is : v.next ≡ (initial + length F) % 2 ^ 32
   pub delivery_is : v.delivery ≡ firsts (take (length F) A) % 2 ^ 32
   pub held_is : v.held ≡ drop (length F) A
@@ -190,18 +195,25 @@ pub record Hears {R : Type 0} (H : List (Entry R)) (r : Receiving) : Type 0 wher
   pub window_is : r.window ≡ peer_window H
   pub count_is : r.count ≡ unsaid H
 
+-- These are the open deliveries of a role: their numbers rise and are of four bytes, and the record of each number is its newest
+-- one.
+pub record Opens {R : Type 0} (role : Role) (H : List (Entry R)) (rows : List Delivery) : Type 0 where
+  pub table : IsTable rows
+  pub each : (n : ℕ) → record_at n rows ≡ open_at role n H
+
 -- The view is what the session was made with and what the history gives: the numbers of transfers and deliveries in both
 -- directions, what waits, what is left of both windows, the transfers not yet told to the peer, the state, the peer's channel,
--- the stop reason, and the open deliveries of both roles. Links come of their own calls alone.
+-- the stop reason, and the open deliveries of both roles. Links come of their own calls alone. And
+-- each output handle is taken as the history says: by the live link of a name, or awaited, or not at all.
 pub record Stands {R : Type 0} (m : Made) (H : List (Entry R)) (v : SessionView R) : Type 0 where
   pub sending_is : Books m.channel m.settings.next_outgoing_id (accepted H) (handed H) (window m H) v.sending
   pub state_is : v.state ≡ state m H
   pub receiving_is : Hears H v.receiving
-  pub sent_open_is : v.deliveries.receiver ≡ sent_open H
-  pub received_open_is : v.deliveries.sender ≡ received_open H
+  pub open_are : (role : Role) → Opens role H (of_role role v.deliveries)
   pub incoming_channel_is : v.incoming_channel ≡ peer_channel H
   pub session_stop_is : v.session_stop ≡ stop_reason H
   pub settings_is : v.settings ≡ m.settings
   pub outgoing_channel_is : v.outgoing_channel ≡ m.channel
   pub connection_stop_is : v.connection_stop ≡ m.stop
   pub links_are : HasNoLinks H → v.links ≡ no_links
+  pub handles_are : (k : ℕ) → map.get v.links.handles k ≡ taken_at k H

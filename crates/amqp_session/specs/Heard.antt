@@ -5,9 +5,8 @@ use Rattle.amqp_types.specs.declared.definitions.DeliveryTag.{DeliveryTag}
 use Rattle.amqp_session.specs.declared.deliveries.Delivery.{Delivery}
 use Rattle.amqp_session.specs.declared.stop.SessionStopReason.{SessionStopReason}
 use Rattle.amqp_session.specs.declared.error.LinkRelayError.{LinkRelayError}
-use Rattle.amqp_session.specs.Deliveries.{noted}
 use Rattle.amqp_session.specs.Step.{named_delivery}
-use Rattle.amqp_session.specs.History.{Entry, TakesBegin, TakesFlow, TakesTransfer, SendsSessionFlow, RecordsStop, AllocatesLink, AllocatesIncomingLink, DeallocatesLink, TakesAttach, TakesDetach, SendsAttach, SendsDetach}
+use Rattle.amqp_session.specs.History.{Entry, TakesBegin, TakesFlow, TakesTransfer, SendsSessionFlow, RecordsStop, AllocatesLink, AllocatesIncomingLink, DeallocatesLink, TakesAttach, TakesDetach, SendsDetach}
 
 -- ---- the calls since the last one of a kind
 
@@ -99,18 +98,10 @@ abbrev pub named_of : Result (Option (ℕ × DeliveryTag)) LinkRelayError → Op
 named_of (Ok named) = named
 named_of (Err e) = None
 
--- The open ones with the one that a relay names for a received transfer, under the transfer's handle: it takes the place of
--- an older one of its number.
-abbrev pub named_with : {R : Type 0} → List Delivery → Entry R → List Delivery
-named_with rows (TakesTransfer t payload (Some q) result) = noted (named_delivery t.handle (named_of q.answer)) rows
-named_with rows e = rows
-
-abbrev pub received_open_from : {R : Type 0} → List Delivery → List (Entry R) → List Delivery
-received_open_from rows [] = rows
-received_open_from rows (e ∷ es) = received_open_from (named_with rows e) es
-
-abbrev pub received_open : {R : Type 0} → List (Entry R) → List Delivery
-received_open H = received_open_from [] H
+-- the one that a relay names for a received transfer, under the transfer's handle
+abbrev pub named_with : {R : Type 0} → Entry R → Option Delivery
+named_with (TakesTransfer t payload (Some q) result) = named_delivery t.handle (named_of q.answer)
+named_with e = None
 
 -- ---- the stop reason, and links
 
@@ -120,14 +111,13 @@ stop_reason [] = None
 stop_reason (RecordsStop reason ∷ es) = Some reason
 stop_reason (e ∷ es) = stop_reason es
 
--- the calls that make, attach or release a link
+-- the calls that may make, attach or release a link
 abbrev pub IsLinkCall : {R : Type 0} → Entry R → Type 0
 IsLinkCall (AllocatesLink name relay result) = Unit {0}
 IsLinkCall (AllocatesIncomingLink name relay input result) = Unit {0}
 IsLinkCall (DeallocatesLink handle was) = Unit {0}
 IsLinkCall (TakesAttach a asked result) = Unit {0}
 IsLinkCall (TakesDetach d asked result) = Unit {0}
-IsLinkCall (SendsAttach a frame) = Unit {0}
 IsLinkCall (SendsDetach d expects_echo result) = Unit {0}
 IsLinkCall e = ⊥
 

@@ -24,6 +24,7 @@ use Rattle.amqp_session.specs.Transfers.{HeldSaid}
 use Rattle.amqp_session.specs.Relay.{Relays, AttachQuestion, FlowQuestion, TransferQuestion, DispositionQuestion, DetachQuestion}
 use Rattle.amqp_session.specs.Session.{SessionView, new_session}
 use Rattle.amqp_session.specs.Step.{SendBeginStep, SendEndStep, TakeBeginStep, TakeEndStep, SendTransferStep, FlowStep, TakeTransferStep, SendFlowStep, SessionFlowStep, StopStep}
+use Rattle.amqp_session.specs.Linking.{AllocateLinkStep, AllocateIncomingStep, DeallocateStep, TakeAttachStep, TakeDetachStep, SendAttachStep, SendDetachStep}
 
 -- One call: its arguments, the questions to relays with their answers, and its answer.
 pub data Entry (R : Type 0) : Type 0 where
@@ -53,19 +54,19 @@ Step g v (SendsBegin result) w = SendBeginStep v result w
 Step g v (SendsEnd error result) w = SendEndStep v error result w
 Step g v (TakesBegin channel b result) w = TakeBeginStep v channel b result w
 Step g v (TakesEnd channel e result) w = TakeEndStep v e result w
-Step g v (AllocatesLink name relay result) w = ⊥
-Step g v (AllocatesIncomingLink name relay input result) w = ⊥
-Step g v (DeallocatesLink handle was) w = ⊥
-Step g v (TakesAttach a asked result) w = ⊥
+Step g v (AllocatesLink name relay result) w = AllocateLinkStep v name relay result w
+Step g v (AllocatesIncomingLink name relay input result) w = AllocateIncomingStep v name relay input result w
+Step g v (DeallocatesLink handle was) w = DeallocateStep v handle was w
+Step g v (TakesAttach a asked result) w = TakeAttachStep g.attach_gives v a asked result w
 Step g v (TakesFlow f asked result) w = FlowStep g.flow_gives v f asked result w
 Step g v (TakesTransfer t payload asked result) w = TakeTransferStep g.transfer_gives v t payload asked result w
 Step g v (TakesDisposition d asked result) w = ⊥
-Step g v (TakesDetach d asked result) w = ⊥
-Step g v (SendsAttach a frame) w = ⊥
+Step g v (TakesDetach d asked result) w = TakeDetachStep g.detach_gives v d asked result w
+Step g v (SendsAttach a frame) w = SendAttachStep v a frame w
 Step g v (SendsFlow l frame) w = SendFlowStep v l frame w
 Step g v (SendsTransfer h result) w = SendTransferStep v h result w
 Step g v (SendsDisposition d frame) w = ⊥
-Step g v (SendsDetach d expects_echo result) w = ⊥
+Step g v (SendsDetach d expects_echo result) w = SendDetachStep v d expects_echo result w
 Step g v (SendsSessionFlow item) w = SessionFlowStep v item w
 Step g v (RecordsStop reason) w = StopStep v reason w
 

@@ -12,7 +12,9 @@ pub mod Relay
 pub mod Session
 pub mod Items
 pub mod Step
+pub mod Linking
 pub mod History
 pub mod Heard
+pub mod Linked
 pub mod Handed
 pub mod Headline

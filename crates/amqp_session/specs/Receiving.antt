@@ -1,7 +1,6 @@
 -- The numbers of what the peer sends (AMQP 1.0 part 2, section 2.5.6).
-use Rattle.std.specs.Prelude.{ℕ, ◌+◌, ◌-◌, ◌%◌, ◌^◌, min, nat_lt, if◌then◌else◌, Option, unwrap_or}
+use Rattle.std.specs.Prelude.{ℕ, ◌+◌, ◌-◌, ◌%◌, ◌^◌, min}
 use Rattle.amqp_session.specs.declared.session.receiving.Receiving.{Receiving}
-use Rattle.amqp_session.specs.Serial.{past}
 
 abbrev pub nothing_received : Receiving
 nothing_received = record { next = 0; window = 0; count = 0 }
@@ -17,12 +16,3 @@ counted r = record { next = (r.next + 1) % 2 ^ 32; window = r.window - 1; count 
 -- a session flow went out
 abbrev pub rested : Receiving → Receiving
 rested r = record r { count = 0 }
-
--- How many messages a disposition over these numbers settles: ranges are of numbers that wrap, and one that runs backward
--- stands for its first alone.
-abbrev pub settled_count : ℕ → Option ℕ → ℕ
-settled_count first last = let d = past (unwrap_or last first) first in if nat_lt d 2147483648 then d + 1 else 1
-
--- a disposition with a terminal state went out: the peer's outgoing window grows, but not past 4294967295
-abbrev pub settled_by : ℕ → Receiving → Receiving
-settled_by n r = record r { window = min (r.window + n) 4294967295 }

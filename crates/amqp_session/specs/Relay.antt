@@ -8,7 +8,7 @@ use Rattle.amqp_types.specs.declared.definitions.DeliveryTag.{DeliveryTag}
 use Rattle.amqp_session.specs.declared.numbers.OutputHandle.{OutputHandle}
 use Rattle.amqp_session.specs.declared.flow.LinkFlow.{LinkFlow}
 use Rattle.amqp_session.specs.declared.error.LinkRelayError.{LinkRelayError}
-use Rattle.amqp_session.specs.Links.{LinksView, attached_at, put_at}
+use Rattle.amqp_session.specs.declared.link.Attached.{Attached}
 
 -- What relays of a kind may answer: for each question a relation of old state, arguments, answer and new state.
 abbrev pub AttachGives : Type 0 → Type 1
@@ -33,69 +33,64 @@ pub record Relays (R : Type 0) : Type 1 where
   pub disposition_gives : DispositionGives R
   pub detach_gives : DetachGives R
 
-abbrev pub relays : {R : Type 0} → AttachGives R → FlowGives R → TransferGives R → DispositionGives R → DetachGives R → Relays R
-relays a f t d e = record { attach_gives = a; flow_gives = f; transfer_gives = t; disposition_gives = d; detach_gives = e }
-
--- A question: how the relay stood, what it was asked, its answer, and how it then stood.
-pub record AttachQuestion (R : Type 0) : Type 0 where
-  pub before : R
-  pub attach : AttachSaid
-  pub answer : Result (Unit {0}) LinkRelayError
-  pub after : R
-
-pub record FlowQuestion (R : Type 0) : Type 0 where
-  pub before : R
+-- A question to the relay of a link: the output handle of the link, how the relay stood, what it was asked, its answer, and how
+-- it then stands.
+pub record Question (R Q A : Type 0) : Type 0 where
   pub handle : OutputHandle
-  pub flow : LinkFlow
-  pub answer : Result (Option LinkFlow) LinkRelayError
+  pub before : R
+  pub asked : Q
+  pub answer : A
   pub after : R
 
-pub record TransferQuestion (R : Type 0) : Type 0 where
-  pub before : R
+abbrev pub AttachQuestion : Type 0 → Type 0
+AttachQuestion R = Question R AttachSaid (Result (Unit {0}) LinkRelayError)
+
+abbrev pub FlowQuestion : Type 0 → Type 0
+FlowQuestion R = Question R LinkFlow (Result (Option LinkFlow) LinkRelayError)
+
+-- a transfer and its payload
+abbrev pub TransferQuestion : Type 0 → Type 0
+TransferQuestion R = Question R (TransferSaid × List ℕ) (Result (Option (ℕ × DeliveryTag)) LinkRelayError)
+
+-- the peer's role, whether it settles, the state, and the tag of the delivery
+abbrev pub DispositionQuestion : Type 0 → Type 0
+DispositionQuestion R = Question R (Role × Bool × Option (List ℕ) × DeliveryTag) Bool
+
+-- a detach, and whether the peer began it
+abbrev pub DetachQuestion : Type 0 → Type 0
+DetachQuestion R = Question R (DetachSaid × Bool) (Option DetachSaid)
+
+-- ---- the relations of a kind, as relations of questions
+
+abbrev pub Gives : Type 0 → Type 0 → Type 0 → Type 1
+Gives R Q A = OutputHandle → R → Q → A → R → Type 0
+
+abbrev pub of_attach : {R : Type 0} → AttachGives R → Gives R AttachSaid (Result (Unit {0}) LinkRelayError)
+of_attach gives o before attach answer after = gives before attach answer after
+
+abbrev pub of_flow : {R : Type 0} → FlowGives R → Gives R LinkFlow (Result (Option LinkFlow) LinkRelayError)
+of_flow gives o before flow answer after = gives before o flow answer after
+
+abbrev pub of_transfer : {R : Type 0} → TransferGives R → Gives R (TransferSaid × List ℕ) (Result (Option (ℕ × DeliveryTag)) LinkRelayError)
+of_transfer gives o before t answer after = gives before t.0 t.1 answer after
+
+abbrev pub of_detach : {R : Type 0} → DetachGives R → Gives R (DetachSaid × Bool) (Option DetachSaid)
+of_detach gives o before d answer after = gives before o d.0 d.1 answer after
+
+-- the link's relay as it then stands
+abbrev pub goes_on : {R Q A : Type 0} → Question R Q A → Attached R
+goes_on q = record { handle = q.handle; relay = q.after }
+
+-- The relay that stood there was asked this, and answered as its kind may.
+pub record Asks {R Q A : Type 0} (gives : Gives R Q A) (old : Option (Attached R)) (q : Question R Q A) : Type 0 where
+  pub attached : old ≡ Some (record { handle = q.handle; relay = q.before })
+  pub stands : gives q.handle q.before q.asked q.answer q.after
+
+-- the same, of what is asked and answered, and of how the relay is put back
+pub record Asked {R Q A : Type 0} (gives : Gives R Q A) (old : Option (Attached R)) (asked : Q) (answer : A) (IsPut : Attached R → Type 0) : Type 0 where
   pub handle : OutputHandle
-  pub transfer : TransferSaid
-  pub payload : List ℕ
-  pub answer : Result (Option (ℕ × DeliveryTag)) LinkRelayError
-  pub after : R
-
-pub record DispositionQuestion (R : Type 0) : Type 0 where
   pub before : R
-  pub input_handle : ℕ
-  pub role : Role
-  pub settled : Bool
-  pub state : Option (List ℕ)
-  pub tag : DeliveryTag
-  pub answer : Bool
   pub after : R
-
-pub record DetachQuestion (R : Type 0) : Type 0 where
-  pub before : R
-  pub handle : OutputHandle
-  pub detach : DetachSaid
-  pub remote_initiated : Bool
-  pub answer : Option DetachSaid
-  pub after : R
-
--- The relay under the input handle was asked this, and stands there as it went on.
-pub record AsksFlow {R : Type 0} (gives : FlowGives R) (old : LinksView R) (input : ℕ) (q : FlowQuestion R) (new : LinksView R) : Type 0 where
-  pub attached : attached_at input old ≡ Some (record { handle = q.handle; relay = q.before })
-  pub stands : gives q.before q.handle q.flow q.answer q.after
-  pub put : new ≡ put_at input (record { handle = q.handle; relay = q.after }) old
-
-pub record AsksTransfer {R : Type 0} (gives : TransferGives R) (old : LinksView R) (input : ℕ) (q : TransferQuestion R) (new : LinksView R) : Type 0 where
-  pub attached : attached_at input old ≡ Some (record { handle = q.handle; relay = q.before })
-  pub stands : gives q.before q.transfer q.payload q.answer q.after
-  pub put : new ≡ put_at input (record { handle = q.handle; relay = q.after }) old
-
--- the same, of a flow and an answer
-pub record FlowAsked {R : Type 0} (gives : FlowGives R) (old : LinksView R) (input : ℕ) (flow : LinkFlow) (answer : Result (Option LinkFlow) LinkRelayError) (new : LinksView R) : Type 0 where
-  pub before : R
-  pub handle : OutputHandle
-  pub after : R
-  pub asks : AsksFlow gives old input (record { before = before; handle = handle; flow = flow; answer = answer; after = after }) new
-
-pub record TransferAsked {R : Type 0} (gives : TransferGives R) (old : LinksView R) (input : ℕ) (transfer : TransferSaid) (payload : List ℕ) (answer : Result (Option (ℕ × DeliveryTag)) LinkRelayError) (new : LinksView R) : Type 0 where
-  pub before : R
-  pub handle : OutputHandle
-  pub after : R
-  pub asks : AsksTransfer gives old input (record { before = before; handle = handle; transfer = transfer; payload = payload; answer = answer; after = after }) new
+  pub attached : old ≡ Some (record { handle = handle; relay = before })
+  pub stands : gives handle before asked answer after
+  pub put : IsPut (record { handle = handle; relay = after })

@@ -1,20 +1,18 @@
 -- What contracts see of the sending half of a session (AMQP 1.0 part 2, section 2.5.6).
-use Rattle.std.specs.Prelude.{ℕ, ◌+◌, ◌-◌, ◌%◌, ◌^◌, List, [], ◌∷◌, ◌++◌, length, take, drop, min, Option, unwrap_or}
+use Rattle.std.specs.Prelude.{ℕ, ◌+◌, ◌-◌, ◌%◌, ◌^◌, List, [], ◌∷◌, ◌++◌, length, take, drop, min}
 use Rattle.amqp_session.specs.declared.deliveries.Delivery.{Delivery}
 use Rattle.amqp_session.specs.declared.frame.SessionFrame.{SessionFrame}
 use Rattle.amqp_session.specs.Serial.{remaining}
 use Rattle.amqp_session.specs.Transfers.{HeldSaid, numbered, firsts, opened}
 
 pub record SendingView : Type 0 where
-  pub channel : ℕ  -- on which frames go out
-  pub initial : ℕ  -- the number of the first transfer
   pub next : ℕ  -- the next outgoing id: the number of the next transfer
   pub window : ℕ  -- the remote incoming window: how many transfers may still go out
   pub delivery : ℕ  -- the number of the next delivery
   pub held : List HeldSaid  -- the transfers that wait, the oldest first
 
-abbrev pub new_sending : ℕ → ℕ → SendingView
-new_sending channel n = record { channel = channel; initial = n; next = n; window = 0; delivery = 0; held = [] }
+abbrev pub new_sending : ℕ → SendingView
+new_sending n = record { next = n; window = 0; delivery = 0; held = [] }
 
 -- a transfer waits behind the others
 abbrev pub joined : SendingView → HeldSaid → SendingView
@@ -24,17 +22,17 @@ joined v h = record v { held = v.held ++ h ∷ [] }
 abbrev pub begun : SendingView → ℕ → SendingView
 begun v width = record v { window = width }
 
--- a received Flow gives the window, from its next incoming id, or from the first number where it has none
-abbrev pub moved : SendingView → Option ℕ → ℕ → SendingView
-moved v base width = record v { window = remaining v.next (unwrap_or base v.initial, width) }
+-- a received Flow gives the window, from this number on
+abbrev pub moved : SendingView → ℕ → ℕ → SendingView
+moved v base width = record v { window = remaining v.next (base, width) }
 
 -- how many transfers the window lets out
 abbrev pub ready_count : SendingView → ℕ
 ready_count v = min v.window (length v.held)
 
--- their frames
-abbrev pub let_out : SendingView → List SessionFrame
-let_out v = numbered v.channel v.delivery (take v.window v.held)
+-- their frames, on this channel
+abbrev pub let_out : ℕ → SendingView → List SessionFrame
+let_out channel v = numbered channel v.delivery (take v.window v.held)
 
 -- the deliveries that are open with them
 abbrev pub opened_by : SendingView → List Delivery → List Delivery

@@ -6,7 +6,6 @@ use Rattle.amqp_types.specs.declared.states.SessionState.{SessionState}
 use Rattle.amqp_session.specs.declared.flow.LinkFlow.{LinkFlow}
 use Rattle.amqp_session.specs.declared.frame.SessionFrame.{SessionFrame}
 use Rattle.amqp_session.specs.declared.frame.SessionFrameBody.TheVariants as Body
-use Rattle.amqp_session.specs.declared.deliveries.WalkCount.{WalkCount}
 use Rattle.amqp_session.specs.declared.session.receiving.Receiving.{Receiving}
 use Rattle.amqp_session.specs.declared.stop.ConnectionStopReason.{ConnectionStopReason}
 use Rattle.amqp_session.specs.declared.stop.SessionStopReason.{SessionStopReason}
@@ -28,7 +27,6 @@ pub record SessionView (R : Type 0) : Type 0 where
   pub receiving : Receiving
   pub links : LinksView R
   pub deliveries : OpenView
-  pub last_walk : WalkCount
 
 abbrev pub new_session : {R : Type 0} → SettingsSaid → ℕ → SessionState → Option ConnectionStopReason → SessionView R
 new_session settings channel state stop = record {
@@ -38,11 +36,10 @@ new_session settings channel state stop = record {
   incoming_channel = None;
   connection_stop = stop;
   session_stop = None;
-  sending = new_sending channel settings.next_outgoing_id;
+  sending = new_sending settings.next_outgoing_id;
   receiving = nothing_received;
   links = no_links;
   deliveries = record { receiver = []; sender = [] };
-  last_walk = record { turns = 0; comparisons = 0 };
 }
 
 -- the Begin that is sent: the settings, with the number of the next transfer (section 2.7.2)
@@ -89,14 +86,14 @@ flow_frame v l = record {
 
 -- Transfers go out in Mapped alone: no transfer may come before a Begin of the peer, or after an End.
 abbrev pub lets : {R : Type 0} → SessionView R → List SessionFrame
-lets v = if is_mapped v.state then let_out v.sending else []
+lets v = if is_mapped v.state then let_out v.outgoing_channel v.sending else []
 
 -- the session after what it lets out
 abbrev pub let_gone : {R : Type 0} → SessionView R → SessionView R
-let_gone v = if is_mapped v.state then record v {
-  sending = drained v.sending;
-  deliveries = record v.deliveries { receiver = opened_by v.sending v.deliveries.receiver };
-} else v
+let_gone v = record v {
+  sending = if is_mapped v.state then drained v.sending else v.sending;
+  deliveries = record v.deliveries { receiver = if is_mapped v.state then opened_by v.sending v.deliveries.receiver else v.deliveries.receiver };
+}
 
 -- a session flow is due: half of the incoming window, rounded down, has come since the last one
 abbrev pub is_due : {R : Type 0} → SessionView R → Bool

@@ -26,9 +26,9 @@ use Rattle.amqp_session.specs.States.{is_mapped, sends_begin, takes_begin, sends
 use Rattle.amqp_session.specs.Transfers.{HeldSaid}
 use Rattle.amqp_session.specs.Sending.{joined, begun, moved}
 use Rattle.amqp_session.specs.Receiving.{told, counted, rested}
-use Rattle.amqp_session.specs.Deliveries.{noted}
-use Rattle.amqp_session.specs.Links.{LinksView, attached_at}
-use Rattle.amqp_session.specs.Relay.{FlowGives, TransferGives, FlowQuestion, TransferQuestion, AsksFlow, AsksTransfer}
+use Rattle.amqp_session.specs.Deliveries.{noted, RecordFits}
+use Rattle.amqp_session.specs.Links.{attached_at, put_at}
+use Rattle.amqp_session.specs.Relay.{FlowGives, TransferGives, FlowQuestion, TransferQuestion, Question, goes_on, of_flow, of_transfer, Asks}
 use Rattle.amqp_session.specs.Items.{HandsOut, is_some_list, first_frame}
 use Rattle.amqp_session.specs.Session.{SessionView, begin_frame, end_frame, flow_frame, session_flow_frame, lets, let_gone, is_due}
 
@@ -41,6 +41,10 @@ has_error (Some e) = true
 abbrev pub is_some_held : List HeldSaid → Bool
 is_some_held [] = false
 is_some_held (h ∷ hs) = true
+
+-- the session with the relay under an input handle as it stands after a question
+abbrev pub asked_at : {R Q A : Type 0} → SessionView R → ℕ → Question R Q A → SessionView R
+asked_at v input q = record v { links = put_at input (goes_on q) v.links }
 
 -- ---- Begin and End (AMQP 1.0 part 2, sections 2.5.1 to 2.5.5)
 
@@ -111,17 +115,21 @@ SendTransferStep v h (Err e) w = ⊥
 
 -- ---- a Flow comes (section 2.5.6)
 
+-- the number from which its window begins: the one that it says, or that of the first transfer
+abbrev pub flow_base : {R : Type 0} → SessionView R → FlowSaid → ℕ
+flow_base v f = unwrap_or f.next_incoming_id v.settings.next_outgoing_id
+
 -- its numbers are of four bytes
 pub record FlowFits {R : Type 0} (v : SessionView R) (f : FlowSaid) : Type 0 where
   pub incoming_window : f.incoming_window < 2 ^ 32
-  pub base : unwrap_or f.next_incoming_id v.sending.initial < 2 ^ 32
+  pub base : flow_base v f < 2 ^ 32
   pub next_outgoing_id : f.next_outgoing_id < 2 ^ 32
   pub outgoing_window : f.outgoing_window < 2 ^ 32
 
 -- it moves both windows, in every state and whatever is then answered
 abbrev pub flow_moved : {R : Type 0} → SessionView R → FlowSaid → SessionView R
 flow_moved v f = record v {
-  sending = moved v.sending f.next_incoming_id f.incoming_window;
+  sending = moved v.sending (flow_base v f) f.incoming_window;
   receiving = told f.next_outgoing_id f.outgoing_window v.receiving;
 }
 
@@ -154,7 +162,7 @@ FlowUnasked v handle (Err e) w = ⊥
 abbrev pub LinkFlowStep : {R : Type 0} → FlowGives R → SessionView R → ℕ → LinkFlow → Option (FlowQuestion R) → Result (Option SessionOutgoingItem) SessionInnerError → SessionView R → Type 0
 LinkFlowStep gives v input flow None result w = FlowUnasked v (Some input) result w
 LinkFlowStep gives v input flow (Some q) result w =
-    (links : LinksView _) × (q.flow ≡ flow) × AsksFlow gives v.links input q links × FlowAnswered (record v { links = links }) q.answer result w
+    (q.asked ≡ flow) × Asks (of_flow gives) (attached_at input v.links) q × FlowAnswered (asked_at v input q) q.answer result w
 
 -- what follows once the windows have moved
 abbrev pub FlowTaken : {R : Type 0} → FlowGives R → SessionView R → FlowSaid → Option ℕ → Option (FlowQuestion R) → Result (Option SessionOutgoingItem) SessionInnerError → SessionView R → Type 0
@@ -180,8 +188,9 @@ named_delivery handle (Some x) = Some (record { number = x.0; input_handle = rec
 abbrev pub named_by : {R : Type 0} → SessionView R → ℕ → Option (ℕ × DeliveryTag) → SessionView R
 named_by v handle named = record v { deliveries = record v.deliveries { sender = noted (named_delivery handle named) v.deliveries.sender } }
 
+-- what follows from the relay's answer: the number that it names is of four bytes
 abbrev pub TransferAnswered : {R : Type 0} → SessionView R → ℕ → Result (Option (ℕ × DeliveryTag)) LinkRelayError → Result (Option DispositionSaid) SessionInnerError → SessionView R → Type 0
-TransferAnswered v handle (Ok named) (Ok reply) w = (reply ≡ None) × (w ≡ named_by v handle named)
+TransferAnswered v handle (Ok named) (Ok reply) w = RecordFits (named_delivery handle named) × (reply ≡ None) × (w ≡ named_by v handle named)
 TransferAnswered v handle (Err e) (Err x) w = (x ≡ inner_of_relay e) × (w ≡ v)
 TransferAnswered v handle (Ok named) (Err x) w = ⊥
 TransferAnswered v handle (Err e) (Ok reply) w = ⊥
@@ -196,8 +205,7 @@ TransferUnasked v handle (Err e) w = ⊥
 abbrev pub LinkTransferStep : {R : Type 0} → TransferGives R → SessionView R → ℕ → TransferSaid → List ℕ → Option (TransferQuestion R) → Result (Option DispositionSaid) SessionInnerError → SessionView R → Type 0
 LinkTransferStep gives v input t payload None result w = TransferUnasked v input result w
 LinkTransferStep gives v input t payload (Some q) result w =
-    (links : LinksView _) × (q.transfer ≡ t) × (q.payload ≡ payload) × AsksTransfer gives v.links input q links
-    × TransferAnswered (record v { links = links }) input q.answer result w
+    (q.asked ≡ (t, payload)) × Asks (of_transfer gives) (attached_at input v.links) q × TransferAnswered (asked_at v input q) input q.answer result w
 
 abbrev pub TakeTransferStep : {R : Type 0} → TransferGives R → SessionView R → TransferSaid → List ℕ → Option (TransferQuestion R) → Result (Option DispositionSaid) SessionInnerError → SessionView R → Type 0
 TakeTransferStep gives v t payload asked result w = LinkTransferStep gives (counted_by v) t.handle t payload asked result w

@@ -1,12 +1,12 @@
 -- Transfers that wait, the frames that they go out as, and the deliveries that these open (AMQP 1.0 part 2, sections
 -- 2.5.6 and 2.7.5).
-use Rattle.std.specs.Prelude.{ℕ, ◌+◌, ◌%◌, ◌^◌, List, [], ◌∷◌, Option, Some, None, Bool, false, unwrap_or, if◌then◌else◌}
+use Rattle.std.specs.Prelude.{ℕ, ◌+◌, ◌%◌, ◌^◌, List, [], ◌∷◌, ◌++◌, Option, Some, None, Bool, false, unwrap_or, if◌then◌else◌}
 use Rattle.std.specs.Option.{option_map}
 use Rattle.amqp_types.specs.Transfer.{TransferSaid}
 use Rattle.amqp_session.specs.declared.deliveries.Delivery.{Delivery}
 use Rattle.amqp_session.specs.declared.frame.SessionFrame.{SessionFrame}
 use Rattle.amqp_session.specs.declared.frame.SessionFrameBody.TheVariants as Body
-use Rattle.amqp_session.specs.Deliveries.{noted}
+use Rattle.amqp_session.specs.Deliveries.{noted, listed}
 
 -- A transfer as it was asked for: for the link of this input handle, with this payload, the first of its delivery or not.
 pub record HeldSaid : Type 0 where
@@ -47,6 +47,11 @@ kept_tag first t = if first then (if unwrap_or t.settled false then None else t.
 -- the record that goes with the frame
 abbrev pub record_of : ℕ → HeldSaid → Option Delivery
 record_of n h = option_map (λ tag. record { number = n % 2 ^ 32; input_handle = record { 0 = h.input_handle }; tag = record { 0 = tag } }) (kept_tag h.is_first h.transfer)
+
+-- the records that go with the frames of these, in order
+abbrev pub records : ℕ → List HeldSaid → List Delivery
+records n [] = []
+records n (h ∷ hs) = listed (record_of n h) ++ records (n + first_of h) hs
 
 -- the open deliveries after the frames of these
 abbrev pub opened : ℕ → List HeldSaid → List Delivery → List Delivery

@@ -7,7 +7,6 @@ ghost use Rattle.std.specs.Ordering.{nat_cmp};
 ghost use Rattle.amqp_session.specs.declared.frame.SessionOutgoingItem.{SessionOutgoingItem};
 ghost use Rattle.amqp_session.specs.States.{is_mapped};
 ghost use Rattle.amqp_session.specs.Step.{SessionFlowStep};
-ghost use Rattle.amqp_session.specs.Relay.{relays};
 ghost use Rattle.amqp_session.specs.Session.{SessionView};
 ghost use Rattle.amqp_session.specs.History.{Entry, Made, LeadsTo};
 ghost use Rattle.amqp_session.specs.Headline.{Headline, Stands};
@@ -24,15 +23,15 @@ use std::hash::{Hash, Hasher};
 /// numbered once, on its first frame alone, each inside the peer's latest window; after an accepted transfer or mapped Flow one
 /// waits only while it is used up (AMQP 1.0 part 2, section 2.5.6).
 pub fn law_of_views<R: LinkRelay>()
-    ensures stands { let g = relays R.attach_gives R.flow_gives R.transfer_gives R.disposition_gives R.detach_gives in
+    ensures stands { let g = R.gives in
         (m : Made) (h : List (Entry R)) (v : SessionView R) → LeadsTo g m h v → Stands m h v }
-    ensures headline { let g = relays R.attach_gives R.flow_gives R.transfer_gives R.disposition_gives R.detach_gives in
+    ensures headline { let g = R.gives in
         (m : Made) (h : List (Entry R)) (v : SessionView R) → LeadsTo g m h v → Headline m h }
 {}
 
 /// Every frame that a session hands out, of whatever kind, is on the channel that the session was made with.
 pub fn law_of_channels<R: LinkRelay>()
-    ensures { let g = relays R.attach_gives R.flow_gives R.transfer_gives R.disposition_gives R.detach_gives in
+    ensures { let g = R.gives in
         (m : Made) (h : List (Entry R)) (v : SessionView R) → LeadsTo g m h v → OnChannel m.channel (calls_frames h) }
 {}
 

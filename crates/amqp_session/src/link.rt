@@ -1,16 +1,23 @@
 //! The links of a session: names, handles and relays.
 
-ghost use Rattle.std.specs.Prelude.{◌≡◌, ℕ, IsSome, is_some, nat_eq};
-ghost use Rattle.amqp_session.specs.Links.{no_links, attached_at};
-ghost use Rattle.amqp_session.specs.Relay.{FlowAsked, TransferAsked};
+ghost use Rattle.std.specs.Prelude.{◌≡◌, ℕ, IsSome, is_some};
+ghost use Rattle.amqp_session.specs.Links.{no_links, attached_at, put_at};
+ghost use Rattle.amqp_session.specs.Relay.{of_flow, of_transfer, Asked};
 
+pub mod handles;
+mod inputs;
+mod live;
+mod names;
+
+use self::handles::Place;
 use crate::error::LinkRelayError;
 use crate::flow::LinkFlow;
 use crate::numbers::{InputHandle, OutputHandle};
 use crate::relay::LinkRelay;
 use amqp_types::{DeliveryNumber, DeliveryTag, Transfer};
 use bytes::Bytes;
-use indexmap::{IndexMap, IndexSet};
+use indexmap::IndexMap;
+use slab::Slab;
 use std::alloc::Global;
 use std::marker::Model;
 
@@ -32,25 +39,22 @@ pub struct Named<R> {
     pub waiting: Option<R>,
 }
 
-/// The live links by name, the relays by input handle, and the output handles whose own detach is awaited.
+/// The live links by name, the output handles that are taken, and the relays by input handle.
 #[derive(Drop)]
 pub(crate) struct Links<R> {
     names: IndexMap<String, Named<R>>,
-    attached: IndexMap<u32, Attached<R>>,
-    awaited: IndexSet<u32>,
+    handles: Slab<Place>,
+    inputs: IndexMap<u32, Attached<R>>,
 }
 
 impl<R> Model for Links<R> {
-    ghost use Rattle.std.specs.Prelude.{map, string_bytes};
-    ghost use Rattle.amqp_session.specs.Links.{LinksView};
+    ghost use Rattle.amqp_session.specs.Links.{LinksView, names_of, handles_of, inputs_of, links_code};
 
     ghost Value = { LinksView R };
 
-    ghost view = { λ l. record {
-      names = map (λ e. (string_bytes e.0, e.1)) l.names.entries;
-      attached = l.attached.entries;
-      awaited = l.awaited.keys;
-    } };
+    ghost coded = { links_code R.code };
+
+    ghost view = { λ l. record { names = names_of l.names.entries; handles = handles_of l.handles; inputs = inputs_of l.inputs.entries } };
 }
 
 impl<R: LinkRelay> Links<R> {
@@ -60,8 +64,8 @@ impl<R: LinkRelay> Links<R> {
     {
         Links {
             names: IndexMap::new(alloc),
-            attached: IndexMap::new(alloc),
-            awaited: IndexSet::new(alloc),
+            handles: Slab::new(alloc),
+            inputs: IndexMap::new(alloc),
         }
     }
 
@@ -69,7 +73,7 @@ impl<R: LinkRelay> Links<R> {
     pub(crate) fn is_attached(&self, input: InputHandle) -> bool
         ensures { result ≡ is_some (attached_at input.0 self.now) }
     {
-        self.attached.contains_key(&input.0)
+        self.inputs.contains_key(&input.0)
     }
 
     /// Asks the relay under an input handle about a flow.
@@ -79,10 +83,9 @@ impl<R: LinkRelay> Links<R> {
         flow: LinkFlow,
     ) -> Result<Option<LinkFlow>, LinkRelayError>
         requires { IsSome (attached_at input.0 self.old) }
-        ensures { FlowAsked R.flow_gives self.old input.0 flow result self.new }
+        ensures { Asked (of_flow R.gives.flow_gives) (attached_at input.0 self.old) flow result (λ link. self.new ≡ put_at input.0 link self.old) }
     {
-        let link = self.attached.get_mut(&input.0).unwrap();
-        link.relay.on_incoming_flow(link.handle, flow)
+        inputs::ask_flow(&mut self.inputs, input, flow)
     }
 
     /// Asks the relay under an input handle about a transfer.
@@ -93,9 +96,8 @@ impl<R: LinkRelay> Links<R> {
         payload: Bytes,
     ) -> Result<Option<(DeliveryNumber, DeliveryTag)>, LinkRelayError>
         requires { IsSome (attached_at input.0 self.old) }
-        ensures { TransferAsked R.transfer_gives self.old input.0 transfer payload result self.new }
+        ensures { Asked (of_transfer R.gives.transfer_gives) (attached_at input.0 self.old) (transfer, payload) result (λ link. self.new ≡ put_at input.0 link self.old) }
     {
-        let link = self.attached.get_mut(&input.0).unwrap();
-        link.relay.on_incoming_transfer(transfer, payload)
+        inputs::ask_transfer(&mut self.inputs, input, transfer, payload)
     }
 }

@@ -1,6 +1,7 @@
 //! What a session asks of its links: each link has a relay, whose answers the session carries out.
 
 ghost use Rattle.std.specs.Prelude.{ℕ, List, Bool, Option, Result, option_copied};
+ghost use Rattle.amqp_session.specs.Relay.{Relays};
 ghost use Rattle.amqp_types.specs.Attach.{AttachSaid};
 ghost use Rattle.amqp_types.specs.Detach.{DetachSaid};
 ghost use Rattle.amqp_types.specs.Transfer.{TransferSaid};
@@ -21,24 +22,12 @@ use bytes::Bytes;
 /// Each call is known by a relation of the relay before it, its arguments, its answer and the relay after it, so a relay
 /// may have a choice. A session makes room for all that may follow before it asks.
 pub trait LinkRelay: Drop {
-    /// Whether a relay may answer the peer's attach so.
-    ghost attach_gives: { Self → AttachSaid → Result (Unit {0}) LinkRelayError → Self → Type 0 };
-
-    /// Whether a relay may answer a flow so.
-    ghost flow_gives: { Self → OutputHandle → LinkFlow → Result (Option LinkFlow) LinkRelayError → Self → Type 0 };
-
-    /// Whether a relay may answer a transfer so.
-    ghost transfer_gives: { Self → TransferSaid → List ℕ → Result (Option (ℕ × DeliveryTag)) LinkRelayError → Self → Type 0 };
-
-    /// Whether a relay may answer a disposition of one delivery so.
-    ghost disposition_gives: { Self → Role → Bool → Option (List ℕ) → DeliveryTag → Bool → Self → Type 0 };
-
-    /// Whether a relay may answer the peer's detach so.
-    ghost detach_gives: { Self → OutputHandle → DetachSaid → Bool → Option DetachSaid → Self → Type 0 };
+    /// What a relay may answer: for each call a relation of the relay before, the arguments, the answer and the relay after.
+    ghost gives: { Relays Self };
 
     /// The peer attached the link. After a refusal the relay stays where it was.
     fn on_incoming_attach(&mut self, attach: Attach) -> Result<(), LinkRelayError>
-        ensures { attach_gives self.old attach result self.new };
+        ensures { gives.attach_gives self.old attach result self.new };
 
     /// A flow for the link, whose output handle is named. The answer is a flow to be sent at once, if any.
     fn on_incoming_flow(
@@ -46,7 +35,7 @@ pub trait LinkRelay: Drop {
         handle: OutputHandle,
         flow: LinkFlow,
     ) -> Result<Option<LinkFlow>, LinkRelayError>
-        ensures { flow_gives self.old handle flow result self.new };
+        ensures { gives.flow_gives self.old handle flow result self.new };
 
     /// A transfer for the link, with its payload. The answer names the delivery by number and tag where it is open from
     /// now on: until a settled disposition names it.
@@ -55,7 +44,7 @@ pub trait LinkRelay: Drop {
         transfer: Transfer,
         payload: Bytes,
     ) -> Result<Option<(DeliveryNumber, DeliveryTag)>, LinkRelayError>
-        ensures { transfer_gives self.old transfer payload result self.new };
+        ensures { gives.transfer_gives self.old transfer payload result self.new };
 
     /// A disposition of the delivery with this tag. The answer says whether a settled one is to be sent back.
     fn on_incoming_disposition(
@@ -65,7 +54,7 @@ pub trait LinkRelay: Drop {
         state: Option<&Raw>,
         tag: &DeliveryTag,
     ) -> bool
-        ensures { disposition_gives self.old role settled (option_copied state.entry) tag.now result self.new };
+        ensures { gives.disposition_gives self.old role settled (option_copied state.entry) tag.now result self.new };
 
     /// The peer detached the link, whose output handle is named: by itself, or in answer to this side's detach. The answer
     /// is a detach to be sent, if any.
@@ -75,5 +64,5 @@ pub trait LinkRelay: Drop {
         detach: Detach,
         remote_initiated: bool,
     ) -> Option<Detach>
-        ensures { detach_gives self.old handle detach remote_initiated result self.new };
+        ensures { gives.detach_gives self.old handle detach remote_initiated result self.new };
 }

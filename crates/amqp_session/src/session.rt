@@ -8,13 +8,14 @@ ghost use Rattle.amqp_session.specs.Step.{StopStep};
 mod begin_end;
 pub(crate) mod held;
 mod incoming;
+mod links;
 mod outgoing;
 pub mod receiving;
 pub(crate) mod transfers;
 
 use self::receiving::Receiving;
 use self::transfers::Sending;
-use crate::deliveries::{Deliveries, WalkCount};
+use crate::deliveries::Deliveries;
 use crate::link::Links;
 use crate::numbers::{IncomingChannel, OutgoingChannel};
 use crate::relay::LinkRelay;
@@ -43,14 +44,17 @@ pub struct Session<R> {
     links: Links<R>,
     sent: Deliveries,
     received: Deliveries,
-    last_walk: WalkCount,
 }
 
 impl<R> Model for Session<R> {
+    ghost use Rattle.std.specs.Coded.{codes};
     ghost use Rattle.std.specs.Option.{option_map};
+    ghost use Rattle.amqp_session.specs.Links.{links_code};
     ghost use Rattle.amqp_session.specs.Session.{SessionView};
 
     ghost Value = { SessionView R };
+
+    ghost coded = { Prim.hlevel (codes, links_code) };
 
     ghost view = { λ s. record {
       state = s.state;
@@ -63,7 +67,6 @@ impl<R> Model for Session<R> {
       receiving = s.receiving;
       links = s.links;
       deliveries = record { receiver = s.sent.rows; sender = s.received.rows };
-      last_walk = s.last_walk;
     } };
 }
 
@@ -88,15 +91,11 @@ impl<R: LinkRelay> Session<R> {
             incoming_channel: None,
             connection_stop,
             session_stop: None,
-            sending: Sending::new(alloc, outgoing_channel, next_outgoing_id),
+            sending: Sending::new(alloc, next_outgoing_id),
             receiving: Receiving::new(),
             links: Links::new(alloc),
             sent: Deliveries::new(alloc),
             received: Deliveries::new(alloc),
-            last_walk: WalkCount {
-                turns: 0,
-                comparisons: 0,
-            },
         }
     }
 

@@ -6,7 +6,7 @@ use Rattle.amqp_types.specs.declared.performatives.transfer.TransferText.{Transf
 use Rattle.amqp_types.specs.declared.performatives.transfer.TransferText.TheVariants.{Whole, First, Middle, Last}
 use Rattle.amqp_types.specs.Transfer.{TransferSaid, said_in}
 use Rattle.amqp_types.specs.Held.{TransferHeld, Held}
-use Rattle.amqp_types.specs.Spelled.{CutIsSpelled}
+use Rattle.amqp_types.specs.Spelled.{CutIsSpelled, TextsAreSpelled}
 use Rattle.amqp_types.proofs.PerformativeCanonical.{performative_canonical}
 
 held_in : (text : TransferText) (t : TransferSaid) → TransferHeld t → TransferHeld (said_in text t)
@@ -15,5 +15,8 @@ held_in First t h = record { handle = h.handle; delivery_id = h.delivery_id; mes
 held_in Middle t h = record { handle = h.handle; delivery_id = tt; message_format = tt; state = h.state }
 held_in Last t h = record { handle = h.handle; delivery_id = tt; message_format = tt; state = h.state }
 
+pub texts_spelled : (t : TransferSaid) → TransferHeld t → TextsAreSpelled t
+texts_spelled t h text = performative_canonical (Transfer (said_in text t)) (held_in text t h)
+
 pub cut_spelled : (p : Performative) → Held p → CutIsSpelled p
-cut_spelled p h t text e = performative_canonical (Transfer (said_in text t)) (held_in text t (subst (λ (x : Performative). Held x) e h))
+cut_spelled p h t e = texts_spelled t (subst (λ (x : Performative). Held x) e h)

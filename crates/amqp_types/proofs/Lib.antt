@@ -1,5 +1,6 @@
 pub mod DefinitionLaws
 pub mod BodyLaws
+pub mod KindLaws
 pub mod PerformativeLaws
 pub mod FieldCanonical
 pub mod BodyCanonical

@@ -10,10 +10,14 @@ use Rattle.amqp_values.specs.Number.{IsBoolean, IsUint, IsUlong, boolean_at, uin
 use Rattle.amqp_values.specs.Text.{IsString, string_at}
 use Rattle.amqp_values.specs.Symbols.{IsSymbols, symbols_at}
 use Rattle.amqp_values.specs.Raw.{SpellsMap, SpellsRaw, map_at, raw_at}
+use Rattle.amqp_values.specs.Slots.{beside, slot0, slot1, slot2, slot3, slot4, slot5, slot6, slot7, slot8, slot9}
+use Rattle.amqp_values.specs.Slots.{slot10, slot11, slot12, slot13}
 use Rattle.amqp_values.specs.Slots.{Slot, NoMore, then_at, end_at, named_at, required_at, Optional, optional_at, OrDefault, default_at}
 use Rattle.amqp_values.specs.Writing.{optional_text, string_text, symbols_text, uint_text, ulong_text}
 use Rattle.amqp_values.specs.Same.{Test, both, each, field, flags, maybe, numbers, texts}
-use Rattle.amqp_types.specs.Definitions.{IsReceiverMode, IsRole, IsSenderMode, flag_text, receiver_mode_at, receiver_mode_or_first, receiver_modes, role_at, role_text, roles, sender_mode_at, sender_mode_or_mixed, sender_modes, value_text}
+use Rattle.amqp_types.specs.Definitions.{IsReceiverMode, IsRole, IsSenderMode, flag_text, receiver_mode_at}
+use Rattle.amqp_types.specs.Definitions.{receiver_mode_or_first, receiver_modes, role_at, role_text, roles}
+use Rattle.amqp_types.specs.Definitions.{sender_mode_at, sender_mode_or_mixed, sender_modes, value_text}
 
 pub record AttachSaid : Type 0 where
   pub name : List ℕ
@@ -54,13 +58,46 @@ IsAttachBody p =
 -- ---- its reader
 
 abbrev pub AttachSlots : Type 0
-AttachSlots = List ℕ × (ℕ × (Role × (SenderSettleMode × (ReceiverSettleMode × (Option (List ℕ) × (Option (List ℕ) × (Option (List ℕ) × (Bool × (Option ℕ × (Option ℕ × (Option (List (List ℕ)) × (Option (List (List ℕ)) × (Option (List ℕ) × Unit {0})))))))))))))
+AttachSlots =
+    List ℕ × (ℕ × (Role × (SenderSettleMode × (ReceiverSettleMode × (Option (List ℕ) × (Option (List ℕ) × (
+    Option (List ℕ) × (Bool × (Option ℕ × (Option ℕ × (Option (List (List ℕ)) × (Option (List (List ℕ)) × (
+    Option (List ℕ) × Unit {0})))))))))))))
 
 abbrev pub attach_of : AttachSlots → AttachSaid
-attach_of x = record { name = x.0; handle = x.1.0; role = x.1.1.0; snd_settle_mode = x.1.1.1.0; rcv_settle_mode = x.1.1.1.1.0; source = x.1.1.1.1.1.0; target = x.1.1.1.1.1.1.0; unsettled = x.1.1.1.1.1.1.1.0; incomplete_unsettled = x.1.1.1.1.1.1.1.1.0; initial_delivery_count = x.1.1.1.1.1.1.1.1.1.0; max_message_size = x.1.1.1.1.1.1.1.1.1.1.0; offered_capabilities = x.1.1.1.1.1.1.1.1.1.1.1.0; desired_capabilities = x.1.1.1.1.1.1.1.1.1.1.1.1.0; properties = x.1.1.1.1.1.1.1.1.1.1.1.1.1.0 }
+attach_of x = record {
+  name = slot0 x;
+  handle = slot1 x;
+  role = slot2 x;
+  snd_settle_mode = slot3 x;
+  rcv_settle_mode = slot4 x;
+  source = slot5 x;
+  target = slot6 x;
+  unsettled = slot7 x;
+  incomplete_unsettled = slot8 x;
+  initial_delivery_count = slot9 x;
+  max_message_size = slot10 x;
+  offered_capabilities = slot11 x;
+  desired_capabilities = slot12 x;
+  properties = slot13 x;
+}
 
 abbrev pub attach_slots : AttachSaid → AttachSlots
-attach_slots p = (p.name, (p.handle, (p.role, (p.snd_settle_mode, (p.rcv_settle_mode, (p.source, (p.target, (p.unsettled, (p.incomplete_unsettled, (p.initial_delivery_count, (p.max_message_size, (p.offered_capabilities, (p.desired_capabilities, (p.properties, tt))))))))))))))
+attach_slots p =
+    beside p.name
+    (beside p.handle
+    (beside p.role
+    (beside p.snd_settle_mode
+    (beside p.rcv_settle_mode
+    (beside p.source
+    (beside p.target
+    (beside p.unsettled
+    (beside p.incomplete_unsettled
+    (beside p.initial_delivery_count
+    (beside p.max_message_size
+    (beside p.offered_capabilities
+    (beside p.desired_capabilities
+    (beside p.properties
+    tt)))))))))))))
 
 -- the fields from the delivery count on
 abbrev pub AttachRest : Type 0

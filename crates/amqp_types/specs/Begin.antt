@@ -4,6 +4,7 @@ use Rattle.amqp_values.specs.declared.parts.Parts.{Parts}
 use Rattle.amqp_values.specs.Number.{IsUint, IsUshort, uint_at, ushort_at}
 use Rattle.amqp_values.specs.Symbols.{IsSymbols, symbols_at}
 use Rattle.amqp_values.specs.Raw.{SpellsMap, map_at}
+use Rattle.amqp_values.specs.Slots.{beside, slot0, slot1, slot2, slot3, slot4, slot5, slot6, slot7}
 use Rattle.amqp_values.specs.Slots.{Slot, NoMore, then_at, end_at, named_at, required_at, Optional, optional_at, OrDefault, default_at}
 use Rattle.amqp_values.specs.Writing.{optional_text, symbols_text, uint_or, uint_text, ushort_text}
 use Rattle.amqp_values.specs.Same.{Test, both, each, field, maybe, numbers, texts}
@@ -39,10 +40,28 @@ abbrev pub BeginSlots : Type 0
 BeginSlots = Option ℕ × (ℕ × (ℕ × (ℕ × (ℕ × (Option (List (List ℕ)) × (Option (List (List ℕ)) × (Option (List ℕ) × Unit {0})))))))
 
 abbrev pub begin_of : BeginSlots → BeginSaid
-begin_of x = record { remote_channel = x.0; next_outgoing_id = x.1.0; incoming_window = x.1.1.0; outgoing_window = x.1.1.1.0; handle_max = x.1.1.1.1.0; offered_capabilities = x.1.1.1.1.1.0; desired_capabilities = x.1.1.1.1.1.1.0; properties = x.1.1.1.1.1.1.1.0 }
+begin_of x = record {
+  remote_channel = slot0 x;
+  next_outgoing_id = slot1 x;
+  incoming_window = slot2 x;
+  outgoing_window = slot3 x;
+  handle_max = slot4 x;
+  offered_capabilities = slot5 x;
+  desired_capabilities = slot6 x;
+  properties = slot7 x;
+}
 
 abbrev pub begin_slots : BeginSaid → BeginSlots
-begin_slots p = (p.remote_channel, (p.next_outgoing_id, (p.incoming_window, (p.outgoing_window, (p.handle_max, (p.offered_capabilities, (p.desired_capabilities, (p.properties, tt))))))))
+begin_slots p =
+    beside p.remote_channel
+    (beside p.next_outgoing_id
+    (beside p.incoming_window
+    (beside p.outgoing_window
+    (beside p.handle_max
+    (beside p.offered_capabilities
+    (beside p.desired_capabilities
+    (beside p.properties
+    tt)))))))
 
 unfoldable pub begin_body_at : Parts → Option (BeginSaid × Parts)
 begin_body_at = named_at begin_of

@@ -22,7 +22,7 @@ abbrev pub CloseSlots : Type 0
 CloseSlots = Option ErrorSaid × Unit {0}
 
 abbrev pub close_of : CloseSlots → CloseSaid
-close_of x = record { error = x.0 }
+close_of (error, end) = record { error = error }
 
 abbrev pub close_slots : CloseSaid → CloseSlots
 close_slots p = (p.error, tt)

@@ -28,7 +28,7 @@ abbrev pub DetachSlots : Type 0
 DetachSlots = ℕ × (Bool × (Option ErrorSaid × Unit {0}))
 
 abbrev pub detach_of : DetachSlots → DetachSaid
-detach_of x = record { handle = x.0; closed = x.1.0; error = x.1.1.0 }
+detach_of (handle, (closed, (error, end))) = record { handle = handle; closed = closed; error = error }
 
 abbrev pub detach_slots : DetachSaid → DetachSlots
 detach_slots p = (p.handle, (p.closed, (p.error, tt)))

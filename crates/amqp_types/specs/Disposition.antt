@@ -4,6 +4,7 @@ use Rattle.amqp_types.specs.declared.definitions.Role.{Role}
 use Rattle.amqp_values.specs.declared.parts.Parts.{Parts}
 use Rattle.amqp_values.specs.Number.{IsBoolean, IsUint, boolean_at, uint_at}
 use Rattle.amqp_values.specs.Raw.{SpellsRaw, raw_at}
+use Rattle.amqp_values.specs.Slots.{beside, slot0, slot1, slot2, slot3, slot4, slot5}
 use Rattle.amqp_values.specs.Slots.{Slot, NoMore, then_at, end_at, named_at, required_at, Optional, optional_at, OrDefault, default_at}
 use Rattle.amqp_values.specs.Writing.{optional_text, uint_text}
 use Rattle.amqp_values.specs.Same.{Test, both, field, flags, maybe, numbers, texts}
@@ -35,10 +36,24 @@ abbrev pub DispositionSlots : Type 0
 DispositionSlots = Role × (ℕ × (Option ℕ × (Bool × (Option (List ℕ) × (Bool × Unit {0})))))
 
 abbrev pub disposition_of : DispositionSlots → DispositionSaid
-disposition_of x = record { role = x.0; first = x.1.0; last = x.1.1.0; settled = x.1.1.1.0; state = x.1.1.1.1.0; batchable = x.1.1.1.1.1.0 }
+disposition_of x = record {
+  role = slot0 x;
+  first = slot1 x;
+  last = slot2 x;
+  settled = slot3 x;
+  state = slot4 x;
+  batchable = slot5 x;
+}
 
 abbrev pub disposition_slots : DispositionSaid → DispositionSlots
-disposition_slots p = (p.role, (p.first, (p.last, (p.settled, (p.state, (p.batchable, tt))))))
+disposition_slots p =
+    beside p.role
+    (beside p.first
+    (beside p.last
+    (beside p.settled
+    (beside p.state
+    (beside p.batchable
+    tt)))))
 
 unfoldable pub disposition_body_at : Parts → Option (DispositionSaid × Parts)
 disposition_body_at = named_at disposition_of

@@ -22,7 +22,7 @@ abbrev pub EndSlots : Type 0
 EndSlots = Option ErrorSaid × Unit {0}
 
 abbrev pub end_of : EndSlots → EndSaid
-end_of x = record { error = x.0 }
+end_of (error, end) = record { error = error }
 
 abbrev pub end_slots : EndSaid → EndSlots
 end_slots p = (p.error, tt)

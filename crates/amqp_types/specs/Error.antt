@@ -32,7 +32,7 @@ abbrev pub ErrorSlots : Type 0
 ErrorSlots = List ℕ × (Option (List ℕ) × (Option (List ℕ) × Unit {0}))
 
 abbrev pub error_of : ErrorSlots → ErrorSaid
-error_of x = record { condition = x.0; description = x.1.0; info = x.1.1.0 }
+error_of (condition, (description, (info, end))) = record { condition = condition; description = description; info = info }
 
 abbrev pub error_slots : ErrorSaid → ErrorSlots
 error_slots p = (p.condition, (p.description, (p.info, tt)))

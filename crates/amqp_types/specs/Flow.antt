@@ -3,6 +3,7 @@ use Rattle.std.specs.Prelude.{ℕ, List, [], ◌∷◌, Option, Bool, false}
 use Rattle.amqp_values.specs.declared.parts.Parts.{Parts}
 use Rattle.amqp_values.specs.Number.{IsBoolean, IsUint, boolean_at, uint_at}
 use Rattle.amqp_values.specs.Raw.{SpellsMap, map_at}
+use Rattle.amqp_values.specs.Slots.{beside, slot0, slot1, slot2, slot3, slot4, slot5, slot6, slot7, slot8, slot9, slot10}
 use Rattle.amqp_values.specs.Slots.{Slot, NoMore, then_at, end_at, named_at, required_at, Optional, optional_at, OrDefault, default_at}
 use Rattle.amqp_values.specs.Writing.{optional_text, uint_text}
 use Rattle.amqp_values.specs.Same.{Test, both, field, flags, maybe, numbers, texts}
@@ -41,13 +42,39 @@ IsFlowBody p =
 -- ---- its reader
 
 abbrev pub FlowSlots : Type 0
-FlowSlots = Option ℕ × (ℕ × (ℕ × (ℕ × (Option ℕ × (Option ℕ × (Option ℕ × (Option ℕ × (Bool × (Bool × (Option (List ℕ) × Unit {0}))))))))))
+FlowSlots =
+    Option ℕ × (ℕ × (ℕ × (ℕ × (Option ℕ × (Option ℕ × (Option ℕ × (Option ℕ × (Bool × (Bool × (
+    Option (List ℕ) × Unit {0}))))))))))
 
 abbrev pub flow_of : FlowSlots → FlowSaid
-flow_of x = record { next_incoming_id = x.0; incoming_window = x.1.0; next_outgoing_id = x.1.1.0; outgoing_window = x.1.1.1.0; handle = x.1.1.1.1.0; delivery_count = x.1.1.1.1.1.0; link_credit = x.1.1.1.1.1.1.0; available = x.1.1.1.1.1.1.1.0; drain = x.1.1.1.1.1.1.1.1.0; echo = x.1.1.1.1.1.1.1.1.1.0; properties = x.1.1.1.1.1.1.1.1.1.1.0 }
+flow_of x = record {
+  next_incoming_id = slot0 x;
+  incoming_window = slot1 x;
+  next_outgoing_id = slot2 x;
+  outgoing_window = slot3 x;
+  handle = slot4 x;
+  delivery_count = slot5 x;
+  link_credit = slot6 x;
+  available = slot7 x;
+  drain = slot8 x;
+  echo = slot9 x;
+  properties = slot10 x;
+}
 
 abbrev pub flow_slots : FlowSaid → FlowSlots
-flow_slots p = (p.next_incoming_id, (p.incoming_window, (p.next_outgoing_id, (p.outgoing_window, (p.handle, (p.delivery_count, (p.link_credit, (p.available, (p.drain, (p.echo, (p.properties, tt)))))))))))
+flow_slots p =
+    beside p.next_incoming_id
+    (beside p.incoming_window
+    (beside p.next_outgoing_id
+    (beside p.outgoing_window
+    (beside p.handle
+    (beside p.delivery_count
+    (beside p.link_credit
+    (beside p.available
+    (beside p.drain
+    (beside p.echo
+    (beside p.properties
+    tt))))))))))
 
 unfoldable pub flow_body_at : Parts → Option (FlowSaid × Parts)
 flow_body_at = named_at flow_of

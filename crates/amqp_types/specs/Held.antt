@@ -1,11 +1,12 @@
--- What the fields of each composite that a program holds are known to be, by their types.
+-- The bounds that the fields of each composite keep, by their types.
 use Rattle.std.specs.Prelude.{ℕ, ◌<◌, ◌^◌, IfSome}
 use Rattle.std.specs.Str.{IsUtf8}
 use Rattle.amqp_values.specs.Text.{IsSymbolText}
 use Rattle.amqp_values.specs.Raw.{IsRaw, IsMap}
 use Rattle.amqp_values.specs.Held.{AreSymbols}
 use Rattle.amqp_types.specs.declared.performatives.Performative.{Performative}
-use Rattle.amqp_types.specs.declared.performatives.Performative.TheVariants.{Open, Begin, Attach, Flow, Transfer, Disposition, Detach, End, Close}
+use Rattle.amqp_types.specs.declared.performatives.Performative.TheVariants.{Open, Begin, Attach, Flow, Transfer}
+use Rattle.amqp_types.specs.declared.performatives.Performative.TheVariants.{Disposition, Detach, End, Close}
 use Rattle.amqp_types.specs.Error.{ErrorSaid}
 use Rattle.amqp_types.specs.Open.{OpenSaid}
 use Rattle.amqp_types.specs.Begin.{BeginSaid}

@@ -10,7 +10,8 @@ NextGives = YieldsFirst (λ s. s)
 -- calls of `next`, one after the other, each of which gave a part
 pub data Gave : List (List ℕ) → List (List ℕ) → List (List ℕ) → Type 0 where
   nothing_yet : (items : List (List ℕ)) → Gave items [] items
-  one_more : (items : List (List ℕ)) (part : List ℕ) (others parts left : List (List ℕ)) → NextGives items (Some part) others → Gave others parts left
+  one_more : (items : List (List ℕ)) (part : List ℕ) (others parts left : List (List ℕ)) → NextGives items (Some part) others
+      → Gave others parts left
       → Gave items (part ∷ parts) left
 
 -- A walk gives no more parts than there are, so it ends. When it has ended, what it gave is all: as many parts as the count

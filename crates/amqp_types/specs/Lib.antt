@@ -10,6 +10,7 @@ pub mod Disposition
 pub mod Detach
 pub mod End
 pub mod Close
+pub mod Kinds
 pub mod Performatives
 pub mod Held
 pub mod Spelled

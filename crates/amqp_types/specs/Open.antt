@@ -5,6 +5,7 @@ use Rattle.amqp_values.specs.Number.{IsUint, IsUshort, uint_at, ushort_at}
 use Rattle.amqp_values.specs.Text.{IsString, string_at}
 use Rattle.amqp_values.specs.Symbols.{IsSymbols, symbols_at}
 use Rattle.amqp_values.specs.Raw.{SpellsMap, map_at}
+use Rattle.amqp_values.specs.Slots.{beside, slot0, slot1, slot2, slot3, slot4, slot5, slot6, slot7, slot8, slot9}
 use Rattle.amqp_values.specs.Slots.{Slot, NoMore, then_at, end_at, named_at, required_at, Optional, optional_at, OrDefault, default_at}
 use Rattle.amqp_values.specs.Writing.{optional_text, string_text, symbols_text, uint_or, uint_text, ushort_or}
 use Rattle.amqp_values.specs.Same.{Test, both, each, field, maybe, numbers, texts}
@@ -41,13 +42,37 @@ IsOpenBody p =
 -- ---- its reader
 
 abbrev pub OpenSlots : Type 0
-OpenSlots = List ℕ × (Option (List ℕ) × (ℕ × (ℕ × (Option ℕ × (Option (List (List ℕ)) × (Option (List (List ℕ)) × (Option (List (List ℕ)) × (Option (List (List ℕ)) × (Option (List ℕ) × Unit {0})))))))))
+OpenSlots =
+    List ℕ × (Option (List ℕ) × (ℕ × (ℕ × (Option ℕ × (Option (List (List ℕ)) × (Option (List (List ℕ)) × (
+    Option (List (List ℕ)) × (Option (List (List ℕ)) × (Option (List ℕ) × Unit {0})))))))))
 
 abbrev pub open_of : OpenSlots → OpenSaid
-open_of x = record { container_id = x.0; hostname = x.1.0; max_frame_size = x.1.1.0; channel_max = x.1.1.1.0; idle_time_out = x.1.1.1.1.0; outgoing_locales = x.1.1.1.1.1.0; incoming_locales = x.1.1.1.1.1.1.0; offered_capabilities = x.1.1.1.1.1.1.1.0; desired_capabilities = x.1.1.1.1.1.1.1.1.0; properties = x.1.1.1.1.1.1.1.1.1.0 }
+open_of x = record {
+  container_id = slot0 x;
+  hostname = slot1 x;
+  max_frame_size = slot2 x;
+  channel_max = slot3 x;
+  idle_time_out = slot4 x;
+  outgoing_locales = slot5 x;
+  incoming_locales = slot6 x;
+  offered_capabilities = slot7 x;
+  desired_capabilities = slot8 x;
+  properties = slot9 x;
+}
 
 abbrev pub open_slots : OpenSaid → OpenSlots
-open_slots p = (p.container_id, (p.hostname, (p.max_frame_size, (p.channel_max, (p.idle_time_out, (p.outgoing_locales, (p.incoming_locales, (p.offered_capabilities, (p.desired_capabilities, (p.properties, tt))))))))))
+open_slots p =
+    beside p.container_id
+    (beside p.hostname
+    (beside p.max_frame_size
+    (beside p.channel_max
+    (beside p.idle_time_out
+    (beside p.outgoing_locales
+    (beside p.incoming_locales
+    (beside p.offered_capabilities
+    (beside p.desired_capabilities
+    (beside p.properties
+    tt)))))))))
 
 unfoldable pub open_body_at : Parts → Option (OpenSaid × Parts)
 open_body_at = named_at open_of

@@ -1,10 +1,14 @@
 -- The nine performatives (AMQP 1.0 part 2, section 2.7).
-use Rattle.std.specs.Prelude.{ℕ, List, Option, Some, None, ◌==◌, if◌then◌else◌}
-use Rattle.amqp_values.specs.Reading.{◌>>=◌}
-use Rattle.amqp_values.specs.Composite.{IsDescribed, composite_at, descriptor_at}
+use Rattle.std.specs.Prelude.{ℕ, List, Option, Some}
+use Rattle.amqp_values.specs.Reading.{◌>>=◌, IsReader}
+use Rattle.amqp_values.specs.Composite.{IsComposite, IsDescribed, composite_at}
 use Rattle.amqp_values.specs.Writing.{described_text}
 use Rattle.amqp_types.specs.declared.performatives.Performative.{Performative}
-use Rattle.amqp_types.specs.declared.performatives.Performative.TheVariants.{Open, Begin, Attach, Flow, Transfer, Disposition, Detach, End, Close}
+use Rattle.amqp_types.specs.declared.performatives.Performative.TheVariants.{Open, Begin, Attach, Flow, Transfer}
+use Rattle.amqp_types.specs.declared.performatives.Performative.TheVariants.{Disposition, Detach, End, Close}
+use Rattle.amqp_types.specs.declared.performatives.kind.Kind.{Kind}
+use Rattle.amqp_types.specs.declared.performatives.kind.Kind.TheVariants as kind
+use Rattle.amqp_types.specs.Kinds.{kind_at}
 use Rattle.amqp_types.specs.Open.{IsOpenBody, open_body_at, open_fields}
 use Rattle.amqp_types.specs.Begin.{IsBeginBody, begin_body_at, begin_fields}
 use Rattle.amqp_types.specs.Attach.{IsAttachBody, attach_body_at, attach_fields}
@@ -44,8 +48,31 @@ performative_text (Close p) = described_text 0x18 (close_fields p)
 abbrev pub wrapped_at : {V : Type 0} → (V → Performative) → (List ℕ → Option (V × List ℕ)) → List ℕ → Option (Performative × List ℕ)
 wrapped_at wrap at bytes = at bytes >>= λ x. Some (wrap x.0, x.1)
 
-unfoldable pub body_at : ℕ → List ℕ → Option (Performative × List ℕ)
-body_at code bytes = if code == 0x10 then wrapped_at (λ p. Open p) (composite_at open_body_at) bytes else if code == 0x11 then wrapped_at (λ p. Begin p) (composite_at begin_body_at) bytes else if code == 0x12 then wrapped_at (λ p. Attach p) (composite_at attach_body_at) bytes else if code == 0x13 then wrapped_at (λ p. Flow p) (composite_at flow_body_at) bytes else if code == 0x14 then wrapped_at (λ p. Transfer p) (composite_at transfer_body_at) bytes else if code == 0x15 then wrapped_at (λ p. Disposition p) (composite_at disposition_body_at) bytes else if code == 0x16 then wrapped_at (λ p. Detach p) (composite_at detach_body_at) bytes else if code == 0x17 then wrapped_at (λ p. End p) (composite_at end_body_at) bytes else if code == 0x18 then wrapped_at (λ p. Close p) (composite_at close_body_at) bytes else None
+-- the list of a performative of this kind
+unfoldable pub body_at : Kind → List ℕ → Option (Performative × List ℕ)
+body_at kind.Open bytes = wrapped_at (λ p. Open p) (composite_at open_body_at) bytes
+body_at kind.Begin bytes = wrapped_at (λ p. Begin p) (composite_at begin_body_at) bytes
+body_at kind.Attach bytes = wrapped_at (λ p. Attach p) (composite_at attach_body_at) bytes
+body_at kind.Flow bytes = wrapped_at (λ p. Flow p) (composite_at flow_body_at) bytes
+body_at kind.Transfer bytes = wrapped_at (λ p. Transfer p) (composite_at transfer_body_at) bytes
+body_at kind.Disposition bytes = wrapped_at (λ p. Disposition p) (composite_at disposition_body_at) bytes
+body_at kind.Detach bytes = wrapped_at (λ p. Detach p) (composite_at detach_body_at) bytes
+body_at kind.End bytes = wrapped_at (λ p. End p) (composite_at end_body_at) bytes
+body_at kind.Close bytes = wrapped_at (λ p. Close p) (composite_at close_body_at) bytes
 
 unfoldable pub performative_at : List ℕ → Option (Performative × List ℕ)
-performative_at bytes = descriptor_at bytes >>= λ d. body_at d.0 d.1
+performative_at bytes = kind_at bytes >>= λ d. body_at d.0 d.1
+
+-- ---- the laws of the readers
+
+-- the list of each kind is read exactly by its table
+pub record ListsAreRead : Type 0 where
+  pub of_open : IsReader (IsComposite IsOpenBody) (composite_at open_body_at)
+  pub of_begin : IsReader (IsComposite IsBeginBody) (composite_at begin_body_at)
+  pub of_attach : IsReader (IsComposite IsAttachBody) (composite_at attach_body_at)
+  pub of_flow : IsReader (IsComposite IsFlowBody) (composite_at flow_body_at)
+  pub of_transfer : IsReader (IsComposite IsTransferBody) (composite_at transfer_body_at)
+  pub of_disposition : IsReader (IsComposite IsDispositionBody) (composite_at disposition_body_at)
+  pub of_detach : IsReader (IsComposite IsDetachBody) (composite_at detach_body_at)
+  pub of_end : IsReader (IsComposite IsEndBody) (composite_at end_body_at)
+  pub of_close : IsReader (IsComposite IsCloseBody) (composite_at close_body_at)

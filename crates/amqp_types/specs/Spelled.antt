@@ -11,5 +11,8 @@ abbrev pub IsSpelledIfShort : Performative → Type 0
 IsSpelledIfShort p = length (performative_text p) < 2 ^ 32 → IsPerformative p (performative_text p)
 
 -- so do those of a transfer and of each transfer that it is cut into
+abbrev pub TextsAreSpelled : TransferSaid → Type 0
+TextsAreSpelled t = (text : TransferText) → IsSpelledIfShort (Transfer (said_in text t))
+
 abbrev pub CutIsSpelled : Performative → Type 0
-CutIsSpelled p = (t : TransferSaid) (text : TransferText) → p ≡ Transfer t → IsSpelledIfShort (Transfer (said_in text t))
+CutIsSpelled p = (t : TransferSaid) → p ≡ Transfer t → TextsAreSpelled t

@@ -7,6 +7,7 @@ use Rattle.amqp_values.specs.declared.parts.Parts.{Parts}
 use Rattle.amqp_values.specs.Number.{IsBoolean, IsUint, boolean_at, uint_at}
 use Rattle.amqp_values.specs.Text.{IsBinary, binary_at}
 use Rattle.amqp_values.specs.Raw.{SpellsRaw, raw_at}
+use Rattle.amqp_values.specs.Slots.{beside, slot0, slot1, slot2, slot3, slot4, slot5, slot6, slot7, slot8, slot9, slot10}
 use Rattle.amqp_values.specs.Slots.{Slot, NoMore, then_at, end_at, named_at, required_at, Optional, optional_at, OrDefault, default_at}
 use Rattle.amqp_values.specs.Writing.{binary_text, boolean_text, optional_text, uint_text}
 use Rattle.amqp_values.specs.Same.{Test, both, field, flags, maybe, numbers, texts}
@@ -45,13 +46,39 @@ IsTransferBody p =
 -- ---- its reader
 
 abbrev pub TransferSlots : Type 0
-TransferSlots = ℕ × (Option ℕ × (Option (List ℕ) × (Option ℕ × (Option Bool × (Bool × (Option ReceiverSettleMode × (Option (List ℕ) × (Bool × (Bool × (Bool × Unit {0}))))))))))
+TransferSlots =
+    ℕ × (Option ℕ × (Option (List ℕ) × (Option ℕ × (Option Bool × (Bool × (Option ReceiverSettleMode × (
+    Option (List ℕ) × (Bool × (Bool × (Bool × Unit {0}))))))))))
 
 abbrev pub transfer_of : TransferSlots → TransferSaid
-transfer_of x = record { handle = x.0; delivery_id = x.1.0; delivery_tag = x.1.1.0; message_format = x.1.1.1.0; settled = x.1.1.1.1.0; more = x.1.1.1.1.1.0; rcv_settle_mode = x.1.1.1.1.1.1.0; state = x.1.1.1.1.1.1.1.0; resume = x.1.1.1.1.1.1.1.1.0; aborted = x.1.1.1.1.1.1.1.1.1.0; batchable = x.1.1.1.1.1.1.1.1.1.1.0 }
+transfer_of x = record {
+  handle = slot0 x;
+  delivery_id = slot1 x;
+  delivery_tag = slot2 x;
+  message_format = slot3 x;
+  settled = slot4 x;
+  more = slot5 x;
+  rcv_settle_mode = slot6 x;
+  state = slot7 x;
+  resume = slot8 x;
+  aborted = slot9 x;
+  batchable = slot10 x;
+}
 
 abbrev pub transfer_slots : TransferSaid → TransferSlots
-transfer_slots p = (p.handle, (p.delivery_id, (p.delivery_tag, (p.message_format, (p.settled, (p.more, (p.rcv_settle_mode, (p.state, (p.resume, (p.aborted, (p.batchable, tt)))))))))))
+transfer_slots p =
+    beside p.handle
+    (beside p.delivery_id
+    (beside p.delivery_tag
+    (beside p.message_format
+    (beside p.settled
+    (beside p.more
+    (beside p.rcv_settle_mode
+    (beside p.state
+    (beside p.resume
+    (beside p.aborted
+    (beside p.batchable
+    tt))))))))))
 
 unfoldable pub transfer_body_at : Parts → Option (TransferSaid × Parts)
 transfer_body_at = named_at transfer_of

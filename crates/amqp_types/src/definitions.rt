@@ -30,7 +30,7 @@ pub type SequenceNo = u32;
 pub struct Handle(pub u32);
 
 /// The tag of a delivery on its link: any bytes, also more than the 32 that the standard allows (part 2,
-/// section 2.8.6). It is a cut of what was received: none is copied.
+/// section 2.8.6). A tag that was read is a cut of the received bytes: none is copied.
 #[derive(Clone, Debug, Drop, PartialEq, Eq)]
 pub struct DeliveryTag(pub Bytes);
 

@@ -13,7 +13,7 @@ use bytes::Bytes;
 use std::alloc::Global;
 use std::marker::Model;
 
-/// Why something ended (AMQP 1.0 part 2, section 2.8.14).
+/// Why a link, a session or a connection ended (AMQP 1.0 part 2, section 2.8.14).
 #[derive(Clone, Debug, Drop)]
 pub struct Error {
     /// What went wrong. Mandatory.

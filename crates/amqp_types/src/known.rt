@@ -1,11 +1,12 @@
-//! What a value is known to be by its type, said as facts.
+//! Code for the prover alone, which does nothing at run time: the bounds that a value has by its type.
 
 ghost use Rattle.std.specs.Prelude.{◌≡◌, ◌<◌, ◌^◌, IfSome, string_bytes};
 ghost use Rattle.std.specs.Option.{option_map};
 ghost use Rattle.std.specs.Str.{IsUtf8};
 ghost use Rattle.amqp_values.specs.Raw.{IsRaw, IsMap};
 ghost use Rattle.amqp_values.specs.Held.{AreSymbols};
-ghost use Rattle.amqp_types.specs.Held.{IsShort, IsWord, IsLong, ErrorHeld, OpenHeld, BeginHeld, AttachHeld, FlowHeld, TransferHeld, DispositionHeld, DetachHeld, EndHeld, CloseHeld, Held};
+ghost use Rattle.amqp_types.specs.Held.{IsShort, IsWord, IsLong, ErrorHeld, OpenHeld, BeginHeld, AttachHeld};
+ghost use Rattle.amqp_types.specs.Held.{FlowHeld, TransferHeld, DispositionHeld, DetachHeld, EndHeld, CloseHeld, Held};
 
 use crate::definitions::Handle;
 use crate::error::Error;
@@ -120,7 +121,7 @@ fn optional_error(value: &Option<Error>)
     }
 }
 
-fn open(p: &Open)
+pub(crate) fn open(p: &Open)
     ensures { OpenHeld p.now }
 {
     text(&p.container_id);
@@ -135,7 +136,7 @@ fn open(p: &Open)
     optional_fields(&p.properties);
 }
 
-fn begin(p: &Begin)
+pub(crate) fn begin(p: &Begin)
     ensures { BeginHeld p.now }
 {
     optional_short(p.remote_channel);
@@ -148,7 +149,7 @@ fn begin(p: &Begin)
     optional_fields(&p.properties);
 }
 
-fn attach(p: &Attach)
+pub(crate) fn attach(p: &Attach)
     ensures { AttachHeld p.now }
 {
     text(&p.name);
@@ -163,7 +164,7 @@ fn attach(p: &Attach)
     optional_fields(&p.properties);
 }
 
-fn flow(p: &Flow)
+pub(crate) fn flow(p: &Flow)
     ensures { FlowHeld p.now }
 {
     optional_word(p.next_incoming_id);
@@ -177,7 +178,7 @@ fn flow(p: &Flow)
     optional_fields(&p.properties);
 }
 
-fn transfer(p: &Transfer)
+pub(crate) fn transfer(p: &Transfer)
     ensures { TransferHeld p.now }
 {
     word(p.handle.0);
@@ -186,7 +187,7 @@ fn transfer(p: &Transfer)
     optional_value(&p.state);
 }
 
-fn disposition(p: &Disposition)
+pub(crate) fn disposition(p: &Disposition)
     ensures { DispositionHeld p.now }
 {
     word(p.first);
@@ -194,26 +195,26 @@ fn disposition(p: &Disposition)
     optional_value(&p.state);
 }
 
-fn detach(p: &Detach)
+pub(crate) fn detach(p: &Detach)
     ensures { DetachHeld p.now }
 {
     word(p.handle.0);
     optional_error(&p.error);
 }
 
-fn end(p: &End)
+pub(crate) fn end(p: &End)
     ensures { EndHeld p.now }
 {
     optional_error(&p.error);
 }
 
-fn close(p: &Close)
+pub(crate) fn close(p: &Close)
     ensures { CloseHeld p.now }
 {
     optional_error(&p.error);
 }
 
-/// Each field is what its type says.
+/// Each field keeps the bounds of its type.
 pub(crate) fn performative(performative: &Performative)
     ensures { Held performative.now }
 {

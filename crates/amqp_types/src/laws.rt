@@ -1,20 +1,35 @@
-//! Laws of values and performatives: a walk over parts gives them all, and what was written is read.
+//! Laws of values and performatives: a walk over parts gives them all, and what was written is read. A law answers
+//! nothing: its contract holds of every value that it is called with.
 
 ghost use Rattle.std.specs.Prelude.{◌≡◌, ◌<◌, ◌^◌, ◌++◌, ℕ, List, Result, Option, length};
 ghost use Rattle.amqp_values.specs.declared.error.ReadError.{ReadError};
 ghost use Rattle.amqp_values.specs.Reading.{Answers, ReadsFront};
 ghost use Rattle.amqp_types.specs.declared.performatives.Performative.{Performative};
+ghost use Rattle.amqp_types.specs.declared.performatives.Performative.TheVariants as performative;
 ghost use Rattle.amqp_types.specs.Items.{WalksGiveItems};
-ghost use Rattle.amqp_types.specs.Performatives.{IsPerformative, performative_text};
-ghost use Rattle.amqp_types.specs.Spelled.{CutIsSpelled};
+ghost use Rattle.amqp_types.specs.Kinds.{KindsAreRead};
+ghost use Rattle.amqp_types.specs.Performatives.{IsPerformative, ListsAreRead, performative_text};
+ghost use Rattle.amqp_types.specs.Spelled.{CutIsSpelled, IsSpelledIfShort, TextsAreSpelled};
 
 use crate::known;
-use crate::performatives::Performative;
+use crate::performatives::{
+    Attach, Begin, Close, Detach, Disposition, End, Flow, Open, Performative, Transfer,
+};
 
 /// [`Items`](crate::Items) ends after as many calls of `next` as its count says, and the parts that it gave, joined, are the
 /// data after the count.
 pub fn items_are_walked()
     ensures { WalksGiveItems }
+{}
+
+/// [`Kind::read`](crate::Kind::read) takes exactly the descriptors of a kind.
+pub fn kinds_are_read()
+    ensures { KindsAreRead }
+{}
+
+/// The list behind a descriptor is read exactly by the table of its kind.
+pub fn lists_are_read()
+    ensures { ListsAreRead }
 {}
 
 /// The text that [`Performative::write`] appends is a text of that performative, if it has at most 4294967295 bytes. So
@@ -26,4 +41,75 @@ pub fn text_is_read(performative: &Performative)
     ensures read { length (performative_text performative.now) < 2 ^ 32 → (bytes rest : List ℕ) (r : Result (Performative × List ℕ) ReadError) → bytes ≡ performative_text performative.now ++ rest → ReadsFront IsPerformative bytes r → Answers {Y = Performative × List ℕ} (λ x. x) r (Some (performative.now, rest)) }
 {
     known::performative(performative);
+}
+
+/// The canonical text of an Open spells it, if it has at most 4294967295 bytes.
+#[tactic(auto, using(crate::proofs::BodyCanonical::open_canonical))]
+pub fn open_is_spelled(p: &Open)
+    ensures { IsSpelledIfShort (performative.Open p.now) }
+{
+    known::open(p);
+}
+
+/// The canonical text of a Begin spells it, if it has at most 4294967295 bytes.
+#[tactic(auto, using(crate::proofs::BodyCanonical::begin_canonical))]
+pub fn begin_is_spelled(p: &Begin)
+    ensures { IsSpelledIfShort (performative.Begin p.now) }
+{
+    known::begin(p);
+}
+
+/// The canonical text of an Attach spells it, if it has at most 4294967295 bytes.
+#[tactic(auto, using(crate::proofs::BodyCanonical::attach_canonical))]
+pub fn attach_is_spelled(p: &Attach)
+    ensures { IsSpelledIfShort (performative.Attach p.now) }
+{
+    known::attach(p);
+}
+
+/// The canonical text of a Flow spells it, if it has at most 4294967295 bytes.
+#[tactic(auto, using(crate::proofs::BodyCanonical::flow_canonical))]
+pub fn flow_is_spelled(p: &Flow)
+    ensures { IsSpelledIfShort (performative.Flow p.now) }
+{
+    known::flow(p);
+}
+
+/// The canonical text of a Disposition spells it, if it has at most 4294967295 bytes.
+#[tactic(auto, using(crate::proofs::BodyCanonical::disposition_canonical))]
+pub fn disposition_is_spelled(p: &Disposition)
+    ensures { IsSpelledIfShort (performative.Disposition p.now) }
+{
+    known::disposition(p);
+}
+
+/// The canonical text of a Detach spells it, if it has at most 4294967295 bytes.
+#[tactic(auto, using(crate::proofs::BodyCanonical::detach_canonical))]
+pub fn detach_is_spelled(p: &Detach)
+    ensures { IsSpelledIfShort (performative.Detach p.now) }
+{
+    known::detach(p);
+}
+
+/// The canonical text of an End spells it, if it has at most 4294967295 bytes.
+#[tactic(auto, using(crate::proofs::BodyCanonical::end_canonical))]
+pub fn end_is_spelled(p: &End)
+    ensures { IsSpelledIfShort (performative.End p.now) }
+{
+    known::end(p);
+}
+
+/// The canonical text of a Close spells it, if it has at most 4294967295 bytes.
+#[tactic(auto, using(crate::proofs::BodyCanonical::close_canonical))]
+pub fn close_is_spelled(p: &Close)
+    ensures { IsSpelledIfShort (performative.Close p.now) }
+{
+    known::close(p);
+}
+
+/// So do the canonical texts of a Transfer, and of each transfer that it is cut into.
+pub fn transfer_is_spelled(p: &Transfer)
+    ensures { TextsAreSpelled p.now }
+{
+    known::transfer(p);
 }

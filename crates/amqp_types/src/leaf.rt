@@ -2,8 +2,10 @@
 
 ghost use Rattle.std.specs.Prelude.{◌≡◌, string_bytes};
 ghost use Rattle.std.specs.Option.{option_map};
-ghost use Rattle.amqp_values.specs.Writing.{leaf_text, optional_text, uint_or, ushort_or, uint_text, ushort_text, ulong_text, boolean_text, string_text, binary_text, symbols_text};
-ghost use Rattle.amqp_types.specs.Definitions.{flag_text, value_text, role_text, receiver_mode_text, sender_mode_or_mixed, receiver_mode_or_first};
+ghost use Rattle.amqp_values.specs.Writing.{leaf_text, optional_text, uint_or, ushort_or, uint_text};
+ghost use Rattle.amqp_values.specs.Writing.{ushort_text, ulong_text, boolean_text, string_text, binary_text, symbols_text};
+ghost use Rattle.amqp_types.specs.Definitions.{flag_text, value_text, role_text};
+ghost use Rattle.amqp_types.specs.Definitions.{receiver_mode_text, sender_mode_or_mixed, receiver_mode_or_first};
 
 use crate::definitions::{DeliveryTag, Handle, ReceiverSettleMode, Role, SenderSettleMode};
 use amqp_values::{Fields, Leaf, Raw, Symbol};
@@ -68,12 +70,6 @@ pub(crate) fn optional_boolean(b: Option<bool>) -> Leaf<'static>
         Some(b) => Leaf::Boolean(b),
         None => Leaf::Null,
     }
-}
-
-pub(crate) fn string(text: &String) -> Leaf<'_>
-    ensures { leaf_text result ≡ string_text (string_bytes text.now) }
-{
-    Leaf::String(text.as_str())
 }
 
 pub(crate) fn optional_string(text: &Option<String>) -> Leaf<'_>

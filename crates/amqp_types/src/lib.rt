@@ -18,7 +18,7 @@ pub use definitions::{
 };
 pub use error::Error;
 pub use performatives::{
-    Attach, Begin, Close, Detach, Disposition, End, Flow, Open, Performative, Transfer,
+    Attach, Begin, Close, Detach, Disposition, End, Flow, Kind, Open, Performative, Transfer,
     TransferText,
 };
 pub use states::{ConnectionState, SessionState};

@@ -1,4 +1,4 @@
-//! The nine performatives: what a frame's body says (AMQP 1.0 part 2, section 2.7).
+//! The nine performatives, which are the bodies of frames (AMQP 1.0 part 2, section 2.7).
 
 ghost use Rattle.std.specs.Prelude.{◌≡◌, ◌<◌, ◌++◌, ◌↔◌, length, OnOk, OnErr};
 ghost use Rattle.amqp_values.specs.Reading.{Answers, Gives, ReadsFront};
@@ -12,10 +12,11 @@ pub mod detach;
 pub mod disposition;
 pub mod end;
 pub mod flow;
+pub mod kind;
 pub mod open;
 pub mod transfer;
 
-use amqp_values::composite::{descriptor, read_list};
+use amqp_values::composite::read_list;
 use amqp_values::writing::write_described;
 use amqp_values::{ReadError, WriteError};
 pub use attach::Attach;
@@ -26,6 +27,7 @@ pub use detach::Detach;
 pub use disposition::Disposition;
 pub use end::End;
 pub use flow::Flow;
+pub use kind::Kind;
 pub use open::Open;
 use std::alloc::Global;
 pub use transfer::{Transfer, TransferText};
@@ -44,27 +46,26 @@ pub enum Performative {
     Close(Close),
 }
 
-/// The list of the performative with this code.
+/// Reads the list of a performative of this kind.
 #[tactic(auto, unfolding(crate::specs::Performatives::body_at))]
-fn body(alloc: Global, code: u64, bytes: &mut Bytes) -> Result<Performative, ReadError>
-    ensures { Gives (λ p. p) result bytes.new (body_at code bytes.old) }
+fn body(alloc: Global, kind: Kind, bytes: &mut Bytes) -> Result<Performative, ReadError>
+    ensures { Gives (λ p. p) result bytes.new (body_at kind bytes.old) }
 {
-    match code {
-        0x10 => Ok(Performative::Open(read_list(alloc, bytes)?)),
-        0x11 => Ok(Performative::Begin(read_list(alloc, bytes)?)),
-        0x12 => Ok(Performative::Attach(read_list(alloc, bytes)?)),
-        0x13 => Ok(Performative::Flow(read_list(alloc, bytes)?)),
-        0x14 => Ok(Performative::Transfer(read_list(alloc, bytes)?)),
-        0x15 => Ok(Performative::Disposition(read_list(alloc, bytes)?)),
-        0x16 => Ok(Performative::Detach(read_list(alloc, bytes)?)),
-        0x17 => Ok(Performative::End(read_list(alloc, bytes)?)),
-        0x18 => Ok(Performative::Close(read_list(alloc, bytes)?)),
-        _ => Err(ReadError::Malformed),
+    match kind {
+        Kind::Open => Ok(Performative::Open(read_list(alloc, bytes)?)),
+        Kind::Begin => Ok(Performative::Begin(read_list(alloc, bytes)?)),
+        Kind::Attach => Ok(Performative::Attach(read_list(alloc, bytes)?)),
+        Kind::Flow => Ok(Performative::Flow(read_list(alloc, bytes)?)),
+        Kind::Transfer => Ok(Performative::Transfer(read_list(alloc, bytes)?)),
+        Kind::Disposition => Ok(Performative::Disposition(read_list(alloc, bytes)?)),
+        Kind::Detach => Ok(Performative::Detach(read_list(alloc, bytes)?)),
+        Kind::End => Ok(Performative::End(read_list(alloc, bytes)?)),
+        Kind::Close => Ok(Performative::Close(read_list(alloc, bytes)?)),
     }
 }
 
 impl Performative {
-    /// Takes the performative at the front of the bytes, and gives it and the rest. Descriptors are numbers or names, and
+    /// Reads the performative at the front of the bytes, and answers it and the rest. Descriptors are numbers or names, and
     /// every spelling of every field is read; raw values and delivery tags are cuts of the bytes, and only texts are
     /// copied.
     ///
@@ -81,8 +82,8 @@ impl Performative {
         ensures { Answers (λ x. (x.0, x.1)) result (performative_at bytes) }
     {
         let mut rest = bytes;
-        let code = descriptor(&mut rest)?;
-        let performative = body(alloc, code, &mut rest)?;
+        let kind = Kind::read(&mut rest)?;
+        let performative = body(alloc, kind, &mut rest)?;
         Ok((performative, rest))
     }
 

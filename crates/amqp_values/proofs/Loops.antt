@@ -55,14 +55,6 @@ length_trim (x ∷ xs) = omega (arith, length_keep x (trim xs), length_trim xs)
 pub trimmed_bound : {X : Type 0} (f : X → List ℕ) (xs : List X) (n : ℕ) → n ≡ length (trim (map f xs)) → n ≤ length xs
 trimmed_bound f xs n e = omega (arith, e, length_trim (map f xs), length-map xs f)
 
-pub list_empty : (ps : List (List ℕ)) → length ps ≡ 0 → list_text ps ≡ 0x45 ∷ []
-unfolding list_text
-list_empty ps e = rw (eq-eqb _ _ e) refl
-
-pub list_full : (ps : List (List ℕ)) (n size : ℕ) → (n ≡ 0 → ⊥) → n ≡ length ps → size ≡ length (joined ps) → list_text ps ≡ list_head n size ++ joined ps
-unfolding list_text
-list_full ps n size ne e s = let f : eqb (length ps) 0 ≡ false = ne_eqb _ _ (λ h. ne (e ∙ h)) in rw (f, e, s) refl
-
 pub size_le : (ps : List (List ℕ)) → length (joined ps) ≤ length (list_text ps)
 unfolding list_text
 size_le [] = omega arith

@@ -19,9 +19,6 @@ pub has_code : (bytes : List ℕ) → HasMapCode bytes → has_map_code bytes �
 has_code _ (map8 others) = refl
 has_code _ (map32 others) = refl
 
-pub no_code : (bytes : List ℕ) → has_map_code bytes ≡ false → HasMapCode bytes → ⊥
-no_code bytes e h = let t = has_code bytes h in absurd cc
-
 map_found : (bytes v rest : List ℕ) → map_at bytes ≡ Some (v, rest) → (text : List ℕ) × SpellsMap v text × (bytes ≡ text ++ rest)
 unfolding map_at
 map_found bytes v rest e =

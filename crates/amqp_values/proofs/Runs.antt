@@ -8,10 +8,6 @@ use Rattle.amqp_values.specs.declared.error.ReadError.TheVariants.{Malformed, Ou
 use Rattle.amqp_values.specs.Reading.{◌>>=◌, Gives, Answers, is_empty}
 use Rattle.amqp_values.specs.Symbols.{item_at, run_at}
 
-pub run_start : (r : Option (List (List ℕ))) → r ≡ (r >>= λ o. Some ([] ++ o))
-run_start None = refl
-run_start (Some x) = refl
-
 push_bind : (r : Option (List (List ℕ))) (items : List (List ℕ)) (s : List ℕ)
     → (r >>= (λ o. Some (s ∷ o)) >>= λ o. Some (items ++ o)) ≡ (r >>= λ o. Some ((items ++ s ∷ []) ++ o))
 push_bind None items s = refl

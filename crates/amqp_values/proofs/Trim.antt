@@ -11,9 +11,6 @@ joined-append (x ∷ xs) b = ap (λ (r : List ℕ). x ++ r) (joined-append xs b)
 keep_null : (p : List ℕ) → is_null p ≡ true → keep p [] ≡ []
 keep_null p e = rw e refl
 
-keep_same : (p : List ℕ) (a b : List (List ℕ)) → a ≡ b → keep p a ≡ keep p b
-keep_same p a b e = ap (keep p) e
-
 keep_more : (p : List ℕ) (xs : List (List ℕ)) (q : List ℕ) → keep p (xs ++ q ∷ []) ≡ p ∷ (xs ++ q ∷ [])
 keep_more p [] q = refl
 keep_more p (x ∷ xs) q = refl

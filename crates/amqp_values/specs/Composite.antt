@@ -1,5 +1,6 @@
 -- Described lists: the composites of the standard (AMQP 1.0 part 1, section 1.4).
-use Rattle.std.specs.Prelude.{◌≡◌, ℕ, List, [], ◌∷◌, ◌++◌, length, Option, Some, None, Bool, true, false, ◌==◌, if◌then◌else◌, codes, bytes_eq}
+use Rattle.std.specs.Prelude.{◌≡◌, ℕ, List, [], ◌∷◌, ◌++◌, length, Option, Some, None, Bool, true, false, ◌==◌}
+use Rattle.std.specs.Prelude.{if◌then◌else◌, codes, bytes_eq}
 use Rattle.std.specs.Int.{w64, from_be_bytes}
 use Rattle.amqp_values.specs.declared.parts.Parts.{Parts}
 use Rattle.amqp_values.specs.Reading.{◌>>=◌, byte_at, number_at, count_at, region_at, IsNumber, joined}
@@ -9,7 +10,8 @@ use Rattle.amqp_values.specs.Text.{by_width, IsVar}
 
 pub data IsList : List (List ℕ) → List ℕ → Type 0 where
   list0 : IsList [] (0x45 ∷ [])
-  list : (wide : Bool) (size count : List ℕ) (parts : List (List ℕ)) → IsNumber wide size (length (count ++ joined parts)) → IsNumber wide count (length parts)
+  list : (wide : Bool) (size count : List ℕ) (parts : List (List ℕ)) → IsNumber wide size (length (count ++ joined parts))
+      → IsNumber wide count (length parts)
       → IsList parts (by_width wide 0xc0 0xd0 ∷ size ++ (count ++ joined parts))
 
 -- a list with this body
@@ -53,23 +55,42 @@ abbrev pub counted_parts : Bool → List ℕ × List ℕ → Option (Parts × Li
 counted_parts wide region = count_at wide region.0 >>= λ n. Some (record { left = n.0; bytes = n.1 }, region.1)
 
 unfoldable pub list_at : List ℕ → Option (Parts × List ℕ)
-list_at bytes = do
-  code ← byte_at bytes
-  if code.0 == 0x45 then Some (record { left = 0; bytes = [] }, code.1) else if code.0 == 0xc0 then (region_at false code.1 >>= counted_parts false) else if code.0 == 0xd0 then (region_at true code.1 >>= counted_parts true) else None
+list_at bytes =
+    byte_at bytes >>= λ code.
+    if code.0 == 0x45 then Some (record { left = 0; bytes = [] }, code.1)
+    else if code.0 == 0xc0 then (region_at false code.1 >>= counted_parts false)
+    else if code.0 == 0xd0 then (region_at true code.1 >>= counted_parts true)
+    else None
 
 unfoldable pub composite_at : {V : Type 0} → (Parts → Option (V × Parts)) → List ℕ → Option (V × List ℕ)
 composite_at body bytes = list_at bytes >>= λ l. body l.0 >>= λ v. Some (v.0, l.1)
 
 unfoldable pub code_of : List ℕ → Option ℕ
-code_of name = if bytes_eq name (codes "amqp:open:list") then Some 0x10 else if bytes_eq name (codes "amqp:begin:list") then Some 0x11 else if bytes_eq name (codes "amqp:attach:list") then Some 0x12 else if bytes_eq name (codes "amqp:flow:list") then Some 0x13 else if bytes_eq name (codes "amqp:transfer:list") then Some 0x14 else if bytes_eq name (codes "amqp:disposition:list") then Some 0x15 else if bytes_eq name (codes "amqp:detach:list") then Some 0x16 else if bytes_eq name (codes "amqp:end:list") then Some 0x17 else if bytes_eq name (codes "amqp:close:list") then Some 0x18 else if bytes_eq name (codes "amqp:error:list") then Some 0x1d else None
+code_of name =
+    if bytes_eq name (codes "amqp:open:list") then Some 0x10
+    else if bytes_eq name (codes "amqp:begin:list") then Some 0x11
+    else if bytes_eq name (codes "amqp:attach:list") then Some 0x12
+    else if bytes_eq name (codes "amqp:flow:list") then Some 0x13
+    else if bytes_eq name (codes "amqp:transfer:list") then Some 0x14
+    else if bytes_eq name (codes "amqp:disposition:list") then Some 0x15
+    else if bytes_eq name (codes "amqp:detach:list") then Some 0x16
+    else if bytes_eq name (codes "amqp:end:list") then Some 0x17
+    else if bytes_eq name (codes "amqp:close:list") then Some 0x18
+    else if bytes_eq name (codes "amqp:error:list") then Some 0x1d
+    else None
 
 abbrev pub meaning_at : List ℕ × List ℕ → Option (ℕ × List ℕ)
 meaning_at x = code_of x.0 >>= λ code. Some (code, x.1)
 
 abbrev pub code_at : List ℕ → Option (ℕ × List ℕ)
-code_at bytes = do
-  code ← byte_at bytes
-  if code.0 == 0x44 then Some (0, code.1) else if code.0 == 0x53 then byte_at code.1 else if code.0 == 0x80 then number_at w64 code.1 else if code.0 == 0xa3 then (region_at false code.1 >>= meaning_at) else if code.0 == 0xb3 then (region_at true code.1 >>= meaning_at) else None
+code_at bytes =
+    byte_at bytes >>= λ code.
+    if code.0 == 0x44 then Some (0, code.1)
+    else if code.0 == 0x53 then byte_at code.1
+    else if code.0 == 0x80 then number_at w64 code.1
+    else if code.0 == 0xa3 then (region_at false code.1 >>= meaning_at)
+    else if code.0 == 0xb3 then (region_at true code.1 >>= meaning_at)
+    else None
 
 unfoldable pub descriptor_at : List ℕ → Option (ℕ × List ℕ)
 descriptor_at bytes = do

@@ -22,15 +22,21 @@ mutual
     flag : (d b : ℕ) → b < 2 → Data d kind.Flag (b ∷ [])
     variable : (d : ℕ) (wide : Bool) (size bytes : List ℕ) → IsNumber wide size (length bytes) → Data d (kind.Variable wide) (size ++ bytes)
     list0 : (d : ℕ) → Data (suc d) kind.List0 []
-    list : (d : ℕ) (wide : Bool) (size count : List ℕ) (parts : List (List ℕ)) → IsNumber wide size (length (count ++ joined parts)) → IsNumber wide count (length parts)
+    list : (d : ℕ) (wide : Bool) (size count : List ℕ) (parts : List (List ℕ))
+        → IsNumber wide size (length (count ++ joined parts)) → IsNumber wide count (length parts)
         → Values d parts → Data (suc d) (kind.List wide) (size ++ (count ++ joined parts))
-    map : (d : ℕ) (wide : Bool) (size count : List ℕ) (parts : List (List ℕ)) → IsNumber wide size (length (count ++ joined parts)) → IsNumber wide count (length parts)
+    map : (d : ℕ) (wide : Bool) (size count : List ℕ) (parts : List (List ℕ))
+        → IsNumber wide size (length (count ++ joined parts)) → IsNumber wide count (length parts)
         → length parts % 2 ≡ 0 → Values d parts → Data (suc d) (kind.Map wide) (size ++ (count ++ joined parts))
-    array : (d : ℕ) (wide : Bool) (size count constructor : List ℕ) (elements : List (List ℕ)) → IsNumber wide size (length (count ++ (constructor ++ joined elements)))
-        → IsNumber wide count (length elements) → Elements d constructor elements → Data (suc d) (kind.Array wide) (size ++ (count ++ (constructor ++ joined elements)))
-    no_elements : (d : ℕ) (wide : Bool) (size count constructor : List ℕ) → IsNumber wide size (length (count ++ constructor)) → IsNumber wide count 0
+    array : (d : ℕ) (wide : Bool) (size count constructor : List ℕ) (elements : List (List ℕ))
+        → IsNumber wide size (length (count ++ (constructor ++ joined elements)))
+        → IsNumber wide count (length elements) → Elements d constructor elements
+        → Data (suc d) (kind.Array wide) (size ++ (count ++ (constructor ++ joined elements)))
+    no_elements : (d : ℕ) (wide : Bool) (size count constructor : List ℕ) → IsNumber wide size (length (count ++ constructor))
+        → IsNumber wide count 0
         → Constructor d constructor → Data (suc d) (kind.Array wide) (size ++ (count ++ constructor))
-    bare : (d : ℕ) (wide : Bool) (size count : List ℕ) → IsNumber wide size (length count) → IsNumber wide count 0 → Data (suc d) (kind.Array wide) (size ++ count)
+    bare : (d : ℕ) (wide : Bool) (size count : List ℕ) → IsNumber wide size (length count) → IsNumber wide count 0
+        → Data (suc d) (kind.Array wide) (size ++ count)
 
   -- each part is one value
   pub data Values : ℕ → List (List ℕ) → Type 0 where
@@ -40,7 +46,8 @@ mutual
   -- one or more data behind one constructor: each of them, with that constructor before it, is a value
   pub data Elements : ℕ → List ℕ → List (List ℕ) → Type 0 where
     plain_elements : (d code : ℕ) (elements : List (List ℕ)) → Run d (kind_of code) elements → Elements d (code ∷ []) elements
-    described_elements : (d : ℕ) (descriptor constructor : List ℕ) (elements : List (List ℕ)) → IsValue d descriptor → Elements d constructor elements
+    described_elements : (d : ℕ) (descriptor constructor : List ℕ) (elements : List (List ℕ)) → IsValue d descriptor
+        → Elements d constructor elements
         → Elements (suc d) (0x00 ∷ descriptor ++ constructor) elements
 
   -- one or more data of this kind, one behind the other

@@ -1,4 +1,4 @@
--- What the values that a program holds are known to be, by their types.
+-- What every symbol that a program holds keeps, by its type.
 use Rattle.std.specs.Prelude.{List, [], ◌∷◌, ℕ}
 use Rattle.amqp_values.specs.Text.{IsSymbolText}
 

@@ -40,14 +40,20 @@ ushort_at bytes = do
   if code.0 == 0x60 then number_at w16 code.1 else None
 
 unfoldable pub uint_at : List ℕ → Option (ℕ × List ℕ)
-uint_at bytes = do
-  code ← byte_at bytes
-  if code.0 == 0x43 then Some (0, code.1) else if code.0 == 0x52 then byte_at code.1 else if code.0 == 0x70 then number_at w32 code.1 else None
+uint_at bytes =
+    byte_at bytes >>= λ code.
+    if code.0 == 0x43 then Some (0, code.1)
+    else if code.0 == 0x52 then byte_at code.1
+    else if code.0 == 0x70 then number_at w32 code.1
+    else None
 
 unfoldable pub ulong_at : List ℕ → Option (ℕ × List ℕ)
-ulong_at bytes = do
-  code ← byte_at bytes
-  if code.0 == 0x44 then Some (0, code.1) else if code.0 == 0x53 then byte_at code.1 else if code.0 == 0x80 then number_at w64 code.1 else None
+ulong_at bytes =
+    byte_at bytes >>= λ code.
+    if code.0 == 0x44 then Some (0, code.1)
+    else if code.0 == 0x53 then byte_at code.1
+    else if code.0 == 0x80 then number_at w64 code.1
+    else None
 
 abbrev pub flag_at : List ℕ → Option (Bool × List ℕ)
 flag_at bytes = do
@@ -55,6 +61,9 @@ flag_at bytes = do
   if flag.0 == 0 then Some (false, flag.1) else if flag.0 == 1 then Some (true, flag.1) else None
 
 unfoldable pub boolean_at : List ℕ → Option (Bool × List ℕ)
-boolean_at bytes = do
-  code ← byte_at bytes
-  if code.0 == 0x41 then Some (true, code.1) else if code.0 == 0x42 then Some (false, code.1) else if code.0 == 0x56 then flag_at code.1 else None
+boolean_at bytes =
+    byte_at bytes >>= λ code.
+    if code.0 == 0x41 then Some (true, code.1)
+    else if code.0 == 0x42 then Some (false, code.1)
+    else if code.0 == 0x56 then flag_at code.1
+    else None

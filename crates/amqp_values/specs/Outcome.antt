@@ -1,5 +1,6 @@
 -- The terminal states of a delivery: accepted, rejected, released and modified.
-use Rattle.std.specs.Prelude.{◌≡◌, ℕ, List, [], ◌∷◌, ◌++◌, length, Bool, true, false, Option, Some, None, ◌==◌, ◌&&◌, ◌||◌, if◌then◌else◌, codes}
+use Rattle.std.specs.Prelude.{◌≡◌, ℕ, List, [], ◌∷◌, ◌++◌, length, Bool, true, false, Option, Some, None, ◌==◌, ◌&&◌}
+use Rattle.std.specs.Prelude.{◌||◌, if◌then◌else◌, codes}
 use Rattle.std.specs.Str.{bytes_eq}
 use Rattle.std.specs.Int.{w64, from_be_bytes}
 use Rattle.amqp_values.specs.Reading.{region_at, is_empty, IsNumber}
@@ -35,7 +36,9 @@ abbrev pub has_outcome_number : ℕ → Bool
 has_outcome_number n = n == 0x24 || n == 0x25 || n == 0x26 || n == 0x27
 
 abbrev pub has_outcome_name : List ℕ → Bool
-has_outcome_name name = bytes_eq name (codes "amqp:accepted:list") || bytes_eq name (codes "amqp:rejected:list") || bytes_eq name (codes "amqp:released:list") || bytes_eq name (codes "amqp:modified:list")
+has_outcome_name name =
+    bytes_eq name (codes "amqp:accepted:list") || bytes_eq name (codes "amqp:rejected:list")
+    || bytes_eq name (codes "amqp:released:list") || bytes_eq name (codes "amqp:modified:list")
 
 abbrev pub spells_small : List ℕ → Bool
 spells_small [] = false

@@ -1,5 +1,6 @@
 -- The parts of lists and maps.
-use Rattle.std.specs.Prelude.{◌≡◌, ℕ, zero, suc, ◌-◌, ◌%◌, List, [], ◌∷◌, ◌++◌, length, take, drop, Option, Some, None, Bool, ◌==◌, if◌then◌else◌}
+use Rattle.std.specs.Prelude.{◌≡◌, ℕ, zero, suc, ◌-◌, ◌%◌, List, [], ◌∷◌, ◌++◌, length, take, drop, Option, Some, None}
+use Rattle.std.specs.Prelude.{Bool, ◌==◌, if◌then◌else◌}
 use Rattle.amqp_values.specs.declared.kind.Kind.{Kind}
 use Rattle.amqp_values.specs.declared.kind.Kind.TheVariants as kind
 use Rattle.amqp_values.specs.Kind.{kind_of}
@@ -11,9 +12,11 @@ use Rattle.amqp_values.specs.Grammar.{IsValue, Values}
 -- count. Those of a map are its keys and values in turn, so their number is even.
 pub data ItemsIn : Kind → List ℕ → List (List ℕ) → Type 0 where
   no_items : ItemsIn kind.List0 [] []
-  list_items : (wide : Bool) (size count : List ℕ) (parts : List (List ℕ)) → IsNumber wide size (length (count ++ joined parts)) → IsNumber wide count (length parts)
+  list_items : (wide : Bool) (size count : List ℕ) (parts : List (List ℕ))
+      → IsNumber wide size (length (count ++ joined parts)) → IsNumber wide count (length parts)
       → Values 64 parts → ItemsIn (kind.List wide) (size ++ (count ++ joined parts)) parts
-  map_items : (wide : Bool) (size count : List ℕ) (parts : List (List ℕ)) → IsNumber wide size (length (count ++ joined parts)) → IsNumber wide count (length parts)
+  map_items : (wide : Bool) (size count : List ℕ) (parts : List (List ℕ)) → IsNumber wide size (length (count ++ joined parts))
+      → IsNumber wide count (length parts)
       → length parts % 2 ≡ 0 → Values 64 parts → ItemsIn (kind.Map wide) (size ++ (count ++ joined parts)) parts
 
 pub record IsItems (bytes : List ℕ) (parts : List (List ℕ)) : Type 0 where

@@ -1,5 +1,6 @@
 -- Raw values, and those of them that are maps.
-use Rattle.std.specs.Prelude.{◌≡◌, ◌≢◌, ℕ, ◌-◌, List, [], ◌∷◌, length, take, drop, Option, Some, None, Bool, false, ◌==◌, ◌||◌, if◌then◌else◌}
+use Rattle.std.specs.Prelude.{◌≡◌, ◌≢◌, ℕ, ◌-◌, List, [], ◌∷◌, length, take, drop, Option, Some, None, Bool, false}
+use Rattle.std.specs.Prelude.{◌==◌, ◌||◌, if◌then◌else◌}
 use Rattle.amqp_values.specs.Reading.{◌>>=◌, byte_at}
 use Rattle.amqp_values.specs.Walk.{value_at}
 use Rattle.amqp_values.specs.Grammar.{IsValue}

@@ -1,5 +1,6 @@
 -- Reading from left to right: a value and what is left, or nothing where no front of the bytes is in the format.
-use Rattle.std.specs.Prelude.{◌≡◌, ℕ, List, [], ◌∷◌, ◌++◌, length, take, drop, IfOk, Option, Some, None, Result, Ok, Err, Bool, true, false, nat_lt, if◌then◌else◌}
+use Rattle.std.specs.Prelude.{◌≡◌, ℕ, List, [], ◌∷◌, ◌++◌, length, take, drop, IfOk, Option, Some, None, Result, Ok}
+use Rattle.std.specs.Prelude.{Err, Bool, true, false, nat_lt, if◌then◌else◌}
 use Rattle.std.specs.Int.{Width, w32, byte_len, from_be_bytes}
 use Rattle.amqp_values.specs.declared.error.ReadError.{ReadError}
 use Rattle.amqp_values.specs.declared.error.ReadError.TheVariants.{Malformed, OutOfMemory}
@@ -31,6 +32,11 @@ pub record ReadsFront {V : Type 0} (Is : V → List ℕ → Type 0) (bytes : Lis
   pub found : IfOk result (λ x. Takes (Is x.0) bytes x.1)
   pub only : (v : V) (text rest : List ℕ) → Is v text → bytes ≡ text ++ rest → Answers {Y = V × List ℕ} (λ x. x) result (Some (v, rest))
 
+-- What is read of the bytes is a front of them in the grammar; and a front in the grammar is what is read.
+pub record IsReader {V : Type 0} (Is : V → List ℕ → Type 0) (at : List ℕ → Option (V × List ℕ)) : Type 0 where
+  pub found : (bytes : List ℕ) (v : V) (rest : List ℕ) → at bytes ≡ Some (v, rest) → Takes (Is v) bytes rest
+  pub again : (v : V) (text rest : List ℕ) → Is v text → at (text ++ rest) ≡ Some (v, rest)
+
 -- ---- the smallest readers
 
 abbrev pub byte_at : List ℕ → Option (ℕ × List ℕ)
@@ -39,7 +45,8 @@ byte_at (b ∷ bytes) = Some (b, bytes)
 
 -- a number of so many bytes, the most significant first
 abbrev pub number_at : Width → List ℕ → Option (ℕ × List ℕ)
-number_at w bytes = if nat_lt (length bytes) (byte_len w) then None else Some (from_be_bytes w (take (byte_len w) bytes), drop (byte_len w) bytes)
+number_at w bytes =
+    if nat_lt (length bytes) (byte_len w) then None else Some (from_be_bytes w (take (byte_len w) bytes), drop (byte_len w) bytes)
 
 -- so many bytes
 unfoldable pub cut_at : ℕ → List ℕ → Option (List ℕ × List ℕ)

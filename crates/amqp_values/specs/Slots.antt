@@ -65,3 +65,52 @@ then_at first others p = first p >>= λ x. others x.1 >>= λ y. Some ((x.0, y.0)
 -- the fields of a chain, under their names
 abbrev pub named_at : {V W : Type 0} → (V → W) → (Parts → Option (V × Parts)) → Parts → Option (W × Parts)
 named_at name at p = at p >>= λ x. Some (name x.0, x.1)
+
+-- ---- the values of a table of fields: each beside those behind it
+
+abbrev pub beside : {V W : Type 0} → V → W → V × W
+beside v others = (v, others)
+
+abbrev pub slot0 : {V W : Type 0} → V × W → V
+slot0 x = x.0
+
+abbrev pub slot1 : {A V W : Type 0} → A × (V × W) → V
+slot1 x = x.1.0
+
+abbrev pub slot2 : {A B V W : Type 0} → A × (B × (V × W)) → V
+slot2 x = x.1.1.0
+
+abbrev pub slot3 : {A B C V W : Type 0} → A × (B × (C × (V × W))) → V
+slot3 x = x.1.1.1.0
+
+abbrev pub slot4 : {A B C D V W : Type 0} → A × (B × (C × (D × (V × W)))) → V
+slot4 x = x.1.1.1.1.0
+
+abbrev pub slot5 : {A B C D E V W : Type 0} → A × (B × (C × (D × (E × (V × W))))) → V
+slot5 x = x.1.1.1.1.1.0
+
+abbrev pub slot6 : {A B C D E F V W : Type 0} → A × (B × (C × (D × (E × (F × (V × W)))))) → V
+slot6 x = x.1.1.1.1.1.1.0
+
+abbrev pub slot7 : {A B C D E F G V W : Type 0} → A × (B × (C × (D × (E × (F × (G × (V × W))))))) → V
+slot7 x = x.1.1.1.1.1.1.1.0
+
+abbrev pub slot8 : {A B C D E F G H V W : Type 0} → A × (B × (C × (D × (E × (F × (G × (H × (V × W)))))))) → V
+slot8 x = x.1.1.1.1.1.1.1.1.0
+
+abbrev pub slot9 : {A B C D E F G H I V W : Type 0} → A × (B × (C × (D × (E × (F × (G × (H × (I × (V × W))))))))) → V
+slot9 x = x.1.1.1.1.1.1.1.1.1.0
+
+abbrev pub slot10 : {A B C D E F G H I J V W : Type 0} → A × (B × (C × (D × (E × (F × (G × (H × (I × (J × (V × W)))))))))) → V
+slot10 x = x.1.1.1.1.1.1.1.1.1.1.0
+
+abbrev pub slot11 : {A B C D E F G H I J K V W : Type 0} → A × (B × (C × (D × (E × (F × (G × (H × (I × (J × (K × (V × W))))))))))) → V
+slot11 x = x.1.1.1.1.1.1.1.1.1.1.1.0
+
+abbrev pub slot12 : {A B C D E F G H I J K L V W : Type 0}
+    → A × (B × (C × (D × (E × (F × (G × (H × (I × (J × (K × (L × (V × W)))))))))))) → V
+slot12 x = x.1.1.1.1.1.1.1.1.1.1.1.1.0
+
+abbrev pub slot13 : {A B C D E F G H I J K L M V W : Type 0}
+    → A × (B × (C × (D × (E × (F × (G × (H × (I × (J × (K × (L × (M × (V × W))))))))))))) → V
+slot13 x = x.1.1.1.1.1.1.1.1.1.1.1.1.1.0

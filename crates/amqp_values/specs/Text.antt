@@ -10,7 +10,8 @@ by_width wide short long = if wide then long else short
 
 -- a code, a length, and that many bytes
 pub data IsVar (short long : ℕ) : List ℕ → List ℕ → Type 0 where
-  var : (wide : Bool) (len bytes : List ℕ) → IsNumber wide len (length bytes) → IsVar short long bytes (by_width wide short long ∷ len ++ bytes)
+  var : (wide : Bool) (len bytes : List ℕ) → IsNumber wide len (length bytes)
+      → IsVar short long bytes (by_width wide short long ∷ len ++ bytes)
 
 abbrev pub is_ascii : List ℕ → Bool
 is_ascii s = list_all (λ b. nat_lt b 128) s

@@ -23,12 +23,14 @@ ended rest left = if is_empty left then Some rest else None
 unfoldable pub inside : Level → Kind → ℕ → List ℕ → Option (List ℕ)
 inside l (kind.List wide) count bytes = repeat count l.value bytes
 inside l (kind.Map wide) count bytes = if count % 2 == 0 then repeat count l.value bytes else None
-inside l (kind.Array wide) count bytes = if count == 0 then (if is_empty bytes then Some bytes else l.constructor bytes) else l.elements count bytes
+inside l (kind.Array wide) count bytes =
+    if count == 0 then (if is_empty bytes then Some bytes else l.constructor bytes) else l.elements count bytes
 inside l k count bytes = None
 
 abbrev pub compound_of : Option Level → Kind → Bool → List ℕ → Option (List ℕ)
 compound_of None k wide bytes = None
-compound_of (Some l) k wide bytes = region_at wide bytes >>= λ region. count_at wide region.0 >>= λ count. inside l k count.0 count.1 >>= ended region.1
+compound_of (Some l) k wide bytes =
+    region_at wide bytes >>= λ region. count_at wide region.0 >>= λ count. inside l k count.0 count.1 >>= ended region.1
 
 unfoldable pub data_of : Option Level → Kind → List ℕ → Option (List ℕ)
 data_of below (kind.Fixed n) bytes = cut_at n bytes >>= λ x. Some x.1
@@ -65,7 +67,10 @@ unfoldable pub run_of : Option Level → Kind → ℕ → List ℕ → Option (L
 run_of below k count bytes = repeat count (data_of below k) bytes
 
 unfoldable pub elements_of : Option Level → ℕ → List ℕ → Option (List ℕ)
-elements_of below count bytes = byte_at bytes >>= λ c. if c.0 == 0 then described below (λ l. l.elements count) c.1 else run_of below (kind_of c.0) count c.1
+elements_of below count bytes =
+    byte_at bytes >>= λ c.
+    if c.0 == 0 then described below (λ l. l.elements count) c.1
+    else run_of below (kind_of c.0) count c.1
 
 abbrev pub is_ground : Option Level → Bool
 is_ground None = true
@@ -74,15 +79,29 @@ is_ground (Some l) = false
 -- what is left behind the constructor of an array with no elements, by so many bytes at most
 unfoldable pub constructor_of : Option Level → ℕ → List ℕ → Option (List ℕ)
 constructor_of below zero bytes = None
-constructor_of below (suc n) bytes = byte_at bytes >>= λ c. if c.0 == 0 then (if is_ground below then None else value_of below c.1 >>= constructor_of below n) else if may_hold below (kind_of c.0) then Some c.1 else None
+constructor_of below (suc n) bytes =
+    byte_at bytes >>= λ c.
+    if c.0 == 0 then (if is_ground below then None else value_of below c.1 >>= constructor_of below n)
+    else if may_hold below (kind_of c.0) then Some c.1
+    else None
 
 unfoldable pub under : ℕ → Option Level
 under zero = None
-under (suc d) = Some (record { value = value_of (under d); elements = elements_of (under d); constructor = λ bytes. constructor_of (under d) (length bytes) bytes })
+under (suc d) =
+    Some (record {
+      value = value_of (under d);
+      elements = elements_of (under d);
+      constructor = λ bytes. constructor_of (under d) (length bytes) bytes;
+    })
 
 -- what may stand inside a value of depth d + 1
 abbrev pub level : ℕ → Level
-level d = record { value = value_of (under d); elements = elements_of (under d); constructor = λ bytes. constructor_of (under d) (length bytes) bytes }
+level d =
+    record {
+      value = value_of (under d);
+      elements = elements_of (under d);
+      constructor = λ bytes. constructor_of (under d) (length bytes) bytes;
+    }
 
 -- what is left behind a value of a depth of at most d
 unfoldable pub value_at : ℕ → List ℕ → Option (List ℕ)

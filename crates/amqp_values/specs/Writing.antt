@@ -1,5 +1,6 @@
 -- The canonical texts: one spelling of each value, the shortest of its type.
-use Rattle.std.specs.Prelude.{ℕ, ◌+◌, List, [], ◌∷◌, ◌++◌, length, map, Bool, true, false, nat_lt, ◌==◌, ◌&&◌, not, if◌then◌else◌, Option, Some, None, Result, Ok, Err}
+use Rattle.std.specs.Prelude.{ℕ, ◌+◌, List, [], ◌∷◌, ◌++◌, length, map, Bool, true, false, nat_lt, ◌==◌, ◌&&◌, not}
+use Rattle.std.specs.Prelude.{if◌then◌else◌, Option, Some, None, Result, Ok, Err}
 use Rattle.std.specs.List.{list_all}
 use Rattle.std.specs.Int.{w16, w32, w64, to_be_bytes}
 use Rattle.amqp_values.specs.declared.leaf.Leaf.{Leaf}
@@ -58,7 +59,8 @@ run_text long items = joined (map (item_text long) items)
 
 -- the size counts the count, of one byte or of four, and what follows
 abbrev pub array_text : Bool → ℕ → List ℕ → List ℕ
-array_text wide count body = by_width wide 0xe0 0xf0 ∷ number_text wide (length (number_text wide count) + length body) ++ (number_text wide count ++ body)
+array_text wide count body =
+    by_width wide 0xe0 0xf0 ∷ number_text wide (length (number_text wide count) + length body) ++ (number_text wide count ++ body)
 
 abbrev pub is_wide : ℕ → ℕ → Bool
 is_wide count body_len = not (nat_lt body_len 255 && nat_lt count 256)
@@ -67,7 +69,8 @@ abbrev pub symbols_body : Bool → List (List ℕ) → List ℕ
 symbols_body long items = by_width long 0xa3 0xb3 ∷ run_text long items
 
 unfoldable pub symbols_text : List (List ℕ) → List ℕ
-symbols_text items = array_text (is_wide (length items) (length (symbols_body (is_long items) items))) (length items) (symbols_body (is_long items) items)
+symbols_text items =
+    array_text (is_wide (length items) (length (symbols_body (is_long items) items))) (length items) (symbols_body (is_long items) items)
 
 -- ---- what stands in a part of a list
 
@@ -108,7 +111,8 @@ trim (part ∷ parts) = keep part (trim parts)
 
 -- what stands before the parts, by their number and their size
 abbrev pub list_head : ℕ → ℕ → List ℕ
-list_head count size = if nat_lt size 255 then 0xc0 ∷ (size + 1) ∷ count ∷ [] else 0xd0 ∷ to_be_bytes w32 (size + 4) ++ to_be_bytes w32 count
+list_head count size =
+    if nat_lt size 255 then 0xc0 ∷ (size + 1) ∷ count ∷ [] else 0xd0 ∷ to_be_bytes w32 (size + 4) ++ to_be_bytes w32 count
 
 unfoldable pub list_text : List (List ℕ) → List ℕ
 list_text parts = if length parts == 0 then 0x45 ∷ [] else list_head (length parts) (length (joined parts)) ++ joined parts

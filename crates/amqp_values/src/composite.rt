@@ -2,7 +2,7 @@
 
 ghost use Rattle.std.specs.Prelude.{◌≡◌, ℕ, List, Option};
 ghost use Rattle.amqp_values.specs.declared.parts.Parts.{Parts};
-ghost use Rattle.amqp_values.specs.Reading.{Answers, Gives};
+ghost use Rattle.amqp_values.specs.Reading.{Gives};
 ghost use Rattle.amqp_values.specs.Composite.{list_at, composite_at, code_of, meaning_at, descriptor_at, described_at};
 
 use crate::codes;
@@ -125,13 +125,4 @@ pub fn described<C: Composite>(alloc: Global, code: u64, bytes: &mut Bytes) -> R
         return Err(ReadError::Malformed);
     }
     read_list(alloc, bytes)
-}
-
-/// The described list at the front, with this code for its descriptor, and the rest.
-pub fn front<C: Composite>(alloc: Global, code: u64, bytes: Bytes) -> Result<(C, Bytes), ReadError>
-    ensures { Answers (λ x. (x.0, x.1)) result (described_at code C.body_at bytes) }
-{
-    let mut rest = bytes;
-    let value = described(alloc, code, &mut rest)?;
-    Ok((value, rest))
 }

@@ -1,4 +1,4 @@
-//! Bytes, numbers and regions off the front of what was received.
+//! Bytes, numbers and regions, cut off the front of received bytes.
 
 ghost use Rattle.std.specs.Prelude.{◌≡◌, ◌<◌, ◌^◌, length, IfOk};
 ghost use Rattle.std.specs.Int.{w16, w32, w64};

@@ -21,8 +21,8 @@ pub trait Field: Drop {
 
     ghost at: { List ℕ → Option (Seen × List ℕ) };
 
-    /// Takes the value at the front of the bytes, in any spelling of its type, and leaves the rest. `Malformed` where
-    /// no front is such a value, `OutOfMemory` where memory for a text or a cut is refused; what is left is then open.
+    /// Reads the value at the front of the bytes, in any spelling of its type, and leaves the rest. `Malformed` where
+    /// no front is such a value, `OutOfMemory` where memory for a text or a cut is refused; the rest is then not defined.
     fn read(alloc: Global, bytes: &mut Bytes) -> Result<Self, ReadError>
         ensures { Gives view result bytes.new (at bytes.old) };
 }

@@ -52,7 +52,7 @@ impl Parts {
         Ok(self.next(alloc)?.unwrap_or(default))
     }
 
-    /// Gives the composite of the fields that were taken, if nothing is left: neither a part nor a byte. Else `Malformed`.
+    /// Answers the composite if neither a part nor a byte is left, else `Malformed`.
     #[tactic(auto, unfolding(crate::specs::Slots::end_at))]
     pub fn finish<C: Drop>(&self, composite: C) -> Result<C, ReadError>
         ensures { Gives (λ x. x) result self.now (finished_at composite self.now) }

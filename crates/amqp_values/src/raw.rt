@@ -49,7 +49,7 @@ impl PartialEq for Raw {
 }
 
 impl Raw {
-    /// Takes the first value off the bytes, and gives it and the rest (part 1, section 1.6).
+    /// Reads the first value of the bytes, and answers it and the rest (part 1, section 1.6).
     ///
     /// `Malformed` where no front of the bytes is a value of a depth of at most 64, or where it is the null.
     /// `OutOfMemory` where memory was refused.

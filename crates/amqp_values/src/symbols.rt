@@ -21,7 +21,7 @@ fn item(alloc: Global, long: bool, bytes: &mut Bytes) -> Result<Symbol, ReadErro
     Symbol::of_bytes(alloc, text.as_slice())
 }
 
-/// So many symbols, and nothing behind them. The list grows as they are read, since a count is only a claim.
+/// Reads `count` symbols, which have to fill the bytes. The list grows as they are read, since the count may be false.
 fn run(alloc: Global, count: u32, long: bool, bytes: Bytes) -> Result<Vec<Symbol>, ReadError>
     ensures { Answers (λ v. v.items) result (run_at count long bytes) }
 {
@@ -43,7 +43,7 @@ fn run(alloc: Global, count: u32, long: bool, bytes: Bytes) -> Result<Vec<Symbol
     }
 }
 
-/// The region of an array behind its count.
+/// Reads the region of an array behind its count.
 #[tactic(auto, unfolding(crate::specs::Symbols::all_at))]
 fn all(alloc: Global, count: u32, bytes: Bytes) -> Result<Vec<Symbol>, ReadError>
     ensures { Answers (λ v. v.items) result (all_at count bytes) }

@@ -38,7 +38,7 @@ pub(crate) fn first(bytes: &[u8]) -> Option<(u8, &[u8])>
     }
 }
 
-/// So many bytes, and the rest.
+/// The first `len` bytes, and the rest.
 #[tactic(auto, unfolding(crate::specs::Reading::cut_at))]
 fn cut(len: usize, bytes: &[u8]) -> Option<(&[u8], &[u8])>
     ensures { option_map (λ x. (x.0.now, x.1.now)) result ≡ cut_at len bytes.now }
@@ -59,7 +59,7 @@ pub(crate) fn region(wide: bool, bytes: &[u8]) -> Option<(&[u8], &[u8])>
     cut(len as usize, rest)
 }
 
-/// What stands behind the first value, if its depth is at most `depth`.
+/// The bytes behind the first value, if its depth is at most `depth`.
 #[cycle(walk)]
 #[tactic(auto, unfolding(crate::specs::Walk::value_of))]
 fn value(bytes: &[u8], depth: u8) -> Option<&[u8]>
@@ -76,7 +76,7 @@ fn value(bytes: &[u8], depth: u8) -> Option<&[u8]>
     value(rest, depth - 1)
 }
 
-/// What stands behind the data of one value of this kind.
+/// The bytes behind the data of one value of this kind.
 #[cycle(walk)]
 #[tactic(auto, unfolding(crate::specs::Walk::data_of))]
 fn data(kind: Kind, bytes: &[u8], depth: u8) -> Option<&[u8]>
@@ -104,7 +104,7 @@ fn data(kind: Kind, bytes: &[u8], depth: u8) -> Option<&[u8]>
     }
 }
 
-/// What stands behind a size, a count and what they frame; that fills the size exactly.
+/// The bytes behind a size, a count and what they frame; that fills the size exactly.
 #[cycle(walk)]
 #[tactic(auto, unfolding(crate::specs::Walk::inside))]
 fn compound(kind: Kind, wide: bool, bytes: &[u8], depth: u8) -> Option<&[u8]>
@@ -136,7 +136,7 @@ fn inside(kind: Kind, count: u32, bytes: &[u8], depth: u8) -> Option<&[u8]>
     }
 }
 
-/// What stands behind so many values.
+/// The bytes behind so many values.
 #[cycle(walk)]
 fn values(count: u32, bytes: &[u8], depth: u8) -> Option<&[u8]>
     ensures { option_map (λ r. r.now) result ≡ repeat count (value_of (under depth)) bytes.now }
@@ -148,7 +148,7 @@ fn values(count: u32, bytes: &[u8], depth: u8) -> Option<&[u8]>
     Some(rest)
 }
 
-/// What stands behind the elements of an array: one constructor, and their data.
+/// The bytes behind the elements of an array: one constructor, and their data.
 #[cycle(walk)]
 #[tactic(auto, unfolding(crate::specs::Walk::elements_of))]
 fn elements(count: u32, bytes: &[u8], depth: u8) -> Option<&[u8]>
@@ -166,7 +166,7 @@ fn elements(count: u32, bytes: &[u8], depth: u8) -> Option<&[u8]>
     elements(count, rest, depth - 1)
 }
 
-/// What stands behind the constructor of an array with no elements. Its descriptors stand behind one another, on one level.
+/// The bytes behind the constructor of an array with no elements. Its descriptors stand behind one another, on one level.
 #[cycle(walk)]
 fn constructor(bytes: &[u8], depth: u8) -> Option<&[u8]>
     ensures { option_map (λ r. r.now) result ≡ constructor_of (under depth) (length bytes.now) bytes.now }
@@ -189,7 +189,7 @@ fn constructor(bytes: &[u8], depth: u8) -> Option<&[u8]>
     None
 }
 
-/// What stands behind so many data of one kind. Data of no bytes are looked at once, however many there are.
+/// The bytes behind so many data of one kind. Data of no bytes are looked at once, however many there are.
 #[cycle(walk)]
 fn run(kind: Kind, count: u32, bytes: &[u8], depth: u8) -> Option<&[u8]>
     requires { 0 < count }
@@ -217,7 +217,7 @@ fn may_hold(kind: Kind, depth: u8) -> bool
     }
 }
 
-/// What stands behind the first value, if its depth is at most `depth`. `None` where no front of the bytes is such a
+/// The bytes behind the first value, if its depth is at most `depth`. `None` where no front of the bytes is such a
 /// value.
 #[tactic(auto, unfolding(crate::specs::Walk::value_at))]
 pub(crate) fn value_rest(bytes: &[u8], depth: u8) -> Option<&[u8]>

@@ -3,78 +3,13 @@
 use bytes::Bytes;
 use fe2o3_amqp::definitions::Error as AmqpError;
 use fe2o3_amqp::{
-    Answer, Connection, ConnectionState, ConnectionStateError, Engine, Open, Piece, ReplayRelay,
-    Symbol, err_name, out_line,
+    Answer, ConnectionState, Engine, Open, Piece, ReplayRelay, Symbol, err_name, out_line,
 };
 use std::alloc::{AllocError, Global};
 use std::test::Fail;
 
 /// An engine whose links are relayed as those of transcripts are.
 pub type ReplayEngine = Engine<ReplayRelay>;
-
-/// Every state of a connection.
-pub const STATES: [ConnectionState; 14] = [
-    ConnectionState::Start,
-    ConnectionState::HeaderReceived,
-    ConnectionState::HeaderSent,
-    ConnectionState::HeaderExchange,
-    ConnectionState::OpenPipe,
-    ConnectionState::OpenClosePipe,
-    ConnectionState::OpenReceived,
-    ConnectionState::OpenSent,
-    ConnectionState::ClosePipe,
-    ConnectionState::Opened,
-    ConnectionState::CloseReceived,
-    ConnectionState::CloseSent,
-    ConnectionState::Discarding,
-    ConnectionState::End,
-];
-
-/// The state after, where the table names the state before.
-pub fn after(
-    table: &[(ConnectionState, ConnectionState)],
-    state: ConnectionState,
-) -> Option<ConnectionState> {
-    for row in table {
-        if row.0 == state {
-            return Some(row.1);
-        }
-    }
-    None
-}
-
-/// Whether it is the refusal of a state that does not take a call.
-pub fn is_refused(error: ConnectionStateError) -> bool {
-    error == ConnectionStateError::IllegalState
-}
-
-/// The new state, where it is one.
-pub fn answered(
-    is_right: bool,
-    old: ConnectionState,
-    new: ConnectionState,
-) -> Result<Option<ConnectionState>, Fail> {
-    if !is_right {
-        return Err(Fail::new("another answer"));
-    }
-    Ok(if new == old { None } else { Some(new) })
-}
-
-/// An Open with this name and these limits, and nothing else.
-pub fn plain_open(alloc: Global, name: &str, size: u32, channels: u16) -> Result<Open, Fail> {
-    Ok(Open {
-        container_id: String::from_str(alloc, name)?,
-        hostname: None,
-        max_frame_size: size,
-        channel_max: channels,
-        idle_time_out: None,
-        outgoing_locales: None,
-        incoming_locales: None,
-        offered_capabilities: None,
-        desired_capabilities: None,
-        properties: None,
-    })
-}
 
 /// An Open without a name, with the usual limits, and nothing else.
 pub fn unnamed_open(alloc: Global) -> Open {
@@ -90,16 +25,6 @@ pub fn unnamed_open(alloc: Global) -> Open {
         desired_capabilities: None,
         properties: None,
     }
-}
-
-/// A connection in this state, whose Open has no name.
-pub fn unnamed(alloc: Global, state: ConnectionState) -> Connection {
-    Connection::new(alloc, state, unnamed_open(alloc))
-}
-
-/// A connection in this state, whose Open is named `a`.
-pub fn connection(alloc: Global, state: ConnectionState) -> Result<Connection, Fail> {
-    Ok(Connection::new(alloc, state, plain_open(alloc, "a", 262144, 255)?))
 }
 
 /// An error with this condition, and nothing else.

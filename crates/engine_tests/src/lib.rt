@@ -1,14 +1,9 @@
-//! Tests of a connection, of its engine, and of transcripts.
+//! Tests of an engine that need its types, by public calls alone: single inputs and runs, refused memory, conversions, and a
+//! transcript that another program drives. The rows of a connection and of transcripts are those of the program `engine_rows`.
 #![tactic(auto)]
 
 #[cfg(test)]
 mod asking;
-#[cfg(test)]
-mod channels;
-#[cfg(test)]
-mod closing;
-#[cfg(test)]
-mod cut;
 #[cfg(test)]
 mod driving;
 #[cfg(test)]
@@ -17,20 +12,22 @@ pub mod example;
 #[cfg(test)]
 mod given;
 #[cfg(test)]
-mod opening;
-#[cfg(test)]
 mod relay;
 #[cfg(test)]
 mod replaying;
 #[cfg(test)]
 mod routes;
 #[cfg(test)]
-mod runs;
+mod running;
 #[cfg(test)]
-mod session_transcripts;
+mod runs;
 #[cfg(test)]
 mod sessions;
 #[cfg(test)]
+mod several;
+#[cfg(test)]
 mod steps;
+#[cfg(test)]
+mod stopping;
 #[cfg(test)]
 mod transcripts;

@@ -44,16 +44,6 @@ fn ends_zero(alloc: Global, engine: &mut ReplayEngine) -> bool {
 }
 
 #[test]
-fn the_last_begin_makes_the_route(rt: HostRuntime) {
-    let mut engine = opened(rt.alloc());
-    assert!(rt; maps_both(rt.alloc(), &mut engine));
-    assert_eq!(rt; led(&engine), 1);
-    assert!(rt; state_of(&engine, 0) == Some(SessionState::Mapped));
-    assert!(rt; state_of(&engine, 1) == Some(SessionState::Mapped));
-    drop(engine);
-}
-
-#[test]
 fn an_end_takes_the_route_away(rt: HostRuntime) {
     let mut engine = opened(rt.alloc());
     assert!(rt; ends_zero(rt.alloc(), &mut engine));

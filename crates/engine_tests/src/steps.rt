@@ -2,9 +2,7 @@
 
 use crate::asking::{answer, engine_in, hear, puts_out};
 use crate::given::{connection_state, empty, peer_close, peer_open};
-use bytes::Bytes;
 use fe2o3_amqp::{ConnectionState, ConnectionStopReason, Input};
-use std::alloc::Global;
 
 #[test]
 fn an_open_goes_out(rt: HostRuntime) {
@@ -66,33 +64,4 @@ fn the_reason_of_the_first_close_stays(rt: HostRuntime) {
     let reason = engine.connection().connection_stop_reason();
     assert_eq!(rt; reason, Some(ConnectionStopReason::Closed));
     drop(engine);
-}
-
-/// What a new engine answers these bytes, if its connection does not move.
-fn refusal(alloc: Global, state: ConnectionState, bytes: &'static [u8]) -> &'static str {
-    let mut engine = engine_in(alloc, state);
-    let name = answer(&mut engine, Input::Received(Bytes::from_static(bytes)));
-    let next = connection_state(&engine);
-    drop(engine);
-    if next == state {
-        name
-    } else {
-        "the state moved"
-    }
-}
-
-#[test]
-fn what_is_no_frame_is_refused(rt: HostRuntime) {
-    let rows: [(&'static [u8], &'static str); 6] = [
-        (b"\x02\x01\0\0", "NotImplemented"),
-        (b"\x03\0\0\0\0\0\0\0", "NotImplemented"),
-        (b"\x02\0\0", "DecodeError"),
-        (b"", "DecodeError"),
-        (b"\x02\0\0\0\0\x53\x10\x45", "DecodeError"),
-        (b"\x02\0\0\x07\0\x53\x17\x45", "NotFound"),
-    ];
-    for (bytes, want) in rows {
-        let name = refusal(rt.alloc(), ConnectionState::Opened, bytes);
-        assert_eq!(rt; name, want, "{bytes:?}");
-    }
 }

@@ -7,7 +7,8 @@ use Rattle.amqp_session.specs.Session.{SessionView}
 use Rattle.amqp_session.specs.Step.{StopStep}
 use Rattle.amqp_session.specs.History as session
 use Rattle.amqp_session.specs.Handed.{calls_frames}
-use Rattle.fe2o3_amqp.specs.Sessions.{RecordedEnd, recorded_remote_end, remote_end_reason}
+use Rattle.fe2o3_amqp.specs.Calls.{recorded_remote_end, remote_end_reason}
+use Rattle.fe2o3_amqp.specs.Sessions.{RecordedEnd}
 
 pub recorded_chain : {R : Type 0} (g : Relays R) (v w : SessionView R) (reason : SessionStopReason) (error : Option ErrorSaid) (ends : Bool) →
     reason ≡ remote_end_reason error → RecordedEnd v reason ends w → session.Chain g v (recorded_remote_end ends error) w

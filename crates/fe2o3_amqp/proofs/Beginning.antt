@@ -7,7 +7,7 @@ use Rattle.std.specs.Ordering.{nat_cmp, eq_by_cmp}
 use Rattle.std.specs.FinMap.{same_map, nat_cmp-IsAntisymmetric, get-insert, get-remove}
 use Rattle.std.specs.FinMap as map
 use Rattle.indexmap.specs.IndexMap.{insert_entry}
-use Rattle.fe2o3_amqp.specs.Channels.{Held}
+use Rattle.fe2o3_amqp.specs.Channels.{ChannelTable}
 use Rattle.fe2o3_amqp.specs.Connection.{ConnectionView, DeallocateStep, given_back}
 use Rattle.fe2o3_amqp.proofs.AsMap.{same_test}
 
@@ -31,7 +31,7 @@ appended (e ∷ es) n x none = by (λ h. appended es n x h) (nat_eq n e.0) refl
     by rest false p = ap (λ b. cond b ((e.0, x) ∷ es) (e ∷ insert_entry nat_eq es n x)) p ∙ ap (λ xs. e ∷ xs) (rest (sym (ap (λ b. cond b (Some e.1) (lookup (nat_eq n) es)) p) ∙ none))
 
 -- a channel that was free is free again
-pub free_again : (m : Held) (c n : ℕ) → map.get m c ≡ None → map.remove (map.insert m c n) c ≡ m
+pub free_again : (m : ChannelTable) (c n : ℕ) → map.get m c ≡ None → map.remove (map.insert m c n) c ≡ m
 free_again m c n none = same_map nat_cmp_total nat_cmp-IsAntisymmetric (map.remove (map.insert m c n) c) m
     (λ q. get-remove nat_cmp_total (map.insert m c n) c q ∙ ap (λ o. cond (eq_by_cmp nat_cmp q c) None o) (get-insert nat_cmp_total m c n q) ∙ ap (λ b. cond b None (cond b (Some n) (map.get m q))) (same_test q c) ∙ by q (nat_eq q c) refl)
   where
@@ -40,11 +40,11 @@ free_again m c n none = same_map nat_cmp_total nat_cmp-IsAntisymmetric (map.remo
     by q false p = rw p refl
 
 -- the session of that channel is there
-pub held_now : (m : Held) (c n : ℕ) → map.get (map.insert m c n) c ≡ Some n
+pub held_now : (m : ChannelTable) (c n : ℕ) → map.get (map.insert m c n) c ≡ Some n
 held_now m c n =
     let here : nat_eq c c ≡ true = grind (arith, nat_tests) in
     get-insert nat_cmp_total m c n c ∙ ap (λ b. cond b (Some n) (map.get m c)) (same_test c c ∙ here)
 
-pub given_back_again : (v k w : ConnectionView) (c n : ℕ) (b : Bool) → map.get v.held c ≡ None → k ≡ record v { held = map.insert v.held c n } → DeallocateStep k c b w → w ≡ v
-given_back_again v k w c n true none is d = d.1 ∙ ap (λ (x : ConnectionView). given_back x c) is ∙ ap (λ h. record v { held = h }) (free_again v.held c n none)
-given_back_again v k w c n false none is d = absurd (some_none (sym (ap (λ (x : ConnectionView). map.get x.held c) is ∙ held_now v.held c n) ∙ d.0))
+pub given_back_again : (v k w : ConnectionView) (c n : ℕ) (b : Bool) → map.get v.session_by_outgoing_channel c ≡ None → k ≡ record v { session_by_outgoing_channel = map.insert v.session_by_outgoing_channel c n } → DeallocateStep k c b w → w ≡ v
+given_back_again v k w c n true none is d = d.1 ∙ ap (λ (x : ConnectionView). given_back x c) is ∙ ap (λ h. record v { session_by_outgoing_channel = h }) (free_again v.session_by_outgoing_channel c n none)
+given_back_again v k w c n false none is d = absurd (some_none (sym (ap (λ (x : ConnectionView). map.get x.session_by_outgoing_channel c) is ∙ held_now v.session_by_outgoing_channel c n) ∙ d.0))

@@ -7,7 +7,7 @@ use Rattle.std.specs.Ordering.{nat_cmp}
 use Rattle.std.specs.Map.{lookup}
 use Rattle.std.specs.FinMap as map
 use Rattle.std.specs.BinaryHeap.{IsUpperBound, lt_by_cmp}
-use Rattle.fe2o3_amqp.specs.Channels.{Held, IsLowestFree, mark, occurs, held_at, Channelled}
+use Rattle.fe2o3_amqp.specs.Channels.{ChannelTable, IsLowestFree, mark, occurs, held_at, Channelled}
 use Rattle.fe2o3_amqp.proofs.AsMap.{get_at}
 
 pub tested : (a b : ℕ) → a ≡ b → nat_eq a b ≡ true
@@ -61,7 +61,7 @@ not_below : (c next : ℕ) → next ≤ c → mark (nat_lt c next) ≡ 0
 not_below c next h = grind (arith, nat_tests, common_steps)
 
 -- what was given back first is the lowest free channel
-pub lowest_at : (es : List (ℕ × ℕ)) (hl : ℕ) (items : List ℕ) (fl cap next : ℕ) (m : Held) (x : ℕ) → Channelled es hl items fl cap next → map.from_entries es ≡ m → x < 65536 → 0 < length items → x ≡ slice_index_or items 0 x → IsUpperBound nat_cmp x items → IsLowestFree m (65535 - x)
+pub lowest_at : (es : List (ℕ × ℕ)) (hl : ℕ) (items : List ℕ) (fl cap next : ℕ) (m : ChannelTable) (x : ℕ) → Channelled es hl items fl cap next → map.from_entries es ≡ m → x < 65536 → 0 < length items → x ≡ slice_index_or items 0 x → IsUpperBound nat_cmp x items → IsLowestFree m (65535 - x)
 lowest_at es hl items fl cap next m x inv is small some top all =
     let stands = top_occurs x items some top small in
     let each = inv.each (65535 - x) in
@@ -73,13 +73,13 @@ lowest_at es hl items fl cap next m x inv is small some top all =
     }
 
 -- where none was given back, it is the next one
-pub lowest_next : (es : List (ℕ × ℕ)) (hl : ℕ) (items : List ℕ) (fl cap next : ℕ) (m : Held) → Channelled es hl items fl cap next → map.from_entries es ≡ m → items ≡ [] → IsLowestFree m next
+pub lowest_next : (es : List (ℕ × ℕ)) (hl : ℕ) (items : List ℕ) (fl cap next : ℕ) (m : ChannelTable) → Channelled es hl items fl cap next → map.from_entries es ≡ m → items ≡ [] → IsLowestFree m next
 lowest_next es hl items fl cap next m inv is none = record {
   free = ap (λ n. map.get n next) (sym is) ∙ get_at es next ∙ not_held _ (omega (arith, inv.each next, ap (occurs next) none, not_below next next (omega arith)));
   lowest = λ d lt. subst (λ n. IsSome (map.get n d)) is (subst IsSome (sym (get_at es d)) (is_held _ (omega (arith, inv.each d, ap (occurs d) none, below_is d next lt))));
 }
 
-pub all_held : (m : Held) (c max : ℕ) → IsLowestFree m c → max < c → (d : ℕ) → d ≤ max → IsSome (map.get m d)
+pub all_held : (m : ChannelTable) (c max : ℕ) → IsLowestFree m c → max < c → (d : ℕ) → d ≤ max → IsSome (map.get m d)
 all_held m c max l lt d le = l.lowest d (omega arith)
 
 pub empty : {X : Type 0} → (xs : List X) → length xs ≡ 0 → xs ≡ []

@@ -2,22 +2,23 @@
 use Rattle.std.proofs.Common.{◌≡◌, ◌++◌, ℕ, List, [], ◌∷◌, Some, refl, ap, sym, subst, ◌∙◌, inl, inr, cond, nat_eq, append_assoc, true, arith}
 use Rattle.std.proofs.lemmas.Bool.Decides.{nat_tests}
 use Rattle.amqp_types.specs.declared.states.ConnectionState.{ConnectionState}
-use Rattle.amqp_types.specs.declared.states.SessionState.TheVariants.{Unmapped}
 use Rattle.amqp_types.specs.Open.{OpenSaid}
 use Rattle.amqp_session.specs.declared.frame.SessionFrame.{SessionFrame}
-use Rattle.amqp_session.specs.Settings.{SettingsSaid}
 use Rattle.amqp_session.specs.Relay.{Relays}
 use Rattle.amqp_session.specs.Session.{SessionView}
 use Rattle.amqp_session.specs.Handed.{call_frames, calls_frames, OnChannel}
 use Rattle.amqp_session.specs.History as session
 use Rattle.amqp_frames.specs.declared.frame.Frame.{Frame}
 use Rattle.fe2o3_amqp.specs.Waits.{sent}
+use Rattle.fe2o3_amqp.specs.Connection.{new_connection}
 use Rattle.fe2o3_amqp.specs.EngineView.{EngineView, new_engine}
 use Rattle.fe2o3_amqp.specs.Engine.{Entry}
-use Rattle.fe2o3_amqp.specs.History.{LeadsTo}
-use Rattle.fe2o3_amqp.specs.Headline.{AllOn, OnItsChannel, AllTold}
-use Rattle.fe2o3_amqp.specs.Reach.{is_number, calls_at, of_session, begun}
+use Rattle.fe2o3_amqp.specs.History.{Chain, LeadsTo}
+use Rattle.fe2o3_amqp.specs.Event.{is_number}
+use Rattle.fe2o3_amqp.specs.ByHistory.{calls_at, of_session, begun}
+use Rattle.fe2o3_amqp.specs.Headline.{AllOn, OnItsChannel}
 use Rattle.fe2o3_amqp.proofs.Beginning.{some_none}
+use Rattle.fe2o3_amqp.proofs.Passages.{passage, chain_split}
 use Rattle.fe2o3_amqp.proofs.Projection.{Legal, legal, same_some}
 
 of_both : {R : Type 0} (n : ℕ) (xs ys : List (Entry R)) → of_session n (xs ++ ys) ≡ of_session n xs ++ of_session n ys
@@ -56,16 +57,16 @@ part_on c n before after e r a =
 abbrev pub ChannelsLaw : {R : Type 0} → Relays R → Type 0
 ChannelsLaw g = (m : session.Made) (h : List (session.Entry _)) (v : SessionView _) → session.LeadsTo g m h v → OnChannel m.channel (calls_frames h)
 
-pub on_channel : {R : Type 0} (g : Relays R) → ChannelsLaw g → (made : ConnectionState) (o : OpenSaid) (H : List (Entry R)) (w : EngineView R) → LeadsTo g made o H w → AllTold H → OnItsChannel H
-on_channel g law made o H w l told before after e is n settings channel b r known =
-    let t = told before after e is n r known in
-    subst (λ (fs : List Frame). AllOn channel fs) (sym t.frames) (sent_on channel (calls_frames e.calls) (by (legal g H n (new_engine made o) w l refl)))
+pub on_channel : {R : Type 0} (g : Relays R) → ChannelsLaw g → (made : ConnectionState) (o : OpenSaid) (H : List (Entry R)) (w : EngineView R) → LeadsTo g made o H w → OnItsChannel made H
+on_channel g law made o H w l before after e is n m b r =
+    let x = chain_split g before (e ∷ after) (new_engine made o) w (subst (λ (es : List (Entry _)). Chain g (new_engine made o) es w) is l) in
+    let p = passage g x.2.0 x.2.1 e x.2.3 in
+    subst (λ (fs : List Frame). AllOn m.channel fs) (sym (p.session_frames n r)) (sent_on m.channel (calls_frames e.calls) (by (legal g H n (new_engine made o) w l refl)))
   where
-    by : Legal g n H w → OnChannel channel (calls_frames e.calls)
-    by (inl none) = absurd (some_none (sym b ∙ none.0))
-    by (inr some) =
-        let same = same_some (some.0, some.1) (settings, channel) (begun n H) some.2.begun_is b in
-        let made' : session.Made = record { settings = some.0; channel = some.1; state = Unmapped; stop = some.2.stop } in
-        let all : OnChannel some.1 (calls_frames (of_session n H)) = law made' (of_session n H) some.2.last (some.2.fits, some.2.chain) in
-        let on : OnChannel channel (calls_frames (of_session n H)) = subst (λ (x : SettingsSaid × ℕ). OnChannel x.1 (calls_frames (of_session n H))) same all in
-        part_on channel n before after e r (subst (λ (es : List (Entry _)). OnChannel channel (calls_frames (of_session n es))) is on)
+    by : Legal g n (new_connection made o) H w → OnChannel m.channel (calls_frames e.calls)
+    by (inl a) = absurd (some_none (sym b ∙ a.unbegun))
+    by (inr p) =
+        let same = same_some p.made m (begun made n H) p.begun_is b in
+        let all : OnChannel p.made.channel (calls_frames (of_session n H)) = law p.made (of_session n H) p.last p.legal in
+        let on : OnChannel m.channel (calls_frames (of_session n H)) = subst (λ (x : session.Made). OnChannel x.channel (calls_frames (of_session n H))) same all in
+        part_on m.channel n before after e r (subst (λ (es : List (Entry _)). OnChannel m.channel (calls_frames (of_session n es))) is on)

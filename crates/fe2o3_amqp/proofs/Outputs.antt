@@ -8,7 +8,9 @@ use Rattle.fe2o3_amqp.specs.Waits.{FirstIs}
 use Rattle.fe2o3_amqp.specs.EngineView.{EngineView}
 use Rattle.fe2o3_amqp.specs.Engine.{Entry}
 use Rattle.fe2o3_amqp.specs.History.{Taken}
-use Rattle.fe2o3_amqp.specs.Output.{FirstFits, IsOut, IsOuts, PutOut, Speaks, NextAnswer, answer_of, limit_by, limit_after}
+use Rattle.fe2o3_amqp.specs.Event.{event}
+use Rattle.fe2o3_amqp.specs.ByHistory.{limit_by, limit_after}
+use Rattle.fe2o3_amqp.specs.Output.{FirstFits, IsOut, IsOuts, PutOut, Speaks, NextAnswer, answer_of}
 
 pub outs_more : (limit : ℕ) (fs : List Frame) (f : Frame) (outs : List Answer) (a : Answer) → IsOuts limit fs outs → IsOut limit f a → IsOuts limit (fs ++ f ∷ []) (outs ++ a ∷ [])
 outs_more limit [] f outs a h o = (a, [], ap (λ (xs : List Answer). xs ++ a ∷ []) h, o, refl)
@@ -67,16 +69,16 @@ whole : (limit : ℕ) (waiting : List Frame) (out : List Answer) → PutOut limi
 whole limit waiting out p = subst (λ (fs : List Frame). IsOuts limit fs out) (sym (p.left ∙ append-nil p.gone)) p.answers
 
 pub speaks_more : {R : Type 0} (limit : ℕ) (waiting : List Frame) (es : List (Entry R)) (out : List Answer) (e : Entry R) (waiting' : List Frame) (out' : List Answer) →
-    Speaks limit waiting es [] out → PutOut (limit_by (limit_after limit es) e) e.frames waiting' out' → Speaks limit waiting (es ++ e ∷ []) waiting' (out ++ answer_of e.refusal ∷ out')
+    Speaks limit waiting es [] out → PutOut (limit_by (limit_after limit es) (event e)) e.frames waiting' out' → Speaks limit waiting (es ++ e ∷ []) waiting' (out ++ answer_of e.refusal ∷ out')
 speaks_more limit waiting [] out e waiting' out' s p = (out, out', refl, whole limit waiting out s, p)
 speaks_more limit waiting (x ∷ es) out e waiting' out' s p = (
   s.0,
   s.1 ++ answer_of e.refusal ∷ out',
   ap (λ (xs : List Answer). xs ++ answer_of e.refusal ∷ out') s.2 ∙ append_assoc s.0 (answer_of x.refusal ∷ s.1) (answer_of e.refusal ∷ out'),
   s.3,
-  speaks_more (limit_by limit x) x.frames es s.1 e waiting' out' s.4 p,
+  speaks_more (limit_by limit (event x)) x.frames es s.1 e waiting' out' s.4 p,
 )
 
-pub limit_more : {R : Type 0} (limit : ℕ) (es : List (Entry R)) (e : Entry R) → limit_after limit (es ++ e ∷ []) ≡ limit_by (limit_after limit es) e
+pub limit_more : {R : Type 0} (limit : ℕ) (es : List (Entry R)) (e : Entry R) → limit_after limit (es ++ e ∷ []) ≡ limit_by (limit_after limit es) (event e)
 limit_more limit [] e = refl
-limit_more limit (x ∷ es) e = limit_more (limit_by limit x) es e
+limit_more limit (x ∷ es) e = limit_more (limit_by limit (event x)) es e

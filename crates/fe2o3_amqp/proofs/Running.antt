@@ -1,6 +1,7 @@
 -- What has been run so far, and what is said of it at the end.
-use Rattle.std.proofs.Common.{◌≡◌, ◌+◌, List, [], ◌∷◌, ◌++◌, length, refl, ap, sym, subst, ◌∙◌, arith, append_assoc, length-append, Option, Result, MatchResult}
+use Rattle.std.proofs.Common.{◌≡◌, ◌+◌, List, All, [], ◌∷◌, ◌++◌, length, refl, ap, sym, subst, ◌∙◌, arith, append_assoc, length-append, Option, Result, MatchResult}
 use Rattle.std.proofs.lemmas.Result.{MatchResult-weaker}
+use Rattle.std.proofs.lemmas.List.Elements.{All-nil, All-push}
 use Rattle.amqp_types.specs.declared.states.ConnectionState.{ConnectionState}
 use Rattle.amqp_types.specs.Open.{OpenSaid}
 use Rattle.amqp_frames.specs.declared.frame.Frame.{Frame}
@@ -12,10 +13,12 @@ use Rattle.amqp_session.specs.Relay.{Relays}
 use Rattle.fe2o3_amqp.specs.EngineView.{EngineView, new_engine}
 use Rattle.fe2o3_amqp.specs.Engine.{Entry, Steps}
 use Rattle.fe2o3_amqp.specs.History.{Taken, Chain, LeadsTo}
-use Rattle.fe2o3_amqp.specs.Output.{PutOut, Speaks, answer_of, limit_by, limit_after}
-use Rattle.fe2o3_amqp.specs.Headline.{Headline, inputs_of, Ran}
+use Rattle.fe2o3_amqp.specs.Event.{event}
+use Rattle.fe2o3_amqp.specs.ByHistory.{limit_by, limit_after}
+use Rattle.fe2o3_amqp.specs.Output.{PutOut, Speaks, answer_of}
+use Rattle.fe2o3_amqp.specs.Headline.{Headline, Stands, IsTaken, inputs_of, Ran}
 use Rattle.fe2o3_amqp.proofs.Outputs.{speaks_more, limit_more}
-use Rattle.fe2o3_amqp.proofs.Limits.{carried, step_limit}
+use Rattle.fe2o3_amqp.proofs.Passages.{passage, taken}
 
 pub empty : {X : Type 0} → (xs : List X) → length xs ≡ 0 → xs ≡ []
 empty [] e = refl
@@ -50,6 +53,7 @@ pub record Running {R : Type 0} (gives : Relays R) (v : EngineView R) (inputs : 
   pub entries : List (Entry R)
   pub taken : inputs ≡ inputs_of entries ++ inputs'
   pub counted : length inputs ≡ length entries + length inputs'
+  pub all_taken : All IsTaken entries
   pub chain : Chain gives v entries v'
   pub limit_is : v'.limit ≡ limit_after v.limit entries
   pub out : List Answer
@@ -61,6 +65,7 @@ Running-start gives v v' inputs answers answers' out t a p = record {
   entries = [];
   taken = refl;
   counted = omega arith;
+  all_taken = All-nil IsTaken;
   chain = t;
   limit_is = t.limit_is;
   out = out;
@@ -74,16 +79,18 @@ pub Running-more : {R : Type 0} (gives : Relays R) (v v1 v2 v3 : EngineView R) (
     Taken v2 v3 → answers3 ≡ answers2 ++ out → PutOut v2.limit v2.waiting v3.waiting out →
     Running gives v inputs answers v3 inputs2 answers3
 Running-more gives v v1 v2 v3 inputs inputs1 inputs2 answers answers1 answers2 answers3 out input r g idle popped step pushed t appended put =
-    let e : Entry _ = record { input = input; heard = step.0; reached = step.1; calls = step.2; refusal = r; frames = step.3 } in
-    let frames : e.frames ≡ v2.waiting = (carried gives v1 v2 e idle step.4).1 in
-    let limit2 : v2.limit ≡ limit_by (limit_after v.limit g.entries) e = step_limit gives v1 v2 e idle step.4 ∙ ap (λ k. limit_by k e) g.limit_is in
-    let put2 : PutOut (limit_by (limit_after v.limit g.entries) e) e.frames v3.waiting out =
+    let e : Entry _ = record { input = input; received = step.0; reached = step.1; calls = step.2; refusal = r; frames = step.3 } in
+    let now = taken gives v1 v2 e idle step.4 in
+    let frames : e.frames ≡ v2.waiting = now.1 in
+    let limit2 : v2.limit ≡ limit_by (limit_after v.limit g.entries) (event e) = (passage gives v1 v2 e step.4).limit_is ∙ ap (λ k. limit_by k (event e)) g.limit_is in
+    let put2 : PutOut (limit_by (limit_after v.limit g.entries) (event e)) e.frames v3.waiting out =
     subst (λ k. PutOut k e.frames v3.waiting out) limit2 (subst (λ (fs : List Frame). PutOut v2.limit fs v3.waiting out) (sym frames) put) in
     let before : Speaks v.limit v.waiting g.entries [] g.out = subst (λ (fs : List Frame). Speaks v.limit v.waiting g.entries fs g.out) idle g.said in
     record {
       entries = g.entries ++ e ∷ [];
       taken = g.taken ∙ ap (λ (xs : List Input). inputs_of g.entries ++ xs) popped ∙ sym (append_assoc (inputs_of g.entries) (input ∷ []) inputs2) ∙ ap (λ (xs : List Input). xs ++ inputs2) (sym (inputs_of-append g.entries (e ∷ [])));
       counted = omega (arith, g.counted, length-append g.entries (e ∷ []), ap length popped);
+      all_taken = All-push IsTaken g.entries e g.all_taken now.0;
       chain = Chain-append gives g.entries (e ∷ []) v v1 v3 g.chain (v1, v2, Taken-none v1, step.4, t);
       limit_is = t.limit_is ∙ limit2 ∙ sym (limit_more v.limit g.entries e);
       out = g.out ++ answer_of r ∷ out;
@@ -93,17 +100,22 @@ Running-more gives v v1 v2 v3 inputs inputs1 inputs2 answers answers1 answers2 a
     }
 
 abbrev pub HeadlineLaw : {R : Type 0} → Relays R → Type 0
-HeadlineLaw gives = (state : ConnectionState) (o : OpenSaid) (H : List (Entry _)) (w : EngineView _) → LeadsTo gives state o H w → Headline state H
+HeadlineLaw gives = (state : ConnectionState) (o : OpenSaid) (H : List (Entry _)) (w : EngineView _) → LeadsTo gives state o H w → Headline state o H
 
-pub Running-Ran : {R : Type 0} (gives : Relays R) (v v' : EngineView R) (inputs inputs' : List Input) (answers answers' : List Answer) (result : Result (Unit {0}) Stopped) → HeadlineLaw gives →
+abbrev pub StandsLaw : {R : Type 0} → Relays R → Type 0
+StandsLaw gives = (state : ConnectionState) (o : OpenSaid) (H : List (Entry _)) (w : EngineView _) → LeadsTo gives state o H w → Stands state o H w
+
+pub Running-Ran : {R : Type 0} (gives : Relays R) (v v' : EngineView R) (inputs inputs' : List Input) (answers answers' : List Answer) (result : Result (Unit {0}) Stopped) → HeadlineLaw gives → StandsLaw gives →
     (g : Running gives v inputs answers v' inputs' answers') → MatchResult result (λ _. (inputs' ≡ []) × (v'.waiting ≡ [])) (λ stopped. stopped.done + length inputs' ≡ length inputs) → Ran gives v inputs answers result v' inputs' answers'
-Running-Ran gives v v' inputs inputs' answers answers' result law g m = record {
+Running-Ran gives v v' inputs inputs' answers answers' result law views g m = record {
   entries = g.entries;
   runs = record {
     taken = g.taken;
+    all_taken = g.all_taken;
+    steps = g.chain;
     goes_on = λ state o H l.
         let all : LeadsTo gives state o (H ++ g.entries) v' = Chain-append gives H g.entries (new_engine state o) v v' l g.chain in
-        (all, law state o (H ++ g.entries) v' all);
+        (all, law state o (H ++ g.entries) v' all, views state o (H ++ g.entries) v' all);
     out = g.out;
     appended = g.appended;
     said = g.said;

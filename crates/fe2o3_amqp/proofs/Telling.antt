@@ -1,121 +1,129 @@
--- What an entry that reached a session says, its calls say.
-use Rattle.std.proofs.Common.{◌≡◌, ◌⊎◌, ℕ, List, ◌∷◌, Option, Some, None, Result, refl, ap, sym, subst, ◌∙◌, inl, inr}
+-- An entry's calls are what its input asks of the session in its state, and its frames are theirs.
+use Rattle.std.proofs.Common.{◌≡◌, ◌⊎◌, ◌++◌, ℕ, List, [], ◌∷◌, Option, Some, None, refl, ap, sym, subst, ◌∙◌, inl, inr, nat_eq}
+use Rattle.std.specs.Map.{lookup}
 use Rattle.amqp_types.specs.declared.states.ConnectionState.{ConnectionState}
+use Rattle.amqp_types.specs.declared.states.SessionState.{SessionState}
+use Rattle.amqp_types.specs.declared.states.SessionState.TheVariants.{Unmapped}
 use Rattle.amqp_types.specs.Open.{OpenSaid}
-use Rattle.amqp_session.specs.declared.error.SessionStateError.TheVariants as unbegun
-use Rattle.amqp_session.specs.Settings.{SettingsSaid}
 use Rattle.amqp_session.specs.Relay.{Relays}
+use Rattle.amqp_session.specs.Session.{SessionView}
+use Rattle.amqp_session.specs.Handed.{calls_frames}
 use Rattle.amqp_session.specs.History as session
+use Rattle.amqp_session.specs.Headline as single
 use Rattle.amqp_frames.specs.declared.frame.Frame.{Frame}
 use Rattle.amqp_frames.specs.declared.frame.FrameBody.{FrameBody}
-use Rattle.amqp_frames.specs.declared.frame.FrameBody.TheVariants as body
-use Rattle.fe2o3_amqp.specs.declared.numbers.SessionNo.{SessionNo}
-use Rattle.fe2o3_amqp.specs.declared.connection.error.ConnectionInnerError.{ConnectionInnerError}
 use Rattle.fe2o3_amqp.specs.declared.engine.input.Input.{Input}
 use Rattle.fe2o3_amqp.specs.declared.engine.input.Input.TheVariants as input
 use Rattle.fe2o3_amqp.specs.declared.engine.input.StepError.{StepError}
 use Rattle.fe2o3_amqp.specs.declared.engine.input.StepError.TheVariants as no
-use Rattle.fe2o3_amqp.specs.Connection.{ConnectionView, BeginRouteStep, EndRouteStep, RouteStep}
+use Rattle.fe2o3_amqp.specs.Connection.{ConnectionView, new_connection}
 use Rattle.fe2o3_amqp.specs.EngineView.{EngineView, new_engine}
-use Rattle.fe2o3_amqp.specs.Sessions.{Calls, Called, Unknown, Does, Reaches, BeginRequest, ReleaseRequest}
-use Rattle.fe2o3_amqp.specs.Engine.{Entry, Step, Carries, Received, Heard}
+use Rattle.fe2o3_amqp.specs.Waits.{sent}
+use Rattle.fe2o3_amqp.specs.Engine.{Entry}
+use Rattle.fe2o3_amqp.specs.Event.{Quiet, event, event_by, received_event}
 use Rattle.fe2o3_amqp.specs.History.{Chain, LeadsTo}
-use Rattle.fe2o3_amqp.specs.Headline.{Told, AllTold, asked_calls, heard_calls}
+use Rattle.fe2o3_amqp.specs.ByHistory.{of_session, session_state}
+use Rattle.fe2o3_amqp.specs.Headline.{Asked, AllAsked, FramesAre, RanShort, asked_calls, own_frames}
 use Rattle.fe2o3_amqp.proofs.Beginning.{some_none}
-use Rattle.fe2o3_amqp.proofs.Routing.{Chain-split}
+use Rattle.fe2o3_amqp.proofs.Deeds.{IsPlain, Effect, Stays, Changes}
+use Rattle.fe2o3_amqp.proofs.Passages.{Passage, passage, chain_split, open_law}
+use Rattle.fe2o3_amqp.proofs.Projection.{Legal, legal, same_some}
 
--- where a session was reached, and is there
-abbrev IsReached : {R : Type 0} → Entry R → Type 0
-IsReached e = ((n : ℕ) × (e.reached ≡ Some n)) × ¬ (e.refusal ≡ Some no.NoSession)
+abbrev pub ViewsLaw : {R : Type 0} → Relays R → Type 0
+ViewsLaw g = (m : session.Made) (h : List (session.Entry _)) (v : SessionView _) → session.LeadsTo g m h v → single.Stands m h v
 
-untouched : {R : Type 0} (e : Entry R) → IsReached e → e.reached ≡ None → Told e
-untouched e r u = absurd (some_none (sym r.0.1 ∙ u))
+same_value : (a b : ℕ) → Some a ≡ Some b → a ≡ b
+same_value a b e = cc
 
--- these calls were asked for, and their frames are handed out
-told : {R : Type 0} (g : Relays R) (v w : EngineView R) (n : ℕ) (asks : Calls R) (e : Entry R) → asked_calls e.input e.heard ≡ asks → e.frames ≡ w.waiting → IsReached e → Does g v n asks e.reached e.calls e.refusal w → Told e
-told g v w n asks e same frames r s = by s.1
+-- the state of a session that is there is what the history says
+there_state : {R : Type 0} (g : Relays R) → ViewsLaw g → (n : ℕ) (k : ConnectionView) (before : List (Entry R)) (m : EngineView R) (s : SessionView R) → Legal g n k before m → lookup (nat_eq n) m.sessions ≡ Some s → s.state ≡ session_state n before
+there_state g law n k before m s (inl a) there = absurd (some_none (sym there ∙ a.unknown))
+there_state g law n k before m s (inr p) there =
+    let same : p.last ≡ s = same_some p.last s (lookup (nat_eq n) m.sessions) p.there there in
+    sym (ap (λ (x : SessionView _). x.state) same) ∙ (law p.made (of_session n before) p.last p.legal).state_is ∙ ap (λ x. single.state_from x (of_session n before)) p.unmapped
+
+-- that of one that is not there is the first one
+absent_state : {R : Type 0} (g : Relays R) (n : ℕ) (k : ConnectionView) (before : List (Entry R)) (m : EngineView R) → Legal g n k before m → lookup (nat_eq n) m.sessions ≡ None → Unmapped ≡ session_state n before
+absent_state g n k before m (inl a) none = sym (ap (λ (cs : List (session.Entry _)). single.state_from Unmapped cs) a.no_calls)
+absent_state g n k before m (inr p) none = absurd (some_none (sym p.there ∙ none))
+
+abbrev Is : {R : Type 0} → Entry R → SessionState → Type 0
+Is e s = asked_calls e.input e.received s e.calls e.refusal
+
+none_asked : {R : Type 0} (before : List (Entry R)) (e : Entry R) (o : Option ℕ) → e.reached ≡ o → e.calls ≡ [] → ((e.reached ≡ None) ⊎ (e.refusal ≡ Some no.NoSession)) → Asked before o e
+none_asked before e None is none why = none
+none_asked before e (Some n) is none why = λ known. by known why
   where
-    by : Called g v n asks e.calls e.refusal w ⊎ Unknown v n e.calls e.refusal w → Told e
-    by (inl c) = record {
-      stood = c.before;
-      asked = subst (λ (a : Calls _). a c.before e.calls e.refusal) (sym same) c.asked;
-      frames = frames ∙ ap (λ (x : EngineView _). x.waiting) c.put;
-    }
-    by (inr u) = absurd (r.1 u.refused)
+    by : ¬ (e.refusal ≡ Some no.NoSession) → (e.reached ≡ None) ⊎ (e.refusal ≡ Some no.NoSession) → asked_calls e.input e.received (session_state n before) e.calls e.refusal
+    by known (inl r) = absurd (some_none (sym is ∙ r))
+    by known (inr r) = absurd (known r)
 
-reaches : {R : Type 0} (g : Relays R) (finds : Result ℕ ConnectionInnerError → ConnectionView → Type 0) (v w : EngineView R) (asks : Calls R) (e : Entry R) → asked_calls e.input e.heard ≡ asks → e.frames ≡ w.waiting → IsReached e → Reaches g finds v asks e.reached e.calls e.refusal w → Told e
-reaches g finds v w asks e same frames r (inl s) = untouched e r s.3
-reaches g finds v w asks e same frames r (inr s) = told g (record v { connection = s.1 }) w s.0 asks e same frames r s.3
+some_asked : {R : Type 0} (before : List (Entry R)) (e : Entry R) (n : ℕ) (o : Option ℕ) → e.reached ≡ o → e.reached ≡ Some n → Is e (session_state n before) → Asked before o e
+some_asked before e n None is r a = absurd (some_none (sym r ∙ is))
+some_asked before e n (Some k) is r a = λ known. subst (λ x. Is e (session_state x before)) (same_value n k (sym r ∙ is)) a
 
-heard : {R : Type 0} (g : Relays R) (v w : EngineView R) (bytes : List ℕ) (f : Frame) (b : FrameBody) (e : Entry R) → ◌≡◌ {A = Calls R} (asked_calls e.input e.heard) (heard_calls f.channel b) → e.frames ≡ w.waiting → IsReached e → Heard g v f.channel b e.reached e.calls e.refusal w → Told e
-heard g v w bytes f body.Empty e same frames r s = untouched e r s.0.0
-heard g v w bytes f (body.Open o) e same frames r s = untouched e r s.0.0
-heard g v w bytes f (body.Close p) e same frames r s = untouched e r s.0.0
-heard g v w bytes f (body.Begin p) e same frames r s = reaches g (BeginRouteStep v.connection f.channel p.remote_channel) v w _ e same frames r s
-heard g v w bytes f (body.End p) e same frames r s = reaches g (EndRouteStep v.connection f.channel) v w _ e same frames r s
-heard g v w bytes f (body.Flow p) e same frames r s = reaches g (RouteStep v.connection f.channel) v w _ e same frames r s
-heard g v w bytes f (body.Transfer p payload) e same frames r s = reaches g (RouteStep v.connection f.channel) v w _ e same frames r s
-heard g v w bytes f (body.Attach p) e same frames r s = untouched e r s.0.0
-heard g v w bytes f (body.Disposition p) e same frames r s = untouched e r s.0.0
-heard g v w bytes f (body.Detach p) e same frames r s = untouched e r s.0.0
+pub all_asked : {R : Type 0} (g : Relays R) → ViewsLaw g → (made : ConnectionState) (o : OpenSaid) (H : List (Entry R)) (w : EngineView R) → LeadsTo g made o H w → AllAsked H
+all_asked g law made o H w l before after e is =
+    let r = chain_split g before (e ∷ after) (new_engine made o) w (subst (λ (es : List (Entry _)). Chain g (new_engine made o) es w) is l) in
+    by r.0 r.2.0 r.2.1 (λ n. legal g before n (new_engine made o) r.0 r.1 refl) (λ n. ap (lookup (nat_eq n)) r.2.2.sessions_is) (passage g r.2.0 r.2.1 e r.2.3).effect
+  where
+    by : (m u t : EngineView _) → ((n : ℕ) → Legal g n (new_connection made o) before m) → ((n : ℕ) → lookup (nat_eq n) u.sessions ≡ lookup (nat_eq n) m.sessions) → Effect g u e t → Asked before e.reached e
+    by m u t legal same (inl x) = stay x.1
+      where
+        stay : Stays u e t ⊎ Changes g u e t → Asked before e.reached e
+        stay (inl y) = none_asked before e e.reached refl y.no_calls y.none_reached
+        stay (inr y) = some_asked before e y.number e.reached refl y.reached_is
+            (subst (Is e) (there_state g law y.number (new_connection made o) before m y.before (legal y.number) (sym (same y.number) ∙ y.known)) y.asked)
+    by m u t legal same (inr x) = some_asked before e x.number e.reached refl x.reached_is
+        (subst (Is e) (absent_state g x.number (new_connection made o) before m (legal x.number) (sym (same x.number) ∙ x.absent)) x.asked)
 
-received : {R : Type 0} (g : Relays R) (v w : EngineView R) (bytes : List ℕ) (e : Entry R) → e.input ≡ input.Received bytes → e.frames ≡ w.waiting → IsReached e → Received g v bytes e.heard e.reached e.calls e.refusal w → Told e
-received g v w bytes e is frames r (inl s) = untouched e r s.3.0
-received g v w bytes e is frames r (inr s) = heard g v w bytes s.0 s.0.body e (ap (λ i. asked_calls i e.heard) is ∙ ap (λ h. asked_calls (input.Received bytes) h) s.3) frames r s.4
+pub frames_are : {R : Type 0} (g : Relays R) (made : ConnectionState) (o : OpenSaid) (H : List (Entry R)) (w : EngineView R) → LeadsTo g made o H w → FramesAre o H
+frames_are g made o H w l before after e is =
+    let r = chain_split g before (e ∷ after) (new_engine made o) w (subst (λ (es : List (Entry _)). Chain g (new_engine made o) es w) is l) in
+    let own : r.2.0.connection.local_open ≡ o = ap (λ (k : ConnectionView). k.local_open) r.2.2.connection_is ∙ open_law g before (new_engine made o) r.0 r.1 in
+    (passage g r.2.0 r.2.1 e r.2.3).frames_are ∙ ap (λ x. own_frames x (event e) ++ sent (calls_frames e.calls)) own
 
--- a Begin that goes out
-begins : {R : Type 0} (g : Relays R) (v w : EngineView R) (k : SessionNo) (settings : SettingsSaid) (h : Option Frame) (reached : Option ℕ) (calls : List (session.Entry R)) (refusal : Option StepError) (frames : List Frame) →
-    frames ≡ w.waiting → (n : ℕ) → reached ≡ Some n → BeginRequest g v k.0 settings reached calls refusal w → Told (record { input = input.Begin k settings; heard = h; reached = reached; calls = calls; refusal = refusal; frames = frames })
-begins g v w k settings h reached calls None frames fe n r s = record {
-  stood = s.1.after;
-  asked = (s.1.frame, s.1.sends, refl);
-  frames = fe ∙ ap (λ (x : EngineView _). x.waiting) s.1.put;
-}
-begins g v w k settings h reached calls (Some no.SessionInUse) frames fe n r s = absurd (some_none (sym r ∙ s.0.0))
-begins g v w k settings h reached calls (Some (no.AllocSession e)) frames fe n r s = absurd (some_none (sym r ∙ s.0.0))
-begins g v w k settings h reached calls (Some (no.SessionState unbegun.OutOfMemory)) frames fe n r s = absurd (some_none (sym r ∙ s.0.0))
-begins g v w k settings h reached calls (Some (no.SessionState unbegun.IllegalState)) frames fe n r s = absurd s
-begins g v w k settings h reached calls (Some (no.SessionState (unbegun.ConnectionStopped e))) frames fe n r s = absurd s
-begins g v w k settings h reached calls (Some (no.SessionState unbegun.RemoteEnded)) frames fe n r s = absurd s
-begins g v w k settings h reached calls (Some (no.SessionState (unbegun.RemoteEndedWithError e))) frames fe n r s = absurd s
-begins g v w k settings h reached calls (Some no.OutOfMemory) frames fe n r s = absurd (some_none (sym r ∙ s.0.0))
-begins g v w k settings h reached calls (Some no.OutputWaiting) frames fe n r s = absurd s
-begins g v w k settings h reached calls (Some (no.Frame e)) frames fe n r s = absurd s
-begins g v w k settings h reached calls (Some (no.ConnectionState e)) frames fe n r s = absurd s
-begins g v w k settings h reached calls (Some (no.Connection e)) frames fe n r s = absurd s
-begins g v w k settings h reached calls (Some (no.Session e)) frames fe n r s = absurd s
-begins g v w k settings h reached calls (Some no.NoSession) frames fe n r s = absurd s
+-- ---- where memory was refused before
 
-released : {R : Type 0} (v w : EngineView R) (n : ℕ) (reached : Option ℕ) (calls : List (session.Entry R)) (r : Option StepError) → ReleaseRequest v n reached calls r w → reached ≡ None
-released v w n reached calls None s = s.0.0
-released v w n reached calls (Some no.NoSession) s = s.0.0
-released v w n reached calls (Some (no.Connection e)) s = s.0.0
-released v w n reached calls (Some no.OutputWaiting) s = absurd s
-released v w n reached calls (Some (no.Frame e)) s = absurd s
-released v w n reached calls (Some (no.ConnectionState e)) s = absurd s
-released v w n reached calls (Some (no.AllocSession e)) s = absurd s
-released v w n reached calls (Some (no.SessionState e)) s = absurd s
-released v w n reached calls (Some (no.Session e)) s = absurd s
-released v w n reached calls (Some no.SessionInUse) s = absurd s
-released v w n reached calls (Some no.OutOfMemory) s = absurd s
+short_frame : (c : ℕ) (b : FrameBody) (reached : Option ℕ) → received_event c b reached (Some no.OutOfMemory) ≡ Quiet
+short_frame c b reached = refl
 
-carries : {R : Type 0} (g : Relays R) (v w : EngineView R) (i : Input) (h : Option Frame) (reached : Option ℕ) (calls : List (session.Entry R)) (refusal : Option StepError) (frames : List Frame) →
-    (let e : Entry R = record { input = i; heard = h; reached = reached; calls = calls; refusal = refusal; frames = frames } in frames ≡ w.waiting → IsReached e → Carries g v i h reached calls refusal w → Told e)
-carries g v w (input.Received bytes) h reached calls refusal frames fe r s = received g v w bytes _ refl fe r s
-carries g v w input.Open h reached calls refusal frames fe r s = untouched _ r s.1.0
-carries g v w (input.Close error) h reached calls refusal frames fe r s = untouched _ r s.1.0
-carries g v w (input.Begin k settings) h reached calls refusal frames fe r s = begins g v w k settings h reached calls refusal frames fe r.0.0 r.0.1 s.1
-carries g v w (input.End k error) h reached calls refusal frames fe r s = told g v w k.0 _ _ refl fe r s.1
-carries g v w (input.Flow k l) h reached calls refusal frames fe r s = told g v w k.0 _ _ refl fe r s.1
-carries g v w (input.Transfer k i t payload first) h reached calls refusal frames fe r s = told g v w k.0 _ _ refl fe r s.1
-carries g v w (input.Release k) h reached calls refusal frames fe r s = untouched _ r (released v w k.0 reached calls refusal s.1)
-carries g v w (input.Stop k reason) h reached calls refusal frames fe r s = told g v w k.0 _ _ refl fe r s.1
+short_event : (i : Input) (received : Option Frame) (reached : Option ℕ) (frames : List Frame) → event_by i received reached (Some no.OutOfMemory) frames ≡ Quiet
+short_event (input.Received bytes) (Some f) reached frames = short_frame f.channel f.body reached
+short_event (input.Received bytes) None reached frames = refl
+short_event i received reached frames = refl
 
-step_told : {R : Type 0} (g : Relays R) (v w : EngineView R) (e : Entry R) → IsReached e → Step g v e w → Told e
-step_told g v w e r (inl s) = untouched e r s.3.0
-step_told g v w e r (inr s) = carries g v w e.input e.heard e.reached e.calls e.refusal e.frames s.1 r s.2
+plain_not_short : (r : Option StepError) → IsPlain r → ¬ (r ≡ Some no.OutOfMemory)
+plain_not_short None p x = cc
+plain_not_short (Some (no.SessionState y)) p x = cc
+plain_not_short (Some (no.Session y)) p x = cc
+plain_not_short (Some y) p x = absurd p
 
-pub all_told : {R : Type 0} (g : Relays R) (made : ConnectionState) (o : OpenSaid) (H : List (Entry R)) (w : EngineView R) → LeadsTo g made o H w → AllTold H
-all_told g made o H w l before after e is n reached known =
-    let r = Chain-split g before (e ∷ after) (new_engine made o) w (subst (λ (es : List (Entry _)). Chain g (new_engine made o) es w) is l) in
-    step_told g r.2.0 r.2.1 e ((n, reached), known) r.2.3
+pub ran_short : {R : Type 0} (g : Relays R) (made : ConnectionState) (o : OpenSaid) (H : List (Entry R)) (w : EngineView R) → LeadsTo g made o H w → RanShort H
+ran_short g made o H w l before after e is short =
+    let r = chain_split g before (e ∷ after) (new_engine made o) w (subst (λ (es : List (Entry _)). Chain g (new_engine made o) es w) is l) in
+    by r.2.0 r.2.1 (passage g r.2.0 r.2.1 e r.2.3)
+  where
+    quiet : event e ≡ Quiet
+    quiet = ap (λ x. event_by e.input e.received e.reached x e.frames) short ∙ short_event e.input e.received e.reached e.frames
+
+    none : (u t : EngineView _) → Passage g u e t → e.calls ≡ [] → e.frames ≡ []
+    none u t p c = p.frames_are ∙ ap (λ x. own_frames u.connection.local_open x ++ sent (calls_frames e.calls)) quiet ∙ ap (λ (cs : List (session.Entry _)). sent (calls_frames cs)) c
+
+    by : (u t : EngineView _) → Passage g u e t → (e.reached ≡ None) × (e.frames ≡ [])
+    by u t p = effects p.effect
+      where
+        unreached : (e.reached ≡ None) ⊎ (e.refusal ≡ Some no.NoSession) → e.reached ≡ None
+        unreached (inl x) = x
+        unreached (inr x) = absurd (apart (sym x ∙ short))
+          where
+            apart : ¬ (Some no.NoSession ≡ Some no.OutOfMemory)
+            apart y = cc
+
+        stay : Stays u e t ⊎ Changes g u e t → (e.reached ≡ None) × (e.frames ≡ [])
+        stay (inl y) = (unreached y.none_reached, none u t p y.no_calls)
+        stay (inr y) = absurd (plain_not_short e.refusal y.plain short)
+
+        effects : Effect g u e t → (e.reached ≡ None) × (e.frames ≡ [])
+        effects (inl x) = stay x.1
+        effects (inr x) = absurd (some_none (sym short ∙ x.accepted))

@@ -8,17 +8,17 @@ use Rattle.std.specs.BinaryHeap.{IsHeap}
 use Rattle.fe2o3_amqp.specs.declared.connection.channels.AllotError.{AllotError}
 use Rattle.fe2o3_amqp.specs.declared.connection.channels.AllotError.TheVariants.{Full, OutOfMemory}
 
-abbrev pub Held : Type 0
-Held = map.FinMap nat_cmp ℕ
+abbrev pub ChannelTable : Type 0
+ChannelTable = map.FinMap nat_cmp ℕ
 
-abbrev pub held_code : Coded Held
-held_code = map.code coded_ℕ coded_ℕ
+abbrev pub channel_table_code : Coded ChannelTable
+channel_table_code = map.code coded_ℕ coded_ℕ
 
-pub record IsLowestFree (m : Held) (channel : ℕ) : Type 0 where
+pub record IsLowestFree (m : ChannelTable) (channel : ℕ) : Type 0 where
   pub free : map.get m channel ≡ None
   pub lowest : (d : ℕ) → d < channel → IsSome (map.get m d)
 
-abbrev pub AllotStep : Held → ℕ → ℕ → Result ℕ AllotError → Held → Type 0
+abbrev pub AllotStep : ChannelTable → ℕ → ℕ → Result ℕ AllotError → ChannelTable → Type 0
 AllotStep m max number (Ok channel) new = IsLowestFree m channel × (channel ≤ max) × (new ≡ map.insert m channel number)
 AllotStep m max number (Err Full) new = ((d : ℕ) → d ≤ max → IsSome (map.get m d)) × (new ≡ m)
 AllotStep m max number (Err OutOfMemory) new = ((d : ℕ) × IsLowestFree m d × (d ≤ max)) × (new ≡ m)

@@ -19,7 +19,7 @@ use Rattle.fe2o3_amqp.specs.declared.connection.error.ConnectionInnerError.TheVa
 use Rattle.fe2o3_amqp.specs.declared.connection.error.AllocSessionError.{AllocSessionError}
 use Rattle.fe2o3_amqp.specs.declared.connection.error.AllocSessionError.TheVariants as full
 use Rattle.fe2o3_amqp.specs.declared.numbers.SessionNo.{SessionNo}
-use Rattle.fe2o3_amqp.specs.Channels.{Held, IsLowestFree}
+use Rattle.fe2o3_amqp.specs.Channels.{ChannelTable, IsLowestFree}
 use Rattle.fe2o3_amqp.specs.States.{sends_open, takes_open, sends_close, sends_close_with_error, takes_close}
 
 pub record ConnectionView : Type 0 where
@@ -29,14 +29,14 @@ pub record ConnectionView : Type 0 where
   -- the Open of this side
   pub local_open : OpenSaid
   -- the highest channel that both sides allow; that of this side until the peer's Open is accepted
-  pub channel_max : ℕ
+  pub agreed_channel_max : ℕ
   -- the session of each channel that is held
-  pub held : Held
+  pub session_by_outgoing_channel : ChannelTable
   -- the session of each channel on which the peer began one
-  pub routes : Held
+  pub session_by_incoming_channel : ChannelTable
 
 abbrev pub new_connection : ConnectionState → OpenSaid → ConnectionView
-new_connection s o = record { state = s; stop_reason = None; local_open = o; channel_max = o.channel_max; held = map.empty; routes = map.empty }
+new_connection s o = record { state = s; stop_reason = None; local_open = o; agreed_channel_max = o.channel_max; session_by_outgoing_channel = map.empty; session_by_incoming_channel = map.empty }
 
 -- ---- stop reasons: the first one stays
 
@@ -59,7 +59,7 @@ SendOpenStep v (Err state.OutOfMemory) w = IsSome (sends_open v.state) × (w ≡
 SendOpenStep v (Err e) w = ⊥
 
 abbrev pub IncomingOpenStep : ConnectionView → OpenSaid → Option ConnectionStateError → ConnectionView → Type 0
-IncomingOpenStep v o None w = (s : ConnectionState) × (takes_open v.state ≡ Some s) × (w ≡ record v { state = s; channel_max = min v.local_open.channel_max o.channel_max })
+IncomingOpenStep v o None w = (s : ConnectionState) × (takes_open v.state ≡ Some s) × (w ≡ record v { state = s; agreed_channel_max = min v.local_open.channel_max o.channel_max })
 IncomingOpenStep v o (Some state.IllegalState) w = (takes_open v.state ≡ None) × (w ≡ v)
 IncomingOpenStep v o (Some e) w = ⊥
 
@@ -108,22 +108,22 @@ abbrev pub Allots : ConnectionState → Type 0
 Allots s = (is_unopened s ≡ false) × (has_stopped s ≡ false)
 
 abbrev pub AllocateStep : ConnectionView → ℕ → Result ℕ AllocSessionError → ConnectionView → Type 0
-AllocateStep v number (Ok channel) w = Allots v.state × IsLowestFree v.held channel × (channel ≤ v.channel_max) × (w ≡ record v { held = map.insert v.held channel number })
+AllocateStep v number (Ok channel) w = Allots v.state × IsLowestFree v.session_by_outgoing_channel channel × (channel ≤ v.agreed_channel_max) × (w ≡ record v { session_by_outgoing_channel = map.insert v.session_by_outgoing_channel channel number })
 AllocateStep v number (Err full.ConnectionNotOpened) w = (is_unopened v.state ≡ true) × (w ≡ v)
 AllocateStep v number (Err (full.ConnectionStopped reason)) w = (has_stopped v.state ≡ true) × (reason ≡ unwrap_or v.stop_reason Closed) × (w ≡ v)
-AllocateStep v number (Err full.ChannelMaxReached) w = Allots v.state × ((d : ℕ) → d ≤ v.channel_max → IsSome (map.get v.held d)) × (w ≡ v)
-AllocateStep v number (Err full.OutOfMemory) w = Allots v.state × ((d : ℕ) × IsLowestFree v.held d × (d ≤ v.channel_max)) × (w ≡ v)
+AllocateStep v number (Err full.ChannelMaxReached) w = Allots v.state × ((d : ℕ) → d ≤ v.agreed_channel_max → IsSome (map.get v.session_by_outgoing_channel d)) × (w ≡ v)
+AllocateStep v number (Err full.OutOfMemory) w = Allots v.state × ((d : ℕ) × IsLowestFree v.session_by_outgoing_channel d × (d ≤ v.agreed_channel_max)) × (w ≡ v)
 
 -- the session holds the channel
 abbrev pub Holds : ConnectionView → ℕ → ℕ → Type 0
-Holds v channel number = map.get v.held channel ≡ Some number
+Holds v channel number = map.get v.session_by_outgoing_channel channel ≡ Some number
 
 abbrev pub given_back : ConnectionView → ℕ → ConnectionView
-given_back v channel = record v { held = map.remove v.held channel }
+given_back v channel = record v { session_by_outgoing_channel = map.remove v.session_by_outgoing_channel channel }
 
 abbrev pub DeallocateStep : ConnectionView → ℕ → Bool → ConnectionView → Type 0
-DeallocateStep v channel true w = IsSome (map.get v.held channel) × (w ≡ given_back v channel)
-DeallocateStep v channel false w = (map.get v.held channel ≡ None) × (w ≡ v)
+DeallocateStep v channel true w = IsSome (map.get v.session_by_outgoing_channel channel) × (w ≡ given_back v channel)
+DeallocateStep v channel false w = (map.get v.session_by_outgoing_channel channel ≡ None) × (w ≡ v)
 
 abbrev pub not_found : ConnectionInnerError
 not_found = inner.NotFound None
@@ -135,24 +135,24 @@ not_implemented = inner.NotImplemented None
 
 -- the connection accepts a Begin, and makes the route
 abbrev pub BeginRouteStep : ConnectionView → ℕ → Option ℕ → Result ℕ ConnectionInnerError → ConnectionView → Type 0
-BeginRouteStep v channel remote (Ok number) w = (v.state ≡ Opened) × ((c : ℕ) × (remote ≡ Some c) × (map.get v.held c ≡ Some number)) × (w ≡ record v { routes = map.insert v.routes channel number })
+BeginRouteStep v channel remote (Ok number) w = (v.state ≡ Opened) × ((c : ℕ) × (remote ≡ Some c) × (map.get v.session_by_outgoing_channel c ≡ Some number)) × (w ≡ record v { session_by_incoming_channel = map.insert v.session_by_incoming_channel channel number })
 BeginRouteStep v channel remote (Err inner.IllegalState) w = ¬ (v.state ≡ Opened) × (w ≡ v)
 BeginRouteStep v channel remote (Err (inner.NotImplemented text)) w = (v.state ≡ Opened) × (remote ≡ None) × (text ≡ None) × (w ≡ v)
-BeginRouteStep v channel remote (Err (inner.NotFound text)) w = (v.state ≡ Opened) × ((c : ℕ) × (remote ≡ Some c) × (map.get v.held c ≡ None)) × (text ≡ None) × (w ≡ v)
-BeginRouteStep v channel remote (Err inner.OutOfMemory) w = (v.state ≡ Opened) × ((c : ℕ) × (remote ≡ Some c) × IsSome (map.get v.held c)) × (w ≡ v)
+BeginRouteStep v channel remote (Err (inner.NotFound text)) w = (v.state ≡ Opened) × ((c : ℕ) × (remote ≡ Some c) × (map.get v.session_by_outgoing_channel c ≡ None)) × (text ≡ None) × (w ≡ v)
+BeginRouteStep v channel remote (Err inner.OutOfMemory) w = (v.state ≡ Opened) × ((c : ℕ) × (remote ≡ Some c) × IsSome (map.get v.session_by_outgoing_channel c)) × (w ≡ v)
 BeginRouteStep v channel remote (Err e) w = ⊥
 
 -- the connection accepts an End, and takes the route away
 abbrev pub EndRouteStep : ConnectionView → ℕ → Result ℕ ConnectionInnerError → ConnectionView → Type 0
-EndRouteStep v channel (Ok number) w = (v.state ≡ Opened) × (map.get v.routes channel ≡ Some number) × (w ≡ record v { routes = map.remove v.routes channel })
+EndRouteStep v channel (Ok number) w = (v.state ≡ Opened) × (map.get v.session_by_incoming_channel channel ≡ Some number) × (w ≡ record v { session_by_incoming_channel = map.remove v.session_by_incoming_channel channel })
 EndRouteStep v channel (Err inner.IllegalState) w = ¬ (v.state ≡ Opened) × (w ≡ v)
-EndRouteStep v channel (Err (inner.NotFound text)) w = (v.state ≡ Opened) × (map.get v.routes channel ≡ None) × (text ≡ None) × (w ≡ v)
+EndRouteStep v channel (Err (inner.NotFound text)) w = (v.state ≡ Opened) × (map.get v.session_by_incoming_channel channel ≡ None) × (text ≡ None) × (w ≡ v)
 EndRouteStep v channel (Err e) w = ⊥
 
 -- other frames go along the route, in every state
 abbrev pub RouteStep : ConnectionView → ℕ → Result ℕ ConnectionInnerError → ConnectionView → Type 0
-RouteStep v channel (Ok number) w = (map.get v.routes channel ≡ Some number) × (w ≡ v)
-RouteStep v channel (Err (inner.NotFound text)) w = (map.get v.routes channel ≡ None) × (text ≡ None) × (w ≡ v)
+RouteStep v channel (Ok number) w = (map.get v.session_by_incoming_channel channel ≡ Some number) × (w ≡ v)
+RouteStep v channel (Err (inner.NotFound text)) w = (map.get v.session_by_incoming_channel channel ≡ None) × (text ≡ None) × (w ≡ v)
 RouteStep v channel (Err e) w = ⊥
 
 -- ---- what a call answered

@@ -1,6 +1,7 @@
 -- What a step of an engine does.
 use Rattle.std.specs.Prelude.{◌≡◌, ◌⊎◌, ℕ, List, [], ◌∷◌, Option, Some, None, Result, Ok, Err}
 use Rattle.std.specs.Option.{option_map}
+use Rattle.amqp_types.specs.declared.performatives.kind.Kind.{Kind}
 use Rattle.amqp_types.specs.declared.states.ConnectionState.{ConnectionState}
 use Rattle.amqp_types.specs.declared.states.ConnectionState.TheVariants.{CloseReceived}
 use Rattle.amqp_types.specs.Error.{ErrorSaid}
@@ -15,6 +16,7 @@ use Rattle.amqp_frames.specs.declared.frame.Frame.{Frame}
 use Rattle.amqp_frames.specs.declared.frame.FrameBody.{FrameBody}
 use Rattle.amqp_frames.specs.declared.frame.FrameBody.TheVariants as body
 use Rattle.amqp_frames.specs.Frame.{IsFrame, Decodes}
+use Rattle.amqp_frames.specs.Head.{IsBodyOf, NoBodyOf}
 use Rattle.fe2o3_amqp.specs.declared.connection.error.ConnectionStateError.{ConnectionStateError}
 use Rattle.fe2o3_amqp.specs.declared.connection.error.ConnectionInnerError.{ConnectionInnerError}
 use Rattle.fe2o3_amqp.specs.declared.engine.input.Input.{Input}
@@ -24,9 +26,10 @@ use Rattle.fe2o3_amqp.specs.declared.engine.input.StepError.TheVariants as no
 use Rattle.fe2o3_amqp.specs.States.{takes_close}
 use Rattle.fe2o3_amqp.specs.Connection.{ConnectionView, stopped, not_implemented, SendOpenStep, SendCloseStep, IncomingOpenStep, IncomingCloseStep, BeginRouteStep, EndRouteStep, RouteStep}
 use Rattle.fe2o3_amqp.specs.EngineView.{EngineView, peer_limit}
-use Rattle.fe2o3_amqp.specs.Sessions.{Untouched, Does, Reaches, BeginRequest, ReleaseRequest, EndCalls, FlowCalls, TransferCalls, StopCalls, BeginHeardCalls, EndHeardCalls, FlowHeardCalls, TransferHeardCalls}
+use Rattle.fe2o3_amqp.specs.Calls.{request_calls, received_calls}
+use Rattle.fe2o3_amqp.specs.Sessions.{Untouched, Nothing, Does, Reaches, BeginRequest, ReleaseRequest}
 
--- ---- requests
+-- ---- requests of the connection
 
 abbrev pub OpenRequest : {R : Type 0} → EngineView R → Option StepError → EngineView R → Type 0
 OpenRequest v None w = (f : Frame) × (k : ConnectionView) × SendOpenStep v.connection (Ok f) k × (w ≡ record v { connection = k; waiting = f ∷ [] })
@@ -42,12 +45,12 @@ CloseRequest v error None w = (f : Frame) × (k : ConnectionView) × SendCloseSt
 CloseRequest v error (Some (no.ConnectionState e)) w = (k : ConnectionView) × SendCloseStep v.connection error (Err e) k × (w ≡ record v { connection = k })
 CloseRequest v error (Some e) w = ⊥
 
--- ---- received frames
+-- ---- received frames of the connection
 
-abbrev pub OpenHeard : {R : Type 0} → EngineView R → OpenSaid → Option StepError → EngineView R → Type 0
-OpenHeard v o None w = (k : ConnectionView) × IncomingOpenStep v.connection o None k × (w ≡ record v { connection = k; limit = peer_limit o })
-OpenHeard v o (Some (no.ConnectionState e)) w = (k : ConnectionView) × IncomingOpenStep v.connection o (Some e) k × (w ≡ record v { connection = k })
-OpenHeard v o (Some e) w = ⊥
+abbrev pub ReceivedOpen : {R : Type 0} → EngineView R → OpenSaid → Option StepError → EngineView R → Type 0
+ReceivedOpen v o None w = (k : ConnectionView) × IncomingOpenStep v.connection o None k × (w ≡ record v { connection = k; limit = peer_limit o })
+ReceivedOpen v o (Some (no.ConnectionState e)) w = (k : ConnectionView) × IncomingOpenStep v.connection o (Some e) k × (w ≡ record v { connection = k })
+ReceivedOpen v o (Some e) w = ⊥
 
 abbrev pub remote_reason : Option ErrorSaid → ConnectionStopReason
 remote_reason None = stop.RemoteClosed
@@ -59,71 +62,99 @@ recorded None r k = k
 recorded (Some CloseReceived) r k = stopped k r
 recorded (Some s) r k = k
 
-abbrev pub CloseHeardStep : ConnectionView → CloseSaid → Option ConnectionStateError → ConnectionView → Type 0
-CloseHeardStep v c refusal w = (k : ConnectionView) × IncomingCloseStep v c refusal k × (w ≡ recorded (takes_close v.state) (remote_reason c.error) k)
+abbrev pub ReceivedCloseStep : ConnectionView → CloseSaid → Option ConnectionStateError → ConnectionView → Type 0
+ReceivedCloseStep v c refusal w = (k : ConnectionView) × IncomingCloseStep v c refusal k × (w ≡ recorded (takes_close v.state) (remote_reason c.error) k)
 
-abbrev pub CloseHeard : {R : Type 0} → EngineView R → CloseSaid → Option StepError → EngineView R → Type 0
-CloseHeard v c refusal w = (told : Option ConnectionStateError) × (k : ConnectionView) × CloseHeardStep v.connection c told k
+abbrev pub ReceivedClose : {R : Type 0} → EngineView R → CloseSaid → Option StepError → EngineView R → Type 0
+ReceivedClose v c refusal w = (told : Option ConnectionStateError) × (k : ConnectionView) × ReceivedCloseStep v.connection c told k
     × (refusal ≡ option_map (λ e. no.ConnectionState e) told) × (w ≡ record v { connection = k })
 
--- What is left out yet: an Attach, a Disposition and a Detach are not taken, though there be a session for them.
-abbrev pub left_out : Result ℕ ConnectionInnerError → ConnectionInnerError
-left_out (Ok n) = not_implemented
-left_out (Err e) = e
+-- ---- received frames of sessions
 
-abbrev pub LeftOut : {R : Type 0} → EngineView R → ℕ → Option ℕ → List (session.Entry R) → Option StepError → EngineView R → Type 0
-LeftOut v channel reached calls refusal w = Untouched reached calls
-    × ((found : Result ℕ ConnectionInnerError) × RouteStep v.connection channel found v.connection × (refusal ≡ Some (no.Connection (left_out found)))) × (w ≡ v)
+-- how the connection finds the session of a frame on this channel
+abbrev pub Finds : ConnectionView → ℕ → FrameBody → Result ℕ ConnectionInnerError → ConnectionView → Type 0
+Finds v c (body.Begin b) found w = BeginRouteStep v c b.remote_channel found w
+Finds v c (body.End e) found w = EndRouteStep v c found w
+Finds v c b found w = RouteStep v c found w
 
-abbrev pub Heard : {R : Type 0} → Relays R → EngineView R → ℕ → FrameBody → Option ℕ → List (session.Entry R) → Option StepError → EngineView R → Type 0
-Heard g v c body.Empty reached calls refusal w = Untouched reached calls × (refusal ≡ None) × (w ≡ v)
-Heard g v c (body.Open o) reached calls refusal w = Untouched reached calls × OpenHeard v o refusal w
-Heard g v c (body.Close p) reached calls refusal w = Untouched reached calls × CloseHeard v p refusal w
-Heard g v c (body.Begin p) reached calls refusal w = Reaches g (BeginRouteStep v.connection c p.remote_channel) v (BeginHeardCalls c p) reached calls refusal w
-Heard g v c (body.End p) reached calls refusal w = Reaches g (EndRouteStep v.connection c) v (EndHeardCalls c p) reached calls refusal w
-Heard g v c (body.Flow p) reached calls refusal w = Reaches g (RouteStep v.connection c) v (FlowHeardCalls p) reached calls refusal w
-Heard g v c (body.Transfer p payload) reached calls refusal w = Reaches g (RouteStep v.connection c) v (TransferHeardCalls p payload) reached calls refusal w
-Heard g v c (body.Attach p) reached calls refusal w = LeftOut v c reached calls refusal w
-Heard g v c (body.Disposition p) reached calls refusal w = LeftOut v c reached calls refusal w
-Heard g v c (body.Detach p) reached calls refusal w = LeftOut v c reached calls refusal w
+-- Not implemented yet: an Attach, a Disposition and a Detach, though there be a session for them.
+abbrev pub unimplemented : Result ℕ ConnectionInnerError → ConnectionInnerError
+unimplemented (Ok n) = not_implemented
+unimplemented (Err e) = e
 
--- The bytes are no frame, or they are a frame that was heard.
+abbrev pub Unimplemented : {R : Type 0} → EngineView R → ℕ → Option ℕ → List (session.Entry R) → Option StepError → EngineView R → Type 0
+Unimplemented v channel reached calls refusal w = Nothing v reached calls w
+    × ((found : Result ℕ ConnectionInnerError) × RouteStep v.connection channel found v.connection × (refusal ≡ Some (no.Connection (unimplemented found))))
+
+-- ---- received frames
+
+abbrev pub ReceivedFrame : {R : Type 0} → Relays R → EngineView R → ℕ → FrameBody → Option ℕ → List (session.Entry R) → Option StepError → EngineView R → Type 0
+ReceivedFrame g v c body.Empty reached calls refusal w = Nothing v reached calls w × (refusal ≡ None)
+ReceivedFrame g v c (body.Open o) reached calls refusal w = Untouched reached calls × ReceivedOpen v o refusal w
+ReceivedFrame g v c (body.Close p) reached calls refusal w = Untouched reached calls × ReceivedClose v p refusal w
+ReceivedFrame g v c (body.Attach p) reached calls refusal w = Unimplemented v c reached calls refusal w
+ReceivedFrame g v c (body.Disposition p) reached calls refusal w = Unimplemented v c reached calls refusal w
+ReceivedFrame g v c (body.Detach p) reached calls refusal w = Unimplemented v c reached calls refusal w
+ReceivedFrame g v c b reached calls refusal w = Reaches g (Finds v.connection c b) v (received_calls c b) reached calls refusal w
+
+-- The fields of this kind are not there, or they say a body that was received.
+abbrev pub ReceivedOf : {R : Type 0} → Relays R → EngineView R → ℕ → Option Kind → List ℕ → Option Frame → Option ℕ → List (session.Entry R) → Option StepError → EngineView R → Type 0
+ReceivedOf g v c k fields received reached calls refusal w =
+    ((e : Error) × NoBodyOf k fields e × (received ≡ None) × Nothing v reached calls w × (refusal ≡ Some (no.Frame e)))
+    ⊎ ((b : FrameBody) × (rest : List ℕ) × IsBodyOf k b fields rest × (received ≡ Some (record { channel = c; body = b })) × ReceivedFrame g v c b reached calls refusal w)
+
+-- The bytes are no frame, or they are a frame that was received.
 abbrev pub Received : {R : Type 0} → Relays R → EngineView R → List ℕ → Option Frame → Option ℕ → List (session.Entry R) → Option StepError → EngineView R → Type 0
-Received g v bytes heard reached calls refusal w =
-    ((e : Error) × Decodes bytes (Err e) × (heard ≡ None) × Untouched reached calls × (refusal ≡ Some (no.Frame e)) × (w ≡ v))
-    ⊎ ((f : Frame) × (rest : List ℕ) × IsFrame f bytes rest × (heard ≡ Some f) × Heard g v f.channel f.body reached calls refusal w)
+Received g v bytes received reached calls refusal w =
+    ((e : Error) × Decodes bytes (Err e) × (received ≡ None) × Nothing v reached calls w × (refusal ≡ Some (no.Frame e)))
+    ⊎ ((f : Frame) × (rest : List ℕ) × IsFrame f bytes rest × (received ≡ Some f) × ReceivedFrame g v f.channel f.body reached calls refusal w)
+
+-- some body stands in the fields and is received, or none stands there
+abbrev pub FieldsStep : {R : Type 0} → Relays R → EngineView R → ℕ → Option Kind → List ℕ → Option StepError → EngineView R → Type 0
+FieldsStep g v c k fields refusal w = (received : Option Frame) × (reached : Option ℕ) × (calls : List (session.Entry _)) × ReceivedOf g v c k fields received reached calls refusal w
+
+-- some frame stands in the bytes and is received, or none stands there
+abbrev pub ReceivedStep : {R : Type 0} → Relays R → EngineView R → List ℕ → Option StepError → EngineView R → Type 0
+ReceivedStep g v bytes refusal w = (received : Option Frame) × (reached : Option ℕ) × (calls : List (session.Entry _)) × Received g v bytes received reached calls refusal w
 
 -- ---- a step
 
--- An input; the frame that was heard in it; the session that was reached, by its number, and the calls of it, with their
--- answers and the questions to relays; why the input was refused, if it was; and the frames that were handed out with it.
+-- An input; the frame that was received with it; the session that was reached, by its number, and the calls of it, with
+-- their answers and the questions to relays; why the input was refused, if it was; and the frames that were handed out with
+-- it.
 pub record Entry (R : Type 0) : Type 0 where
   pub input : Input
-  pub heard : Option Frame
+  pub received : Option Frame
   pub reached : Option ℕ
   pub calls : List (session.Entry R)
   pub refusal : Option StepError
   pub frames : List Frame
 
 abbrev pub Carries : {R : Type 0} → Relays R → EngineView R → Input → Option Frame → Option ℕ → List (session.Entry R) → Option StepError → EngineView R → Type 0
-Carries g v (input.Received bytes) heard reached calls refusal w = Received g v bytes heard reached calls refusal w
-Carries g v input.Open heard reached calls refusal w = (heard ≡ None) × Untouched reached calls × OpenRequest v refusal w
-Carries g v (input.Close error) heard reached calls refusal w = (heard ≡ None) × Untouched reached calls × CloseRequest v error refusal w
-Carries g v (input.Begin n settings) heard reached calls refusal w = (heard ≡ None) × BeginRequest g v n.0 settings reached calls refusal w
-Carries g v (input.End n error) heard reached calls refusal w = (heard ≡ None) × Does g v n.0 (EndCalls error) reached calls refusal w
-Carries g v (input.Flow n l) heard reached calls refusal w = (heard ≡ None) × Does g v n.0 (FlowCalls l) reached calls refusal w
-Carries g v (input.Transfer n h t payload first) heard reached calls refusal w =
-    (heard ≡ None) × Does g v n.0 (TransferCalls (record { input_handle = h.0; transfer = t; payload = payload; is_first = first })) reached calls refusal w
-Carries g v (input.Release n) heard reached calls refusal w = (heard ≡ None) × ReleaseRequest v n.0 reached calls refusal w
-Carries g v (input.Stop n reason) heard reached calls refusal w = (heard ≡ None) × Does g v n.0 (StopCalls reason) reached calls refusal w
+Carries g v (input.Received bytes) received reached calls refusal w = Received g v bytes received reached calls refusal w
+Carries g v input.Open received reached calls refusal w = (received ≡ None) × Untouched reached calls × OpenRequest v refusal w
+Carries g v (input.Close error) received reached calls refusal w = (received ≡ None) × Untouched reached calls × CloseRequest v error refusal w
+Carries g v (input.Begin n settings) received reached calls refusal w = (received ≡ None) × BeginRequest g v n.0 settings reached calls refusal w
+Carries g v (input.Release n) received reached calls refusal w = (received ≡ None) × ReleaseRequest v n.0 reached calls refusal w
+Carries g v (input.End n error) received reached calls refusal w = (received ≡ None) × Does g v n.0 (request_calls (input.End n error)) reached calls refusal w
+Carries g v (input.Flow n l) received reached calls refusal w = (received ≡ None) × Does g v n.0 (request_calls (input.Flow n l)) reached calls refusal w
+Carries g v (input.Transfer n h t payload first) received reached calls refusal w =
+    (received ≡ None) × Does g v n.0 (request_calls (input.Transfer n h t payload first)) reached calls refusal w
+Carries g v (input.Stop n reason) received reached calls refusal w = (received ≡ None) × Does g v n.0 (request_calls (input.Stop n reason)) reached calls refusal w
 
--- what waits stops all else; where nothing waits, the frames handed out are those that wait then
+-- the input is carried out
+abbrev pub CarriedStep : {R : Type 0} → Relays R → EngineView R → Input → Option StepError → EngineView R → Type 0
+CarriedStep g v i refusal w = (received : Option Frame) × (reached : Option ℕ) × (calls : List (session.Entry _)) × Carries g v i received reached calls refusal w
+
+-- what waits stops all else
+abbrev pub WaitingStep : {R : Type 0} → EngineView R → Entry R → EngineView R → Type 0
+WaitingStep v e w = ¬ (v.waiting ≡ []) × (e.refusal ≡ Some no.OutputWaiting) × (e.received ≡ None) × Nothing v e.reached e.calls w × (e.frames ≡ [])
+
+-- where nothing waits, the frames handed out are those that wait then
 abbrev pub Step : {R : Type 0} → Relays R → EngineView R → Entry R → EngineView R → Type 0
-Step g v e w =
-    (¬ (v.waiting ≡ []) × (e.refusal ≡ Some no.OutputWaiting) × (e.heard ≡ None) × Untouched e.reached e.calls × (e.frames ≡ []) × (w ≡ v))
-    ⊎ ((v.waiting ≡ []) × (e.frames ≡ w.waiting) × Carries g v e.input e.heard e.reached e.calls e.refusal w)
+Step g v e w = WaitingStep v e w ⊎ ((v.waiting ≡ []) × (e.frames ≡ w.waiting) × Carries g v e.input e.received e.reached e.calls e.refusal w)
 
 -- a step with this input and this refusal
 abbrev pub Steps : {R : Type 0} → Relays R → EngineView R → Input → Option StepError → EngineView R → Type 0
-Steps g v i refusal w = (heard : Option Frame) × (reached : Option ℕ) × (calls : List (session.Entry _)) × (frames : List Frame)
-    × Step g v (record { input = i; heard = heard; reached = reached; calls = calls; refusal = refusal; frames = frames }) w
+Steps g v i refusal w = (received : Option Frame) × (reached : Option ℕ) × (calls : List (session.Entry _)) × (frames : List Frame)
+    × Step g v (record { input = i; received = received; reached = reached; calls = calls; refusal = refusal; frames = frames }) w

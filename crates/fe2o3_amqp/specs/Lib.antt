@@ -4,11 +4,12 @@ pub mod ConnectionErrors
 pub mod Connection
 pub mod Waits
 pub mod EngineView
+pub mod Calls
 pub mod Sessions
-pub mod SessionCalls
 pub mod Engine
 pub mod History
-pub mod Reach
+pub mod Event
+pub mod ByHistory
 pub mod Output
 pub mod Headline
 pub mod ReplayRelay

@@ -1,35 +1,17 @@
 -- What comes out for a history: each entry's answer, and after it the pieces of its frames, under the limit that holds then.
 use Rattle.std.specs.Prelude.{ℕ, ◌≡◌, List, [], ◌∷◌, ◌++◌, Option, Some, None, Result, Ok, Err}
 use Rattle.amqp_frames.specs.declared.frame.Frame.{Frame}
-use Rattle.amqp_frames.specs.declared.frame.FrameBody.{FrameBody}
-use Rattle.amqp_frames.specs.declared.frame.FrameBody.TheVariants as body
 use Rattle.amqp_frames.specs.Piece.{PieceParts}
-use Rattle.amqp_frames.specs.Cut.{Fits, Cut}
+use Rattle.amqp_frames.specs.Cut.{Fits, Cut, ReadBack}
 use Rattle.fe2o3_amqp.specs.declared.engine.input.Answer.{Answer}
 use Rattle.fe2o3_amqp.specs.declared.engine.input.Answer.TheVariants.{Done, Refused, Out, TooLarge}
 use Rattle.fe2o3_amqp.specs.declared.engine.input.StepError.{StepError}
 use Rattle.fe2o3_amqp.specs.declared.engine.input.OutputError.{OutputError}
 use Rattle.fe2o3_amqp.specs.declared.engine.input.OutputError.TheVariants as no
-use Rattle.fe2o3_amqp.specs.EngineView.{EngineView, peer_limit}
+use Rattle.fe2o3_amqp.specs.EngineView.{EngineView}
 use Rattle.fe2o3_amqp.specs.Engine.{Entry}
-
--- ---- the limit: that of the last Open that was accepted
-
-abbrev pub limit_said : ℕ → FrameBody → ℕ
-limit_said limit (body.Open o) = peer_limit o
-limit_said limit b = limit
-
-abbrev pub limit_heard : ℕ → Option Frame → Option StepError → ℕ
-limit_heard limit (Some f) None = limit_said limit f.body
-limit_heard limit (Some f) (Some e) = limit
-limit_heard limit None refusal = limit
-
-abbrev pub limit_by : {R : Type 0} → ℕ → Entry R → ℕ
-limit_by limit e = limit_heard limit e.heard e.refusal
-
-abbrev pub limit_after : {R : Type 0} → ℕ → List (Entry R) → ℕ
-limit_after limit [] = limit
-limit_after limit (e ∷ es) = limit_after (limit_by limit e) es
+use Rattle.fe2o3_amqp.specs.Event.{event}
+use Rattle.fe2o3_amqp.specs.ByHistory.{limit_by}
 
 -- ---- answers
 
@@ -37,9 +19,9 @@ abbrev pub answer_of : Option StepError → Answer
 answer_of None = Done
 answer_of (Some e) = Refused e
 
--- the answer of one frame: its pieces, or the frame itself where it does not fit
+-- the answer of one frame: its pieces, which are read back as the frame; or the frame itself where it does not fit
 abbrev pub IsOut : ℕ → Frame → Answer → Type 0
-IsOut limit f (Out pieces) = Fits f limit × Cut f limit pieces.items
+IsOut limit f (Out pieces) = Fits f limit × Cut f limit pieces.items × ReadBack f limit pieces.items
 IsOut limit f (TooLarge g) = ¬ Fits f limit × (g ≡ f)
 IsOut limit f Done = ⊥
 IsOut limit f (Refused e) = ⊥
@@ -60,7 +42,7 @@ pub record PutOut (limit : ℕ) (waiting waiting' : List Frame) (outs : List Ans
 abbrev pub Speaks : {R : Type 0} → ℕ → List Frame → List (Entry R) → List Frame → List Answer → Type 0
 Speaks limit waiting [] waiting' out = PutOut limit waiting waiting' out
 Speaks limit waiting (e ∷ es) waiting' out = (first : List Answer) × (rest : List Answer) × (out ≡ first ++ (answer_of e.refusal ∷ rest))
-    × IsOuts limit waiting first × Speaks (limit_by limit e) e.frames es waiting' rest
+    × IsOuts limit waiting first × Speaks (limit_by limit (event e)) e.frames es waiting' rest
 
 -- ---- one frame at a time
 
@@ -71,7 +53,7 @@ FirstFits limit (f ∷ fs) = Fits f limit
 
 abbrev pub NextOutput : {R X : Type 0} → (X → List PieceParts) → EngineView R → Result (Option X) OutputError → EngineView R → Type 0
 NextOutput view v (Ok None) w = (v.waiting ≡ []) × (w ≡ v)
-NextOutput view v (Ok (Some x)) w = (f : Frame) × (fs : List Frame) × (v.waiting ≡ f ∷ fs) × Fits f v.limit × Cut f v.limit (view x) × (w ≡ record v { waiting = fs })
+NextOutput view v (Ok (Some x)) w = (f : Frame) × (fs : List Frame) × (v.waiting ≡ f ∷ fs) × Fits f v.limit × Cut f v.limit (view x) × ReadBack f v.limit (view x) × (w ≡ record v { waiting = fs })
 NextOutput view v (Err (no.TooLarge g)) w = (fs : List Frame) × (v.waiting ≡ g ∷ fs) × (¬ Fits g v.limit) × (w ≡ record v { waiting = fs })
 NextOutput view v (Err no.Memory) w = FirstFits v.limit v.waiting × (w ≡ v)
 

@@ -30,27 +30,27 @@ pub struct Connection {
     state: ConnectionState,
     stop_reason: Option<ConnectionStopReason>,
     local_open: Open,
-    channel_max: u16,
-    channels: Channels,
-    routes: Routes,
+    agreed_channel_max: u16,
+    session_by_outgoing_channel: Channels,
+    session_by_incoming_channel: Routes,
 }
 
 impl Model for Connection {
     ghost use Rattle.std.specs.Coded.{codes};
-    ghost use Rattle.fe2o3_amqp.specs.Channels.{held_code};
+    ghost use Rattle.fe2o3_amqp.specs.Channels.{channel_table_code};
     ghost use Rattle.fe2o3_amqp.specs.Connection.{ConnectionView};
 
     ghost Value = { ConnectionView };
 
-    ghost coded = { Prim.hlevel (codes, held_code) };
+    ghost coded = { Prim.hlevel (codes, channel_table_code) };
 
     ghost view = { λ c. record {
       state = c.state;
       stop_reason = c.stop_reason;
       local_open = c.local_open;
-      channel_max = c.channel_max;
-      held = c.channels;
-      routes = c.routes;
+      agreed_channel_max = c.agreed_channel_max;
+      session_by_outgoing_channel = c.session_by_outgoing_channel;
+      session_by_incoming_channel = c.session_by_incoming_channel;
     } };
 }
 
@@ -62,10 +62,10 @@ impl Connection {
         Connection {
             state,
             stop_reason: None,
-            channel_max: local_open.channel_max,
+            agreed_channel_max: local_open.channel_max,
             local_open,
-            channels: Channels::new(alloc),
-            routes: Routes::new(alloc),
+            session_by_outgoing_channel: Channels::new(alloc),
+            session_by_incoming_channel: Routes::new(alloc),
         }
     }
 

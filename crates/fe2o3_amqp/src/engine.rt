@@ -2,7 +2,6 @@
 
 ghost use Rattle.std.specs.Prelude.{◌≡◌, Some, IfSome, is_some, nat_eq};
 ghost use Rattle.std.specs.Map.{lookup};
-ghost use Rattle.amqp_session.specs.Relay.{relays};
 ghost use Rattle.fe2o3_amqp.specs.Waits.{has_frames};
 ghost use Rattle.fe2o3_amqp.specs.EngineView.{new_engine, own_limit};
 ghost use Rattle.fe2o3_amqp.specs.Engine.{Steps};
@@ -42,12 +41,13 @@ pub struct Engine<R> {
 
 impl<R> Model for Engine<R> {
     ghost use Rattle.std.specs.Coded.{codes};
-    ghost use Rattle.fe2o3_amqp.specs.Channels.{held_code};
+    ghost use Rattle.amqp_session.specs.Links.{links_code};
+    ghost use Rattle.fe2o3_amqp.specs.Channels.{channel_table_code};
     ghost use Rattle.fe2o3_amqp.specs.EngineView.{EngineView};
 
     ghost Value = { EngineView R };
 
-    ghost coded = { Prim.hlevel (codes, held_code) };
+    ghost coded = { Prim.hlevel (codes, channel_table_code, links_code) };
 
     ghost view = { λ e. record { connection = e.connection; sessions = e.sessions.entries; limit = e.encoder; waiting = e.waiting } };
 }
@@ -103,7 +103,7 @@ impl<R: LinkRelay> Engine<R> {
     /// `OutOfMemory` where memory is refused before anything was done, `NoSession` and `SessionInUse` where no session has
     /// the number, or one has it: nothing has then changed. Every other refusal is that of the connection or the session.
     pub fn step(&mut self, input: Input) -> Result<(), StepError>
-        ensures { Steps (relays R.attach_gives R.flow_gives R.transfer_gives R.disposition_gives R.detach_gives) self.old input (refusal_of result) self.new }
+        ensures { Steps R.gives self.old input (refusal_of result) self.new }
     {
         if self.has_output() {
             drop(input);

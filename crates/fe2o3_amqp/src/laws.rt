@@ -3,7 +3,6 @@
 ghost use Rattle.std.specs.Prelude.{List};
 ghost use Rattle.amqp_types.specs.declared.states.ConnectionState.{ConnectionState};
 ghost use Rattle.amqp_types.specs.Open.{OpenSaid};
-ghost use Rattle.amqp_session.specs.Relay.{relays};
 ghost use Rattle.fe2o3_amqp.specs.EngineView.{EngineView};
 ghost use Rattle.fe2o3_amqp.specs.Engine.{Entry};
 ghost use Rattle.fe2o3_amqp.specs.History.{LeadsTo};
@@ -11,10 +10,11 @@ ghost use Rattle.fe2o3_amqp.specs.Headline.{Headline, Stands};
 
 use amqp_session::{LinkRelay, laws as session};
 
-/// Whatever an engine has been given, what contracts see of it is what its history gives: its sessions, the state of its
-/// connection, the channels that are held, the routes of received frames, and the limit of a piece.
+/// Whatever an engine has been given, what contracts see of it is what its history gives: its sessions; of its
+/// connection the state, the stop reason, the Open, the channel maximum, the channels that are held and the routes of received
+/// frames; the limit of a piece; and the frames that wait.
 pub fn law_of_views<R: LinkRelay>()
-    ensures { (state : ConnectionState) (o : OpenSaid) (H : List (Entry R)) (w : EngineView R) → LeadsTo (relays R.attach_gives R.flow_gives R.transfer_gives R.disposition_gives R.detach_gives) state o H w → Stands state o H w }
+    ensures { (state : ConnectionState) (o : OpenSaid) (H : List (Entry R)) (w : EngineView R) → LeadsTo R.gives state o H w → Stands state o H w }
 {
     session::law_of_views::<R>();
 }
@@ -22,7 +22,7 @@ pub fn law_of_views<R: LinkRelay>()
 /// Every legal history keeps the headline; among the rest, where the headers were exchanged at most one Open and one Close
 /// are handed out (AMQP 1.0 part 2, section 2.4).
 pub fn law_of_histories<R: LinkRelay>()
-    ensures { (state : ConnectionState) (o : OpenSaid) (H : List (Entry R)) (w : EngineView R) → LeadsTo (relays R.attach_gives R.flow_gives R.transfer_gives R.disposition_gives R.detach_gives) state o H w → Headline state H }
+    ensures { (state : ConnectionState) (o : OpenSaid) (H : List (Entry R)) (w : EngineView R) → LeadsTo R.gives state o H w → Headline state o H }
 {
     session::law_of_views::<R>();
     session::law_of_channels::<R>();

@@ -12,4 +12,6 @@ mod hostile;
 #[cfg(test)]
 mod spellings;
 #[cfg(test)]
+mod widths;
+#[cfg(test)]
 mod writing;

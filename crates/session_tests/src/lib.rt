@@ -1,31 +1,18 @@
-//! Tests of sessions, by public calls alone, with two kinds of relay.
+//! Tests of sessions that need their types, by public calls alone: two kinds of relay, refused memory, laws, conversions. The
+//! rows of the session's calls are those of the program `session_rows`.
 #![tactic(auto)]
 
 #[cfg(test)]
-mod begin_end;
-#[cfg(test)]
 mod conversions;
-#[cfg(test)]
-mod flow_fields;
-#[cfg(test)]
-mod flows;
-#[cfg(test)]
-mod forms;
 #[cfg(test)]
 mod laws;
 #[cfg(test)]
-mod made;
+mod links;
 #[cfg(test)]
-mod reads;
+mod made;
 #[cfg(test)]
 mod refusals;
 #[cfg(test)]
 mod relay_answers;
 #[cfg(test)]
 mod relays;
-#[cfg(test)]
-mod states;
-#[cfg(test)]
-mod transfers;
-#[cfg(test)]
-mod windows;

@@ -1,75 +1,11 @@
-//! What the tests make: sessions, transfers and flows.
+//! What the tests make, transfers and flows, and how a session answers them.
 
 use amqp_session::{
-    InputHandle, LinkRelay, OutgoingChannel, Session, SessionFrame, SessionFrameBody,
-    SessionInnerError, SessionOutgoingItem, SessionSettings,
+    InputHandle, LinkRelay, Session, SessionFrame, SessionFrameBody, SessionInnerError,
+    SessionOutgoingItem,
 };
-use amqp_types::{Begin, DeliveryTag, End, Error, Flow, Handle, SessionState, Symbol, Transfer};
+use amqp_types::{Begin, DeliveryTag, Flow, Handle, Transfer};
 use bytes::Bytes;
-use std::alloc::Global;
-use std::test::Fail;
-
-/// A session of default settings on channel 0 in a state.
-pub fn session<R: LinkRelay>(alloc: Global, state: SessionState) -> Session<R> {
-    Session::new(
-        alloc,
-        SessionSettings::new(),
-        OutgoingChannel(0),
-        state,
-        None,
-    )
-}
-
-/// A session that begins at a number, in a state.
-pub fn session_from<R: LinkRelay>(
-    alloc: Global,
-    next_outgoing_id: u32,
-    state: SessionState,
-) -> Session<R> {
-    let mut settings = SessionSettings::new();
-    settings.next_outgoing_id = next_outgoing_id;
-    Session::new(alloc, settings, OutgoingChannel(0), state, None)
-}
-
-/// A mapped session with an incoming window.
-pub fn session_of_window<R: LinkRelay>(alloc: Global, incoming_window: u32) -> Session<R> {
-    session_with_window(alloc, SessionState::Mapped, incoming_window)
-}
-
-/// A session with an incoming window, in a state.
-pub fn session_with_window<R: LinkRelay>(
-    alloc: Global,
-    state: SessionState,
-    incoming_window: u32,
-) -> Session<R> {
-    let mut settings = SessionSettings::new();
-    settings.incoming_window = incoming_window;
-    Session::new(alloc, settings, OutgoingChannel(0), state, None)
-}
-
-/// A session on channel 3, in a state: number 7 first, windows 2 and 4, handles up to 9.
-pub fn session_of<R: LinkRelay>(alloc: Global, state: SessionState) -> Session<R> {
-    let mut settings = SessionSettings::new();
-    settings.next_outgoing_id = 7;
-    settings.incoming_window = 2;
-    settings.outgoing_window = 4;
-    settings.handle_max = Handle(9);
-    Session::new(alloc, settings, OutgoingChannel(3), state, None)
-}
-
-/// An End with an error of this condition.
-pub fn end_with(alloc: Global, condition: &str) -> Result<End, Fail> {
-    match Symbol::new(String::from_str(alloc, condition)?) {
-        Some(condition) => Ok(End {
-            error: Some(Error {
-                condition,
-                description: None,
-                info: None,
-            }),
-        }),
-        None => Err(Fail::new("no such value")),
-    }
-}
 
 /// A Begin that answers channel 0 and has a window.
 pub fn begin(incoming_window: u32) -> Begin {
@@ -198,29 +134,4 @@ pub fn grant_link<R: LinkRelay>(session: &mut Session<R>, from: u32, window: u32
     let mut of_link = flow(Some(from), window);
     of_link.handle = Some(Handle(9));
     said(session.on_incoming_flow(of_link))
-}
-
-/// A transfer comes for a handle that nothing is attached to.
-pub fn receive<R: LinkRelay>(session: &mut Session<R>) -> bool {
-    let payload = Bytes::from_static(b"m");
-    matches!(
-        session.on_incoming_transfer(transfer(Some(b"t")), payload),
-        Err(SessionInnerError::UnattachedHandle)
-    )
-}
-
-/// Whether a session flow goes out, and the number that it expects.
-pub fn session_flow<R: LinkRelay>(session: &mut Session<R>) -> Option<u32> {
-    match session.maybe_outgoing_session_flow() {
-        Some(SessionOutgoingItem::SingleFrame(frame)) => expected(&frame),
-        _item => None,
-    }
-}
-
-/// The number that a flow of the session alone expects.
-fn expected(frame: &SessionFrame) -> Option<u32> {
-    match &frame.body {
-        SessionFrameBody::Flow(flow) if flow.handle.is_none() => flow.next_incoming_id,
-        _ => None,
-    }
 }

@@ -12,15 +12,13 @@ use bytes::Bytes;
 pub struct Quiet;
 
 impl LinkRelay for Quiet {
-    ghost attach_gives = { λ old attach answer new. (answer ≡ Ok tt) × (new ≡ old) };
-
-    ghost flow_gives = { λ old handle flow answer new. (answer ≡ Ok None) × (new ≡ old) };
-
-    ghost transfer_gives = { λ old transfer payload answer new. (answer ≡ Ok None) × (new ≡ old) };
-
-    ghost disposition_gives = { λ old role settled state tag answer new. (answer ≡ not settled) × (new ≡ old) };
-
-    ghost detach_gives = { λ old handle detach remote_initiated answer new. (answer ≡ None) × (new ≡ old) };
+    ghost gives = { record {
+      attach_gives = λ old attach answer new. (answer ≡ Ok tt) × (new ≡ old);
+      flow_gives = λ old handle flow answer new. (answer ≡ Ok None) × (new ≡ old);
+      transfer_gives = λ old transfer payload answer new. (answer ≡ Ok None) × (new ≡ old);
+      disposition_gives = λ old role settled state tag answer new. (answer ≡ not settled) × (new ≡ old);
+      detach_gives = λ old handle detach remote_initiated answer new. (answer ≡ None) × (new ≡ old);
+    } };
 
     fn on_incoming_attach(&mut self, _attach: Attach) -> Result<(), LinkRelayError> {
         Ok(())
@@ -70,15 +68,13 @@ pub struct Choosing {
 }
 
 impl LinkRelay for Choosing {
-    ghost attach_gives = { λ old attach answer new. (answer ≡ Ok tt) ⊎ (new ≡ old) };
-
-    ghost flow_gives = { λ old handle flow answer new. (answer ≡ Ok None) ⊎ (answer ≡ Ok (Some flow)) };
-
-    ghost transfer_gives = { λ old transfer payload answer new. answer ≡ Err TransferFrameToSender };
-
-    ghost disposition_gives = { λ old role settled state tag answer new. new ≡ old };
-
-    ghost detach_gives = { λ old handle detach remote_initiated answer new. (answer ≡ None) ⊎ (answer ≡ Some detach) };
+    ghost gives = { record {
+      attach_gives = λ old attach answer new. (answer ≡ Ok tt) ⊎ (new ≡ old);
+      flow_gives = λ old handle flow answer new. (answer ≡ Ok None) ⊎ (answer ≡ Ok (Some flow));
+      transfer_gives = λ old transfer payload answer new. answer ≡ Err TransferFrameToSender;
+      disposition_gives = λ old role settled state tag answer new. new ≡ old;
+      detach_gives = λ old handle detach remote_initiated answer new. (answer ≡ None) ⊎ (answer ≡ Some detach);
+    } };
 
     fn on_incoming_attach(&mut self, _attach: Attach) -> Result<(), LinkRelayError> {
         Ok(())

@@ -1,18 +1,9 @@
 //! Values of anyone: deep ones, and numbers that promise more than there is.
 
-use amqp_values::{Raw, ReadError};
+use crate::reading::{Answer, WHOLE, read};
 use bytes::{Bytes, BytesMut};
 use std::alloc::Global;
 use std::test::Fail;
-
-/// Whether the bytes are one value and nothing more; `None` where memory was refused.
-fn is_value(bytes: Bytes) -> Option<bool> {
-    match Raw::read(bytes) {
-        Ok((_, rest)) => Some(rest.is_empty()),
-        Err(ReadError::Malformed) => Some(false),
-        Err(ReadError::OutOfMemory) => None,
-    }
-}
 
 /// A value of this depth: described values, one inside the other, round a value of no depth.
 fn described(alloc: Global, depth: u8) -> Result<Bytes, Fail> {
@@ -64,22 +55,22 @@ fn maps(alloc: Global, around: u8) -> Result<Bytes, Fail> {
 
 #[test]
 fn described_values_nest_64_times(rt: HostRuntime) -> Result<(), Fail> {
-    for (depth, want) in [(63, true), (64, true), (65, false)] {
+    for (depth, want) in [(63, WHOLE), (64, WHOLE), (65, Answer::Malformed)] {
         let text = described(rt.alloc(), depth)?;
-        assert_eq!(rt; is_value(text), Some(want), "depth {depth}");
+        assert_eq!(rt; read(text), want, "depth {depth}");
         let text = in_descriptors(rt.alloc(), depth)?;
-        assert_eq!(rt; is_value(text), Some(want), "depth {depth}");
+        assert_eq!(rt; read(text), want, "depth {depth}");
     }
     Ok(())
 }
 
 #[test]
 fn arrays_and_maps_nest_64_times(rt: HostRuntime) -> Result<(), Fail> {
-    for (around, want) in [(62, true), (63, true), (64, false)] {
+    for (around, want) in [(62, WHOLE), (63, WHOLE), (64, Answer::Malformed)] {
         let text = arrays(rt.alloc(), around)?;
-        assert_eq!(rt; is_value(text), Some(want), "arrays round {around}");
+        assert_eq!(rt; read(text), want, "arrays round {around}");
         let text = maps(rt.alloc(), around)?;
-        assert_eq!(rt; is_value(text), Some(want), "maps round {around}");
+        assert_eq!(rt; read(text), want, "maps round {around}");
     }
     Ok(())
 }
@@ -106,7 +97,6 @@ const TOO_LONG: [&'static [u8]; 12] = [
 #[test]
 fn lengths_of_32_bits_against_short_input(rt: HostRuntime) {
     for bytes in TOO_LONG {
-        let answer = is_value(Bytes::from_static(bytes));
-        assert!(rt; answer == Some(false));
+        assert_eq!(rt; read(Bytes::from_static(bytes)), Answer::Malformed);
     }
 }

@@ -10,4 +10,6 @@ mod parts;
 #[cfg(test)]
 mod raw_values;
 #[cfg(test)]
+mod reading;
+#[cfg(test)]
 mod symbols;

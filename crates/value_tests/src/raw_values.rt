@@ -2,58 +2,56 @@
 
 ghost use Rattle.std.specs.Prelude.{◌<◌};
 
-use amqp_values::{Fields, Raw, ReadError};
+use crate::reading::{Answer, WHOLE, read};
+use amqp_values::{Fields, Raw};
 use bytes::{Bytes, BytesMut};
 use std::alloc::Global;
 use std::test::Fail;
 
-/// Whether the bytes are one value and nothing more; an error other than `Malformed` fails the test.
-fn is_value(bytes: Bytes) -> Result<bool, ReadError> {
-    match Raw::read(bytes) {
-        Ok((_, rest)) => Ok(rest.is_empty()),
-        Err(ReadError::Malformed) => Ok(false),
-        Err(ReadError::OutOfMemory) => Err(ReadError::OutOfMemory),
-    }
-}
-
 #[test]
 fn values_are_told_from_other_bytes(rt: HostRuntime) -> Result<(), Fail> {
-    let rows: [(&'static [u8], bool); 29] = [
-        (&[0xf0, 0, 0, 0, 5, 0xff, 0xff, 0xff, 0xff, 0x40], true),
-        (&[0xf0, 0, 0, 0, 5, 0xff, 0xff, 0xff, 0xff, 0x45], true),
-        (&[0xf0, 0, 0, 0, 6, 0xff, 0xff, 0xff, 0xff, 0x40, 0], false),
-        (&[0xe0, 2, 0, 0x45], true),
-        (&[0xe0, 1, 0], true),
-        (&[0xe0, 4, 0, 0, 0x40, 0xc0], true),
-        (&[0xe0, 3, 2, 0x50, 7], false),
-        (&[0xe0, 4, 2, 0x50, 7, 8], true),
-        (&[0x40], false),
-        (&[0xc1, 2, 1, 0x40], false),
-        (&[0xc1, 3, 2, 0x40, 0x40], true),
-        (&[0x56, 0], true),
-        (&[0x56, 1], true),
-        (&[0x56, 2], false),
-        (&[0x45], true),
-        (&[0xc0, 1, 0], true),
-        (&[0xc0, 2, 1, 0x40], true),
-        (&[0xc0, 3, 1, 0x40, 0x40], false),
-        (&[0xd0, 0, 0, 0, 5, 0, 0, 0, 1, 0x41], true),
-        (&[0xa1, 2, 0xff, 0xff], true),
-        (&[0xa1, 2, 0xff], false),
-        (&[0xb3, 0, 0, 0, 1, 0xff], true),
+    let rows: [(&'static [u8], Answer); 32] = [
+        (&[0xf0, 0, 0, 0, 5, 0xff, 0xff, 0xff, 0xff, 0x40], WHOLE),
+        (&[0xf0, 0, 0, 0, 5, 0xff, 0xff, 0xff, 0xff, 0x45], WHOLE),
+        (
+            &[0xf0, 0, 0, 0, 6, 0xff, 0xff, 0xff, 0xff, 0x40, 0],
+            Answer::Malformed,
+        ),
+        (&[0xe0, 2, 0, 0x45], WHOLE),
+        (&[0xe0, 1, 0], WHOLE),
+        (&[0xe0, 4, 0, 0, 0x40, 0xc0], WHOLE),
+        (&[0xe0, 3, 2, 0x50, 7], Answer::Malformed),
+        (&[0xe0, 4, 2, 0x50, 7, 8], WHOLE),
+        (&[0x40], Answer::Malformed),
+        (&[0xc1, 2, 1, 0x40], Answer::Malformed),
+        (&[0xc1, 3, 2, 0x40, 0x40], WHOLE),
+        (&[0x56, 0], WHOLE),
+        (&[0x56, 1], WHOLE),
+        (&[0x56, 2], Answer::Malformed),
+        (&[0x45], WHOLE),
+        (&[0xc0, 1, 0], WHOLE),
+        (&[0xc0, 2, 1, 0x40], WHOLE),
+        (&[0xc0, 3, 1, 0x40, 0x40], Answer::Malformed),
+        (&[0xd0, 0, 0, 0, 5, 0, 0, 0, 1, 0x41], WHOLE),
+        (&[0xa1, 2, 0xff, 0xff], WHOLE),
+        (&[0xa1, 2, 0xff], Answer::Malformed),
+        (&[0xb3, 0, 0, 0, 1, 0xff], WHOLE),
         (
             &[0x98, 1, 2, 3, 4, 5, 6, 7, 8, 9, 10, 11, 12, 13, 14, 15, 16],
-            true,
+            WHOLE,
         ),
-        (&[0x80, 1, 2, 3, 4, 5, 6, 7], false),
-        (&[0x00, 0x53, 0x24, 0x45], true),
-        (&[0x00, 0x40, 0x40], true),
-        (&[0x00, 0x53, 0x24], false),
-        (&[0x57, 0], false),
-        (&[], false),
+        (&[0x80, 1, 2, 3, 4, 5, 6, 7], Answer::Malformed),
+        (&[0x00, 0x53, 0x24, 0x45], WHOLE),
+        (&[0x00, 0x40, 0x40], WHOLE),
+        (&[0x00, 0x53, 0x24], Answer::Malformed),
+        (&[0x57, 0], Answer::Malformed),
+        (&[], Answer::Malformed),
+        (&[0x41, 0x40], Answer::Value { left: 1 }),
+        (&[0xc0, 1, 0, 0x53, 7], Answer::Value { left: 2 }),
+        (&[0xe0, 4, 2, 0x50, 7, 8, 0xff], Answer::Value { left: 1 }),
     ];
     for (bytes, want) in rows {
-        assert_eq!(rt; is_value(Bytes::from_static(bytes))?, want, "{bytes:?}");
+        assert_eq!(rt; read(Bytes::from_static(bytes)), want, "{bytes:?}");
     }
     Ok(())
 }
@@ -75,10 +73,10 @@ fn nested(alloc: Global, lists: u8) -> Result<Bytes, Fail>
 fn a_depth_of_64_is_the_deepest(rt: HostRuntime) -> Result<(), Fail> {
     let deepest = nested(rt.alloc(), 63)?;
     assert_eq!(rt; deepest.len(), 190);
-    assert!(rt; is_value(deepest)?);
+    assert_eq!(rt; read(deepest), WHOLE);
     let deeper = nested(rt.alloc(), 64)?;
     assert_eq!(rt; deeper.len(), 193);
-    assert!(rt; !is_value(deeper)?);
+    assert_eq!(rt; read(deeper), Answer::Malformed);
     Ok(())
 }
 

@@ -4,7 +4,7 @@ ghost use Rattle.std.specs.Prelude.{◌≡◌, ◌≤◌, ◌<◌, ◌^◌, ◌+
 ghost use Rattle.std.specs.Option.{option_map};
 ghost use Rattle.amqp_session.specs.LinkFlow.{link_flow_of};
 ghost use Rattle.amqp_session.specs.Items.{HandsOut, is_some_list, first_frame};
-ghost use Rattle.amqp_session.specs.Deliveries.{noted};
+ghost use Rattle.amqp_session.specs.Deliveries.{noted, RecordFits};
 ghost use Rattle.amqp_session.specs.States.{is_mapped};
 ghost use Rattle.amqp_session.specs.Links.{attached_at};
 ghost use Rattle.amqp_session.specs.Relay.{FlowQuestion, TransferQuestion};
@@ -18,7 +18,7 @@ use crate::deliveries::{Deliveries, Delivery};
 use crate::error::SessionInnerError;
 use crate::flow::LinkFlow;
 use crate::frame::{SessionFrame, SessionOutgoingItem};
-use crate::numbers::InputHandle;
+use crate::numbers::{InputHandle, OutgoingChannel};
 use crate::relay::LinkRelay;
 use amqp_types::{DeliveryNumber, DeliveryTag, Disposition, Flow, Transfer};
 use bytes::Bytes;
@@ -49,6 +49,7 @@ fn take_room(
 
 /// Hands out a frame that stands first, if any, and behind it what the window lets out.
 fn hand_on(
+    channel: OutgoingChannel,
     first: Option<SessionFrame>,
     sending: &mut Sending,
     deliveries: &mut Deliveries,
@@ -58,19 +59,19 @@ fn hand_on(
     requires room { vec_len room + ready_count sending.old ≤ vec_capacity room }
     requires first { 0 < ready_count sending.old → vec_len room + ready_count sending.old + 1 ≤ vec_capacity room }
     requires records { length deliveries.old.rows + ready_count sending.old ≤ deliveries.old.capacity }
-    ensures item { HandsOut (is_some_list (let_out sending.old)) (first_frame first ++ let_out sending.old) result }
+    ensures item { HandsOut (is_some_list (let_out channel.0 sending.old)) (first_frame first ++ let_out channel.0 sending.old) result }
     ensures sending { sending.new ≡ drained sending.old }
     ensures opened { deliveries.new.rows ≡ opened_by sending.old deliveries.old.rows }
 {
     let mut frames = room;
     if sending.ready() == 0 {
-        sending.drain(&mut frames, deliveries);
+        sending.drain(channel, &mut frames, deliveries);
         return alone(first);
     }
     if let Some(frame) = first {
         frames.push(frame).unwrap();
     }
-    sending.drain(&mut frames, deliveries);
+    sending.drain(channel, &mut frames, deliveries);
     Some(SessionOutgoingItem::MultipleFrames(frames))
 }
 
@@ -111,7 +112,7 @@ impl<R: LinkRelay> Session<R> {
         &mut self,
         flow: Flow,
     ) -> Result<Option<SessionOutgoingItem>, SessionInnerError>
-        ensures { (asked : Option (FlowQuestion R)) × FlowStep R.flow_gives self.old flow asked result self.new }
+        ensures { (asked : Option (FlowQuestion R)) × FlowStep R.gives.flow_gives self.old flow asked result self.new }
     {
         self.move_windows(&flow);
         match flow.handle {
@@ -133,7 +134,7 @@ impl<R: LinkRelay> Session<R> {
         transfer: Transfer,
         payload: Bytes,
     ) -> Result<Option<Disposition>, SessionInnerError>
-        ensures { (asked : Option (TransferQuestion R)) × TakeTransferStep R.transfer_gives self.old transfer payload asked result self.new }
+        ensures { (asked : Option (TransferQuestion R)) × TakeTransferStep R.gives.transfer_gives self.old transfer payload asked result self.new }
     {
         self.receiving.count_transfer();
         let input = InputHandle::from(transfer.handle);
@@ -147,7 +148,7 @@ impl<R: LinkRelay> Session<R> {
         transfer: Transfer,
         payload: Bytes,
     ) -> Result<Option<Disposition>, SessionInnerError>
-        ensures { (asked : Option (TransferQuestion R)) × LinkTransferStep R.transfer_gives self.old input.0 transfer payload asked result self.new }
+        ensures { (asked : Option (TransferQuestion R)) × LinkTransferStep R.gives.transfer_gives self.old input.0 transfer payload asked result self.new }
     {
         if !self.links.is_attached(input) {
             return Err(SessionInnerError::UnattachedHandle);
@@ -169,8 +170,10 @@ impl<R: LinkRelay> Session<R> {
         ensures moved { self.new ≡ flow_moved self.old flow.now }
         ensures fits { FlowFits self.old flow.now }
     {
-        self.sending
-            .move_window(flow.next_incoming_id, flow.incoming_window);
+        let base = flow
+            .next_incoming_id
+            .unwrap_or(self.settings.next_outgoing_id);
+        self.sending.move_window(base, flow.incoming_window);
         self.receiving
             .tell(flow.next_outgoing_id, flow.outgoing_window);
     }
@@ -185,7 +188,8 @@ impl<R: LinkRelay> Session<R> {
         let Ok(room) = take_room(self.alloc, self.sending.ready(), &mut self.sent) else {
             return Err(SessionInnerError::OutOfMemory);
         };
-        Ok(hand_on(None, &mut self.sending, &mut self.sent, room))
+        let channel = self.outgoing_channel;
+        Ok(hand_on(channel, None, &mut self.sending, &mut self.sent, room))
     }
 
     /// What a flow for a link lets out.
@@ -194,7 +198,7 @@ impl<R: LinkRelay> Session<R> {
         input: InputHandle,
         flow: LinkFlow,
     ) -> Result<Option<SessionOutgoingItem>, SessionInnerError>
-        ensures { (asked : Option (FlowQuestion R)) × LinkFlowStep R.flow_gives self.old input.0 flow asked result self.new }
+        ensures { (asked : Option (FlowQuestion R)) × LinkFlowStep R.gives.flow_gives self.old input.0 flow asked result self.new }
     {
         if !self.links.is_attached(input) {
             return Err(SessionInnerError::UnattachedHandle);
@@ -214,7 +218,7 @@ impl<R: LinkRelay> Session<R> {
     ) -> Result<Option<SessionOutgoingItem>, SessionInnerError>
         requires mapped { is_mapped self.old.state ≡ true }
         requires attached { IsSome (attached_at input.0 self.old.links) }
-        ensures { (asked : Option (FlowQuestion R)) × LinkFlowStep R.flow_gives self.old input.0 flow asked result self.new }
+        ensures { (asked : Option (FlowQuestion R)) × LinkFlowStep R.gives.flow_gives self.old input.0 flow asked result self.new }
     {
         let Ok(room) = take_room(self.alloc, self.sending.ready(), &mut self.sent) else {
             return Err(SessionInnerError::OutOfMemory);
@@ -223,7 +227,13 @@ impl<R: LinkRelay> Session<R> {
             Err(error) => Err(SessionInnerError::from(error)),
             Ok(echo) => {
                 let first = self.echo(echo);
-                Ok(hand_on(first, &mut self.sending, &mut self.sent, room))
+                Ok(hand_on(
+                    self.outgoing_channel,
+                    first,
+                    &mut self.sending,
+                    &mut self.sent,
+                    room,
+                ))
             }
         }
     }
@@ -236,7 +246,7 @@ impl<R: LinkRelay> Session<R> {
     ) -> Result<Option<SessionOutgoingItem>, SessionInnerError>
         requires mapped { is_mapped self.old.state ≡ false }
         requires attached { IsSome (attached_at input.0 self.old.links) }
-        ensures { (asked : Option (FlowQuestion R)) × LinkFlowStep R.flow_gives self.old input.0 flow asked result self.new }
+        ensures { (asked : Option (FlowQuestion R)) × LinkFlowStep R.gives.flow_gives self.old input.0 flow asked result self.new }
     {
         match self.links.ask_flow(input, flow) {
             Err(error) => Err(SessionInnerError::from(error)),
@@ -262,7 +272,8 @@ fn record_named(
     named: Option<(DeliveryNumber, DeliveryTag)>,
 )
     requires { length deliveries.old.rows < deliveries.old.capacity }
-    ensures { deliveries.new.rows ≡ noted (named_delivery input.0 named) deliveries.old.rows }
+    ensures rows { deliveries.new.rows ≡ noted (named_delivery input.0 named) deliveries.old.rows }
+    ensures fits { RecordFits (named_delivery input.0 named) }
 {
     if let Some((number, tag)) = named {
         deliveries.record(Delivery {

@@ -57,7 +57,8 @@ impl<R: LinkRelay> Session<R> {
         let Ok(held) = Held::new(input_handle, transfer, payload, is_first) else {
             return Err(SessionInnerError::OutOfMemory);
         };
-        match self.sending.send(self.alloc, held, &mut self.sent) {
+        let channel = self.outgoing_channel;
+        match self.sending.send(self.alloc, channel, held, &mut self.sent) {
             Ok(item) => Ok(item),
             Err(_) => Err(SessionInnerError::OutOfMemory),
         }

@@ -20,8 +20,6 @@ use std::marker::Model;
 /// (AMQP 1.0 part 2, section 2.5.6).
 #[derive(Drop)]
 pub(crate) struct Sending {
-    channel: OutgoingChannel,
-    initial: u32,
     next: u32,
     window: u32,
     delivery: u32,
@@ -36,8 +34,6 @@ impl Model for Sending {
     ghost Value = { SendingView };
 
     ghost view = { λ s. record {
-      channel = s.channel.0;
-      initial = s.initial;
       next = s.next;
       window = s.window;
       delivery = s.delivery;
@@ -86,12 +82,10 @@ fn hand_out(
 
 impl Sending {
     /// Nothing waits, nothing went out, and the window is 0.
-    pub(crate) fn new(alloc: Global, channel: OutgoingChannel, next_outgoing_id: u32) -> Sending
-        ensures { result ≡ new_sending channel.0 next_outgoing_id }
+    pub(crate) fn new(alloc: Global, next_outgoing_id: u32) -> Sending
+        ensures { result ≡ new_sending next_outgoing_id }
     {
         Sending {
-            channel,
-            initial: next_outgoing_id,
             next: next_outgoing_id,
             window: 0,
             delivery: 0,
@@ -128,13 +122,12 @@ impl Sending {
         self.window = width;
     }
 
-    /// A received Flow gives the window from `base` on, and from the first number where the peer does not know a next one.
-    pub(crate) fn move_window(&mut self, base: Option<u32>, width: u32)
+    /// A received Flow gives the window from `base` on.
+    pub(crate) fn move_window(&mut self, base: u32, width: u32)
         ensures moved { self.new ≡ moved self.old base width }
         ensures width { width < 2 ^ 32 }
-        ensures base { unwrap_or base self.old.initial < 2 ^ 32 }
+        ensures base { base < 2 ^ 32 }
     {
-        let base = base.unwrap_or(self.initial);
         self.window = width.saturating_sub(self.next.wrapping_sub(base));
     }
 
@@ -147,11 +140,16 @@ impl Sending {
     }
 
     /// Hands out what the window lets out, and records the deliveries that it opens.
-    pub(crate) fn drain(&mut self, frames: &mut Vec<SessionFrame>, deliveries: &mut Deliveries)
+    pub(crate) fn drain(
+        &mut self,
+        channel: OutgoingChannel,
+        frames: &mut Vec<SessionFrame>,
+        deliveries: &mut Deliveries,
+    )
         requires room { vec_len frames.old + ready_count self.old ≤ vec_capacity frames.old }
         requires records { length deliveries.old.rows + ready_count self.old ≤ deliveries.old.capacity }
         ensures drained { self.new ≡ drained self.old }
-        ensures frames { frames.new.items ≡ frames.old.items ++ let_out self.old }
+        ensures frames { frames.new.items ≡ frames.old.items ++ let_out channel.0 self.old }
         ensures opened { deliveries.new.rows ≡ opened_by self.old deliveries.old.rows }
     {
         let count = self.held.len().min(self.window as usize);
@@ -159,7 +157,7 @@ impl Sending {
             &mut self.held,
             frames,
             deliveries,
-            self.channel,
+            channel,
             count,
             self.delivery,
         );
@@ -180,15 +178,20 @@ impl Sending {
     }
 
     /// The transfer goes out alone: none waits, and the window is not used up.
-    fn send_alone(&mut self, held: Held, deliveries: &mut Deliveries) -> SessionFrame
+    fn send_alone(
+        &mut self,
+        channel: OutgoingChannel,
+        held: Held,
+        deliveries: &mut Deliveries,
+    ) -> SessionFrame
         requires alone { self.old.held ≡ [] }
         requires open_window { 0 < self.old.window }
         requires records { length deliveries.old.rows < deliveries.old.capacity }
-        ensures frame { let_out (joined self.old held) ≡ result ∷ [] }
+        ensures frame { let_out channel.0 (joined self.old held) ≡ result ∷ [] }
         ensures drained { self.new ≡ drained (joined self.old held) }
         ensures opened { deliveries.new.rows ≡ opened_by (joined self.old held) deliveries.old.rows }
     {
-        let out = held.numbered(self.channel, self.delivery);
+        let out = held.numbered(channel, self.delivery);
         note(deliveries, out.delivery);
         self.delivery = out.next;
         self.next = self.next.wrapping_add(1);
@@ -200,10 +203,11 @@ impl Sending {
     fn send_behind(
         &mut self,
         alloc: Global,
+        channel: OutgoingChannel,
         held: Held,
         deliveries: &mut Deliveries,
     ) -> Result<Vec<SessionFrame>, AllocError>
-        ensures frames { IfOk result (λ frames. frames.items ≡ let_out (joined self.old held)) }
+        ensures frames { IfOk result (λ frames. frames.items ≡ let_out channel.0 (joined self.old held)) }
         ensures drained { OnOk result (self.new ≡ drained (joined self.old held)) }
         ensures opened { OnOk result (deliveries.new.rows ≡ opened_by (joined self.old held) deliveries.old.rows) }
         ensures err { OnErr result (self.new ≡ self.old) }
@@ -214,7 +218,7 @@ impl Sending {
         let mut frames = Vec::with_capacity(alloc, count)?;
         deliveries.reserve(count)?;
         self.held.push_back_reserved(held);
-        self.drain(&mut frames, deliveries);
+        self.drain(channel, &mut frames, deliveries);
         Ok(frames)
     }
 
@@ -223,10 +227,11 @@ impl Sending {
     pub(crate) fn send(
         &mut self,
         alloc: Global,
+        channel: OutgoingChannel,
         held: Held,
         deliveries: &mut Deliveries,
     ) -> Result<Option<SessionOutgoingItem>, AllocError>
-        ensures item { IfOk result (λ item. HandsOut (is_some_held self.old.held) (let_out (joined self.old held)) item) }
+        ensures item { IfOk result (λ item. HandsOut (is_some_held self.old.held) (let_out channel.0 (joined self.old held)) item) }
         ensures drained { OnOk result (self.new ≡ drained (joined self.old held)) }
         ensures opened { OnOk result (deliveries.new.rows ≡ opened_by (joined self.old held) deliveries.old.rows) }
         ensures err { OnErr result (self.new ≡ self.old) }
@@ -238,8 +243,12 @@ impl Sending {
         }
         if self.held.is_empty() {
             deliveries.reserve(1)?;
-            return Ok(Some(SessionOutgoingItem::SingleFrame(self.send_alone(held, deliveries))));
+            return Ok(Some(SessionOutgoingItem::SingleFrame(self.send_alone(
+                channel, held, deliveries,
+            ))));
         }
-        Ok(Some(SessionOutgoingItem::MultipleFrames(self.send_behind(alloc, held, deliveries)?)))
+        Ok(Some(SessionOutgoingItem::MultipleFrames(self.send_behind(
+            alloc, channel, held, deliveries,
+        )?)))
     }
 }

@@ -25,9 +25,9 @@ pub struct Attach {
     pub handle: Handle,
     /// Which end the sender of the frame is. Mandatory.
     pub role: Role,
-    /// How the sending end settles. Where it is not said, mixed.
+    /// How the sending end settles. Default: mixed.
     pub snd_settle_mode: SenderSettleMode,
-    /// How the receiving end settles. Where it is not said, first.
+    /// How the receiving end settles. Default: first.
     pub rcv_settle_mode: ReceiverSettleMode,
     /// Where messages come from.
     pub source: Option<Raw>,
@@ -35,7 +35,7 @@ pub struct Attach {
     pub target: Option<Raw>,
     /// The deliveries that are not settled.
     pub unsettled: Option<Fields>,
-    /// Whether more deliveries are unsettled than are named. Where it is not said, false.
+    /// Whether more deliveries are unsettled than are named. Default: false.
     pub incomplete_unsettled: bool,
     /// Where the delivery count begins.
     pub initial_delivery_count: Option<u32>,

@@ -26,7 +26,7 @@ pub struct Begin {
     pub incoming_window: u32,
     /// How many transfers may go. Mandatory.
     pub outgoing_window: u32,
-    /// The highest handle that may be used. Where it is not said, 4294967295.
+    /// The highest handle that may be used. Default: 4294967295.
     pub handle_max: Handle,
     /// What the sender of the frame can do.
     pub offered_capabilities: Option<Vec<Symbol>>,

@@ -22,7 +22,7 @@ use std::marker::Model;
 pub struct Detach {
     /// The link. Mandatory.
     pub handle: Handle,
-    /// Whether the link is closed for good. Where it is not said, false.
+    /// Whether the link is closed for good. Default: false.
     pub closed: bool,
     /// Why.
     pub error: Option<Error>,

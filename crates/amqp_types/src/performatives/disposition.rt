@@ -24,11 +24,11 @@ pub struct Disposition {
     pub first: u32,
     /// The last one; where it is not set, the first.
     pub last: Option<u32>,
-    /// Whether the deliveries are settled. Where it is not said, false.
+    /// Whether the deliveries are settled. Default: false.
     pub settled: bool,
     /// The state of the deliveries.
     pub state: Option<Raw>,
-    /// Whether an answer may wait. Where it is not said, false.
+    /// Whether an answer may wait. Default: false.
     pub batchable: bool,
 }
 

@@ -30,13 +30,13 @@ pub struct Flow {
     pub handle: Option<Handle>,
     /// The delivery count of the link.
     pub delivery_count: Option<u32>,
-    /// How many messages may come on the link.
+    /// The link's credit: how many more messages the receiver takes.
     pub link_credit: Option<u32>,
-    /// How many messages wait at the sender.
+    /// How many messages the sender has ready.
     pub available: Option<u32>,
-    /// Whether the credit is to be used up. Where it is not said, false.
+    /// Whether the sender is to use up its credit. Default: false.
     pub drain: bool,
-    /// Whether a flow is wanted in answer. Where it is not said, false.
+    /// Whether a flow is wanted in answer. Default: false.
     pub echo: bool,
     /// Anything else.
     pub properties: Option<Fields>,

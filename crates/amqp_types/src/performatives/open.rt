@@ -21,9 +21,9 @@ pub struct Open {
     pub container_id: String,
     /// The host that is meant.
     pub hostname: Option<String>,
-    /// The largest frame that is taken, in bytes with the size field. Where it is not said, 4294967295.
+    /// The largest frame that the sender of the Open takes, in bytes, its size field included. Default: 4294967295.
     pub max_frame_size: u32,
-    /// The highest channel that may be used. Where it is not said, 65535.
+    /// The highest channel that may be used. Default: 65535.
     pub channel_max: u16,
     /// Milliseconds without a frame after which the connection may be closed.
     pub idle_time_out: Option<u32>,

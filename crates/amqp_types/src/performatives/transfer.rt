@@ -3,7 +3,8 @@
 ghost use Rattle.std.specs.Prelude.{◌≡◌, ◌<◌, ◌≤◌, ◌+◌, ◌^◌, ◌++◌, length, map, List, ℕ, Option};
 ghost use Rattle.amqp_values.specs.Reading.{Gives};
 ghost use Rattle.amqp_values.specs.Writing.{leaf_text};
-ghost use Rattle.amqp_types.specs.Transfer.{continuation, said_in, transfer_body_at, transfer_fields, transfer_first_same, transfer_last_same};
+ghost use Rattle.amqp_types.specs.Transfer.{continuation, said_in, transfer_body_at};
+ghost use Rattle.amqp_types.specs.Transfer.{transfer_fields, transfer_first_same, transfer_last_same};
 ghost use Rattle.amqp_types.specs.declared.performatives.Performative.TheVariants as performative;
 ghost use Rattle.amqp_types.specs.Performatives.{performative_text};
 
@@ -28,17 +29,17 @@ pub struct Transfer {
     pub message_format: Option<u32>,
     /// Whether the sender has settled the delivery.
     pub settled: Option<bool>,
-    /// Whether more transfers of the delivery follow. Where it is not said, false.
+    /// Whether more transfers of the delivery follow. Default: false.
     pub more: bool,
     /// How the receiver is to settle.
     pub rcv_settle_mode: Option<ReceiverSettleMode>,
     /// The state of the delivery.
     pub state: Option<Raw>,
-    /// Whether a delivery is taken up again. Where it is not said, false.
+    /// Whether this resumes a delivery. Default: false.
     pub resume: bool,
-    /// Whether the delivery is given up. Where it is not said, false.
+    /// Whether the delivery is aborted. Default: false.
     pub aborted: bool,
-    /// Whether an answer may wait. Where it is not said, false.
+    /// Whether an answer may wait. Default: false.
     pub batchable: bool,
 }
 

@@ -107,7 +107,7 @@ impl Connection {
             return Err(ConnectionStateError::IllegalState);
         };
         self.state = next;
-        self.channel_max = self.local_open.channel_max.min(open.channel_max);
+        self.agreed_channel_max = self.local_open.channel_max.min(open.channel_max);
         Ok(())
     }
 

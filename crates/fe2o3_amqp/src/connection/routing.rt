@@ -62,9 +62,9 @@ impl Connection {
 
     /// The number of the session to which frames on this channel of the peer's go, if they go to one.
     pub fn session_tx_by_incoming_channel(&self, channel: IncomingChannel) -> Option<SessionNo>
-        ensures { result ≡ option_map (λ n. record { 0 = n }) (map.get self.now.routes channel.0) }
+        ensures { result ≡ option_map (λ n. record { 0 = n }) (map.get self.now.session_by_incoming_channel channel.0) }
     {
-        match self.routes.of(channel.0) {
+        match self.session_by_incoming_channel.of(channel.0) {
             Some(number) => Some(SessionNo(number)),
             None => None,
         }
@@ -85,7 +85,7 @@ impl Connection {
     }
 
     /// A received Begin that names the channel `remote` of this side's: its channel leads to the session that holds that.
-    pub(crate) fn begin_route(
+    fn begin_route(
         &mut self,
         channel: u16,
         remote: Option<u16>,
@@ -98,36 +98,26 @@ impl Connection {
         let Some(held) = remote else {
             return Err(ConnectionInnerError::NotImplemented(None));
         };
-        let Some(number) = self.channels.holder(held) else {
+        let Some(number) = self.session_by_outgoing_channel.holder(held) else {
             return Err(ConnectionInnerError::NotFound(None));
         };
-        let Ok(()) = self.routes.put(channel, number) else {
+        let Ok(()) = self.session_by_incoming_channel.put(channel, number) else {
             return Err(ConnectionInnerError::OutOfMemory);
         };
         Ok(number)
     }
 
     /// A received End: the route goes.
-    pub(crate) fn end_route(&mut self, channel: u16) -> Result<u32, ConnectionInnerError>
+    fn end_route(&mut self, channel: u16) -> Result<u32, ConnectionInnerError>
         ensures { EndRouteStep self.old channel result self.new }
     {
         let ConnectionState::Opened = self.state else {
             return Err(ConnectionInnerError::IllegalState);
         };
-        let Some(number) = self.routes.of(channel) else {
+        let Some(number) = self.session_by_incoming_channel.of(channel) else {
             return Err(ConnectionInnerError::NotFound(None));
         };
-        self.routes.take(channel);
+        self.session_by_incoming_channel.take(channel);
         Ok(number)
-    }
-
-    /// Any other received frame of a session, in every state.
-    pub(crate) fn route(&self, channel: u16) -> Result<u32, ConnectionInnerError>
-        ensures { RouteStep self.now channel result self.now }
-    {
-        match self.routes.of(channel) {
-            Some(number) => Ok(number),
-            None => Err(ConnectionInnerError::NotFound(None)),
-        }
     }
 }

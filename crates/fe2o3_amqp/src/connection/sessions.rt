@@ -56,7 +56,10 @@ impl Connection {
             let reason = self.stop_reason.unwrap_or(ConnectionStopReason::Closed);
             return Err(AllocSessionError::ConnectionStopped(reason));
         }
-        match self.channels.allot(self.channel_max, number.0) {
+        match self
+            .session_by_outgoing_channel
+            .allot(self.agreed_channel_max, number.0)
+        {
             Ok(channel) => Ok(OutgoingChannel(channel)),
             Err(AllotError::Full) => Err(AllocSessionError::ChannelMaxReached),
             Err(AllotError::OutOfMemory) => Err(AllocSessionError::OutOfMemory),
@@ -68,17 +71,17 @@ impl Connection {
     pub fn deallocate_session(&mut self, channel: OutgoingChannel) -> bool
         ensures { DeallocateStep self.old channel.0 result self.new }
     {
-        if self.channels.holder(channel.0).is_none() {
+        if self.session_by_outgoing_channel.holder(channel.0).is_none() {
             return false;
         }
-        self.channels.give_back(channel.0);
+        self.session_by_outgoing_channel.give_back(channel.0);
         true
     }
 
     /// The number of the session that holds the channel.
     pub(crate) fn holder(&self, channel: u16) -> Option<u32>
-        ensures { result ≡ map.get self.now.held channel }
+        ensures { result ≡ map.get self.now.session_by_outgoing_channel channel }
     {
-        self.channels.holder(channel)
+        self.session_by_outgoing_channel.holder(channel)
     }
 }

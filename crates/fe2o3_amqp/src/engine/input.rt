@@ -6,7 +6,7 @@ use amqp_frames::{Error as FrameError, Frame, Piece};
 use amqp_session::{
     InputHandle, LinkFlow, SessionInnerError, SessionSettings, SessionStateError, SessionStopReason,
 };
-use amqp_types::{Error, Transfer};
+use amqp_types::{Error, ReadError, Transfer};
 use bytes::Bytes;
 
 /// A received frame, or a local request.
@@ -67,6 +67,73 @@ pub enum StepError {
     /// Memory was refused before anything was done. Nothing has changed.
     #[error("out of memory")]
     OutOfMemory,
+}
+
+impl From<ConnectionInnerError> for StepError {
+    ghost use Rattle.std.specs.Prelude.{◌≡◌};
+    ghost use Rattle.fe2o3_amqp.specs.declared.engine.input.StepError.TheVariants.{Connection};
+
+    ghost from_gives = { λ error e. e ≡ Connection error };
+
+    fn from(error: ConnectionInnerError) -> StepError {
+        StepError::Connection(error)
+    }
+}
+
+impl From<SessionStateError> for StepError {
+    ghost use Rattle.std.specs.Prelude.{◌≡◌};
+    ghost use Rattle.fe2o3_amqp.specs.declared.engine.input.StepError.TheVariants.{SessionState};
+
+    ghost from_gives = { λ error e. e ≡ SessionState error };
+
+    fn from(error: SessionStateError) -> StepError {
+        StepError::SessionState(error)
+    }
+}
+
+impl From<SessionInnerError> for StepError {
+    ghost use Rattle.std.specs.Prelude.{◌≡◌};
+    ghost use Rattle.fe2o3_amqp.specs.declared.engine.input.StepError.TheVariants.{Session};
+
+    ghost from_gives = { λ error e. e ≡ Session error };
+
+    fn from(error: SessionInnerError) -> StepError {
+        StepError::Session(error)
+    }
+}
+
+impl From<ConnectionStateError> for StepError {
+    ghost use Rattle.std.specs.Prelude.{◌≡◌};
+    ghost use Rattle.fe2o3_amqp.specs.declared.engine.input.StepError.TheVariants.{ConnectionState};
+
+    ghost from_gives = { λ error e. e ≡ ConnectionState error };
+
+    fn from(error: ConnectionStateError) -> StepError {
+        StepError::ConnectionState(error)
+    }
+}
+
+impl From<FrameError> for StepError {
+    ghost use Rattle.std.specs.Prelude.{◌≡◌};
+    ghost use Rattle.fe2o3_amqp.specs.declared.engine.input.StepError.TheVariants.{Frame};
+
+    ghost from_gives = { λ error e. e ≡ Frame error };
+
+    fn from(error: FrameError) -> StepError {
+        StepError::Frame(error)
+    }
+}
+
+impl From<ReadError> for StepError {
+    ghost use Rattle.std.specs.Prelude.{◌≡◌};
+    ghost use Rattle.amqp_frames.specs.FrameError.{error_of};
+    ghost use Rattle.fe2o3_amqp.specs.declared.engine.input.StepError.TheVariants.{Frame};
+
+    ghost from_gives = { λ error e. e ≡ Frame (error_of error) };
+
+    fn from(error: ReadError) -> StepError {
+        StepError::Frame(FrameError::from(error))
+    }
 }
 
 /// What became of an input, and what is to be sent for it.

@@ -3,21 +3,28 @@
 
 ghost use Rattle.std.specs.Prelude.{◌≡◌, ℕ, Option, Some, None, List, []};
 ghost use Rattle.std.specs.Option.{option_map};
-ghost use Rattle.amqp_frames.specs.declared.frame.Frame.{Frame};
-ghost use Rattle.fe2o3_amqp.specs.Connection.{BeginRouteStep, EndRouteStep, RouteStep, refusal_of};
-ghost use Rattle.amqp_session.specs.Relay.{relays};
+ghost use Rattle.amqp_types.specs.declared.performatives.kind.Kind.TheVariants as kind;
+ghost use Rattle.amqp_types.specs.Begin.{BeginSaid};
+ghost use Rattle.amqp_types.specs.End.{EndSaid};
+ghost use Rattle.amqp_session.specs.declared.frame.SessionFrameBody.TheVariants as said;
+ghost use Rattle.fe2o3_amqp.specs.Connection.{RouteStep, refusal_of};
 ghost use Rattle.amqp_session.specs.History as session;
 ghost use Rattle.fe2o3_amqp.specs.EngineView.{peer_limit};
-ghost use Rattle.fe2o3_amqp.specs.Sessions.{Reaches, BeginHeardCalls, EndHeardCalls, FlowHeardCalls, TransferHeardCalls};
-ghost use Rattle.fe2o3_amqp.specs.Engine.{OpenHeard, CloseHeard, CloseHeardStep, LeftOut, Heard, Received, left_out, recorded, remote_reason};
+ghost use Rattle.fe2o3_amqp.specs.Engine.{ReceivedStep, FieldsStep, ReceivedCloseStep, Unimplemented, unimplemented, recorded, remote_reason};
 
 use super::Engine;
 use super::input::StepError;
-use super::sessions::SessionCall;
+use super::sessions::{begin_received, end_received, flow_received, transfer_received};
 use crate::connection::{Connection, ConnectionInnerError, ConnectionStateError};
-use amqp_frames::{FrameBody, FrameEncoder};
-use amqp_session::{ConnectionStopReason, IncomingChannel, LinkRelay};
-use amqp_types::{Begin, Close, ConnectionState, End, Error, Flow, Open, Transfer};
+use amqp_frames::FrameEncoder;
+use amqp_session::{
+    ConnectionStopReason, IncomingChannel, LinkRelay, SessionFrame, SessionFrameBody,
+};
+use amqp_types::{
+    Attach, Begin, Close, ConnectionState, Detach, Disposition, End, Error, Flow, Kind, Open,
+    Transfer,
+};
+use amqp_values::composite::read_list;
 use bytes::Bytes;
 
 /// Why the connection stops with a Close of the peer.
@@ -52,7 +59,7 @@ fn take_close(
     channel: u16,
     close: Close,
 ) -> Result<(), ConnectionStateError>
-    ensures { CloseHeardStep connection.old close (refusal_of result) connection.new }
+    ensures { ReceivedCloseStep connection.old close (refusal_of result) connection.new }
 {
     let reason = reason_of(&close.error);
     let next = connection.after_close();
@@ -61,26 +68,31 @@ fn take_close(
     told
 }
 
-/// The answer of the connection, as the engine's.
-fn told(answer: Result<(), ConnectionStateError>) -> Result<(), StepError>
-    ensures { refusal_of result ≡ option_map (λ e. StepError.ConnectionState e) (refusal_of answer) }
+/// The Begin that the connection passes on.
+fn begin_in(frame: SessionFrame) -> Begin
+    requires { (b : BeginSaid) × (frame.body ≡ said.Begin b) }
+    ensures { frame.body ≡ said.Begin result }
 {
-    match answer {
-        Ok(()) => Ok(()),
-        Err(error) => Err(StepError::ConnectionState(error)),
+    match frame.body {
+        SessionFrameBody::Begin(begin) => begin,
+        _ => unreachable!(),
     }
 }
 
-/// The channel of this side's that a Begin answers, if it answers one.
-fn remote_channel(begin: &Begin) -> Option<u16>
-    ensures { result ≡ begin.now.remote_channel }
+/// The End that the connection passes on.
+fn end_in(frame: SessionFrame) -> End
+    requires { (e : EndSaid) × (frame.body ≡ said.End e) }
+    ensures { frame.body ≡ said.End result }
 {
-    begin.remote_channel
+    match frame.body {
+        SessionFrameBody::End(end) => end,
+        _ => unreachable!(),
+    }
 }
 
-/// Why a frame is not taken that is left out yet.
-fn left_out(found: Result<u32, ConnectionInnerError>) -> ConnectionInnerError
-    ensures { result ≡ left_out found }
+/// The refusal of a frame that is not implemented yet: no route, or no call for it.
+fn unimplemented(found: Result<u32, ConnectionInnerError>) -> ConnectionInnerError
+    ensures { result ≡ unimplemented found }
 {
     match found {
         Ok(_number) => ConnectionInnerError::NotImplemented(None),
@@ -91,125 +103,149 @@ fn left_out(found: Result<u32, ConnectionInnerError>) -> ConnectionInnerError
 impl<R: LinkRelay> Engine<R> {
     pub(super) fn receive(&mut self, bytes: Bytes) -> Result<(), StepError>
         requires { self.old.waiting ≡ [] }
-        ensures { (heard : Option Frame) × (reached : Option ℕ) × (calls : List (session.Entry R)) × Received (relays R.attach_gives R.flow_gives R.transfer_gives R.disposition_gives R.detach_gives) self.old bytes heard reached calls (refusal_of result) self.new }
+        ensures { ReceivedStep R.gives self.old bytes (refusal_of result) self.new }
     {
-        match self.decoder.decode(self.alloc, bytes) {
-            Ok((frame, rest)) => {
-                drop(rest);
-                let channel = frame.channel();
-                self.hear(channel, frame.into_body())
-            }
-            Err(error) => Err(StepError::Frame(error)),
+        let mut fields = bytes;
+        let head = self.decoder.head(&mut fields)?;
+        match head.kind {
+            // An empty frame is no one's.
+            None => Ok(()),
+            Some(kind) => self.receive_kind(head.channel, kind, fields),
         }
     }
 
-    fn hear(&mut self, channel: u16, body: FrameBody) -> Result<(), StepError>
+    fn receive_kind(&mut self, channel: u16, kind: Kind, fields: Bytes) -> Result<(), StepError>
         requires { self.old.waiting ≡ [] }
-        ensures { (reached : Option ℕ) × (calls : List (session.Entry R)) × Heard (relays R.attach_gives R.flow_gives R.transfer_gives R.disposition_gives R.detach_gives) self.old channel body reached calls (refusal_of result) self.new }
+        ensures { FieldsStep R.gives self.old channel (Some kind) fields (refusal_of result) self.new }
     {
-        match body {
-            FrameBody::Empty => Ok(()),
-            FrameBody::Open(open) => self.receive_open(channel, open),
-            FrameBody::Close(close) => self.receive_close(channel, close),
-            FrameBody::Begin(begin) => self.receive_begin(channel, begin),
-            FrameBody::End(end) => self.receive_end(channel, end),
-            FrameBody::Flow(flow) => self.receive_flow(channel, flow),
-            FrameBody::Transfer {
-                performative,
-                payload,
-            } => self.receive_transfer(channel, performative, payload),
-            FrameBody::Attach(attach) => self.leave_out(channel, attach),
-            FrameBody::Disposition(disposition) => self.leave_out(channel, disposition),
-            FrameBody::Detach(detach) => self.leave_out(channel, detach),
+        match kind {
+            Kind::Transfer => self.receive_transfer(channel, fields),
+            Kind::Flow => self.receive_flow(channel, fields),
+            Kind::Disposition => self.receive_disposition(channel, fields),
+            Kind::Attach => self.receive_attach(channel, fields),
+            Kind::Detach => self.receive_detach(channel, fields),
+            Kind::Begin => self.receive_begin(channel, fields),
+            Kind::End => self.receive_end(channel, fields),
+            Kind::Open => self.receive_open(channel, fields),
+            Kind::Close => self.receive_close(channel, fields),
         }
     }
 
-    fn receive_open(&mut self, channel: u16, open: Open) -> Result<(), StepError>
-        ensures { OpenHeard self.old «open» (refusal_of result) self.new }
+    fn receive_transfer(&mut self, channel: u16, fields: Bytes) -> Result<(), StepError>
+        requires { self.old.waiting ≡ [] }
+        ensures { FieldsStep R.gives self.old channel (Some kind.Transfer) fields (refusal_of result) self.new }
     {
-        let limit = limit_of(&open);
-        match self
-            .connection
-            .on_incoming_open(IncomingChannel(channel), open)
-        {
-            Ok(()) => {
-                self.encoder = FrameEncoder::new(limit);
-                Ok(())
-            }
-            Err(error) => Err(StepError::ConnectionState(error)),
-        }
+        let mut rest = fields;
+        let transfer: Transfer = read_list(self.alloc, &mut rest)?;
+        let number = self.route(channel)?;
+        self.ask_session(number, |session| transfer_received(session, transfer, rest))
     }
 
-    fn receive_close(&mut self, channel: u16, close: Close) -> Result<(), StepError>
-        ensures { CloseHeard self.old close (refusal_of result) self.new }
+    fn receive_flow(&mut self, channel: u16, fields: Bytes) -> Result<(), StepError>
+        requires { self.old.waiting ≡ [] }
+        ensures { FieldsStep R.gives self.old channel (Some kind.Flow) fields (refusal_of result) self.new }
     {
-        told(take_close(&mut self.connection, channel, close))
+        let mut rest = fields;
+        let flow: Flow = read_list(self.alloc, &mut rest)?;
+        let number = self.route(channel)?;
+        self.ask_session(number, |session| flow_received(session, flow))
+    }
+
+    fn receive_disposition(&mut self, channel: u16, fields: Bytes) -> Result<(), StepError>
+        requires { self.old.waiting ≡ [] }
+        ensures { FieldsStep R.gives self.old channel (Some kind.Disposition) fields (refusal_of result) self.new }
+    {
+        let mut rest = fields;
+        let disposition: Disposition = read_list(self.alloc, &mut rest)?;
+        self.refuse_unimplemented(channel, disposition)
+    }
+
+    fn receive_attach(&mut self, channel: u16, fields: Bytes) -> Result<(), StepError>
+        requires { self.old.waiting ≡ [] }
+        ensures { FieldsStep R.gives self.old channel (Some kind.Attach) fields (refusal_of result) self.new }
+    {
+        let mut rest = fields;
+        let attach: Attach = read_list(self.alloc, &mut rest)?;
+        self.refuse_unimplemented(channel, attach)
+    }
+
+    fn receive_detach(&mut self, channel: u16, fields: Bytes) -> Result<(), StepError>
+        requires { self.old.waiting ≡ [] }
+        ensures { FieldsStep R.gives self.old channel (Some kind.Detach) fields (refusal_of result) self.new }
+    {
+        let mut rest = fields;
+        let detach: Detach = read_list(self.alloc, &mut rest)?;
+        self.refuse_unimplemented(channel, detach)
     }
 
     /// The connection's acceptance decides the route, also where the session then refuses.
-    fn receive_begin(&mut self, channel: u16, begin: Begin) -> Result<(), StepError>
+    fn receive_begin(&mut self, channel: u16, fields: Bytes) -> Result<(), StepError>
         requires { self.old.waiting ≡ [] }
-        ensures { (reached : Option ℕ) × (calls : List (session.Entry R)) × Reaches (relays R.attach_gives R.flow_gives R.transfer_gives R.disposition_gives R.detach_gives) (BeginRouteStep self.old.connection channel begin.remote_channel) self.old (BeginHeardCalls channel begin) reached calls (refusal_of result) self.new }
+        ensures { FieldsStep R.gives self.old channel (Some kind.Begin) fields (refusal_of result) self.new }
     {
-        let remote = remote_channel(&begin);
-        match self.connection.begin_route(channel, remote) {
-            Ok(number) => self.ask_session(number, SessionCall::BeginHeard(channel, begin)),
-            Err(error) => {
-                drop(begin);
-                Err(StepError::Connection(error))
-            }
+        let mut rest = fields;
+        let begin: Begin = read_list(self.alloc, &mut rest)?;
+        let (number, frame) = self
+            .connection
+            .on_incoming_begin(IncomingChannel(channel), begin)?;
+        let begin = begin_in(frame);
+        self.ask_session(number.0, |session| begin_received(session, channel, begin))
+    }
+
+    fn receive_end(&mut self, channel: u16, fields: Bytes) -> Result<(), StepError>
+        requires { self.old.waiting ≡ [] }
+        ensures { FieldsStep R.gives self.old channel (Some kind.End) fields (refusal_of result) self.new }
+    {
+        let mut rest = fields;
+        let end: End = read_list(self.alloc, &mut rest)?;
+        let (number, frame) = self
+            .connection
+            .on_incoming_end(IncomingChannel(channel), end)?;
+        let end = end_in(frame);
+        self.ask_session(number.0, |session| end_received(session, channel, end))
+    }
+
+    fn receive_open(&mut self, channel: u16, fields: Bytes) -> Result<(), StepError>
+        requires { self.old.waiting ≡ [] }
+        ensures { FieldsStep R.gives self.old channel (Some kind.Open) fields (refusal_of result) self.new }
+    {
+        let mut rest = fields;
+        let open: Open = read_list(self.alloc, &mut rest)?;
+        let limit = limit_of(&open);
+        self.connection
+            .on_incoming_open(IncomingChannel(channel), open)?;
+        self.encoder = FrameEncoder::new(limit);
+        Ok(())
+    }
+
+    fn receive_close(&mut self, channel: u16, fields: Bytes) -> Result<(), StepError>
+        requires { self.old.waiting ≡ [] }
+        ensures { FieldsStep R.gives self.old channel (Some kind.Close) fields (refusal_of result) self.new }
+    {
+        let mut rest = fields;
+        let close: Close = read_list(self.alloc, &mut rest)?;
+        take_close(&mut self.connection, channel, close)?;
+        Ok(())
+    }
+
+    /// The session to which a frame on this channel goes, in every state.
+    fn route(&self, channel: u16) -> Result<u32, ConnectionInnerError>
+        ensures { RouteStep self.now.connection channel result self.now.connection }
+    {
+        match self
+            .connection
+            .session_tx_by_incoming_channel(IncomingChannel(channel))
+        {
+            Some(number) => Ok(number.0),
+            None => Err(ConnectionInnerError::NotFound(None)),
         }
     }
 
-    fn receive_end(&mut self, channel: u16, end: End) -> Result<(), StepError>
-        requires { self.old.waiting ≡ [] }
-        ensures { (reached : Option ℕ) × (calls : List (session.Entry R)) × Reaches (relays R.attach_gives R.flow_gives R.transfer_gives R.disposition_gives R.detach_gives) (EndRouteStep self.old.connection channel) self.old (EndHeardCalls channel end) reached calls (refusal_of result) self.new }
-    {
-        match self.connection.end_route(channel) {
-            Ok(number) => self.ask_session(number, SessionCall::EndHeard(channel, end)),
-            Err(error) => {
-                drop(end);
-                Err(StepError::Connection(error))
-            }
-        }
-    }
-
-    fn receive_flow(&mut self, channel: u16, flow: Flow) -> Result<(), StepError>
-        requires { self.old.waiting ≡ [] }
-        ensures { (reached : Option ℕ) × (calls : List (session.Entry R)) × Reaches (relays R.attach_gives R.flow_gives R.transfer_gives R.disposition_gives R.detach_gives) (RouteStep self.old.connection channel) self.old (FlowHeardCalls flow) reached calls (refusal_of result) self.new }
-    {
-        match self.connection.route(channel) {
-            Ok(number) => self.ask_session(number, SessionCall::FlowHeard(flow)),
-            Err(error) => {
-                drop(flow);
-                Err(StepError::Connection(error))
-            }
-        }
-    }
-
-    fn receive_transfer(
-        &mut self,
-        channel: u16,
-        transfer: Transfer,
-        payload: Bytes,
-    ) -> Result<(), StepError>
-        requires { self.old.waiting ≡ [] }
-        ensures { (reached : Option ℕ) × (calls : List (session.Entry R)) × Reaches (relays R.attach_gives R.flow_gives R.transfer_gives R.disposition_gives R.detach_gives) (RouteStep self.old.connection channel) self.old (TransferHeardCalls transfer payload) reached calls (refusal_of result) self.new }
-    {
-        match self.connection.route(channel) {
-            Ok(number) => self.ask_session(number, SessionCall::TransferHeard(transfer, payload)),
-            Err(error) => {
-                drop((transfer, payload));
-                Err(StepError::Connection(error))
-            }
-        }
-    }
-
-    fn leave_out<P: Drop>(&mut self, channel: u16, said: P) -> Result<(), StepError>
-        ensures { (reached : Option ℕ) × (calls : List (session.Entry R)) × LeftOut self.old channel reached calls (refusal_of result) self.new }
+    fn refuse_unimplemented<P: Drop>(&mut self, channel: u16, said: P) -> Result<(), StepError>
+        ensures { (reached : Option ℕ) × (calls : List (session.Entry R)) × Unimplemented self.old channel reached calls (refusal_of result) self.new }
     {
         drop(said);
-        let found = self.connection.route(channel);
-        Err(StepError::Connection(left_out(found)))
+        let found = self.route(channel);
+        Err(StepError::Connection(unimplemented(found)))
     }
 }

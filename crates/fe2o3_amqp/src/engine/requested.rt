@@ -5,16 +5,15 @@ ghost use Rattle.amqp_types.specs.declared.states.SessionState.TheVariants.{Unma
 ghost use Rattle.amqp_session.specs.Session.{new_session};
 ghost use Rattle.amqp_frames.specs.declared.frame.Frame.{Frame};
 ghost use Rattle.amqp_session.specs.declared.stop.ConnectionStopReason.{ConnectionStopReason};
-ghost use Rattle.amqp_session.specs.Relay.{relays};
 ghost use Rattle.amqp_session.specs.History as session;
 ghost use Rattle.fe2o3_amqp.specs.Connection.{refusal_of};
-ghost use Rattle.fe2o3_amqp.specs.Sessions.{Does, BeginRequest, BegunStep, ReleaseRequest};
-ghost use Rattle.fe2o3_amqp.specs.SessionCalls.{asks};
-ghost use Rattle.fe2o3_amqp.specs.Engine.{OpenRequest, CloseRequest, Carries, close_reason};
+ghost use Rattle.fe2o3_amqp.specs.Sessions.{Asks, BeginRequest, BegunStep, ReleaseRequest};
+ghost use Rattle.std.specs.Fn.{FnOnceReturnsAtMut};
+ghost use Rattle.fe2o3_amqp.specs.Engine.{OpenRequest, CloseRequest, CarriedStep, close_reason};
 
 use super::Engine;
 use super::input::{Input, StepError};
-use super::sessions::{SessionCall, ask};
+use super::sessions::{Handed, end, send_flow, send_transfer, stop};
 use super::waiting::Waiting;
 use crate::connection::ConnectionInnerError;
 use crate::numbers::SessionNo;
@@ -58,21 +57,29 @@ fn begun<R: LinkRelay>(
 impl<R: LinkRelay> Engine<R> {
     pub(super) fn carry_out(&mut self, input: Input) -> Result<(), StepError>
         requires { self.old.waiting ≡ [] }
-        ensures { (heard : Option Frame) × (reached : Option ℕ) × (calls : List (session.Entry R)) × Carries (relays R.attach_gives R.flow_gives R.transfer_gives R.disposition_gives R.detach_gives) self.old input heard reached calls (refusal_of result) self.new }
+        ensures { CarriedStep R.gives self.old input (refusal_of result) self.new }
     {
         match input {
             Input::Received(bytes) => self.receive(bytes),
             Input::Open => self.request_open(),
             Input::Close(error) => self.request_close(error),
             Input::Begin(number, settings) => self.request_begin(number.0, settings),
-            Input::End(number, error) => self.ask_session(number.0, SessionCall::End(error)),
-            Input::Flow(number, flow) => self.ask_session(number.0, SessionCall::Flow(flow)),
+            Input::End(number, error) => self.ask_session(number.0, |session| end(session, error)),
+            Input::Flow(number, flow) => self.ask_session(
+                number.0,
+                |session| send_flow(session, flow),
+            ),
             Input::Transfer(number, input, transfer, payload, is_first) => {
-                let call = SessionCall::Transfer(input, transfer, payload, is_first);
-                self.ask_session(number.0, call)
+                self.ask_session(
+                    number.0,
+                    |session| send_transfer(session, input, transfer, payload, is_first),
+                )
             }
             Input::Release(number) => self.request_release(number.0),
-            Input::Stop(number, reason) => self.ask_session(number.0, SessionCall::Stop(reason)),
+            Input::Stop(number, reason) => self.ask_session(
+                number.0,
+                |session| stop(session, reason),
+            ),
         }
     }
 
@@ -80,13 +87,9 @@ impl<R: LinkRelay> Engine<R> {
         requires { self.old.waiting ≡ [] }
         ensures { OpenRequest self.old (refusal_of result) self.new }
     {
-        match self.connection.send_open() {
-            Ok(frame) => {
-                self.waiting.put(Waiting::one(self.alloc, frame));
-                Ok(())
-            }
-            Err(error) => Err(StepError::ConnectionState(error)),
-        }
+        let frame = self.connection.send_open()?;
+        self.waiting.put(Waiting::one(self.alloc, frame));
+        Ok(())
     }
 
     fn request_close(&mut self, error: Option<Error>) -> Result<(), StepError>
@@ -94,38 +97,32 @@ impl<R: LinkRelay> Engine<R> {
         ensures { CloseRequest self.old error (refusal_of result) self.new }
     {
         let reason = reason_of(&error);
-        match self.connection.send_close(error) {
-            Ok(frame) => {
-                self.connection.set_connection_stop_reason(reason);
-                self.waiting.put(Waiting::one(self.alloc, frame));
-                Ok(())
-            }
-            Err(error) => Err(StepError::ConnectionState(error)),
-        }
+        let frame = self.connection.send_close(error)?;
+        self.connection.set_connection_stop_reason(reason);
+        self.waiting.put(Waiting::one(self.alloc, frame));
+        Ok(())
     }
 
-    /// Asks the session with this number, and lets what it hands out wait.
-    pub(super) fn ask_session(&mut self, number: u32, call: SessionCall) -> Result<(), StepError>
-        requires { self.old.waiting ≡ [] }
-        ensures { (reached : Option ℕ) × (calls : List (session.Entry R)) × Does (relays R.attach_gives R.flow_gives R.transfer_gives R.disposition_gives R.detach_gives) self.old number (asks call) reached calls (refusal_of result) self.new }
+    /// Calls the session with this number, and lets what it hands out wait.
+    pub(super) fn ask_session<F>(&mut self, number: u32, call: F) -> Result<(), StepError>
+    where
+        F: FnOnce(&mut Session<R>) -> Handed + Drop,
+        requires idle { self.old.waiting ≡ [] }
+        requires callable { F.IsAlwaysCallable call }
+        ensures { Asks (FnOnceReturnsAtMut F.FnOnce call) self.old number (refusal_of result) self.new }
     {
         let Some(session) = self.sessions.get_mut(&number) else {
-            drop(call);
             return Err(StepError::NoSession);
         };
-        match ask(session, call) {
-            Ok(item) => {
-                self.waiting.put(Waiting::of(self.alloc, item));
-                Ok(())
-            }
-            Err(error) => Err(error),
-        }
+        let item = call(session)?;
+        self.waiting.put(Waiting::of(self.alloc, item));
+        Ok(())
     }
 
-    /// Makes a session on the lowest free channel, and sends its Begin. What memory refuses leaves no trace.
+    /// Makes a session on the lowest free channel, and sends its Begin. When memory is refused nothing changes.
     fn request_begin(&mut self, number: u32, settings: SessionSettings) -> Result<(), StepError>
         requires { self.old.waiting ≡ [] }
-        ensures { (reached : Option ℕ) × (calls : List (session.Entry R)) × BeginRequest (relays R.attach_gives R.flow_gives R.transfer_gives R.disposition_gives R.detach_gives) self.old number settings reached calls (refusal_of result) self.new }
+        ensures { (reached : Option ℕ) × (calls : List (session.Entry R)) × BeginRequest R.gives self.old number settings reached calls (refusal_of result) self.new }
     {
         if self.sessions.contains_key(&number) {
             drop(settings);

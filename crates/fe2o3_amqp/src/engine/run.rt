@@ -1,14 +1,13 @@
 //! Runs: many inputs in a row, with all that is to be sent for them.
 
 ghost use Rattle.std.specs.Prelude.{◌≡◌};
-ghost use Rattle.amqp_session.specs.Relay.{relays};
 ghost use Rattle.fe2o3_amqp.specs.Connection.{refusal_of};
 ghost use Rattle.fe2o3_amqp.specs.Output.{answer_of};
 ghost use Rattle.fe2o3_amqp.specs.Headline.{Ran};
 
 use super::Engine;
 use super::input::{Answer, Input, StepError, Stopped};
-use crate::laws::law_of_histories;
+use crate::laws::{law_of_histories, law_of_views};
 use amqp_session::LinkRelay;
 use std::collections::VecDeque;
 
@@ -32,9 +31,10 @@ impl<R: LinkRelay> Engine<R> {
         inputs: &mut VecDeque<Input>,
         answers: &mut Vec<Answer>,
     ) -> Result<(), Stopped>
-        ensures { Ran (relays R.attach_gives R.flow_gives R.transfer_gives R.disposition_gives R.detach_gives) self.old inputs.old.items answers.old.items result self.new inputs.new.items answers.new.items }
+        ensures { Ran R.gives self.old inputs.old.items answers.old.items result self.new inputs.new.items answers.new.items }
     {
         law_of_histories::<R>();
+        law_of_views::<R>();
         let total = inputs.len();
         let Ok(()) = self.put_out(answers) else {
             return Err(Stopped { done: 0 });

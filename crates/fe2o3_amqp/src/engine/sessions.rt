@@ -1,9 +1,9 @@
 //! What is asked of one session: by a request, or by a frame that reached it.
 
 ghost use Rattle.std.specs.Prelude.{◌≡◌};
-ghost use Rattle.amqp_session.specs.Relay.{relays};
-ghost use Rattle.fe2o3_amqp.specs.Sessions.{Answered, RecordedEnd, ends_by, end_reason, remote_end_reason, EndCalls, FlowCalls, TransferCalls, StopCalls, BeginHeardCalls, EndHeardCalls, FlowHeardCalls, TransferHeardCalls};
-ghost use Rattle.fe2o3_amqp.specs.SessionCalls.{asks};
+ghost use Rattle.amqp_session.specs.States.{takes_end};
+ghost use Rattle.fe2o3_amqp.specs.Calls.{is_end_received, end_reason, remote_end_reason, EndCalls, FlowCalls, TransferCalls, StopCalls, ReceivedBeginCalls, ReceivedEndCalls, ReceivedFlowCalls, ReceivedTransferCalls};
+ghost use Rattle.fe2o3_amqp.specs.Sessions.{Answered, RecordedEnd};
 
 use super::input::StepError;
 use amqp_session::{
@@ -13,39 +13,8 @@ use amqp_session::{
 use amqp_types::{Begin, End, Error, Flow, SessionState, Transfer};
 use bytes::Bytes;
 
-/// What is asked of a session.
-#[derive(Drop)]
-pub(crate) enum SessionCall {
-    End(Option<Error>),
-    Flow(LinkFlow),
-    Transfer(InputHandle, Transfer, Bytes, bool),
-    Stop(SessionStopReason),
-    BeginHeard(u16, Begin),
-    EndHeard(u16, End),
-    FlowHeard(Flow),
-    TransferHeard(Transfer, Bytes),
-}
-
 /// What a session hands out, or why it refuses.
 pub(crate) type Handed = Result<Option<SessionOutgoingItem>, StepError>;
-
-/// Asks the session.
-pub(crate) fn ask<R: LinkRelay>(session: &mut Session<R>, call: SessionCall) -> Handed
-    ensures { Answered (relays R.attach_gives R.flow_gives R.transfer_gives R.disposition_gives R.detach_gives) session.old (asks call) result session.new }
-{
-    match call {
-        SessionCall::End(error) => end(session, error),
-        SessionCall::Flow(flow) => send_flow(session, flow),
-        SessionCall::Transfer(input, transfer, payload, is_first) => {
-            send_transfer(session, input, transfer, payload, is_first)
-        }
-        SessionCall::Stop(reason) => stop(session, reason),
-        SessionCall::BeginHeard(channel, begin) => hear_begin(session, channel, begin),
-        SessionCall::EndHeard(channel, end) => hear_end(session, channel, end),
-        SessionCall::FlowHeard(flow) => hear_flow(session, flow),
-        SessionCall::TransferHeard(transfer, payload) => hear_transfer(session, transfer, payload),
-    }
-}
 
 /// Why a session stops with an End of this side.
 fn end_reason(error: &Option<Error>) -> SessionStopReason
@@ -67,9 +36,9 @@ fn remote_end_reason(end: &End) -> SessionStopReason
     }
 }
 
-/// Whether a session in this state ends by an End of the peer's, which answers none of this side.
-fn ends_by(state: SessionState) -> bool
-    ensures { result ≡ ends_by state }
+/// Whether the peer's End is unsolicited in this state: it answers none of this side.
+fn is_unsolicited(state: SessionState) -> bool
+    ensures { result ≡ is_end_received (takes_end state) }
 {
     matches!(
         state,
@@ -77,57 +46,52 @@ fn ends_by(state: SessionState) -> bool
     )
 }
 
-fn end<R: LinkRelay>(session: &mut Session<R>, error: Option<Error>) -> Handed
-    ensures { Answered (relays R.attach_gives R.flow_gives R.transfer_gives R.disposition_gives R.detach_gives) session.old (EndCalls error) result session.new }
+pub(crate) fn end<R: LinkRelay>(session: &mut Session<R>, error: Option<Error>) -> Handed
+    ensures { Answered R.gives session.old (EndCalls error) result session.new }
 {
     let reason = end_reason(&error);
-    match session.send_end(error) {
-        Ok(frame) => {
-            session.set_session_stop_reason(reason);
-            Ok(Some(SessionOutgoingItem::SingleFrame(frame)))
-        }
-        Err(error) => Err(StepError::SessionState(error)),
-    }
+    let frame = session.send_end(error)?;
+    session.set_session_stop_reason(reason);
+    Ok(Some(SessionOutgoingItem::SingleFrame(frame)))
 }
 
-fn send_flow<R: LinkRelay>(session: &mut Session<R>, flow: LinkFlow) -> Handed
-    ensures { Answered (relays R.attach_gives R.flow_gives R.transfer_gives R.disposition_gives R.detach_gives) session.old (FlowCalls flow) result session.new }
+pub(crate) fn send_flow<R: LinkRelay>(session: &mut Session<R>, flow: LinkFlow) -> Handed
+    ensures { Answered R.gives session.old (FlowCalls flow) result session.new }
 {
     Ok(Some(SessionOutgoingItem::SingleFrame(session.on_outgoing_flow(flow))))
 }
 
-fn send_transfer<R: LinkRelay>(
+pub(crate) fn send_transfer<R: LinkRelay>(
     session: &mut Session<R>,
     input: InputHandle,
     transfer: Transfer,
     payload: Bytes,
     is_first: bool,
 ) -> Handed
-    ensures { Answered (relays R.attach_gives R.flow_gives R.transfer_gives R.disposition_gives R.detach_gives) session.old (TransferCalls (record { input_handle = input.0; transfer = transfer; payload = payload; is_first = is_first })) result session.new }
+    ensures { Answered R.gives session.old (TransferCalls (record { input_handle = input.0; transfer = transfer; payload = payload; is_first = is_first })) result session.new }
 {
-    match session.on_outgoing_transfer(input, transfer, payload, is_first) {
-        Ok(item) => Ok(item),
-        Err(error) => Err(StepError::Session(error)),
-    }
+    Ok(session.on_outgoing_transfer(input, transfer, payload, is_first)?)
 }
 
-fn stop<R: LinkRelay>(session: &mut Session<R>, reason: SessionStopReason) -> Handed
-    ensures { Answered (relays R.attach_gives R.flow_gives R.transfer_gives R.disposition_gives R.detach_gives) session.old (StopCalls reason) result session.new }
+pub(crate) fn stop<R: LinkRelay>(session: &mut Session<R>, reason: SessionStopReason) -> Handed
+    ensures { Answered R.gives session.old (StopCalls reason) result session.new }
 {
     session.set_session_stop_reason(reason);
     Ok(None)
 }
 
-fn hear_begin<R: LinkRelay>(session: &mut Session<R>, channel: u16, begin: Begin) -> Handed
-    ensures { Answered (relays R.attach_gives R.flow_gives R.transfer_gives R.disposition_gives R.detach_gives) session.old (BeginHeardCalls channel begin) result session.new }
+pub(crate) fn begin_received<R: LinkRelay>(
+    session: &mut Session<R>,
+    channel: u16,
+    begin: Begin,
+) -> Handed
+    ensures { Answered R.gives session.old (ReceivedBeginCalls channel begin) result session.new }
 {
-    match session.on_incoming_begin(IncomingChannel(channel), begin) {
-        Ok(()) => Ok(None),
-        Err(error) => Err(StepError::SessionState(error)),
-    }
+    session.on_incoming_begin(IncomingChannel(channel), begin)?;
+    Ok(None)
 }
 
-/// Records why the session ended, where it did.
+/// Records why the peer ended the session, where its End is unsolicited.
 fn record_end<R: LinkRelay>(session: &mut Session<R>, ends: bool, reason: SessionStopReason)
     ensures { RecordedEnd session.old reason ends session.new }
 {
@@ -136,39 +100,32 @@ fn record_end<R: LinkRelay>(session: &mut Session<R>, ends: bool, reason: Sessio
     }
 }
 
-/// The peer's End; one that no End of this side went before is recorded.
-fn hear_end<R: LinkRelay>(session: &mut Session<R>, channel: u16, end: End) -> Handed
-    ensures { Answered (relays R.attach_gives R.flow_gives R.transfer_gives R.disposition_gives R.detach_gives) session.old (EndHeardCalls channel end) result session.new }
+/// The peer's End. Records the reason unless this side sent End first.
+pub(crate) fn end_received<R: LinkRelay>(session: &mut Session<R>, channel: u16, end: End) -> Handed
+    ensures { Answered R.gives session.old (ReceivedEndCalls channel end) result session.new }
 {
     let reason = remote_end_reason(&end);
-    let ends = ends_by(*session.local_state());
+    let ends = is_unsolicited(*session.local_state());
     let told = session.on_incoming_end(IncomingChannel(channel), end);
     record_end(session, ends, reason);
-    match told {
-        Ok(()) => Ok(None),
-        Err(error) => Err(StepError::SessionState(error)),
-    }
+    told?;
+    Ok(None)
 }
 
-fn hear_flow<R: LinkRelay>(session: &mut Session<R>, flow: Flow) -> Handed
-    ensures { Answered (relays R.attach_gives R.flow_gives R.transfer_gives R.disposition_gives R.detach_gives) session.old (FlowHeardCalls flow) result session.new }
+pub(crate) fn flow_received<R: LinkRelay>(session: &mut Session<R>, flow: Flow) -> Handed
+    ensures { Answered R.gives session.old (ReceivedFlowCalls flow) result session.new }
 {
-    match session.on_incoming_flow(flow) {
-        Ok(item) => Ok(item),
-        Err(error) => Err(StepError::Session(error)),
-    }
+    Ok(session.on_incoming_flow(flow)?)
 }
 
 /// The peer's transfer; after one that is accepted a session flow may be due.
-fn hear_transfer<R: LinkRelay>(
+pub(crate) fn transfer_received<R: LinkRelay>(
     session: &mut Session<R>,
     transfer: Transfer,
     payload: Bytes,
 ) -> Handed
-    ensures { Answered (relays R.attach_gives R.flow_gives R.transfer_gives R.disposition_gives R.detach_gives) session.old (TransferHeardCalls transfer payload) result session.new }
+    ensures { Answered R.gives session.old (ReceivedTransferCalls transfer payload) result session.new }
 {
-    match session.on_incoming_transfer(transfer, payload) {
-        Ok(_none) => Ok(session.maybe_outgoing_session_flow()),
-        Err(error) => Err(StepError::Session(error)),
-    }
+    let _none = session.on_incoming_transfer(transfer, payload)?;
+    Ok(session.maybe_outgoing_session_flow())
 }

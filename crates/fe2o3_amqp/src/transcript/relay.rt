@@ -14,15 +14,13 @@ use bytes::Bytes;
 pub struct ReplayRelay;
 
 impl LinkRelay for ReplayRelay {
-    ghost attach_gives = { λ old attach result new. result ≡ Ok tt };
-
-    ghost flow_gives = { λ old handle flow result new. result ≡ Ok (echo_of handle flow) };
-
-    ghost transfer_gives = { λ old transfer payload result new. result ≡ Ok (opened_by transfer) };
-
-    ghost disposition_gives = { λ old role settled state tag result new. result ≡ not settled };
-
-    ghost detach_gives = { λ old handle detach remote_initiated result new. result ≡ answer_of handle detach remote_initiated };
+    ghost gives = { record {
+      attach_gives = λ old attach result new. result ≡ Ok tt;
+      flow_gives = λ old handle flow result new. result ≡ Ok (echo_of handle flow);
+      transfer_gives = λ old transfer payload result new. result ≡ Ok (opened_by transfer);
+      disposition_gives = λ old role settled state tag result new. result ≡ not settled;
+      detach_gives = λ old handle detach remote_initiated result new. result ≡ answer_of handle detach remote_initiated;
+    } };
 
     fn on_incoming_attach(&mut self, _attach: Attach) -> Result<(), LinkRelayError> {
         Ok(())

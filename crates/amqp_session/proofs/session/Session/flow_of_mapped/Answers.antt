@@ -10,17 +10,17 @@ use Rattle.amqp_session.proofs.session.Session.flow_of_mapped.Goals as goal
 pub returns-in-Err : goal.returns-in-Err
 returns-in-Err g c =
     let a = c.in-Err.ensures in
-    rw (← c.self.view_is) (
-      Some (record { before = a.before; handle = a.handle; flow = c.args.flow; answer = Err c.in-Err.error; after = a.after }),
-      (c.ask_flow.new.self, refl, a.asks, (c.from.ensures, room_taken _ _ c.in-Ok.ensures.rows)),
+    rw (← c.self.view_is, a.put) (
+      Some (record { before = a.before; handle = a.handle; asked = c.args.flow; answer = Err c.in-Err.error; after = a.after }),
+      (refl, record { attached = a.attached; stands = a.stands }, (c.from.ensures, room_taken _ _ c.in-Ok.ensures.rows)),
     )
 
 pub returns-in-Ok-ask_flow : goal.returns-in-Ok-ask_flow
 returns-in-Ok-ask_flow g c =
     let a = c.in-Ok-ask_flow.ensures in
     let mapped : is_mapped c.self.inside.state ≡ true = ap (λ (v : SessionView _). is_mapped v.state) c.self.view_is ∙ c.requires.mapped in
-    let out = subst (λ (f : Option SessionFrame). HandsOut (is_some_list (let_out c.self.inside.sending)) (first_frame f ++ let_out c.self.inside.sending) c.hand_on.result) c.echo-first.ensures c.hand_on.ensures.item in
-    rw (← c.self.view_is) (
-      Some (record { before = a.before; handle = a.handle; flow = c.args.flow; answer = Ok c.in-Ok-ask_flow.echo; after = a.after }),
-      (c.ask_flow.new.self, refl, a.asks, mapped_goes _ _ c.in-Ok-ask_flow.echo c.hand_on.result mapped out (parts_gone _ _ _ _ c.hand_on.ensures.sending c.hand_on.ensures.opened c.in-Ok.ensures.rows)),
+    let out = subst (λ (f : Option SessionFrame). HandsOut (is_some_list (let_out c.self.inside.outgoing_channel.0 c.self.inside.sending)) (first_frame f ++ let_out c.self.inside.outgoing_channel.0 c.self.inside.sending) c.hand_on.result) c.echo-first.ensures c.hand_on.ensures.item in
+    rw (← c.self.view_is, a.put) (
+      Some (record { before = a.before; handle = a.handle; asked = c.args.flow; answer = Ok c.in-Ok-ask_flow.echo; after = a.after }),
+      (refl, record { attached = a.attached; stands = a.stands }, mapped_goes _ _ c.in-Ok-ask_flow.echo c.hand_on.result mapped out (parts_gone _ _ _ _ c.hand_on.ensures.sending c.hand_on.ensures.opened c.in-Ok.ensures.rows)),
     )

@@ -9,9 +9,9 @@ use Rattle.amqp_session.proofs.session.Session.flow_of_unmapped.Goals as goal
 pub returns-in-Err : goal.returns-in-Err
 returns-in-Err g c =
     let a = c.in-Err.ensures in
-    rw (← c.self.view_is) (
-      Some (record { before = a.before; handle = a.handle; flow = c.args.flow; answer = Err c.in-Err.error; after = a.after }),
-      (c.ask_flow.new.self, refl, a.asks, (c.from.ensures, refl)),
+    rw (← c.self.view_is, a.put) (
+      Some (record { before = a.before; handle = a.handle; asked = c.args.flow; answer = Err c.in-Err.error; after = a.after }),
+      (refl, record { attached = a.attached; stands = a.stands }, (c.from.ensures, refl)),
     )
 
 pub returns-in-Ok : goal.returns-in-Ok
@@ -19,7 +19,7 @@ returns-in-Ok g c =
     let a = c.in-Ok.ensures in
     let mapped : is_mapped c.self.inside.state ≡ false = ap (λ (v : SessionView _). is_mapped v.state) c.self.view_is ∙ c.requires.mapped in
     let out = subst (λ (f : Option SessionFrame). HandsOut false (first_frame f) c.alone.result) c.echo.ensures c.alone.ensures in
-    rw (← c.self.view_is) (
-      Some (record { before = a.before; handle = a.handle; flow = c.args.flow; answer = Ok c.in-Ok.echo; after = a.after }),
-      (c.ask_flow.new.self, refl, a.asks, unmapped_goes _ _ c.in-Ok.echo c.alone.result mapped out refl),
+    rw (← c.self.view_is, a.put) (
+      Some (record { before = a.before; handle = a.handle; asked = c.args.flow; answer = Ok c.in-Ok.echo; after = a.after }),
+      (refl, record { attached = a.attached; stands = a.stands }, unmapped_goes _ _ c.in-Ok.echo c.alone.result mapped out refl),
     )

@@ -7,16 +7,16 @@ pub returns-in-Err : goal.returns-in-Err
 returns-in-Err g c =
     let a = c.in-Err.ensures in
     let rows = ap (λ (t : TableView). t.rows) c.in-Ok.ensures.rows in
-    rw (← c.self.view_is) (
-      Some (record { before = a.before; handle = a.handle; transfer = c.args.transfer; payload = c.args.payload; answer = Err c.in-Err.error; after = a.after }),
-      (c.ask_transfer.new.self, refl, refl, a.asks, (c.from.ensures, sender_room_taken _ _ rows)),
+    rw (← c.self.view_is, a.put) (
+      Some (record { before = a.before; handle = a.handle; asked = (c.args.transfer, c.args.payload); answer = Err c.in-Err.error; after = a.after }),
+      (refl, record { attached = a.attached; stands = a.stands }, (c.from.ensures, sender_room_taken _ _ rows)),
     )
 
 pub returns-in-Ok-ask_transfer : goal.returns-in-Ok-ask_transfer
 returns-in-Ok-ask_transfer g c =
     let a = c.in-Ok-ask_transfer.ensures in
     let rows = ap (λ (t : TableView). t.rows) c.in-Ok.ensures.rows in
-    rw (← c.self.view_is) (
-      Some (record { before = a.before; handle = a.handle; transfer = c.args.transfer; payload = c.args.payload; answer = Ok c.in-Ok-ask_transfer.named; after = a.after }),
-      (c.ask_transfer.new.self, refl, refl, a.asks, (refl, named_is _ _ _ _ _ c.record_named.ensures rows)),
+    rw (← c.self.view_is, a.put) (
+      Some (record { before = a.before; handle = a.handle; asked = (c.args.transfer, c.args.payload); answer = Ok c.in-Ok-ask_transfer.named; after = a.after }),
+      (refl, record { attached = a.attached; stands = a.stands }, (c.record_named.ensures.fits, refl, named_is _ _ _ _ _ c.record_named.ensures.rows rows)),
     )

@@ -1,6 +1,6 @@
 use Rattle.std.proofs.Common.{rules, refl, ◌≡◌, ◌∷◌, subst}
 use Rattle.amqp_frames.specs.declared.frame.Frame.{Frame}
-use Rattle.amqp_frames.specs.Cut.{Fits, Cut}
+use Rattle.amqp_frames.specs.Cut.{Fits, Cut, ReadBack}
 use Rattle.fe2o3_amqp.specs.Waits.{TakesFirst}
 use Rattle.fe2o3_amqp.proofs.Outputs.{first_fits, first_taken}
 use Rattle.fe2o3_amqp.proofs.engine.Engine.next_output.Goals as goal
@@ -16,7 +16,8 @@ returns-in-Ok g c =
     let same : c.in-Some.frame.now ≡ c.unwrap.result = first_taken _ _ _ _ c.in-Some.ensures.first took in
     let fits : Fits c.unwrap.result c.self.inside.encoder = subst (λ (f : Frame). Fits f c.self.inside.encoder) same c.in-Ok.ensures.0 in
     let cut : Cut c.unwrap.result c.self.inside.encoder c.in-Ok.pieces.items = subst (λ (f : Frame). Cut f c.self.inside.encoder c.in-Ok.pieces.items) same c.in-Ok.ensures.1 in
-    rw (← c.self.view_is) (c.unwrap.result, c.take.new.self, took, fits, cut, refl)
+    let read : ReadBack c.unwrap.result c.self.inside.encoder c.in-Ok.pieces.items = subst (λ (f : Frame). ReadBack f c.self.inside.encoder c.in-Ok.pieces.items) same c.in-Ok.ensures.2 in
+    rw (← c.self.view_is) (c.unwrap.result, c.take.new.self, took, fits, cut, read, refl)
 
 pub returns-in-Err-TooLarge : goal.returns-in-Err-TooLarge
 returns-in-Err-TooLarge g c =

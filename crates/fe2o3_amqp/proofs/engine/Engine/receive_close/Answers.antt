@@ -1,10 +1,45 @@
-use Rattle.std.proofs.Common.{refl, subst}
+use Rattle.std.proofs.Common.{rules, None, Some, [], refl, ap, subst}
+use Rattle.amqp_types.specs.declared.performatives.Performative.TheVariants as performative
+use Rattle.amqp_types.specs.declared.performatives.kind.Kind.TheVariants as kind
+use Rattle.amqp_types.specs.Close.{IsCloseBody, close_body_at}
+use Rattle.amqp_types.proofs.BodyLaws.{close_body}
+use Rattle.amqp_frames.specs.Frame.{body_of}
+use Rattle.amqp_frames.specs.FrameError.{error_of}
+use Rattle.amqp_frames.proofs.Decoded.{failed}
+use Rattle.fe2o3_amqp.specs.declared.engine.input.StepError.TheVariants as no
 use Rattle.fe2o3_amqp.specs.Connection.{refusal_of}
+use Rattle.fe2o3_amqp.proofs.FieldsReceived.{unread, was_read}
 use Rattle.fe2o3_amqp.specs.EngineView.{EngineView}
-use Rattle.fe2o3_amqp.specs.Engine.{CloseHeard}
+use Rattle.fe2o3_amqp.specs.Engine.{ReceivedClose}
 use Rattle.fe2o3_amqp.proofs.engine.Engine.receive_close.Goals as goal
+
+pub returns-in_err-close : goal.returns-in_err-close
+returns-in_err-close g c =
+    unread g.R.LinkRelay.gives IsCloseBody close_body_at close_body (λ p behind. body_of (performative.Close p) behind) kind.Close (λ b f r x. x) c.args.self.now c.args.channel c.args.fields c.read_list.new.bytes c.in_err-close.field-0.0 _
+    c.in_err-close.ensures (ap refusal_of (failed c.from_residual.result (no.Frame (error_of c.in_err-close.field-0.0)) c.from_residual.ensures.1))
 
 pub returns : goal.returns
 returns g c =
-    subst (λ (v : EngineView _). CloseHeard v c.args.close (refusal_of c.told.result) (record { connection = c.take_close.new.connection; sessions = c.self.inside.sessions.entries; limit = c.self.inside.encoder; waiting = c.self.inside.waiting })) c.self.view_is
-    (refusal_of c.take_close.result, c.take_close.new.connection, c.take_close.ensures, c.told.ensures, refl)
+    was_read g.R.LinkRelay.gives IsCloseBody close_body_at close_body (λ p behind. body_of (performative.Close p) behind) kind.Close (λ b f r x. x) c.args.self.now _ c.args.channel c.args.fields c.read_list.new.bytes c.in_ok-close.close _
+    c.in_ok-close.ensures (
+      None,
+      [],
+      (
+        (refl, refl),
+        subst (λ (v : EngineView _). ReceivedClose v c.in_ok-close.close None (record { connection = c.take_close.new.connection; sessions = c.self.inside.sessions.entries; limit = c.self.inside.encoder; waiting = c.self.inside.waiting })) c.self.view_is
+            (None, c.take_close.new.connection, c.in_ok-take_close.ensures, refl, refl),
+      ),
+    )
+
+pub returns-in_err-take_close : goal.returns-in_err-take_close
+returns-in_err-take_close g c =
+    was_read g.R.LinkRelay.gives IsCloseBody close_body_at close_body (λ p behind. body_of (performative.Close p) behind) kind.Close (λ b f r x. x) c.args.self.now _ c.args.channel c.args.fields c.read_list.new.bytes c.in_ok-close.close _
+    c.in_ok-close.ensures (
+      None,
+      [],
+      (
+        (refl, refl),
+        subst (λ (v : EngineView _). ReceivedClose v c.in_ok-close.close (refusal_of c.from_residual-in_err-take_close.result) (record { connection = c.take_close.new.connection; sessions = c.self.inside.sessions.entries; limit = c.self.inside.encoder; waiting = c.self.inside.waiting })) c.self.view_is
+            (Some c.in_err-take_close.field-0.0, c.take_close.new.connection, c.in_err-take_close.ensures, search rules, refl),
+      ),
+    )

@@ -1,16 +1,48 @@
-use Rattle.std.proofs.Common.{ℕ, None, Some, refl, ◌∙◌, ap, subst}
+use Rattle.std.proofs.Common.{rules, ◌≡◌, ℕ, None, Some, [], refl, ◌∙◌, ap, subst}
+use Rattle.amqp_types.specs.declared.performatives.Performative.TheVariants as performative
+use Rattle.amqp_types.specs.declared.performatives.kind.Kind.TheVariants as kind
+use Rattle.amqp_types.specs.Open.{IsOpenBody, open_body_at}
+use Rattle.amqp_types.proofs.BodyLaws.{open_body}
+use Rattle.amqp_frames.specs.Frame.{body_of}
+use Rattle.amqp_frames.specs.FrameError.{error_of}
+use Rattle.amqp_frames.proofs.Decoded.{failed}
+use Rattle.fe2o3_amqp.specs.declared.engine.input.StepError.TheVariants as no
+use Rattle.fe2o3_amqp.specs.Connection.{refusal_of}
+use Rattle.fe2o3_amqp.proofs.FieldsReceived.{unread, was_read}
 use Rattle.fe2o3_amqp.specs.declared.engine.input.StepError.TheVariants.{ConnectionState}
 use Rattle.fe2o3_amqp.specs.EngineView.{EngineView}
-use Rattle.fe2o3_amqp.specs.Engine.{OpenHeard}
+use Rattle.fe2o3_amqp.specs.Engine.{ReceivedOpen}
 use Rattle.fe2o3_amqp.proofs.engine.Engine.receive_open.Goals as goal
 
-pub returns-in-Ok : goal.returns-in-Ok
-returns-in-Ok g c =
-    let limit_is = c.new-self-inside.ensures ∙ c.limit_of-limit.ensures in
-    subst (λ (v : EngineView _). OpenHeard v c.args.«open» None (record { connection = c.on_incoming_open.new.self; sessions = c.self.inside.sessions.entries; limit = c.new-self-inside.result; waiting = c.self.inside.waiting })) c.self.view_is
-    (c.on_incoming_open.new.self, c.in-Ok.ensures, ap (λ (n : ℕ). record { connection = c.on_incoming_open.new.self; sessions = c.self.inside.sessions.entries; limit = n; waiting = c.self.inside.waiting }) limit_is)
+pub returns-in_err-open : goal.returns-in_err-open
+returns-in_err-open g c =
+    unread g.R.LinkRelay.gives IsOpenBody open_body_at open_body (λ p behind. body_of (performative.Open p) behind) kind.Open (λ b f r x. x) c.args.self.now c.args.channel c.args.fields c.read_list.new.bytes c.in_err-open.field-0.0 _
+    c.in_err-open.ensures (ap refusal_of (failed c.from_residual.result (no.Frame (error_of c.in_err-open.field-0.0)) c.from_residual.ensures.1))
 
-pub returns-in-Err : goal.returns-in-Err
-returns-in-Err g c =
-    subst (λ (v : EngineView _). OpenHeard v c.args.«open» (Some (ConnectionState c.in-Err.error)) (record { connection = c.on_incoming_open.new.self; sessions = c.self.inside.sessions.entries; limit = c.self.inside.encoder; waiting = c.self.inside.waiting })) c.self.view_is
-    (c.on_incoming_open.new.self, c.in-Err.ensures, refl)
+pub returns : goal.returns
+returns g c =
+    let limit_is = c.new-self-inside.ensures ∙ c.limit_of-limit.ensures in
+    was_read g.R.LinkRelay.gives IsOpenBody open_body_at open_body (λ p behind. body_of (performative.Open p) behind) kind.Open (λ b f r x. x) c.args.self.now _ c.args.channel c.args.fields c.read_list.new.bytes c.in_ok-open.«open» _
+    c.in_ok-open.ensures (
+      None,
+      [],
+      (
+        (refl, refl),
+        subst (λ (v : EngineView _). ReceivedOpen v c.in_ok-open.«open» None (record { connection = c.on_incoming_open.new.self; sessions = c.self.inside.sessions.entries; limit = c.new-self-inside.result; waiting = c.self.inside.waiting })) c.self.view_is
+            (c.on_incoming_open.new.self, c.in_ok-on_incoming_open.ensures, ap (λ (n : ℕ). record { connection = c.on_incoming_open.new.self; sessions = c.self.inside.sessions.entries; limit = n; waiting = c.self.inside.waiting }) limit_is),
+      ),
+    )
+
+pub returns-in_err-on_incoming_open : goal.returns-in_err-on_incoming_open
+returns-in_err-on_incoming_open g c =
+    let told : refusal_of c.from_residual-in_err-on_incoming_open.result ≡ Some (ConnectionState c.in_err-on_incoming_open.field-0.0) = search rules in
+    rw told (was_read g.R.LinkRelay.gives IsOpenBody open_body_at open_body (λ p behind. body_of (performative.Open p) behind) kind.Open (λ b f r x. x) c.args.self.now _ c.args.channel c.args.fields c.read_list.new.bytes c.in_ok-open.«open» _
+    c.in_ok-open.ensures (
+      None,
+      [],
+      (
+        (refl, refl),
+        subst (λ (v : EngineView _). ReceivedOpen v c.in_ok-open.«open» (Some (ConnectionState c.in_err-on_incoming_open.field-0.0)) (record { connection = c.on_incoming_open.new.self; sessions = c.self.inside.sessions.entries; limit = c.self.inside.encoder; waiting = c.self.inside.waiting })) c.self.view_is
+            (c.on_incoming_open.new.self, c.in_err-on_incoming_open.ensures, refl),
+      ),
+    ))

@@ -1,6 +1,5 @@
 use Rattle.std.proofs.Common.{[], ◌∷◌, Ok, Some, None, refl, ap, sym, subst, ◌∙◌, nat_eq}
 use Rattle.indexmap.specs.IndexMap.{insert_entry}
-use Rattle.amqp_session.specs.Relay.{relays}
 use Rattle.amqp_types.specs.declared.states.SessionState.TheVariants.{Unmapped}
 use Rattle.amqp_session.specs.Session.{new_session}
 use Rattle.amqp_session.specs.Step.{SendBeginStep}
@@ -30,12 +29,11 @@ returns-in-Ok-begun g c =
         record {
           channel = c.in-Ok-allocate_session.channel.0;
           connection = c.allocate_session.new.self;
-          frame = c.in-Ok-begun.frame;
           after = c.in-Ok-begun.session;
           unknown = none;
           fits = c.in-Ok-begun.ensures.fits;
           allocated = a;
-          sends = refl;
+          asked = (c.in-Ok-begun.frame, refl, refl);
           steps = (c.in-Ok-begun.session, began, refl);
           put = same_engine _ _ _ _ _ _ _ refl entries (c.put.ensures ∙ c.of.ensures);
         },
@@ -44,7 +42,7 @@ returns-in-Ok-begun g c =
 
 pub returns-in-Err-begun : goal.returns-in-Err-begun
 returns-in-Err-begun g c =
-    let gives = (relays g.R.LinkRelay.attach_gives g.R.LinkRelay.flow_gives g.R.LinkRelay.transfer_gives g.R.LinkRelay.disposition_gives g.R.LinkRelay.detach_gives) in
+    let gives = g.R.LinkRelay.gives in
     let none = not_some _ _ c.contains_key.ensures c.if-contains_key.false in
     let a = c.in-Ok-allocate_session.ensures in
     let same = given_back_again c.self.inside.connection c.allocate_session.new.self c.deallocate_session.new.self c.in-Ok-allocate_session.channel.0 c.args.number c.deallocate_session.result a.1.free a.3 c.deallocate_session.ensures in
@@ -53,5 +51,5 @@ returns-in-Err-begun g c =
       None,
       [],
       subst (λ (v : EngineView _). BeginRequest gives v c.args.number c.args.settings None [] (Some (SessionState c.in-Err-begun.error)) now) c.self.view_is
-          (subst (λ (e : SessionStateError). BeginRequest gives before c.args.number c.args.settings None [] (Some (SessionState e)) now) (sym c.in-Err-begun.ensures.begun) ((refl, refl), none, (c.in-Ok-allocate_session.channel.0, c.allocate_session.new.self, a), same_engine _ _ _ _ _ _ _ same c.reserve.ensures.entries refl)),
+          (subst (λ (e : SessionStateError). BeginRequest gives before c.args.number c.args.settings None [] (Some (SessionState e)) now) (sym c.in-Err-begun.ensures.begun) (((refl, refl), same_engine _ _ _ _ _ _ _ same c.reserve.ensures.entries refl), none, (c.in-Ok-allocate_session.channel.0, c.allocate_session.new.self, a))),
     )

@@ -1,5 +1,4 @@
 use Rattle.std.proofs.Common.{◌≡◌, ◌++◌, [], ◌∷◌, List, length, arith, ap, ◌∙◌, rules}
-use Rattle.amqp_session.specs.Relay.{relays}
 use Rattle.fe2o3_amqp.specs.declared.engine.input.Answer.{Answer}
 use Rattle.fe2o3_amqp.proofs.Running.{Running-start, Running-more, Running-Ran, empty}
 use Rattle.fe2o3_amqp.proofs.engine.Engine.run.Goals as goal
@@ -7,18 +6,18 @@ use Rattle.fe2o3_amqp.proofs.engine.Engine.run.Goals as goal
 pub loop-answers-init : goal.loop-answers-init
 loop-answers-init g c =
     let s = c.put_out.ensures.said in
-    (Running-start (relays g.R.LinkRelay.attach_gives g.R.LinkRelay.flow_gives g.R.LinkRelay.transfer_gives g.R.LinkRelay.disposition_gives g.R.LinkRelay.detach_gives) _ _ _ _ _ _ c.put_out.ensures.taken s.1 s.2, c.in-Ok.ensures.ok, search rules)
+    (Running-start g.R.LinkRelay.gives _ _ _ _ _ _ c.put_out.ensures.taken s.1 s.2, c.in-Ok.ensures.ok, search rules)
 
 pub returns-in_default : goal.returns-in_default
 returns-in_default g c =
     let s = c.put_out.ensures.said in
-    Running-Ran (relays g.R.LinkRelay.attach_gives g.R.LinkRelay.flow_gives g.R.LinkRelay.transfer_gives g.R.LinkRelay.disposition_gives g.R.LinkRelay.detach_gives) _ _ _ _ _ _ _ c.law_of_histories.ensures (Running-start (relays g.R.LinkRelay.attach_gives g.R.LinkRelay.flow_gives g.R.LinkRelay.transfer_gives g.R.LinkRelay.disposition_gives g.R.LinkRelay.detach_gives) _ _ _ _ _ _ c.put_out.ensures.taken s.1 s.2) (omega arith)
+    Running-Ran g.R.LinkRelay.gives _ _ _ _ _ _ _ c.law_of_histories.ensures c.law_of_views.ensures (Running-start g.R.LinkRelay.gives _ _ _ _ _ _ c.put_out.ensures.taken s.1 s.2) (omega arith)
 
 pub returns-in_default-reserve : goal.returns-in_default-reserve
 returns-in_default-reserve g c =
     let r = c.loop-answers.invariant.0 in
     let same : c.reserve.new.self.items ≡ c.loop-answers.answers.items = c.reserve.ensures.items in
-    rw same (Running-Ran (relays g.R.LinkRelay.attach_gives g.R.LinkRelay.flow_gives g.R.LinkRelay.transfer_gives g.R.LinkRelay.disposition_gives g.R.LinkRelay.detach_gives) _ _ _ _ _ _ _ c.law_of_histories.ensures r (omega (arith, r.counted, c.len.ensures)))
+    rw same (Running-Ran g.R.LinkRelay.gives _ _ _ _ _ _ _ c.law_of_histories.ensures c.law_of_views.ensures r (omega (arith, r.counted, c.len.ensures)))
 
 pub loop-answers-preserved : goal.loop-answers-preserved
 loop-answers-preserved g c =
@@ -27,7 +26,7 @@ loop-answers-preserved g c =
     let same : c.reserve.new.self.items ≡ c.loop-answers.answers.items = c.reserve.ensures.items in
     let s = c.put_out-in-loop-answers.ensures.said in
     let r = c.loop-answers.invariant in (
-      Running-more (relays g.R.LinkRelay.attach_gives g.R.LinkRelay.flow_gives g.R.LinkRelay.transfer_gives g.R.LinkRelay.disposition_gives g.R.LinkRelay.detach_gives) _ _ _ _ _ _ _ _ _ _ _ _ _ _ r.0 r.1 popped c.step-outcome.ensures (pushed ∙ ap (λ (xs : List Answer). xs ++ c.answered.result ∷ []) same ∙ ap (λ (x : Answer). c.loop-answers.answers.items ++ x ∷ []) c.answered.ensures) c.put_out-in-loop-answers.ensures.taken s.1 s.2,
+      Running-more g.R.LinkRelay.gives _ _ _ _ _ _ _ _ _ _ _ _ _ _ r.0 r.1 popped c.step-outcome.ensures (pushed ∙ ap (λ (xs : List Answer). xs ++ c.answered.result ∷ []) same ∙ ap (λ (x : Answer). c.loop-answers.answers.items ++ x ∷ []) c.answered.ensures) c.put_out-in-loop-answers.ensures.taken s.1 s.2,
       c.in-Ok-put_out.ensures.ok,
       r.2,
     )
@@ -39,11 +38,11 @@ returns-in_default-put_out g c =
     let same : c.reserve.new.self.items ≡ c.loop-answers.answers.items = c.reserve.ensures.items in
     let s = c.put_out-in-loop-answers.ensures.said in
     let r = c.loop-answers.invariant in
-    let more = Running-more (relays g.R.LinkRelay.attach_gives g.R.LinkRelay.flow_gives g.R.LinkRelay.transfer_gives g.R.LinkRelay.disposition_gives g.R.LinkRelay.detach_gives) _ _ _ _ _ _ _ _ _ _ _ _ _ _ r.0 r.1 popped c.step-outcome.ensures (pushed ∙ ap (λ (xs : List Answer). xs ++ c.answered.result ∷ []) same ∙ ap (λ (x : Answer). c.loop-answers.answers.items ++ x ∷ []) c.answered.ensures) c.put_out-in-loop-answers.ensures.taken s.1 s.2 in
-    Running-Ran (relays g.R.LinkRelay.attach_gives g.R.LinkRelay.flow_gives g.R.LinkRelay.transfer_gives g.R.LinkRelay.disposition_gives g.R.LinkRelay.detach_gives) _ _ _ _ _ _ _ c.law_of_histories.ensures more (omega (arith, more.counted, c.len-in_default-put_out.ensures))
+    let more = Running-more g.R.LinkRelay.gives _ _ _ _ _ _ _ _ _ _ _ _ _ _ r.0 r.1 popped c.step-outcome.ensures (pushed ∙ ap (λ (xs : List Answer). xs ++ c.answered.result ∷ []) same ∙ ap (λ (x : Answer). c.loop-answers.answers.items ++ x ∷ []) c.answered.ensures) c.put_out-in-loop-answers.ensures.taken s.1 s.2 in
+    Running-Ran g.R.LinkRelay.gives _ _ _ _ _ _ _ c.law_of_histories.ensures c.law_of_views.ensures more (omega (arith, more.counted, c.len-in_default-put_out.ensures))
 
 pub returns : goal.returns
 returns g c =
     let len : length c.loop-answers.inputs.items ≡ 0 = search rules in
     let none : c.loop-answers.inputs.items ≡ [] = empty _ len in
-    Running-Ran (relays g.R.LinkRelay.attach_gives g.R.LinkRelay.flow_gives g.R.LinkRelay.transfer_gives g.R.LinkRelay.disposition_gives g.R.LinkRelay.detach_gives) _ _ _ _ _ _ _ c.law_of_histories.ensures c.loop-answers.invariant.0 (none, c.loop-answers.invariant.1)
+    Running-Ran g.R.LinkRelay.gives _ _ _ _ _ _ _ c.law_of_histories.ensures c.law_of_views.ensures c.loop-answers.invariant.0 (none, c.loop-answers.invariant.1)

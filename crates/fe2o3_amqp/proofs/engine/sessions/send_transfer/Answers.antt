@@ -1,26 +1,26 @@
-use Rattle.std.proofs.Common.{Ok, Err, refl, [], ◌∷◌}
+use Rattle.std.proofs.Common.{rules, Ok, Err, refl, [], ◌∷◌}
 use Rattle.std.proofs.lemmas.List.{append-nil}
 use Rattle.amqp_session.specs.History as session
 use Rattle.amqp_session.specs.Items.{item_frames}
 use Rattle.amqp_session.specs.Transfers.{HeldSaid}
 use Rattle.fe2o3_amqp.proofs.engine.sessions.send_transfer.Goals as goal
 
-pub returns-in-Ok : goal.returns-in-Ok
-returns-in-Ok g c =
+pub returns : goal.returns
+returns g c =
     let held : HeldSaid = record { input_handle = c.args.input.0; transfer = c.args.transfer; payload = c.args.payload; is_first = c.args.is_first } in
     record {
-      calls = session.SendsTransfer held (Ok c.in-Ok.item) ∷ [];
-      asked = (Ok c.in-Ok.item, refl, refl);
-      steps = (c.on_outgoing_transfer.new.self, c.in-Ok.ensures, refl);
-      frames = append-nil (item_frames c.in-Ok.item);
+      calls = session.SendsTransfer held (Ok c.in_ok-on_outgoing_transfer.field-0) ∷ [];
+      asked = (Ok c.in_ok-on_outgoing_transfer.field-0, refl, refl);
+      steps = (c.on_outgoing_transfer.new.self, c.in_ok-on_outgoing_transfer.ensures, refl);
+      frames = append-nil (item_frames c.in_ok-on_outgoing_transfer.field-0);
     }
 
-pub returns-in-Err : goal.returns-in-Err
-returns-in-Err g c =
+pub returns-in_err-on_outgoing_transfer : goal.returns-in_err-on_outgoing_transfer
+returns-in_err-on_outgoing_transfer g c =
     let held : HeldSaid = record { input_handle = c.args.input.0; transfer = c.args.transfer; payload = c.args.payload; is_first = c.args.is_first } in
     record {
-      calls = session.SendsTransfer held (Err c.in-Err.error) ∷ [];
-      asked = (Err c.in-Err.error, refl, refl);
-      steps = (c.on_outgoing_transfer.new.self, c.in-Err.ensures, refl);
-      frames = refl;
+      calls = session.SendsTransfer held (Err c.in_err-on_outgoing_transfer.field-0.0) ∷ [];
+      asked = (Err c.in_err-on_outgoing_transfer.field-0.0, refl, search rules);
+      steps = (c.on_outgoing_transfer.new.self, c.in_err-on_outgoing_transfer.ensures, refl);
+      frames = search rules;
     }

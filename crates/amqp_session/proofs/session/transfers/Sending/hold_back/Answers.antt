@@ -6,4 +6,4 @@ use Rattle.amqp_session.proofs.session.transfers.Sending.hold_back.Goals as goal
 pub returns-clause-ok : goal.returns-clause-ok
 returns-clause-ok c =
     let used_up : c.self.inside.window ≡ 0 = ap (λ (v : SendingView). v.window) c.self.view_is ∙ c.requires in
-    rw (← c.self.view_is, c.in_ok-push_back.ensures.items) (sym (still c.self.inside.channel.0 c.self.inside.initial c.self.inside.next c.self.inside.window c.self.inside.delivery _ used_up (omega arith) (omega arith)))
+    rw (← c.self.view_is, c.in_ok-push_back.ensures.items) (sym (still c.self.inside.next c.self.inside.window c.self.inside.delivery _ used_up (omega arith) (omega arith)))

@@ -1,0 +1,78 @@
+-- A frame's head, which is its header and its descriptor, and the fields behind it.
+use Rattle.std.specs.Prelude.{◌≡◌, ◌<◌, ◌≤◌, ◌↔◌, ℕ, List, [], ◌++◌, length, Option, Some, None, Result, Ok, Err}
+use Rattle.amqp_values.specs.Composite.{IsComposite}
+use Rattle.amqp_types.specs.declared.performatives.kind.Kind.{Kind}
+use Rattle.amqp_types.specs.declared.performatives.kind.Kind.TheVariants as kind
+use Rattle.amqp_types.specs.Open.{IsOpenBody}
+use Rattle.amqp_types.specs.Begin.{IsBeginBody}
+use Rattle.amqp_types.specs.Attach.{IsAttachBody}
+use Rattle.amqp_types.specs.Flow.{IsFlowBody}
+use Rattle.amqp_types.specs.Transfer.{IsTransferBody}
+use Rattle.amqp_types.specs.Disposition.{IsDispositionBody}
+use Rattle.amqp_types.specs.Detach.{IsDetachBody}
+use Rattle.amqp_types.specs.End.{IsEndBody}
+use Rattle.amqp_types.specs.Close.{IsCloseBody}
+use Rattle.amqp_frames.specs.declared.frame.Frame.{Frame}
+use Rattle.amqp_frames.specs.declared.frame.FrameBody.{FrameBody}
+use Rattle.amqp_frames.specs.declared.frame.FrameBody.TheVariants.{Attach, Flow, Transfer, Disposition, Detach, Begin}
+use Rattle.amqp_frames.specs.declared.frame.FrameBody.TheVariants.{End, Open, Close, Empty}
+use Rattle.amqp_frames.specs.declared.decoder.FrameHead.{FrameHead}
+use Rattle.amqp_frames.specs.declared.error.Error.{Error}
+use Rattle.amqp_frames.specs.declared.error.Error.TheVariants as no
+use Rattle.amqp_frames.specs.Frame.{IsFrame, HasHeader, Decodes}
+
+-- the fields of one performative, and what is behind them
+pub record IsFields {V : Type 0} (B : V → List (List ℕ) → Type 0) (says : V → List ℕ → FrameBody × List ℕ)
+    (body : FrameBody) (fields rest : List ℕ) : Type 0 where
+  pub value : V
+  pub text : List ℕ
+  pub behind : List ℕ
+  pub is : IsComposite B value text
+  pub whole : fields ≡ text ++ behind
+  pub said : says value behind ≡ (body, rest)
+
+-- The fields of this kind stand in the bytes, and say this body. Where there is no kind, the body is empty.
+abbrev pub IsBodyOf : Option Kind → FrameBody → List ℕ → List ℕ → Type 0
+IsBodyOf None body fields rest = (body ≡ Empty) × (rest ≡ [])
+IsBodyOf (Some kind.Open) body fields rest = IsFields IsOpenBody (λ p behind. (Open p, behind)) body fields rest
+IsBodyOf (Some kind.Begin) body fields rest = IsFields IsBeginBody (λ p behind. (Begin p, behind)) body fields rest
+IsBodyOf (Some kind.Attach) body fields rest = IsFields IsAttachBody (λ p behind. (Attach p, behind)) body fields rest
+IsBodyOf (Some kind.Flow) body fields rest = IsFields IsFlowBody (λ p behind. (Flow p, behind)) body fields rest
+IsBodyOf (Some kind.Transfer) body fields rest = IsFields IsTransferBody (λ p behind. (Transfer p behind, [])) body fields rest
+IsBodyOf (Some kind.Disposition) body fields rest = IsFields IsDispositionBody (λ p behind. (Disposition p, behind)) body fields rest
+IsBodyOf (Some kind.Detach) body fields rest = IsFields IsDetachBody (λ p behind. (Detach p, behind)) body fields rest
+IsBodyOf (Some kind.End) body fields rest = IsFields IsEndBody (λ p behind. (End p, behind)) body fields rest
+IsBodyOf (Some kind.Close) body fields rest = IsFields IsCloseBody (λ p behind. (Close p, behind)) body fields rest
+
+-- the fields of a performative may ask for memory; where there is no body, nothing does
+abbrev pub MayAskForMemory : Option Kind → Type 0
+MayAskForMemory None = ⊥
+MayAskForMemory (Some k) = Unit {0}
+
+-- why no body of this kind is read
+abbrev pub NoBodyOf : Option Kind → List ℕ → Error → Type 0
+NoBodyOf k fields no.DecodeError = (body : FrameBody) (rest : List ℕ) → ¬ IsBodyOf k body fields rest
+NoBodyOf k fields no.OutOfMemory = MayAskForMemory k
+NoBodyOf k fields no.NotImplemented = ⊥
+NoBodyOf k fields no.TooLarge = ⊥
+NoBodyOf k fields (no.Io text) = ⊥
+
+-- a header has four bytes, and a body stands behind it
+abbrev pub IsLongEnough : Option Kind → List ℕ → Type 0
+IsLongEnough None bytes = 4 ≤ length bytes
+IsLongEnough (Some k) bytes = 4 < length bytes
+
+-- The frames that stand in the bytes are those on this channel whose body of this kind stands in what is left; or why none
+-- stands there.
+abbrev pub Opens : List ℕ → List ℕ → Result FrameHead Error → Type 0
+Opens bytes left (Ok h) =
+    IsLongEnough h.kind bytes × HasHeader bytes
+    × ((f : Frame) (rest : List ℕ) → IsFrame f bytes rest ↔ ((f.channel ≡ h.channel) × IsBodyOf h.kind f.body left rest))
+Opens bytes left (Err e) = Decodes bytes (Err e)
+
+-- the one body of this kind, and what is behind it
+abbrev pub ReadsBodyOf : Option Kind → List ℕ → Result (FrameBody × List ℕ) Error → Type 0
+ReadsBodyOf k fields (Ok x) =
+    IsBodyOf k x.0 fields x.1 × ((b : FrameBody) (rest : List ℕ) → IsBodyOf k b fields rest → ◌≡◌ {A = FrameBody
+    × List ℕ} (b, rest) x)
+ReadsBodyOf k fields (Err e) = NoBodyOf k fields e

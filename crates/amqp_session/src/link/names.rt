@@ -1,0 +1,99 @@
+//! The live links by name.
+
+ghost use Rattle.std.specs.Prelude.{◌≡◌, ◌<◌, option_map, is_some, IsSome, IfNone, IfSome, string_bytes};
+ghost use Rattle.std.specs.FinMap as map;
+ghost use Rattle.indexmap.specs.IndexMap.{spare};
+ghost use Rattle.amqp_session.specs.Links.{names_of};
+ghost use Rattle.amqp_session.specs.Linking.{AttachAsked, WaitAsked, IsWaited, AttachRefused};
+
+use super::{Attached, Named};
+use crate::error::{LinkRelayError, SessionInnerError};
+use crate::numbers::OutputHandle;
+use crate::relay::LinkRelay;
+use amqp_types::Attach;
+use indexmap::IndexMap;
+
+/// The output handle of a live link.
+pub(super) fn handle_of<R: Drop>(
+    names: &IndexMap<String, Named<R>>,
+    name: &str,
+) -> Option<OutputHandle>
+    ensures { result ≡ option_map (λ n. n.handle) (map.get (names_of names.now.entries) name.now) }
+{
+    match names.get(name) {
+        None => None,
+        Some(link) => Some(link.handle),
+    }
+}
+
+/// Whether a relay waits for the link.
+fn is_waited<R: Drop>(link: &Named<R>) -> bool
+    ensures { result ≡ is_some link.now.waiting }
+{
+    link.waiting.is_some()
+}
+
+/// Why the attach of a name is refused before a relay is asked: no live link has the name, or no relay waits for it.
+pub(super) fn refusal<R: Drop>(
+    names: &IndexMap<String, Named<R>>,
+    name: &str,
+) -> Option<SessionInnerError>
+    ensures none { IfNone result (IsWaited (map.get (names_of names.now.entries) name.now)) }
+    ensures some { IfSome result (λ e. AttachRefused (map.get (names_of names.now.entries) name.now) e) }
+{
+    match names.get(name) {
+        None => Some(SessionInnerError::RemoteAttachingLinkNameNotFound),
+        Some(link) => {
+            if is_waited(link) {
+                None
+            } else {
+                Some(SessionInnerError::HandleInUse)
+            }
+        }
+    }
+}
+
+/// A link becomes live. Its room was made before.
+pub(super) fn put<R: Drop>(names: &mut IndexMap<String, Named<R>>, name: String, link: Named<R>)
+    requires { 0 < spare names.old }
+    ensures { names_of names.new.entries ≡ map.insert (names_of names.old.entries) (string_bytes name) link }
+{
+    names.insert(name, link).unwrap();
+}
+
+/// A live link is gone, and with it the relay that waits.
+pub(super) fn remove<R: Drop>(names: &mut IndexMap<String, Named<R>>, name: &str)
+    ensures { names_of names.new.entries ≡ map.remove (names_of names.old.entries) name.now }
+{
+    names.swap_remove(name);
+}
+
+/// Asks the relay that waits for a link: on success it waits no longer.
+fn ask<R: LinkRelay>(link: &mut Named<R>, attach: Attach) -> Result<Attached<R>, LinkRelayError>
+    requires { IsSome link.old.waiting }
+    ensures { WaitAsked R.gives.attach_gives link.old attach result link.new }
+{
+    let mut relay = link.waiting.take().unwrap();
+    match relay.on_incoming_attach(attach) {
+        Ok(()) => Ok(Attached {
+            handle: link.handle,
+            relay,
+        }),
+        Err(error) => {
+            link.waiting = Some(relay);
+            Err(error)
+        }
+    }
+}
+
+/// Asks the relay that waits under the name of an attach: on success it waits no longer.
+pub(super) fn attach<R: LinkRelay>(
+    names: &mut IndexMap<String, Named<R>>,
+    attach: Attach,
+) -> Result<Attached<R>, LinkRelayError>
+    requires { IsWaited (map.get (names_of names.old.entries) attach.name) }
+    ensures { AttachAsked R.gives.attach_gives (names_of names.old.entries) attach result (names_of names.new.entries) }
+{
+    let link = names.get_mut(attach.name.as_str()).unwrap();
+    ask(link, attach)
+}

@@ -1,0 +1,146 @@
+//! The calls of a session for its links (AMQP 1.0 part 2, section 2.6).
+
+ghost use Rattle.std.specs.Prelude.{◌≡◌, Option, option_map, string_bytes, OnOk, IfErr};
+ghost use Rattle.amqp_session.specs.Linking.{named_at, has_ended, why_unallotted, MayAllot, AllotRefused, AllocateLinkStep, AllocateIncomingStep, DeallocateStep, TakeAttachStep, TakeDetachStep, SendAttachStep, SendDetachStep};
+ghost use Rattle.amqp_session.specs.Relay.{AttachQuestion, DetachQuestion};
+
+use super::Session;
+use crate::error::{AllocLinkError, SessionInnerError};
+use crate::frame::{SessionFrame, SessionFrameBody};
+use crate::numbers::{InputHandle, OutputHandle};
+use crate::relay::LinkRelay;
+use crate::stop::SessionStopReason;
+use amqp_types::{Attach, Detach, SessionState};
+
+/// Whether the session has ended, or is ending.
+fn has_ended(state: SessionState) -> bool
+    ensures { result ≡ has_ended state }
+{
+    matches!(
+        state,
+        SessionState::EndSent | SessionState::EndReceived | SessionState::Discarding
+    )
+}
+
+impl<R: LinkRelay> Session<R> {
+    /// The output handle of the live link of a name.
+    pub fn output_handle(&self, name: &str) -> Option<OutputHandle>
+        ensures { result ≡ option_map (λ n. n.handle) (named_at name.now self.now.links) }
+    {
+        self.links.output_handle(name)
+    }
+
+    /// Allots an output handle for a link of this name. The relay, if any, waits under the name for the peer's attach.
+    ///
+    /// Outside `Mapped`, `SessionStopped` with the reason that is recorded; without one, `SessionStopped` with `Ended` where
+    /// an End was sent or received, and else `SessionNotMapped`. `DuplicatedLinkName` where a live link has the name.
+    /// `HandlesExhausted` where no handle of four bytes is left. `OutOfMemory` where memory is refused. Nothing changes then.
+    pub fn allocate_link(
+        &mut self,
+        name: String,
+        relay: Option<R>,
+    ) -> Result<OutputHandle, AllocLinkError>
+        ensures { AllocateLinkStep self.old (string_bytes name) relay result self.new }
+    {
+        if let Err(error) = self.may_allot(name.as_str()) {
+            return Err(error);
+        }
+        self.links.allot(name, relay)
+    }
+
+    /// Allots an output handle for a link of this name, and puts its relay under the input handle of the peer's attach at once:
+    /// none waits under the name. Refused as [`Session::allocate_link`] is.
+    pub fn allocate_incoming_link(
+        &mut self,
+        name: String,
+        relay: R,
+        input_handle: InputHandle,
+    ) -> Result<OutputHandle, AllocLinkError>
+        ensures { AllocateIncomingStep self.old (string_bytes name) relay input_handle result self.new }
+    {
+        if let Err(error) = self.may_allot(name.as_str()) {
+            return Err(error);
+        }
+        self.links.allot_attached(name, relay, input_handle)
+    }
+
+    /// Releases the live link of an output handle with its name, and says whether there was one. Takes no memory.
+    pub fn deallocate_link(&mut self, handle: OutputHandle) -> bool
+        ensures { DeallocateStep self.old handle result self.new }
+    {
+        self.links.release(handle.0)
+    }
+
+    /// Takes the peer's attach: the relay that waits under its name is asked, and is put under the input handle where it
+    /// accepts. An input handle that is in use goes to the new link.
+    ///
+    /// `RemoteAttachingLinkNameNotFound` where no live link has the name, and `HandleInUse` where no relay waits under it.
+    /// `OutOfMemory` where memory is refused: it is taken before the relay is asked. An error of the relay is passed on, and
+    /// the relay goes on to wait.
+    pub fn on_incoming_attach(&mut self, attach: Attach) -> Result<(), SessionInnerError>
+        ensures { (asked : Option (AttachQuestion R)) × TakeAttachStep R.gives.attach_gives self.old attach asked result self.new }
+    {
+        self.links.attach(attach)
+    }
+
+    /// Takes the peer's detach: the link leaves the table, and its relay is told whether the peer began. It did where no detach
+    /// of this side is awaited, which is then no longer awaited. The relay's answer is handed back. An input handle without
+    /// a link is passed over. Takes no memory, and never fails.
+    pub fn on_incoming_detach(
+        &mut self,
+        detach: Detach,
+    ) -> Result<Option<Detach>, SessionInnerError>
+        ensures { (asked : Option (DetachQuestion R)) × TakeDetachStep R.gives.detach_gives self.old detach asked result self.new }
+    {
+        Ok(self.links.detach(detach))
+    }
+
+    /// The frame of an attach. Takes no memory, and changes nothing.
+    pub fn on_outgoing_attach(&self, attach: Attach) -> SessionFrame
+        ensures { SendAttachStep self.now attach result self.now }
+    {
+        SessionFrame::new(self.outgoing_channel.0, SessionFrameBody::Attach(attach))
+    }
+
+    /// Detaches the link of an output handle, and gives the frame. Where the peer is to answer, the handle stays taken until
+    /// the answer comes, and a handle without a live link gives no frame. Takes no memory, and never fails.
+    pub fn on_outgoing_detach(
+        &mut self,
+        detach: Detach,
+        expects_echo: bool,
+    ) -> Result<Option<SessionFrame>, SessionInnerError>
+        ensures { SendDetachStep self.old detach expects_echo result self.new }
+    {
+        if !self.links.leave(detach.handle.0, expects_echo) {
+            return Ok(None);
+        }
+        Ok(Some(SessionFrame::new(self.outgoing_channel.0, SessionFrameBody::Detach(detach))))
+    }
+
+    /// Whether a link of this name may be allotted.
+    fn may_allot(&self, name: &str) -> Result<(), AllocLinkError>
+        ensures ok { OnOk result (MayAllot self.now name.now) }
+        ensures err { IfErr result (λ e. AllotRefused self.now name.now e) }
+    {
+        if !self.can_send() {
+            return Err(self.why_unallotted());
+        }
+        if self.links.output_handle(name).is_some() {
+            return Err(AllocLinkError::DuplicatedLinkName);
+        }
+        Ok(())
+    }
+
+    /// Why no link is allotted outside `Mapped`.
+    fn why_unallotted(&self) -> AllocLinkError
+        ensures { result ≡ why_unallotted self.now.state self.now.session_stop }
+    {
+        if let Some(reason) = self.session_stop {
+            return AllocLinkError::SessionStopped(reason);
+        }
+        if has_ended(self.state) {
+            return AllocLinkError::SessionStopped(SessionStopReason::Ended);
+        }
+        AllocLinkError::SessionNotMapped
+    }
+}

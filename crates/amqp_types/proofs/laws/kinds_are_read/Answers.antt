@@ -1,0 +1,5 @@
+use Rattle.amqp_types.proofs.KindLaws.{kind_found, kind_again}
+use Rattle.amqp_types.proofs.laws.kinds_are_read.Goals as goal
+
+pub returns : goal.returns
+returns c = record { found = kind_found; again = kind_again }

@@ -1,0 +1,5 @@
+use Rattle.amqp_types.proofs.PerformativeLaws.{lists_read}
+use Rattle.amqp_types.proofs.laws.lists_are_read.Goals as goal
+
+pub returns : goal.returns
+returns c = lists_read

@@ -1,0 +1,57 @@
+//! Which performative a descriptor names (AMQP 1.0 part 2, section 2.7).
+
+ghost use Rattle.std.specs.Prelude.{◌≡◌};
+ghost use Rattle.amqp_values.specs.Reading.{Gives};
+ghost use Rattle.amqp_types.specs.Kinds.{kind_at, kind_of};
+
+use amqp_values::ReadError;
+use amqp_values::composite::descriptor;
+use bytes::Bytes;
+
+/// One of the nine performatives.
+#[derive(Clone, Copy, Debug, PartialEq, Eq)]
+pub enum Kind {
+    Open,
+    Begin,
+    Attach,
+    Flow,
+    Transfer,
+    Disposition,
+    Detach,
+    End,
+    Close,
+}
+
+/// The kind with this code.
+#[tactic(auto, unfolding(crate::specs::Kinds::kind_of))]
+fn kind_of(code: u64) -> Option<Kind>
+    ensures { result ≡ kind_of code }
+{
+    match code {
+        0x10 => Some(Kind::Open),
+        0x11 => Some(Kind::Begin),
+        0x12 => Some(Kind::Attach),
+        0x13 => Some(Kind::Flow),
+        0x14 => Some(Kind::Transfer),
+        0x15 => Some(Kind::Disposition),
+        0x16 => Some(Kind::Detach),
+        0x17 => Some(Kind::End),
+        0x18 => Some(Kind::Close),
+        _ => None,
+    }
+}
+
+impl Kind {
+    /// Reads the descriptor at the front of the bytes, a number or a name, and answers the kind that it names.
+    /// `Malformed` exactly where no front of the bytes is a descriptor of one of the nine.
+    #[tactic(auto, unfolding(crate::specs::Kinds::kind_at))]
+    pub fn read(bytes: &mut Bytes) -> Result<Kind, ReadError>
+        ensures { Gives (λ k. k) result bytes.new (kind_at bytes.old) }
+    {
+        let code = descriptor(bytes)?;
+        match kind_of(code) {
+            Some(kind) => Ok(kind),
+            None => Err(ReadError::Malformed),
+        }
+    }
+}

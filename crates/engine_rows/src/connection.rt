@@ -1,0 +1,176 @@
+//! Rows of a connection alone: what its calls answer.
+
+use crate::reading;
+use fe2o3_amqp::{
+    Connection, ConnectionInnerError, ConnectionStateError, Frame, FrameBody, FrameEncoder,
+    IncomingChannel, OutgoingChannel, Performative, SessionFrame, SessionFrameBody, SessionNo,
+    out_line,
+};
+use std::alloc::Global;
+
+/// What the calls of a row answer, whose first line is the state of the connection.
+pub fn answer(alloc: Global, text: &str) -> anyhow::Result<String> {
+    let (state, lines) = text.split_once('\n').unwrap_or((text, ""));
+    let open = reading::open(alloc, "replay")?;
+    let mut connection = Connection::new(alloc, reading::state(state)?, open);
+    let answers = answers(alloc, &mut connection, lines);
+    drop(connection);
+    answers
+}
+
+fn answers(alloc: Global, connection: &mut Connection, lines: &str) -> anyhow::Result<String> {
+    let mut text = String::new(alloc);
+    for line in lines.lines() {
+        text.push_str(call(alloc, connection, line)?.as_str())?;
+        text.push_str("\n")?;
+    }
+    Ok(text)
+}
+
+/// What one call answers.
+fn call(alloc: Global, connection: &mut Connection, line: &str) -> anyhow::Result<String> {
+    let (word, rest) = line.split_once(' ').unwrap_or((line, ""));
+    match word {
+        "open" => sent(alloc, connection.send_open()),
+        "close" => close(alloc, connection, rest),
+        "recv" => received(alloc, connection, rest),
+        "allocate" => allocate(alloc, connection, rest),
+        "send" => send(alloc, connection, rest),
+        "stop" => stop(alloc, connection, rest),
+        _ => plain(alloc, connection, word, rest),
+    }
+}
+
+/// What the calls answer that do not fail.
+fn plain(
+    alloc: Global,
+    connection: &mut Connection,
+    word: &str,
+    rest: &str,
+) -> anyhow::Result<String> {
+    match word {
+        "deallocate" => {
+            let is_given = connection.deallocate_session(OutgoingChannel(reading::channel(rest)?));
+            Ok(format!(in alloc; "{is_given}")?)
+        }
+        "route" => route(alloc, connection, rest),
+        "show" => show(alloc, connection),
+        _ => Err(anyhow::anyhow!("no call")),
+    }
+}
+
+/// The frame as it goes out.
+fn frame(alloc: Global, frame: &Frame) -> anyhow::Result<String> {
+    let pieces = FrameEncoder::new(u32::MAX).encode(alloc, frame)?;
+    match pieces.as_slice() {
+        [piece] => Ok(out_line(alloc, piece)?),
+        _ => Err(anyhow::anyhow!("no whole frame")),
+    }
+}
+
+fn refused(alloc: Global, error: &ConnectionStateError) -> anyhow::Result<String> {
+    Ok(format!(in alloc; "err {error:?}")?)
+}
+
+fn sent(alloc: Global, answer: Result<Frame, ConnectionStateError>) -> anyhow::Result<String> {
+    match answer {
+        Ok(made) => frame(alloc, &made),
+        Err(error) => refused(alloc, &error),
+    }
+}
+
+fn taken(alloc: Global, answer: Result<(), ConnectionStateError>) -> anyhow::Result<String> {
+    match answer {
+        Ok(()) => Ok(String::from_str(alloc, "ok")?),
+        Err(error) => refused(alloc, &error),
+    }
+}
+
+/// The session to which a Begin or an End goes, and the frame that it gets.
+fn routed(
+    alloc: Global,
+    answer: Result<(SessionNo, SessionFrame), ConnectionInnerError>,
+) -> anyhow::Result<String> {
+    match answer {
+        Ok((number, frame)) => session_frame(alloc, number, frame),
+        Err(error) => Ok(format!(in alloc; "err {error:?}")?),
+    }
+}
+
+fn session_frame(alloc: Global, number: SessionNo, sent: SessionFrame) -> anyhow::Result<String> {
+    let number = number.0;
+    let text = frame(alloc, &frame_of(sent))?;
+    Ok(format!(in alloc; "session {number}: {text}")?)
+}
+
+/// The frame of a session's Begin or End; an empty one where it is neither.
+fn frame_of(sent: SessionFrame) -> Frame {
+    let channel = sent.channel;
+    match sent.body {
+        SessionFrameBody::Begin(begin) => Frame::new(channel, FrameBody::Begin(begin)),
+        SessionFrameBody::End(end) => Frame::new(channel, FrameBody::End(end)),
+        _ => Frame::empty(),
+    }
+}
+
+fn close(alloc: Global, connection: &mut Connection, text: &str) -> anyhow::Result<String> {
+    let error = reading::error(alloc, text)?;
+    sent(alloc, connection.send_close(error))
+}
+
+/// What is answered to a performative that came on a channel.
+fn received(alloc: Global, connection: &mut Connection, text: &str) -> anyhow::Result<String> {
+    let (channel, performative) = reading::on_channel(alloc, text)?;
+    let channel = IncomingChannel(channel);
+    match performative {
+        Performative::Open(open) => taken(alloc, connection.on_incoming_open(channel, open)),
+        Performative::Close(close) => taken(alloc, connection.on_incoming_close(channel, close)),
+        Performative::Begin(begin) => routed(alloc, connection.on_incoming_begin(channel, begin)),
+        Performative::End(end) => routed(alloc, connection.on_incoming_end(channel, end)),
+        _ => Err(anyhow::anyhow!("no call takes it")),
+    }
+}
+
+/// The frame of a session's Begin or End.
+fn send(alloc: Global, connection: &Connection, text: &str) -> anyhow::Result<String> {
+    let (channel, performative) = reading::on_channel(alloc, text)?;
+    let channel = OutgoingChannel(channel);
+    match performative {
+        Performative::Begin(begin) => frame(alloc, &connection.on_outgoing_begin(channel, begin)),
+        Performative::End(end) => frame(alloc, &connection.on_outgoing_end(channel, end)),
+        _ => Err(anyhow::anyhow!("no Begin and no End")),
+    }
+}
+
+fn allocate(alloc: Global, connection: &mut Connection, text: &str) -> anyhow::Result<String> {
+    match connection.allocate_session(SessionNo(reading::number(text)?)) {
+        Ok(channel) => {
+            let channel = channel.0;
+            Ok(format!(in alloc; "channel {channel}")?)
+        }
+        Err(error) => Ok(format!(in alloc; "err {error:?}")?),
+    }
+}
+
+fn stop(alloc: Global, connection: &mut Connection, text: &str) -> anyhow::Result<String> {
+    connection.set_connection_stop_reason(reading::stop_reason(text)?);
+    Ok(String::from_str(alloc, "ok")?)
+}
+
+fn route(alloc: Global, connection: &Connection, text: &str) -> anyhow::Result<String> {
+    match connection.session_tx_by_incoming_channel(IncomingChannel(reading::channel(text)?)) {
+        Some(number) => {
+            let number = number.0;
+            Ok(format!(in alloc; "session {number}")?)
+        }
+        None => Ok(String::from_str(alloc, "none")?),
+    }
+}
+
+/// The state, why the connection stopped, and the name of its Open.
+fn show(alloc: Global, connection: &Connection) -> anyhow::Result<String> {
+    let state = connection.local_state();
+    let reason = connection.connection_stop_reason();
+    let name = connection.local_open().container_id.as_str();
+    Ok(format!(in alloc; "{state:?} reason={reason:?} open={name}")?)
+}

@@ -1,0 +1,35 @@
+//! Rows of an engine: a line `-- TITLE` begins one, and is repeated; the lines behind it are a transcript, as `amqp_replay`
+//! reads it, for an engine of its own. What the transcript prints follows, then what it says of a line that it cannot read,
+//! and its status where that is not 0.
+//!
+//! Behind `connection STATE` the lines are calls of a connection alone, in that state:
+//!
+//! | Line | Call |
+//! |---|---|
+//! | `open`, `close`, `close CONDITION` | `send_open`, `send_close` |
+//! | `recv CHANNEL HEX` | what came on a channel: an Open, a Close, a Begin or an End |
+//! | `send CHANNEL HEX` | `on_outgoing_begin`, `on_outgoing_end` |
+//! | `allocate N`, `deallocate CHANNEL` | `allocate_session`, `deallocate_session` |
+//! | `stop REASON` | `set_connection_stop_reason` |
+//! | `route CHANNEL`, `show` | the calls that read |
+#![tactic(auto)]
+
+mod connection;
+mod reading;
+mod row;
+
+use std::io::{self, BufRead, BufReader, BufWriter, Write};
+
+fn main(rt: HostRuntime) -> anyhow::Result<()> {
+    let alloc = rt.alloc();
+    let mut out = BufWriter::new(alloc, io::writer(&rt))?;
+    let mut lines = String::new(alloc);
+    for line in BufReader::new(alloc, rt.reader())?.lines(alloc) {
+        let text = row::next(alloc, &mut lines, line?.as_str())?;
+        out.write_all(text.as_slice())?;
+    }
+    let text = row::answer(alloc, lines.as_str())?;
+    out.write_all(text.as_slice())?;
+    out.flush()?;
+    Ok(())
+}

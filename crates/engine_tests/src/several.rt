@@ -1,0 +1,187 @@
+//! Runs of several inputs, of which some stand behind others that hand out frames.
+
+use crate::asking::{answer, begins, engine_in, first_transfer, hear, opened};
+use crate::given::{ReplayEngine, peer_open};
+use crate::running::{heard, push, runs_to};
+use bytes::Bytes;
+use fe2o3_amqp::{ConnectionState, Input, InputHandle, SessionNo, SessionSettings};
+use std::alloc::Global;
+use std::collections::VecDeque;
+
+/// The peer's Begin on channel 5, which names channel 0 and grants a window of 8.
+const BEGIN: &'static [u8] = b"\x02\0\0\x05\0\x53\x11\xc0\x09\x04\x60\0\0\x43\x52\x08\x52\x08";
+
+/// The peer's Flow on channel 5, which expects transfer 0 and grants a window of 2.
+const FLOW: &'static [u8] = b"\x02\0\0\x05\0\x53\x13\xc0\x07\x04\x43\x52\x02\x43\x52\x08";
+
+/// The request of a session's Begin, of default settings.
+fn begin(number: u32) -> Input {
+    Input::Begin(SessionNo(number), SessionSettings::new())
+}
+
+/// The request of a first transfer of session 0, on handle 0.
+fn transfer(tag: &'static [u8], payload: &'static [u8]) -> Input {
+    Input::Transfer(
+        SessionNo(0),
+        InputHandle(0),
+        first_transfer(tag),
+        Bytes::from_static(payload),
+        true,
+    )
+}
+
+/// An Open, a Begin, two transfers and a Close, with what the peer answers in between.
+fn exchange(alloc: Global) -> VecDeque<Input> {
+    let mut inputs = VecDeque::new(alloc);
+    let _are_there = push(&mut inputs, Input::Open)
+        && push(&mut inputs, Input::Received(peer_open()))
+        && push(&mut inputs, begin(0))
+        && push(&mut inputs, heard(BEGIN))
+        && push(&mut inputs, transfer(b"\x0a", b"\xff"))
+        && push(&mut inputs, transfer(b"\x0b", b"\xfe"))
+        && push(&mut inputs, Input::Close(None));
+    inputs
+}
+
+#[test]
+fn a_run_takes_a_whole_exchange(rt: HostRuntime) {
+    let mut engine = engine_in(rt.alloc(), ConnectionState::HeaderExchange);
+    let want = "done
+out 02000000005310c00c04a1004070000400006000ff
+done
+done
+out 02000000005311c00d04404370000013887000001388
+done
+done
+out 02000000005314c006034343a0010aff
+done
+out 02000000005314c00703435201a0010bfe
+done
+out 0200000000531845
+";
+    let inputs = exchange(rt.alloc());
+    assert!(rt; runs_to(rt.alloc(), &mut engine, inputs, want));
+    drop(engine);
+}
+
+/// Inputs that are refused by each layer, between others that hand out frames.
+fn with_refusals(alloc: Global) -> VecDeque<Input> {
+    let mut inputs = VecDeque::new(alloc);
+    let _are_there = push(&mut inputs, begin(0))
+        && push(&mut inputs, begin(0))
+        && push(&mut inputs, transfer(b"\x0a", b"\xff"))
+        && push(&mut inputs, begin(1))
+        && push(&mut inputs, Input::Open)
+        && push(&mut inputs, Input::End(SessionNo(9), None))
+        && push(&mut inputs, heard(b"\x02\0\0"))
+        && push(&mut inputs, heard(FLOW))
+        && push(&mut inputs, Input::Close(None));
+    inputs
+}
+
+#[test]
+fn a_refused_input_leaves_the_others_in_place(rt: HostRuntime) {
+    let mut engine = opened(rt.alloc());
+    let want = "done
+out 02000000005311c00d04404370000013887000001388
+SessionInUse
+IllegalState
+done
+out 02000001005311c00d04404370000013887000001388
+IllegalState
+NoSession
+DecodeError
+NotFound
+done
+out 0200000000531845
+";
+    let inputs = with_refusals(rt.alloc());
+    assert!(rt; runs_to(rt.alloc(), &mut engine, inputs, want));
+    drop(engine);
+}
+
+/// Three Begins and a Close: each hands out a frame.
+pub fn all_hand_out(alloc: Global) -> VecDeque<Input> {
+    let mut inputs = VecDeque::new(alloc);
+    let _are_there = push(&mut inputs, begin(2))
+        && push(&mut inputs, begin(1))
+        && push(&mut inputs, begin(0))
+        && push(&mut inputs, Input::Close(None));
+    inputs
+}
+
+/// What they are answered.
+pub const ALL_HANDED_OUT: &'static str = "done
+out 02000000005311c00d04404370000013887000001388
+done
+out 02000001005311c00d04404370000013887000001388
+done
+out 02000002005311c00d04404370000013887000001388
+done
+out 0200000000531845
+";
+
+#[test]
+fn each_input_is_answered_before_the_next(rt: HostRuntime) {
+    let mut engine = opened(rt.alloc());
+    let inputs = all_hand_out(rt.alloc());
+    assert!(rt; runs_to(rt.alloc(), &mut engine, inputs, ALL_HANDED_OUT));
+    drop(engine);
+}
+
+/// Three transfers for a window of two, and an End behind the flow that lets two of them out.
+fn let_out_at_once(alloc: Global) -> VecDeque<Input> {
+    let mut inputs = VecDeque::new(alloc);
+    let _are_there = push(&mut inputs, transfer(b"\x0a", b"\xff"))
+        && push(&mut inputs, transfer(b"\x0b", b"\xfe"))
+        && push(&mut inputs, transfer(b"\x0c", b"\xfd"))
+        && push(&mut inputs, heard(FLOW))
+        && push(&mut inputs, Input::End(SessionNo(0), None));
+    inputs
+}
+
+/// Whether session 0 is mapped, with a window of 0.
+fn maps(alloc: Global, engine: &mut ReplayEngine) -> bool {
+    begins(engine, 0) && hear(alloc, engine, "02000005005311c0080460000043435208") == "done"
+}
+
+#[test]
+fn all_frames_of_an_input_come_before_the_next(rt: HostRuntime) {
+    let mut engine = opened(rt.alloc());
+    assert!(rt; maps(rt.alloc(), &mut engine));
+    let want = "done
+done
+done
+done
+out 02000000005314c006034343a0010aff
+out 02000000005314c00703435201a0010bfe
+done
+out 0200000000531745
+";
+    let inputs = let_out_at_once(rt.alloc());
+    assert!(rt; runs_to(rt.alloc(), &mut engine, inputs, want));
+    drop(engine);
+}
+
+/// A Begin and a Close.
+fn begin_and_close(alloc: Global) -> VecDeque<Input> {
+    let mut inputs = VecDeque::new(alloc);
+    let _are_there = push(&mut inputs, begin(1)) && push(&mut inputs, Input::Close(None));
+    inputs
+}
+
+#[test]
+fn what_a_step_left_is_put_out_before_the_inputs(rt: HostRuntime) {
+    let mut engine = opened(rt.alloc());
+    assert_eq!(rt; answer(&mut engine, begin(0)), "done");
+    assert!(rt; engine.has_output());
+    let want = "out 02000000005311c00d04404370000013887000001388
+done
+out 02000001005311c00d04404370000013887000001388
+done
+out 0200000000531845
+";
+    let inputs = begin_and_close(rt.alloc());
+    assert!(rt; runs_to(rt.alloc(), &mut engine, inputs, want));
+    drop(engine);
+}

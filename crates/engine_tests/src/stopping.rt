@@ -1,0 +1,62 @@
+//! A run that stops for want of memory, and the next one, which goes on.
+
+use crate::asking::opened;
+use crate::given::{ReplayEngine, said};
+use crate::several::{ALL_HANDED_OUT, all_hand_out};
+use fe2o3_amqp::{Answer, Input};
+use std::alloc::{AllocError, Global};
+use std::collections::VecDeque;
+
+/// Whether a run takes all inputs: where it stops, a second one goes on, and as many are left as the first did not take.
+fn goes_on(
+    engine: &mut ReplayEngine,
+    inputs: &mut VecDeque<Input>,
+    answers: &mut Vec<Answer>,
+) -> bool {
+    let total = inputs.len();
+    match engine.run(inputs, answers) {
+        Ok(()) => inputs.is_empty(),
+        Err(stopped) => {
+            stopped.done.checked_add(inputs.len()) == Some(total)
+                && engine.run(inputs, answers).is_ok()
+                && inputs.is_empty()
+        }
+    }
+}
+
+/// The lines of the answers, of one run or of two.
+fn ran_on(
+    alloc: Global,
+    engine: &mut ReplayEngine,
+    mut inputs: VecDeque<Input>,
+) -> Result<String, AllocError> {
+    let mut answers = Vec::new(alloc);
+    if !goes_on(engine, &mut inputs, &mut answers) {
+        return Err(AllocError);
+    }
+    match said(alloc, &answers) {
+        Ok(text) => Ok(text),
+        Err(_refused) => said(alloc, &answers),
+    }
+}
+
+/// Whether all is answered as without want of memory, or an input was refused for it.
+fn is_whole(text: &str) -> bool {
+    text == ALL_HANDED_OUT || text.contains("OutOfMemory\n")
+}
+
+/// It holds at whichever request for memory one is refused, as `rt try --test --fail-alloc N` does, and with none refused.
+#[test]
+fn a_stopped_run_goes_on(rt: HostRuntime) {
+    let mut engine = opened(rt.alloc());
+    let mut inputs = all_hand_out(rt.alloc());
+    if inputs.len() != 4 {
+        inputs = all_hand_out(rt.alloc());
+    }
+    let is_right = match ran_on(rt.alloc(), &mut engine, inputs) {
+        Ok(text) => is_whole(text.as_str()),
+        Err(_) => false,
+    };
+    assert!(rt; is_right);
+    drop(engine);
+}

@@ -1,0 +1,22 @@
+use Rattle.std.proofs.Common.{ap}
+use Rattle.amqp_types.specs.declared.performatives.Performative.TheVariants as performative
+use Rattle.amqp_types.specs.declared.performatives.kind.Kind.TheVariants as kind
+use Rattle.amqp_types.specs.Attach.{IsAttachBody, attach_body_at}
+use Rattle.amqp_types.proofs.BodyLaws.{attach_body}
+use Rattle.amqp_frames.specs.Frame.{body_of}
+use Rattle.amqp_frames.specs.FrameError.{error_of}
+use Rattle.amqp_frames.proofs.Decoded.{failed}
+use Rattle.fe2o3_amqp.specs.declared.engine.input.StepError.TheVariants as no
+use Rattle.fe2o3_amqp.specs.Connection.{refusal_of}
+use Rattle.fe2o3_amqp.proofs.FieldsReceived.{unread, was_read}
+use Rattle.fe2o3_amqp.proofs.engine.Engine.receive_attach.Goals as goal
+
+pub returns-in_err-attach : goal.returns-in_err-attach
+returns-in_err-attach g c =
+    unread g.R.LinkRelay.gives IsAttachBody attach_body_at attach_body (λ p behind. body_of (performative.Attach p) behind) kind.Attach (λ b f r x. x) c.args.self.now c.args.channel c.args.fields c.read_list.new.bytes c.in_err-attach.field-0.0 _
+    c.in_err-attach.ensures (ap refusal_of (failed c.from_residual.result (no.Frame (error_of c.in_err-attach.field-0.0)) c.from_residual.ensures.1))
+
+pub returns : goal.returns
+returns g c =
+    was_read g.R.LinkRelay.gives IsAttachBody attach_body_at attach_body (λ p behind. body_of (performative.Attach p) behind) kind.Attach (λ b f r x. x) c.args.self.now c.refuse_unimplemented.new.self c.args.channel c.args.fields c.read_list.new.bytes c.in_ok-attach.attach _
+    c.in_ok-attach.ensures c.refuse_unimplemented.ensures

@@ -1,0 +1,130 @@
+-- What an input or a received frame asks of the session that it reaches: its calls, by the session's state, and the refusal
+-- that is answered. This is the one table of them.
+use Rattle.std.specs.Prelude.{◌≡◌, ℕ, List, [], ◌∷◌, Option, Some, None, Result, Ok, Err, Bool, true, false}
+use Rattle.amqp_types.specs.declared.states.SessionState.{SessionState}
+use Rattle.amqp_types.specs.declared.states.SessionState.TheVariants as at
+use Rattle.amqp_types.specs.Error.{ErrorSaid}
+use Rattle.amqp_types.specs.Begin.{BeginSaid}
+use Rattle.amqp_types.specs.End.{EndSaid}
+use Rattle.amqp_types.specs.Flow.{FlowSaid}
+use Rattle.amqp_types.specs.Transfer.{TransferSaid}
+use Rattle.amqp_types.specs.Disposition.{DispositionSaid}
+use Rattle.amqp_session.specs.declared.flow.LinkFlow.{LinkFlow}
+use Rattle.amqp_session.specs.declared.frame.SessionFrame.{SessionFrame}
+use Rattle.amqp_session.specs.declared.frame.SessionOutgoingItem.{SessionOutgoingItem}
+use Rattle.amqp_session.specs.declared.error.SessionStateError.{SessionStateError}
+use Rattle.amqp_session.specs.declared.error.SessionInnerError.{SessionInnerError}
+use Rattle.amqp_session.specs.declared.stop.SessionStopReason.{SessionStopReason}
+use Rattle.amqp_session.specs.declared.stop.SessionStopReason.TheVariants as stop
+use Rattle.amqp_session.specs.Relay.{FlowQuestion, TransferQuestion}
+use Rattle.amqp_session.specs.States.{takes_end}
+use Rattle.amqp_session.specs.Transfers.{HeldSaid}
+use Rattle.amqp_session.specs.History as session
+use Rattle.amqp_frames.specs.declared.frame.FrameBody.{FrameBody}
+use Rattle.amqp_frames.specs.declared.frame.FrameBody.TheVariants as body
+use Rattle.fe2o3_amqp.specs.declared.engine.input.Input.{Input}
+use Rattle.fe2o3_amqp.specs.declared.engine.input.Input.TheVariants as input
+use Rattle.fe2o3_amqp.specs.declared.engine.input.StepError.{StepError}
+use Rattle.fe2o3_amqp.specs.declared.engine.input.StepError.TheVariants as no
+
+-- the calls of a session in this state, with their answers, and the refusal
+abbrev pub Calls : Type 0 → Type 1
+Calls R = SessionState → List (session.Entry R) → Option StepError → Type 0
+
+-- ---- refusals
+
+abbrev pub state_refusal : {X : Type 0} → Result X SessionStateError → Option StepError
+state_refusal (Ok x) = None
+state_refusal (Err e) = Some (no.SessionState e)
+
+abbrev pub session_refusal : {X : Type 0} → Result X SessionInnerError → Option StepError
+session_refusal (Ok x) = None
+session_refusal (Err e) = Some (no.Session e)
+
+-- ---- requests
+
+-- a new session sends its Begin
+abbrev pub BeginCalls : {R : Type 0} → Calls R
+BeginCalls s calls refusal = (f : SessionFrame) × (calls ≡ session.SendsBegin (Ok f) ∷ []) × (refusal ≡ None)
+
+abbrev pub end_reason : Option ErrorSaid → SessionStopReason
+end_reason None = stop.Ended
+end_reason (Some e) = stop.EndedWithError
+
+-- an End that goes out is recorded
+abbrev pub recorded_end : {R : Type 0} → Option ErrorSaid → Result SessionFrame SessionStateError → List (session.Entry R)
+recorded_end error (Ok f) = session.RecordsStop (end_reason error) ∷ []
+recorded_end error (Err e) = []
+
+abbrev pub EndCalls : {R : Type 0} → Option ErrorSaid → Calls R
+EndCalls error s calls refusal = (result : Result SessionFrame SessionStateError)
+    × (calls ≡ session.SendsEnd error result ∷ recorded_end error result) × (refusal ≡ state_refusal result)
+
+abbrev pub FlowCalls : {R : Type 0} → LinkFlow → Calls R
+FlowCalls l s calls refusal = (f : SessionFrame) × (calls ≡ session.SendsFlow l f ∷ []) × (refusal ≡ None)
+
+abbrev pub TransferCalls : {R : Type 0} → HeldSaid → Calls R
+TransferCalls h s calls refusal = (result : Result (Option SessionOutgoingItem) SessionInnerError)
+    × (calls ≡ session.SendsTransfer h result ∷ []) × (refusal ≡ session_refusal result)
+
+abbrev pub StopCalls : {R : Type 0} → SessionStopReason → Calls R
+StopCalls reason s calls refusal = (calls ≡ session.RecordsStop reason ∷ []) × (refusal ≡ None)
+
+-- ---- received frames
+
+abbrev pub ReceivedBeginCalls : {R : Type 0} → ℕ → BeginSaid → Calls R
+ReceivedBeginCalls channel b s calls refusal = (result : Result (Unit {0}) SessionStateError)
+    × (calls ≡ session.TakesBegin channel b result ∷ []) × (refusal ≡ state_refusal result)
+
+abbrev pub remote_end_reason : Option ErrorSaid → SessionStopReason
+remote_end_reason None = stop.RemoteEnded
+remote_end_reason (Some e) = stop.RemoteEndedWithError
+
+-- whether an End of the peer moves to this state: one that answers none of this side
+abbrev pub is_end_received : Option SessionState → Bool
+is_end_received (Some at.EndReceived) = true
+is_end_received next = false
+
+-- it is recorded then
+abbrev pub recorded_remote_end : {R : Type 0} → Bool → Option ErrorSaid → List (session.Entry R)
+recorded_remote_end true error = session.RecordsStop (remote_end_reason error) ∷ []
+recorded_remote_end false error = []
+
+abbrev pub ReceivedEndCalls : {R : Type 0} → ℕ → EndSaid → Calls R
+ReceivedEndCalls channel e s calls refusal = (result : Result (Unit {0}) SessionStateError)
+    × (calls ≡ session.TakesEnd channel e result ∷ recorded_remote_end (is_end_received (takes_end s)) e.error) × (refusal ≡ state_refusal result)
+
+abbrev pub ReceivedFlowCalls : {R : Type 0} → FlowSaid → Calls R
+ReceivedFlowCalls f s calls refusal = (asked : Option (FlowQuestion _)) × (result : Result (Option SessionOutgoingItem) SessionInnerError)
+    × (calls ≡ session.TakesFlow f asked result ∷ []) × (refusal ≡ session_refusal result)
+
+-- after a transfer that is accepted, the session is asked for a flow of its own
+abbrev pub flow_after : {R : Type 0} → Result (Option DispositionSaid) SessionInnerError → Option SessionOutgoingItem → List (session.Entry R)
+flow_after (Ok d) item = session.SendsSessionFlow item ∷ []
+flow_after (Err e) item = []
+
+abbrev pub ReceivedTransferCalls : {R : Type 0} → TransferSaid → List ℕ → Calls R
+ReceivedTransferCalls t payload s calls refusal = (asked : Option (TransferQuestion _)) × (result : Result (Option DispositionSaid) SessionInnerError)
+    × (item : Option SessionOutgoingItem) × (calls ≡ session.TakesTransfer t payload asked result ∷ flow_after result item) × (refusal ≡ session_refusal result)
+
+-- ---- the table
+
+abbrev pub NoCalls : {R : Type 0} → Calls R
+NoCalls s calls refusal = ⊥
+
+-- what a request asks of the session that it names
+abbrev pub request_calls : {R : Type 0} → Input → Calls R
+request_calls (input.Begin n settings) = BeginCalls
+request_calls (input.End n error) = EndCalls error
+request_calls (input.Flow n l) = FlowCalls l
+request_calls (input.Transfer n h t payload first) = TransferCalls (record { input_handle = h.0; transfer = t; payload = payload; is_first = first })
+request_calls (input.Stop n reason) = StopCalls reason
+request_calls i = NoCalls
+
+-- what a received frame asks of the session that it reaches
+abbrev pub received_calls : {R : Type 0} → ℕ → FrameBody → Calls R
+received_calls c (body.Begin b) = ReceivedBeginCalls c b
+received_calls c (body.End e) = ReceivedEndCalls c e
+received_calls c (body.Flow f) = ReceivedFlowCalls f
+received_calls c (body.Transfer t payload) = ReceivedTransferCalls t payload
+received_calls c b = NoCalls

@@ -1,0 +1,119 @@
+//! What calls answer, as lines.
+
+use amqp_session::{
+    SessionFrame, SessionFrameBody, SessionInnerError, SessionOutgoingItem, SessionStateError,
+};
+use amqp_types::{Disposition, Performative};
+use bytes::{Bytes, BytesMut};
+use std::alloc::Global;
+
+/// One line.
+pub fn line(alloc: Global, text: &str) -> anyhow::Result<String> {
+    Ok(format!(in alloc; "{text}\n")?)
+}
+
+fn state_refused(alloc: Global, error: &SessionStateError) -> anyhow::Result<String> {
+    Ok(format!(in alloc; "err {error:?}\n")?)
+}
+
+fn refused(alloc: Global, error: &SessionInnerError) -> anyhow::Result<String> {
+    Ok(format!(in alloc; "err {error:?}\n")?)
+}
+
+/// What a frame says, and the payload of a transfer.
+fn parts(body: SessionFrameBody) -> (Performative, Bytes) {
+    match body {
+        SessionFrameBody::Attach(p) => (Performative::Attach(p), Bytes::new()),
+        SessionFrameBody::Flow(p) => (Performative::Flow(p), Bytes::new()),
+        SessionFrameBody::Transfer {
+            performative,
+            payload,
+        } => (Performative::Transfer(performative), payload),
+        SessionFrameBody::Disposition(p) => (Performative::Disposition(p), Bytes::new()),
+        SessionFrameBody::Detach(p) => (Performative::Detach(p), Bytes::new()),
+        SessionFrameBody::Begin(p) => (Performative::Begin(p), Bytes::new()),
+        SessionFrameBody::End(p) => (Performative::End(p), Bytes::new()),
+    }
+}
+
+/// The digits of a performative's text.
+fn digits(alloc: Global, performative: &Performative) -> anyhow::Result<String> {
+    let mut text = BytesMut::new(alloc);
+    performative.write(&mut text, u32::MAX)?;
+    Ok(hex::encode(alloc, text.as_slice())?)
+}
+
+/// The line of a frame.
+pub fn frame(alloc: Global, frame: SessionFrame) -> anyhow::Result<String> {
+    let channel = frame.channel;
+    let (performative, payload) = parts(frame.body);
+    let text = digits(alloc, &performative)?;
+    if payload.is_empty() {
+        return Ok(format!(in alloc; "out {channel} {text}\n")?);
+    }
+    let rest = hex::encode(alloc, payload.as_slice())?;
+    Ok(format!(in alloc; "out {channel} {text} {rest}\n")?)
+}
+
+/// The lines of several frames.
+fn frames(alloc: Global, frames: Vec<SessionFrame>) -> anyhow::Result<String> {
+    let mut text = line(alloc, "list")?;
+    for each in frames {
+        text.push_str(frame(alloc, each)?.as_str())?;
+    }
+    Ok(text)
+}
+
+/// The lines of an item, if there is one.
+pub fn item(alloc: Global, item: Option<SessionOutgoingItem>) -> anyhow::Result<String> {
+    match item {
+        None => line(alloc, "none"),
+        Some(SessionOutgoingItem::SingleFrame(one)) => frame(alloc, one),
+        Some(SessionOutgoingItem::MultipleFrames(several)) => frames(alloc, several),
+    }
+}
+
+/// The lines of what a flow or a transfer hands out.
+pub fn handed_out(
+    alloc: Global,
+    answer: Result<Option<SessionOutgoingItem>, SessionInnerError>,
+) -> anyhow::Result<String> {
+    match answer {
+        Ok(handed) => item(alloc, handed),
+        Err(error) => refused(alloc, &error),
+    }
+}
+
+/// The lines of a Begin's or an End's frame.
+pub fn sent(
+    alloc: Global,
+    answer: Result<SessionFrame, SessionStateError>,
+) -> anyhow::Result<String> {
+    match answer {
+        Ok(one) => frame(alloc, one),
+        Err(error) => state_refused(alloc, &error),
+    }
+}
+
+/// The line of a received Begin or End.
+pub fn taken(alloc: Global, answer: Result<(), SessionStateError>) -> anyhow::Result<String> {
+    match answer {
+        Ok(()) => line(alloc, "ok"),
+        Err(error) => state_refused(alloc, &error),
+    }
+}
+
+/// The line of a received transfer.
+pub fn transfer_taken(
+    alloc: Global,
+    answer: Result<Option<Disposition>, SessionInnerError>,
+) -> anyhow::Result<String> {
+    match answer {
+        Ok(None) => line(alloc, "none"),
+        Ok(Some(disposition)) => {
+            let text = digits(alloc, &Performative::Disposition(disposition))?;
+            Ok(format!(in alloc; "disposition {text}\n")?)
+        }
+        Err(error) => refused(alloc, &error),
+    }
+}

@@ -1,0 +1,61 @@
+//! Calls of a session that take a performative.
+
+use crate::relay::RowRelay;
+use crate::{answer, reading};
+use amqp_session::{IncomingChannel, InputHandle, LinkFlow, Session};
+use amqp_types::Performative;
+use std::alloc::Global;
+
+/// What is answered to a performative that came on a channel.
+pub fn received(
+    alloc: Global,
+    session: &mut Session<RowRelay>,
+    text: &str,
+) -> anyhow::Result<String> {
+    let (channel, digits) = reading::word(text);
+    let channel = IncomingChannel(reading::channel(channel)?);
+    let (performative, payload) = reading::performative(alloc, digits)?;
+    match performative {
+        Performative::Begin(begin) => answer::taken(
+            alloc,
+            session.on_incoming_begin(channel, begin),
+        ),
+        Performative::End(end) => answer::taken(alloc, session.on_incoming_end(channel, end)),
+        Performative::Flow(flow) => answer::handed_out(alloc, session.on_incoming_flow(flow)),
+        Performative::Transfer(transfer) => {
+            answer::transfer_taken(alloc, session.on_incoming_transfer(transfer, payload))
+        }
+        _ => Err(anyhow::anyhow!("no call takes it")),
+    }
+}
+
+/// What is handed out for a link's flow.
+pub fn flow(alloc: Global, session: &Session<RowRelay>, digits: &str) -> anyhow::Result<String> {
+    let (performative, _rest) = reading::performative(alloc, digits)?;
+    let Performative::Flow(flow) = performative else {
+        anyhow::bail!("no flow");
+    };
+    match LinkFlow::try_from(flow) {
+        Ok(flow) => answer::frame(alloc, session.on_outgoing_flow(flow)),
+        Err(()) => Err(anyhow::anyhow!("no flow of a link")),
+    }
+}
+
+/// What is answered to a transfer for the link of an input handle.
+pub fn transfer(
+    alloc: Global,
+    session: &mut Session<RowRelay>,
+    text: &str,
+    is_first: bool,
+) -> anyhow::Result<String> {
+    let (input, digits) = reading::word(text);
+    let input = InputHandle(reading::number(input)?);
+    let (performative, payload) = reading::performative(alloc, digits)?;
+    let Performative::Transfer(transfer) = performative else {
+        anyhow::bail!("no transfer");
+    };
+    answer::handed_out(
+        alloc,
+        session.on_outgoing_transfer(input, transfer, payload, is_first),
+    )
+}

@@ -1,0 +1,49 @@
+//! Rows of a session: each line of the input is a call, and the output is what the session answers.
+//!
+//! | Line | Call |
+//! |---|---|
+//! | `# TEXT` | none: a row begins, and the line is repeated |
+//! | `new STATE [NAME=VALUE]..` | `Session::new`; the names are in `made.rt`, and what is not named has its default |
+//! | `begin`, `end`, `end CONDITION` | `send_begin`, `send_end` |
+//! | `recv CHANNEL HEX` | what came on a channel: one performative, and what follows a transfer is its payload |
+//! | `flow HEX` | `on_outgoing_flow`, by a flow that names a link |
+//! | `first INPUT HEX`, `later INPUT HEX` | `on_outgoing_transfer` on an input handle: the first of its delivery, or a later one |
+//! | `session-flow` | `maybe_outgoing_session_flow` |
+//! | `stop REASON` | `set_session_stop_reason` |
+//! | `show`, `reasons` | the calls that read |
+//! | `times N LINE` | the call of that line N times; an answer is printed where it is another than the one before |
+//!
+//! An answer is `ok`, `none` or `err` and the refusal. A frame is `out`, its channel, the performative's text and, behind a
+//! transfer, its payload; `list` goes before several frames.
+#![tactic(auto)]
+
+mod answer;
+mod call;
+mod made;
+mod reading;
+mod relay;
+mod row;
+
+use amqp_session::Session;
+use relay::RowRelay;
+use std::io::{self, BufRead, BufReader, BufWriter, Write};
+
+fn main(rt: HostRuntime) -> anyhow::Result<()> {
+    let mut session = made::session(rt.alloc(), "Unmapped")?;
+    let outcome = run(&rt, &mut session);
+    // By name, since the end of its scope takes the prover minutes.
+    drop(session);
+    outcome
+}
+
+/// Gives the session the lines of the input, and prints what it answers.
+fn run(rt: &HostRuntime, session: &mut Session<RowRelay>) -> anyhow::Result<()> {
+    let alloc = rt.alloc();
+    let mut out = BufWriter::new(alloc, io::writer(rt))?;
+    for line in BufReader::new(alloc, rt.reader())?.lines(alloc) {
+        let text = row::answer(alloc, session, line?.as_str())?;
+        out.write_all(text.as_bytes())?;
+    }
+    out.flush()?;
+    Ok(())
+}

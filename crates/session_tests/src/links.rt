@@ -1,0 +1,186 @@
+//! Links: names, handles, attach and detach, with a relay that accepts all and one that has a choice.
+
+use crate::relays::{Choosing, Quiet};
+use amqp_session::{
+    AllocLinkError, InputHandle, LinkRelay, OutgoingChannel, OutputHandle, Session,
+    SessionFrameBody, SessionInnerError, SessionSettings,
+};
+use amqp_types::{
+    Attach, Detach, Handle, ReceiverSettleMode, Role, SenderSettleMode, SessionState,
+};
+use std::alloc::{AllocError, Global};
+
+/// What a call for a link answered.
+#[derive(Clone, Copy, PartialEq)]
+enum Answer {
+    Handle(u32),
+    Live,
+    Done,
+    Reply(u32),
+    Frame(u32),
+    Unknown,
+    InUse,
+    Other,
+}
+
+fn session<R: LinkRelay>(alloc: Global) -> Session<R> {
+    Session::new(
+        alloc,
+        SessionSettings::new(),
+        OutgoingChannel(3),
+        SessionState::Mapped,
+        None,
+    )
+}
+
+fn attach(alloc: Global, name: &str, handle: u32) -> Result<Attach, AllocError> {
+    Ok(Attach {
+        name: String::from_str(alloc, name)?,
+        handle: Handle(handle),
+        role: Role::Sender,
+        snd_settle_mode: SenderSettleMode::Mixed,
+        rcv_settle_mode: ReceiverSettleMode::First,
+        source: None,
+        target: None,
+        unsettled: None,
+        incomplete_unsettled: false,
+        initial_delivery_count: None,
+        max_message_size: None,
+        offered_capabilities: None,
+        desired_capabilities: None,
+        properties: None,
+    })
+}
+
+fn detach(handle: u32) -> Detach {
+    Detach {
+        handle: Handle(handle),
+        closed: true,
+        error: None,
+    }
+}
+
+fn allotted(answer: Result<OutputHandle, AllocLinkError>) -> Answer {
+    match answer {
+        Ok(handle) => Answer::Handle(handle.0),
+        Err(AllocLinkError::DuplicatedLinkName) => Answer::Live,
+        Err(_) => Answer::Other,
+    }
+}
+
+fn allot<R: LinkRelay>(
+    alloc: Global,
+    one: &mut Session<R>,
+    name: &str,
+    relay: R,
+) -> Result<Answer, AllocError> {
+    let name = String::from_str(alloc, name)?;
+    Ok(allotted(one.allocate_link(name, Some(relay))))
+}
+
+fn allot_incoming<R: LinkRelay>(
+    alloc: Global,
+    one: &mut Session<R>,
+    name: &str,
+    relay: R,
+    input: u32,
+) -> Result<Answer, AllocError> {
+    let name = String::from_str(alloc, name)?;
+    Ok(allotted(one.allocate_incoming_link(name, relay, InputHandle(input))))
+}
+
+fn take_attach<R: LinkRelay>(
+    alloc: Global,
+    one: &mut Session<R>,
+    name: &str,
+    handle: u32,
+) -> Result<Answer, AllocError> {
+    let attach = attach(alloc, name, handle)?;
+    Ok(match one.on_incoming_attach(attach) {
+        Ok(()) => Answer::Done,
+        Err(SessionInnerError::RemoteAttachingLinkNameNotFound) => Answer::Unknown,
+        Err(SessionInnerError::HandleInUse) => Answer::InUse,
+        Err(_) => Answer::Other,
+    })
+}
+
+fn take_detach<R: LinkRelay>(one: &mut Session<R>, handle: u32) -> Answer {
+    match one.on_incoming_detach(detach(handle)) {
+        Ok(None) => Answer::Done,
+        Ok(Some(reply)) => Answer::Reply(reply.handle.0),
+        Err(_) => Answer::Other,
+    }
+}
+
+fn send_detach<R: LinkRelay>(one: &mut Session<R>, handle: u32, expects_echo: bool) -> Answer {
+    match one.on_outgoing_detach(detach(handle), expects_echo) {
+        Ok(None) => Answer::Done,
+        Ok(Some(frame)) => match frame.body {
+            SessionFrameBody::Detach(detach) => Answer::Frame(detach.handle.0),
+            _ => Answer::Other,
+        },
+        Err(_) => Answer::Other,
+    }
+}
+
+fn send_attach<R: LinkRelay>(
+    alloc: Global,
+    one: &Session<R>,
+    name: &str,
+    handle: u32,
+) -> Result<Answer, AllocError> {
+    let frame = one.on_outgoing_attach(attach(alloc, name, handle)?);
+    Ok(match frame.body {
+        SessionFrameBody::Attach(attach) if frame.channel == 3 => Answer::Frame(attach.handle.0),
+        _ => Answer::Other,
+    })
+}
+
+#[test]
+fn a_link_is_named_attached_and_released(rt: HostRuntime) {
+    let alloc = rt.alloc();
+    let mut one = session(alloc);
+    assert!(rt; allot(alloc, &mut one, "a", Quiet) == Ok(Answer::Handle(0)));
+    assert!(rt; allot(alloc, &mut one, "a", Quiet) == Ok(Answer::Live));
+    assert!(rt; one.output_handle("a") == Some(OutputHandle(0)));
+    assert!(rt; one.output_handle("b").is_none());
+    assert!(rt; take_attach(alloc, &mut one, "b", 5) == Ok(Answer::Unknown));
+    assert!(rt; take_attach(alloc, &mut one, "a", 5) == Ok(Answer::Done));
+    assert!(rt; take_attach(alloc, &mut one, "a", 6) == Ok(Answer::InUse));
+    assert!(rt; send_attach(alloc, &one, "a", 0) == Ok(Answer::Frame(0)));
+    assert!(rt; one.deallocate_link(OutputHandle(0)));
+    assert!(rt; !one.deallocate_link(OutputHandle(0)));
+    assert!(rt; allot(alloc, &mut one, "a", Quiet) == Ok(Answer::Handle(0)));
+    drop(one);
+}
+
+#[test]
+fn a_handle_is_free_when_its_detach_is_answered(rt: HostRuntime) {
+    let alloc = rt.alloc();
+    let mut one = session(alloc);
+    assert!(rt; allot(alloc, &mut one, "a", Quiet) == Ok(Answer::Handle(0)));
+    assert!(rt; take_attach(alloc, &mut one, "a", 5) == Ok(Answer::Done));
+    assert!(rt; send_detach(&mut one, 0, true) == Answer::Frame(0));
+    assert!(rt; send_detach(&mut one, 0, true) == Answer::Done);
+    assert!(rt; allot(alloc, &mut one, "a", Quiet) == Ok(Answer::Handle(1)));
+    assert!(rt; take_detach(&mut one, 9) == Answer::Done);
+    assert!(rt; take_detach(&mut one, 5) == Answer::Done);
+    assert!(rt; allot(alloc, &mut one, "b", Quiet) == Ok(Answer::Handle(0)));
+    drop(one);
+}
+
+#[test]
+fn a_relay_is_told_who_began_a_detach(rt: HostRuntime) {
+    let alloc = rt.alloc();
+    let mut one = session(alloc);
+    let relay = Choosing { credit: 1 };
+    assert!(rt; allot_incoming(alloc, &mut one, "a", relay, 6) == Ok(Answer::Handle(0)));
+    assert!(rt; take_attach(alloc, &mut one, "a", 7) == Ok(Answer::InUse));
+    assert!(rt; take_detach(&mut one, 6) == Answer::Reply(6));
+    assert!(rt; take_detach(&mut one, 6) == Answer::Done);
+    let relay = Choosing { credit: 1 };
+    assert!(rt; allot_incoming(alloc, &mut one, "b", relay, 6) == Ok(Answer::Handle(1)));
+    assert!(rt; send_detach(&mut one, 1, true) == Answer::Frame(1));
+    assert!(rt; take_detach(&mut one, 6) == Answer::Done);
+    drop(one);
+}

@@ -1,0 +1,136 @@
+"""Rows of sessions in an engine: channels, routes, and the peer's window (AMQP 1.0 part 2, sections 2.5 and 2.7)."""
+
+from row import begin, end, flow, opening, out, recv, transfer
+
+ILLEGAL = "err IllegalState"
+
+
+def send(tag, payload, session=0, handle=0):
+    return f"send {session} {transfer(text=tag, handle=handle)}{payload}"
+
+
+def sent(number, tag, payload, channel=0):
+    return out(transfer(number, tag) + payload, channel)
+
+
+def windows(rows):
+    rows.row("A window of 1 is used up, and a flow grants 1 more")
+    rows.open()
+    rows.begin(0)
+    rows.ask(recv(begin(0, 0, 1, 8), 5))
+    rows.ask(send("a", "ff"), sent(0, "a", "ff"))
+    rows.ask(send("b", "fe"))
+    rows.ask(recv(flow(1, 1), 5), sent(1, "b", "fe"))
+    rows.row("A flow for a handle without a link is refused; the window of 2 that it grants counts for the next transfer")
+    rows.open()
+    rows.begin(0)
+    rows.ask(recv(begin(0, 0, 1, 8), 5))
+    rows.ask(send("a", "ff"), sent(0, "a", "ff"))
+    rows.ask(send("b", "fe"))
+    rows.ask(recv(flow(1, 2, 0, 8, 9), 5), "err UnattachedHandle")
+    rows.ask(send("c", "fd"), sent(1, "b", "fe"), sent(2, "c", "fd"))
+    rows.row("No transfer is taken before the peer's Begin, and that lets nothing out by itself")
+    rows.open()
+    rows.begin(0)
+    rows.ask(send("a", "ff"), ILLEGAL)
+    rows.ask(recv(begin(0, 0, 8, 8), 5))
+    rows.ask(send("b", "fe"), sent(0, "b", "fe"))
+    rows.row("Behind an End a flow lets nothing out, no transfer is taken, and there is no second End")
+    rows.open()
+    rows.begin(0)
+    rows.ask(recv(begin(0, 0, 1, 8), 5))
+    rows.ask(send("a", "ff"), sent(0, "a", "ff"))
+    rows.ask(send("b", "fe"))
+    rows.ask("end 0", out(end()))
+    rows.ask(recv(flow(1, 1), 5))
+    rows.ask(send("c", "fd"), ILLEGAL)
+    rows.ask("end 0", ILLEGAL)
+
+
+def cut_transfers(rows):
+    """The peer's limit of 100 counts as 512, of which four bytes are the size and four the header: 504 are left for text and payload."""
+    rows.row("A transfer that is cut into two pieces counts once in the peer's window of 2")
+    rows.open(opening("a", 100))
+    rows.begin(0)
+    rows.ask(recv(begin(0, 0, 2, 8), 5))
+    whole, first, last = transfer(0, "t"), transfer(0, "t", more=True), transfer()
+    room = 504 - len(first) // 2
+    assert len(whole) // 2 + 600 > 504 and len(last) // 2 + 600 - room <= 504
+    rows.ask(send("t", "78" * 600), out(first + "78" * room), out(last + "78" * (600 - room)))
+    rows.ask(send("u", "ff"), sent(1, "u", "ff"))
+    rows.ask(send("v", "fe"))
+
+
+def channels(rows):
+    rows.row("The peer allows channels 0 and 1: the lowest free one is used, and one that is given back is free again")
+    rows.open(opening("a", None, 1))
+    rows.begin(0)
+    rows.begin(1)
+    rows.ask("begin 2", "err ChannelMaxReached")
+    rows.ask("release 0")
+    rows.begin(3, 0)
+    rows.ask("release 0", "err NotFound")
+    rows.ask("release 9", "err NoSession")
+    rows.ask("begin 0", "err SessionInUse")
+    rows.row("A channel above the agreed maximum that is given back frees no lower one")
+    rows.ask("open", out(opening("replay", 262144, 255)))
+    for number in range(4):
+        rows.begin(number)
+    rows.ask(recv(opening("a", None, 1)))
+    rows.ask("release 3")
+    rows.ask("begin 4", "err ChannelMaxReached")
+    rows.ask("release 0")
+    rows.begin(5, 0)
+    rows.ask("begin 6", "err ChannelMaxReached")
+    rows.row("The route of a session stays when its channel is given back, and goes with the peer's End")
+    rows.open()
+    rows.begin(0)
+    rows.ask(recv(begin(0, 0, 8, 8), 7))
+    rows.ask("release 0")
+    rows.ask(recv(flow(0, 1), 7))
+    rows.ask(recv(end(), 7), "err RemoteEnded")
+    rows.ask(recv(flow(0, 1), 7), "err NotFound")
+
+
+def routes(rows):
+    rows.row("Two Begins of the peer's on one channel, for two sessions: the last one leads")
+    rows.open()
+    rows.begin(0)
+    rows.begin(1)
+    rows.ask(recv(begin(0, 0, 8, 8), 7))
+    rows.ask(recv(begin(1, 0, 8, 8), 7))
+    rows.ask(recv(flow(0, 0), 7))
+    rows.ask(send("a", "ff"), sent(0, "a", "ff"))
+    rows.ask(send("a", "ff", session=1))
+    rows.row("A refused Begin of the peer's leads all the same, and the peer's End takes that route away")
+    rows.open()
+    rows.begin(0)
+    rows.begin(1)
+    rows.ask(recv(begin(0, 0, 8, 8), 7))
+    rows.ask(recv(begin(1, 0, 8, 8), 7))
+    rows.ask(send("a", "ff", session=1), sent(0, "a", "ff", channel=1))
+    rows.ask(recv(begin(0, 0, 8, 8), 7), ILLEGAL)
+    rows.ask(recv(end(), 7), "err RemoteEnded")
+    rows.ask("end 0", out(end()))
+    rows.ask(recv(end(), 7), "err NotFound")
+    rows.row("A second Begin for a session, on another channel, is refused and changes no window; both channels lead to the session")
+    rows.open()
+    rows.begin(0)
+    rows.ask(recv(begin(0, 0, 1, 8), 5))
+    rows.ask(recv(begin(0, 0, 100, 8), 9), ILLEGAL)
+    rows.ask(send("a", "ff"), sent(0, "a", "ff"))
+    rows.ask(send("b", "fe"))
+    rows.ask(send("c", "fd"))
+    rows.ask(recv(flow(1, 1), 9), sent(1, "b", "fe"))
+    rows.ask(recv(flow(2, 1), 5), sent(2, "c", "fd"))
+    rows.row("A flow before the peer's Begin has no route")
+    rows.open()
+    rows.begin(0)
+    rows.ask(recv(flow(1, 1), 5), "err NotFound")
+
+
+def write(rows):
+    windows(rows)
+    cut_transfers(rows)
+    channels(rows)
+    routes(rows)

@@ -1,0 +1,29 @@
+#!/usr/bin/env python3
+"""Writes the rows of the program engine_rows: its input, and the output that the standard wants.
+
+    tools/expected_engine.py            writes crates/engine_rows/{stdin,stdout}
+
+Each row is a transcript for an engine of its own in HeaderExchange, whose Open is named `replay`. Beside each line stands what it has to
+print (AMQP 1.0 part 2, sections 2.4 and 2.5; docs/PROTOCOL.md for the tables). Nothing is taken from the program's output.
+"""
+
+from pathlib import Path
+
+import engine_alone
+import engine_connections
+import engine_lines
+import engine_sessions
+from row import EngineRows
+
+CRATE = Path(__file__).resolve().parent.parent / "crates" / "engine_rows"
+
+
+def main():
+    rows = EngineRows()
+    for part in (engine_alone, engine_connections, engine_sessions, engine_lines):
+        part.write(rows)
+    rows.write(CRATE)
+
+
+if __name__ == "__main__":
+    main()

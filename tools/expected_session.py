@@ -1,0 +1,29 @@
+#!/usr/bin/env python3
+"""Writes the rows of the program session_rows: its input, and the output that the standard wants.
+
+    tools/expected_session.py           writes crates/session_rows/{stdin,stdout}
+
+Each row is a new session, calls, and beside each call what it has to answer (AMQP 1.0 part 2, sections 2.5 to 2.7; docs/PROTOCOL.md for
+the states). The answers stand here as a person wrote them, or follow from the tables below; nothing is taken from the program's output.
+"""
+
+from pathlib import Path
+
+import session_flows
+import session_states
+import session_transfers
+import session_windows
+from row import SessionRows
+
+CRATE = Path(__file__).resolve().parent.parent / "crates" / "session_rows"
+
+
+def main():
+    rows = SessionRows()
+    for part in (session_states, session_windows, session_transfers, session_flows):
+        part.write(rows)
+    rows.write(CRATE)
+
+
+if __name__ == "__main__":
+    main()
