@@ -5,7 +5,7 @@ use Rattle.amqp_session.specs.Session.{SessionView, new_session}
 use Rattle.amqp_session.specs.Relay.{Relays}
 use Rattle.amqp_session.specs.History.{Entry, Chain, Made, LeadsTo}
 use Rattle.amqp_session.specs.Headline.{Stands}
-use Rattle.amqp_session.specs.Handed.{call_frames, calls_frames, OnChannel}
+use Rattle.amqp_session.specs.OutgoingFrames.{call_frames, calls_frames, OnChannel}
 use Rattle.amqp_session.proofs.Effects.{on_both, does}
 use Rattle.amqp_session.proofs.Histories.{stands-more, stands-new}
 

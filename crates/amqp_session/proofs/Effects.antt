@@ -19,14 +19,14 @@ use Rattle.amqp_session.specs.declared.error.SessionStateError.TheVariants as Be
 use Rattle.amqp_session.specs.declared.error.LinkRelayError.{LinkRelayError}
 use Rattle.amqp_session.specs.Settings.{SettingsSaid}
 use Rattle.amqp_session.specs.States.{is_mapped, sends_begin, takes_begin, sends_end, takes_end}
-use Rattle.amqp_session.specs.Receiving.{told, counted, rested}
+use Rattle.amqp_session.specs.Receiving.{numbered_anew, counted, reported}
 use Rattle.amqp_session.specs.Links.{LinksView, no_links, attached_at}
 use Rattle.amqp_session.specs.Relay.{Relays, AttachQuestion, FlowQuestion, TransferQuestion, Question, Gives, Asks}
-use Rattle.amqp_session.specs.Transfers.{HeldSaid, numbered, first_of}
+use Rattle.amqp_session.specs.Transfers.{RequestedTransfer, numbered, first_of}
 use Rattle.amqp_session.specs.Sending.{SendingView, joined, begun, moved, let_out, drained, opened_by}
 use Rattle.amqp_session.specs.Items.{HandsOut, item_frames, first_frame, is_some_list}
 use Rattle.amqp_session.specs.Session.{SessionView, flow_frame, lets, let_gone}
-use Rattle.amqp_session.specs.Deliveries.{noted, RecordFits}
+use Rattle.amqp_session.specs.Deliveries.{with_record, RecordFits}
 use Rattle.amqp_session.specs.Step.{BeginFits, begun_by, has_error, FlowFits, FlowGoes, named_delivery, waits, flow_base, flow_moved, counted_by, asked_at, FlowAnswered, FlowUnasked, FlowTaken, TakeTransferStep, TransferAnswered, TransferUnasked}
 use Rattle.amqp_session.specs.Linking.{AttachAnswered, Attaches}
 use Rattle.amqp_session.specs.Linked.{taken_by}
@@ -34,8 +34,8 @@ use Rattle.amqp_session.proofs.Taking.{at_insert, taken_release, taken_leave, ta
 use Rattle.amqp_types.specs.Attach.{AttachSaid}
 use Rattle.std.specs.FinMap as map
 use Rattle.amqp_session.specs.History.{Entry, AllocatesLink, AllocatesIncomingLink, DeallocatesLink, TakesAttach, TakesDetach, SendsAttach, SendsDetach, SendsBegin, SendsEnd, TakesBegin, TakesEnd, TakesFlow, TakesTransfer, SendsFlow, SendsTransfer, SendsSessionFlow, RecordsStop, Step}
-use Rattle.amqp_session.specs.Handed.{inner_frames, call_frames, OnChannel}
-use Rattle.amqp_session.specs.Heard.{named_of, named_with, channel_by, IsLinkCall}
+use Rattle.amqp_session.specs.OutgoingFrames.{inner_frames, call_frames, OnChannel}
+use Rattle.amqp_session.specs.Received.{named_of, named_with, channel_by, IsLinkCall}
 use Rattle.amqp_session.specs.Headline.{transfers_in, state_by}
 use Rattle.amqp_session.proofs.Books.{Goes, goes_by, transfers_in-append, hands_frames}
 
@@ -64,12 +64,12 @@ rest v = record {
 }
 
 -- the numbers of what the peer sends, after a call
-abbrev pub hears : {R : Type 0} → Receiving → Entry R → Receiving
-hears r (TakesBegin channel b (Ok u)) = told b.next_outgoing_id b.outgoing_window r
-hears r (TakesFlow f asked result) = told f.next_outgoing_id f.outgoing_window r
-hears r (TakesTransfer t payload asked result) = counted r
-hears r (SendsSessionFlow (Some item)) = rested r
-hears r e = r
+abbrev pub receives : {R : Type 0} → Receiving → Entry R → Receiving
+receives r (TakesBegin channel b (Ok u)) = numbered_anew b.next_outgoing_id b.outgoing_window r
+receives r (TakesFlow f asked result) = numbered_anew f.next_outgoing_id f.outgoing_window r
+receives r (TakesTransfer t payload asked result) = counted r
+receives r (SendsSessionFlow (Some item)) = reported r
+receives r e = r
 
 -- the stop reason, after a call
 abbrev pub stops : {R : Type 0} → Option SessionStopReason → Entry R → Option SessionStopReason
@@ -81,8 +81,8 @@ rest_by r e = record r {
   state = state_by r.state e;
   incoming_channel = channel_by r.incoming_channel e;
   session_stop = stops r.session_stop e;
-  receiving = hears r.receiving e;
-  named = noted (named_with e) r.named;
+  receiving = receives r.receiving e;
+  named = with_record (named_with e) r.named;
 }
 
 -- ---- the sending half before anything goes out, and whether anything may
@@ -114,12 +114,12 @@ pub on_both : (c : ℕ) (xs ys : List SessionFrame) → OnChannel c xs → OnCha
 on_both c [] ys a b = b
 on_both c (f ∷ xs) ys a b = (a.0, on_both c xs ys a.1 b)
 
-numbered_on : (c n : ℕ) (hs : List HeldSaid) → OnChannel c (numbered c n hs)
+numbered_on : (c n : ℕ) (hs : List RequestedTransfer) → OnChannel c (numbered c n hs)
 numbered_on c n [] = tt
 numbered_on c n (h ∷ hs) = (refl, numbered_on c (n + first_of h) hs)
 
 lets_on : (b : Bool) (c : ℕ) (v : SendingView) → OnChannel c (cond b (let_out c v) [])
-lets_on true c v = numbered_on c v.delivery (take v.window v.held)
+lets_on true c v = numbered_on c v.next_delivery (take v.remote_incoming_window v.held)
 lets_on false c v = tt
 
 one_on : (c : ℕ) (f g : SessionFrame) → f ≡ g → g.channel ≡ c → OnChannel c (f ∷ [])
@@ -192,12 +192,12 @@ module _ {R : Type 0} (g : Relays R) where
   abbrev Taken : SessionView R → Option Delivery → SessionView R → Type 0
   Taken v named w =
       (w.sending ≡ v.sending) × (w.deliveries.receiver ≡ v.deliveries.receiver)
-      × (rest w ≡ record (rest v) { named = noted named v.deliveries.sender })
+      × (rest w ≡ record (rest v) { named = with_record named v.deliveries.sender })
       × (v.links ≡ no_links → w.links ≡ no_links)
       × RecordFits named
       × (w.links.handles ≡ v.links.handles)
 
-  takes : (v u w : SessionView R) (named : Option Delivery) → u.sending ≡ v.sending → u.deliveries.receiver ≡ v.deliveries.receiver → rest u ≡ record (rest v) { named = noted named v.deliveries.sender } → u.links ≡ v.links → RecordFits named → w ≡ u → Taken v named w
+  takes : (v u w : SessionView R) (named : Option Delivery) → u.sending ≡ v.sending → u.deliveries.receiver ≡ v.deliveries.receiver → rest u ≡ record (rest v) { named = with_record named v.deliveries.sender } → u.links ≡ v.links → RecordFits named → w ≡ u → Taken v named w
   takes v u w named a b c d f e = rw e (a, b, c, λ n. d ∙ n, f, ap (λ (l : LinksView _). l.handles) d)
 
   answered_takes : (v w : SessionView R) (h : ℕ) (a : _) (result : _) → TransferAnswered v h a result w → Taken v (named_delivery h (named_of a)) w
@@ -270,7 +270,7 @@ module _ {R : Type 0} (g : Relays R) where
   }
 
   taken_does : (v w : SessionView R) (e : Entry R) → Taken (counted_by v) (named_with e) w → lets_by v e ≡ false → call_frames e ≡ [] → sending_by v e ≡ v.sending →
-      record (rest (counted_by v)) { named = noted (named_with e) v.deliveries.sender } ≡ rest_by (rest v) e → WordFits v e → Places e → Does v e w
+      record (rest (counted_by v)) { named = with_record (named_with e) v.deliveries.sender } ≡ rest_by (rest v) e → WordFits v e → Places e → Does v e w
   taken_does v w e t quiet none sending others fits places = record {
     goes = rw (quiet, none, sending) (refl, t.0);
     opens = rw quiet t.1;

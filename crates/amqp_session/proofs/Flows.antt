@@ -10,7 +10,7 @@ use Rattle.amqp_session.specs.States.{is_mapped}
 use Rattle.amqp_session.specs.Sending.{SendingView, let_out, opened_by, drained}
 use Rattle.amqp_session.specs.Session.{SessionView, flow_frame}
 use Rattle.amqp_types.specs.declared.definitions.DeliveryTag.{DeliveryTag}
-use Rattle.amqp_session.specs.Deliveries.{noted}
+use Rattle.amqp_session.specs.Deliveries.{with_record}
 use Rattle.amqp_session.specs.Step.{FlowGoes, named_delivery, named_by}
 
 -- the session after what it lets out, where it may
@@ -52,6 +52,6 @@ pub sender_room_taken : {R : Type 0} → (v : SessionView R) (rows : List Delive
 sender_room_taken v rows e = rw e refl
 
 -- the session after a delivery that the relay named
-pub named_is : {R : Type 0} → (v : SessionView R) (handle : ℕ) (named : Option (ℕ × DeliveryTag)) (rows room : List Delivery) → rows ≡ noted (named_delivery handle named) room → room ≡ v.deliveries.sender →
+pub named_is : {R : Type 0} → (v : SessionView R) (handle : ℕ) (named : Option (ℕ × DeliveryTag)) (rows room : List Delivery) → rows ≡ with_record (named_delivery handle named) room → room ≡ v.deliveries.sender →
     record v { deliveries = record v.deliveries { sender = rows } } ≡ named_by v handle named
 named_is v handle named rows room er e = rw (er, e) refl

@@ -11,24 +11,24 @@ use Rattle.amqp_session.specs.Serial.{In, remaining}
 use Rattle.amqp_session.specs.States.{is_mapped}
 use Rattle.amqp_session.specs.declared.deliveries.Delivery.{Delivery}
 use Rattle.amqp_session.specs.declared.session.receiving.Receiving.{Receiving}
-use Rattle.amqp_session.specs.Transfers.{HeldSaid, firsts, opened}
+use Rattle.amqp_session.specs.Transfers.{RequestedTransfer, firsts, opened}
 use Rattle.amqp_session.specs.Sending.{SendingView, moved, let_out, opened_by, drained}
 use Rattle.amqp_session.specs.Settings.{SettingsSaid}
-use Rattle.amqp_session.specs.Handed.{call_frames}
-use Rattle.amqp_session.specs.Heard.{named_with, channel_by}
+use Rattle.amqp_session.specs.OutgoingFrames.{call_frames}
+use Rattle.amqp_session.specs.Received.{named_with, channel_by}
 use Rattle.amqp_session.specs.Relay.{Relays}
 use Rattle.amqp_session.specs.Session.{SessionView, new_session}
 use Rattle.amqp_session.specs.Step.{flow_base, SendTransferStep}
 use Rattle.amqp_session.specs.History.{Entry, TakesBegin, TakesFlow, SendsTransfer, Made, Step, Chain, LeadsTo}
-use Rattle.amqp_session.specs.Headline.{transfers_in, accepted_by, handed, accepted, waiting, number, window_by, window_from, window, state_by, state_from, Answers, LetsOut, Headline, Books, begun_in, sent_with, open_at, Hears, Opens, Stands}
+use Rattle.amqp_session.specs.Headline.{transfers_in, accepted_by, handed, accepted, waiting, number, window_by, window_from, window, state_by, state_from, Answers, LetsOut, Headline, Books, begun_in, sent_with, open_at, Receives, Opens, Stands}
 use Rattle.amqp_session.specs.Deliveries.{of_role}
 use Rattle.amqp_types.specs.declared.definitions.Role.{Role}
 use Rattle.amqp_types.specs.declared.definitions.Role.TheVariants.{Sender, Receiver}
-use Rattle.amqp_session.proofs.Opening.{opened_each, noted_each}
+use Rattle.amqp_session.proofs.Opening.{opened_each, with_record_each}
 use Rattle.amqp_session.proofs.Books.{inside_at, used_up, length-numbered, numbered_first, Books-joined, Books-moved, Books-begun, Goes, Books-goes}
 use Rattle.amqp_session.proofs.Numbering.{opened_same}
 use Rattle.amqp_session.proofs.Effects.{Rest, stops, sending_by, lets_by, WordFits, Does, does}
-use Rattle.amqp_session.proofs.Since.{hears_more, channel_more, stop_more, open_more, no_links_before, last_is_none, taken_more}
+use Rattle.amqp_session.proofs.Since.{receives_more, channel_more, stop_more, open_more, no_links_before, last_is_none, taken_more}
 use Rattle.amqp_session.specs.Linked.{taken_by}
 use Rattle.std.specs.Ordering.{nat_cmp}
 use Rattle.std.specs.FinMap.{get-empty}
@@ -36,18 +36,18 @@ use Rattle.std.specs.FinMap.{get-empty}
 -- ---- the deliveries that go out
 
 -- what goes out opens what its frames number
-rows_go : (b : Bool) (c : ℕ) (v u : SendingView) (out : List SessionFrame) (rows rows' : List Delivery) (W : List HeldSaid) (n : ℕ) → Goes b c v out u → rows' ≡ cond b (opened_by v rows) rows → W ≡ v.held → v.delivery ≡ n % 2 ^ 32 →
+rows_go : (b : Bool) (c : ℕ) (v u : SendingView) (out : List SessionFrame) (rows rows' : List Delivery) (W : List RequestedTransfer) (n : ℕ) → Goes b c v out u → rows' ≡ cond b (opened_by v rows) rows → W ≡ v.held → v.next_delivery ≡ n % 2 ^ 32 →
     rows' ≡ opened n (take (length out) W) rows
 rows_go true c v u out rows rows' W n g e same d =
-    let len = ap length g.0 ∙ length-numbered c v.delivery (take v.window v.held) ∙ length-take v.window v.held in
-    let gone = ap (λ k. take k W) len ∙ ap (λ hs. take (min v.window (length v.held)) hs) same ∙ take_min v.window v.held in
-    let number : v.delivery % 2 ^ 32 ≡ n % 2 ^ 32 = omega (arith, d) in
-    e ∙ opened_same (take v.window v.held) v.delivery n rows number ∙ ap (λ hs. opened n hs rows) (sym gone)
+    let len = ap length g.0 ∙ length-numbered c v.next_delivery (take v.remote_incoming_window v.held) ∙ length-take v.remote_incoming_window v.held in
+    let gone = ap (λ k. take k W) len ∙ ap (λ hs. take (min v.remote_incoming_window (length v.held)) hs) same ∙ take_min v.remote_incoming_window v.held in
+    let number : v.next_delivery % 2 ^ 32 ≡ n % 2 ^ 32 = omega (arith, d) in
+    e ∙ opened_same (take v.remote_incoming_window v.held) v.next_delivery n rows number ∙ ap (λ hs. opened n hs rows) (sym gone)
 rows_go false c v u out rows rows' W n g e same d = e ∙ sym (ap (λ (ts : List SessionFrame). opened n (take (length ts) W) rows) g.0)
 
 module _ {R : Type 0} (g : Relays R) where
   -- the books once a call is taken, before anything goes out
-  Books-before : (m : Made) (A : List HeldSaid) (F : List SessionFrame) (n : ℕ × ℕ) (v : SessionView R) (e : Entry R) → v.settings ≡ m.settings → WordFits v e → Books m.channel m.settings.next_outgoing_id A F n v.sending →
+  Books-before : (m : Made) (A : List RequestedTransfer) (F : List SessionFrame) (n : ℕ × ℕ) (v : SessionView R) (e : Entry R) → v.settings ≡ m.settings → WordFits v e → Books m.channel m.settings.next_outgoing_id A F n v.sending →
       Books m.channel m.settings.next_outgoing_id (A ++ accepted_by e) F (window_by m (m.settings.next_outgoing_id + length F) n e) (sending_by v e)
   Books-before m A F n v (TakesBegin channel begin (Ok u)) same fits b = rw (append-nil A) (Books-begun _ _ A F n v.sending begin.incoming_window fits.incoming_window b)
   Books-before m A F n v (TakesFlow f asked result) same fits b =
@@ -99,7 +99,7 @@ module _ {R : Type 0} (g : Relays R) where
       let o = opened_each (begun_in H) (sent_with H e) v.deliveries.receiver u.deliveries.receiver (λ n. open_at Receiver n H) (sent_step m H v u e b d) ((b.open_are Receiver).table, (b.open_are Receiver).each) in
       record { table = o.0; each = λ n. o.1 n ∙ sym (open_more Receiver n [] None H e) }
   opens_more m H e v u b d Sender =
-      let o = noted_each (named_with e) v.deliveries.sender u.deliveries.sender (λ n. open_at Sender n H) (ap (λ (x : Rest). x.named) d.rest_is) d.named_fits ((b.open_are Sender).table, (b.open_are Sender).each) in
+      let o = with_record_each (named_with e) v.deliveries.sender u.deliveries.sender (λ n. open_at Sender n H) (ap (λ (x : Rest). x.named) d.rest_is) d.named_fits ((b.open_are Sender).table, (b.open_are Sender).each) in
       record { table = o.0; each = λ n. o.1 n ∙ sym (open_more Sender n [] None H e) }
 
   opens_new : (role : Role) → Opens {R = R} role [] (of_role role (record { receiver = []; sender = [] }))
@@ -108,7 +108,7 @@ module _ {R : Type 0} (g : Relays R) where
 
   pub stands-more : (m : Made) (H : List (Entry R)) (e : Entry R) (v u : SessionView R) → Stands m H v → Step g v e u → Stands m (H ++ e ∷ []) u
   stands-more m H e v u b s = let d = does g v u e s in let r = d.rest_is in record {
-    receiving_is = subst (λ (x : Receiving). Hears (H ++ e ∷ []) x) (sym (ap (λ (x : Rest). x.receiving) r)) (hears_more H v v.receiving e d.word_fits b.receiving_is);
+    receiving_is = subst (λ (x : Receiving). Receives (H ++ e ∷ []) x) (sym (ap (λ (x : Rest). x.receiving) r)) (receives_more H v v.receiving e d.word_fits b.receiving_is);
     open_are = λ role. opens_more m H e v u b d role;
     incoming_channel_is = ap (λ (x : Rest). x.incoming_channel) r ∙ ap (λ c. channel_by c e) b.incoming_channel_is ∙ sym (channel_more None H e);
     session_stop_is = ap (λ (x : Rest). x.session_stop) r ∙ ap (λ x. stops x e) b.session_stop_is ∙ sym (stop_more H e);
@@ -162,41 +162,41 @@ module _ {R : Type 0} (g : Relays R) where
 
   -- ---- the headline
 
-  let_out_inside : (c i : ℕ) (A : List HeldSaid) (F : List SessionFrame) (w : ℕ × ℕ) (v : SendingView) (k : ℕ) → Books c i A F w v → k < length (let_out c v) → In (((i + length F) % 2 ^ 32 + k) % 2 ^ 32) w
+  let_out_inside : (c i : ℕ) (A : List RequestedTransfer) (F : List SessionFrame) (w : ℕ × ℕ) (v : SendingView) (k : ℕ) → Books c i A F w v → k < length (let_out c v) → In (((i + length F) % 2 ^ 32 + k) % 2 ^ 32) w
   let_out_inside c i A F w v k b h =
-      let len = length-numbered c v.delivery (take v.window v.held) ∙ length-take v.window v.held in
-      let next_fits : v.next < 2 ^ 32 = omega (arith, b.next_is) in
-      let below : k < remaining v.next w = omega (arith, len, b.window_is) in
-      subst (λ n. In ((n + k) % 2 ^ 32) w) b.next_is (inside_at v.next w.0 w.1 k next_fits b.base_fits b.width_fits below)
+      let len = length-numbered c v.next_delivery (take v.remote_incoming_window v.held) ∙ length-take v.remote_incoming_window v.held in
+      let next_fits : v.next_outgoing_id < 2 ^ 32 = omega (arith, b.next_is) in
+      let below : k < remaining v.next_outgoing_id w = omega (arith, len, b.window_is) in
+      subst (λ n. In ((n + k) % 2 ^ 32) w) b.next_is (inside_at v.next_outgoing_id w.0 w.1 k next_fits b.base_fits b.width_fits below)
 
-  goes_inside : (b : Bool) (c i : ℕ) (A : List HeldSaid) (F out : List SessionFrame) (w : ℕ × ℕ) (v u : SendingView) (k : ℕ) → Goes b c v out u → Books c i A F w v → k < length out → In (((i + length F) % 2 ^ 32 + k) % 2 ^ 32) w
+  goes_inside : (b : Bool) (c i : ℕ) (A : List RequestedTransfer) (F out : List SessionFrame) (w : ℕ × ℕ) (v u : SendingView) (k : ℕ) → Goes b c v out u → Books c i A F w v → k < length out → In (((i + length F) % 2 ^ 32 + k) % 2 ^ 32) w
   goes_inside true c i A F out w v u k g' b h = let_out_inside c i A F w v k b (subst (λ (ts : List SessionFrame). k < length ts) g'.0 h)
   goes_inside false c i A F out w v u k g' b h = absurd (omega (arith, h, ap length g'.0))
 
-  drained_waits : (v : SendingView) → ((drained v).held ≡ []) ⊎ ((drained v).window ≡ 0)
-  drained_waits v = elim (cases_lt v.window (length v.held)) [ inl h ↦ inr (omega arith) | inr h ↦ inl (drop_all v.window v.held h) ]
+  drained_waits : (v : SendingView) → ((drained v).held ≡ []) ⊎ ((drained v).remote_incoming_window ≡ 0)
+  drained_waits v = elim (cases_lt v.remote_incoming_window (length v.held)) [ inl h ↦ inr (omega arith) | inr h ↦ inl (drop_all v.remote_incoming_window v.held h) ]
 
-  goes_waits : (b : Bool) (c : ℕ) (v : SendingView) (out : List SessionFrame) (u : SendingView) → b ≡ true → Goes b c v out u → (u.held ≡ []) ⊎ (u.window ≡ 0)
+  goes_waits : (b : Bool) (c : ℕ) (v : SendingView) (out : List SessionFrame) (u : SendingView) → b ≡ true → Goes b c v out u → (u.held ≡ []) ⊎ (u.remote_incoming_window ≡ 0)
   goes_waits true c v out u e g' = rw g'.1 (drained_waits v)
   goes_waits false c v out u e g' = absurd (cc)
 
-  does_wait : (v w : SessionView R) (e : Entry R) → Does g v e w → lets_by v e ≡ true → (w.sending.held ≡ []) ⊎ (w.sending.window ≡ 0)
+  does_wait : (v w : SessionView R) (e : Entry R) → Does g v e w → lets_by v e ≡ true → (w.sending.held ≡ []) ⊎ (w.sending.remote_incoming_window ≡ 0)
   does_wait v w e d l = goes_waits (lets_by v e) v.outgoing_channel (sending_by v e) (transfers_in (call_frames e)) w.sending l d.goes
 
-  call_waits : (v w : SessionView R) (e : Entry R) → Step g v e w → LetsOut v.state e → (w.sending.held ≡ []) ⊎ (w.sending.window ≡ 0)
+  call_waits : (v w : SessionView R) (e : Entry R) → Step g v e w → LetsOut v.state e → (w.sending.held ≡ []) ⊎ (w.sending.remote_incoming_window ≡ 0)
   call_waits v w (TakesFlow f asked (Ok item)) s l = does_wait v w (TakesFlow f asked (Ok item)) (does g v w (TakesFlow f asked (Ok item)) s) l
   call_waits v w (SendsTransfer h (Ok item)) s l = does_wait v w (SendsTransfer h (Ok item)) (does g v w (SendsTransfer h (Ok item)) s) s.0
   call_waits v w (TakesFlow f asked (Err e)) s l = absurd l
   call_waits v w (SendsTransfer h (Err e)) s l = absurd l
   call_waits v w e s l = absurd l
 
-  answers : (v w : SessionView R) (h : HeldSaid) (result : Result (Option SessionOutgoingItem) SessionInnerError) → SendTransferStep v h result w → Answers v.state h result
+  answers : (v w : SessionView R) (h : RequestedTransfer) (result : Result (Option SessionOutgoingItem) SessionInnerError) → SendTransferStep v h result w → Answers v.state h result
   answers v w h (Ok item) s = (s.0, s.1)
   answers v w h (Err Refused.IllegalState) s = s.0
   answers v w h (Err Refused.OutOfMemory) s = (s.0, s.1)
   answers v w h (Err e) s = absurd s
 
-  waits_by : (m : Made) (H : List (Entry R)) (v : SessionView R) → Stands m H v → (v.sending.held ≡ []) ⊎ (v.sending.window ≡ 0) → (waiting H ≡ []) ⊎ ¬ (In (number m H) (window m H))
+  waits_by : (m : Made) (H : List (Entry R)) (v : SessionView R) → Stands m H v → (v.sending.held ≡ []) ⊎ (v.sending.remote_incoming_window ≡ 0) → (waiting H ≡ []) ⊎ ¬ (In (number m H) (window m H))
   waits_by m H v b (inl none) = inl (sym b.sending_is.held_is ∙ none)
   waits_by m H v b (inr used) =
       let left : remaining (number m H) (window m H) ≡ 0 = ap (λ n. remaining n (window m H)) (sym b.sending_is.next_is) ∙ sym b.sending_is.window_is ∙ used in

@@ -5,8 +5,8 @@ use Rattle.std.proofs.lemmas.Bool.Decides.{nat_tests}
 use Rattle.std.proofs.lemmas.Grind.{common_steps}
 use Rattle.std.specs.Option.{option_map}
 use Rattle.amqp_session.specs.declared.deliveries.Delivery.{Delivery}
-use Rattle.amqp_session.specs.Deliveries.{recorded, noted, listed, RecordFits, newest, record_at, IsTable}
-use Rattle.amqp_session.specs.Transfers.{HeldSaid, first_of, record_of, records, opened, kept_tag}
+use Rattle.amqp_session.specs.Deliveries.{recorded, with_record, listed, RecordFits, newest, record_at, IsTable}
+use Rattle.amqp_session.specs.Transfers.{RequestedTransfer, first_of, record_of, records, opened, kept_tag}
 use Rattle.amqp_session.proofs.Rising.{recorded_less, recorded_same, recorded_more, recorded_table}
 
 -- a number that two records have
@@ -35,41 +35,41 @@ recorded_at_number n d (e ∷ es) =
       | inr (inr more) ↦ ap (record_at n) (recorded_more d e es more)
     ]
 
-noted_at_number : (n : ℕ) (d : Option Delivery) (rows : List Delivery) → record_at n (noted d rows) ≡ newest n (record_at n rows) (listed d)
-noted_at_number n None rows = refl
-noted_at_number n (Some d) rows = recorded_at_number n d rows
+with_record_at_number : (n : ℕ) (d : Option Delivery) (rows : List Delivery) → record_at n (with_record d rows) ≡ newest n (record_at n rows) (listed d)
+with_record_at_number n None rows = refl
+with_record_at_number n (Some d) rows = recorded_at_number n d rows
 
 newest_behind : (n : ℕ) (old d : Option Delivery) (ds : List Delivery) → newest n (newest n old (listed d)) ds ≡ newest n old (listed d ++ ds)
 newest_behind n old None ds = refl
 newest_behind n old (Some d) ds = refl
 
-opened_at_number : (n k : ℕ) (hs : List HeldSaid) (rows : List Delivery) → record_at n (opened k hs rows) ≡ newest n (record_at n rows) (records k hs)
+opened_at_number : (n k : ℕ) (hs : List RequestedTransfer) (rows : List Delivery) → record_at n (opened k hs rows) ≡ newest n (record_at n rows) (records k hs)
 opened_at_number n k [] rows = refl
 opened_at_number n k (h ∷ hs) rows =
-    opened_at_number n (k + first_of h) hs (noted (record_of k h) rows)
-    ∙ ap (λ old. newest n old (records (k + first_of h) hs)) (noted_at_number n (record_of k h) rows)
+    opened_at_number n (k + first_of h) hs (with_record (record_of k h) rows)
+    ∙ ap (λ old. newest n old (records (k + first_of h) hs)) (with_record_at_number n (record_of k h) rows)
     ∙ newest_behind n (record_at n rows) (record_of k h) (records (k + first_of h) hs)
 
-noted_table : (d : Option Delivery) (rows : List Delivery) → RecordFits d → IsTable rows → IsTable (noted d rows)
-noted_table None rows fits t = t
-noted_table (Some d) rows fits t = recorded_table d rows fits t
+with_record_table : (d : Option Delivery) (rows : List Delivery) → RecordFits d → IsTable rows → IsTable (with_record d rows)
+with_record_table None rows fits t = t
+with_record_table (Some d) rows fits t = recorded_table d rows fits t
 
-record_fits : (n : ℕ) (h : HeldSaid) → RecordFits (record_of n h)
+record_fits : (n : ℕ) (h : RequestedTransfer) → RecordFits (record_of n h)
 record_fits n h = by (kept_tag h.is_first h.transfer)
   where
     by : (tag : Option (List ℕ)) → RecordFits (option_map (λ t. let d : Delivery = record { number = n % 2 ^ 32; input_handle = record { 0 = h.input_handle }; tag = record { 0 = t } } in d) tag)
     by None = tt
     by (Some t) = omega arith
 
-opened_table : (k : ℕ) (hs : List HeldSaid) (rows : List Delivery) → IsTable rows → IsTable (opened k hs rows)
+opened_table : (k : ℕ) (hs : List RequestedTransfer) (rows : List Delivery) → IsTable rows → IsTable (opened k hs rows)
 opened_table k [] rows t = t
-opened_table k (h ∷ hs) rows t = opened_table (k + first_of h) hs (noted (record_of k h) rows) (noted_table (record_of k h) rows (record_fits k h) t)
+opened_table k (h ∷ hs) rows t = opened_table (k + first_of h) hs (with_record (record_of k h) rows) (with_record_table (record_of k h) rows (record_fits k h) t)
 
 -- a table with these records more, where each number's record was this before
-pub opened_each : (k : ℕ) (hs : List HeldSaid) (rows rows' : List Delivery) (old : ℕ → Option Delivery) → rows' ≡ opened k hs rows → IsTable rows × ((n : ℕ) → record_at n rows ≡ old n) →
+pub opened_each : (k : ℕ) (hs : List RequestedTransfer) (rows rows' : List Delivery) (old : ℕ → Option Delivery) → rows' ≡ opened k hs rows → IsTable rows × ((n : ℕ) → record_at n rows ≡ old n) →
     IsTable rows' × ((n : ℕ) → record_at n rows' ≡ newest n (old n) (records k hs))
 opened_each k hs rows rows' old e b = rw e (opened_table k hs rows b.0, λ n. opened_at_number n k hs rows ∙ ap (λ o. newest n o (records k hs)) (b.1 n))
 
-pub noted_each : (d : Option Delivery) (rows rows' : List Delivery) (old : ℕ → Option Delivery) → rows' ≡ noted d rows → RecordFits d → IsTable rows × ((n : ℕ) → record_at n rows ≡ old n) →
+pub with_record_each : (d : Option Delivery) (rows rows' : List Delivery) (old : ℕ → Option Delivery) → rows' ≡ with_record d rows → RecordFits d → IsTable rows × ((n : ℕ) → record_at n rows ≡ old n) →
     IsTable rows' × ((n : ℕ) → record_at n rows' ≡ newest n (old n) (listed d))
-noted_each d rows rows' old e fits b = rw e (noted_table d rows fits b.0, λ n. noted_at_number n d rows ∙ ap (λ o. newest n o (listed d)) (b.1 n))
+with_record_each d rows rows' old e fits b = rw e (with_record_table d rows fits b.0, λ n. with_record_at_number n d rows ∙ ap (λ o. newest n o (listed d)) (b.1 n))

@@ -9,7 +9,7 @@ use Rattle.std.specs.List.{insert}
 use Rattle.std.proofs.lemmas.List.{get_or-map}
 use Rattle.std.proofs.lemmas.List.Edits.{insert_end}
 use Rattle.amqp_session.specs.declared.deliveries.Delivery.{Delivery}
-use Rattle.amqp_session.specs.Deliveries.{recorded, noted, Above, Under, IsRising, IsTable, number_at}
+use Rattle.amqp_session.specs.Deliveries.{recorded, with_record, Above, Under, IsRising, IsTable, number_at}
 
 -- a comparison halves what is left
 pub halved : (c w w' n : ℕ) → 0 < w → w' ≤ w / 2 → 2 ^ c * w ≤ n → (2 ^ (c + 1) * w' ≤ n) × (2 ^ (c + 1) ≤ 2 * n + 1)
@@ -126,9 +126,9 @@ recorded_length d (e ∷ es) =
       | inr (inr more) ↦ omega (arith, ap length (recorded_more d e es more))
     ]
 
-pub noted_length : (d : Option Delivery) (rows : List Delivery) → length (noted d rows) ≤ length rows + 1
-noted_length None rows = omega arith
-noted_length (Some d) rows = recorded_length d rows
+pub with_record_length : (d : Option Delivery) (rows : List Delivery) → length (with_record d rows) ≤ length rows + 1
+with_record_length None rows = omega arith
+with_record_length (Some d) rows = recorded_length d rows
 
 -- a record that was read
 pub number_read : (rows : List Delivery) (i : ℕ) (x : Delivery) → i < length rows → x ≡ slice_index_or rows i x → number_at rows i ≡ x.number

@@ -14,9 +14,9 @@ below_half mapped half count e f =
     grind (arith, nat_tests, common_steps)
 
 pub flows_law : {R : Type 0} → (v w : SessionView R) (item : Option SessionOutgoingItem) → SessionFlowStep v item w → is_mapped v.state ≡ true →
-    (w.receiving.count ≡ 0) ⊎ (w.receiving.count < v.settings.incoming_window / 2)
+    (w.receiving.unreported ≡ 0) ⊎ (w.receiving.unreported < v.settings.incoming_window / 2)
 flows_law v w None s m =
-    let below = below_half (is_mapped v.state) (v.settings.incoming_window / 2) v.receiving.count m s.0 in
-    inr (subst (λ (u : SessionView _). u.receiving.count < v.settings.incoming_window / 2) (sym s.1) below)
-flows_law v w (Some (SingleFrame f)) s m = inl (ap (λ (u : SessionView _). u.receiving.count) s.2)
+    let below = below_half (is_mapped v.state) (v.settings.incoming_window / 2) v.receiving.unreported m s.0 in
+    inr (subst (λ (u : SessionView _). u.receiving.unreported < v.settings.incoming_window / 2) (sym s.1) below)
+flows_law v w (Some (SingleFrame f)) s m = inl (ap (λ (u : SessionView _). u.receiving.unreported) s.2)
 flows_law v w (Some (MultipleFrames fs)) s m = absurd s

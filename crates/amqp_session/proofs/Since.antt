@@ -4,12 +4,12 @@ use Rattle.amqp_session.specs.declared.deliveries.Delivery.{Delivery}
 use Rattle.amqp_session.specs.declared.session.receiving.Receiving.{Receiving}
 use Rattle.amqp_session.specs.declared.stop.SessionStopReason.{SessionStopReason}
 use Rattle.amqp_session.specs.History.{Entry, TakesBegin, TakesFlow, TakesTransfer, SendsSessionFlow, RecordsStop}
-use Rattle.amqp_session.specs.Heard.{has_kind, since, says_numbers, is_session_flow, came_by, came, word_by, word_from, word, next_incoming, left_by, left, peer_window, unsaid, channel_by, channel_from, stop_reason, IsLinkCall, HasNoLinks}
-use Rattle.amqp_session.specs.Headline.{open_by, open_from, Hears}
+use Rattle.amqp_session.specs.Received.{has_kind, since, says_numbers, is_session_flow, came_by, came, word_by, word_from, word, next_incoming, left_by, left, peer_window, unreported, channel_by, channel_from, stop_reason, IsLinkCall, HasNoLinks}
+use Rattle.amqp_session.specs.Headline.{open_by, open_from, Receives}
 use Rattle.amqp_types.specs.declared.definitions.Role.{Role}
 use Rattle.amqp_session.specs.Session.{SessionView}
 use Rattle.amqp_session.specs.Linked.{Taken, taken_by, taken_from}
-use Rattle.amqp_session.proofs.Effects.{hears, stops, WordFits}
+use Rattle.amqp_session.proofs.Effects.{receives, stops, WordFits}
 
 -- ---- the calls since the last one of a kind
 
@@ -57,40 +57,40 @@ next_more H e = rw (word_more (0, 0) H e, since_more says_numbers H e) refl
 peer_window_more : {R : Type 0} → (H : List (Entry R)) (e : Entry R) → peer_window (H ++ e ∷ []) ≡ left (word_by (word H) e).1 (cond (says_numbers e) [] (since says_numbers H ++ e ∷ []))
 peer_window_more H e = rw (word_more (0, 0) H e, since_more says_numbers H e) refl
 
-unsaid_more : {R : Type 0} → (H : List (Entry R)) (e : Entry R) → unsaid (H ++ e ∷ []) ≡ min (came (cond (is_session_flow e) [] (since is_session_flow H ++ e ∷ []))) 4294967295
-unsaid_more H e = ap (λ es. min (came es) 4294967295) (since_more is_session_flow H e)
+unreported_more : {R : Type 0} → (H : List (Entry R)) (e : Entry R) → unreported (H ++ e ∷ []) ≡ min (came (cond (is_session_flow e) [] (since is_session_flow H ++ e ∷ []))) 4294967295
+unreported_more H e = ap (λ es. min (came es) 4294967295) (since_more is_session_flow H e)
 
 -- a call that says nothing of them
 still : {R : Type 0} → (H : List (Entry R)) (e : Entry R) (r : Receiving) → word_by (word H) e ≡ word H → says_numbers e ≡ false → is_session_flow e ≡ false → came_by e ≡ 0 →
-    left_by (left (word H).1 (since says_numbers H)) e ≡ left (word H).1 (since says_numbers H) → Hears H r → Hears (H ++ e ∷ []) r
+    left_by (left (word H).1 (since says_numbers H)) e ≡ left (word H).1 (since says_numbers H) → Receives H r → Receives (H ++ e ∷ []) r
 still H e r w s f c l h = record {
   next_is = rw (next_more H e, w, s, came_more (since says_numbers H) e, c) (omega (arith, h.next_is));
   window_is = rw (peer_window_more H e, w, s, left_more (word H).1 (since says_numbers H) e, l) h.window_is;
-  count_is = rw (unsaid_more H e, f, came_more (since is_session_flow H) e, c) (omega (arith, h.count_is));
+  count_is = rw (unreported_more H e, f, came_more (since is_session_flow H) e, c) (omega (arith, h.count_is));
 }
 
-pub hears_more : {R : Type 0} → (H : List (Entry R)) (v : SessionView R) (r : Receiving) (e : Entry R) → WordFits v e → Hears H r → Hears (H ++ e ∷ []) (hears r e)
-hears_more H v r (TakesBegin channel b (Ok u)) fits h = let e : Entry _ = TakesBegin channel b (Ok u) in record {
+pub receives_more : {R : Type 0} → (H : List (Entry R)) (v : SessionView R) (r : Receiving) (e : Entry R) → WordFits v e → Receives H r → Receives (H ++ e ∷ []) (receives r e)
+receives_more H v r (TakesBegin channel b (Ok u)) fits h = let e : Entry _ = TakesBegin channel b (Ok u) in record {
   next_is = rw (next_more H e) (omega (arith, fits.next_outgoing_id));
   window_is = rw (peer_window_more H e) refl;
-  count_is = rw (unsaid_more H e, came_more (since is_session_flow H) e) (omega (arith, h.count_is));
+  count_is = rw (unreported_more H e, came_more (since is_session_flow H) e) (omega (arith, h.count_is));
 }
-hears_more H v r (TakesFlow f asked result) fits h = let e : Entry _ = TakesFlow f asked result in record {
+receives_more H v r (TakesFlow f asked result) fits h = let e : Entry _ = TakesFlow f asked result in record {
   next_is = rw (next_more H e) (omega (arith, fits.next_outgoing_id));
   window_is = rw (peer_window_more H e) refl;
-  count_is = rw (unsaid_more H e, came_more (since is_session_flow H) e) (omega (arith, h.count_is));
+  count_is = rw (unreported_more H e, came_more (since is_session_flow H) e) (omega (arith, h.count_is));
 }
-hears_more H v r (TakesTransfer t payload asked result) fits h = let e : Entry _ = TakesTransfer t payload asked result in record {
+receives_more H v r (TakesTransfer t payload asked result) fits h = let e : Entry _ = TakesTransfer t payload asked result in record {
   next_is = rw (next_more H e, came_more (since says_numbers H) e) (omega (arith, h.next_is));
   window_is = rw (peer_window_more H e, left_more (word H).1 (since says_numbers H) e) (ap (λ n. n - 1) h.window_is);
-  count_is = rw (unsaid_more H e, came_more (since is_session_flow H) e) (omega (arith, h.count_is));
+  count_is = rw (unreported_more H e, came_more (since is_session_flow H) e) (omega (arith, h.count_is));
 }
-hears_more H v r (SendsSessionFlow (Some item)) fits h = let e : Entry _ = SendsSessionFlow (Some item) in record {
+receives_more H v r (SendsSessionFlow (Some item)) fits h = let e : Entry _ = SendsSessionFlow (Some item) in record {
   next_is = rw (next_more H e, came_more (since says_numbers H) e) (omega (arith, h.next_is));
   window_is = rw (peer_window_more H e, left_more (word H).1 (since says_numbers H) e) h.window_is;
-  count_is = rw (unsaid_more H e) refl;
+  count_is = rw (unreported_more H e) refl;
 }
-hears_more H v r e fits h = still H e r refl refl refl refl refl h
+receives_more H v r e fits h = still H e r refl refl refl refl refl h
 
 -- ---- channel, stop reason and open deliveries
 

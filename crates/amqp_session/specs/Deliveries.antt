@@ -10,9 +10,9 @@ recorded d [] = d ∷ []
 recorded d (e ∷ es) = if nat_lt e.number d.number then e ∷ recorded d es else (if nat_eq e.number d.number then d ∷ es else d ∷ e ∷ es)
 
 -- the same, where there is a record
-abbrev pub noted : Option Delivery → List Delivery → List Delivery
-noted None rows = rows
-noted (Some d) rows = recorded d rows
+abbrev pub with_record : Option Delivery → List Delivery → List Delivery
+with_record None rows = rows
+with_record (Some d) rows = recorded d rows
 
 -- the list of it, where there is a record
 abbrev pub listed : Option Delivery → List Delivery

@@ -8,21 +8,21 @@ use Rattle.amqp_session.specs.declared.frame.SessionOutgoingItem.{SessionOutgoin
 use Rattle.amqp_session.specs.declared.error.SessionInnerError.{SessionInnerError}
 use Rattle.amqp_session.specs.declared.deliveries.Delivery.{Delivery}
 use Rattle.amqp_session.specs.declared.session.receiving.Receiving.{Receiving}
-use Rattle.amqp_session.specs.Handed.{call_frames}
+use Rattle.amqp_session.specs.OutgoingFrames.{call_frames}
 use Rattle.amqp_session.specs.declared.error.SessionInnerError.TheVariants as Refused
 use Rattle.amqp_session.specs.Serial.{In, remaining}
 use Rattle.amqp_session.specs.States.{is_mapped, sends_begin, takes_begin, sends_end, takes_end}
 use Rattle.amqp_session.specs.Sending.{SendingView}
 use Rattle.amqp_session.specs.Session.{SessionView}
 use Rattle.amqp_session.specs.Step.{IsUntagged, has_error}
-use Rattle.amqp_session.specs.Transfers.{HeldSaid, numbered, firsts, records}
+use Rattle.amqp_session.specs.Transfers.{RequestedTransfer, numbered, firsts, records}
 use Rattle.amqp_session.specs.Deliveries.{listed, newest, IsTable, record_at, of_role}
 use Rattle.amqp_types.specs.declared.definitions.Role.{Role}
 use Rattle.amqp_types.specs.declared.definitions.Role.TheVariants.{Sender, Receiver}
 use Rattle.std.specs.FinMap as map
 use Rattle.amqp_session.specs.Links.{no_links}
 use Rattle.amqp_session.specs.Linked.{taken_at}
-use Rattle.amqp_session.specs.Heard.{next_incoming, peer_window, unsaid, peer_channel, named_with, stop_reason, HasNoLinks}
+use Rattle.amqp_session.specs.Received.{next_incoming, peer_window, unreported, peer_channel, named_with, stop_reason, HasNoLinks}
 use Rattle.amqp_session.specs.History.{Entry, SendsBegin, SendsEnd, TakesBegin, TakesEnd, TakesFlow, SendsTransfer, Made}
 
 -- ---- what a call took and handed out
@@ -36,7 +36,7 @@ abbrev pub transfers_in : List SessionFrame → List SessionFrame
 transfers_in [] = []
 transfers_in (f ∷ fs) = transfer_in f.body f ++ transfers_in fs
 
-abbrev pub accepted_by : {R : Type 0} → Entry R → List HeldSaid
+abbrev pub accepted_by : {R : Type 0} → Entry R → List RequestedTransfer
 accepted_by (SendsTransfer h (Ok item)) = h ∷ []
 accepted_by e = []
 
@@ -48,12 +48,12 @@ handed [] = []
 handed (e ∷ es) = transfers_in (call_frames e) ++ handed es
 
 -- the transfers that were accepted, in order
-abbrev pub accepted : {R : Type 0} → List (Entry R) → List HeldSaid
+abbrev pub accepted : {R : Type 0} → List (Entry R) → List RequestedTransfer
 accepted [] = []
 accepted (e ∷ es) = accepted_by e ++ accepted es
 
 -- those that were not handed out yet
-abbrev pub waiting : {R : Type 0} → List (Entry R) → List HeldSaid
+abbrev pub waiting : {R : Type 0} → List (Entry R) → List RequestedTransfer
 waiting H = drop (length (handed H)) (accepted H)
 
 -- the number of the next transfer
@@ -96,14 +96,14 @@ state m H = state_from m.state H
 
 -- Each transfer that is asked for is accepted, or is refused for want of memory, or with IllegalState: that exactly where it is
 -- the first of its delivery and has no tag, or the state is not Mapped.
-abbrev pub Answers : SessionState → HeldSaid → Result (Option SessionOutgoingItem) SessionInnerError → Type 0
+abbrev pub Answers : SessionState → RequestedTransfer → Result (Option SessionOutgoingItem) SessionInnerError → Type 0
 Answers s h (Ok item) = (is_mapped s ≡ true) × ¬ (IsUntagged h)
 Answers s h (Err Refused.IllegalState) = (is_mapped s ≡ false) ⊎ IsUntagged h
 Answers s h (Err Refused.OutOfMemory) = (is_mapped s ≡ true) × ¬ (IsUntagged h)
 Answers s h (Err e) = ⊥
 
 abbrev pub AllAnswered : {R : Type 0} → Made → List (Entry R) → Type 0
-AllAnswered m H = (before after : List (Entry _)) (h : HeldSaid) (result : Result (Option SessionOutgoingItem) SessionInnerError) →
+AllAnswered m H = (before after : List (Entry _)) (h : RequestedTransfer) (result : Result (Option SessionOutgoingItem) SessionInnerError) →
     H ≡ before ++ SendsTransfer h result ∷ after → Answers (state m before) h result
 
 -- Handed out, then held back: all accepted ones, in order, each delivery numbered once, on its first frame.
@@ -119,7 +119,7 @@ carried b = None
 -- A frame carries a delivery-id exactly where it is the first of its delivery, whatever the request came with: one that goes on
 -- with a delivery never does.
 abbrev pub FirstAlone : {R : Type 0} → List (Entry R) → Type 0
-FirstAlone H = (k : ℕ) (h : HeldSaid) (f : SessionFrame) → slice_get (accepted H) k ≡ Some h → slice_get (handed H) k ≡ Some f → is_some (carried f.body) ≡ h.is_first
+FirstAlone H = (k : ℕ) (h : RequestedTransfer) (f : SessionFrame) → slice_get (accepted H) k ≡ Some h → slice_get (handed H) k ≡ Some f → is_some (carried f.body) ≡ h.is_first
 
 -- Each transfer is inside the window that holds as it is handed out.
 abbrev pub Inside : {R : Type 0} → Made → List (Entry R) → Type 0
@@ -147,7 +147,7 @@ pub record Headline {R : Type 0} (m : Made) (H : List (Entry R)) : Type 0 where
 -- ---- open deliveries, of each role of the peer that will speak of them (section 2.6.12)
 
 -- the transfers that go out with a call, where these calls came before it: those that waited first, and then its own
-abbrev pub sent_with : {R : Type 0} → List (Entry R) → Entry R → List HeldSaid
+abbrev pub sent_with : {R : Type 0} → List (Entry R) → Entry R → List RequestedTransfer
 sent_with before e = take (length (transfers_in (call_frames e))) (waiting before ++ accepted_by e)
 
 -- how many deliveries have begun to go out
@@ -179,21 +179,21 @@ open_at role n H = open_from role n [] None H
 -- ---- the law of views
 
 -- a view of the sending half is what these accepted transfers, these frames and this window give
-pub record Books (channel initial : ℕ) (A : List HeldSaid) (F : List SessionFrame) (w : ℕ × ℕ) (v : SendingView) : Type 0 where
-  pub next_is : v.next ≡ (initial + length F) % 2 ^ 32
-  pub delivery_is : v.delivery ≡ firsts (take (length F) A) % 2 ^ 32
+pub record Books (channel initial : ℕ) (A : List RequestedTransfer) (F : List SessionFrame) (w : ℕ × ℕ) (v : SendingView) : Type 0 where
+  pub next_is : v.next_outgoing_id ≡ (initial + length F) % 2 ^ 32
+  pub delivery_is : v.next_delivery ≡ firsts (take (length F) A) % 2 ^ 32
   pub held_is : v.held ≡ drop (length F) A
-  pub window_is : v.window ≡ remaining v.next w
+  pub window_is : v.remote_incoming_window ≡ remaining v.next_outgoing_id w
   pub base_fits : w.0 < 2 ^ 32
   pub width_fits : w.1 < 2 ^ 32
   pub handed_out : F ≡ numbered channel 0 (take (length F) A)
   pub no_more : length F ≤ length A
 
 -- a view of the receiving half is what this history gives
-pub record Hears {R : Type 0} (H : List (Entry R)) (r : Receiving) : Type 0 where
-  pub next_is : r.next ≡ next_incoming H
-  pub window_is : r.window ≡ peer_window H
-  pub count_is : r.count ≡ unsaid H
+pub record Receives {R : Type 0} (H : List (Entry R)) (r : Receiving) : Type 0 where
+  pub next_is : r.next_incoming_id ≡ next_incoming H
+  pub window_is : r.remote_outgoing_window ≡ peer_window H
+  pub count_is : r.unreported ≡ unreported H
 
 -- These are the open deliveries of a role: their numbers rise and are of four bytes, and the record of each number is its newest
 -- one.
@@ -208,7 +208,7 @@ pub record Opens {R : Type 0} (role : Role) (H : List (Entry R)) (rows : List De
 pub record Stands {R : Type 0} (m : Made) (H : List (Entry R)) (v : SessionView R) : Type 0 where
   pub sending_is : Books m.channel m.settings.next_outgoing_id (accepted H) (handed H) (window m H) v.sending
   pub state_is : v.state ≡ state m H
-  pub receiving_is : Hears H v.receiving
+  pub receiving_is : Receives H v.receiving
   pub open_are : (role : Role) → Opens role H (of_role role v.deliveries)
   pub incoming_channel_is : v.incoming_channel ≡ peer_channel H
   pub session_stop_is : v.session_stop ≡ stop_reason H

@@ -20,7 +20,7 @@ use Rattle.amqp_session.specs.declared.error.SessionStateError.{SessionStateErro
 use Rattle.amqp_session.specs.declared.error.SessionInnerError.{SessionInnerError}
 use Rattle.amqp_session.specs.declared.error.AllocLinkError.{AllocLinkError}
 use Rattle.amqp_session.specs.Settings.{SettingsSaid}
-use Rattle.amqp_session.specs.Transfers.{HeldSaid}
+use Rattle.amqp_session.specs.Transfers.{RequestedTransfer}
 use Rattle.amqp_session.specs.Relay.{Relays, AttachQuestion, FlowQuestion, TransferQuestion, DispositionQuestion, DetachQuestion}
 use Rattle.amqp_session.specs.Session.{SessionView, new_session}
 use Rattle.amqp_session.specs.Step.{SendBeginStep, SendEndStep, TakeBeginStep, TakeEndStep, SendTransferStep, FlowStep, TakeTransferStep, SendFlowStep, SessionFlowStep, StopStep}
@@ -42,7 +42,7 @@ pub data Entry (R : Type 0) : Type 0 where
   TakesDetach : DetachSaid → Option (DetachQuestion R) → Result (Option DetachSaid) SessionInnerError → Entry R
   SendsAttach : AttachSaid → SessionFrame → Entry R
   SendsFlow : LinkFlow → SessionFrame → Entry R
-  SendsTransfer : HeldSaid → Result (Option SessionOutgoingItem) SessionInnerError → Entry R
+  SendsTransfer : RequestedTransfer → Result (Option SessionOutgoingItem) SessionInnerError → Entry R
   SendsDisposition : DispositionSaid → SessionFrame → Entry R
   SendsDetach : DetachSaid → Bool → Result (Option SessionFrame) SessionInnerError → Entry R
   SendsSessionFlow : Option SessionOutgoingItem → Entry R

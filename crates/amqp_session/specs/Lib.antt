@@ -14,7 +14,7 @@ pub mod Items
 pub mod Step
 pub mod Linking
 pub mod History
-pub mod Heard
+pub mod Received
 pub mod Linked
-pub mod Handed
+pub mod OutgoingFrames
 pub mod Headline

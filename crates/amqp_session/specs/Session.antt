@@ -44,7 +44,7 @@ new_session settings channel state stop = record {
 
 -- the Begin that is sent: the settings, with the number of the next transfer (section 2.7.2)
 abbrev pub begin_frame : {R : Type 0} → SessionView R → SessionFrame
-begin_frame v = record { channel = v.outgoing_channel; body = Body.Begin (begin_of v.settings v.incoming_channel v.sending.next) }
+begin_frame v = record { channel = v.outgoing_channel; body = Body.Begin (begin_of v.settings v.incoming_channel v.sending.next_outgoing_id) }
 
 -- the End that is sent (section 2.7.8)
 abbrev pub end_frame : {R : Type 0} → SessionView R → Option ErrorSaid → SessionFrame
@@ -53,9 +53,9 @@ end_frame v error = record { channel = v.outgoing_channel; body = Body.End (reco
 -- a Flow that speaks of the session alone (section 2.7.4)
 abbrev pub session_flow : {R : Type 0} → SessionView R → FlowSaid
 session_flow v = record {
-  next_incoming_id = Some v.receiving.next;
+  next_incoming_id = Some v.receiving.next_incoming_id;
   incoming_window = v.settings.incoming_window;
-  next_outgoing_id = v.sending.next;
+  next_outgoing_id = v.sending.next_outgoing_id;
   outgoing_window = v.settings.outgoing_window;
   handle = None;
   delivery_count = None;
@@ -97,4 +97,4 @@ let_gone v = record v {
 
 -- a session flow is due: half of the incoming window, rounded down, has come since the last one
 abbrev pub is_due : {R : Type 0} → SessionView R → Bool
-is_due v = if is_mapped v.state then nat_le (v.settings.incoming_window / 2) v.receiving.count else false
+is_due v = if is_mapped v.state then nat_le (v.settings.incoming_window / 2) v.receiving.unreported else false

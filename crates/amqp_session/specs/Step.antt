@@ -23,10 +23,10 @@ use Rattle.amqp_session.specs.declared.error.SessionInnerError.TheVariants as Re
 use Rattle.amqp_session.specs.Errors.{inner_of_relay}
 use Rattle.amqp_session.specs.LinkFlow.{link_flow_of}
 use Rattle.amqp_session.specs.States.{is_mapped, sends_begin, takes_begin, sends_end, takes_end, answers_end}
-use Rattle.amqp_session.specs.Transfers.{HeldSaid}
+use Rattle.amqp_session.specs.Transfers.{RequestedTransfer}
 use Rattle.amqp_session.specs.Sending.{joined, begun, moved}
-use Rattle.amqp_session.specs.Receiving.{told, counted, rested}
-use Rattle.amqp_session.specs.Deliveries.{noted, RecordFits}
+use Rattle.amqp_session.specs.Receiving.{numbered_anew, counted, reported}
+use Rattle.amqp_session.specs.Deliveries.{with_record, RecordFits}
 use Rattle.amqp_session.specs.Links.{attached_at, put_at}
 use Rattle.amqp_session.specs.Relay.{FlowGives, TransferGives, FlowQuestion, TransferQuestion, Question, goes_on, of_flow, of_transfer, Asks}
 use Rattle.amqp_session.specs.Items.{HandsOut, is_some_list, first_frame}
@@ -38,7 +38,7 @@ abbrev pub has_error : Option ErrorSaid → Bool
 has_error None = false
 has_error (Some e) = true
 
-abbrev pub is_some_held : List HeldSaid → Bool
+abbrev pub is_some_held : List RequestedTransfer → Bool
 is_some_held [] = false
 is_some_held (h ∷ hs) = true
 
@@ -69,7 +69,7 @@ abbrev pub begun_by : {R : Type 0} → SessionView R → ℕ → BeginSaid → S
 begun_by v channel b = record v {
   incoming_channel = Some channel;
   sending = begun v.sending b.incoming_window;
-  receiving = told b.next_outgoing_id b.outgoing_window v.receiving;
+  receiving = numbered_anew b.next_outgoing_id b.outgoing_window v.receiving;
 }
 
 -- the numbers of a Begin are of four bytes
@@ -99,15 +99,15 @@ TakeEndStep v e (Err (Begins.ConnectionStopped r)) w = ⊥
 -- ---- a transfer goes out (section 2.5.6)
 
 -- the first transfer of a delivery has no tag
-abbrev pub IsUntagged : HeldSaid → Type 0
+abbrev pub IsUntagged : RequestedTransfer → Type 0
 IsUntagged h = (h.is_first ≡ true) × (h.transfer.delivery_tag ≡ None)
 
 -- the session with the transfer behind those that wait
-abbrev pub waits : {R : Type 0} → SessionView R → HeldSaid → SessionView R
+abbrev pub waits : {R : Type 0} → SessionView R → RequestedTransfer → SessionView R
 waits v h = record v { sending = joined v.sending h }
 
 -- It waits while the window is used up. Else older ones go out first, and then it, while the window lasts.
-abbrev pub SendTransferStep : {R : Type 0} → SessionView R → HeldSaid → Result (Option SessionOutgoingItem) SessionInnerError → SessionView R → Type 0
+abbrev pub SendTransferStep : {R : Type 0} → SessionView R → RequestedTransfer → Result (Option SessionOutgoingItem) SessionInnerError → SessionView R → Type 0
 SendTransferStep v h (Ok item) w = (is_mapped v.state ≡ true) × ¬ (IsUntagged h) × HandsOut (is_some_held v.sending.held) (lets (waits v h)) item × (w ≡ let_gone (waits v h))
 SendTransferStep v h (Err Refused.IllegalState) w = ((is_mapped v.state ≡ false) ⊎ IsUntagged h) × (w ≡ v)
 SendTransferStep v h (Err Refused.OutOfMemory) w = (is_mapped v.state ≡ true) × ¬ (IsUntagged h) × (w ≡ v)
@@ -130,7 +130,7 @@ pub record FlowFits {R : Type 0} (v : SessionView R) (f : FlowSaid) : Type 0 whe
 abbrev pub flow_moved : {R : Type 0} → SessionView R → FlowSaid → SessionView R
 flow_moved v f = record v {
   sending = moved v.sending (flow_base v f) f.incoming_window;
-  receiving = told f.next_outgoing_id f.outgoing_window v.receiving;
+  receiving = numbered_anew f.next_outgoing_id f.outgoing_window v.receiving;
 }
 
 -- What goes out then: the relay's flow first, and behind it what the new window lets out. The flow says the numbers from
@@ -186,7 +186,7 @@ named_delivery handle (Some x) = Some (record { number = x.0; input_handle = rec
 
 -- the session with it
 abbrev pub named_by : {R : Type 0} → SessionView R → ℕ → Option (ℕ × DeliveryTag) → SessionView R
-named_by v handle named = record v { deliveries = record v.deliveries { sender = noted (named_delivery handle named) v.deliveries.sender } }
+named_by v handle named = record v { deliveries = record v.deliveries { sender = with_record (named_delivery handle named) v.deliveries.sender } }
 
 -- what follows from the relay's answer: the number that it names is of four bytes
 abbrev pub TransferAnswered : {R : Type 0} → SessionView R → ℕ → Result (Option (ℕ × DeliveryTag)) LinkRelayError → Result (Option DispositionSaid) SessionInnerError → SessionView R → Type 0
@@ -218,7 +218,7 @@ SendFlowStep v l frame w = (frame ≡ flow_frame v l) × (w ≡ v)
 -- A session flow goes out in Mapped where half of the window has come since the last one, and then the count is 0.
 abbrev pub SessionFlowStep : {R : Type 0} → SessionView R → Option SessionOutgoingItem → SessionView R → Type 0
 SessionFlowStep v None w = (is_due v ≡ false) × (w ≡ v)
-SessionFlowStep v (Some (SingleFrame f)) w = (is_due v ≡ true) × (f ≡ session_flow_frame v) × (w ≡ record v { receiving = rested v.receiving })
+SessionFlowStep v (Some (SingleFrame f)) w = (is_due v ≡ true) × (f ≡ session_flow_frame v) × (w ≡ record v { receiving = reported v.receiving })
 SessionFlowStep v (Some (MultipleFrames fs)) w = ⊥
 
 -- the first reason that is recorded stays

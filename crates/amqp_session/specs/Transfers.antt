@@ -6,10 +6,10 @@ use Rattle.amqp_types.specs.Transfer.{TransferSaid}
 use Rattle.amqp_session.specs.declared.deliveries.Delivery.{Delivery}
 use Rattle.amqp_session.specs.declared.frame.SessionFrame.{SessionFrame}
 use Rattle.amqp_session.specs.declared.frame.SessionFrameBody.TheVariants as Body
-use Rattle.amqp_session.specs.Deliveries.{noted, listed}
+use Rattle.amqp_session.specs.Deliveries.{with_record, listed}
 
 -- A transfer as it was asked for: for the link of this input handle, with this payload, the first of its delivery or not.
-pub record HeldSaid : Type 0 where
+pub record RequestedTransfer : Type 0 where
   pub input_handle : ℕ
   pub transfer : TransferSaid
   pub payload : List ℕ
@@ -20,23 +20,23 @@ abbrev pub delivery_id : ℕ → Bool → Option ℕ
 delivery_id n first = if first then Some (n % 2 ^ 32) else None
 
 -- the frame of a transfer, where n deliveries began before it
-abbrev pub frame_of : ℕ → ℕ → HeldSaid → SessionFrame
+abbrev pub frame_of : ℕ → ℕ → RequestedTransfer → SessionFrame
 frame_of channel n h = record {
   channel = channel;
   body = Body.Transfer (record h.transfer { delivery_id = delivery_id n h.is_first }) h.payload;
 }
 
 -- how many deliveries it begins
-abbrev pub first_of : HeldSaid → ℕ
+abbrev pub first_of : RequestedTransfer → ℕ
 first_of h = if h.is_first then 1 else 0
 
 -- the frames of these, in order: each delivery is numbered once, modulo 2^32, on its first frame alone
-abbrev pub numbered : ℕ → ℕ → List HeldSaid → List SessionFrame
+abbrev pub numbered : ℕ → ℕ → List RequestedTransfer → List SessionFrame
 numbered channel n [] = []
 numbered channel n (h ∷ hs) = frame_of channel n h ∷ numbered channel (n + first_of h) hs
 
 -- how many deliveries begin
-abbrev pub firsts : List HeldSaid → ℕ
+abbrev pub firsts : List RequestedTransfer → ℕ
 firsts [] = 0
 firsts (h ∷ hs) = first_of h + firsts hs
 
@@ -45,15 +45,15 @@ abbrev pub kept_tag : Bool → TransferSaid → Option (List ℕ)
 kept_tag first t = if first then (if unwrap_or t.settled false then None else t.delivery_tag) else None
 
 -- the record that goes with the frame
-abbrev pub record_of : ℕ → HeldSaid → Option Delivery
+abbrev pub record_of : ℕ → RequestedTransfer → Option Delivery
 record_of n h = option_map (λ tag. record { number = n % 2 ^ 32; input_handle = record { 0 = h.input_handle }; tag = record { 0 = tag } }) (kept_tag h.is_first h.transfer)
 
 -- the records that go with the frames of these, in order
-abbrev pub records : ℕ → List HeldSaid → List Delivery
+abbrev pub records : ℕ → List RequestedTransfer → List Delivery
 records n [] = []
 records n (h ∷ hs) = listed (record_of n h) ++ records (n + first_of h) hs
 
 -- the open deliveries after the frames of these
-abbrev pub opened : ℕ → List HeldSaid → List Delivery → List Delivery
+abbrev pub opened : ℕ → List RequestedTransfer → List Delivery → List Delivery
 opened n [] rows = rows
-opened n (h ∷ hs) rows = opened (n + first_of h) hs (noted (record_of n h) rows)
+opened n (h ∷ hs) rows = opened (n + first_of h) hs (with_record (record_of n h) rows)

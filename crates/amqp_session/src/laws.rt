@@ -10,7 +10,7 @@ ghost use Rattle.amqp_session.specs.Step.{SessionFlowStep};
 ghost use Rattle.amqp_session.specs.Session.{SessionView};
 ghost use Rattle.amqp_session.specs.History.{Entry, Made, LeadsTo};
 ghost use Rattle.amqp_session.specs.Headline.{Headline, Stands};
-ghost use Rattle.amqp_session.specs.Handed.{OnChannel, calls_frames};
+ghost use Rattle.amqp_session.specs.OutgoingFrames.{OnChannel, calls_frames};
 
 use crate::numbers::{IncomingChannel, InputHandle, OutgoingChannel, OutputHandle};
 use crate::relay::LinkRelay;
@@ -37,10 +37,10 @@ pub fn law_of_channels<R: LinkRelay>()
 
 /// After the session was asked for a session flow in `Mapped`, the count of the transfers that came since the last one is 0
 /// or below half of the incoming window, rounded down: a receiver that asks after each transfer never stands with half of
-/// its window used up and unsaid.
+/// its window used up and unreported.
 pub fn law_of_session_flows<R: LinkRelay>()
     ensures { (v w : SessionView R) (item : Option SessionOutgoingItem) → SessionFlowStep v item w → is_mapped v.state ≡ true →
-        (w.receiving.count ≡ 0) ⊎ (w.receiving.count < v.settings.incoming_window / 2) }
+        (w.receiving.unreported ≡ 0) ⊎ (w.receiving.unreported < v.settings.incoming_window / 2) }
 {}
 
 /// Whether two channels that this side sends on are equal, and how they compare: as their numbers do. The first is

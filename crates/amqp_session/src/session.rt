@@ -145,30 +145,30 @@ impl<R: LinkRelay> Session<R> {
 
     /// The number of the next transfer that goes out, modulo 2^32 (section 2.5.6).
     pub fn next_outgoing_id(&self) -> u32
-        ensures { result ≡ self.now.sending.next }
+        ensures { result ≡ self.now.sending.next_outgoing_id }
     {
-        self.sending.next()
+        self.sending.next_outgoing_id()
     }
 
     /// The number of the next transfer that is expected, modulo 2^32 (section 2.5.6).
     pub fn next_incoming_id(&self) -> u32
-        ensures { result ≡ self.now.receiving.next }
+        ensures { result ≡ self.now.receiving.next_incoming_id }
     {
-        self.receiving.next
+        self.receiving.next_incoming_id
     }
 
     /// How many transfers the peer still takes: 0 to 4294967295 (section 2.5.6).
     pub fn remote_incoming_window(&self) -> u32
-        ensures { result ≡ self.now.sending.window }
+        ensures { result ≡ self.now.sending.remote_incoming_window }
     {
-        self.sending.window()
+        self.sending.remote_incoming_window()
     }
 
     /// How many transfers the peer may still send: 0 to 4294967295 (section 2.5.6).
     pub fn remote_outgoing_window(&self) -> u32
-        ensures { result ≡ self.now.receiving.window }
+        ensures { result ≡ self.now.receiving.remote_outgoing_window }
     {
-        self.receiving.window
+        self.receiving.remote_outgoing_window
     }
 
     /// How many transfers wait for the peer's window.

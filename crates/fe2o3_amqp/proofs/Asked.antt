@@ -6,7 +6,7 @@ use Rattle.amqp_session.specs.Relay.{Relays}
 use Rattle.amqp_session.specs.Session.{SessionView}
 use Rattle.amqp_session.specs.Step.{StopStep}
 use Rattle.amqp_session.specs.History as session
-use Rattle.amqp_session.specs.Handed.{calls_frames}
+use Rattle.amqp_session.specs.OutgoingFrames.{calls_frames}
 use Rattle.fe2o3_amqp.specs.Calls.{recorded_remote_end, remote_end_reason}
 use Rattle.fe2o3_amqp.specs.Sessions.{RecordedEnd}
 

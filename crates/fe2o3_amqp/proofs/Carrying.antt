@@ -20,7 +20,7 @@ use Rattle.amqp_session.specs.declared.error.SessionStateError.TheVariants as un
 use Rattle.amqp_session.specs.Settings.{SettingsSaid}
 use Rattle.amqp_session.specs.Relay.{Relays}
 use Rattle.amqp_session.specs.Session.{SessionView, new_session}
-use Rattle.amqp_session.specs.Handed.{calls_frames}
+use Rattle.amqp_session.specs.OutgoingFrames.{calls_frames}
 use Rattle.amqp_session.specs.History as session
 use Rattle.amqp_frames.specs.declared.frame.Frame.{Frame}
 use Rattle.amqp_frames.specs.declared.frame.FrameBody.{FrameBody}

@@ -6,7 +6,7 @@ use Rattle.amqp_types.specs.Open.{OpenSaid}
 use Rattle.amqp_session.specs.declared.frame.SessionFrame.{SessionFrame}
 use Rattle.amqp_session.specs.Relay.{Relays}
 use Rattle.amqp_session.specs.Session.{SessionView}
-use Rattle.amqp_session.specs.Handed.{call_frames, calls_frames, OnChannel}
+use Rattle.amqp_session.specs.OutgoingFrames.{call_frames, calls_frames, OnChannel}
 use Rattle.amqp_session.specs.History as session
 use Rattle.amqp_frames.specs.declared.frame.Frame.{Frame}
 use Rattle.fe2o3_amqp.specs.Waits.{sent}

@@ -7,7 +7,7 @@ use Rattle.amqp_types.specs.declared.states.SessionState.TheVariants.{Unmapped}
 use Rattle.amqp_types.specs.Open.{OpenSaid}
 use Rattle.amqp_session.specs.Relay.{Relays}
 use Rattle.amqp_session.specs.Session.{SessionView}
-use Rattle.amqp_session.specs.Handed.{calls_frames}
+use Rattle.amqp_session.specs.OutgoingFrames.{calls_frames}
 use Rattle.amqp_session.specs.History as session
 use Rattle.amqp_session.specs.Headline as single
 use Rattle.amqp_frames.specs.declared.frame.Frame.{Frame}

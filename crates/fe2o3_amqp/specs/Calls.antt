@@ -18,7 +18,7 @@ use Rattle.amqp_session.specs.declared.stop.SessionStopReason.{SessionStopReason
 use Rattle.amqp_session.specs.declared.stop.SessionStopReason.TheVariants as stop
 use Rattle.amqp_session.specs.Relay.{FlowQuestion, TransferQuestion}
 use Rattle.amqp_session.specs.States.{takes_end}
-use Rattle.amqp_session.specs.Transfers.{HeldSaid}
+use Rattle.amqp_session.specs.Transfers.{RequestedTransfer}
 use Rattle.amqp_session.specs.History as session
 use Rattle.amqp_frames.specs.declared.frame.FrameBody.{FrameBody}
 use Rattle.amqp_frames.specs.declared.frame.FrameBody.TheVariants as body
@@ -63,7 +63,7 @@ EndCalls error s calls refusal = (result : Result SessionFrame SessionStateError
 abbrev pub FlowCalls : {R : Type 0} → LinkFlow → Calls R
 FlowCalls l s calls refusal = (f : SessionFrame) × (calls ≡ session.SendsFlow l f ∷ []) × (refusal ≡ None)
 
-abbrev pub TransferCalls : {R : Type 0} → HeldSaid → Calls R
+abbrev pub TransferCalls : {R : Type 0} → RequestedTransfer → Calls R
 TransferCalls h s calls refusal = (result : Result (Option SessionOutgoingItem) SessionInnerError)
     × (calls ≡ session.SendsTransfer h result ∷ []) × (refusal ≡ session_refusal result)
 

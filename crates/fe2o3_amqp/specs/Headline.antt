@@ -21,7 +21,7 @@ use Rattle.amqp_session.specs.Session.{SessionView}
 use Rattle.amqp_session.specs.History as session
 use Rattle.amqp_session.specs.Headline as single
 use Rattle.amqp_session.specs.Relay.{Relays}
-use Rattle.amqp_session.specs.Handed.{calls_frames}
+use Rattle.amqp_session.specs.OutgoingFrames.{calls_frames}
 use Rattle.fe2o3_amqp.specs.EngineView.{EngineView, own_limit}
 use Rattle.fe2o3_amqp.specs.Connection.{not_found, open_frame, close_frame}
 use Rattle.fe2o3_amqp.specs.Waits.{sent}

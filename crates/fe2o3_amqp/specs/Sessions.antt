@@ -13,7 +13,7 @@ use Rattle.amqp_session.specs.Relay.{Relays}
 use Rattle.amqp_session.specs.Settings.{SettingsSaid}
 use Rattle.amqp_session.specs.Session.{SessionView, new_session}
 use Rattle.amqp_session.specs.Step.{StopStep, SendBeginStep}
-use Rattle.amqp_session.specs.Handed.{calls_frames}
+use Rattle.amqp_session.specs.OutgoingFrames.{calls_frames}
 use Rattle.amqp_session.specs.History as session
 use Rattle.fe2o3_amqp.specs.declared.connection.error.ConnectionInnerError.{ConnectionInnerError}
 use Rattle.fe2o3_amqp.specs.declared.engine.input.StepError.{StepError}

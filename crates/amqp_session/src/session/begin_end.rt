@@ -93,7 +93,7 @@ impl<R: LinkRelay> Session<R> {
         };
         self.state = state;
         let remote_channel = channel_number(self.incoming_channel);
-        let begin = settings.into_begin(remote_channel, self.sending.next());
+        let begin = settings.into_begin(remote_channel, self.sending.next_outgoing_id());
         Ok(SessionFrame::new(self.outgoing_channel.0, SessionFrameBody::Begin(begin)))
     }
 
@@ -113,7 +113,7 @@ impl<R: LinkRelay> Session<R> {
         ))
     }
 
-    /// Takes the peer's Begin, which came on this channel: it gives both windows and the peer's next number. Held-back
+    /// Takes the peer's Begin, which came on this channel: it gives both windows and the peer's next number. HeldTransfer-back
     /// transfers stay held back. Takes no memory.
     ///
     /// `IllegalState` in any state but `Unmapped` and `BeginSent`. Nothing changes then.
@@ -131,7 +131,7 @@ impl<R: LinkRelay> Session<R> {
         self.incoming_channel = Some(channel);
         self.sending.begin_window(begin.incoming_window);
         self.receiving
-            .tell(begin.next_outgoing_id, begin.outgoing_window);
+            .set_numbers(begin.next_outgoing_id, begin.outgoing_window);
         Ok(())
     }
 

@@ -16,7 +16,7 @@ use std::marker::Model;
 ///
 /// The tag that its record will keep is taken as it is accepted, so that nothing needs memory as it goes out.
 #[derive(Drop)]
-pub(crate) struct Held {
+pub(crate) struct HeldTransfer {
     input_handle: InputHandle,
     transfer: Transfer,
     payload: Bytes,
@@ -24,12 +24,12 @@ pub(crate) struct Held {
     tag: Option<DeliveryTag>,
 }
 
-impl Model for Held {
+impl Model for HeldTransfer {
     ghost use Rattle.std.specs.Prelude.{◌≡◌};
     ghost use Rattle.std.specs.Option.{option_map};
-    ghost use Rattle.amqp_session.specs.Transfers.{HeldSaid, kept_tag};
+    ghost use Rattle.amqp_session.specs.Transfers.{RequestedTransfer, kept_tag};
 
-    ghost Value = { HeldSaid };
+    ghost Value = { RequestedTransfer };
 
     ghost view = { λ h. record {
       input_handle = h.input_handle.0;
@@ -62,18 +62,18 @@ fn tag_to_keep(transfer: &Transfer, is_first: bool) -> Result<Option<DeliveryTag
     transfer.delivery_tag.clone()
 }
 
-impl Held {
+impl HeldTransfer {
     /// The transfer, ready to wait. Its payload and tag are moved or shared, never copied.
     pub(crate) fn new(
         input_handle: InputHandle,
         transfer: Transfer,
         payload: Bytes,
         is_first: bool,
-    ) -> Result<Held, AllocError>
+    ) -> Result<HeldTransfer, AllocError>
         ensures { IfOk result (λ held. held ≡ record { input_handle = input_handle.0; transfer = transfer; payload = payload; is_first = is_first }) }
     {
         let tag = tag_to_keep(&transfer, is_first)?;
-        Ok(Held {
+        Ok(HeldTransfer {
             input_handle,
             transfer,
             payload,
@@ -88,7 +88,7 @@ impl Held {
         ensures delivery { result.delivery ≡ record_of delivery self }
         ensures next { result.next ≡ (delivery + first_of self) % 2 ^ 32 }
     {
-        let Held {
+        let HeldTransfer {
             input_handle,
             mut transfer,
             payload,

@@ -4,7 +4,7 @@ ghost use Rattle.std.specs.Prelude.{◌≡◌, ◌≤◌, ◌<◌, ◌^◌, ◌+
 ghost use Rattle.std.specs.Option.{option_map};
 ghost use Rattle.amqp_session.specs.LinkFlow.{link_flow_of};
 ghost use Rattle.amqp_session.specs.Items.{HandsOut, is_some_list, first_frame};
-ghost use Rattle.amqp_session.specs.Deliveries.{noted, RecordFits};
+ghost use Rattle.amqp_session.specs.Deliveries.{with_record, RecordFits};
 ghost use Rattle.amqp_session.specs.States.{is_mapped};
 ghost use Rattle.amqp_session.specs.Links.{attached_at};
 ghost use Rattle.amqp_session.specs.Relay.{FlowQuestion, TransferQuestion};
@@ -175,7 +175,7 @@ impl<R: LinkRelay> Session<R> {
             .unwrap_or(self.settings.next_outgoing_id);
         self.sending.move_window(base, flow.incoming_window);
         self.receiving
-            .tell(flow.next_outgoing_id, flow.outgoing_window);
+            .set_numbers(flow.next_outgoing_id, flow.outgoing_window);
     }
 
     /// What a flow lets out that names no link.
@@ -272,7 +272,7 @@ fn record_named(
     named: Option<(DeliveryNumber, DeliveryTag)>,
 )
     requires { length deliveries.old.rows < deliveries.old.capacity }
-    ensures rows { deliveries.new.rows ≡ noted (named_delivery input.0 named) deliveries.old.rows }
+    ensures rows { deliveries.new.rows ≡ with_record (named_delivery input.0 named) deliveries.old.rows }
     ensures fits { RecordFits (named_delivery input.0 named) }
 {
     if let Some((number, tag)) = named {

@@ -5,7 +5,7 @@ ghost use Rattle.amqp_session.specs.Session.{session_flow, flow_frame, is_due};
 ghost use Rattle.amqp_session.specs.Step.{SendFlowStep, SendTransferStep, SessionFlowStep};
 
 use super::Session;
-use super::held::Held;
+use super::held::HeldTransfer;
 use crate::error::SessionInnerError;
 use crate::flow::LinkFlow;
 use crate::frame::{SessionFrame, SessionFrameBody, SessionOutgoingItem};
@@ -54,7 +54,7 @@ impl<R: LinkRelay> Session<R> {
         if !self.can_send() || (is_first && transfer.delivery_tag.is_none()) {
             return Err(SessionInnerError::IllegalState);
         }
-        let Ok(held) = Held::new(input_handle, transfer, payload, is_first) else {
+        let Ok(held) = HeldTransfer::new(input_handle, transfer, payload, is_first) else {
             return Err(SessionInnerError::OutOfMemory);
         };
         let channel = self.outgoing_channel;
@@ -73,7 +73,7 @@ impl<R: LinkRelay> Session<R> {
             return None;
         }
         let flow = self.session_flow();
-        self.receiving.rest();
+        self.receiving.set_reported();
         Some(SessionOutgoingItem::SingleFrame(SessionFrame::new(
             self.outgoing_channel.0,
             SessionFrameBody::Flow(flow),
@@ -84,7 +84,7 @@ impl<R: LinkRelay> Session<R> {
     fn is_flow_due(&self) -> bool
         ensures { result ≡ is_due self.now }
     {
-        self.can_send() && self.settings.incoming_window / 2 <= self.receiving.count
+        self.can_send() && self.settings.incoming_window / 2 <= self.receiving.unreported
     }
 
     /// What a flow of the session alone says.
@@ -92,9 +92,9 @@ impl<R: LinkRelay> Session<R> {
         ensures { result ≡ session_flow self.now }
     {
         Flow {
-            next_incoming_id: Some(self.receiving.next),
+            next_incoming_id: Some(self.receiving.next_incoming_id),
             incoming_window: self.settings.incoming_window,
-            next_outgoing_id: self.sending.next(),
+            next_outgoing_id: self.sending.next_outgoing_id(),
             outgoing_window: self.settings.outgoing_window,
             handle: None,
             delivery_count: None,

@@ -3,12 +3,12 @@
 ghost use Rattle.std.specs.Prelude.{◌≡◌, ℕ, ◌+◌, ◌-◌, ◌^◌, ◌%◌, ◌<◌, ◌≤◌, ◌++◌, [], ◌∷◌, length, take, drop, vec_len, vec_capacity, unwrap_or, OnOk, OnErr, IfOk};
 ghost use Rattle.std.specs.VecDeque.{deque_len, deque_capacity};
 ghost use Rattle.amqp_session.specs.Transfers.{numbered, firsts, opened};
-ghost use Rattle.amqp_session.specs.Deliveries.{noted};
+ghost use Rattle.amqp_session.specs.Deliveries.{with_record};
 ghost use Rattle.amqp_session.specs.Items.{HandsOut};
 ghost use Rattle.amqp_session.specs.Step.{is_some_held};
 ghost use Rattle.amqp_session.specs.Sending.{new_sending, joined, begun, moved, ready_count, let_out, opened_by, drained};
 
-use super::held::Held;
+use super::held::HeldTransfer;
 use crate::deliveries::{Deliveries, Delivery};
 use crate::frame::{SessionFrame, SessionOutgoingItem};
 use crate::numbers::OutgoingChannel;
@@ -20,10 +20,10 @@ use std::marker::Model;
 /// (AMQP 1.0 part 2, section 2.5.6).
 #[derive(Drop)]
 pub(crate) struct Sending {
-    next: u32,
-    window: u32,
-    delivery: u32,
-    held: VecDeque<Held>,
+    next_outgoing_id: u32,
+    remote_incoming_window: u32,
+    next_delivery: u32,
+    held: VecDeque<HeldTransfer>,
 }
 
 impl Model for Sending {
@@ -34,17 +34,17 @@ impl Model for Sending {
     ghost Value = { SendingView };
 
     ghost view = { λ s. record {
-      next = s.next;
-      window = s.window;
-      delivery = s.delivery;
+      next_outgoing_id = s.next_outgoing_id;
+      remote_incoming_window = s.remote_incoming_window;
+      next_delivery = s.next_delivery;
       held = s.held.items;
     } };
 }
 
 /// Records the delivery, if any.
-fn note(deliveries: &mut Deliveries, delivery: Option<Delivery>)
+fn record_opened(deliveries: &mut Deliveries, delivery: Option<Delivery>)
     requires room { length deliveries.old.rows < deliveries.old.capacity }
-    ensures rows { deliveries.new.rows ≡ noted delivery deliveries.old.rows }
+    ensures rows { deliveries.new.rows ≡ with_record delivery deliveries.old.rows }
     ensures capacity { deliveries.old.capacity ≤ deliveries.new.capacity }
 {
     if let Some(delivery) = delivery {
@@ -54,7 +54,7 @@ fn note(deliveries: &mut Deliveries, delivery: Option<Delivery>)
 
 /// Hands out the first `count` that wait, each delivery numbered once, and records the deliveries that they open.
 fn hand_out(
-    held: &mut VecDeque<Held>,
+    held: &mut VecDeque<HeldTransfer>,
     frames: &mut Vec<SessionFrame>,
     deliveries: &mut Deliveries,
     channel: OutgoingChannel,
@@ -74,7 +74,7 @@ fn hand_out(
         let waiting = held.pop_front().unwrap();
         let out = waiting.numbered(channel, delivery);
         delivery = out.next;
-        note(deliveries, out.delivery);
+        record_opened(deliveries, out.delivery);
         frames.push(out.frame).unwrap();
     }
     delivery
@@ -86,25 +86,25 @@ impl Sending {
         ensures { result ≡ new_sending next_outgoing_id }
     {
         Sending {
-            next: next_outgoing_id,
-            window: 0,
-            delivery: 0,
+            next_outgoing_id,
+            remote_incoming_window: 0,
+            next_delivery: 0,
             held: VecDeque::new(alloc),
         }
     }
 
     /// The number of the next transfer.
-    pub(crate) fn next(&self) -> u32
-        ensures { result ≡ self.now.next }
+    pub(crate) fn next_outgoing_id(&self) -> u32
+        ensures { result ≡ self.now.next_outgoing_id }
     {
-        self.next
+        self.next_outgoing_id
     }
 
     /// How many transfers may still go out.
-    pub(crate) fn window(&self) -> u32
-        ensures { result ≡ self.now.window }
+    pub(crate) fn remote_incoming_window(&self) -> u32
+        ensures { result ≡ self.now.remote_incoming_window }
     {
-        self.window
+        self.remote_incoming_window
     }
 
     /// How many transfers wait.
@@ -119,7 +119,7 @@ impl Sending {
         ensures begun { self.new ≡ begun self.old width }
         ensures fits { width < 2 ^ 32 }
     {
-        self.window = width;
+        self.remote_incoming_window = width;
     }
 
     /// A received Flow gives the window from `base` on.
@@ -128,7 +128,7 @@ impl Sending {
         ensures width { width < 2 ^ 32 }
         ensures base { base < 2 ^ 32 }
     {
-        self.window = width.saturating_sub(self.next.wrapping_sub(base));
+        self.remote_incoming_window = width.saturating_sub(self.next_outgoing_id.wrapping_sub(base));
     }
 
     /// How many transfers the window lets out.
@@ -136,7 +136,7 @@ impl Sending {
         ensures value { result ≡ ready_count self.now }
         ensures few { result < 2 ^ 32 }
     {
-        self.held.len().min(self.window as usize)
+        self.held.len().min(self.remote_incoming_window as usize)
     }
 
     /// Hands out what the window lets out, and records the deliveries that it opens.
@@ -152,27 +152,27 @@ impl Sending {
         ensures frames { frames.new.items ≡ frames.old.items ++ let_out channel.0 self.old }
         ensures opened { deliveries.new.rows ≡ opened_by self.old deliveries.old.rows }
     {
-        let count = self.held.len().min(self.window as usize);
-        self.delivery = hand_out(
+        let count = self.held.len().min(self.remote_incoming_window as usize);
+        self.next_delivery = hand_out(
             &mut self.held,
             frames,
             deliveries,
             channel,
             count,
-            self.delivery,
+            self.next_delivery,
         );
-        self.next = self.next.wrapping_add(count as u32);
-        self.window -= count as u32;
+        self.next_outgoing_id = self.next_outgoing_id.wrapping_add(count as u32);
+        self.remote_incoming_window -= count as u32;
     }
 
     /// The transfer waits: the window is used up. On a refusal nothing changes.
-    fn hold_back(&mut self, held: Held) -> Result<(), AllocError>
-        requires { self.old.window ≡ 0 }
+    fn hold_back(&mut self, held: HeldTransfer) -> Result<(), AllocError>
+        requires { self.old.remote_incoming_window ≡ 0 }
         ensures ok { OnOk result (self.new ≡ drained (joined self.old held)) }
         ensures err { OnErr result (self.new ≡ self.old) }
     {
         // The proof reads the ranges of the two numbers that wrap.
-        let (_next, _delivery) = (self.next, self.delivery);
+        let (_next, _delivery) = (self.next_outgoing_id, self.next_delivery);
         self.held.push_back(held)?;
         Ok(())
     }
@@ -181,21 +181,21 @@ impl Sending {
     fn send_alone(
         &mut self,
         channel: OutgoingChannel,
-        held: Held,
+        held: HeldTransfer,
         deliveries: &mut Deliveries,
     ) -> SessionFrame
         requires alone { self.old.held ≡ [] }
-        requires open_window { 0 < self.old.window }
+        requires open_window { 0 < self.old.remote_incoming_window }
         requires records { length deliveries.old.rows < deliveries.old.capacity }
         ensures frame { let_out channel.0 (joined self.old held) ≡ result ∷ [] }
         ensures drained { self.new ≡ drained (joined self.old held) }
         ensures opened { deliveries.new.rows ≡ opened_by (joined self.old held) deliveries.old.rows }
     {
-        let out = held.numbered(channel, self.delivery);
-        note(deliveries, out.delivery);
-        self.delivery = out.next;
-        self.next = self.next.wrapping_add(1);
-        self.window -= 1;
+        let out = held.numbered(channel, self.next_delivery);
+        record_opened(deliveries, out.delivery);
+        self.next_delivery = out.next;
+        self.next_outgoing_id = self.next_outgoing_id.wrapping_add(1);
+        self.remote_incoming_window -= 1;
         out.frame
     }
 
@@ -204,7 +204,7 @@ impl Sending {
         &mut self,
         alloc: Global,
         channel: OutgoingChannel,
-        held: Held,
+        held: HeldTransfer,
         deliveries: &mut Deliveries,
     ) -> Result<Vec<SessionFrame>, AllocError>
         ensures frames { IfOk result (λ frames. frames.items ≡ let_out channel.0 (joined self.old held)) }
@@ -214,7 +214,7 @@ impl Sending {
         ensures err_rows { OnErr result (deliveries.new.rows ≡ deliveries.old.rows) }
     {
         self.held.reserve(1)?;
-        let count = (self.held.len() + 1).min(self.window as usize);
+        let count = (self.held.len() + 1).min(self.remote_incoming_window as usize);
         let mut frames = Vec::with_capacity(alloc, count)?;
         deliveries.reserve(count)?;
         self.held.push_back_reserved(held);
@@ -228,7 +228,7 @@ impl Sending {
         &mut self,
         alloc: Global,
         channel: OutgoingChannel,
-        held: Held,
+        held: HeldTransfer,
         deliveries: &mut Deliveries,
     ) -> Result<Option<SessionOutgoingItem>, AllocError>
         ensures item { IfOk result (λ item. HandsOut (is_some_held self.old.held) (let_out channel.0 (joined self.old held)) item) }
@@ -237,7 +237,7 @@ impl Sending {
         ensures err { OnErr result (self.new ≡ self.old) }
         ensures err_rows { OnErr result (deliveries.new.rows ≡ deliveries.old.rows) }
     {
-        if self.window == 0 {
+        if self.remote_incoming_window == 0 {
             self.hold_back(held)?;
             return Ok(None);
         }

@@ -13,7 +13,7 @@ ghost use Rattle.fe2o3_amqp.specs.Engine.{OpenRequest, CloseRequest, CarriedStep
 
 use super::Engine;
 use super::input::{Input, StepError};
-use super::sessions::{Handed, end, send_flow, send_transfer, stop};
+use super::sessions::{Outgoing, end, send_flow, send_transfer, stop};
 use super::waiting::Waiting;
 use crate::connection::ConnectionInnerError;
 use crate::numbers::SessionNo;
@@ -106,7 +106,7 @@ impl<R: LinkRelay> Engine<R> {
     /// Calls the session with this number, and lets what it hands out wait.
     pub(super) fn ask_session<F>(&mut self, number: u32, call: F) -> Result<(), StepError>
     where
-        F: FnOnce(&mut Session<R>) -> Handed + Drop,
+        F: FnOnce(&mut Session<R>) -> Outgoing + Drop,
         requires idle { self.old.waiting ≡ [] }
         requires callable { F.IsAlwaysCallable call }
         ensures { Asks (FnOnceReturnsAtMut F.FnOnce call) self.old number (refusal_of result) self.new }

@@ -14,7 +14,7 @@ use amqp_types::{Begin, End, Error, Flow, SessionState, Transfer};
 use bytes::Bytes;
 
 /// What a session hands out, or why it refuses.
-pub(crate) type Handed = Result<Option<SessionOutgoingItem>, StepError>;
+pub(crate) type Outgoing = Result<Option<SessionOutgoingItem>, StepError>;
 
 /// Why a session stops with an End of this side.
 fn end_reason(error: &Option<Error>) -> SessionStopReason
@@ -46,7 +46,7 @@ fn is_unsolicited(state: SessionState) -> bool
     )
 }
 
-pub(crate) fn end<R: LinkRelay>(session: &mut Session<R>, error: Option<Error>) -> Handed
+pub(crate) fn end<R: LinkRelay>(session: &mut Session<R>, error: Option<Error>) -> Outgoing
     ensures { Answered R.gives session.old (EndCalls error) result session.new }
 {
     let reason = end_reason(&error);
@@ -55,7 +55,7 @@ pub(crate) fn end<R: LinkRelay>(session: &mut Session<R>, error: Option<Error>) 
     Ok(Some(SessionOutgoingItem::SingleFrame(frame)))
 }
 
-pub(crate) fn send_flow<R: LinkRelay>(session: &mut Session<R>, flow: LinkFlow) -> Handed
+pub(crate) fn send_flow<R: LinkRelay>(session: &mut Session<R>, flow: LinkFlow) -> Outgoing
     ensures { Answered R.gives session.old (FlowCalls flow) result session.new }
 {
     Ok(Some(SessionOutgoingItem::SingleFrame(session.on_outgoing_flow(flow))))
@@ -67,13 +67,13 @@ pub(crate) fn send_transfer<R: LinkRelay>(
     transfer: Transfer,
     payload: Bytes,
     is_first: bool,
-) -> Handed
+) -> Outgoing
     ensures { Answered R.gives session.old (TransferCalls (record { input_handle = input.0; transfer = transfer; payload = payload; is_first = is_first })) result session.new }
 {
     Ok(session.on_outgoing_transfer(input, transfer, payload, is_first)?)
 }
 
-pub(crate) fn stop<R: LinkRelay>(session: &mut Session<R>, reason: SessionStopReason) -> Handed
+pub(crate) fn stop<R: LinkRelay>(session: &mut Session<R>, reason: SessionStopReason) -> Outgoing
     ensures { Answered R.gives session.old (StopCalls reason) result session.new }
 {
     session.set_session_stop_reason(reason);
@@ -84,7 +84,7 @@ pub(crate) fn begin_received<R: LinkRelay>(
     session: &mut Session<R>,
     channel: u16,
     begin: Begin,
-) -> Handed
+) -> Outgoing
     ensures { Answered R.gives session.old (ReceivedBeginCalls channel begin) result session.new }
 {
     session.on_incoming_begin(IncomingChannel(channel), begin)?;
@@ -101,7 +101,7 @@ fn record_end<R: LinkRelay>(session: &mut Session<R>, ends: bool, reason: Sessio
 }
 
 /// The peer's End. Records the reason unless this side sent End first.
-pub(crate) fn end_received<R: LinkRelay>(session: &mut Session<R>, channel: u16, end: End) -> Handed
+pub(crate) fn end_received<R: LinkRelay>(session: &mut Session<R>, channel: u16, end: End) -> Outgoing
     ensures { Answered R.gives session.old (ReceivedEndCalls channel end) result session.new }
 {
     let reason = remote_end_reason(&end);
@@ -112,7 +112,7 @@ pub(crate) fn end_received<R: LinkRelay>(session: &mut Session<R>, channel: u16,
     Ok(None)
 }
 
-pub(crate) fn flow_received<R: LinkRelay>(session: &mut Session<R>, flow: Flow) -> Handed
+pub(crate) fn flow_received<R: LinkRelay>(session: &mut Session<R>, flow: Flow) -> Outgoing
     ensures { Answered R.gives session.old (ReceivedFlowCalls flow) result session.new }
 {
     Ok(session.on_incoming_flow(flow)?)
@@ -123,7 +123,7 @@ pub(crate) fn transfer_received<R: LinkRelay>(
     session: &mut Session<R>,
     transfer: Transfer,
     payload: Bytes,
-) -> Handed
+) -> Outgoing
     ensures { Answered R.gives session.old (ReceivedTransferCalls transfer payload) result session.new }
 {
     let _none = session.on_incoming_transfer(transfer, payload)?;

@@ -74,8 +74,8 @@ abbrev pub peer_window : {R : Type 0} → List (Entry R) → ℕ
 peer_window H = left (word H).1 (since says_numbers H)
 
 -- the count: the transfers that came since the last session flow, as far as four bytes can say
-abbrev pub unsaid : {R : Type 0} → List (Entry R) → ℕ
-unsaid H = min (came (since is_session_flow H)) 4294967295
+abbrev pub unreported : {R : Type 0} → List (Entry R) → ℕ
+unreported H = min (came (since is_session_flow H)) 4294967295
 
 -- ---- the peer's channel
 
