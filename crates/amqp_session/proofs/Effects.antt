@@ -1,8 +1,6 @@
 -- What each call does to a session, by one table over the calls and their answers: all that follows is read off it.
 use Rattle.std.proofs.Common.{◌≡◌, ℕ, ◌+◌, List, [], ◌∷◌, ◌++◌, refl, ap, subst, sym, ◌∙◌, Bool, true, false, cond, Option, Some, None, Result, Ok, Err, unwrap_or, take}
 use Rattle.std.specs.Option.{option_map}
-use Rattle.std.specs.Ordering.{nat_cmp}
-use Rattle.std.specs.FinMap.{get-empty}
 use Rattle.amqp_types.specs.Flow.{FlowSaid}
 use Rattle.amqp_types.specs.declared.states.SessionState.{SessionState}
 use Rattle.amqp_session.specs.declared.deliveries.Delivery.{Delivery}
@@ -20,14 +18,14 @@ use Rattle.amqp_session.specs.declared.error.LinkRelayError.{LinkRelayError}
 use Rattle.amqp_session.specs.Settings.{SettingsSaid}
 use Rattle.amqp_session.specs.States.{is_mapped, sends_begin, takes_begin, sends_end, takes_end}
 use Rattle.amqp_session.specs.Receiving.{numbered_anew, counted, reported}
-use Rattle.amqp_session.specs.Links.{LinksView, no_links, attached_at}
-use Rattle.amqp_session.specs.Relay.{Relays, AttachQuestion, FlowQuestion, TransferQuestion, Question, Gives, Asks}
+use Rattle.amqp_session.specs.Links.{LinksView}
+use Rattle.amqp_session.specs.Relay.{Relays, AttachQuestion, FlowQuestion}
 use Rattle.amqp_session.specs.Transfers.{RequestedTransfer, numbered, first_of}
-use Rattle.amqp_session.specs.Sending.{SendingView, joined, begun, moved, let_out, drained, opened_by}
+use Rattle.amqp_session.specs.Sending.{SendingView, joined, begun, moved, let_out, opened_by}
 use Rattle.amqp_session.specs.Items.{HandsOut, item_frames, first_frame, is_some_list}
 use Rattle.amqp_session.specs.Session.{SessionView, flow_frame, lets, let_gone}
 use Rattle.amqp_session.specs.Deliveries.{with_record, RecordFits}
-use Rattle.amqp_session.specs.Step.{BeginFits, begun_by, has_error, FlowFits, FlowGoes, named_delivery, waits, flow_base, flow_moved, counted_by, asked_at, FlowAnswered, FlowUnasked, FlowTaken, TakeTransferStep, TransferAnswered, TransferUnasked}
+use Rattle.amqp_session.specs.Step.{BeginFits, begun_by, has_error, FlowFits, FlowGoes, named_delivery, waits, flow_base, flow_moved, counted_by, asked_at, FlowAnswered, FlowUnasked, FlowTaken, TransferAnswered, TransferUnasked}
 use Rattle.amqp_session.specs.Linking.{AttachAnswered, Attaches}
 use Rattle.amqp_session.specs.Linked.{taken_by}
 use Rattle.amqp_session.proofs.Taking.{at_insert, taken_release, taken_leave, taken_drop}
@@ -35,7 +33,7 @@ use Rattle.amqp_types.specs.Attach.{AttachSaid}
 use Rattle.std.specs.FinMap as map
 use Rattle.amqp_session.specs.History.{Entry, AllocatesLink, AllocatesIncomingLink, DeallocatesLink, TakesAttach, TakesDetach, SendsAttach, SendsDetach, SendsBegin, SendsEnd, TakesBegin, TakesEnd, TakesFlow, TakesTransfer, SendsFlow, SendsTransfer, SendsSessionFlow, RecordsStop, Step}
 use Rattle.amqp_session.specs.OutgoingFrames.{inner_frames, call_frames, OnChannel}
-use Rattle.amqp_session.specs.Received.{named_of, named_with, channel_by, IsLinkCall}
+use Rattle.amqp_session.specs.Received.{named_of, named_with, channel_by}
 use Rattle.amqp_session.specs.Headline.{transfers_in, state_by}
 use Rattle.amqp_session.proofs.Books.{Goes, goes_by, transfers_in-append, hands_frames}
 
@@ -134,11 +132,10 @@ Out b v frames w =
     × (w.deliveries.receiver ≡ cond b (opened_by v.sending v.deliveries.receiver) v.deliveries.receiver)
     × (rest w ≡ rest v)
     × OnChannel v.outgoing_channel frames
-    × (v.links ≡ no_links → w.links ≡ no_links)
     × (w.links.handles ≡ v.links.handles)
 
 nothing_out : {R : Type 0} → (v w : SessionView R) → w ≡ v → Out false v [] w
-nothing_out v w e = ((refl, ap (λ (x : SessionView _). x.sending) e), ap (λ (x : SessionView _). x.deliveries.receiver) e, ap rest e, tt, λ n. ap (λ (x : SessionView _). x.links) e ∙ n, ap (λ (x : SessionView _). x.links.handles) e)
+nothing_out v w e = ((refl, ap (λ (x : SessionView _). x.sending) e), ap (λ (x : SessionView _). x.deliveries.receiver) e, ap rest e, tt, ap (λ (x : SessionView _). x.links.handles) e)
 
 gone_out : {R : Type 0} → (v w : SessionView R) (first : List SessionFrame) (b : Bool) (item : Option SessionOutgoingItem) → transfers_in first ≡ [] → OnChannel v.outgoing_channel first →
     HandsOut b (first ++ lets v) item → w ≡ let_gone v → Out (is_mapped v.state) v (item_frames item) w
@@ -149,7 +146,6 @@ gone_out v w first b item none on h e =
       ap (λ (x : SessionView _). x.deliveries.receiver) e,
       ap rest e,
       subst (λ (fs : List SessionFrame). OnChannel v.outgoing_channel fs) (sym all) (on_both v.outgoing_channel first (lets v) on (lets_on (is_mapped v.state) v.outgoing_channel v.sending)),
-      λ n. ap (λ (x : SessionView _). x.links) e ∙ n,
       ap (λ (x : SessionView _). x.links.handles) e,
     )
 
@@ -175,17 +171,13 @@ module _ {R : Type 0} (g : Relays R) where
   unasked_out v w None (Err e) t = absurd t
   unasked_out v w (Some h) (Err e) t = absurd t
 
-  -- no relay is asked where no link is attached
-  unlinked : {Q A : Type 0} (gives : Gives R Q A) (old : LinksView R) (input : ℕ) (q : Question R Q A) → Asks gives (attached_at input old) q → old ≡ no_links → ⊥
-  unlinked gives old input q a e = let n = sym a.attached ∙ ap (λ (l : LinksView R). attached_at input l) e ∙ get-empty nat_cmp input in cc
-
   taken_out : (v w : SessionView R) (f : FlowSaid) (h : Option ℕ) (asked : Option (FlowQuestion R)) (result : Result (Option SessionOutgoingItem) SessionInnerError) → FlowTaken g.flow_gives v f h asked result w → Out (may_let v result) v (inner_frames result) w
   taken_out v w f None None result t = unasked_out v w None result t
   taken_out v w f None (Some q) result t = absurd t
   taken_out v w f (Some h) None result t = unasked_out v w (Some h) result t
   taken_out v w f (Some h) (Some q) result t =
       let o = answered_out (asked_at v h q) w q.answer result t.2 in
-      (o.0, o.1, o.2, o.3, λ n. absurd (unlinked _ v.links h q t.1 n), o.5)
+      (o.0, o.1, o.2, o.3, o.4)
 
   -- ---- what a transfer of the peer changes
 
@@ -193,12 +185,11 @@ module _ {R : Type 0} (g : Relays R) where
   Taken v named w =
       (w.sending ≡ v.sending) × (w.deliveries.receiver ≡ v.deliveries.receiver)
       × (rest w ≡ record (rest v) { named = with_record named v.deliveries.sender })
-      × (v.links ≡ no_links → w.links ≡ no_links)
       × RecordFits named
       × (w.links.handles ≡ v.links.handles)
 
   takes : (v u w : SessionView R) (named : Option Delivery) → u.sending ≡ v.sending → u.deliveries.receiver ≡ v.deliveries.receiver → rest u ≡ record (rest v) { named = with_record named v.deliveries.sender } → u.links ≡ v.links → RecordFits named → w ≡ u → Taken v named w
-  takes v u w named a b c d f e = rw e (a, b, c, λ n. d ∙ n, f, ap (λ (l : LinksView _). l.handles) d)
+  takes v u w named a b c d f e = rw e (a, b, c, f, ap (λ (l : LinksView _). l.handles) d)
 
   answered_takes : (v w : SessionView R) (h : ℕ) (a : _) (result : _) → TransferAnswered v h a result w → Taken v (named_delivery h (named_of a)) w
   answered_takes v w h (Ok named) (Ok reply) t = takes v _ w (named_delivery h named) refl refl refl refl t.0 t.2
@@ -219,7 +210,6 @@ module _ {R : Type 0} (g : Relays R) where
     pub opens : w.deliveries.receiver ≡ cond (lets_by v e) (opened_by (sending_by v e) v.deliveries.receiver) v.deliveries.receiver
     pub rest_is : rest w ≡ rest_by (rest v) e
     pub on_channel : OnChannel v.outgoing_channel (call_frames e)
-    pub links_are : ¬ (IsLinkCall e) → v.links ≡ no_links → w.links ≡ no_links
     pub word_fits : WordFits v e
     pub named_fits : RecordFits (named_with e)
     pub handles_are : (k : ℕ) → map.get w.links.handles k ≡ taken_by k (map.get v.links.handles k) e
@@ -236,7 +226,6 @@ module _ {R : Type 0} (g : Relays R) where
     opens = rw quiet rows;
     rest_is = others;
     on_channel = on;
-    links_are = λ other n. links ∙ n;
     word_fits = fits;
     named_fits = named_is;
     handles_are = λ k. ap (λ (l : LinksView _). map.get l.handles k) links ∙ places k (map.get v.links.handles k);
@@ -263,10 +252,9 @@ module _ {R : Type 0} (g : Relays R) where
     opens = rw (is, ← sending, ← rows) o.1;
     rest_is = o.2 ∙ others;
     on_channel = rw (← channel) o.3;
-    links_are = λ other n. o.4 (links ∙ n);
     word_fits = fits;
     named_fits = named_is;
-    handles_are = λ k. ap (λ m. map.get m k) o.5 ∙ ap (λ (l : LinksView _). map.get l.handles k) links ∙ places k (map.get v.links.handles k);
+    handles_are = λ k. ap (λ m. map.get m k) o.4 ∙ ap (λ (l : LinksView _). map.get l.handles k) links ∙ places k (map.get v.links.handles k);
   }
 
   taken_does : (v w : SessionView R) (e : Entry R) → Taken (counted_by v) (named_with e) w → lets_by v e ≡ false → call_frames e ≡ [] → sending_by v e ≡ v.sending →
@@ -276,21 +264,19 @@ module _ {R : Type 0} (g : Relays R) where
     opens = rw quiet t.1;
     rest_is = t.2 ∙ others;
     on_channel = rw none tt;
-    links_are = λ other. t.3;
     word_fits = fits;
-    named_fits = t.4;
-    handles_are = λ k. ap (λ m. map.get m k) t.5 ∙ places k (map.get v.links.handles k);
+    named_fits = t.3;
+    handles_are = λ k. ap (λ m. map.get m k) t.4 ∙ places k (map.get v.links.handles k);
   }
 
   -- a call that changes links alone
-  link_does : (v w : SessionView R) (l : LinksView R) (e : Entry R) → w ≡ record v { links = l } → IsLinkCall e → lets_by v e ≡ false → transfers_in (call_frames e) ≡ [] → sending_by v e ≡ v.sending → rest v ≡ rest_by (rest v) e →
+  link_does : (v w : SessionView R) (l : LinksView R) (e : Entry R) → w ≡ record v { links = l } → lets_by v e ≡ false → transfers_in (call_frames e) ≡ [] → sending_by v e ≡ v.sending → rest v ≡ rest_by (rest v) e →
       OnChannel v.outgoing_channel (call_frames e) → WordFits v e → RecordFits (named_with e) → ((k : ℕ) → map.get l.handles k ≡ taken_by k (map.get v.links.handles k) e) → Does v e w
-  link_does v w l e same is quiet none sending others on fits named_is places = rw same record {
+  link_does v w l e same quiet none sending others on fits named_is places = rw same record {
     goes = rw (quiet, sending) (none, refl);
     opens = rw quiet refl;
     rest_is = others;
     on_channel = on;
-    links_are = λ other. absurd (other is);
     word_fits = fits;
     named_fits = named_is;
     handles_are = places;
@@ -302,7 +288,7 @@ module _ {R : Type 0} (g : Relays R) where
   attached_keeps l new a q (Ok u) (Err x) t = absurd t
   attached_keeps l new a q (Err e) (Ok r) t = absurd t
 
-  attach_keeps : (l new : LinksView R) (a : AttachSaid) (asked : Option (AttachQuestion R)) (result : _) → Attaches g.attach_gives l a asked result new → new.handles ≡ l.handles
+  pub attach_keeps : (l new : LinksView R) (a : AttachSaid) (asked : Option (AttachQuestion R)) (result : _) → Attaches g.attach_gives l a asked result new → new.handles ≡ l.handles
   attach_keeps l new a None (Ok u) t = absurd t
   attach_keeps l new a None (Err e) t = ap (λ (x : LinksView _). x.handles) t.1
   attach_keeps l new a (Some q) result t = attached_keeps l new a q q.answer result t.3
@@ -328,7 +314,7 @@ module _ {R : Type 0} (g : Relays R) where
   does v w (TakesTransfer t payload None result) s = taken_does v w _ (unasked_takes (counted_by v) w t.handle result s) refl refl refl refl tt (λ k o. refl)
   does v w (TakesTransfer t payload (Some q) result) s =
       let a = answered_takes (asked_at (counted_by v) t.handle q) w t.handle q.answer result s.2 in
-      taken_does v w _ (a.0, a.1, a.2, λ n. absurd (unlinked _ v.links t.handle q s.1 n), a.4, a.5) refl refl refl refl tt (λ k o. refl)
+      taken_does v w _ (a.0, a.1, a.2, a.3, a.4) refl refl refl refl tt (λ k o. refl)
   does v w (SendsFlow l f) s = says v v w _ f _ s.1 s.0 refl refl refl refl refl refl refl refl tt tt (λ k o. refl)
   does v w (SendsTransfer h (Ok item)) s = out_does v (waits v h) w _ _ (gone_out (waits v h) w [] _ item refl tt s.2 s.3) refl refl refl refl refl refl tt tt (λ k o. refl)
   does v w (SendsTransfer h (Err Refused.IllegalState)) s = unmoved v w _ s.1 refl refl refl refl tt tt (λ k o. refl)
@@ -338,19 +324,19 @@ module _ {R : Type 0} (g : Relays R) where
   does v w (SendsSessionFlow (Some (SingleFrame f))) s = says v _ w _ f _ s.2 s.1 refl refl refl refl refl refl refl refl tt tt (λ k o. refl)
   does v w (SendsSessionFlow (Some (MultipleFrames fs))) s = absurd s
   does v w (RecordsStop reason) s = stills v _ w _ s refl refl refl refl refl tt refl tt tt (λ k o. refl)
-  does v w (AllocatesLink name relay (Ok h)) s = link_does v w _ _ s.3 tt refl refl refl refl tt tt tt (λ k. at_insert v.links.handles h.0 k (Some name))
-  does v w (AllocatesLink name relay (Err e)) s = link_does v w v.links _ s.1 tt refl refl refl refl tt tt tt (λ k. refl)
-  does v w (AllocatesIncomingLink name relay input (Ok h)) s = link_does v w _ _ s.3 tt refl refl refl refl tt tt tt (λ k. at_insert v.links.handles h.0 k (Some name))
-  does v w (AllocatesIncomingLink name relay input (Err e)) s = link_does v w v.links _ s.1 tt refl refl refl refl tt tt tt (λ k. refl)
-  does v w (DeallocatesLink handle was) s = link_does v w w.links _ s.1 tt refl refl refl refl tt tt tt (λ k. taken_release v.links w.links handle.0 k was s.0)
-  does v w (TakesAttach a asked result) s = link_does v w w.links _ s.1 tt refl refl refl refl tt tt tt (λ k. ap (λ m. map.get m k) (attach_keeps v.links w.links a asked result s.0))
-  does v w (TakesDetach d None (Ok answer)) s = link_does v w w.links _ s.1 tt refl refl refl refl tt tt tt (λ k. ap (λ (l : LinksView _). map.get l.handles k) s.0.2)
+  does v w (AllocatesLink name relay (Ok h)) s = link_does v w _ _ s.3 refl refl refl refl tt tt tt (λ k. at_insert v.links.handles h.0 k (Some name))
+  does v w (AllocatesLink name relay (Err e)) s = link_does v w v.links _ s.1 refl refl refl refl tt tt tt (λ k. refl)
+  does v w (AllocatesIncomingLink name relay input (Ok h)) s = link_does v w _ _ s.3 refl refl refl refl tt tt tt (λ k. at_insert v.links.handles h.0 k (Some name))
+  does v w (AllocatesIncomingLink name relay input (Err e)) s = link_does v w v.links _ s.1 refl refl refl refl tt tt tt (λ k. refl)
+  does v w (DeallocatesLink handle was) s = link_does v w w.links _ s.1 refl refl refl refl tt tt tt (λ k. taken_release v.links w.links handle.0 k was s.0)
+  does v w (TakesAttach a asked result) s = link_does v w w.links _ s.1 refl refl refl refl tt tt tt (λ k. ap (λ m. map.get m k) (attach_keeps v.links w.links a asked result s.0))
+  does v w (TakesDetach d None (Ok answer)) s = link_does v w w.links _ s.1 refl refl refl refl tt tt tt (λ k. ap (λ (l : LinksView _). map.get l.handles k) s.0.2)
   does v w (TakesDetach d (Some q) (Ok answer)) s =
-      link_does v w w.links _ s.1 tt refl refl refl refl tt tt tt (λ k. ap (λ (l : LinksView _). map.get l.handles k) s.0.3 ∙ taken_drop v.links d.handle q.handle.0 k)
+      link_does v w w.links _ s.1 refl refl refl refl tt tt tt (λ k. ap (λ (l : LinksView _). map.get l.handles k) s.0.3 ∙ taken_drop v.links d.handle q.handle.0 k)
   does v w (TakesDetach d asked (Err e)) s = absurd s
   does v w (SendsAttach a f) s = says v v w _ f _ s.1 s.0 refl refl refl refl refl refl refl refl tt tt (λ k o. refl)
   does v w (SendsDetach d expects_echo (Ok (Some f))) s =
-      link_does v w w.links _ s.2 tt refl (ap (λ (x : SessionFrame). transfers_in (x ∷ [])) s.0) refl refl (one_on v.outgoing_channel f _ s.0 refl) tt tt (λ k. taken_leave v.links w.links d.handle k expects_echo true s.1)
-  does v w (SendsDetach d expects_echo (Ok None)) s = link_does v w w.links _ s.1 tt refl refl refl refl tt tt tt (λ k. taken_leave v.links w.links d.handle k expects_echo false s.0)
+      link_does v w w.links _ s.2 refl (ap (λ (x : SessionFrame). transfers_in (x ∷ [])) s.0) refl refl (one_on v.outgoing_channel f _ s.0 refl) tt tt (λ k. taken_leave v.links w.links d.handle k expects_echo true s.1)
+  does v w (SendsDetach d expects_echo (Ok None)) s = link_does v w w.links _ s.1 refl refl refl refl tt tt tt (λ k. taken_leave v.links w.links d.handle k expects_echo false s.0)
   does v w (SendsDetach d expects_echo (Err e)) s = absurd s
   does v w e s = absurd s

@@ -8,7 +8,6 @@ use Rattle.amqp_session.specs.declared.frame.SessionOutgoingItem.{SessionOutgoin
 use Rattle.amqp_session.specs.declared.error.SessionInnerError.{SessionInnerError}
 use Rattle.amqp_session.specs.declared.error.SessionInnerError.TheVariants as Refused
 use Rattle.amqp_session.specs.Serial.{In, remaining}
-use Rattle.amqp_session.specs.States.{is_mapped}
 use Rattle.amqp_session.specs.declared.deliveries.Delivery.{Delivery}
 use Rattle.amqp_session.specs.declared.session.receiving.Receiving.{Receiving}
 use Rattle.amqp_session.specs.Transfers.{RequestedTransfer, firsts, opened}
@@ -28,10 +27,13 @@ use Rattle.amqp_session.proofs.Opening.{opened_each, with_record_each}
 use Rattle.amqp_session.proofs.Books.{inside_at, used_up, length-numbered, numbered_first, Books-joined, Books-moved, Books-begun, Goes, Books-goes}
 use Rattle.amqp_session.proofs.Numbering.{opened_same}
 use Rattle.amqp_session.proofs.Effects.{Rest, stops, sending_by, lets_by, WordFits, Does, does}
-use Rattle.amqp_session.proofs.Since.{receives_more, channel_more, stop_more, open_more, no_links_before, last_is_none, taken_more}
-use Rattle.amqp_session.specs.Linked.{taken_by}
+use Rattle.amqp_session.proofs.Since.{receives_more, channel_more, stop_more, open_more, taken_more, live_more, input_more}
+use Rattle.amqp_session.specs.Linked.{taken_by, live_by, input_by}
 use Rattle.std.specs.Ordering.{nat_cmp}
+use Rattle.std.specs.Cmp.Lexicographic.{slice_cmp}
 use Rattle.std.specs.FinMap.{get-empty}
+use Rattle.amqp_session.proofs.Naming.{Agree, agree_new}
+use Rattle.amqp_session.proofs.LinkEffects.{links_by}
 
 -- ---- the deliveries that go out
 
@@ -106,8 +108,8 @@ module _ {R : Type 0} (g : Relays R) where
   opens_new Receiver = record { table = (tt, tt); each = λ n. refl }
   opens_new Sender = record { table = (tt, tt); each = λ n. refl }
 
-  pub stands-more : (m : Made) (H : List (Entry R)) (e : Entry R) (v u : SessionView R) → Stands m H v → Step g v e u → Stands m (H ++ e ∷ []) u
-  stands-more m H e v u b s = let d = does g v u e s in let r = d.rest_is in record {
+  pub stands-more : (m : Made) (H : List (Entry R)) (e : Entry R) (v u : SessionView R) → Stands m H v → Agree v.links → Step g v e u → Stands m (H ++ e ∷ []) u
+  stands-more m H e v u b a s = let d = does g v u e s in let l = links_by g v u e a s in let r = d.rest_is in record {
     receiving_is = subst (λ (x : Receiving). Receives (H ++ e ∷ []) x) (sym (ap (λ (x : Rest). x.receiving) r)) (receives_more H v v.receiving e d.word_fits b.receiving_is);
     open_are = λ role. opens_more m H e v u b d role;
     incoming_channel_is = ap (λ (x : Rest). x.incoming_channel) r ∙ ap (λ c. channel_by c e) b.incoming_channel_is ∙ sym (channel_more None H e);
@@ -116,17 +118,18 @@ module _ {R : Type 0} (g : Relays R) where
     outgoing_channel_is = ap (λ (x : Rest). x.outgoing_channel) r ∙ b.outgoing_channel_is;
     connection_stop_is = ap (λ (x : Rest). x.connection_stop) r ∙ b.connection_stop_is;
     handles_are = λ k. d.handles_are k ∙ ap (λ o. taken_by k o e) (b.handles_are k) ∙ sym (taken_more k None H e);
-    links_are = λ none. d.links_are (last_is_none H e none) (b.links_are (no_links_before H e none));
+    names_are = λ name. l.names_are name ∙ ap (λ o. live_by name o e) (b.names_are name) ∙ sym (live_more name None H e);
+    inputs_are = λ h. l.inputs_are h ∙ ap (λ o. input_by h o e) (b.inputs_are h) ∙ sym (input_more h None H e);
     sending_is =
         rw (accepted-append H (e ∷ []), handed-append H (e ∷ []), window_from-append m m.settings.next_outgoing_id (0, 0) H (e ∷ []), append-nil (accepted_by e), append-nil (transfers_in (call_frames e)))
         (Books-goes (lets_by v e) _ _ (accepted H ++ accepted_by e) (handed H) _ _ _ _ (goes_on m v u e b.outgoing_channel_is d) (before_is m H v u e b d));
     state_is = ap (λ (x : Rest). x.state) r ∙ ap (λ x. state_by x e) b.state_is ∙ sym (state_from-append m.state H (e ∷ []));
   }
 
-  stands-chain : (m : Made) (G H : List (Entry R)) (v u : SessionView R) → Stands m G v → Chain g v H u → Stands m (G ++ H) u
-  stands-chain m G [] v u b c = rw (append-nil G, c) b
-  stands-chain m G (e ∷ H) v u b c =
-      subst (λ K. Stands m K u) (append_assoc G (e ∷ []) H) (stands-chain m (G ++ e ∷ []) H c.0 u (stands-more m G e v c.0 b c.1) c.2)
+  stands-chain : (m : Made) (G H : List (Entry R)) (v u : SessionView R) → Stands m G v → Agree v.links → Chain g v H u → Stands m (G ++ H) u
+  stands-chain m G [] v u b a c = rw (append-nil G, c) b
+  stands-chain m G (e ∷ H) v u b a c =
+      subst (λ K. Stands m K u) (append_assoc G (e ∷ []) H) (stands-chain m (G ++ e ∷ []) H c.0 u (stands-more m G e v c.0 b a c.1) (links_by g v c.0 e a c.1).agree c.2)
 
   pub stands-new : (m : Made) → m.settings.next_outgoing_id < 2 ^ 32 → Stands {R = R} m [] (new_session m.settings m.channel m.state m.stop)
   stands-new m h = record {
@@ -148,15 +151,24 @@ module _ {R : Type 0} (g : Relays R) where
     settings_is = refl;
     outgoing_channel_is = refl;
     connection_stop_is = refl;
-    links_are = λ none. refl;
     handles_are = λ k. get-empty nat_cmp k;
+    names_are = λ name. get-empty (slice_cmp nat_cmp) name;
+    inputs_are = λ h. get-empty nat_cmp h;
   }
 
   -- the law of views
   pub stands_law : (m : Made) (H : List (Entry R)) (v : SessionView R) → LeadsTo g m H v → Stands m H v
-  stands_law m H v l = stands-chain m [] H (new_session m.settings m.channel m.state m.stop) v (stands-new m l.0) l.1
+  stands_law m H v l = stands-chain m [] H (new_session m.settings m.channel m.state m.stop) v (stands-new m l.0) (agree_new R) l.1
 
-  chain-split : (xs ys : List (Entry R)) (v u : SessionView R) → Chain g v (xs ++ ys) u → (m : SessionView R) × Chain g v xs m × Chain g m ys u
+  -- in every history names and output handles agree
+  pub agree_chain : (H : List (Entry R)) (v u : SessionView R) → Agree v.links → Chain g v H u → Agree u.links
+  agree_chain [] v u a c = subst (λ (x : SessionView R). Agree x.links) (sym c) a
+  agree_chain (e ∷ H) v u a c = agree_chain H c.0 u (links_by g v c.0 e a c.1).agree c.2
+
+  pub agree_law : (m : Made) (H : List (Entry R)) (v : SessionView R) → LeadsTo g m H v → Agree v.links
+  agree_law m H v l = agree_chain H (new_session m.settings m.channel m.state m.stop) v (agree_new R) l.1
+
+  pub chain-split : (xs ys : List (Entry R)) (v u : SessionView R) → Chain g v (xs ++ ys) u → (m : SessionView R) × Chain g v xs m × Chain g m ys u
   chain-split [] ys v u c = (v, refl, c)
   chain-split (e ∷ xs) ys v u c = let r = chain-split xs ys c.0 u c.2 in (r.0, (c.0, c.1, r.1), r.2)
 
@@ -221,5 +233,5 @@ module _ {R : Type 0} (g : Relays R) where
         let r = chain-split before (e ∷ after) (new_session m.settings m.channel m.state m.stop) v (subst (λ K. Chain g (new_session m.settings m.channel m.state m.stop) K v) is l.1) in
         let b = stands_law m before r.0 (l.0, r.1) in
         let ends = call_waits r.0 r.2.0 e r.2.1 (subst (λ s. LetsOut s e) (sym b.state_is) lets) in
-        waits_by m (before ++ e ∷ []) r.2.0 (stands-more m before e r.0 r.2.0 b r.2.1) ends;
+        waits_by m (before ++ e ∷ []) r.2.0 (stands-more m before e r.0 r.2.0 b (agree_law m before r.0 (l.0, r.1)) r.2.1) ends;
   }

@@ -1,6 +1,8 @@
 pub mod AsMap
 pub mod Attaching
 pub mod Taking
+pub mod Naming
+pub mod LinkEffects
 pub mod Rising
 pub mod Opening
 pub mod Numbering
@@ -9,5 +11,6 @@ pub mod Books
 pub mod Effects
 pub mod Since
 pub mod Histories
+pub mod LinkLaws
 pub mod SessionFlows
 pub mod Channels

@@ -1,14 +1,16 @@
 -- What a history says, with one call more.
-use Rattle.std.proofs.Common.{◌≡◌, ℕ, ◌<◌, ◌+◌, ◌-◌, ◌%◌, ◌^◌, ◌++◌, [], ◌∷◌, List, refl, ap, arith, sym, ◌∙◌, append_assoc, append-nil, min, Bool, true, false, cond, Option, Some, None, Ok}
+use Rattle.std.proofs.Common.{◌≡◌, ℕ, ◌+◌, ◌-◌, ◌%◌, ◌^◌, ◌++◌, [], ◌∷◌, List, refl, ap, arith, sym, ◌∙◌, append_assoc, append-nil, min, Bool, true, false, cond, Option, Some, None, Ok}
 use Rattle.amqp_session.specs.declared.deliveries.Delivery.{Delivery}
 use Rattle.amqp_session.specs.declared.session.receiving.Receiving.{Receiving}
 use Rattle.amqp_session.specs.declared.stop.SessionStopReason.{SessionStopReason}
 use Rattle.amqp_session.specs.History.{Entry, TakesBegin, TakesFlow, TakesTransfer, SendsSessionFlow, RecordsStop}
-use Rattle.amqp_session.specs.Received.{has_kind, since, says_numbers, is_session_flow, came_by, came, word_by, word_from, word, next_incoming, left_by, left, peer_window, unreported, channel_by, channel_from, stop_reason, IsLinkCall, HasNoLinks}
+use Rattle.amqp_session.specs.Received.{has_kind, since, says_numbers, is_session_flow, came_by, came, word_by, word_from, word, next_incoming, left_by, left, peer_window, unreported, channel_by, channel_from, stop_reason}
 use Rattle.amqp_session.specs.Headline.{open_by, open_from, Receives}
 use Rattle.amqp_types.specs.declared.definitions.Role.{Role}
 use Rattle.amqp_session.specs.Session.{SessionView}
-use Rattle.amqp_session.specs.Linked.{Taken, taken_by, taken_from}
+use Rattle.amqp_session.specs.declared.link.Named.{Named}
+use Rattle.amqp_session.specs.declared.link.Attached.{Attached}
+use Rattle.amqp_session.specs.Linked.{Taken, taken_by, taken_from, live_by, live_from, input_by, input_from}
 use Rattle.amqp_session.proofs.Effects.{receives, stops, WordFits}
 
 -- ---- the calls since the last one of a kind
@@ -123,10 +125,12 @@ pub taken_more : {R : Type 0} → (k : ℕ) (o : Taken) (H : List (Entry R)) (e 
 taken_more k o [] e = refl
 taken_more k o (x ∷ H) e = taken_more k (taken_by k o x) H e
 
-pub no_links_before : {R : Type 0} → (H : List (Entry R)) (e : Entry R) → HasNoLinks (H ++ e ∷ []) → HasNoLinks H
-no_links_before [] e n = tt
-no_links_before (x ∷ H) e n = (n.0, no_links_before H e n.1)
+pub live_more : {R : Type 0} → (name : List ℕ) (o : Option (Named R)) (H : List (Entry R)) (e : Entry R) →
+    live_from name o (H ++ e ∷ []) ≡ live_by name (live_from name o H) e
+live_more name o [] e = refl
+live_more name o (x ∷ H) e = live_more name (live_by name o x) H e
 
-pub last_is_none : {R : Type 0} → (H : List (Entry R)) (e : Entry R) → HasNoLinks (H ++ e ∷ []) → ¬ (IsLinkCall e)
-last_is_none [] e n = n.0
-last_is_none (x ∷ H) e n = last_is_none H e n.1
+pub input_more : {R : Type 0} → (h : ℕ) (o : Option (Attached R)) (H : List (Entry R)) (e : Entry R) →
+    input_from h o (H ++ e ∷ []) ≡ input_by h (input_from h o H) e
+input_more h o [] e = refl
+input_more h o (x ∷ H) e = input_more h (input_by h o x) H e

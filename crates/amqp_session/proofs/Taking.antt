@@ -1,5 +1,5 @@
 -- How output handles are taken after each call for links.
-use Rattle.std.proofs.Common.{◌≡◌, ℕ, List, Option, Some, None, Bool, true, false, cond, nat_eq, arith, refl, ap, sym, subst, ◌∙◌}
+use Rattle.std.proofs.Common.{◌≡◌, ℕ, List, Some, None, Bool, true, false, cond, nat_eq, arith, refl, ap, sym, ◌∙◌}
 use Rattle.std.proofs.lemmas.Bool.Decides.{nat_tests}
 use Rattle.std.proofs.lemmas.Grind.{common_steps}
 use Rattle.std.specs.Ordering.{nat_cmp}
@@ -7,14 +7,14 @@ use Rattle.std.specs.Cmp.{nat_cmp_total}
 use Rattle.std.specs.FinMap as map
 use Rattle.std.specs.FinMap.{get-insert, get-remove}
 use Rattle.amqp_session.specs.Links.{LinksView, Handles}
-use Rattle.amqp_session.specs.Linking.{live_name, is_awaited, awaits, name_at, Releases, Leaves, dropped}
+use Rattle.amqp_session.specs.Linking.{live_name, is_awaited, awaits, Releases, Leaves, dropped}
 use Rattle.amqp_session.specs.Linked.{Taken, without_live, left_by_detach, answered}
 use Rattle.amqp_session.proofs.AsMap.{same_test}
 
-pub at_insert : (m : Handles) (h k : ℕ) (x : Option (List ℕ)) → map.get (map.insert m h x) k ≡ cond (nat_eq k h) (Some x) (map.get m k)
+pub at_insert : {X : Type 0} → (m : map.FinMap nat_cmp X) (h k : ℕ) (x : X) → map.get (map.insert m h x) k ≡ cond (nat_eq k h) (Some x) (map.get m k)
 at_insert m h k x = get-insert nat_cmp_total m h x k ∙ ap (λ b. cond b (Some x) (map.get m k)) (same_test k h)
 
-at_remove : (m : Handles) (h k : ℕ) → map.get (map.remove m h) k ≡ cond (nat_eq k h) None (map.get m k)
+pub at_remove : {X : Type 0} → (m : map.FinMap nat_cmp X) (h k : ℕ) → map.get (map.remove m h) k ≡ cond (nat_eq k h) None (map.get m k)
 at_remove m h k = get-remove nat_cmp_total m h k ∙ ap (λ b. cond b None (map.get m k)) (same_test k h)
 
 -- a change at one handle, by what was there
@@ -37,7 +37,7 @@ live_gone None name e = refl
 live_gone (Some None) name e = absurd (cc)
 live_gone (Some (Some n)) name e = refl
 
-not_live_stays : (o : Taken) → live_name o ≡ None → without_live o ≡ o
+pub not_live_stays : (o : Taken) → live_name o ≡ None → without_live o ≡ o
 not_live_stays None e = refl
 not_live_stays (Some None) e = refl
 not_live_stays (Some (Some n)) e = absurd (cc)
@@ -47,7 +47,7 @@ live_left None name e = absurd (cc)
 live_left (Some None) name e = refl
 live_left (Some (Some n)) name e = refl
 
-not_live_left : (b : Bool) (o : Taken) → live_name o ≡ None → left_by_detach b o ≡ o
+pub not_live_left : (b : Bool) (o : Taken) → live_name o ≡ None → left_by_detach b o ≡ o
 not_live_left b None e = refl
 not_live_left b (Some None) e = refl
 not_live_left b (Some (Some n)) e = absurd (cc)

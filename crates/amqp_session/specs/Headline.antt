@@ -20,9 +20,8 @@ use Rattle.amqp_session.specs.Deliveries.{listed, newest, IsTable, record_at, of
 use Rattle.amqp_types.specs.declared.definitions.Role.{Role}
 use Rattle.amqp_types.specs.declared.definitions.Role.TheVariants.{Sender, Receiver}
 use Rattle.std.specs.FinMap as map
-use Rattle.amqp_session.specs.Links.{no_links}
-use Rattle.amqp_session.specs.Linked.{taken_at}
-use Rattle.amqp_session.specs.Received.{next_incoming, peer_window, unreported, peer_channel, named_with, stop_reason, HasNoLinks}
+use Rattle.amqp_session.specs.Linked.{taken_at, live_at, input_at}
+use Rattle.amqp_session.specs.Received.{next_incoming, peer_window, unreported, peer_channel, named_with, stop_reason}
 use Rattle.amqp_session.specs.History.{Entry, SendsBegin, SendsEnd, TakesBegin, TakesEnd, TakesFlow, SendsTransfer, Made}
 
 -- ---- what a call took and handed out
@@ -203,8 +202,8 @@ pub record Opens {R : Type 0} (role : Role) (H : List (Entry R)) (rows : List De
 
 -- The view is what the session was made with and what the history gives: the numbers of transfers and deliveries in both
 -- directions, what waits, what is left of both windows, the transfers not yet told to the peer, the state, the peer's channel,
--- the stop reason, and the open deliveries of both roles. Links come of their own calls alone. And
--- each output handle is taken as the history says: by the live link of a name, or awaited, or not at all.
+-- the stop reason, and the open deliveries of both roles. And the links are as the history says: how each output handle is taken,
+-- which link is live by each name, and which relay stands under each input handle.
 pub record Stands {R : Type 0} (m : Made) (H : List (Entry R)) (v : SessionView R) : Type 0 where
   pub sending_is : Books m.channel m.settings.next_outgoing_id (accepted H) (handed H) (window m H) v.sending
   pub state_is : v.state ≡ state m H
@@ -215,5 +214,6 @@ pub record Stands {R : Type 0} (m : Made) (H : List (Entry R)) (v : SessionView 
   pub settings_is : v.settings ≡ m.settings
   pub outgoing_channel_is : v.outgoing_channel ≡ m.channel
   pub connection_stop_is : v.connection_stop ≡ m.stop
-  pub links_are : HasNoLinks H → v.links ≡ no_links
   pub handles_are : (k : ℕ) → map.get v.links.handles k ≡ taken_at k H
+  pub names_are : (name : List ℕ) → map.get v.links.names name ≡ live_at name H
+  pub inputs_are : (h : ℕ) → map.get v.links.inputs h ≡ input_at h H

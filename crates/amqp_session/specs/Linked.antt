@@ -1,6 +1,17 @@
--- What a history says of output handles: which live link has each, and which are awaited (AMQP 1.0 part 2, section 2.6.2).
-use Rattle.std.specs.Prelude.{ℕ, Bool, if◌then◌else◌, nat_eq, List, [], ◌∷◌, Option, Some, None, Result, Ok}
-use Rattle.amqp_session.specs.History.{Entry, AllocatesLink, AllocatesIncomingLink, DeallocatesLink, TakesDetach, SendsDetach}
+-- What a history says of links: how each output handle is taken, which link is live by each name, and which relay stands under
+-- each input handle (AMQP 1.0 part 2, sections 2.6.1 to 2.6.6).
+use Rattle.std.specs.Prelude.{◌≡◌, ◌↔◌, ℕ, Bool, if◌then◌else◌, nat_eq, bytes_eq, List, [], ◌∷◌, ◌++◌, Option, Some, None, Ok, Err, true, false}
+use Rattle.amqp_types.specs.Detach.{DetachSaid}
+use Rattle.amqp_session.specs.declared.frame.SessionFrame.{SessionFrame}
+use Rattle.amqp_session.specs.declared.link.Named.{Named}
+use Rattle.amqp_session.specs.declared.link.Attached.{Attached}
+use Rattle.std.specs.FinMap as map
+use Rattle.amqp_session.specs.Links.{LinksView}
+use Rattle.amqp_session.specs.Relay.{goes_on}
+use Rattle.amqp_session.specs.Received.{has_kind}
+use Rattle.amqp_session.specs.History.{Entry, AllocatesLink, AllocatesIncomingLink, DeallocatesLink, TakesAttach, TakesFlow, TakesTransfer, TakesDetach, SendsDetach}
+
+-- ---- output handles (section 2.6.2)
 
 -- How a handle is taken: not at all; by the live link of a name; or by none, where the peer's answer to the detach of its last
 -- link is awaited.
@@ -41,3 +52,105 @@ taken_from k old (e ∷ es) = taken_from k (taken_by k old e) es
 -- after a history: none is taken at first
 abbrev pub taken_at : {R : Type 0} → ℕ → List (Entry R) → Taken
 taken_at k H = taken_from k None H
+
+-- ---- names (sections 2.6.1 and 2.6.3)
+
+-- the link that was live by a name, unless it was on this output handle
+abbrev pub unless_on : {R : Type 0} → ℕ → Option (Named R) → Option (Named R)
+unless_on h None = None
+unless_on h (Some n) = if nat_eq n.handle.0 h then None else Some n
+
+-- the same link, and this relay, if any, waits for the peer's attach
+abbrev pub where_waits : {R : Type 0} → Option R → Option (Named R) → Option (Named R)
+where_waits relay None = None
+where_waits relay (Some n) = Some (record n { waiting = relay })
+
+-- The live link of a name after a call, with its output handle and the relay that waits for the peer's attach, if any. An
+-- allotment makes it, and a release or a detach of this side on its handle ends it. The peer's attach under the name leaves
+-- none waiting where it is accepted; else the relay that was asked goes on to wait.
+abbrev pub live_by : {R : Type 0} → List ℕ → Option (Named R) → Entry R → Option (Named R)
+live_by name old (AllocatesLink new relay (Ok h)) = if bytes_eq name new then Some (record { handle = h; waiting = relay }) else old
+live_by name old (AllocatesIncomingLink new relay input (Ok h)) =
+    if bytes_eq name new then Some (record { handle = h; waiting = None }) else old
+live_by name old (DeallocatesLink h was) = unless_on h.0 old
+live_by name old (SendsDetach d expects_echo result) = unless_on d.handle old
+live_by name old (TakesAttach a (Some q) (Ok u)) = if bytes_eq name a.name then where_waits None old else old
+live_by name old (TakesAttach a (Some q) (Err e)) = if bytes_eq name a.name then where_waits (Some q.after) old else old
+live_by name old e = old
+
+abbrev pub live_from : {R : Type 0} → List ℕ → Option (Named R) → List (Entry R) → Option (Named R)
+live_from name old [] = old
+live_from name old (e ∷ es) = live_from name (live_by name old e) es
+
+-- after a history: no link is live at first
+abbrev pub live_at : {R : Type 0} → List ℕ → List (Entry R) → Option (Named R)
+live_at name H = live_from name None H
+
+-- ---- input handles (section 2.6.2)
+
+-- the relay that stood there goes on to another state
+abbrev pub where_goes : {R : Type 0} → R → Option (Attached R) → Option (Attached R)
+where_goes after None = None
+where_goes after (Some link) = Some (record link { relay = after })
+
+-- whether a flow speaks of this input handle
+abbrev pub speaks_of : ℕ → Option ℕ → Bool
+speaks_of h None = false
+speaks_of h (Some k) = nat_eq h k
+
+-- The relay under an input handle after a call, with the output handle of its link. It is put there by an allotment for an
+-- incoming link and by the peer's attach where that is accepted, goes on with each flow and transfer that asked it, and is gone
+-- with the peer's detach. The questions of a disposition name no input handle: they are not told here.
+abbrev pub input_by : {R : Type 0} → ℕ → Option (Attached R) → Entry R → Option (Attached R)
+input_by h old (AllocatesIncomingLink name relay input (Ok k)) =
+    if nat_eq h input.0 then Some (record { handle = k; relay = relay }) else old
+input_by h old (TakesAttach a (Some q) (Ok u)) = if nat_eq h a.handle then Some (goes_on q) else old
+input_by h old (TakesFlow f (Some q) result) = if speaks_of h f.handle then where_goes q.after old else old
+input_by h old (TakesTransfer t payload (Some q) result) = if nat_eq h t.handle then where_goes q.after old else old
+input_by h old (TakesDetach d (Some q) result) = if nat_eq h d.handle then None else old
+input_by h old e = old
+
+abbrev pub input_from : {R : Type 0} → ℕ → Option (Attached R) → List (Entry R) → Option (Attached R)
+input_from h old [] = old
+input_from h old (e ∷ es) = input_from h (input_by h old e) es
+
+-- after a history: no relay stands there at first
+abbrev pub input_at : {R : Type 0} → ℕ → List (Entry R) → Option (Attached R)
+input_at h H = input_from h None H
+
+-- ---- what holds of the links of every history
+
+-- the output handle of a live link
+abbrev pub handle_of : {R : Type 0} → Option (Named R) → Option ℕ
+handle_of None = None
+handle_of (Some n) = Some n.handle.0
+
+-- The live names with their output handles, and how each output handle is taken: a live link has its handle for itself, and a
+-- handle that is awaited has no live link.
+pub record OneToOne (handle : List ℕ → Option ℕ) (taken : ℕ → Taken) : Type 0 where
+  pub agree : (name : List ℕ) (h : ℕ) → handle name ≡ Some h ↔ taken h ≡ Some (Some name)
+  pub one_name : (name other : List ℕ) (h : ℕ) → handle name ≡ Some h → handle other ≡ Some h → name ≡ other
+  pub one_handle : (name : List ℕ) (h k : ℕ) → taken h ≡ Some (Some name) → taken k ≡ Some (Some name) → h ≡ k
+  pub never_awaited : (name : List ℕ) (h : ℕ) → handle name ≡ Some h → ¬ (taken h ≡ Some None)
+
+-- as a history says it, and as a session shows it
+abbrev pub LinksAgree : {R : Type 0} → List (Entry R) → Type 0
+LinksAgree H = OneToOne (λ name. handle_of (live_at name H)) (λ h. taken_at h H)
+
+abbrev pub ShownAgree : {R : Type 0} → LinksView R → Type 0
+ShownAgree l = OneToOne (λ name. handle_of (map.get l.names name)) (λ h. map.get l.handles h)
+
+-- this output handle is allotted
+abbrev pub allots : {R : Type 0} → ℕ → Entry R → Bool
+allots k (AllocatesLink name relay (Ok h)) = nat_eq k h.0
+allots k (AllocatesIncomingLink name relay input (Ok h)) = nat_eq k h.0
+allots k e = false
+
+-- A detach of this side that the peer is to answer goes out at most once for each allotment of its output handle: the handle was
+-- allotted before the first one, and again between any two.
+pub record AwaitedOnce {R : Type 0} (H : List (Entry R)) : Type 0 where
+  pub allotted : (before after : List (Entry R)) (d : DetachSaid) (f : SessionFrame) →
+      H ≡ before ++ SendsDetach d true (Ok (Some f)) ∷ after → has_kind (allots d.handle) before ≡ true
+  pub again : (before between after : List (Entry R)) (d e : DetachSaid) (f g : SessionFrame) →
+      H ≡ before ++ SendsDetach d true (Ok (Some f)) ∷ (between ++ SendsDetach e true (Ok (Some g)) ∷ after) →
+      d.handle ≡ e.handle → has_kind (allots d.handle) between ≡ true

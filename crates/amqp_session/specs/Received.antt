@@ -6,7 +6,7 @@ use Rattle.amqp_session.specs.declared.deliveries.Delivery.{Delivery}
 use Rattle.amqp_session.specs.declared.stop.SessionStopReason.{SessionStopReason}
 use Rattle.amqp_session.specs.declared.error.LinkRelayError.{LinkRelayError}
 use Rattle.amqp_session.specs.Step.{named_delivery}
-use Rattle.amqp_session.specs.History.{Entry, TakesBegin, TakesFlow, TakesTransfer, SendsSessionFlow, RecordsStop, AllocatesLink, AllocatesIncomingLink, DeallocatesLink, TakesAttach, TakesDetach, SendsDetach}
+use Rattle.amqp_session.specs.History.{Entry, TakesBegin, TakesFlow, TakesTransfer, SendsSessionFlow, RecordsStop}
 
 -- ---- the calls since the last one of a kind
 
@@ -103,24 +103,10 @@ abbrev pub named_with : {R : Type 0} → Entry R → Option Delivery
 named_with (TakesTransfer t payload (Some q) result) = named_delivery t.handle (named_of q.answer)
 named_with e = None
 
--- ---- the stop reason, and links
+-- ---- the stop reason
 
 -- the first reason that was recorded
 abbrev pub stop_reason : {R : Type 0} → List (Entry R) → Option SessionStopReason
 stop_reason [] = None
 stop_reason (RecordsStop reason ∷ es) = Some reason
 stop_reason (e ∷ es) = stop_reason es
-
--- the calls that may make, attach or release a link
-abbrev pub IsLinkCall : {R : Type 0} → Entry R → Type 0
-IsLinkCall (AllocatesLink name relay result) = Unit {0}
-IsLinkCall (AllocatesIncomingLink name relay input result) = Unit {0}
-IsLinkCall (DeallocatesLink handle was) = Unit {0}
-IsLinkCall (TakesAttach a asked result) = Unit {0}
-IsLinkCall (TakesDetach d asked result) = Unit {0}
-IsLinkCall (SendsDetach d expects_echo result) = Unit {0}
-IsLinkCall e = ⊥
-
-abbrev pub HasNoLinks : {R : Type 0} → List (Entry R) → Type 0
-HasNoLinks [] = Unit {0}
-HasNoLinks (e ∷ es) = ¬ (IsLinkCall e) × HasNoLinks es

@@ -10,6 +10,7 @@ ghost use Rattle.amqp_session.specs.Step.{SessionFlowStep};
 ghost use Rattle.amqp_session.specs.Session.{SessionView};
 ghost use Rattle.amqp_session.specs.History.{Entry, Made, LeadsTo};
 ghost use Rattle.amqp_session.specs.Headline.{Headline, Stands};
+ghost use Rattle.amqp_session.specs.Linked.{LinksAgree, ShownAgree, AwaitedOnce};
 ghost use Rattle.amqp_session.specs.OutgoingFrames.{OnChannel, calls_frames};
 
 use crate::numbers::{IncomingChannel, InputHandle, OutgoingChannel, OutputHandle};
@@ -18,10 +19,11 @@ use std::cmp::Ordering;
 use std::hash::{Hash, Hasher};
 
 /// Whatever calls a session has seen, what it shows is what its history gives: the numbers and windows of both directions,
-/// what waits, the state, the peer's channel, the stop reason and the open deliveries of both roles. And the transfers handed
+/// what waits, the state, the peer's channel, the stop reason, the open deliveries of both roles, and the links: how each output
+/// handle is taken, which link is live by each name and which relay stands under each input handle. And the transfers handed
 /// out, and then those held back, are all requested ones but untagged, unmapped and memory refusals, in order, each delivery
 /// numbered once, on its first frame alone, each inside the peer's latest window; after an accepted transfer or mapped Flow one
-/// waits only while it is used up (AMQP 1.0 part 2, section 2.5.6).
+/// waits only while it is used up (AMQP 1.0 part 2, sections 2.5.6 and 2.6).
 pub fn law_of_views<R: LinkRelay>()
     ensures stands { let g = R.gives in
         (m : Made) (h : List (Entry R)) (v : SessionView R) → LeadsTo g m h v → Stands m h v }
@@ -33,6 +35,19 @@ pub fn law_of_views<R: LinkRelay>()
 pub fn law_of_channels<R: LinkRelay>()
     ensures { let g = R.gives in
         (m : Made) (h : List (Entry R)) (v : SessionView R) → LeadsTo g m h v → OnChannel m.channel (calls_frames h) }
+{}
+
+/// After any calls the live links' names and output handles are one to one, as the history says it and as the session shows it:
+/// two live links never share a name or an output handle, and a handle whose detach the peer is still to answer has no live
+/// link. A detach of this side that the peer is to answer goes out at most once for each allotment of its output handle: the
+/// handle was allotted before the first one, and again between any two (AMQP 1.0 part 2, sections 2.6.1 to 2.6.6).
+pub fn law_of_links<R: LinkRelay>()
+    ensures history { let g = R.gives in
+        (m : Made) (h : List (Entry R)) (v : SessionView R) → LeadsTo g m h v → LinksAgree h }
+    ensures shown { let g = R.gives in
+        (m : Made) (h : List (Entry R)) (v : SessionView R) → LeadsTo g m h v → ShownAgree v.links }
+    ensures awaited_once { let g = R.gives in
+        (m : Made) (h : List (Entry R)) (v : SessionView R) → LeadsTo g m h v → AwaitedOnce h }
 {}
 
 /// After the session was asked for a session flow in `Mapped`, the count of the transfers that came since the last one is 0
