@@ -28,7 +28,9 @@ def composite(code, fields):
     if not fields:
         return bytes([0x00, 0x53, code, 0x45])
     data = b"".join(fields)
-    return bytes([0x00, 0x53, code, 0xC0, len(data) + 1, len(fields)]) + data
+    if len(data) < 255:
+        return bytes([0x00, 0x53, code, 0xC0, len(data) + 1, len(fields)]) + data
+    return bytes([0x00, 0x53, code, 0xD0]) + (len(data) + 4).to_bytes(4, "big") + len(fields).to_bytes(4, "big") + data
 
 
 def ushort(value):
@@ -43,5 +45,4 @@ def symbol(text):
 
 def string(value):
     of = value.encode()
-    assert len(of) < 256
-    return bytes([0xA1, len(of)]) + of
+    return (bytes([0xA1, len(of)]) if len(of) < 256 else b"\xb1" + len(of).to_bytes(4, "big")) + of

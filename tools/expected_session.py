@@ -10,6 +10,7 @@ the states). The answers stand here as a person wrote them, or follow from the t
 from pathlib import Path
 
 import session_flows
+import session_links
 import session_states
 import session_transfers
 import session_windows
@@ -20,7 +21,7 @@ CRATE = Path(__file__).resolve().parent.parent / "crates" / "session_rows"
 
 def main():
     rows = SessionRows()
-    for part in (session_states, session_windows, session_transfers, session_flows):
+    for part in (session_states, session_windows, session_transfers, session_flows, session_links):
         part.write(rows)
     rows.write(CRATE)
 

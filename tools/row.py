@@ -2,7 +2,7 @@
 
 from canonical import boolean, composite, string, symbol, tag, uint, ushort
 
-OPEN, BEGIN, FLOW, TRANSFER, END, CLOSE, ERROR = 0x10, 0x11, 0x13, 0x14, 0x17, 0x18, 0x1D
+OPEN, BEGIN, ATTACH, FLOW, TRANSFER, DETACH, END, CLOSE, ERROR = 0x10, 0x11, 0x12, 0x13, 0x14, 0x16, 0x17, 0x18, 0x1D
 
 LAST = 4294967295
 
@@ -72,6 +72,16 @@ def transfer(delivery_id=None, text=None, handle=0, format=None, settled=None, m
     delivery_tag = tag(None if text is None else {"bin": text.encode().hex()})
     words = [boolean(settled), boolean(True if more else None)]
     return composite(TRANSFER, [uint(handle), uint(delivery_id), delivery_tag, uint(format), *words]).hex()
+
+
+def attach(name, handle, receives=True):
+    """An Attach (AMQP 1.0 part 2, section 2.7.3) of a receiver, or of a sender."""
+    return composite(ATTACH, [string(name), uint(handle), boolean(receives)]).hex()
+
+
+def detach(handle, closed=False, condition=None):
+    """A Detach (AMQP 1.0 part 2, section 2.7.7)."""
+    return composite(DETACH, [uint(handle), boolean(True if closed else None), error(condition)]).hex()
 
 
 def opening(name, max_frame_size=None, channel_max=None):

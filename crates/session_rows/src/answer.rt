@@ -1,9 +1,10 @@
 //! What calls answer, as lines.
 
 use amqp_session::{
-    SessionFrame, SessionFrameBody, SessionInnerError, SessionOutgoingItem, SessionStateError,
+    AllocLinkError, OutputHandle, SessionFrame, SessionFrameBody, SessionInnerError,
+    SessionOutgoingItem, SessionStateError,
 };
-use amqp_types::{Disposition, Performative};
+use amqp_types::{Detach, Disposition, Performative};
 use bytes::{Bytes, BytesMut};
 use std::alloc::Global;
 
@@ -114,6 +115,66 @@ pub fn transfer_taken(
             let text = digits(alloc, &Performative::Disposition(disposition))?;
             Ok(format!(in alloc; "disposition {text}\n")?)
         }
+        Err(error) => refused(alloc, &error),
+    }
+}
+
+/// The line of an allotment.
+pub fn allotted(
+    alloc: Global,
+    answer: Result<OutputHandle, AllocLinkError>,
+) -> anyhow::Result<String> {
+    match answer {
+        Ok(handle) => output(alloc, handle),
+        Err(error) => Ok(format!(in alloc; "err {error:?}\n")?),
+    }
+}
+
+/// The line of an output handle.
+fn output(alloc: Global, handle: OutputHandle) -> anyhow::Result<String> {
+    let number = handle.0;
+    Ok(format!(in alloc; "handle {number}\n")?)
+}
+
+/// The line of a live link's output handle, if there is one.
+pub fn live(alloc: Global, handle: Option<OutputHandle>) -> anyhow::Result<String> {
+    match handle {
+        None => line(alloc, "none"),
+        Some(handle) => output(alloc, handle),
+    }
+}
+
+/// The line of a received attach.
+pub fn attached(alloc: Global, answer: Result<(), SessionInnerError>) -> anyhow::Result<String> {
+    match answer {
+        Ok(()) => line(alloc, "ok"),
+        Err(error) => refused(alloc, &error),
+    }
+}
+
+/// The line of a received detach.
+pub fn detached(
+    alloc: Global,
+    answer: Result<Option<Detach>, SessionInnerError>,
+) -> anyhow::Result<String> {
+    match answer {
+        Ok(None) => line(alloc, "none"),
+        Ok(Some(detach)) => {
+            let text = digits(alloc, &Performative::Detach(detach))?;
+            Ok(format!(in alloc; "detach {text}\n")?)
+        }
+        Err(error) => refused(alloc, &error),
+    }
+}
+
+/// The line of a detach that this side sends.
+pub fn left(
+    alloc: Global,
+    answer: Result<Option<SessionFrame>, SessionInnerError>,
+) -> anyhow::Result<String> {
+    match answer {
+        Ok(None) => line(alloc, "none"),
+        Ok(Some(one)) => frame(alloc, one),
         Err(error) => refused(alloc, &error),
     }
 }

@@ -21,10 +21,12 @@ pub fn received(
             session.on_incoming_begin(channel, begin),
         ),
         Performative::End(end) => answer::taken(alloc, session.on_incoming_end(channel, end)),
+        Performative::Attach(attach) => answer::attached(alloc, session.on_incoming_attach(attach)),
         Performative::Flow(flow) => answer::handed_out(alloc, session.on_incoming_flow(flow)),
         Performative::Transfer(transfer) => {
             answer::transfer_taken(alloc, session.on_incoming_transfer(transfer, payload))
         }
+        Performative::Detach(detach) => answer::detached(alloc, session.on_incoming_detach(detach)),
         _ => Err(anyhow::anyhow!("no call takes it")),
     }
 }

@@ -8,17 +8,25 @@
 //! | `recv CHANNEL HEX` | what came on a channel: one performative, and what follows a transfer is its payload |
 //! | `flow HEX` | `on_outgoing_flow`, by a flow that names a link |
 //! | `first INPUT HEX`, `later INPUT HEX` | `on_outgoing_transfer` on an input handle: the first of its delivery, or a later one |
+//! | `link NAME`, `link-bare NAME` | `allocate_link`, with a relay and without one |
+//! | `link-refusing N NAME` | `allocate_link`, with a relay that refuses N attaches first |
+//! | `link-incoming INPUT NAME` | `allocate_incoming_link` |
+//! | `unlink OUTPUT`, `handle-of NAME` | `deallocate_link`, `output_handle` |
+//! | `attach HEX` | `on_outgoing_attach` |
+//! | `detach HEX`, `detach-awaited HEX` | `on_outgoing_detach`, with no answer to come and with one |
 //! | `session-flow` | `maybe_outgoing_session_flow` |
 //! | `stop REASON` | `set_session_stop_reason` |
 //! | `show`, `reasons` | the calls that read |
 //! | `times N LINE` | the call of that line N times; an answer is printed where it is another than the one before |
 //!
-//! An answer is `ok`, `none` or `err` and the refusal. A frame is `out`, its channel, the performative's text and, behind a
-//! transfer, its payload; `list` goes before several frames.
+//! An answer is `ok`, `none` or `err` and the refusal; of an allotment `handle` and its number, of a release whether there was a
+//! link. A frame is `out`, its channel, the performative's text and, behind a transfer, its payload; `list` goes before several
+//! frames. What a relay has to say is `disposition` or `detach`, and its text.
 #![tactic(auto)]
 
 mod answer;
 mod call;
+mod link;
 mod made;
 mod reading;
 mod relay;

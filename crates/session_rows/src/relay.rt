@@ -6,11 +6,14 @@ use amqp_session::{LinkFlow, LinkRelay, LinkRelayError, OutputHandle};
 use amqp_types::{Attach, DeliveryNumber, DeliveryTag, Detach, Raw, Role, Transfer};
 use bytes::Bytes;
 
-/// Accepts an attach; answers a flow that asks for an echo with the same flow on its output handle; keeps a transfer open
-/// that is not settled and has a number and a tag; asks for an echo of every unsettled disposition; and answers a detach that
-/// the peer began with one on its output handle, closed alike and without an error.
+/// Accepts an attach, once it has refused as many as it is to; answers a flow that asks for an echo with the same flow on its
+/// output handle; keeps a transfer open that is not settled and has a number and a tag; asks for an echo of every unsettled
+/// disposition; and answers a detach that the peer began with one on its output handle, closed alike and without an error.
 #[derive(Drop)]
-pub struct RowRelay;
+pub struct RowRelay {
+    /// How many attaches it is still to refuse.
+    pub refusals: u32,
+}
 
 impl LinkRelay for RowRelay {
     ghost gives = { record {
@@ -22,6 +25,10 @@ impl LinkRelay for RowRelay {
     } };
 
     fn on_incoming_attach(&mut self, _attach: Attach) -> Result<(), LinkRelayError> {
+        if self.refusals > 0 {
+            self.refusals -= 1;
+            return Err(LinkRelayError::TransferFrameToSender);
+        }
         Ok(())
     }
 

@@ -1,7 +1,7 @@
 //! A line of the rows, and its answer.
 
 use crate::relay::RowRelay;
-use crate::{answer, call, made, reading};
+use crate::{answer, call, link, made, reading};
 use amqp_session::Session;
 use std::alloc::Global;
 
@@ -48,14 +48,14 @@ fn once(alloc: Global, session: &mut Session<RowRelay>, line: &str) -> anyhow::R
     }
 }
 
-/// What a call without an argument answers.
+/// What a call without an argument, or one for links, answers.
 fn plain(alloc: Global, session: &mut Session<RowRelay>, line: &str) -> anyhow::Result<String> {
     match line {
         "begin" => answer::sent(alloc, session.send_begin()),
         "session-flow" => answer::item(alloc, session.maybe_outgoing_session_flow()),
         "show" => show(alloc, session),
         "reasons" => reasons(alloc, session),
-        _ => Err(anyhow::anyhow!("no call")),
+        _ => link::answer(alloc, session, line),
     }
 }
 

@@ -2,7 +2,7 @@
 
 use crate::relays::{Choosing, Quiet};
 use amqp_session::laws::{
-    law_of_incoming_channels, law_of_input_handles, law_of_outgoing_channels,
+    law_of_incoming_channels, law_of_input_handles, law_of_links, law_of_outgoing_channels,
     law_of_output_handles, law_of_session_flows, law_of_views,
 };
 use amqp_session::{IncomingChannel, InputHandle, OutgoingChannel, OutputHandle};
@@ -13,6 +13,8 @@ use std::hash::{DefaultHasher, Hash, Hasher};
 fn laws_speak_of_both_relays(_rt: HostRuntime) {
     law_of_views::<Quiet>();
     law_of_views::<Choosing>();
+    law_of_links::<Quiet>();
+    law_of_links::<Choosing>();
     law_of_session_flows::<Quiet>();
     law_of_session_flows::<Choosing>();
 }

@@ -169,18 +169,90 @@ fn a_handle_is_free_when_its_detach_is_answered(rt: HostRuntime) {
     drop(one);
 }
 
-#[test]
-fn a_relay_is_told_who_began_a_detach(rt: HostRuntime) {
-    let alloc = rt.alloc();
+/// This side detaches an attached link twice, and the peer twice.
+fn detached_here<R: LinkRelay>(alloc: Global, relay: R) -> Result<[Answer; 6], AllocError> {
     let mut one = session(alloc);
-    let relay = Choosing { credit: 1 };
-    assert!(rt; allot_incoming(alloc, &mut one, "a", relay, 6) == Ok(Answer::Handle(0)));
-    assert!(rt; take_attach(alloc, &mut one, "a", 7) == Ok(Answer::InUse));
-    assert!(rt; take_detach(&mut one, 6) == Answer::Reply(6));
-    assert!(rt; take_detach(&mut one, 6) == Answer::Done);
-    let relay = Choosing { credit: 1 };
-    assert!(rt; allot_incoming(alloc, &mut one, "b", relay, 6) == Ok(Answer::Handle(1)));
-    assert!(rt; send_detach(&mut one, 1, true) == Answer::Frame(1));
-    assert!(rt; take_detach(&mut one, 6) == Answer::Done);
+    let answers = [
+        allot(alloc, &mut one, "a", relay)?,
+        take_attach(alloc, &mut one, "a", 5)?,
+        send_detach(&mut one, 0, true),
+        send_detach(&mut one, 0, true),
+        take_detach(&mut one, 5),
+        take_detach(&mut one, 5),
+    ];
     drop(one);
+    Ok(answers)
+}
+
+/// The peer detaches a handle without a link, and an attached link twice.
+fn detached_there<R: LinkRelay>(alloc: Global, relay: R) -> Result<[Answer; 5], AllocError> {
+    let mut one = session(alloc);
+    let answers = [
+        allot(alloc, &mut one, "a", relay)?,
+        take_attach(alloc, &mut one, "a", 5)?,
+        take_detach(&mut one, 9),
+        take_detach(&mut one, 5),
+        take_detach(&mut one, 5),
+    ];
+    drop(one);
+    Ok(answers)
+}
+
+/// A link of the peer's attach is allotted, attached once more, and detached by the peer twice.
+fn incoming<R: LinkRelay>(alloc: Global, relay: R) -> Result<[Answer; 5], AllocError> {
+    let mut one = session(alloc);
+    let answers = [
+        allot_incoming(alloc, &mut one, "c", relay, 6)?,
+        take_attach(alloc, &mut one, "c", 6)?,
+        take_attach(alloc, &mut one, "c", 7)?,
+        take_detach(&mut one, 6),
+        take_detach(&mut one, 6),
+    ];
+    drop(one);
+    Ok(answers)
+}
+
+#[test]
+fn a_relay_is_told_of_the_answer_to_a_detach(rt: HostRuntime) {
+    let alloc = rt.alloc();
+    let all = [
+        Answer::Handle(0),
+        Answer::Done,
+        Answer::Frame(0),
+        Answer::Done,
+        Answer::Done,
+        Answer::Done,
+    ];
+    assert!(rt; detached_here(alloc, Quiet) == Ok(all));
+    assert!(rt; detached_here(alloc, Choosing { credit: 1 }) == Ok(all));
+}
+
+#[test]
+fn a_relay_may_answer_a_detach_of_the_peer(rt: HostRuntime) {
+    let alloc = rt.alloc();
+    let mut all = [
+        Answer::Handle(0),
+        Answer::Done,
+        Answer::Done,
+        Answer::Done,
+        Answer::Done,
+    ];
+    assert!(rt; detached_there(alloc, Quiet) == Ok(all));
+    all[3] = Answer::Reply(5);
+    assert!(rt; detached_there(alloc, Choosing { credit: 1 }) == Ok(all));
+}
+
+#[test]
+fn an_incoming_link_is_attached_at_once(rt: HostRuntime) {
+    let alloc = rt.alloc();
+    let mut all = [
+        Answer::Handle(0),
+        Answer::InUse,
+        Answer::InUse,
+        Answer::Done,
+        Answer::Done,
+    ];
+    assert!(rt; incoming(alloc, Quiet) == Ok(all));
+    all[3] = Answer::Reply(6);
+    assert!(rt; incoming(alloc, Choosing { credit: 1 }) == Ok(all));
 }
