@@ -7,8 +7,8 @@ use Rattle.amqp_session.specs.Relay.{Relays}
 use Rattle.amqp_session.specs.Session.{SessionView}
 use Rattle.amqp_session.specs.History as session
 use Rattle.fe2o3_amqp.specs.declared.connection.error.ConnectionInnerError.{ConnectionInnerError}
-use Rattle.fe2o3_amqp.specs.declared.engine.input.StepError.{StepError}
-use Rattle.fe2o3_amqp.specs.declared.engine.input.StepError.TheVariants.{Connection}
+use Rattle.fe2o3_amqp.specs.declared.engine.step_error.StepError.{StepError}
+use Rattle.fe2o3_amqp.specs.declared.engine.step_error.StepError.TheVariants.{Connection}
 use Rattle.fe2o3_amqp.specs.Connection.{ConnectionView}
 use Rattle.fe2o3_amqp.specs.EngineView.{EngineView}
 use Rattle.fe2o3_amqp.specs.Waits.{sent}

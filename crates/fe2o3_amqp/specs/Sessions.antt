@@ -16,8 +16,8 @@ use Rattle.amqp_session.specs.Step.{StopStep, SendBeginStep}
 use Rattle.amqp_session.specs.OutgoingFrames.{calls_frames}
 use Rattle.amqp_session.specs.History as session
 use Rattle.fe2o3_amqp.specs.declared.connection.error.ConnectionInnerError.{ConnectionInnerError}
-use Rattle.fe2o3_amqp.specs.declared.engine.input.StepError.{StepError}
-use Rattle.fe2o3_amqp.specs.declared.engine.input.StepError.TheVariants as no
+use Rattle.fe2o3_amqp.specs.declared.engine.step_error.StepError.{StepError}
+use Rattle.fe2o3_amqp.specs.declared.engine.step_error.StepError.TheVariants as no
 use Rattle.fe2o3_amqp.specs.Connection.{ConnectionView, AllocateStep, Holds, given_back, not_found, refusal_of}
 use Rattle.fe2o3_amqp.specs.EngineView.{EngineView}
 use Rattle.fe2o3_amqp.specs.Waits.{sent}

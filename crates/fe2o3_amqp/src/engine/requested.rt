@@ -12,8 +12,12 @@ ghost use Rattle.std.specs.Fn.{FnOnceReturnsAtMut};
 ghost use Rattle.fe2o3_amqp.specs.Engine.{OpenRequest, CloseRequest, CarriedStep, close_reason};
 
 use super::Engine;
-use super::input::{Input, StepError};
-use super::sessions::{Outgoing, end, send_flow, send_transfer, stop};
+use super::input::Input;
+use super::sessions::{
+    Outgoing, allocate_incoming_link, allocate_link, end, send_attach, send_detach, send_flow,
+    send_transfer, stop,
+};
+use super::step_error::StepError;
 use super::waiting::Waiting;
 use crate::connection::ConnectionInnerError;
 use crate::numbers::SessionNo;
@@ -55,7 +59,7 @@ fn begun<R: LinkRelay>(
 }
 
 impl<R: LinkRelay> Engine<R> {
-    pub(super) fn carry_out(&mut self, input: Input) -> Result<(), StepError>
+    pub(super) fn carry_out(&mut self, input: Input<R>) -> Result<(), StepError>
         requires { self.old.waiting ≡ [] }
         ensures { CarriedStep R.gives self.old input (refusal_of result) self.new }
     {
@@ -65,6 +69,24 @@ impl<R: LinkRelay> Engine<R> {
             Input::Close(error) => self.request_close(error),
             Input::Begin(number, settings) => self.request_begin(number.0, settings),
             Input::End(number, error) => self.ask_session(number.0, |session| end(session, error)),
+            Input::AllocateLink(number, name, relay) => {
+                self.ask_session(number.0, |session| allocate_link(session, name, relay))
+            }
+            Input::AllocateIncomingLink(number, name, relay, input) => {
+                self.ask_session(
+                    number.0,
+                    |session| allocate_incoming_link(session, name, relay, input),
+                )
+            }
+            Input::Attach(number, attach) => {
+                self.ask_session(number.0, |session| send_attach(session, attach))
+            }
+            Input::Detach(number, detach, expects_echo) => {
+                self.ask_session(
+                    number.0,
+                    |session| send_detach(session, detach, expects_echo),
+                )
+            }
             Input::Flow(number, flow) => self.ask_session(
                 number.0,
                 |session| send_flow(session, flow),
@@ -164,7 +186,7 @@ impl<R: LinkRelay> Engine<R> {
             return Err(StepError::NoSession);
         };
         let held = session.outgoing_channel();
-        if self.connection.holder(held.0) != Some(number) {
+        if self.connection.holder(held) != Some(number) {
             return Err(StepError::Connection(ConnectionInnerError::NotFound(None)));
         }
         self.connection.deallocate_session(held);

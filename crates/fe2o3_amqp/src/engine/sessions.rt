@@ -1,20 +1,31 @@
 //! What is asked of one session: by a request, or by a frame that reached it.
 
-ghost use Rattle.std.specs.Prelude.{◌≡◌};
+ghost use Rattle.std.specs.Prelude.{◌≡◌, string_bytes};
+ghost use Rattle.amqp_session.specs.Items.{item_frames, first_frame};
 ghost use Rattle.amqp_session.specs.States.{takes_end};
-ghost use Rattle.fe2o3_amqp.specs.Calls.{is_end_received, end_reason, remote_end_reason, EndCalls, FlowCalls, TransferCalls, StopCalls, ReceivedBeginCalls, ReceivedEndCalls, ReceivedFlowCalls, ReceivedTransferCalls};
+ghost use Rattle.fe2o3_amqp.specs.Calls.{is_end_received, end_reason, remote_end_reason, EndCalls, AllocateLinkCalls, AllocateIncomingCalls, AttachCalls, DetachCalls, ReceivedAttachCalls, ReceivedDetachCalls, FlowCalls, TransferCalls, StopCalls, ReceivedBeginCalls, ReceivedEndCalls, ReceivedFlowCalls, ReceivedTransferCalls};
 ghost use Rattle.fe2o3_amqp.specs.Sessions.{Answered, RecordedEnd};
 
-use super::input::StepError;
+use super::step_error::StepError;
 use amqp_session::{
-    IncomingChannel, InputHandle, LinkFlow, LinkRelay, Session, SessionOutgoingItem,
+    IncomingChannel, InputHandle, LinkFlow, LinkRelay, Session, SessionFrame, SessionOutgoingItem,
     SessionStopReason,
 };
-use amqp_types::{Begin, End, Error, Flow, SessionState, Transfer};
+use amqp_types::{Attach, Begin, Detach, End, Error, Flow, SessionState, Transfer};
 use bytes::Bytes;
 
 /// What a session hands out, or why it refuses.
 pub(crate) type Outgoing = Result<Option<SessionOutgoingItem>, StepError>;
+
+/// One frame alone, if any.
+fn alone(frame: Option<SessionFrame>) -> Option<SessionOutgoingItem>
+    ensures { item_frames result ≡ first_frame frame }
+{
+    match frame {
+        None => None,
+        Some(frame) => Some(SessionOutgoingItem::SingleFrame(frame)),
+    }
+}
 
 /// Why a session stops with an End of this side.
 fn end_reason(error: &Option<Error>) -> SessionStopReason
@@ -55,6 +66,45 @@ pub(crate) fn end<R: LinkRelay>(session: &mut Session<R>, error: Option<Error>) 
     Ok(Some(SessionOutgoingItem::SingleFrame(frame)))
 }
 
+pub(crate) fn allocate_link<R: LinkRelay>(
+    session: &mut Session<R>,
+    name: String,
+    relay: Option<R>,
+) -> Outgoing
+    ensures { Answered R.gives session.old (AllocateLinkCalls (string_bytes name) relay) result session.new }
+{
+    session.allocate_link(name, relay)?;
+    Ok(None)
+}
+
+pub(crate) fn allocate_incoming_link<R: LinkRelay>(
+    session: &mut Session<R>,
+    name: String,
+    relay: R,
+    input: InputHandle,
+) -> Outgoing
+    ensures { Answered R.gives session.old (AllocateIncomingCalls (string_bytes name) relay input) result session.new }
+{
+    session.allocate_incoming_link(name, relay, input)?;
+    Ok(None)
+}
+
+pub(crate) fn send_attach<R: LinkRelay>(session: &mut Session<R>, attach: Attach) -> Outgoing
+    ensures { Answered R.gives session.old (AttachCalls attach) result session.new }
+{
+    Ok(Some(SessionOutgoingItem::SingleFrame(session.on_outgoing_attach(attach))))
+}
+
+pub(crate) fn send_detach<R: LinkRelay>(
+    session: &mut Session<R>,
+    detach: Detach,
+    expects_echo: bool,
+) -> Outgoing
+    ensures { Answered R.gives session.old (DetachCalls detach expects_echo) result session.new }
+{
+    Ok(alone(session.on_outgoing_detach(detach, expects_echo)?))
+}
+
 pub(crate) fn send_flow<R: LinkRelay>(session: &mut Session<R>, flow: LinkFlow) -> Outgoing
     ensures { Answered R.gives session.old (FlowCalls flow) result session.new }
 {
@@ -82,12 +132,12 @@ pub(crate) fn stop<R: LinkRelay>(session: &mut Session<R>, reason: SessionStopRe
 
 pub(crate) fn begin_received<R: LinkRelay>(
     session: &mut Session<R>,
-    channel: u16,
+    channel: IncomingChannel,
     begin: Begin,
 ) -> Outgoing
-    ensures { Answered R.gives session.old (ReceivedBeginCalls channel begin) result session.new }
+    ensures { Answered R.gives session.old (ReceivedBeginCalls channel.0 begin) result session.new }
 {
-    session.on_incoming_begin(IncomingChannel(channel), begin)?;
+    session.on_incoming_begin(channel, begin)?;
     Ok(None)
 }
 
@@ -101,15 +151,36 @@ fn record_end<R: LinkRelay>(session: &mut Session<R>, ends: bool, reason: Sessio
 }
 
 /// The peer's End. Records the reason unless this side sent End first.
-pub(crate) fn end_received<R: LinkRelay>(session: &mut Session<R>, channel: u16, end: End) -> Outgoing
-    ensures { Answered R.gives session.old (ReceivedEndCalls channel end) result session.new }
+pub(crate) fn end_received<R: LinkRelay>(
+    session: &mut Session<R>,
+    channel: IncomingChannel,
+    end: End,
+) -> Outgoing
+    ensures { Answered R.gives session.old (ReceivedEndCalls channel.0 end) result session.new }
 {
     let reason = remote_end_reason(&end);
     let ends = is_unsolicited(*session.local_state());
-    let told = session.on_incoming_end(IncomingChannel(channel), end);
+    let told = session.on_incoming_end(channel, end);
     record_end(session, ends, reason);
     told?;
     Ok(None)
+}
+
+pub(crate) fn attach_received<R: LinkRelay>(session: &mut Session<R>, attach: Attach) -> Outgoing
+    ensures { Answered R.gives session.old (ReceivedAttachCalls attach) result session.new }
+{
+    session.on_incoming_attach(attach)?;
+    Ok(None)
+}
+
+/// The peer's detach. What the link's relay answers goes out, and is answered no more.
+pub(crate) fn detach_received<R: LinkRelay>(session: &mut Session<R>, detach: Detach) -> Outgoing
+    ensures { Answered R.gives session.old (ReceivedDetachCalls detach) result session.new }
+{
+    match session.on_incoming_detach(detach)? {
+        None => Ok(None),
+        Some(answer) => Ok(alone(session.on_outgoing_detach(answer, false)?)),
+    }
 }
 
 pub(crate) fn flow_received<R: LinkRelay>(session: &mut Session<R>, flow: Flow) -> Outgoing

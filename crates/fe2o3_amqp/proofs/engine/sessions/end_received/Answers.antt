@@ -14,7 +14,7 @@ returns g c =
     let mid = c.on_incoming_end-told.new.self in
     let recorded = subst (λ (b : Bool). RecordedEnd mid c.remote_end_reason-reason.result b c.record_end.new.session) (c.is_unsolicited-ends.ensures ∙ ap (λ (x : SessionState). is_end_received (takes_end x)) c.local_state.ensures) c.record_end.ensures in
     record {
-      calls = session.TakesEnd c.args.channel c.args.end (Ok tt) ∷ recorded_remote_end ends c.args.end.error;
+      calls = session.TakesEnd c.args.channel.0 c.args.end (Ok tt) ∷ recorded_remote_end ends c.args.end.error;
       asked = (Ok tt, refl, refl);
       steps = (mid, c.in_ok-told.ensures, recorded_chain gives mid c.record_end.new.session c.remote_end_reason-reason.result c.args.end.error ends c.remote_end_reason-reason.ensures recorded);
       frames = recorded_frames _ c.args.end.error ends;
@@ -27,7 +27,7 @@ returns-in_err-told g c =
     let mid = c.on_incoming_end-told.new.self in
     let recorded = subst (λ (b : Bool). RecordedEnd mid c.remote_end_reason-reason.result b c.record_end.new.session) (c.is_unsolicited-ends.ensures ∙ ap (λ (x : SessionState). is_end_received (takes_end x)) c.local_state.ensures) c.record_end.ensures in
     record {
-      calls = session.TakesEnd c.args.channel c.args.end (Err c.in_err-told.field-0.0) ∷ recorded_remote_end ends c.args.end.error;
+      calls = session.TakesEnd c.args.channel.0 c.args.end (Err c.in_err-told.field-0.0) ∷ recorded_remote_end ends c.args.end.error;
       asked = (Err c.in_err-told.field-0.0, refl, search rules);
       steps = (mid, c.in_err-told.ensures, recorded_chain gives mid c.record_end.new.session c.remote_end_reason-reason.result c.args.end.error ends c.remote_end_reason-reason.ensures recorded);
       frames = recorded_frames _ c.args.end.error ends ∙ (search rules);
