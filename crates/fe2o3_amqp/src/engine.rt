@@ -75,7 +75,7 @@ impl<R: LinkRelay> Engine<R> {
             decoder: FrameDecoder::new(),
             connection: Connection::new(alloc, state, local_open),
             sessions: IndexMap::new(alloc),
-            waiting: Waiting::none(alloc),
+            waiting: Waiting::none(),
         }
     }
 

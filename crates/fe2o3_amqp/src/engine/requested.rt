@@ -22,8 +22,8 @@ use super::waiting::Waiting;
 use crate::connection::ConnectionInnerError;
 use crate::numbers::SessionNo;
 use amqp_session::{
-    ConnectionStopReason, LinkRelay, OutgoingChannel, Session, SessionFrame, SessionOutgoingItem,
-    SessionSettings, SessionStateError,
+    ConnectionStopReason, LinkRelay, OutgoingChannel, Session, SessionFrame, SessionSettings,
+    SessionStateError,
 };
 use amqp_types::{Error, SessionState};
 use std::alloc::Global;
@@ -110,7 +110,7 @@ impl<R: LinkRelay> Engine<R> {
         ensures { OpenRequest self.old (refusal_of result) self.new }
     {
         let frame = self.connection.send_open()?;
-        self.waiting.put(Waiting::one(self.alloc, frame));
+        self.waiting.put(Waiting::one(frame));
         Ok(())
     }
 
@@ -121,7 +121,7 @@ impl<R: LinkRelay> Engine<R> {
         let reason = reason_of(&error);
         let frame = self.connection.send_close(error)?;
         self.connection.set_connection_stop_reason(reason);
-        self.waiting.put(Waiting::one(self.alloc, frame));
+        self.waiting.put(Waiting::one(frame));
         Ok(())
     }
 
@@ -136,8 +136,8 @@ impl<R: LinkRelay> Engine<R> {
         let Some(session) = self.sessions.get_mut(&number) else {
             return Err(StepError::NoSession);
         };
-        let item = call(session)?;
-        self.waiting.put(Waiting::of(self.alloc, item));
+        let waiting = call(session)?;
+        self.waiting.put(waiting);
         Ok(())
     }
 
@@ -165,10 +165,7 @@ impl<R: LinkRelay> Engine<R> {
         match begun(self.alloc, settings, channel, stop) {
             Ok((session, frame)) => {
                 drop(self.sessions.insert(number, session).unwrap());
-                self.waiting.put(Waiting::of(
-                    self.alloc,
-                    Some(SessionOutgoingItem::SingleFrame(frame)),
-                ));
+                self.waiting.put(Waiting::alone(Some(frame)));
                 Ok(())
             }
             Err(error) => {

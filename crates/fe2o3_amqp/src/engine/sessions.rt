@@ -1,31 +1,18 @@
 //! What is asked of one session: by a request, or by a frame that reached it.
 
 ghost use Rattle.std.specs.Prelude.{◌≡◌, string_bytes};
-ghost use Rattle.amqp_session.specs.Items.{item_frames, first_frame};
 ghost use Rattle.amqp_session.specs.States.{takes_end};
 ghost use Rattle.fe2o3_amqp.specs.Calls.{is_end_received, end_reason, remote_end_reason, EndCalls, AllocateLinkCalls, AllocateIncomingCalls, AttachCalls, DetachCalls, ReceivedAttachCalls, ReceivedDetachCalls, FlowCalls, TransferCalls, StopCalls, ReceivedBeginCalls, ReceivedEndCalls, ReceivedFlowCalls, ReceivedTransferCalls};
 ghost use Rattle.fe2o3_amqp.specs.Sessions.{Answered, RecordedEnd};
 
 use super::step_error::StepError;
-use amqp_session::{
-    IncomingChannel, InputHandle, LinkFlow, LinkRelay, Session, SessionFrame, SessionOutgoingItem,
-    SessionStopReason,
-};
+use super::waiting::Waiting;
+use amqp_session::{IncomingChannel, InputHandle, LinkFlow, LinkRelay, Session, SessionStopReason};
 use amqp_types::{Attach, Begin, Detach, End, Error, Flow, SessionState, Transfer};
 use bytes::Bytes;
 
-/// What a session hands out, or why it refuses.
-pub(crate) type Outgoing = Result<Option<SessionOutgoingItem>, StepError>;
-
-/// One frame alone, if any.
-fn alone(frame: Option<SessionFrame>) -> Option<SessionOutgoingItem>
-    ensures { item_frames result ≡ first_frame frame }
-{
-    match frame {
-        None => None,
-        Some(frame) => Some(SessionOutgoingItem::SingleFrame(frame)),
-    }
-}
+/// The frames that wait for what a session hands out, or why it refuses.
+pub(crate) type Outgoing = Result<Waiting, StepError>;
 
 /// Why a session stops with an End of this side.
 fn end_reason(error: &Option<Error>) -> SessionStopReason
@@ -63,7 +50,7 @@ pub(crate) fn end<R: LinkRelay>(session: &mut Session<R>, error: Option<Error>) 
     let reason = end_reason(&error);
     let frame = session.send_end(error)?;
     session.set_session_stop_reason(reason);
-    Ok(Some(SessionOutgoingItem::SingleFrame(frame)))
+    Ok(Waiting::alone(Some(frame)))
 }
 
 pub(crate) fn allocate_link<R: LinkRelay>(
@@ -74,7 +61,7 @@ pub(crate) fn allocate_link<R: LinkRelay>(
     ensures { Answered R.gives session.old (AllocateLinkCalls (string_bytes name) relay) result session.new }
 {
     session.allocate_link(name, relay)?;
-    Ok(None)
+    Ok(Waiting::none())
 }
 
 pub(crate) fn allocate_incoming_link<R: LinkRelay>(
@@ -86,13 +73,13 @@ pub(crate) fn allocate_incoming_link<R: LinkRelay>(
     ensures { Answered R.gives session.old (AllocateIncomingCalls (string_bytes name) relay input) result session.new }
 {
     session.allocate_incoming_link(name, relay, input)?;
-    Ok(None)
+    Ok(Waiting::none())
 }
 
 pub(crate) fn send_attach<R: LinkRelay>(session: &mut Session<R>, attach: Attach) -> Outgoing
     ensures { Answered R.gives session.old (AttachCalls attach) result session.new }
 {
-    Ok(Some(SessionOutgoingItem::SingleFrame(session.on_outgoing_attach(attach))))
+    Ok(Waiting::alone(Some(session.on_outgoing_attach(attach))))
 }
 
 pub(crate) fn send_detach<R: LinkRelay>(
@@ -102,13 +89,13 @@ pub(crate) fn send_detach<R: LinkRelay>(
 ) -> Outgoing
     ensures { Answered R.gives session.old (DetachCalls detach expects_echo) result session.new }
 {
-    Ok(alone(session.on_outgoing_detach(detach, expects_echo)?))
+    Ok(Waiting::alone(session.on_outgoing_detach(detach, expects_echo)?))
 }
 
 pub(crate) fn send_flow<R: LinkRelay>(session: &mut Session<R>, flow: LinkFlow) -> Outgoing
     ensures { Answered R.gives session.old (FlowCalls flow) result session.new }
 {
-    Ok(Some(SessionOutgoingItem::SingleFrame(session.on_outgoing_flow(flow))))
+    Ok(Waiting::alone(Some(session.on_outgoing_flow(flow))))
 }
 
 pub(crate) fn send_transfer<R: LinkRelay>(
@@ -120,14 +107,14 @@ pub(crate) fn send_transfer<R: LinkRelay>(
 ) -> Outgoing
     ensures { Answered R.gives session.old (TransferCalls (record { input_handle = input.0; transfer = transfer; payload = payload; is_first = is_first })) result session.new }
 {
-    Ok(session.on_outgoing_transfer(input, transfer, payload, is_first)?)
+    Ok(Waiting::of(session.on_outgoing_transfer(input, transfer, payload, is_first)?))
 }
 
 pub(crate) fn stop<R: LinkRelay>(session: &mut Session<R>, reason: SessionStopReason) -> Outgoing
     ensures { Answered R.gives session.old (StopCalls reason) result session.new }
 {
     session.set_session_stop_reason(reason);
-    Ok(None)
+    Ok(Waiting::none())
 }
 
 pub(crate) fn begin_received<R: LinkRelay>(
@@ -138,7 +125,7 @@ pub(crate) fn begin_received<R: LinkRelay>(
     ensures { Answered R.gives session.old (ReceivedBeginCalls channel.0 begin) result session.new }
 {
     session.on_incoming_begin(channel, begin)?;
-    Ok(None)
+    Ok(Waiting::none())
 }
 
 /// Records why the peer ended the session, where its End is unsolicited.
@@ -163,14 +150,14 @@ pub(crate) fn end_received<R: LinkRelay>(
     let told = session.on_incoming_end(channel, end);
     record_end(session, ends, reason);
     told?;
-    Ok(None)
+    Ok(Waiting::none())
 }
 
 pub(crate) fn attach_received<R: LinkRelay>(session: &mut Session<R>, attach: Attach) -> Outgoing
     ensures { Answered R.gives session.old (ReceivedAttachCalls attach) result session.new }
 {
     session.on_incoming_attach(attach)?;
-    Ok(None)
+    Ok(Waiting::none())
 }
 
 /// The peer's detach. What the link's relay answers goes out, and is answered no more.
@@ -178,15 +165,15 @@ pub(crate) fn detach_received<R: LinkRelay>(session: &mut Session<R>, detach: De
     ensures { Answered R.gives session.old (ReceivedDetachCalls detach) result session.new }
 {
     match session.on_incoming_detach(detach)? {
-        None => Ok(None),
-        Some(answer) => Ok(alone(session.on_outgoing_detach(answer, false)?)),
+        None => Ok(Waiting::none()),
+        Some(answer) => Ok(Waiting::alone(session.on_outgoing_detach(answer, false)?)),
     }
 }
 
 pub(crate) fn flow_received<R: LinkRelay>(session: &mut Session<R>, flow: Flow) -> Outgoing
     ensures { Answered R.gives session.old (ReceivedFlowCalls flow) result session.new }
 {
-    Ok(session.on_incoming_flow(flow)?)
+    Ok(Waiting::of(session.on_incoming_flow(flow)?))
 }
 
 /// The peer's transfer; after one that is accepted a session flow may be due.
@@ -198,5 +185,5 @@ pub(crate) fn transfer_received<R: LinkRelay>(
     ensures { Answered R.gives session.old (ReceivedTransferCalls transfer payload) result session.new }
 {
     let _none = session.on_incoming_transfer(transfer, payload)?;
-    Ok(session.maybe_outgoing_session_flow())
+    Ok(Waiting::of(session.maybe_outgoing_session_flow()))
 }

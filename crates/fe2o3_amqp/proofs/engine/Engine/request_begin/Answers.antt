@@ -35,7 +35,7 @@ returns-in-Ok-begun g c =
           allocated = a;
           asked = (c.in-Ok-begun.frame, refl, refl);
           steps = (c.in-Ok-begun.session, began, refl);
-          put = same_engine _ _ _ _ _ _ _ refl entries (c.put.ensures ∙ c.of.ensures);
+          put = same_engine _ _ _ _ _ _ _ refl entries (c.put.ensures ∙ c.alone.ensures);
         },
       ),
     )

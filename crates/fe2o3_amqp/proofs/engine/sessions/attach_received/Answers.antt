@@ -1,4 +1,4 @@
-use Rattle.std.proofs.Common.{rules, Ok, Err, refl, [], ◌∷◌}
+use Rattle.std.proofs.Common.{sym, rules, Ok, Err, refl, [], ◌∷◌}
 use Rattle.amqp_session.specs.History as session
 use Rattle.fe2o3_amqp.proofs.engine.sessions.attach_received.Goals as goal
 
@@ -9,7 +9,7 @@ returns g c =
       calls = session.TakesAttach c.args.attach received.0 (Ok tt) ∷ [];
       asked = (received.0, Ok tt, refl, refl);
       steps = (c.on_incoming_attach.new.self, received.1, refl);
-      frames = refl;
+      frames = sym c.none.ensures;
     }
 
 pub returns-in_err-on_incoming_attach : goal.returns-in_err-on_incoming_attach
