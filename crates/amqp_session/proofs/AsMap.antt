@@ -17,7 +17,7 @@ use Rattle.std.proofs.lemmas.Map.Text.{is_eq-slice_cmp, hash_map_updates_text}
 use Rattle.slab.specs.Slab.{Slab, Updates, entries_from, get as slot}
 use Rattle.amqp_session.specs.declared.link.Named.{Named}
 use Rattle.amqp_session.specs.declared.link.handles.Place.{Place}
-use Rattle.amqp_session.specs.declared.link.handles.Place.TheVariants.{Live, Awaited}
+use Rattle.amqp_session.specs.declared.link.handles.Place.TheVariants.{Awaited}
 use Rattle.amqp_session.specs.Linking.{live_name, is_awaited, IsWaited}
 use Rattle.amqp_session.specs.Links.{place_name, handles_of, names_of}
 

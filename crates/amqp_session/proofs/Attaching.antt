@@ -1,6 +1,5 @@
 -- What a session's links are after the calls that ask relays.
-use Rattle.std.proofs.Common.{◌≡◌, ℕ, List, Option, Some, None, Result, Ok, Err, Bool, true, false, cond, refl, ap, sym, subst, ◌∙◌}
-use Rattle.std.specs.Ordering.{nat_cmp}
+use Rattle.std.proofs.Common.{◌≡◌, ℕ, Option, Some, None, Result, Ok, Err, cond, refl, ap, ◌∙◌}
 use Rattle.std.specs.FinMap as map
 use Rattle.amqp_types.specs.Attach.{AttachSaid}
 use Rattle.amqp_session.specs.declared.link.Named.{Named}

@@ -1,6 +1,5 @@
 -- All frames that a session hands out are on its channel.
-use Rattle.std.proofs.Common.{◌≡◌, List, [], ◌∷◌, ◌++◌, subst}
-use Rattle.amqp_session.specs.declared.frame.SessionFrame.{SessionFrame}
+use Rattle.std.proofs.Common.{List, [], ◌∷◌, ◌++◌, subst}
 use Rattle.amqp_session.specs.Session.{SessionView, new_session}
 use Rattle.amqp_session.specs.Relay.{Relays}
 use Rattle.amqp_session.specs.History.{Entry, Chain, Made, LeadsTo}

@@ -21,13 +21,13 @@ use Rattle.amqp_session.specs.Settings.{SettingsSaid}
 use Rattle.amqp_session.specs.States.{is_mapped, sends_begin, takes_begin, sends_end, takes_end}
 use Rattle.amqp_session.specs.Receiving.{numbered_anew, counted, reported}
 use Rattle.amqp_session.specs.Links.{LinksView, no_links, attached_at}
-use Rattle.amqp_session.specs.Relay.{Relays, AttachQuestion, FlowQuestion, TransferQuestion, Question, Gives, Asks}
+use Rattle.amqp_session.specs.Relay.{Relays, AttachQuestion, FlowQuestion, Question, Gives, Asks}
 use Rattle.amqp_session.specs.Transfers.{RequestedTransfer, numbered, first_of}
-use Rattle.amqp_session.specs.Sending.{SendingView, joined, begun, moved, let_out, drained, opened_by}
+use Rattle.amqp_session.specs.Sending.{SendingView, joined, begun, moved, let_out, opened_by}
 use Rattle.amqp_session.specs.Items.{HandsOut, item_frames, first_frame, is_some_list}
 use Rattle.amqp_session.specs.Session.{SessionView, flow_frame, lets, let_gone}
 use Rattle.amqp_session.specs.Deliveries.{with_record, RecordFits}
-use Rattle.amqp_session.specs.Step.{BeginFits, begun_by, has_error, FlowFits, FlowGoes, named_delivery, waits, flow_base, flow_moved, counted_by, asked_at, FlowAnswered, FlowUnasked, FlowTaken, TakeTransferStep, TransferAnswered, TransferUnasked}
+use Rattle.amqp_session.specs.Step.{BeginFits, begun_by, has_error, FlowFits, FlowGoes, named_delivery, waits, flow_base, flow_moved, counted_by, asked_at, FlowAnswered, FlowUnasked, FlowTaken, TransferAnswered, TransferUnasked}
 use Rattle.amqp_session.specs.Linking.{AttachAnswered, Attaches}
 use Rattle.amqp_session.specs.Linked.{taken_by}
 use Rattle.amqp_session.proofs.Taking.{at_insert, taken_release, taken_leave, taken_drop}

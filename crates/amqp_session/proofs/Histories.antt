@@ -8,7 +8,6 @@ use Rattle.amqp_session.specs.declared.frame.SessionOutgoingItem.{SessionOutgoin
 use Rattle.amqp_session.specs.declared.error.SessionInnerError.{SessionInnerError}
 use Rattle.amqp_session.specs.declared.error.SessionInnerError.TheVariants as Refused
 use Rattle.amqp_session.specs.Serial.{In, remaining}
-use Rattle.amqp_session.specs.States.{is_mapped}
 use Rattle.amqp_session.specs.declared.deliveries.Delivery.{Delivery}
 use Rattle.amqp_session.specs.declared.session.receiving.Receiving.{Receiving}
 use Rattle.amqp_session.specs.Transfers.{RequestedTransfer, firsts, opened}

@@ -1,5 +1,5 @@
 -- What a history says, with one call more.
-use Rattle.std.proofs.Common.{◌≡◌, ℕ, ◌<◌, ◌+◌, ◌-◌, ◌%◌, ◌^◌, ◌++◌, [], ◌∷◌, List, refl, ap, arith, sym, ◌∙◌, append_assoc, append-nil, min, Bool, true, false, cond, Option, Some, None, Ok}
+use Rattle.std.proofs.Common.{◌≡◌, ℕ, ◌+◌, ◌-◌, ◌%◌, ◌^◌, ◌++◌, [], ◌∷◌, List, refl, ap, arith, sym, ◌∙◌, append_assoc, append-nil, min, Bool, true, false, cond, Option, Some, None, Ok}
 use Rattle.amqp_session.specs.declared.deliveries.Delivery.{Delivery}
 use Rattle.amqp_session.specs.declared.session.receiving.Receiving.{Receiving}
 use Rattle.amqp_session.specs.declared.stop.SessionStopReason.{SessionStopReason}

@@ -1,13 +1,12 @@
 -- How output handles are taken after each call for links.
-use Rattle.std.proofs.Common.{◌≡◌, ℕ, List, Option, Some, None, Bool, true, false, cond, nat_eq, arith, refl, ap, sym, subst, ◌∙◌}
+use Rattle.std.proofs.Common.{◌≡◌, ℕ, List, Option, Some, None, Bool, true, false, cond, nat_eq, arith, refl, ap, sym, ◌∙◌}
 use Rattle.std.proofs.lemmas.Bool.Decides.{nat_tests}
 use Rattle.std.proofs.lemmas.Grind.{common_steps}
-use Rattle.std.specs.Ordering.{nat_cmp}
 use Rattle.std.specs.Cmp.{nat_cmp_total}
 use Rattle.std.specs.FinMap as map
 use Rattle.std.specs.FinMap.{get-insert, get-remove}
 use Rattle.amqp_session.specs.Links.{LinksView, Handles}
-use Rattle.amqp_session.specs.Linking.{live_name, is_awaited, awaits, name_at, Releases, Leaves, dropped}
+use Rattle.amqp_session.specs.Linking.{live_name, is_awaited, awaits, Releases, Leaves, dropped}
 use Rattle.amqp_session.specs.Linked.{Taken, without_live, left_by_detach, answered}
 use Rattle.amqp_session.proofs.AsMap.{same_test}
 

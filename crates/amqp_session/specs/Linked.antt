@@ -1,5 +1,5 @@
 -- What a history says of output handles: which live link has each, and which are awaited (AMQP 1.0 part 2, section 2.6.2).
-use Rattle.std.specs.Prelude.{ℕ, Bool, if◌then◌else◌, nat_eq, List, [], ◌∷◌, Option, Some, None, Result, Ok}
+use Rattle.std.specs.Prelude.{ℕ, Bool, if◌then◌else◌, nat_eq, List, [], ◌∷◌, Option, Some, None, Ok}
 use Rattle.amqp_session.specs.History.{Entry, AllocatesLink, AllocatesIncomingLink, DeallocatesLink, TakesDetach, SendsDetach}
 
 -- How a handle is taken: not at all; by the live link of a name; or by none, where the peer's answer to the detach of its last

@@ -21,7 +21,7 @@ use Rattle.amqp_session.specs.declared.error.SessionInnerError.TheVariants as Re
 use Rattle.amqp_session.specs.Errors.{inner_of_relay}
 use Rattle.amqp_session.specs.Links.{LinksView, Names, attached_at, put_at}
 use Rattle.amqp_session.specs.declared.link.Attached.{Attached}
-use Rattle.amqp_session.specs.Relay.{AttachGives, DetachGives, AttachQuestion, DetachQuestion, Question, Asks, goes_on, of_attach, of_detach}
+use Rattle.amqp_session.specs.Relay.{AttachGives, DetachGives, AttachQuestion, DetachQuestion, Asks, goes_on, of_detach}
 use Rattle.amqp_session.specs.States.{is_mapped}
 use Rattle.amqp_session.specs.Session.{SessionView}
 

@@ -1,4 +1,4 @@
-use Rattle.std.proofs.Common.{◌≡◌, Option, Some, None, refl, ap, sym, subst, ◌∙◌}
+use Rattle.std.proofs.Common.{◌≡◌, None, ap, subst, ◌∙◌}
 use Rattle.std.specs.FinMap as map
 use Rattle.amqp_types.specs.Attach.{AttachSaid}
 use Rattle.amqp_session.specs.declared.numbers.InputHandle.{InputHandle}

@@ -1,4 +1,4 @@
-use Rattle.std.proofs.Common.{◌≡◌, ap, subst, ◌∙◌, Some, None}
+use Rattle.std.proofs.Common.{ap, subst, ◌∙◌, Some, None}
 use Rattle.std.specs.FinMap as map
 use Rattle.slab.specs.Slab.{Updates}
 use Rattle.amqp_session.specs.declared.link.handles.Place.TheVariants.{Awaited}

@@ -1,4 +1,4 @@
-use Rattle.std.proofs.Common.{◌≡◌, Option, Some, None, IsSome, ap, sym, subst, ◌∙◌, string_bytes, List, ℕ, refl}
+use Rattle.std.proofs.Common.{◌≡◌, Option, IsSome, ap, sym, subst, ◌∙◌, refl}
 use Rattle.std.specs.Option.{option_copied_mut}
 use Rattle.std.specs.FinMap as map
 use Rattle.amqp_types.specs.Attach.{AttachSaid}

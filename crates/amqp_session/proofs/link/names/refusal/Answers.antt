@@ -1,4 +1,4 @@
-use Rattle.std.proofs.Common.{◌≡◌, Option, Some, None, is_some, Bool, true, false, refl, sym, subst, ◌∙◌}
+use Rattle.std.proofs.Common.{◌≡◌, Option, Some, None, is_some, false, refl, sym, subst, ◌∙◌}
 use Rattle.amqp_session.specs.declared.link.Named.{Named}
 use Rattle.amqp_session.specs.declared.error.SessionInnerError.TheVariants as Refused
 use Rattle.amqp_session.specs.Linking.{AttachRefused, IsWaited}
