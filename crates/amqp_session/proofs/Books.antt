@@ -1,5 +1,5 @@
 -- The books of the sending half: numbers, window and what waits.
-use Rattle.std.proofs.Common.{◌≡◌, ℕ, suc, zero, ◌<◌, ◌≤◌, ◌-◌, ◌+◌, ◌%◌, ◌^◌, ◌++◌, [], ◌∷◌, List, length, take, drop, refl, ap, arith, sym, subst, ◌∙◌, min, append_assoc, append-nil, length-append, length-take, length-drop, Bool, true, false, cond, Option, Some, None, is_some, slice_get, unwrap_or}
+use Rattle.std.proofs.Common.{◌≡◌, ℕ, suc, zero, ◌<◌, ◌≤◌, ◌-◌, ◌+◌, ◌%◌, ◌^◌, ◌++◌, [], ◌∷◌, List, length, take, drop, refl, ap, arith, sym, ◌∙◌, min, append_assoc, append-nil, length-append, length-take, length-drop, Bool, true, false, cond, Option, Some, None, is_some, slice_get, unwrap_or}
 use Rattle.std.proofs.lemmas.List.{take-append-le, drop-append-le, drop-drop, take_min, drop_min}
 use Rattle.amqp_session.specs.declared.frame.SessionFrame.{SessionFrame}
 use Rattle.amqp_session.specs.declared.frame.SessionOutgoingItem.{SessionOutgoingItem}

@@ -3,6 +3,7 @@ use Rattle.std.specs.Prelude.{ℕ, ◌<◌, ◌^◌, List, [], ◌∷◌, Option
 use Rattle.amqp_types.specs.declared.definitions.Role.{Role}
 use Rattle.amqp_types.specs.declared.definitions.Role.TheVariants.{Sender, Receiver}
 use Rattle.amqp_session.specs.declared.deliveries.Delivery.{Delivery}
+use Rattle.amqp_session.specs.declared.deliveries.WalkCount.{WalkCount}
 
 -- the records with this one among them: it takes the place of an older one of its number
 abbrev pub recorded : Delivery → List Delivery → List Delivery
@@ -67,10 +68,11 @@ abbrev pub of_role : Role → OpenView → List Delivery
 of_role Receiver v = v.receiver
 of_role Sender v = v.sender
 
--- A table of deliveries: its records, how many it has room for, and how much of it the walk that began last has read:
--- records, and numbers alone.
+-- A table of deliveries: its records, and how many it has room for.
 pub record TableView : Type 0 where
   pub rows : List Delivery
   pub capacity : ℕ
-  pub turns : ℕ
-  pub comparisons : ℕ
+
+-- a walk that has read nothing
+abbrev pub nothing_read : WalkCount
+nothing_read = record { turns = 0; comparisons = 0 }

@@ -3,6 +3,7 @@ use Rattle.std.specs.Prelude.{ℕ, List, [], Option, Some, None, Bool, false, if
 use Rattle.amqp_types.specs.Error.{ErrorSaid}
 use Rattle.amqp_types.specs.Flow.{FlowSaid}
 use Rattle.amqp_types.specs.declared.states.SessionState.{SessionState}
+use Rattle.amqp_session.specs.declared.deliveries.WalkCount.{WalkCount}
 use Rattle.amqp_session.specs.declared.flow.LinkFlow.{LinkFlow}
 use Rattle.amqp_session.specs.declared.frame.SessionFrame.{SessionFrame}
 use Rattle.amqp_session.specs.declared.frame.SessionFrameBody.TheVariants as Body
@@ -27,6 +28,11 @@ pub record SessionView (R : Type 0) : Type 0 where
   pub receiving : Receiving
   pub links : LinksView R
   pub deliveries : OpenView
+
+-- A session as contracts see it: its view, and beside it the counts of its latest walk.
+pub record Observed (R : Type 0) : Type 0 where
+  pub view : SessionView R
+  pub last_walk : WalkCount
 
 abbrev pub new_session : {R : Type 0} → SettingsSaid → ℕ → SessionState → Option ConnectionStopReason → SessionView R
 new_session settings channel state stop = record {

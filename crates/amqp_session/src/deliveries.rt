@@ -1,8 +1,8 @@
 //! Tables of open deliveries, sorted by number, that are read by counted reads alone.
 
-ghost use Rattle.std.specs.Prelude.{◌≡◌, ℕ, ◌+◌, ◌-◌, ◌*◌, ◌^◌, ◌<◌, ◌≤◌, ⊤, [], length, slice_get, slice_set, Some, OnOk, IsTrue, false};
+ghost use Rattle.std.specs.Prelude.{◌≡◌, ℕ, ◌+◌, ◌-◌, ◌*◌, ◌^◌, ◌<◌, ◌≤◌, [], length, slice_get, slice_set, Some, OnOk, IsTrue, false};
 ghost use Rattle.std.specs.VecDeque.{deque_capacity};
-ghost use Rattle.amqp_session.specs.Deliveries.{TableView, IsRising, number_at, recorded};
+ghost use Rattle.amqp_session.specs.Deliveries.{IsRising, nothing_read, number_at, recorded};
 
 use crate::numbers::InputHandle;
 use amqp_types::DeliveryTag;
@@ -37,7 +37,18 @@ pub struct WalkCount {
 #[derive(Drop)]
 pub(crate) struct Deliveries {
     rows: VecDeque<Delivery>,
-    count: WalkCount,
+}
+
+impl WalkCount {
+    /// Nothing is read.
+    pub(crate) fn new() -> WalkCount
+        ensures { result ≡ nothing_read }
+    {
+        WalkCount {
+            turns: 0,
+            comparisons: 0,
+        }
+    }
 }
 
 impl Model for Deliveries {
@@ -49,8 +60,6 @@ impl Model for Deliveries {
     ghost view = { λ t. record {
       rows = t.rows.items;
       capacity = deque_capacity t.rows;
-      turns = t.count.turns;
-      comparisons = t.count.comparisons;
     } };
 
     ghost invariant = { λ t. IsTable t.rows.items };
@@ -66,23 +75,12 @@ fn replace(rows: &mut VecDeque<Delivery>, place: usize, delivery: Delivery)
 }
 
 impl Deliveries {
-    ghost use Rattle.std.specs.Borrow.{sem};
-    ghost use denote.Follow.{follows_so};
-    ghost use mathlib.Core.Option.{none};
-    ghost use Rattle.amqp_session.specs.contracts.deliveries.Deliveries.{the_row};
-
     /// A table with no record.
     pub(crate) fn new(alloc: Global) -> Deliveries
         ensures rows { result.rows ≡ [] }
-        ensures turns { result.turns ≡ 0 }
-        ensures comparisons { result.comparisons ≡ 0 }
     {
         Deliveries {
             rows: VecDeque::new(alloc),
-            count: WalkCount {
-                turns: 0,
-                comparisons: 0,
-            },
         }
     }
 
@@ -95,42 +93,25 @@ impl Deliveries {
         self.rows.len()
     }
 
-    /// What the walk that began last has read.
-    pub(crate) fn count(&self) -> WalkCount
-        ensures { result ≡ record { turns = self.now.turns; comparisons = self.now.comparisons } }
-    {
-        self.count
-    }
-
-    /// A new walk begins.
-    pub(crate) fn begin_walk(&mut self)
-        ensures { self.new ≡ record self.old { turns = 0; comparisons = 0 } }
-    {
-        self.count = WalkCount {
-            turns: 0,
-            comparisons: 0,
-        };
-    }
-
     /// The number at a place: one comparison.
-    pub(crate) fn number(&mut self, at: usize) -> u32
-        requires within { at < length self.old.rows }
-        requires few { self.old.comparisons < 2 ^ 32 - 1 }
-        ensures value { result ≡ number_at self.old.rows at }
-        ensures counted { self.new ≡ record self.old { comparisons = self.old.comparisons + 1 } }
+    pub(crate) fn number(&self, at: usize, walk: &mut WalkCount) -> u32
+        requires within { at < length self.now.rows }
+        requires few { walk.old.comparisons < 2 ^ 32 - 1 }
+        ensures value { result ≡ number_at self.now.rows at }
+        ensures counted { walk.new ≡ record walk.old { comparisons = walk.old.comparisons + 1 } }
     {
-        self.count.comparisons += 1;
+        walk.comparisons += 1;
         self.rows[at].number
     }
 
     /// The record at a place: one turn.
-    pub(crate) fn delivery(&mut self, at: usize) -> &Delivery
-        requires within { at < length self.old.rows }
-        requires few { self.old.turns < 2 ^ 64 - 1 }
-        ensures value { slice_get self.old.rows at ≡ Some result.now }
-        ensures* counted { sem 𝓛 (follows_so the_row the_row self.entry.ghost_name none (λ _ _. ⊤) (λ v. v ≡ record self.old { turns = self.old.turns + 1 })) }
+    pub(crate) fn delivery(&self, at: usize, walk: &mut WalkCount) -> &Delivery
+        requires within { at < length self.now.rows }
+        requires few { walk.old.turns < 2 ^ 64 - 1 }
+        ensures value { slice_get self.now.rows at ≡ Some result.now }
+        ensures counted { walk.new ≡ record walk.old { turns = walk.old.turns + 1 } }
     {
-        self.count.turns += 1;
+        walk.turns += 1;
         &self.rows[at]
     }
 
@@ -148,7 +129,6 @@ impl Deliveries {
         ensures rows { self.new.rows ≡ recorded delivery self.old.rows }
         ensures capacity { self.old.capacity ≤ self.new.capacity }
     {
-        self.begin_walk();
         if self.is_last(delivery.number) {
             self.rows.push_back_reserved(delivery);
         } else {
@@ -170,11 +150,10 @@ impl Deliveries {
     /// Puts a record in its place, which the search finds.
     fn put(&mut self, delivery: Delivery)
         requires room { length self.old.rows < self.old.capacity }
-        requires walk { self.old.comparisons ≡ 0 }
         ensures rows { self.new.rows ≡ recorded delivery self.old.rows }
         ensures capacity { self.old.capacity ≤ self.new.capacity }
     {
-        let place = self.place_of(delivery.number);
+        let place = self.place_of(delivery.number, &mut WalkCount::new());
         if self.stands_at(place, delivery.number) {
             replace(&mut self.rows, place, delivery);
         } else {
@@ -190,20 +169,20 @@ impl Deliveries {
         place < self.rows.len() && self.rows[place].number == number
     }
 
-    /// Where the numbers from `first` on begin.
-    pub(crate) fn place_of(&mut self, first: u32) -> usize
-        requires { self.old.comparisons ≡ 0 }
-        ensures same { self.new ≡ record self.old { comparisons = self.new.comparisons } }
-        ensures within { result ≤ length self.old.rows }
-        ensures below { (i : ℕ) → i < result → number_at self.old.rows i < first }
-        ensures above { (i : ℕ) → result ≤ i → i < length self.old.rows → first ≤ number_at self.old.rows i }
-        ensures cost { 2 ^ self.new.comparisons ≤ 2 * length self.old.rows + 1 }
+    /// Where the numbers from `first` on begin, by a binary search. Each number that is read is counted.
+    pub(crate) fn place_of(&self, first: u32, walk: &mut WalkCount) -> usize
+        requires { walk.old.comparisons ≡ 0 }
+        ensures same { walk.new ≡ record walk.old { comparisons = walk.new.comparisons } }
+        ensures within { result ≤ length self.now.rows }
+        ensures below { (i : ℕ) → i < result → number_at self.now.rows i < first }
+        ensures above { (i : ℕ) → result ≤ i → i < length self.now.rows → first ≤ number_at self.now.rows i }
+        ensures cost { 2 ^ walk.new.comparisons ≤ 2 * length self.now.rows + 1 }
     {
         let mut low = 0;
         let mut high = self.len();
         while low < high {
             let middle = low + (high - low) / 2;
-            if self.number(middle) < first {
+            if self.number(middle, walk) < first {
                 low = middle + 1;
             } else {
                 high = middle;

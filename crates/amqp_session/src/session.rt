@@ -2,6 +2,7 @@
 
 ghost use Rattle.std.specs.Prelude.{◌≡◌, ◌+◌, ℕ, length};
 ghost use Rattle.amqp_session.specs.States.{is_mapped};
+ghost use Rattle.amqp_session.specs.Deliveries.{nothing_read};
 ghost use Rattle.amqp_session.specs.Session.{new_session};
 ghost use Rattle.amqp_session.specs.Step.{StopStep};
 
@@ -15,7 +16,7 @@ pub(crate) mod transfers;
 
 use self::receiving::Receiving;
 use self::transfers::Sending;
-use crate::deliveries::Deliveries;
+use crate::deliveries::{Deliveries, WalkCount};
 use crate::link::Links;
 use crate::numbers::{IncomingChannel, OutgoingChannel};
 use crate::relay::LinkRelay;
@@ -44,29 +45,33 @@ pub struct Session<R> {
     links: Links<R>,
     sent: Deliveries,
     received: Deliveries,
+    last_walk: WalkCount,
 }
 
 impl<R> Model for Session<R> {
     ghost use Rattle.std.specs.Coded.{codes};
     ghost use Rattle.std.specs.Option.{option_map};
     ghost use Rattle.amqp_session.specs.Links.{links_code};
-    ghost use Rattle.amqp_session.specs.Session.{SessionView};
+    ghost use Rattle.amqp_session.specs.Session.{Observed};
 
-    ghost Value = { SessionView R };
+    ghost Value = { Observed R };
 
     ghost coded = { Prim.hlevel (codes, links_code) };
 
     ghost view = { λ s. record {
-      state = s.state;
-      settings = s.settings;
-      outgoing_channel = s.outgoing_channel.0;
-      incoming_channel = option_map (λ c. c.0) s.incoming_channel;
-      connection_stop = s.connection_stop;
-      session_stop = s.session_stop;
-      sending = s.sending;
-      receiving = s.receiving;
-      links = s.links;
-      deliveries = record { receiver = s.sent.rows; sender = s.received.rows };
+      view = record {
+        state = s.state;
+        settings = s.settings;
+        outgoing_channel = s.outgoing_channel.0;
+        incoming_channel = option_map (λ c. c.0) s.incoming_channel;
+        connection_stop = s.connection_stop;
+        session_stop = s.session_stop;
+        sending = s.sending;
+        receiving = s.receiving;
+        links = s.links;
+        deliveries = record { receiver = s.sent.rows; sender = s.received.rows };
+      };
+      last_walk = s.last_walk;
     } };
 }
 
@@ -80,7 +85,8 @@ impl<R: LinkRelay> Session<R> {
         state: SessionState,
         connection_stop: Option<ConnectionStopReason>,
     ) -> Self
-        ensures { result ≡ new_session settings outgoing_channel.0 state connection_stop }
+        ensures view { result.view ≡ new_session settings outgoing_channel.0 state connection_stop }
+        ensures walk { result.last_walk ≡ nothing_read }
     {
         let next_outgoing_id = settings.next_outgoing_id;
         Session {
@@ -96,47 +102,49 @@ impl<R: LinkRelay> Session<R> {
             links: Links::new(alloc),
             sent: Deliveries::new(alloc),
             received: Deliveries::new(alloc),
+            last_walk: WalkCount::new(),
         }
     }
 
     /// The state (AMQP 1.0 part 2, section 2.5.5).
     pub fn local_state(&self) -> &SessionState
-        ensures { result.now ≡ self.now.state }
+        ensures { result.now ≡ self.now.view.state }
     {
         &self.state
     }
 
     /// Whether a transfer is taken: exactly in `Mapped`.
     pub fn can_send(&self) -> bool
-        ensures { result ≡ is_mapped self.now.state }
+        ensures { result ≡ is_mapped self.now.view.state }
     {
         matches!(self.state, SessionState::Mapped)
     }
 
     /// The channel of the frames that go out.
     pub fn outgoing_channel(&self) -> OutgoingChannel
-        ensures { result.0 ≡ self.now.outgoing_channel }
+        ensures { result.0 ≡ self.now.view.outgoing_channel }
     {
         self.outgoing_channel
     }
 
     /// Why the session stopped, if that is recorded.
     pub fn session_stop_reason(&self) -> Option<SessionStopReason>
-        ensures { result ≡ self.now.session_stop }
+        ensures { result ≡ self.now.view.session_stop }
     {
         self.session_stop
     }
 
     /// Why the connection had stopped when the session was made, if it had.
     pub fn connection_stop_reason(&self) -> Option<ConnectionStopReason>
-        ensures { result ≡ self.now.connection_stop }
+        ensures { result ≡ self.now.view.connection_stop }
     {
         self.connection_stop
     }
 
     /// Records why the session stopped, where no reason is recorded yet: the first one stays.
     pub fn set_session_stop_reason(&mut self, reason: SessionStopReason)
-        ensures { StopStep self.old reason self.new }
+        ensures step { StopStep self.old.view reason self.new.view }
+        ensures walk { self.new.last_walk ≡ self.old.last_walk }
     {
         if self.session_stop.is_none() {
             self.session_stop = Some(reason);
@@ -145,43 +153,51 @@ impl<R: LinkRelay> Session<R> {
 
     /// The number of the next transfer that goes out, modulo 2^32 (section 2.5.6).
     pub fn next_outgoing_id(&self) -> u32
-        ensures { result ≡ self.now.sending.next_outgoing_id }
+        ensures { result ≡ self.now.view.sending.next_outgoing_id }
     {
         self.sending.next_outgoing_id()
     }
 
     /// The number of the next transfer that is expected, modulo 2^32 (section 2.5.6).
     pub fn next_incoming_id(&self) -> u32
-        ensures { result ≡ self.now.receiving.next_incoming_id }
+        ensures { result ≡ self.now.view.receiving.next_incoming_id }
     {
         self.receiving.next_incoming_id
     }
 
     /// How many transfers the peer still takes: 0 to 4294967295 (section 2.5.6).
     pub fn remote_incoming_window(&self) -> u32
-        ensures { result ≡ self.now.sending.remote_incoming_window }
+        ensures { result ≡ self.now.view.sending.remote_incoming_window }
     {
         self.sending.remote_incoming_window()
     }
 
     /// How many transfers the peer may still send: 0 to 4294967295 (section 2.5.6).
     pub fn remote_outgoing_window(&self) -> u32
-        ensures { result ≡ self.now.receiving.remote_outgoing_window }
+        ensures { result ≡ self.now.view.receiving.remote_outgoing_window }
     {
         self.receiving.remote_outgoing_window
     }
 
     /// How many transfers wait for the peer's window.
     pub fn held_back(&self) -> usize
-        ensures { result ≡ length self.now.sending.held }
+        ensures { result ≡ length self.now.view.sending.held }
     {
         self.sending.held_back()
     }
 
     /// How many deliveries are open: sent or received, and not settled.
     pub fn open_deliveries(&self) -> usize
-        ensures { result ≡ length self.now.deliveries.receiver + length self.now.deliveries.sender }
+        ensures { result ≡ length self.now.view.deliveries.receiver + length self.now.view.deliveries.sender }
     {
         self.sent.len() + self.received.len()
+    }
+
+    /// How much the latest `on_incoming_disposition` read of the open deliveries: 0 and 0 before the first one, and where its
+    /// range was backward.
+    pub fn last_walk(&self) -> WalkCount
+        ensures { result ≡ self.now.last_walk }
+    {
+        self.last_walk
     }
 }

@@ -1,23 +1,21 @@
 -- What a session that was asked answers, as a request or a received frame asks it.
 use Rattle.std.proofs.Common.{◌≡◌, ◌⊎◌, ℕ, List, [], Option, Some, None, Result, Ok, Err, refl, ap, sym, subst, ◌∙◌, inl, inr, nat_eq}
 use Rattle.std.specs.Map.{set_value}
-use Rattle.amqp_session.specs.declared.frame.SessionFrame.{SessionFrame}
-use Rattle.amqp_session.specs.declared.frame.SessionOutgoingItem.{SessionOutgoingItem}
+use Rattle.amqp_frames.specs.declared.frame.Frame.{Frame}
 use Rattle.amqp_session.specs.Relay.{Relays}
 use Rattle.amqp_session.specs.Session.{SessionView}
 use Rattle.amqp_session.specs.History as session
 use Rattle.fe2o3_amqp.specs.declared.connection.error.ConnectionInnerError.{ConnectionInnerError}
-use Rattle.fe2o3_amqp.specs.declared.engine.input.StepError.{StepError}
-use Rattle.fe2o3_amqp.specs.declared.engine.input.StepError.TheVariants.{Connection}
+use Rattle.fe2o3_amqp.specs.declared.engine.step_error.StepError.{StepError}
+use Rattle.fe2o3_amqp.specs.declared.engine.step_error.StepError.TheVariants.{Connection}
 use Rattle.fe2o3_amqp.specs.Connection.{ConnectionView}
 use Rattle.fe2o3_amqp.specs.EngineView.{EngineView}
-use Rattle.fe2o3_amqp.specs.Waits.{sent}
 use Rattle.fe2o3_amqp.specs.Calls.{Calls}
 use Rattle.fe2o3_amqp.specs.Sessions.{Acts, Answered, Asks, Called, Unknown, Does, Reaches}
 
 -- each such call is answered as is asked
 abbrev pub Answers : {R : Type 0} → Relays R → Calls R → Acts R → Type 0
-Answers g asks acts = (s t : SessionView _) (answer : Result (Option SessionOutgoingItem) StepError) → acts s answer t → Answered g s asks answer t
+Answers g asks acts = (s t : SessionView _) (answer : Result (List Frame) StepError) → acts s answer t → Answered g s asks answer t
 
 -- session n made some calls, or there is none
 abbrev Calls-of : {R : Type 0} → Relays R → EngineView R → ℕ → Calls R → Option StepError → EngineView R → Type 0
@@ -34,7 +32,7 @@ called g asks acts v w n refusal answers (inl t) =
         known = t.known;
         asked = subst (λ r. asks t.before.state a.calls r) (sym t.refused) a.asked;
         steps = a.steps;
-        put = t.put ∙ ap (λ (fs : List SessionFrame). record v { sessions = set_value (nat_eq n) v.sessions t.after; waiting = sent fs }) (sym a.frames);
+        put = t.put ∙ ap (λ (fs : List Frame). record v { sessions = set_value (nat_eq n) v.sessions t.after; waiting = fs }) (sym a.frames);
       },
     )
 called g asks acts v w n refusal answers (inr t) = inr (record { unknown = t.0; no_calls = refl; refused = t.1; same = t.2 })

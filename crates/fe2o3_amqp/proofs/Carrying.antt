@@ -32,8 +32,8 @@ use Rattle.fe2o3_amqp.specs.declared.connection.error.ConnectionInnerError.TheVa
 use Rattle.fe2o3_amqp.specs.declared.numbers.SessionNo.{SessionNo}
 use Rattle.fe2o3_amqp.specs.declared.engine.input.Input.{Input}
 use Rattle.fe2o3_amqp.specs.declared.engine.input.Input.TheVariants as input
-use Rattle.fe2o3_amqp.specs.declared.engine.input.StepError.{StepError}
-use Rattle.fe2o3_amqp.specs.declared.engine.input.StepError.TheVariants as no
+use Rattle.fe2o3_amqp.specs.declared.engine.step_error.StepError.{StepError}
+use Rattle.fe2o3_amqp.specs.declared.engine.step_error.StepError.TheVariants as no
 use Rattle.fe2o3_amqp.specs.States.{takes_close}
 use Rattle.fe2o3_amqp.specs.Connection.{ConnectionView, SendOpenStep, SendCloseStep, IncomingOpenStep, IncomingCloseStep, BeginRouteStep, EndRouteStep, RouteStep, given_back, stopped}
 use Rattle.fe2o3_amqp.specs.EngineView.{EngineView}
@@ -47,7 +47,7 @@ use Rattle.fe2o3_amqp.specs.Headline.{own_frames, asked_calls}
 use Rattle.fe2o3_amqp.proofs.Deeds.{Moved, IsNoBegin, IsPlain, Deed, after_close, request_plain, received_plain, alone, same_engine, one_moved, at_connection, refuses, calls_one, calls_none, does}
 
 -- an entry of these
-abbrev of : {R : Type 0} → Input → Option Frame → Option ℕ → List (session.Entry R) → Option StepError → List Frame → Entry R
+abbrev of : {R : Type 0} → Input R → Option Frame → Option ℕ → List (session.Entry R) → Option StepError → List Frame → Entry R
 of i received reached calls refusal frames = record { input = i; received = received; reached = reached; calls = calls; refusal = refusal; frames = frames }
 
 none_waiting : ¬ (None ≡ Some no.OutputWaiting)
@@ -151,9 +151,9 @@ releases g v w k received reached calls (Some e) frames idle fe s = absurd s
 -- ---- received frames of the connection
 
 -- the event of a frame that was received
-received_is : (bytes : List ℕ) (f : Frame) (received : Option Frame) (reached : Option ℕ) (r : Option StepError) (frames : List Frame) → received ≡ Some f →
-    event_by (input.Received bytes) received reached r frames ≡ received_event f.channel f.body reached r
-received_is bytes f received reached r frames is = ap (λ x. event_by (input.Received bytes) x reached r frames) is
+received_is : (R : Type 0) (bytes : List ℕ) (f : Frame) (received : Option Frame) (reached : Option ℕ) (r : Option StepError) (frames : List Frame) → received ≡ Some f →
+    event_by {R = R} (input.Received bytes) received reached r frames ≡ received_event f.channel f.body reached r
+received_is R bytes f received reached r frames is = ap (λ x. event_by {R = R} (input.Received bytes) x reached r frames) is
 
 took_open : {R : Type 0} (g : Relays R) (v w : EngineView R) (e : Entry R) (c : ℕ) (o : OpenSaid) (r : Option StepError) → event e ≡ received_event c (body.Open o) e.reached r → e.refusal ≡ r → v.waiting ≡ [] → e.frames ≡ w.waiting → Untouched e.reached e.calls →
     ReceivedOpen v o r w → Deed g v e w
@@ -234,6 +234,8 @@ found_end v c p n k r f h = f.2
 abbrev IsSession : FrameBody → Type 0
 IsSession (body.Begin p) = Unit {0}
 IsSession (body.End p) = Unit {0}
+IsSession (body.Attach p) = Unit {0}
+IsSession (body.Detach p) = Unit {0}
 IsSession (body.Flow p) = Unit {0}
 IsSession (body.Transfer p payload) = Unit {0}
 IsSession b = ⊥
@@ -241,6 +243,10 @@ IsSession b = ⊥
 found : (v : ConnectionView) (c : ℕ) (b : FrameBody) → IsSession b → Found v c b
 found v c (body.Begin p) i n k r f h = found_begin v c p n k r f h
 found v c (body.End p) i n k r f h = found_end v c p n k r f h
+found v c (body.Attach p) i n k (Some no.OutOfMemory) f h = absurd (h refl)
+found v c (body.Attach p) i n k r f h = f.1
+found v c (body.Detach p) i n k (Some no.OutOfMemory) f h = absurd (h refl)
+found v c (body.Detach p) i n k r f h = f.1
 found v c (body.Flow p) i n k (Some no.OutOfMemory) f h = absurd (h refl)
 found v c (body.Flow p) i n k r f h = f.1
 found v c (body.Transfer p payload) i n k (Some no.OutOfMemory) f h = absurd (h refl)
@@ -250,6 +256,8 @@ found v c b i n k r f h = absurd i
 unfound : (v : ConnectionView) (c : ℕ) (b : FrameBody) → IsSession b → Lost v c b
 unfound v c (body.Begin p) i = lost_begin v c p.remote_channel
 unfound v c (body.End p) i = lost_end v c
+unfound v c (body.Attach p) i = lost v c
+unfound v c (body.Detach p) i = lost v c
 unfound v c (body.Flow p) i = lost v c
 unfound v c (body.Transfer p payload) i = lost v c
 unfound v c b i = absurd i
@@ -266,6 +274,8 @@ session_event v limit c (body.Begin p) (Some n) r i = record { no_begin = tt; li
 session_event v limit c (body.Begin p) None r i = record { no_begin = tt; limit_is = refl; no_frames = refl }
 session_event v limit c (body.End p) (Some n) r i = record { no_begin = tt; limit_is = refl; no_frames = refl }
 session_event v limit c (body.End p) None r i = record { no_begin = tt; limit_is = refl; no_frames = refl }
+session_event v limit c (body.Attach p) reached r i = record { no_begin = tt; limit_is = refl; no_frames = refl }
+session_event v limit c (body.Detach p) reached r i = record { no_begin = tt; limit_is = refl; no_frames = refl }
 session_event v limit c (body.Flow p) reached r i = record { no_begin = tt; limit_is = refl; no_frames = refl }
 session_event v limit c (body.Transfer p payload) reached r i = record { no_begin = tt; limit_is = refl; no_frames = refl }
 session_event v limit c b reached r i = absurd i
@@ -275,6 +285,8 @@ none_event : (c : ℕ) (b : FrameBody) (r : Option StepError) → IsSession b �
 none_event c b (Some no.OutOfMemory) i = refl
 none_event c (body.Begin p) r i = refl
 none_event c (body.End p) r i = refl
+none_event c (body.Attach p) r i = refl
+none_event c (body.Detach p) r i = refl
 none_event c (body.Flow p) r i = refl
 none_event c (body.Transfer p payload) r i = refl
 none_event c b r i = absurd i
@@ -283,6 +295,7 @@ plain_short : (r : Option StepError) → IsPlain r → ¬ (r ≡ Some no.OutOfMe
 plain_short None p x = cc
 plain_short (Some (no.SessionState y)) p x = cc
 plain_short (Some (no.Session y)) p x = cc
+plain_short (Some (no.AllocLink y)) p x = cc
 plain_short (Some y) p x = absurd p
 
 reaches : {R : Type 0} (g : Relays R) (v w : EngineView R) (e : Entry R) (c : ℕ) (b : FrameBody) → IsSession b → event e ≡ received_event c b e.reached e.refusal → ((s : SessionState) → received_calls c b s e.calls e.refusal → asked_calls e.input e.received s e.calls e.refusal) →
@@ -313,17 +326,9 @@ not_taken : {R : Type 0} (g : Relays R) (v w : EngineView R) (e : Entry R) (c : 
 not_taken g v w e c b is quiet idle fe s =
     refuses g v w e (is ∙ ap (λ o. received_event c b o e.refusal) s.0.0.0 ∙ quiet e.refusal) (λ x. let y = sym s.1.2 ∙ x in cc) idle fe s.0
 
-attach_quiet : (c : ℕ) (p : AttachSaid) (r : Option StepError) → received_event c (body.Attach p) None r ≡ Quiet
-attach_quiet c p (Some no.OutOfMemory) = refl
-attach_quiet c p r = refl
-
 disposition_quiet : (c : ℕ) (p : DispositionSaid) (r : Option StepError) → received_event c (body.Disposition p) None r ≡ Quiet
 disposition_quiet c p (Some no.OutOfMemory) = refl
 disposition_quiet c p r = refl
-
-detach_quiet : (c : ℕ) (p : DetachSaid) (r : Option StepError) → received_event c (body.Detach p) None r ≡ Quiet
-detach_quiet c p (Some no.OutOfMemory) = refl
-detach_quiet c p r = refl
 
 frame : {R : Type 0} (g : Relays R) (v w : EngineView R) (e : Entry R) (c : ℕ) (b : FrameBody) → event e ≡ received_event c b e.reached e.refusal → ((s : SessionState) → received_calls c b s e.calls e.refusal → asked_calls e.input e.received s e.calls e.refusal) →
     v.waiting ≡ [] → e.frames ≡ w.waiting → ReceivedFrame g v c b e.reached e.calls e.refusal w → Deed g v e w
@@ -331,9 +336,9 @@ frame g v w e c body.Empty is carry idle fe s =
     refuses g v w e (is ∙ ap (λ r. received_event c body.Empty e.reached r) s.1) (λ x. let y = sym s.1 ∙ x in cc) idle fe s.0
 frame g v w e c (body.Open o) is carry idle fe s = took_open g v w e c o e.refusal is refl idle fe s.0 s.1
 frame g v w e c (body.Close p) is carry idle fe s = took_close g v w e c p is idle fe s.0 s.1
-frame g v w e c (body.Attach p) is carry idle fe s = not_taken g v w e c (body.Attach p) is (attach_quiet c p) idle fe s
+frame g v w e c (body.Attach p) is carry idle fe s = reaches g v w e c (body.Attach p) tt is carry idle fe s
 frame g v w e c (body.Disposition p) is carry idle fe s = not_taken g v w e c (body.Disposition p) is (disposition_quiet c p) idle fe s
-frame g v w e c (body.Detach p) is carry idle fe s = not_taken g v w e c (body.Detach p) is (detach_quiet c p) idle fe s
+frame g v w e c (body.Detach p) is carry idle fe s = reaches g v w e c (body.Detach p) tt is carry idle fe s
 frame g v w e c (body.Begin p) is carry idle fe s = reaches g v w e c (body.Begin p) tt is carry idle fe s
 frame g v w e c (body.End p) is carry idle fe s = reaches g v w e c (body.End p) tt is carry idle fe s
 frame g v w e c (body.Flow p) is carry idle fe s = reaches g v w e c (body.Flow p) tt is carry idle fe s
@@ -341,15 +346,15 @@ frame g v w e c (body.Transfer p payload) is carry idle fe s = reaches g v w e c
 
 arrives : {R : Type 0} (g : Relays R) (v w : EngineView R) (bytes : List ℕ) (received : Option Frame) (reached : Option ℕ) (calls : List (session.Entry R)) (r : Option StepError) (frames : List Frame) →
     v.waiting ≡ [] → frames ≡ w.waiting → Received g v bytes received reached calls r w → Deed g v (of (input.Received bytes) received reached calls r frames) w
-arrives g v w bytes received reached calls r frames idle fe (inl s) =
-    refuses g v w _ (ap (λ x. event_by (input.Received bytes) x reached r frames) s.2) (λ x. let y = sym s.4 ∙ x in cc) idle fe s.3
-arrives g v w bytes received reached calls r frames idle fe (inr s) =
-    frame g v w _ s.0.channel s.0.body (received_is bytes s.0 received reached r frames s.3)
+arrives {R = R} g v w bytes received reached calls r frames idle fe (inl s) =
+    refuses g v w _ (ap (λ x. event_by {R = R} (input.Received bytes) x reached r frames) s.2) (λ x. let y = sym s.4 ∙ x in cc) idle fe s.3
+arrives {R = R} g v w bytes received reached calls r frames idle fe (inr s) =
+    frame g v w _ s.0.channel s.0.body (received_is R bytes s.0 received reached r frames s.3)
     (λ t a. subst (λ (x : Calls _). x t calls r) (sym (ap (λ x. asked_calls (input.Received bytes) x) s.3)) a) idle fe s.4
 
 -- ---- a step
 
-carries : {R : Type 0} (g : Relays R) (v w : EngineView R) (i : Input) (received : Option Frame) (reached : Option ℕ) (calls : List (session.Entry R)) (r : Option StepError) (frames : List Frame) →
+carries : {R : Type 0} (g : Relays R) (v w : EngineView R) (i : Input R) (received : Option Frame) (reached : Option ℕ) (calls : List (session.Entry R)) (r : Option StepError) (frames : List Frame) →
     v.waiting ≡ [] → frames ≡ w.waiting → Carries g v i received reached calls r w → Deed g v (of i received reached calls r frames) w
 carries g v w (input.Received bytes) received reached calls r frames idle fe s = arrives g v w bytes received reached calls r frames idle fe s
 carries g v w input.Open received reached calls r frames idle fe s = opens g v w received reached calls r frames idle fe s.1 s.2
@@ -357,6 +362,10 @@ carries g v w (input.Close error) received reached calls r frames idle fe s = cl
 carries g v w (input.Begin k settings) received reached calls r frames idle fe s = begins g v w k settings received reached calls r frames idle fe s.1
 carries g v w (input.Release k) received reached calls r frames idle fe s = releases g v w k received reached calls r frames idle fe s.1
 carries g v w (input.End k error) received reached calls r frames idle fe s = does g v w _ k.0 _ refl (request_plain (input.End k error)) (λ t a. a) idle fe s.1
+carries g v w (input.AllocateLink k name relay) received reached calls r frames idle fe s = does g v w _ k.0 _ refl (request_plain (input.AllocateLink k name relay)) (λ t a. a) idle fe s.1
+carries g v w (input.AllocateIncomingLink k name relay h) received reached calls r frames idle fe s = does g v w _ k.0 _ refl (request_plain (input.AllocateIncomingLink k name relay h)) (λ t a. a) idle fe s.1
+carries g v w (input.Attach k a) received reached calls r frames idle fe s = does g v w _ k.0 _ refl (request_plain (input.Attach k a)) (λ t x. x) idle fe s.1
+carries g v w (input.Detach k d expects_echo) received reached calls r frames idle fe s = does g v w _ k.0 _ refl (request_plain (input.Detach k d expects_echo)) (λ t a. a) idle fe s.1
 carries g v w (input.Flow k l) received reached calls r frames idle fe s = does g v w _ k.0 _ refl (request_plain (input.Flow k l)) (λ t a. a) idle fe s.1
 carries g v w (input.Transfer k h t payload first) received reached calls r frames idle fe s = does g v w _ k.0 _ refl (request_plain (input.Transfer k h t payload first)) (λ x a. a) idle fe s.1
 carries g v w (input.Stop k reason) received reached calls r frames idle fe s = does g v w _ k.0 _ refl (request_plain (input.Stop k reason)) (λ t a. a) idle fe s.1

@@ -9,6 +9,7 @@ use Rattle.amqp_types.specs.declared.states.SessionState.TheVariants.{Unmapped}
 use Rattle.amqp_types.specs.Close.{CloseSaid}
 use Rattle.amqp_session.specs.declared.error.SessionStateError.{SessionStateError}
 use Rattle.amqp_session.specs.declared.error.SessionInnerError.{SessionInnerError}
+use Rattle.amqp_session.specs.declared.error.AllocLinkError.{AllocLinkError}
 use Rattle.amqp_session.specs.Settings.{SettingsSaid}
 use Rattle.amqp_session.specs.Relay.{Relays}
 use Rattle.amqp_session.specs.Session.{SessionView, new_session}
@@ -19,13 +20,13 @@ use Rattle.amqp_frames.specs.declared.frame.FrameBody.{FrameBody}
 use Rattle.amqp_frames.specs.declared.frame.FrameBody.TheVariants as body
 use Rattle.fe2o3_amqp.specs.declared.engine.input.Input.{Input}
 use Rattle.fe2o3_amqp.specs.declared.engine.input.Input.TheVariants as input
-use Rattle.fe2o3_amqp.specs.declared.engine.input.StepError.{StepError}
-use Rattle.fe2o3_amqp.specs.declared.engine.input.StepError.TheVariants as no
+use Rattle.fe2o3_amqp.specs.declared.engine.step_error.StepError.{StepError}
+use Rattle.fe2o3_amqp.specs.declared.engine.step_error.StepError.TheVariants as no
 use Rattle.fe2o3_amqp.specs.States.{sends_open, takes_open, takes_close}
 use Rattle.fe2o3_amqp.specs.Connection.{ConnectionView, Holds, closes_by, given_back, stopped}
 use Rattle.fe2o3_amqp.specs.EngineView.{EngineView}
 use Rattle.fe2o3_amqp.specs.Waits.{sent}
-use Rattle.fe2o3_amqp.specs.Calls.{Calls, state_refusal, session_refusal, request_calls, received_calls}
+use Rattle.fe2o3_amqp.specs.Calls.{Calls, state_refusal, session_refusal, link_refusal, request_calls, received_calls}
 use Rattle.fe2o3_amqp.specs.Sessions.{Untouched, Nothing, Called, Unknown, Does}
 use Rattle.fe2o3_amqp.specs.Engine.{Entry, close_reason}
 use Rattle.fe2o3_amqp.specs.Event.{Event, Quiet, SentOpen, SentClose, AcceptedOpen, CameClose, Began, Released, Routed, Unrouted, event}
@@ -56,6 +57,7 @@ abbrev pub IsPlain : Option StepError → Type 0
 IsPlain None = Unit {0}
 IsPlain (Some (no.SessionState e)) = Unit {0}
 IsPlain (Some (no.Session e)) = Unit {0}
+IsPlain (Some (no.AllocLink e)) = Unit {0}
 IsPlain (Some e) = ⊥
 
 abbrev pub Plain : {R : Type 0} → Calls R → Type 0
@@ -69,11 +71,19 @@ plain_session : {X : Type 0} (x : Result X SessionInnerError) (r : Option StepEr
 plain_session (Ok x) r e = subst IsPlain (sym e) tt
 plain_session (Err x) r e = subst IsPlain (sym e) tt
 
+plain_link : {X : Type 0} (x : Result X AllocLinkError) (r : Option StepError) → r ≡ link_refusal x → IsPlain r
+plain_link (Ok x) r e = subst IsPlain (sym e) tt
+plain_link (Err x) r e = subst IsPlain (sym e) tt
+
 plain_none : (r : Option StepError) → r ≡ None → IsPlain r
 plain_none r e = subst IsPlain (sym e) tt
 
-pub request_plain : {R : Type 0} (i : Input) → Plain {R = R} (request_calls i)
+pub request_plain : {R : Type 0} (i : Input R) → Plain {R = R} (request_calls i)
 request_plain (input.End n error) s cs r a = plain_state a.0 r a.2
+request_plain (input.AllocateLink n name relay) s cs r a = plain_link a.0 r a.2
+request_plain (input.AllocateIncomingLink n name relay h) s cs r a = plain_link a.0 r a.2
+request_plain (input.Attach n p) s cs r a = plain_none r a.2
+request_plain (input.Detach n d expects_echo) s cs r a = plain_session a.0 r a.2
 request_plain (input.Flow n l) s cs r a = plain_none r a.2
 request_plain (input.Transfer n h t payload first) s cs r a = plain_session a.0 r a.2
 request_plain (input.Stop n reason) s cs r a = plain_none r a.1
@@ -83,6 +93,8 @@ request_plain i s cs r a = absurd a
 pub received_plain : {R : Type 0} (c : ℕ) (b : FrameBody) → Plain {R = R} (received_calls c b)
 received_plain c (body.Begin p) s cs r a = plain_state a.0 r a.2
 received_plain c (body.End p) s cs r a = plain_state a.0 r a.2
+received_plain c (body.Attach p) s cs r a = plain_session a.1 r a.3
+received_plain c (body.Detach p) s cs r a = plain_session a.1 r a.4
 received_plain c (body.Flow p) s cs r a = plain_session a.1 r a.3
 received_plain c (body.Transfer p payload) s cs r a = plain_session a.1 r a.4
 received_plain c b s cs r a = absurd a
@@ -221,6 +233,7 @@ calls_one g v w k e ev n asks is m nb l o plain carry reached fe c = record {
     by None p x = cc
     by (Some (no.SessionState y)) p x = cc
     by (Some (no.Session y)) p x = cc
+    by (Some (no.AllocLink y)) p x = cc
     by (Some y) p x = absurd p
 
 -- no session has the number

@@ -16,8 +16,8 @@ use Rattle.amqp_frames.specs.declared.frame.FrameBody.{FrameBody}
 use Rattle.amqp_frames.specs.FrameError.{error_of}
 use Rattle.amqp_frames.specs.Head.{IsFields, IsBodyOf, Opens}
 use Rattle.amqp_frames.proofs.Headed.{fields_found, no_fields, not_decoded}
-use Rattle.fe2o3_amqp.specs.declared.engine.input.StepError.{StepError}
-use Rattle.fe2o3_amqp.specs.declared.engine.input.StepError.TheVariants as no
+use Rattle.fe2o3_amqp.specs.declared.engine.step_error.StepError.{StepError}
+use Rattle.fe2o3_amqp.specs.declared.engine.step_error.StepError.TheVariants as no
 use Rattle.fe2o3_amqp.specs.EngineView.{EngineView}
 use Rattle.fe2o3_amqp.specs.Engine.{ReceivedFrame, FieldsStep, ReceivedStep}
 

@@ -6,7 +6,7 @@ use Rattle.amqp_types.specs.Open.{OpenSaid}
 use Rattle.amqp_session.specs.Relay.{Relays}
 use Rattle.fe2o3_amqp.specs.declared.engine.input.Input.{Input}
 use Rattle.fe2o3_amqp.specs.declared.engine.input.Input.TheVariants as input
-use Rattle.fe2o3_amqp.specs.declared.engine.input.StepError.TheVariants as no
+use Rattle.fe2o3_amqp.specs.declared.engine.step_error.StepError.TheVariants as no
 use Rattle.fe2o3_amqp.specs.Connection.{new_connection}
 use Rattle.fe2o3_amqp.specs.EngineView.{EngineView, new_engine}
 use Rattle.fe2o3_amqp.specs.Calls.{Calls}
@@ -37,8 +37,12 @@ does g v w k n asks e is plain s = subst (λ x. Says v x e) (same_value k n is) 
     by (inl c) = inl ((c.1.before, c.1.known), c.0, plain_known e.refusal (plain c.1.before.state e.calls e.refusal c.1.asked))
     by (inr u) = inr (u.1.unknown, u.0, u.1.refused)
 
-carries : {R : Type 0} (g : Relays R) (v w : EngineView R) (n : ℕ) (i : Input) (e : Entry R) → names i ≡ Some n → Carries g v i e.received e.reached e.calls e.refusal w → Says v n e
+carries : {R : Type 0} (g : Relays R) (v w : EngineView R) (n : ℕ) (i : Input R) (e : Entry R) → names i ≡ Some n → Carries g v i e.received e.reached e.calls e.refusal w → Says v n e
 carries g v w n (input.End k error) e is s = does g v w k.0 n _ e is (request_plain (input.End k error)) s.1
+carries g v w n (input.AllocateLink k name relay) e is s = does g v w k.0 n _ e is (request_plain (input.AllocateLink k name relay)) s.1
+carries g v w n (input.AllocateIncomingLink k name relay h) e is s = does g v w k.0 n _ e is (request_plain (input.AllocateIncomingLink k name relay h)) s.1
+carries g v w n (input.Attach k a) e is s = does g v w k.0 n _ e is (request_plain (input.Attach k a)) s.1
+carries g v w n (input.Detach k d expects_echo) e is s = does g v w k.0 n _ e is (request_plain (input.Detach k d expects_echo)) s.1
 carries g v w n (input.Flow k l) e is s = does g v w k.0 n _ e is (request_plain (input.Flow k l)) s.1
 carries g v w n (input.Transfer k h t payload first) e is s = does g v w k.0 n _ e is (request_plain (input.Transfer k h t payload first)) s.1
 carries g v w n (input.Stop k reason) e is s = does g v w k.0 n _ e is (request_plain (input.Stop k reason)) s.1

@@ -9,8 +9,8 @@ use Rattle.amqp_session.specs.History as session
 use Rattle.amqp_frames.specs.declared.frame.Frame.{Frame}
 use Rattle.fe2o3_amqp.specs.declared.engine.input.Input.{Input}
 use Rattle.fe2o3_amqp.specs.declared.engine.input.Input.TheVariants as input
-use Rattle.fe2o3_amqp.specs.declared.engine.input.StepError.{StepError}
-use Rattle.fe2o3_amqp.specs.declared.engine.input.StepError.TheVariants as no
+use Rattle.fe2o3_amqp.specs.declared.engine.step_error.StepError.{StepError}
+use Rattle.fe2o3_amqp.specs.declared.engine.step_error.StepError.TheVariants as no
 use Rattle.fe2o3_amqp.specs.States.{sends_open, takes_open}
 use Rattle.fe2o3_amqp.specs.Connection.{ConnectionView, closes_by}
 use Rattle.fe2o3_amqp.specs.EngineView.{EngineView}
@@ -33,7 +33,7 @@ pub record Passage {R : Type 0} (g : Relays R) (v : EngineView R) (e : Entry R) 
   pub waiting_is : w.waiting ≡ waiting_by e.refusal e v.waiting
 
 -- what waits stops all else
-waiting_event : (i : Input) (reached : Option ℕ) (frames : List Frame) → event_by i None reached (Some no.OutputWaiting) frames ≡ Quiet
+waiting_event : {R : Type 0} (i : Input R) (reached : Option ℕ) (frames : List Frame) → event_by i None reached (Some no.OutputWaiting) frames ≡ Quiet
 waiting_event (input.Received bytes) reached frames = refl
 waiting_event i reached frames = refl
 

@@ -16,8 +16,8 @@ use Rattle.fe2o3_amqp.specs.declared.connection.error.ConnectionInnerError.{Conn
 use Rattle.fe2o3_amqp.specs.declared.connection.error.ConnectionInnerError.TheVariants as inner
 use Rattle.fe2o3_amqp.specs.declared.engine.input.Input.{Input}
 use Rattle.fe2o3_amqp.specs.declared.engine.input.Input.TheVariants as input
-use Rattle.fe2o3_amqp.specs.declared.engine.input.StepError.{StepError}
-use Rattle.fe2o3_amqp.specs.declared.engine.input.StepError.TheVariants as no
+use Rattle.fe2o3_amqp.specs.declared.engine.step_error.StepError.{StepError}
+use Rattle.fe2o3_amqp.specs.declared.engine.step_error.StepError.TheVariants as no
 use Rattle.fe2o3_amqp.specs.Connection.{ConnectionView, EndRouteStep, RouteStep, not_found}
 use Rattle.fe2o3_amqp.specs.EngineView.{EngineView, new_engine}
 use Rattle.fe2o3_amqp.specs.Calls.{Calls}
@@ -36,12 +36,12 @@ use Rattle.fe2o3_amqp.proofs.Keeping.{IsThere, Kept, kept, kept_taken, kept_new,
 received_none : (bytes : List ℕ) (received : Option Frame) (r : Option StepError) → received ≡ None → HasReceived bytes None r → HasReceived bytes received r
 received_none bytes received r is h = subst (λ x. HasReceived bytes x r) (sym is) h
 
-input_receives : {R : Type 0} (g : Relays R) (v w : EngineView R) (i : Input) (e : Entry R) → Carries g v i e.received e.reached e.calls e.refusal w → Receives i e
+input_receives : {R : Type 0} (g : Relays R) (v w : EngineView R) (i : Input R) (e : Entry R) → Carries g v i e.received e.reached e.calls e.refusal w → Receives i e
 input_receives g v w (input.Received bytes) e (inl s) = received_none bytes e.received e.refusal s.2 (subst (λ r. HasReceived bytes None r) (sym s.4) s.1)
 input_receives g v w (input.Received bytes) e (inr s) = subst (λ x. HasReceived bytes x e.refusal) (sym s.3) (s.1, s.2)
 input_receives g v w i e s = s.0
 
-waiting_receives : {R : Type 0} (i : Input) (e : Entry R) → e.received ≡ None → e.refusal ≡ Some no.OutputWaiting → Receives i e
+waiting_receives : {R : Type 0} (i : Input R) (e : Entry R) → e.received ≡ None → e.refusal ≡ Some no.OutputWaiting → Receives i e
 waiting_receives (input.Received bytes) e is late = received_none bytes e.received e.refusal is (subst (λ r. HasReceived bytes None r) (sym late) tt)
 waiting_receives i e is late = is
 
@@ -62,7 +62,7 @@ received_frame : {R : Type 0} (g : Relays R) (v w : EngineView R) (e : Entry R) 
 received_frame g v w e f is (inl s) = absurd (some_none (sym is ∙ s.2))
 received_frame g v w e f is (inr s) = by e.input s.2
   where
-    by : (i : Input) → Carries g v i e.received e.reached e.calls e.refusal w → ReceivedFrame g v f.channel f.body e.reached e.calls e.refusal w
+    by : (i : Input _) → Carries g v i e.received e.reached e.calls e.refusal w → ReceivedFrame g v f.channel f.body e.reached e.calls e.refusal w
     by (input.Received bytes) (inl x) = absurd (some_none (sym is ∙ x.2))
     by (input.Received bytes) (inr x) = subst (λ (h : Frame). ReceivedFrame g v h.channel h.body e.reached e.calls e.refusal w) (same_frame x.0 f (sym x.3 ∙ is)) x.4
     by i x = absurd (some_none (sym is ∙ x.0))
@@ -73,6 +73,7 @@ plain_found : (r : Option StepError) → IsPlain r → ¬ (r ≡ Some (no.Connec
 plain_found None p x = cc
 plain_found (Some (no.SessionState y)) p x = cc
 plain_found (Some (no.Session y)) p x = cc
+plain_found (Some (no.AllocLink y)) p x = cc
 plain_found (Some y) p x = absurd p
 
 reached_one : {R : Type 0} (g : Relays R) (v w : EngineView R) (n : ℕ) (asks : Calls R) (e : Entry R) → Plain asks → e.reached ≡ Some n → Called g v n asks e.calls e.refusal w ⊎ Unknown v n e.calls e.refusal w → GoesAlong (Some n) e
@@ -100,6 +101,8 @@ end_along g v w c asks e plain (inl s) = end_stopped v.connection s.1 c s.0 e s.
 end_along g v w c asks e plain (inr s) = (λ o. subst (λ z. GoesAlong z e) (sym s.2.1) (reached_one g (record v { connection = s.1 }) w s.0 asks e plain s.3 s.4), λ n. absurd (n s.2.0))
 
 passes : {R : Type 0} (g : Relays R) (v w : EngineView R) (c : ℕ) (b : FrameBody) (e : Entry R) → ReceivedFrame g v c b e.reached e.calls e.refusal w → Passes b v.connection.state (map.get v.connection.session_by_incoming_channel c) e
+passes g v w c (body.Attach p) e s = along g v w c _ e (received_plain c (body.Attach p)) s
+passes g v w c (body.Detach p) e s = along g v w c _ e (received_plain c (body.Detach p)) s
 passes g v w c (body.Flow p) e s = along g v w c _ e (received_plain c (body.Flow p)) s
 passes g v w c (body.Transfer p payload) e s = along g v w c _ e (received_plain c (body.Transfer p payload)) s
 passes g v w c (body.End p) e s = end_along g v w c _ e (received_plain c (body.End p)) s
@@ -135,6 +138,7 @@ pub plain_known : (r : Option StepError) → IsPlain r → ¬ (r ≡ Some no.NoS
 plain_known None p x = cc
 plain_known (Some (no.SessionState y)) p x = cc
 plain_known (Some (no.Session y)) p x = cc
+plain_known (Some (no.AllocLink y)) p x = cc
 plain_known (Some y) p x = absurd p
 
 reaches_known : {R : Type 0} (g : Relays R) (finds : Result ℕ ConnectionInnerError → ConnectionView → Type 0) (v w : EngineView R) (asks : Calls R) (reached : Option ℕ) (calls : List (session.Entry R)) (r : Option StepError) →
@@ -161,6 +165,8 @@ frame_known g v w c (body.Open o) reached calls r k s = open_known v w o r s.1
 frame_known g v w c (body.Close p) reached calls r k s = close_known s.1.0 r s.1.3
 frame_known g v w c (body.Begin p) reached calls r k s = reaches_known g (Finds v.connection c (body.Begin p)) v w _ reached calls r (received_plain c (body.Begin p)) (λ n u f. k.known f.1.0 n f.1.2) s
 frame_known g v w c (body.End p) reached calls r k s = reaches_known g (Finds v.connection c (body.End p)) v w _ reached calls r (received_plain c (body.End p)) (λ n u f. k.routed c n f.1) s
+frame_known g v w c (body.Attach p) reached calls r k s = reaches_known g (Finds v.connection c (body.Attach p)) v w _ reached calls r (received_plain c (body.Attach p)) (λ n u f. k.routed c n f.0) s
+frame_known g v w c (body.Detach p) reached calls r k s = reaches_known g (Finds v.connection c (body.Detach p)) v w _ reached calls r (received_plain c (body.Detach p)) (λ n u f. k.routed c n f.0) s
 frame_known g v w c (body.Flow p) reached calls r k s = reaches_known g (Finds v.connection c (body.Flow p)) v w _ reached calls r (received_plain c (body.Flow p)) (λ n u f. k.routed c n f.0) s
 frame_known g v w c (body.Transfer p payload) reached calls r k s = reaches_known g (Finds v.connection c (body.Transfer p payload)) v w _ reached calls r (received_plain c (body.Transfer p payload)) (λ n u f. k.routed c n f.0) s
 frame_known g v w c b reached calls r k s = λ e. let x = sym s.1.2 ∙ e in cc

@@ -6,9 +6,9 @@ use Rattle.amqp_types.specs.declared.states.ConnectionState.{ConnectionState}
 use Rattle.amqp_types.specs.Open.{OpenSaid}
 use Rattle.amqp_frames.specs.declared.frame.Frame.{Frame}
 use Rattle.fe2o3_amqp.specs.declared.engine.input.Input.{Input}
-use Rattle.fe2o3_amqp.specs.declared.engine.input.Answer.{Answer}
-use Rattle.fe2o3_amqp.specs.declared.engine.input.StepError.{StepError}
-use Rattle.fe2o3_amqp.specs.declared.engine.input.Stopped.{Stopped}
+use Rattle.fe2o3_amqp.specs.declared.engine.answer.Answer.{Answer}
+use Rattle.fe2o3_amqp.specs.declared.engine.step_error.StepError.{StepError}
+use Rattle.fe2o3_amqp.specs.declared.engine.answer.Stopped.{Stopped}
 use Rattle.amqp_session.specs.Relay.{Relays}
 use Rattle.fe2o3_amqp.specs.EngineView.{EngineView, new_engine}
 use Rattle.fe2o3_amqp.specs.Engine.{Entry, Steps}
@@ -26,7 +26,7 @@ empty (x ∷ xs) e = absurd (omega arith)
 
 inputs_of-append : {R : Type 0} (xs ys : List (Entry R)) → inputs_of (xs ++ ys) ≡ inputs_of xs ++ inputs_of ys
 inputs_of-append [] ys = refl
-inputs_of-append (e ∷ xs) ys = ap (λ (is' : List Input). e.input ∷ is') (inputs_of-append xs ys)
+inputs_of-append (e ∷ xs) ys = ap (λ (is' : List (Input _)). e.input ∷ is') (inputs_of-append xs ys)
 
 Taken-none : {R : Type 0} (v : EngineView R) → Taken v v
 Taken-none v = record { gone = []; left = refl; connection_is = refl; sessions_is = refl; limit_is = refl }
@@ -49,7 +49,7 @@ Chain-append gives [] ys u v w c d = Chain-later gives u v w ys c d
 Chain-append gives (e ∷ xs) ys u v w c d = (c.0, c.1, c.2, c.3, Chain-append gives xs ys c.1 v w c.4 d)
 
 -- what has been run so far
-pub record Running {R : Type 0} (gives : Relays R) (v : EngineView R) (inputs : List Input) (answers : List Answer) (v' : EngineView R) (inputs' : List Input) (answers' : List Answer) : Type 0 where
+pub record Running {R : Type 0} (gives : Relays R) (v : EngineView R) (inputs : List (Input R)) (answers : List Answer) (v' : EngineView R) (inputs' : List (Input R)) (answers' : List Answer) : Type 0 where
   pub entries : List (Entry R)
   pub taken : inputs ≡ inputs_of entries ++ inputs'
   pub counted : length inputs ≡ length entries + length inputs'
@@ -60,7 +60,7 @@ pub record Running {R : Type 0} (gives : Relays R) (v : EngineView R) (inputs : 
   pub appended : answers' ≡ answers ++ out
   pub said : Speaks v.limit v.waiting entries v'.waiting out
 
-pub Running-start : {R : Type 0} (gives : Relays R) (v v' : EngineView R) (inputs : List Input) (answers answers' out : List Answer) → Taken v v' → answers' ≡ answers ++ out → PutOut v.limit v.waiting v'.waiting out → Running gives v inputs answers v' inputs answers'
+pub Running-start : {R : Type 0} (gives : Relays R) (v v' : EngineView R) (inputs : List (Input R)) (answers answers' out : List Answer) → Taken v v' → answers' ≡ answers ++ out → PutOut v.limit v.waiting v'.waiting out → Running gives v inputs answers v' inputs answers'
 Running-start gives v v' inputs answers answers' out t a p = record {
   entries = [];
   taken = refl;
@@ -73,7 +73,7 @@ Running-start gives v v' inputs answers answers' out t a p = record {
   said = p;
 }
 
-pub Running-more : {R : Type 0} (gives : Relays R) (v v1 v2 v3 : EngineView R) (inputs inputs1 inputs2 : List Input) (answers answers1 answers2 answers3 out : List Answer) (input : Input) (r : Option StepError) →
+pub Running-more : {R : Type 0} (gives : Relays R) (v v1 v2 v3 : EngineView R) (inputs inputs1 inputs2 : List (Input R)) (answers answers1 answers2 answers3 out : List Answer) (input : Input R) (r : Option StepError) →
     Running gives v inputs answers v1 inputs1 answers1 → v1.waiting ≡ [] → inputs1 ≡ input ∷ inputs2 →
     Steps gives v1 input r v2 → answers2 ≡ answers1 ++ answer_of r ∷ [] →
     Taken v2 v3 → answers3 ≡ answers2 ++ out → PutOut v2.limit v2.waiting v3.waiting out →
@@ -88,7 +88,7 @@ Running-more gives v v1 v2 v3 inputs inputs1 inputs2 answers answers1 answers2 a
     let before : Speaks v.limit v.waiting g.entries [] g.out = subst (λ (fs : List Frame). Speaks v.limit v.waiting g.entries fs g.out) idle g.said in
     record {
       entries = g.entries ++ e ∷ [];
-      taken = g.taken ∙ ap (λ (xs : List Input). inputs_of g.entries ++ xs) popped ∙ sym (append_assoc (inputs_of g.entries) (input ∷ []) inputs2) ∙ ap (λ (xs : List Input). xs ++ inputs2) (sym (inputs_of-append g.entries (e ∷ [])));
+      taken = g.taken ∙ ap (λ (xs : List (Input _)). inputs_of g.entries ++ xs) popped ∙ sym (append_assoc (inputs_of g.entries) (input ∷ []) inputs2) ∙ ap (λ (xs : List (Input _)). xs ++ inputs2) (sym (inputs_of-append g.entries (e ∷ [])));
       counted = omega (arith, g.counted, length-append g.entries (e ∷ []), ap length popped);
       all_taken = All-push IsTaken g.entries e g.all_taken now.0;
       chain = Chain-append gives g.entries (e ∷ []) v v1 v3 g.chain (v1, v2, Taken-none v1, step.4, t);
@@ -105,7 +105,7 @@ HeadlineLaw gives = (state : ConnectionState) (o : OpenSaid) (H : List (Entry _)
 abbrev pub StandsLaw : {R : Type 0} → Relays R → Type 0
 StandsLaw gives = (state : ConnectionState) (o : OpenSaid) (H : List (Entry _)) (w : EngineView _) → LeadsTo gives state o H w → Stands state o H w
 
-pub Running-Ran : {R : Type 0} (gives : Relays R) (v v' : EngineView R) (inputs inputs' : List Input) (answers answers' : List Answer) (result : Result (Unit {0}) Stopped) → HeadlineLaw gives → StandsLaw gives →
+pub Running-Ran : {R : Type 0} (gives : Relays R) (v v' : EngineView R) (inputs inputs' : List (Input R)) (answers answers' : List Answer) (result : Result (Unit {0}) Stopped) → HeadlineLaw gives → StandsLaw gives →
     (g : Running gives v inputs answers v' inputs' answers') → MatchResult result (λ _. (inputs' ≡ []) × (v'.waiting ≡ [])) (λ stopped. stopped.done + length inputs' ≡ length inputs) → Ran gives v inputs answers result v' inputs' answers'
 Running-Ran gives v v' inputs inputs' answers answers' result law views g m = record {
   entries = g.entries;

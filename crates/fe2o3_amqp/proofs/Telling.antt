@@ -14,8 +14,8 @@ use Rattle.amqp_frames.specs.declared.frame.Frame.{Frame}
 use Rattle.amqp_frames.specs.declared.frame.FrameBody.{FrameBody}
 use Rattle.fe2o3_amqp.specs.declared.engine.input.Input.{Input}
 use Rattle.fe2o3_amqp.specs.declared.engine.input.Input.TheVariants as input
-use Rattle.fe2o3_amqp.specs.declared.engine.input.StepError.{StepError}
-use Rattle.fe2o3_amqp.specs.declared.engine.input.StepError.TheVariants as no
+use Rattle.fe2o3_amqp.specs.declared.engine.step_error.StepError.{StepError}
+use Rattle.fe2o3_amqp.specs.declared.engine.step_error.StepError.TheVariants as no
 use Rattle.fe2o3_amqp.specs.Connection.{ConnectionView, new_connection}
 use Rattle.fe2o3_amqp.specs.EngineView.{EngineView, new_engine}
 use Rattle.fe2o3_amqp.specs.Waits.{sent}
@@ -88,7 +88,7 @@ frames_are g made o H w l before after e is =
 short_frame : (c : ℕ) (b : FrameBody) (reached : Option ℕ) → received_event c b reached (Some no.OutOfMemory) ≡ Quiet
 short_frame c b reached = refl
 
-short_event : (i : Input) (received : Option Frame) (reached : Option ℕ) (frames : List Frame) → event_by i received reached (Some no.OutOfMemory) frames ≡ Quiet
+short_event : {R : Type 0} (i : Input R) (received : Option Frame) (reached : Option ℕ) (frames : List Frame) → event_by i received reached (Some no.OutOfMemory) frames ≡ Quiet
 short_event (input.Received bytes) (Some f) reached frames = short_frame f.channel f.body reached
 short_event (input.Received bytes) None reached frames = refl
 short_event i received reached frames = refl
@@ -97,6 +97,7 @@ plain_not_short : (r : Option StepError) → IsPlain r → ¬ (r ≡ Some no.Out
 plain_not_short None p x = cc
 plain_not_short (Some (no.SessionState y)) p x = cc
 plain_not_short (Some (no.Session y)) p x = cc
+plain_not_short (Some (no.AllocLink y)) p x = cc
 plain_not_short (Some y) p x = absurd p
 
 pub ran_short : {R : Type 0} (g : Relays R) (made : ConnectionState) (o : OpenSaid) (H : List (Entry R)) (w : EngineView R) → LeadsTo g made o H w → RanShort H

@@ -10,8 +10,8 @@ use Rattle.amqp_session.specs.declared.stop.ConnectionStopReason.{ConnectionStop
 use Rattle.amqp_session.specs.History as session
 use Rattle.amqp_session.specs.Headline as single
 use Rattle.amqp_frames.specs.declared.frame.Frame.{Frame}
-use Rattle.fe2o3_amqp.specs.declared.engine.input.StepError.{StepError}
-use Rattle.fe2o3_amqp.specs.declared.engine.input.StepError.TheVariants as no
+use Rattle.fe2o3_amqp.specs.declared.engine.step_error.StepError.{StepError}
+use Rattle.fe2o3_amqp.specs.declared.engine.step_error.StepError.TheVariants as no
 use Rattle.fe2o3_amqp.specs.States.{sends_open, takes_open, takes_close}
 use Rattle.fe2o3_amqp.specs.Connection.{closes_by, first_reason}
 use Rattle.fe2o3_amqp.specs.EngineView.{peer_limit}

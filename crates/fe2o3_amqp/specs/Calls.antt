@@ -1,22 +1,27 @@
 -- What an input or a received frame asks of the session that it reaches: its calls, by the session's state, and the refusal
 -- that is answered. This is the one table of them.
-use Rattle.std.specs.Prelude.{◌≡◌, ℕ, List, [], ◌∷◌, Option, Some, None, Result, Ok, Err, Bool, true, false}
+use Rattle.std.specs.Prelude.{string_bytes, ◌≡◌, ℕ, List, [], ◌∷◌, Option, Some, None, Result, Ok, Err, Bool, true, false}
 use Rattle.amqp_types.specs.declared.states.SessionState.{SessionState}
 use Rattle.amqp_types.specs.declared.states.SessionState.TheVariants as at
 use Rattle.amqp_types.specs.Error.{ErrorSaid}
 use Rattle.amqp_types.specs.Begin.{BeginSaid}
 use Rattle.amqp_types.specs.End.{EndSaid}
+use Rattle.amqp_types.specs.Attach.{AttachSaid}
+use Rattle.amqp_types.specs.Detach.{DetachSaid}
 use Rattle.amqp_types.specs.Flow.{FlowSaid}
 use Rattle.amqp_types.specs.Transfer.{TransferSaid}
 use Rattle.amqp_types.specs.Disposition.{DispositionSaid}
 use Rattle.amqp_session.specs.declared.flow.LinkFlow.{LinkFlow}
+use Rattle.amqp_session.specs.declared.numbers.InputHandle.{InputHandle}
+use Rattle.amqp_session.specs.declared.numbers.OutputHandle.{OutputHandle}
 use Rattle.amqp_session.specs.declared.frame.SessionFrame.{SessionFrame}
 use Rattle.amqp_session.specs.declared.frame.SessionOutgoingItem.{SessionOutgoingItem}
+use Rattle.amqp_session.specs.declared.error.AllocLinkError.{AllocLinkError}
 use Rattle.amqp_session.specs.declared.error.SessionStateError.{SessionStateError}
 use Rattle.amqp_session.specs.declared.error.SessionInnerError.{SessionInnerError}
 use Rattle.amqp_session.specs.declared.stop.SessionStopReason.{SessionStopReason}
 use Rattle.amqp_session.specs.declared.stop.SessionStopReason.TheVariants as stop
-use Rattle.amqp_session.specs.Relay.{FlowQuestion, TransferQuestion}
+use Rattle.amqp_session.specs.Relay.{AttachQuestion, FlowQuestion, TransferQuestion, DetachQuestion}
 use Rattle.amqp_session.specs.States.{takes_end}
 use Rattle.amqp_session.specs.Transfers.{RequestedTransfer}
 use Rattle.amqp_session.specs.History as session
@@ -24,8 +29,8 @@ use Rattle.amqp_frames.specs.declared.frame.FrameBody.{FrameBody}
 use Rattle.amqp_frames.specs.declared.frame.FrameBody.TheVariants as body
 use Rattle.fe2o3_amqp.specs.declared.engine.input.Input.{Input}
 use Rattle.fe2o3_amqp.specs.declared.engine.input.Input.TheVariants as input
-use Rattle.fe2o3_amqp.specs.declared.engine.input.StepError.{StepError}
-use Rattle.fe2o3_amqp.specs.declared.engine.input.StepError.TheVariants as no
+use Rattle.fe2o3_amqp.specs.declared.engine.step_error.StepError.{StepError}
+use Rattle.fe2o3_amqp.specs.declared.engine.step_error.StepError.TheVariants as no
 
 -- the calls of a session in this state, with their answers, and the refusal
 abbrev pub Calls : Type 0 → Type 1
@@ -40,6 +45,10 @@ state_refusal (Err e) = Some (no.SessionState e)
 abbrev pub session_refusal : {X : Type 0} → Result X SessionInnerError → Option StepError
 session_refusal (Ok x) = None
 session_refusal (Err e) = Some (no.Session e)
+
+abbrev pub link_refusal : {X : Type 0} → Result X AllocLinkError → Option StepError
+link_refusal (Ok x) = None
+link_refusal (Err e) = Some (no.AllocLink e)
 
 -- ---- requests
 
@@ -59,6 +68,21 @@ recorded_end error (Err e) = []
 abbrev pub EndCalls : {R : Type 0} → Option ErrorSaid → Calls R
 EndCalls error s calls refusal = (result : Result SessionFrame SessionStateError)
     × (calls ≡ session.SendsEnd error result ∷ recorded_end error result) × (refusal ≡ state_refusal result)
+
+abbrev pub AllocateLinkCalls : {R : Type 0} → List ℕ → Option R → Calls R
+AllocateLinkCalls name relay s calls refusal = (result : Result OutputHandle AllocLinkError)
+    × (calls ≡ session.AllocatesLink name relay result ∷ []) × (refusal ≡ link_refusal result)
+
+abbrev pub AllocateIncomingCalls : {R : Type 0} → List ℕ → R → InputHandle → Calls R
+AllocateIncomingCalls name relay h s calls refusal = (result : Result OutputHandle AllocLinkError)
+    × (calls ≡ session.AllocatesIncomingLink name relay h result ∷ []) × (refusal ≡ link_refusal result)
+
+abbrev pub AttachCalls : {R : Type 0} → AttachSaid → Calls R
+AttachCalls a s calls refusal = (f : SessionFrame) × (calls ≡ session.SendsAttach a f ∷ []) × (refusal ≡ None)
+
+abbrev pub DetachCalls : {R : Type 0} → DetachSaid → Bool → Calls R
+DetachCalls d expects_echo s calls refusal = (result : Result (Option SessionFrame) SessionInnerError)
+    × (calls ≡ session.SendsDetach d expects_echo result ∷ []) × (refusal ≡ session_refusal result)
 
 abbrev pub FlowCalls : {R : Type 0} → LinkFlow → Calls R
 FlowCalls l s calls refusal = (f : SessionFrame) × (calls ≡ session.SendsFlow l f ∷ []) × (refusal ≡ None)
@@ -94,6 +118,21 @@ abbrev pub ReceivedEndCalls : {R : Type 0} → ℕ → EndSaid → Calls R
 ReceivedEndCalls channel e s calls refusal = (result : Result (Unit {0}) SessionStateError)
     × (calls ≡ session.TakesEnd channel e result ∷ recorded_remote_end (is_end_received (takes_end s)) e.error) × (refusal ≡ state_refusal result)
 
+abbrev pub ReceivedAttachCalls : {R : Type 0} → AttachSaid → Calls R
+ReceivedAttachCalls a s calls refusal = (asked : Option (AttachQuestion _)) × (result : Result (Unit {0}) SessionInnerError)
+    × (calls ≡ session.TakesAttach a asked result ∷ []) × (refusal ≡ session_refusal result)
+
+-- the detach that a relay answers goes out, and the peer is to answer it no more
+abbrev pub answer_to : {R : Type 0} → Result (Option DetachSaid) SessionInnerError → Result (Option SessionFrame) SessionInnerError → List (session.Entry R)
+answer_to (Ok (Some d)) sent = session.SendsDetach d false sent ∷ []
+answer_to (Ok None) sent = []
+answer_to (Err e) sent = []
+
+abbrev pub ReceivedDetachCalls : {R : Type 0} → DetachSaid → Calls R
+ReceivedDetachCalls d s calls refusal = (asked : Option (DetachQuestion _)) × (result : Result (Option DetachSaid) SessionInnerError)
+    × (sent : Result (Option SessionFrame) SessionInnerError)
+    × (calls ≡ session.TakesDetach d asked result ∷ answer_to result sent) × (refusal ≡ session_refusal result)
+
 abbrev pub ReceivedFlowCalls : {R : Type 0} → FlowSaid → Calls R
 ReceivedFlowCalls f s calls refusal = (asked : Option (FlowQuestion _)) × (result : Result (Option SessionOutgoingItem) SessionInnerError)
     × (calls ≡ session.TakesFlow f asked result ∷ []) × (refusal ≡ session_refusal result)
@@ -113,9 +152,13 @@ abbrev pub NoCalls : {R : Type 0} → Calls R
 NoCalls s calls refusal = ⊥
 
 -- what a request asks of the session that it names
-abbrev pub request_calls : {R : Type 0} → Input → Calls R
+abbrev pub request_calls : {R : Type 0} → Input R → Calls R
 request_calls (input.Begin n settings) = BeginCalls
 request_calls (input.End n error) = EndCalls error
+request_calls (input.AllocateLink n name relay) = AllocateLinkCalls (string_bytes name) relay
+request_calls (input.AllocateIncomingLink n name relay h) = AllocateIncomingCalls (string_bytes name) relay h
+request_calls (input.Attach n a) = AttachCalls a
+request_calls (input.Detach n d expects_echo) = DetachCalls d expects_echo
 request_calls (input.Flow n l) = FlowCalls l
 request_calls (input.Transfer n h t payload first) = TransferCalls (record { input_handle = h.0; transfer = t; payload = payload; is_first = first })
 request_calls (input.Stop n reason) = StopCalls reason
@@ -125,6 +168,8 @@ request_calls i = NoCalls
 abbrev pub received_calls : {R : Type 0} → ℕ → FrameBody → Calls R
 received_calls c (body.Begin b) = ReceivedBeginCalls c b
 received_calls c (body.End e) = ReceivedEndCalls c e
+received_calls c (body.Attach a) = ReceivedAttachCalls a
+received_calls c (body.Detach d) = ReceivedDetachCalls d
 received_calls c (body.Flow f) = ReceivedFlowCalls f
 received_calls c (body.Transfer t payload) = ReceivedTransferCalls t payload
 received_calls c b = NoCalls

@@ -5,8 +5,9 @@ use Rattle.std.specs.FinMap as map
 use Rattle.std.specs.Coded.{Coded, coded_ℕ}
 use Rattle.std.specs.Map.{lookup}
 use Rattle.std.specs.BinaryHeap.{IsHeap}
-use Rattle.fe2o3_amqp.specs.declared.connection.channels.AllotError.{AllotError}
-use Rattle.fe2o3_amqp.specs.declared.connection.channels.AllotError.TheVariants.{Full, OutOfMemory}
+use Rattle.amqp_session.specs.declared.numbers.OutgoingChannel.{OutgoingChannel}
+use Rattle.fe2o3_amqp.specs.declared.connection.channel_table.AllotError.{AllotError}
+use Rattle.fe2o3_amqp.specs.declared.connection.channel_table.AllotError.TheVariants.{Full, OutOfMemory}
 
 abbrev pub ChannelTable : Type 0
 ChannelTable = map.FinMap nat_cmp ℕ
@@ -18,8 +19,8 @@ pub record IsLowestFree (m : ChannelTable) (channel : ℕ) : Type 0 where
   pub free : map.get m channel ≡ None
   pub lowest : (d : ℕ) → d < channel → IsSome (map.get m d)
 
-abbrev pub AllotStep : ChannelTable → ℕ → ℕ → Result ℕ AllotError → ChannelTable → Type 0
-AllotStep m max number (Ok channel) new = IsLowestFree m channel × (channel ≤ max) × (new ≡ map.insert m channel number)
+abbrev pub AllotStep : ChannelTable → ℕ → ℕ → Result OutgoingChannel AllotError → ChannelTable → Type 0
+AllotStep m max number (Ok channel) new = IsLowestFree m channel.0 × (channel.0 ≤ max) × (new ≡ map.insert m channel.0 number)
 AllotStep m max number (Err Full) new = ((d : ℕ) → d ≤ max → IsSome (map.get m d)) × (new ≡ m)
 AllotStep m max number (Err OutOfMemory) new = ((d : ℕ) × IsLowestFree m d × (d ≤ max)) × (new ≡ m)
 

@@ -7,10 +7,10 @@ use Rattle.fe2o3_amqp.specs.declared.connection.error.Error.{Error}
 use Rattle.fe2o3_amqp.specs.declared.connection.error.Error.TheVariants as told
 use Rattle.fe2o3_amqp.specs.declared.connection.error.AllocSessionError.{AllocSessionError}
 use Rattle.fe2o3_amqp.specs.declared.connection.error.AllocSessionError.TheVariants as full
-use Rattle.fe2o3_amqp.specs.declared.connection.opening.OpenError.{OpenError}
-use Rattle.fe2o3_amqp.specs.declared.connection.opening.OpenError.TheVariants as opens
-use Rattle.fe2o3_amqp.specs.declared.connection.opening.NegotiationError.{NegotiationError}
-use Rattle.fe2o3_amqp.specs.declared.connection.opening.NegotiationError.TheVariants as unsettled
+use Rattle.fe2o3_amqp.specs.declared.connection.open_error.OpenError.{OpenError}
+use Rattle.fe2o3_amqp.specs.declared.connection.open_error.OpenError.TheVariants as opens
+use Rattle.fe2o3_amqp.specs.declared.connection.open_error.NegotiationError.{NegotiationError}
+use Rattle.fe2o3_amqp.specs.declared.connection.open_error.NegotiationError.TheVariants as unsettled
 use Rattle.amqp_session.specs.declared.error.BeginError.{BeginError}
 use Rattle.amqp_session.specs.declared.error.BeginError.TheVariants as begins
 

@@ -21,8 +21,8 @@ use Rattle.fe2o3_amqp.specs.declared.connection.error.ConnectionStateError.{Conn
 use Rattle.fe2o3_amqp.specs.declared.connection.error.ConnectionInnerError.{ConnectionInnerError}
 use Rattle.fe2o3_amqp.specs.declared.engine.input.Input.{Input}
 use Rattle.fe2o3_amqp.specs.declared.engine.input.Input.TheVariants as input
-use Rattle.fe2o3_amqp.specs.declared.engine.input.StepError.{StepError}
-use Rattle.fe2o3_amqp.specs.declared.engine.input.StepError.TheVariants as no
+use Rattle.fe2o3_amqp.specs.declared.engine.step_error.StepError.{StepError}
+use Rattle.fe2o3_amqp.specs.declared.engine.step_error.StepError.TheVariants as no
 use Rattle.fe2o3_amqp.specs.States.{takes_close}
 use Rattle.fe2o3_amqp.specs.Connection.{ConnectionView, stopped, not_implemented, SendOpenStep, SendCloseStep, IncomingOpenStep, IncomingCloseStep, BeginRouteStep, EndRouteStep, RouteStep}
 use Rattle.fe2o3_amqp.specs.EngineView.{EngineView, peer_limit}
@@ -77,7 +77,7 @@ Finds v c (body.Begin b) found w = BeginRouteStep v c b.remote_channel found w
 Finds v c (body.End e) found w = EndRouteStep v c found w
 Finds v c b found w = RouteStep v c found w
 
--- Not implemented yet: an Attach, a Disposition and a Detach, though there be a session for them.
+-- Not implemented yet: a Disposition, though there be a session for it.
 abbrev pub unimplemented : Result ℕ ConnectionInnerError → ConnectionInnerError
 unimplemented (Ok n) = not_implemented
 unimplemented (Err e) = e
@@ -92,9 +92,7 @@ abbrev pub ReceivedFrame : {R : Type 0} → Relays R → EngineView R → ℕ �
 ReceivedFrame g v c body.Empty reached calls refusal w = Nothing v reached calls w × (refusal ≡ None)
 ReceivedFrame g v c (body.Open o) reached calls refusal w = Untouched reached calls × ReceivedOpen v o refusal w
 ReceivedFrame g v c (body.Close p) reached calls refusal w = Untouched reached calls × ReceivedClose v p refusal w
-ReceivedFrame g v c (body.Attach p) reached calls refusal w = Unimplemented v c reached calls refusal w
 ReceivedFrame g v c (body.Disposition p) reached calls refusal w = Unimplemented v c reached calls refusal w
-ReceivedFrame g v c (body.Detach p) reached calls refusal w = Unimplemented v c reached calls refusal w
 ReceivedFrame g v c b reached calls refusal w = Reaches g (Finds v.connection c b) v (received_calls c b) reached calls refusal w
 
 -- The fields of this kind are not there, or they say a body that was received.
@@ -123,27 +121,34 @@ ReceivedStep g v bytes refusal w = (received : Option Frame) × (reached : Optio
 -- their answers and the questions to relays; why the input was refused, if it was; and the frames that were handed out with
 -- it.
 pub record Entry (R : Type 0) : Type 0 where
-  pub input : Input
+  pub input : Input R
   pub received : Option Frame
   pub reached : Option ℕ
   pub calls : List (session.Entry R)
   pub refusal : Option StepError
   pub frames : List Frame
 
-abbrev pub Carries : {R : Type 0} → Relays R → EngineView R → Input → Option Frame → Option ℕ → List (session.Entry R) → Option StepError → EngineView R → Type 0
+abbrev pub Carries : {R : Type 0} → Relays R → EngineView R → Input R → Option Frame → Option ℕ → List (session.Entry R) → Option StepError → EngineView R → Type 0
 Carries g v (input.Received bytes) received reached calls refusal w = Received g v bytes received reached calls refusal w
 Carries g v input.Open received reached calls refusal w = (received ≡ None) × Untouched reached calls × OpenRequest v refusal w
 Carries g v (input.Close error) received reached calls refusal w = (received ≡ None) × Untouched reached calls × CloseRequest v error refusal w
 Carries g v (input.Begin n settings) received reached calls refusal w = (received ≡ None) × BeginRequest g v n.0 settings reached calls refusal w
 Carries g v (input.Release n) received reached calls refusal w = (received ≡ None) × ReleaseRequest v n.0 reached calls refusal w
 Carries g v (input.End n error) received reached calls refusal w = (received ≡ None) × Does g v n.0 (request_calls (input.End n error)) reached calls refusal w
+Carries g v (input.AllocateLink n name relay) received reached calls refusal w =
+    (received ≡ None) × Does g v n.0 (request_calls (input.AllocateLink n name relay)) reached calls refusal w
+Carries g v (input.AllocateIncomingLink n name relay h) received reached calls refusal w =
+    (received ≡ None) × Does g v n.0 (request_calls (input.AllocateIncomingLink n name relay h)) reached calls refusal w
+Carries g v (input.Attach n a) received reached calls refusal w = (received ≡ None) × Does g v n.0 (request_calls (input.Attach n a)) reached calls refusal w
+Carries g v (input.Detach n d expects_echo) received reached calls refusal w =
+    (received ≡ None) × Does g v n.0 (request_calls (input.Detach n d expects_echo)) reached calls refusal w
 Carries g v (input.Flow n l) received reached calls refusal w = (received ≡ None) × Does g v n.0 (request_calls (input.Flow n l)) reached calls refusal w
 Carries g v (input.Transfer n h t payload first) received reached calls refusal w =
     (received ≡ None) × Does g v n.0 (request_calls (input.Transfer n h t payload first)) reached calls refusal w
 Carries g v (input.Stop n reason) received reached calls refusal w = (received ≡ None) × Does g v n.0 (request_calls (input.Stop n reason)) reached calls refusal w
 
 -- the input is carried out
-abbrev pub CarriedStep : {R : Type 0} → Relays R → EngineView R → Input → Option StepError → EngineView R → Type 0
+abbrev pub CarriedStep : {R : Type 0} → Relays R → EngineView R → Input R → Option StepError → EngineView R → Type 0
 CarriedStep g v i refusal w = (received : Option Frame) × (reached : Option ℕ) × (calls : List (session.Entry _)) × Carries g v i received reached calls refusal w
 
 -- what waits stops all else
@@ -155,6 +160,6 @@ abbrev pub Step : {R : Type 0} → Relays R → EngineView R → Entry R → Eng
 Step g v e w = WaitingStep v e w ⊎ ((v.waiting ≡ []) × (e.frames ≡ w.waiting) × Carries g v e.input e.received e.reached e.calls e.refusal w)
 
 -- a step with this input and this refusal
-abbrev pub Steps : {R : Type 0} → Relays R → EngineView R → Input → Option StepError → EngineView R → Type 0
+abbrev pub Steps : {R : Type 0} → Relays R → EngineView R → Input R → Option StepError → EngineView R → Type 0
 Steps g v i refusal w = (received : Option Frame) × (reached : Option ℕ) × (calls : List (session.Entry _)) × (frames : List Frame)
     × Step g v (record { input = i; received = received; reached = reached; calls = calls; refusal = refusal; frames = frames }) w

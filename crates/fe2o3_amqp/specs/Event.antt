@@ -10,8 +10,8 @@ use Rattle.amqp_frames.specs.declared.frame.FrameBody.{FrameBody}
 use Rattle.amqp_frames.specs.declared.frame.FrameBody.TheVariants as body
 use Rattle.fe2o3_amqp.specs.declared.engine.input.Input.{Input}
 use Rattle.fe2o3_amqp.specs.declared.engine.input.Input.TheVariants as input
-use Rattle.fe2o3_amqp.specs.declared.engine.input.StepError.{StepError}
-use Rattle.fe2o3_amqp.specs.declared.engine.input.StepError.TheVariants as no
+use Rattle.fe2o3_amqp.specs.declared.engine.step_error.StepError.{StepError}
+use Rattle.fe2o3_amqp.specs.declared.engine.step_error.StepError.TheVariants as no
 use Rattle.fe2o3_amqp.specs.Engine.{Entry}
 
 pub data Event : Type 0 where
@@ -45,7 +45,7 @@ received_event c (body.Begin b) (Some n) refusal = Routed c n
 received_event c (body.End e) (Some n) refusal = Unrouted c
 received_event c b reached refusal = Quiet
 
-abbrev pub event_by : Input → Option Frame → Option ℕ → Option StepError → List Frame → Event
+abbrev pub event_by : {R : Type 0} → Input R → Option Frame → Option ℕ → Option StepError → List Frame → Event
 event_by (input.Received bytes) (Some f) reached refusal frames = received_event f.channel f.body reached refusal
 event_by input.Open received reached None frames = SentOpen
 event_by (input.Close error) received reached None frames = SentClose error

@@ -11,11 +11,11 @@ use Rattle.amqp_frames.specs.declared.frame.FrameBody.{FrameBody}
 use Rattle.amqp_frames.specs.declared.frame.FrameBody.TheVariants as body
 use Rattle.amqp_frames.specs.Frame.{IsFrame, Decodes}
 use Rattle.fe2o3_amqp.specs.declared.engine.input.Input.{Input}
-use Rattle.fe2o3_amqp.specs.declared.engine.input.Answer.{Answer}
-use Rattle.fe2o3_amqp.specs.declared.engine.input.Stopped.{Stopped}
+use Rattle.fe2o3_amqp.specs.declared.engine.answer.Answer.{Answer}
+use Rattle.fe2o3_amqp.specs.declared.engine.answer.Stopped.{Stopped}
 use Rattle.fe2o3_amqp.specs.declared.engine.input.Input.TheVariants as input
-use Rattle.fe2o3_amqp.specs.declared.engine.input.StepError.{StepError}
-use Rattle.fe2o3_amqp.specs.declared.engine.input.StepError.TheVariants as no
+use Rattle.fe2o3_amqp.specs.declared.engine.step_error.StepError.{StepError}
+use Rattle.fe2o3_amqp.specs.declared.engine.step_error.StepError.TheVariants as no
 use Rattle.fe2o3_amqp.specs.declared.connection.error.ConnectionInnerError.TheVariants as inner
 use Rattle.amqp_session.specs.Session.{SessionView}
 use Rattle.amqp_session.specs.History as session
@@ -47,7 +47,7 @@ HasReceived bytes None (Some no.OutputWaiting) = Unit {0}
 HasReceived bytes None (Some no.OutOfMemory) = Unit {0}
 HasReceived bytes None refusal = ⊥
 
-abbrev pub Receives : {R : Type 0} → Input → Entry R → Type 0
+abbrev pub Receives : {R : Type 0} → Input R → Entry R → Type 0
 Receives (input.Received bytes) e = HasReceived bytes e.received e.refusal
 Receives i e = e.received ≡ None
 
@@ -57,8 +57,12 @@ AllReceived H = Each H (λ before e. Receives e.input e)
 -- ---- requests and frames reach their session
 
 -- the session that a request on a session names
-abbrev pub names : Input → Option ℕ
+abbrev pub names : {R : Type 0} → Input R → Option ℕ
 names (input.End n error) = Some n.0
+names (input.AllocateLink n name relay) = Some n.0
+names (input.AllocateIncomingLink n name relay h) = Some n.0
+names (input.Attach n a) = Some n.0
+names (input.Detach n d expects_echo) = Some n.0
 names (input.Flow n l) = Some n.0
 names (input.Transfer n h t payload first) = Some n.0
 names (input.Stop n reason) = Some n.0
@@ -79,8 +83,10 @@ abbrev pub GoesAlong : {R : Type 0} → Option ℕ → Entry R → Type 0
 GoesAlong None e = (e.reached ≡ None) × (e.refusal ≡ Some (no.Connection not_found))
 GoesAlong (Some n) e = (e.reached ≡ Some n) × ¬ (e.refusal ≡ Some (no.Connection not_found))
 
--- a Flow and a Transfer go along in every state of the connection; an End in Opened alone
+-- an Attach, a Flow, a Transfer and a Detach go along in every state of the connection; an End in Opened alone
 abbrev pub Passes : {R : Type 0} → FrameBody → ConnectionState → Option ℕ → Entry R → Type 0
+Passes (body.Attach p) s route e = GoesAlong route e
+Passes (body.Detach p) s route e = GoesAlong route e
 Passes (body.Flow p) s route e = GoesAlong route e
 Passes (body.Transfer p payload) s route e = GoesAlong route e
 Passes (body.End p) s route e = (s ≡ Opened → GoesAlong route e) × (¬ (s ≡ Opened) → (e.reached ≡ None) × (e.refusal ≡ Some (no.Connection inner.IllegalState)))
@@ -110,7 +116,7 @@ HeldOnce H = (c d n : ℕ) → held c H ≡ Some n → held d H ≡ Some n → c
 
 -- ---- an entry's calls are what its input asks, and its frames are theirs
 
-abbrev pub asked_calls : {R : Type 0} → Input → Option Frame → Calls R
+abbrev pub asked_calls : {R : Type 0} → Input R → Option Frame → Calls R
 asked_calls (input.Received bytes) (Some f) = received_calls f.channel f.body
 asked_calls (input.Received bytes) None = NoCalls
 asked_calls i received = request_calls i
@@ -212,7 +218,7 @@ pub record Stands {R : Type 0} (s : ConnectionState) (o : OpenSaid) (H : List (E
 
 -- ---- what a run does
 
-abbrev pub inputs_of : {R : Type 0} → List (Entry R) → List Input
+abbrev pub inputs_of : {R : Type 0} → List (Entry R) → List (Input R)
 inputs_of [] = []
 inputs_of (e ∷ es) = e.input ∷ inputs_of es
 
@@ -221,7 +227,7 @@ abbrev pub IsTaken : {R : Type 0} → Entry R → Type 0
 IsTaken e = ¬ (e.refusal ≡ Some no.OutputWaiting)
 
 -- these entries were run, from the view, inputs and answers before to those after
-pub record Runs {R : Type 0} (g : Relays R) (es : List (Entry R)) (v : EngineView R) (inputs : List Input) (answers : List Answer) (v' : EngineView R) (inputs' : List Input) (answers' : List Answer) : Type 0 where
+pub record Runs {R : Type 0} (g : Relays R) (es : List (Entry R)) (v : EngineView R) (inputs : List (Input R)) (answers : List Answer) (v' : EngineView R) (inputs' : List (Input R)) (answers' : List Answer) : Type 0 where
   -- the inputs are taken from the front, and none is refused because output waits
   pub taken : inputs ≡ inputs_of es ++ inputs'
   pub all_taken : All IsTaken es
@@ -236,7 +242,7 @@ pub record Runs {R : Type 0} (g : Relays R) (es : List (Entry R)) (v : EngineVie
   pub said : Speaks v.limit v.waiting es v'.waiting out
 
 -- A run takes all inputs and puts out all frames, or it stops and says how many inputs it took.
-pub record Ran {R : Type 0} (g : Relays R) (v : EngineView R) (inputs : List Input) (answers : List Answer) (result : Result (Unit {0}) Stopped) (v' : EngineView R) (inputs' : List Input) (answers' : List Answer) : Type 0 where
+pub record Ran {R : Type 0} (g : Relays R) (v : EngineView R) (inputs : List (Input R)) (answers : List Answer) (result : Result (Unit {0}) Stopped) (v' : EngineView R) (inputs' : List (Input R)) (answers' : List Answer) : Type 0 where
   pub entries : List (Entry R)
   pub runs : Runs g entries v inputs answers v' inputs' answers'
   pub result_is : MatchResult result (λ _. (inputs' ≡ []) × (v'.waiting ≡ [])) (λ stopped. stopped.done ≡ length entries)

@@ -3,11 +3,11 @@ use Rattle.std.specs.Prelude.{ℕ, ◌≡◌, List, [], ◌∷◌, ◌++◌, Opt
 use Rattle.amqp_frames.specs.declared.frame.Frame.{Frame}
 use Rattle.amqp_frames.specs.Piece.{PieceParts}
 use Rattle.amqp_frames.specs.Cut.{Fits, Cut, ReadBack}
-use Rattle.fe2o3_amqp.specs.declared.engine.input.Answer.{Answer}
-use Rattle.fe2o3_amqp.specs.declared.engine.input.Answer.TheVariants.{Done, Refused, Out, TooLarge}
-use Rattle.fe2o3_amqp.specs.declared.engine.input.StepError.{StepError}
-use Rattle.fe2o3_amqp.specs.declared.engine.input.OutputError.{OutputError}
-use Rattle.fe2o3_amqp.specs.declared.engine.input.OutputError.TheVariants as no
+use Rattle.fe2o3_amqp.specs.declared.engine.answer.Answer.{Answer}
+use Rattle.fe2o3_amqp.specs.declared.engine.answer.Answer.TheVariants.{Done, Refused, Out, TooLarge}
+use Rattle.fe2o3_amqp.specs.declared.engine.step_error.StepError.{StepError}
+use Rattle.fe2o3_amqp.specs.declared.engine.answer.OutputError.{OutputError}
+use Rattle.fe2o3_amqp.specs.declared.engine.answer.OutputError.TheVariants as no
 use Rattle.fe2o3_amqp.specs.EngineView.{EngineView}
 use Rattle.fe2o3_amqp.specs.Engine.{Entry}
 use Rattle.fe2o3_amqp.specs.Event.{event}

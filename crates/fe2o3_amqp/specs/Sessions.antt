@@ -4,11 +4,10 @@ use Rattle.std.specs.Prelude.{◌≡◌, ◌⊎◌, ◌<◌, ◌^◌, ℕ, List,
 use Rattle.std.specs.Map.{lookup, set_value}
 use Rattle.amqp_types.specs.declared.states.SessionState.TheVariants as at
 use Rattle.amqp_session.specs.declared.frame.SessionFrame.{SessionFrame}
-use Rattle.amqp_session.specs.declared.frame.SessionOutgoingItem.{SessionOutgoingItem}
 use Rattle.amqp_session.specs.declared.error.SessionStateError.{SessionStateError}
 use Rattle.amqp_session.specs.declared.error.SessionStateError.TheVariants as unbegun
 use Rattle.amqp_session.specs.declared.stop.SessionStopReason.{SessionStopReason}
-use Rattle.amqp_session.specs.Items.{item_frames}
+use Rattle.amqp_frames.specs.declared.frame.Frame.{Frame}
 use Rattle.amqp_session.specs.Relay.{Relays}
 use Rattle.amqp_session.specs.Settings.{SettingsSaid}
 use Rattle.amqp_session.specs.Session.{SessionView, new_session}
@@ -16,8 +15,8 @@ use Rattle.amqp_session.specs.Step.{StopStep, SendBeginStep}
 use Rattle.amqp_session.specs.OutgoingFrames.{calls_frames}
 use Rattle.amqp_session.specs.History as session
 use Rattle.fe2o3_amqp.specs.declared.connection.error.ConnectionInnerError.{ConnectionInnerError}
-use Rattle.fe2o3_amqp.specs.declared.engine.input.StepError.{StepError}
-use Rattle.fe2o3_amqp.specs.declared.engine.input.StepError.TheVariants as no
+use Rattle.fe2o3_amqp.specs.declared.engine.step_error.StepError.{StepError}
+use Rattle.fe2o3_amqp.specs.declared.engine.step_error.StepError.TheVariants as no
 use Rattle.fe2o3_amqp.specs.Connection.{ConnectionView, AllocateStep, Holds, given_back, not_found, refusal_of}
 use Rattle.fe2o3_amqp.specs.EngineView.{EngineView}
 use Rattle.fe2o3_amqp.specs.Waits.{sent}
@@ -29,32 +28,33 @@ abbrev pub RecordedEnd : {R : Type 0} → SessionView R → SessionStopReason �
 RecordedEnd v reason true w = StopStep v reason w
 RecordedEnd v reason false w = w ≡ v
 
-abbrev pub handed_out : Result (Option SessionOutgoingItem) StepError → List SessionFrame
-handed_out (Ok item) = item_frames item
-handed_out (Err e) = []
+-- the frames that wait with an answer
+abbrev pub frames_with : Result (List Frame) StepError → List Frame
+frames_with (Ok frames) = frames
+frames_with (Err e) = []
 
 -- the session was asked, made these calls, and answered
-pub record Answered {R : Type 0} (g : Relays R) (v : SessionView R) (asks : Calls R) (result : Result (Option SessionOutgoingItem) StepError) (w : SessionView R) : Type 0 where
+pub record Answered {R : Type 0} (g : Relays R) (v : SessionView R) (asks : Calls R) (result : Result (List Frame) StepError) (w : SessionView R) : Type 0 where
   pub calls : List (session.Entry R)
   pub asked : asks v.state calls (refusal_of result)
   pub steps : session.Chain g v calls w
-  pub frames : calls_frames calls ≡ handed_out result
+  pub frames : sent (calls_frames calls) ≡ frames_with result
 
 -- ---- one session, among those of an engine
 
 -- what a call does: the session as it stands, what it answers, and the session then
 abbrev pub Acts : Type 0 → Type 1
-Acts R = SessionView R → Result (Option SessionOutgoingItem) StepError → SessionView R → Type 0
+Acts R = SessionView R → Result (List Frame) StepError → SessionView R → Type 0
 
 -- Session n took the call, and all else stayed. What it handed out waits.
 pub record Took {R : Type 0} (acts : Acts R) (v : EngineView R) (n : ℕ) (refusal : Option StepError) (w : EngineView R) : Type 0 where
   pub before : SessionView R
   pub after : SessionView R
-  pub answer : Result (Option SessionOutgoingItem) StepError
+  pub answer : Result (List Frame) StepError
   pub known : lookup (nat_eq n) v.sessions ≡ Some before
   pub acted : acts before answer after
   pub refused : refusal ≡ refusal_of answer
-  pub put : w ≡ record v { sessions = set_value (nat_eq n) v.sessions after; waiting = sent (handed_out answer) }
+  pub put : w ≡ record v { sessions = set_value (nat_eq n) v.sessions after; waiting = frames_with answer }
 
 -- the call goes to session n, if there is one
 abbrev pub Asks : {R : Type 0} → Acts R → EngineView R → ℕ → Option StepError → EngineView R → Type 0

@@ -10,12 +10,14 @@ use Rattle.fe2o3_amqp.specs.declared.connection.error.ConnectionInnerError.{Conn
 use Rattle.fe2o3_amqp.specs.declared.connection.error.ConnectionInnerError.TheVariants as inner
 use Rattle.fe2o3_amqp.specs.declared.connection.error.AllocSessionError.{AllocSessionError}
 use Rattle.fe2o3_amqp.specs.declared.connection.error.AllocSessionError.TheVariants as full
+use Rattle.amqp_session.specs.declared.error.AllocLinkError.{AllocLinkError}
+use Rattle.amqp_session.specs.declared.error.AllocLinkError.TheVariants as unallotted
 use Rattle.amqp_session.specs.declared.error.SessionStateError.{SessionStateError}
 use Rattle.amqp_session.specs.declared.error.SessionStateError.TheVariants as begun
 use Rattle.amqp_session.specs.declared.error.SessionInnerError.{SessionInnerError}
 use Rattle.amqp_session.specs.declared.error.SessionInnerError.TheVariants as session
-use Rattle.fe2o3_amqp.specs.declared.engine.input.StepError.{StepError}
-use Rattle.fe2o3_amqp.specs.declared.engine.input.StepError.TheVariants as no
+use Rattle.fe2o3_amqp.specs.declared.engine.step_error.StepError.{StepError}
+use Rattle.fe2o3_amqp.specs.declared.engine.step_error.StepError.TheVariants as no
 
 abbrev pub read_value : Result (List ℕ) FromHexError → Option (List ℕ)
 read_value (Ok bytes) = Some bytes
@@ -63,6 +65,13 @@ session_state_name begun.RemoteEnded = codes "RemoteEnded"
 session_state_name (begun.RemoteEndedWithError e) = codes "RemoteEndedWithError"
 session_state_name begun.OutOfMemory = codes "OutOfMemory"
 
+abbrev pub link_name : AllocLinkError → List ℕ
+link_name unallotted.SessionNotMapped = codes "SessionNotMapped"
+link_name (unallotted.SessionStopped reason) = codes "SessionStopped"
+link_name unallotted.DuplicatedLinkName = codes "DuplicatedLinkName"
+link_name unallotted.HandlesExhausted = codes "HandlesExhausted"
+link_name unallotted.OutOfMemory = codes "OutOfMemory"
+
 abbrev pub session_name : SessionInnerError → List ℕ
 session_name session.UnattachedHandle = codes "UnattachedHandle"
 session_name session.RemoteAttachingLinkNameNotFound = codes "RemoteAttachingLinkNameNotFound"
@@ -83,6 +92,7 @@ name_of (no.Connection e) = inner_name e
 name_of (no.AllocSession e) = alloc_name e
 name_of (no.SessionState e) = session_state_name e
 name_of (no.Session e) = session_name e
+name_of (no.AllocLink e) = link_name e
 name_of no.SessionInUse = codes "SessionInUse"
 name_of no.NoSession = codes "NoSession"
 name_of no.OutOfMemory = codes "OutOfMemory"

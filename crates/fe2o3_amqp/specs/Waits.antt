@@ -1,11 +1,14 @@
 -- Frames that wait: what a connection sends itself, and what its sessions hand out.
-use Rattle.std.specs.Prelude.{◌≡◌, List, [], ◌∷◌, map, Option, Some, None, Bool, true, false}
+use Rattle.std.specs.Prelude.{◌≡◌, ℕ, List, [], ◌∷◌, map, Option, Some, None, Bool, true, false}
 use Rattle.amqp_frames.specs.declared.frame.Frame.{Frame}
 use Rattle.amqp_frames.specs.declared.frame.FrameBody.{FrameBody}
 use Rattle.amqp_frames.specs.declared.frame.FrameBody.TheVariants as body
 use Rattle.amqp_session.specs.declared.frame.SessionFrame.{SessionFrame}
 use Rattle.amqp_session.specs.declared.frame.SessionFrameBody.{SessionFrameBody}
 use Rattle.amqp_session.specs.declared.frame.SessionFrameBody.TheVariants as said
+use Rattle.amqp_types.specs.Disposition.{DispositionSaid}
+use Rattle.fe2o3_amqp.specs.declared.engine.waiting.Behind.{Behind}
+use Rattle.fe2o3_amqp.specs.declared.engine.waiting.Behind.TheVariants as behind
 
 -- a session's frame, as the connection sends it: the same channel, and the same performative and payload
 abbrev pub body_of : SessionFrameBody → FrameBody
@@ -22,6 +25,15 @@ frame_of f = record { channel = f.channel; body = body_of f.body }
 
 abbrev pub sent : List SessionFrame → List Frame
 sent fs = map frame_of fs
+
+-- what stands behind the first frame: frames of a session, or dispositions, each of which becomes a frame on the channel
+abbrev pub disposition_frame : ℕ → DispositionSaid → SessionFrame
+disposition_frame channel d = record { channel = channel; body = said.Disposition d }
+
+abbrev pub behind_frames : Behind → List SessionFrame
+behind_frames behind.Nothing = []
+behind_frames (behind.Frames fs) = fs.items
+behind_frames (behind.Dispositions channel ds) = map (disposition_frame channel.0) ds.items
 
 -- the frame in front, and those behind it
 abbrev pub waits : Option Frame → List SessionFrame → List Frame

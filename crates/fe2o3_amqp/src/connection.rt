@@ -4,22 +4,22 @@ ghost use Rattle.std.specs.Prelude.{◌≡◌};
 ghost use Rattle.amqp_session.specs.declared.stop.ConnectionStopReason.{ConnectionStopReason};
 ghost use Rattle.fe2o3_amqp.specs.Connection.{new_connection, stopped};
 
-mod channels;
+mod allocation;
+mod channel_table;
 pub mod error;
 mod open_close;
-pub mod opening;
-mod routes;
+pub mod open_error;
+mod route_table;
 mod routing;
-mod sessions;
 
 use amqp_session::ConnectionStopReason;
 use amqp_types::{ConnectionState, Open};
-use channels::Channels;
+use channel_table::ChannelTable;
 pub use error::{
     AllocSessionError, ConnectionInnerError, ConnectionStateError, Error, TryCloseError,
 };
-pub use opening::{NegotiationError, OpenError};
-use routes::Routes;
+pub use open_error::{NegotiationError, OpenError};
+use route_table::RouteTable;
 use std::alloc::Global;
 use std::marker::Model;
 
@@ -31,8 +31,8 @@ pub struct Connection {
     stop_reason: Option<ConnectionStopReason>,
     local_open: Open,
     agreed_channel_max: u16,
-    session_by_outgoing_channel: Channels,
-    session_by_incoming_channel: Routes,
+    session_by_outgoing_channel: ChannelTable,
+    session_by_incoming_channel: RouteTable,
 }
 
 impl Model for Connection {
@@ -64,8 +64,8 @@ impl Connection {
             stop_reason: None,
             agreed_channel_max: local_open.channel_max,
             local_open,
-            session_by_outgoing_channel: Channels::new(alloc),
-            session_by_incoming_channel: Routes::new(alloc),
+            session_by_outgoing_channel: ChannelTable::new(alloc),
+            session_by_incoming_channel: RouteTable::new(alloc),
         }
     }
 

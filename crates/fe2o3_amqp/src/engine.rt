@@ -7,12 +7,14 @@ ghost use Rattle.fe2o3_amqp.specs.EngineView.{new_engine, own_limit};
 ghost use Rattle.fe2o3_amqp.specs.Engine.{Steps};
 ghost use Rattle.fe2o3_amqp.specs.Connection.{refusal_of};
 
+pub mod answer;
 pub mod input;
 mod output;
 mod received;
 mod requested;
 mod run;
 mod sessions;
+pub mod step_error;
 mod waiting;
 
 use crate::connection::Connection;
@@ -20,10 +22,12 @@ use crate::numbers::SessionNo;
 use amqp_frames::{FrameDecoder, FrameEncoder};
 use amqp_session::{LinkRelay, Session};
 use amqp_types::{ConnectionState, Open};
+pub use answer::{Answer, OutputError, Stopped};
 use indexmap::IndexMap;
-pub use input::{Answer, Input, OutputError, StepError, Stopped};
+pub use input::Input;
 use std::alloc::Global;
 use std::marker::Model;
+pub use step_error::StepError;
 use waiting::Waiting;
 
 /// A connection with its sessions and its frames: what the peer sends and what this side wants go in, and what is to be sent
@@ -71,7 +75,7 @@ impl<R: LinkRelay> Engine<R> {
             decoder: FrameDecoder::new(),
             connection: Connection::new(alloc, state, local_open),
             sessions: IndexMap::new(alloc),
-            waiting: Waiting::none(alloc),
+            waiting: Waiting::none(),
         }
     }
 
@@ -102,7 +106,7 @@ impl<R: LinkRelay> Engine<R> {
     /// `OutputWaiting` where frames still wait, and nothing has then changed. `Frame` where received bytes are no frame,
     /// `OutOfMemory` where memory is refused before anything was done, `NoSession` and `SessionInUse` where no session has
     /// the number, or one has it: nothing has then changed. Every other refusal is that of the connection or the session.
-    pub fn step(&mut self, input: Input) -> Result<(), StepError>
+    pub fn step(&mut self, input: Input<R>) -> Result<(), StepError>
         ensures { Steps R.gives self.old input (refusal_of result) self.new }
     {
         if self.has_output() {

@@ -29,10 +29,12 @@ const FAILED: u8 = 3;
 /// The engine is in `HeaderExchange`; its Open has the container-id `replay`, the max-frame-size 262144, the channel-max
 /// 255 and nothing else. A line ends at a line feed. An empty line is skipped; `recv HEX` is a received frame without its
 /// size, with digits in either case; `open` and `close` ask for this side's Open and Close. `begin N` begins session N, with
-/// default settings; `end N` ends it without an error; `release N` gives its channel back. `send N HEX` has session N send
-/// one performative with what follows it, which is a Flow that names a link or a Transfer: the input handle has the number
-/// of the transfer's handle, it is the first of its delivery exactly where it has a tag, and what follows is its payload.
-/// N is a decimal number to 4294967295. Links are relayed by a [`ReplayRelay`].
+/// default settings; `end N` ends it without an error; `release N` gives its channel back. `link N NAME` allots an output
+/// handle of session N for a link of that name, which is the rest of the line, with a [`ReplayRelay`] that waits for the
+/// peer's attach. `send N HEX` has session N send one performative with what follows it: an Attach, a Flow that names a link,
+/// a Transfer, or a Detach that the peer is to answer. A transfer's input handle has the number of its handle, it is the first
+/// of its delivery exactly where it has a tag, and what follows is its payload; behind another performative it is dropped.
+/// N is a decimal number to 4294967295.
 ///
 /// `output` gets `out HEX`, in lower case, for each piece, `err NAME` for each refusal, and `err TooLarge` for a frame
 /// that does not fit the peer's limit. What belongs to a line is written, and flushed, before the next line is read.
@@ -103,7 +105,7 @@ fn new_engine(alloc: Global) -> Result<Engine<ReplayRelay>, AllocError> {
 fn answer<O: Write>(
     alloc: Global,
     engine: &mut Engine<ReplayRelay>,
-    input: Input,
+    input: Input<ReplayRelay>,
     output: &mut O,
 ) -> io::Result<()> {
     let mut inputs = VecDeque::new(alloc);

@@ -83,7 +83,8 @@ impl<R: LinkRelay> Session<R> {
     /// `IllegalState` in any state but `Unmapped` and `BeginReceived`. `OutOfMemory` where memory for the copy of the
     /// settings is refused. Nothing changes then.
     pub fn send_begin(&mut self) -> Result<SessionFrame, SessionStateError>
-        ensures { SendBeginStep self.old result self.new }
+        ensures step { SendBeginStep self.old.view result self.new.view }
+        ensures walk { self.new.last_walk ≡ self.old.last_walk }
     {
         let Some(state) = after_sent_begin(self.state) else {
             return Err(SessionStateError::IllegalState);
@@ -101,7 +102,8 @@ impl<R: LinkRelay> Session<R> {
     ///
     /// `IllegalState` in any state but `Mapped` and `EndReceived`. Nothing changes then.
     pub fn send_end(&mut self, error: Option<Error>) -> Result<SessionFrame, SessionStateError>
-        ensures { SendEndStep self.old error result self.new }
+        ensures step { SendEndStep self.old.view error result self.new.view }
+        ensures walk { self.new.last_walk ≡ self.old.last_walk }
     {
         let Some(state) = after_sent_end(self.state, error.is_some()) else {
             return Err(SessionStateError::IllegalState);
@@ -122,7 +124,8 @@ impl<R: LinkRelay> Session<R> {
         channel: IncomingChannel,
         begin: Begin,
     ) -> Result<(), SessionStateError>
-        ensures { TakeBeginStep self.old channel.0 begin result self.new }
+        ensures step { TakeBeginStep self.old.view channel.0 begin result self.new.view }
+        ensures walk { self.new.last_walk ≡ self.old.last_walk }
     {
         let Some(state) = after_received_begin(self.state) else {
             return Err(SessionStateError::IllegalState);
@@ -144,7 +147,8 @@ impl<R: LinkRelay> Session<R> {
         _channel: IncomingChannel,
         end: End,
     ) -> Result<(), SessionStateError>
-        ensures { TakeEndStep self.old end result self.new }
+        ensures step { TakeEndStep self.old.view end result self.new.view }
+        ensures walk { self.new.last_walk ≡ self.old.last_walk }
     {
         let is_answer = is_answer(self.state);
         let Some(state) = after_received_end(self.state) else {

@@ -112,7 +112,8 @@ impl<R: LinkRelay> Session<R> {
         &mut self,
         flow: Flow,
     ) -> Result<Option<SessionOutgoingItem>, SessionInnerError>
-        ensures { (asked : Option (FlowQuestion R)) × FlowStep R.gives.flow_gives self.old flow asked result self.new }
+        ensures step { (asked : Option (FlowQuestion R)) × FlowStep R.gives.flow_gives self.old.view flow asked result self.new.view }
+        ensures walk { self.new.last_walk ≡ self.old.last_walk }
     {
         self.move_windows(&flow);
         match flow.handle {
@@ -134,7 +135,8 @@ impl<R: LinkRelay> Session<R> {
         transfer: Transfer,
         payload: Bytes,
     ) -> Result<Option<Disposition>, SessionInnerError>
-        ensures { (asked : Option (TransferQuestion R)) × TakeTransferStep R.gives.transfer_gives self.old transfer payload asked result self.new }
+        ensures step { (asked : Option (TransferQuestion R)) × TakeTransferStep R.gives.transfer_gives self.old.view transfer payload asked result self.new.view }
+        ensures walk { self.new.last_walk ≡ self.old.last_walk }
     {
         self.receiving.count_transfer();
         let input = InputHandle::from(transfer.handle);
@@ -148,7 +150,8 @@ impl<R: LinkRelay> Session<R> {
         transfer: Transfer,
         payload: Bytes,
     ) -> Result<Option<Disposition>, SessionInnerError>
-        ensures { (asked : Option (TransferQuestion R)) × LinkTransferStep R.gives.transfer_gives self.old input.0 transfer payload asked result self.new }
+        ensures step { (asked : Option (TransferQuestion R)) × LinkTransferStep R.gives.transfer_gives self.old.view input.0 transfer payload asked result self.new.view }
+        ensures walk { self.new.last_walk ≡ self.old.last_walk }
     {
         if !self.links.is_attached(input) {
             return Err(SessionInnerError::UnattachedHandle);
@@ -167,8 +170,9 @@ impl<R: LinkRelay> Session<R> {
 
     /// The windows and numbers that a flow says.
     fn move_windows(&mut self, flow: &Flow)
-        ensures moved { self.new ≡ flow_moved self.old flow.now }
-        ensures fits { FlowFits self.old flow.now }
+        ensures moved { self.new.view ≡ flow_moved self.old.view flow.now }
+        ensures fits { FlowFits self.old.view flow.now }
+        ensures walk { self.new.last_walk ≡ self.old.last_walk }
     {
         let base = flow
             .next_incoming_id
@@ -180,7 +184,8 @@ impl<R: LinkRelay> Session<R> {
 
     /// What a flow lets out that names no link.
     fn flow_of_session(&mut self) -> Result<Option<SessionOutgoingItem>, SessionInnerError>
-        ensures { FlowUnasked self.old None result self.new }
+        ensures step { FlowUnasked self.old.view None result self.new.view }
+        ensures walk { self.new.last_walk ≡ self.old.last_walk }
     {
         if !self.can_send() {
             return Ok(None);
@@ -198,7 +203,8 @@ impl<R: LinkRelay> Session<R> {
         input: InputHandle,
         flow: LinkFlow,
     ) -> Result<Option<SessionOutgoingItem>, SessionInnerError>
-        ensures { (asked : Option (FlowQuestion R)) × LinkFlowStep R.gives.flow_gives self.old input.0 flow asked result self.new }
+        ensures step { (asked : Option (FlowQuestion R)) × LinkFlowStep R.gives.flow_gives self.old.view input.0 flow asked result self.new.view }
+        ensures walk { self.new.last_walk ≡ self.old.last_walk }
     {
         if !self.links.is_attached(input) {
             return Err(SessionInnerError::UnattachedHandle);
@@ -216,9 +222,10 @@ impl<R: LinkRelay> Session<R> {
         input: InputHandle,
         flow: LinkFlow,
     ) -> Result<Option<SessionOutgoingItem>, SessionInnerError>
-        requires mapped { is_mapped self.old.state ≡ true }
-        requires attached { IsSome (attached_at input.0 self.old.links) }
-        ensures { (asked : Option (FlowQuestion R)) × LinkFlowStep R.gives.flow_gives self.old input.0 flow asked result self.new }
+        requires mapped { is_mapped self.old.view.state ≡ true }
+        requires attached { IsSome (attached_at input.0 self.old.view.links) }
+        ensures step { (asked : Option (FlowQuestion R)) × LinkFlowStep R.gives.flow_gives self.old.view input.0 flow asked result self.new.view }
+        ensures walk { self.new.last_walk ≡ self.old.last_walk }
     {
         let Ok(room) = take_room(self.alloc, self.sending.ready(), &mut self.sent) else {
             return Err(SessionInnerError::OutOfMemory);
@@ -244,9 +251,10 @@ impl<R: LinkRelay> Session<R> {
         input: InputHandle,
         flow: LinkFlow,
     ) -> Result<Option<SessionOutgoingItem>, SessionInnerError>
-        requires mapped { is_mapped self.old.state ≡ false }
-        requires attached { IsSome (attached_at input.0 self.old.links) }
-        ensures { (asked : Option (FlowQuestion R)) × LinkFlowStep R.gives.flow_gives self.old input.0 flow asked result self.new }
+        requires mapped { is_mapped self.old.view.state ≡ false }
+        requires attached { IsSome (attached_at input.0 self.old.view.links) }
+        ensures step { (asked : Option (FlowQuestion R)) × LinkFlowStep R.gives.flow_gives self.old.view input.0 flow asked result self.new.view }
+        ensures walk { self.new.last_walk ≡ self.old.last_walk }
     {
         match self.links.ask_flow(input, flow) {
             Err(error) => Err(SessionInnerError::from(error)),
@@ -256,7 +264,7 @@ impl<R: LinkRelay> Session<R> {
 
     /// The frame of the relay's flow, if any.
     fn echo(&self, flow: Option<LinkFlow>) -> Option<SessionFrame>
-        ensures { result ≡ option_map (flow_frame self.now) flow }
+        ensures { result ≡ option_map (flow_frame self.now.view) flow }
     {
         match flow {
             None => None,

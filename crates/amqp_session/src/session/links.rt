@@ -25,7 +25,7 @@ fn has_ended(state: SessionState) -> bool
 impl<R: LinkRelay> Session<R> {
     /// The output handle of the live link of a name.
     pub fn output_handle(&self, name: &str) -> Option<OutputHandle>
-        ensures { result ≡ option_map (λ n. n.handle) (named_at name.now self.now.links) }
+        ensures { result ≡ option_map (λ n. n.handle) (named_at name.now self.now.view.links) }
     {
         self.links.output_handle(name)
     }
@@ -40,7 +40,8 @@ impl<R: LinkRelay> Session<R> {
         name: String,
         relay: Option<R>,
     ) -> Result<OutputHandle, AllocLinkError>
-        ensures { AllocateLinkStep self.old (string_bytes name) relay result self.new }
+        ensures step { AllocateLinkStep self.old.view (string_bytes name) relay result self.new.view }
+        ensures walk { self.new.last_walk ≡ self.old.last_walk }
     {
         if let Err(error) = self.may_allot(name.as_str()) {
             return Err(error);
@@ -56,7 +57,8 @@ impl<R: LinkRelay> Session<R> {
         relay: R,
         input_handle: InputHandle,
     ) -> Result<OutputHandle, AllocLinkError>
-        ensures { AllocateIncomingStep self.old (string_bytes name) relay input_handle result self.new }
+        ensures step { AllocateIncomingStep self.old.view (string_bytes name) relay input_handle result self.new.view }
+        ensures walk { self.new.last_walk ≡ self.old.last_walk }
     {
         if let Err(error) = self.may_allot(name.as_str()) {
             return Err(error);
@@ -66,7 +68,8 @@ impl<R: LinkRelay> Session<R> {
 
     /// Releases the live link of an output handle with its name, and says whether there was one. Takes no memory.
     pub fn deallocate_link(&mut self, handle: OutputHandle) -> bool
-        ensures { DeallocateStep self.old handle result self.new }
+        ensures step { DeallocateStep self.old.view handle result self.new.view }
+        ensures walk { self.new.last_walk ≡ self.old.last_walk }
     {
         self.links.release(handle.0)
     }
@@ -78,7 +81,8 @@ impl<R: LinkRelay> Session<R> {
     /// `OutOfMemory` where memory is refused: it is taken before the relay is asked. An error of the relay is passed on, and
     /// the relay goes on to wait.
     pub fn on_incoming_attach(&mut self, attach: Attach) -> Result<(), SessionInnerError>
-        ensures { (asked : Option (AttachQuestion R)) × TakeAttachStep R.gives.attach_gives self.old attach asked result self.new }
+        ensures step { (asked : Option (AttachQuestion R)) × TakeAttachStep R.gives.attach_gives self.old.view attach asked result self.new.view }
+        ensures walk { self.new.last_walk ≡ self.old.last_walk }
     {
         self.links.attach(attach)
     }
@@ -90,14 +94,15 @@ impl<R: LinkRelay> Session<R> {
         &mut self,
         detach: Detach,
     ) -> Result<Option<Detach>, SessionInnerError>
-        ensures { (asked : Option (DetachQuestion R)) × TakeDetachStep R.gives.detach_gives self.old detach asked result self.new }
+        ensures step { (asked : Option (DetachQuestion R)) × TakeDetachStep R.gives.detach_gives self.old.view detach asked result self.new.view }
+        ensures walk { self.new.last_walk ≡ self.old.last_walk }
     {
         Ok(self.links.detach(detach))
     }
 
     /// The frame of an attach. Takes no memory, and changes nothing.
     pub fn on_outgoing_attach(&self, attach: Attach) -> SessionFrame
-        ensures { SendAttachStep self.now attach result self.now }
+        ensures { SendAttachStep self.now.view attach result self.now.view }
     {
         SessionFrame::new(self.outgoing_channel.0, SessionFrameBody::Attach(attach))
     }
@@ -109,7 +114,8 @@ impl<R: LinkRelay> Session<R> {
         detach: Detach,
         expects_echo: bool,
     ) -> Result<Option<SessionFrame>, SessionInnerError>
-        ensures { SendDetachStep self.old detach expects_echo result self.new }
+        ensures step { SendDetachStep self.old.view detach expects_echo result self.new.view }
+        ensures walk { self.new.last_walk ≡ self.old.last_walk }
     {
         if !self.links.leave(detach.handle.0, expects_echo) {
             return Ok(None);
@@ -119,8 +125,8 @@ impl<R: LinkRelay> Session<R> {
 
     /// Whether a link of this name may be allotted.
     fn may_allot(&self, name: &str) -> Result<(), AllocLinkError>
-        ensures ok { OnOk result (MayAllot self.now name.now) }
-        ensures err { IfErr result (λ e. AllotRefused self.now name.now e) }
+        ensures ok { OnOk result (MayAllot self.now.view name.now) }
+        ensures err { IfErr result (λ e. AllotRefused self.now.view name.now e) }
     {
         if !self.can_send() {
             return Err(self.why_unallotted());
@@ -133,7 +139,7 @@ impl<R: LinkRelay> Session<R> {
 
     /// Why no link is allotted outside `Mapped`.
     fn why_unallotted(&self) -> AllocLinkError
-        ensures { result ≡ why_unallotted self.now.state self.now.session_stop }
+        ensures { result ≡ why_unallotted self.now.view.state self.now.view.session_stop }
     {
         if let Some(reason) = self.session_stop {
             return AllocLinkError::SessionStopped(reason);

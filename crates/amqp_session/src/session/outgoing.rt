@@ -17,7 +17,7 @@ use bytes::Bytes;
 impl<R: LinkRelay> Session<R> {
     /// The frame of a link's flow, with the session's numbers and windows. Takes no memory, and changes nothing.
     pub fn on_outgoing_flow(&self, flow: LinkFlow) -> SessionFrame
-        ensures { SendFlowStep self.now flow result self.now }
+        ensures { SendFlowStep self.now.view flow result self.now.view }
     {
         SessionFrame::new(
             self.outgoing_channel.0,
@@ -49,7 +49,8 @@ impl<R: LinkRelay> Session<R> {
         payload: Bytes,
         is_first: bool,
     ) -> Result<Option<SessionOutgoingItem>, SessionInnerError>
-        ensures { SendTransferStep self.old (record { input_handle = input_handle.0; transfer = transfer; payload = payload; is_first = is_first }) result self.new }
+        ensures step { SendTransferStep self.old.view (record { input_handle = input_handle.0; transfer = transfer; payload = payload; is_first = is_first }) result self.new.view }
+        ensures walk { self.new.last_walk ≡ self.old.last_walk }
     {
         if !self.can_send() || (is_first && transfer.delivery_tag.is_none()) {
             return Err(SessionInnerError::IllegalState);
@@ -67,7 +68,8 @@ impl<R: LinkRelay> Session<R> {
     /// A flow of the session alone, in `Mapped`, where the transfers that came since the last one are at least half of the
     /// incoming window, rounded down: it opens the peer's window again. Takes no memory.
     pub fn maybe_outgoing_session_flow(&mut self) -> Option<SessionOutgoingItem>
-        ensures { SessionFlowStep self.old result self.new }
+        ensures step { SessionFlowStep self.old.view result self.new.view }
+        ensures walk { self.new.last_walk ≡ self.old.last_walk }
     {
         if !self.is_flow_due() {
             return None;
@@ -82,14 +84,14 @@ impl<R: LinkRelay> Session<R> {
 
     /// Whether a session flow is due.
     fn is_flow_due(&self) -> bool
-        ensures { result ≡ is_due self.now }
+        ensures { result ≡ is_due self.now.view }
     {
         self.can_send() && self.settings.incoming_window / 2 <= self.receiving.unreported
     }
 
     /// What a flow of the session alone says.
     pub(super) fn session_flow(&self) -> Flow
-        ensures { result ≡ session_flow self.now }
+        ensures { result ≡ session_flow self.now.view }
     {
         Flow {
             next_incoming_id: Some(self.receiving.next_incoming_id),

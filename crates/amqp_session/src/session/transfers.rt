@@ -128,7 +128,9 @@ impl Sending {
         ensures width { width < 2 ^ 32 }
         ensures base { base < 2 ^ 32 }
     {
-        self.remote_incoming_window = width.saturating_sub(self.next_outgoing_id.wrapping_sub(base));
+        self.remote_incoming_window = width.saturating_sub(
+            self.next_outgoing_id.wrapping_sub(base),
+        );
     }
 
     /// How many transfers the window lets out.

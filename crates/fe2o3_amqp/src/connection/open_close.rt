@@ -63,7 +63,7 @@ fn after_incoming_close(state: ConnectionState) -> Option<ConnectionState>
 }
 
 /// How the peer's Close is told, in the state that it led to.
-fn tell(state: ConnectionState, error: Option<Error>) -> Result<(), ConnectionStateError>
+fn answer_close(state: ConnectionState, error: Option<Error>) -> Result<(), ConnectionStateError>
     ensures { refusal_of result ≡ told state error }
 {
     match error {
@@ -148,6 +148,6 @@ impl Connection {
             return Err(ConnectionStateError::IllegalState);
         };
         self.state = next;
-        tell(next, close.error)
+        answer_close(next, close.error)
     }
 }

@@ -30,7 +30,7 @@ impl Connection {
         ensures { (found : Result ℕ ConnectionInnerError) × BeginRouteStep self.old channel.0 begin.remote_channel found self.new
             × (result ≡ passed_on (record { channel = channel.0; body = said.Begin begin }) found) }
     {
-        match self.begin_route(channel.0, begin.remote_channel) {
+        match self.begin_route(channel, begin.remote_channel) {
             Ok(number) => Ok((
                 SessionNo(number),
                 SessionFrame::new(channel.0, SessionFrameBody::Begin(begin)),
@@ -51,7 +51,7 @@ impl Connection {
         ensures { (found : Result ℕ ConnectionInnerError) × EndRouteStep self.old channel.0 found self.new
             × (result ≡ passed_on (record { channel = channel.0; body = said.End end }) found) }
     {
-        match self.end_route(channel.0) {
+        match self.end_route(channel) {
             Ok(number) => Ok((
                 SessionNo(number),
                 SessionFrame::new(channel.0, SessionFrameBody::End(end)),
@@ -64,7 +64,7 @@ impl Connection {
     pub fn session_tx_by_incoming_channel(&self, channel: IncomingChannel) -> Option<SessionNo>
         ensures { result ≡ option_map (λ n. record { 0 = n }) (map.get self.now.session_by_incoming_channel channel.0) }
     {
-        match self.session_by_incoming_channel.of(channel.0) {
+        match self.session_by_incoming_channel.of(channel) {
             Some(number) => Some(SessionNo(number)),
             None => None,
         }
@@ -87,10 +87,10 @@ impl Connection {
     /// A received Begin that names the channel `remote` of this side's: its channel leads to the session that holds that.
     fn begin_route(
         &mut self,
-        channel: u16,
+        channel: IncomingChannel,
         remote: Option<u16>,
     ) -> Result<u32, ConnectionInnerError>
-        ensures { BeginRouteStep self.old channel remote result self.new }
+        ensures { BeginRouteStep self.old channel.0 remote result self.new }
     {
         let ConnectionState::Opened = self.state else {
             return Err(ConnectionInnerError::IllegalState);
@@ -98,7 +98,10 @@ impl Connection {
         let Some(held) = remote else {
             return Err(ConnectionInnerError::NotImplemented(None));
         };
-        let Some(number) = self.session_by_outgoing_channel.holder(held) else {
+        let Some(number) = self
+            .session_by_outgoing_channel
+            .holder(OutgoingChannel(held))
+        else {
             return Err(ConnectionInnerError::NotFound(None));
         };
         let Ok(()) = self.session_by_incoming_channel.put(channel, number) else {
@@ -108,8 +111,8 @@ impl Connection {
     }
 
     /// A received End: the route goes.
-    fn end_route(&mut self, channel: u16) -> Result<u32, ConnectionInnerError>
-        ensures { EndRouteStep self.old channel result self.new }
+    fn end_route(&mut self, channel: IncomingChannel) -> Result<u32, ConnectionInnerError>
+        ensures { EndRouteStep self.old channel.0 result self.new }
     {
         let ConnectionState::Opened = self.state else {
             return Err(ConnectionInnerError::IllegalState);

@@ -1,17 +1,13 @@
-//! What an engine is given, and what it answers.
+//! What an engine is given.
 
-use crate::connection::{AllocSessionError, ConnectionInnerError, ConnectionStateError};
 use crate::numbers::SessionNo;
-use amqp_frames::{Error as FrameError, Frame, Piece};
-use amqp_session::{
-    InputHandle, LinkFlow, SessionInnerError, SessionSettings, SessionStateError, SessionStopReason,
-};
-use amqp_types::{Error, ReadError, Transfer};
+use amqp_session::{InputHandle, LinkFlow, SessionSettings, SessionStopReason};
+use amqp_types::{Attach, Detach, Error, Transfer};
 use bytes::Bytes;
 
-/// A received frame, or a local request.
+/// A received frame, or a local request. `R` relays what comes for the links of a session.
 #[derive(Debug, Drop)]
-pub enum Input {
+pub enum Input<R> {
     /// One received frame, without its four-byte size.
     Received(Bytes),
     /// This side's Open is to be sent.
@@ -22,6 +18,16 @@ pub enum Input {
     Begin(SessionNo, SessionSettings),
     /// The session is ended, with an error or without, or the peer's End is answered.
     End(SessionNo, Option<Error>),
+    /// An output handle is allotted for a link of this name; the relay, if any, waits under the name for the peer's attach.
+    AllocateLink(SessionNo, String, Option<R>),
+    /// An output handle is allotted for a link of this name, whose attach came on this input handle: its relay is attached
+    /// there at once.
+    AllocateIncomingLink(SessionNo, String, R, InputHandle),
+    /// An attach of a link of the session is to be sent.
+    Attach(SessionNo, Attach),
+    /// A detach of a link of the session is to be sent, and the link's output handle is released. Where the peer is to
+    /// answer it (`true`), a handle without a live link sends nothing.
+    Detach(SessionNo, Detach, bool),
     /// A flow of a link of the session is to be sent.
     Flow(SessionNo, LinkFlow),
     /// A transfer of the link of the input handle is to be sent, with its payload: the first of its delivery, or a later
@@ -32,138 +38,4 @@ pub enum Input {
     Release(SessionNo),
     /// Why the session stopped is recorded, where no reason is recorded yet.
     Stop(SessionNo, SessionStopReason),
-}
-
-/// Why an input is refused.
-#[derive(Debug, Drop, PartialEq, thiserror::Error)]
-pub enum StepError {
-    /// Frames of an earlier input still wait to be taken out. Nothing has changed.
-    #[error("output is waiting")]
-    OutputWaiting,
-    /// The received bytes are no frame. Nothing has changed.
-    #[error("{0}")]
-    Frame(FrameError),
-    /// The connection's state does not take this, or the peer closed.
-    #[error("{0}")]
-    ConnectionState(ConnectionStateError),
-    /// The connection does not pass the frame on to a session.
-    #[error("{0}")]
-    Connection(ConnectionInnerError),
-    /// The session gets no channel. Nothing has changed.
-    #[error("{0}")]
-    AllocSession(AllocSessionError),
-    /// The session's state does not take this, or the peer ended it.
-    #[error("{0}")]
-    SessionState(SessionStateError),
-    /// The session, or the relay of one of its links, refuses this.
-    #[error("{0}")]
-    Session(SessionInnerError),
-    /// No session has this number. Nothing has changed.
-    #[error("no session")]
-    NoSession,
-    /// A session of this number is there. Nothing has changed.
-    #[error("session in use")]
-    SessionInUse,
-    /// Memory was refused before anything was done. Nothing has changed.
-    #[error("out of memory")]
-    OutOfMemory,
-}
-
-impl From<ConnectionInnerError> for StepError {
-    ghost use Rattle.std.specs.Prelude.{◌≡◌};
-    ghost use Rattle.fe2o3_amqp.specs.declared.engine.input.StepError.TheVariants.{Connection};
-
-    ghost from_gives = { λ error e. e ≡ Connection error };
-
-    fn from(error: ConnectionInnerError) -> StepError {
-        StepError::Connection(error)
-    }
-}
-
-impl From<SessionStateError> for StepError {
-    ghost use Rattle.std.specs.Prelude.{◌≡◌};
-    ghost use Rattle.fe2o3_amqp.specs.declared.engine.input.StepError.TheVariants.{SessionState};
-
-    ghost from_gives = { λ error e. e ≡ SessionState error };
-
-    fn from(error: SessionStateError) -> StepError {
-        StepError::SessionState(error)
-    }
-}
-
-impl From<SessionInnerError> for StepError {
-    ghost use Rattle.std.specs.Prelude.{◌≡◌};
-    ghost use Rattle.fe2o3_amqp.specs.declared.engine.input.StepError.TheVariants.{Session};
-
-    ghost from_gives = { λ error e. e ≡ Session error };
-
-    fn from(error: SessionInnerError) -> StepError {
-        StepError::Session(error)
-    }
-}
-
-impl From<ConnectionStateError> for StepError {
-    ghost use Rattle.std.specs.Prelude.{◌≡◌};
-    ghost use Rattle.fe2o3_amqp.specs.declared.engine.input.StepError.TheVariants.{ConnectionState};
-
-    ghost from_gives = { λ error e. e ≡ ConnectionState error };
-
-    fn from(error: ConnectionStateError) -> StepError {
-        StepError::ConnectionState(error)
-    }
-}
-
-impl From<FrameError> for StepError {
-    ghost use Rattle.std.specs.Prelude.{◌≡◌};
-    ghost use Rattle.fe2o3_amqp.specs.declared.engine.input.StepError.TheVariants.{Frame};
-
-    ghost from_gives = { λ error e. e ≡ Frame error };
-
-    fn from(error: FrameError) -> StepError {
-        StepError::Frame(error)
-    }
-}
-
-impl From<ReadError> for StepError {
-    ghost use Rattle.std.specs.Prelude.{◌≡◌};
-    ghost use Rattle.amqp_frames.specs.FrameError.{error_of};
-    ghost use Rattle.fe2o3_amqp.specs.declared.engine.input.StepError.TheVariants.{Frame};
-
-    ghost from_gives = { λ error e. e ≡ Frame (error_of error) };
-
-    fn from(error: ReadError) -> StepError {
-        StepError::Frame(FrameError::from(error))
-    }
-}
-
-/// What became of an input, and what is to be sent for it.
-#[derive(Debug, Drop)]
-pub enum Answer {
-    /// The input was accepted.
-    Done,
-    /// The input was refused.
-    Refused(StepError),
-    /// The pieces of one frame, in the order in which they are to be sent.
-    Out(Vec<Piece>),
-    /// A frame that does not fit the peer's limit, handed back.
-    TooLarge(Frame),
-}
-
-/// Why a waiting frame is not put out.
-#[derive(Debug, Drop, PartialEq, thiserror::Error)]
-pub enum OutputError {
-    /// Memory was refused. The frame still waits.
-    #[error("out of memory")]
-    Memory,
-    /// The frame does not fit the peer's limit. It waits no longer.
-    #[error("too large")]
-    TooLarge(Frame),
-}
-
-/// A run stopped, since memory was refused.
-#[derive(Clone, Copy, Debug, PartialEq, Eq, thiserror::Error)]
-#[error("stopped after {done} inputs")]
-pub struct Stopped {
-    /// How many inputs were taken from the front.
-    pub done: usize,
 }

@@ -1,12 +1,12 @@
 //! Output: waiting frames become pieces.
 
 ghost use Rattle.std.specs.Prelude.{◌≡◌, ◌++◌, [], ◌∷◌, List, OnOk};
-ghost use Rattle.fe2o3_amqp.specs.declared.engine.input.Answer.{Answer};
+ghost use Rattle.fe2o3_amqp.specs.declared.engine.answer.Answer.{Answer};
 ghost use Rattle.fe2o3_amqp.specs.History.{Taken};
 ghost use Rattle.fe2o3_amqp.specs.Output.{NextOutput, NextAnswer, PutOut};
 
 use super::Engine;
-use super::input::{Answer, OutputError};
+use super::answer::{Answer, OutputError};
 use amqp_frames::{Error, Piece};
 use amqp_session::LinkRelay;
 use std::alloc::AllocError;

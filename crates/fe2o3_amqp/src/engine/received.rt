@@ -7,14 +7,17 @@ ghost use Rattle.amqp_types.specs.declared.performatives.kind.Kind.TheVariants a
 ghost use Rattle.amqp_types.specs.Begin.{BeginSaid};
 ghost use Rattle.amqp_types.specs.End.{EndSaid};
 ghost use Rattle.amqp_session.specs.declared.frame.SessionFrameBody.TheVariants as said;
-ghost use Rattle.fe2o3_amqp.specs.Connection.{RouteStep, refusal_of};
+ghost use Rattle.fe2o3_amqp.specs.Connection.{refusal_of};
 ghost use Rattle.amqp_session.specs.History as session;
 ghost use Rattle.fe2o3_amqp.specs.EngineView.{peer_limit};
-ghost use Rattle.fe2o3_amqp.specs.Engine.{ReceivedStep, FieldsStep, ReceivedCloseStep, Unimplemented, unimplemented, recorded, remote_reason};
+ghost use Rattle.fe2o3_amqp.specs.Engine.{ReceivedStep, FieldsStep, ReceivedCloseStep, recorded, remote_reason};
 
 use super::Engine;
-use super::input::StepError;
-use super::sessions::{begin_received, end_received, flow_received, transfer_received};
+use super::sessions::{
+    attach_received, begin_received, detach_received, end_received, flow_received,
+    transfer_received,
+};
+use super::step_error::StepError;
 use crate::connection::{Connection, ConnectionInnerError, ConnectionStateError};
 use amqp_frames::FrameEncoder;
 use amqp_session::{
@@ -56,14 +59,14 @@ fn record(connection: &mut Connection, next: Option<ConnectionState>, reason: Co
 /// Takes the peer's Close.
 fn take_close(
     connection: &mut Connection,
-    channel: u16,
+    channel: IncomingChannel,
     close: Close,
 ) -> Result<(), ConnectionStateError>
     ensures { ReceivedCloseStep connection.old close (refusal_of result) connection.new }
 {
     let reason = reason_of(&close.error);
     let next = connection.after_close();
-    let told = connection.on_incoming_close(IncomingChannel(channel), close);
+    let told = connection.on_incoming_close(channel, close);
     record(connection, next, reason);
     told
 }
@@ -90,16 +93,6 @@ fn end_in(frame: SessionFrame) -> End
     }
 }
 
-/// The refusal of a frame that is not implemented yet: no route, or no call for it.
-fn unimplemented(found: Result<u32, ConnectionInnerError>) -> ConnectionInnerError
-    ensures { result ≡ unimplemented found }
-{
-    match found {
-        Ok(_number) => ConnectionInnerError::NotImplemented(None),
-        Err(error) => error,
-    }
-}
-
 impl<R: LinkRelay> Engine<R> {
     pub(super) fn receive(&mut self, bytes: Bytes) -> Result<(), StepError>
         requires { self.old.waiting ≡ [] }
@@ -110,13 +103,18 @@ impl<R: LinkRelay> Engine<R> {
         match head.kind {
             // An empty frame is no one's.
             None => Ok(()),
-            Some(kind) => self.receive_kind(head.channel, kind, fields),
+            Some(kind) => self.receive_kind(IncomingChannel(head.channel), kind, fields),
         }
     }
 
-    fn receive_kind(&mut self, channel: u16, kind: Kind, fields: Bytes) -> Result<(), StepError>
+    fn receive_kind(
+        &mut self,
+        channel: IncomingChannel,
+        kind: Kind,
+        fields: Bytes,
+    ) -> Result<(), StepError>
         requires { self.old.waiting ≡ [] }
-        ensures { FieldsStep R.gives self.old channel (Some kind) fields (refusal_of result) self.new }
+        ensures { FieldsStep R.gives self.old channel.0 (Some kind) fields (refusal_of result) self.new }
     {
         match kind {
             Kind::Transfer => self.receive_transfer(channel, fields),
@@ -131,121 +129,121 @@ impl<R: LinkRelay> Engine<R> {
         }
     }
 
-    fn receive_transfer(&mut self, channel: u16, fields: Bytes) -> Result<(), StepError>
+    fn receive_transfer(&mut self, channel: IncomingChannel, fields: Bytes) -> Result<(), StepError>
         requires { self.old.waiting ≡ [] }
-        ensures { FieldsStep R.gives self.old channel (Some kind.Transfer) fields (refusal_of result) self.new }
+        ensures { FieldsStep R.gives self.old channel.0 (Some kind.Transfer) fields (refusal_of result) self.new }
     {
         let mut rest = fields;
         let transfer: Transfer = read_list(self.alloc, &mut rest)?;
-        let number = self.route(channel)?;
-        self.ask_session(number, |session| transfer_received(session, transfer, rest))
+        let number = self
+            .connection
+            .session_tx_by_incoming_channel(channel)
+            .ok_or(ConnectionInnerError::NotFound(None))?;
+        self.ask_session(
+            number.0,
+            |session| transfer_received(session, transfer, rest),
+        )
     }
 
-    fn receive_flow(&mut self, channel: u16, fields: Bytes) -> Result<(), StepError>
+    fn receive_flow(&mut self, channel: IncomingChannel, fields: Bytes) -> Result<(), StepError>
         requires { self.old.waiting ≡ [] }
-        ensures { FieldsStep R.gives self.old channel (Some kind.Flow) fields (refusal_of result) self.new }
+        ensures { FieldsStep R.gives self.old channel.0 (Some kind.Flow) fields (refusal_of result) self.new }
     {
         let mut rest = fields;
         let flow: Flow = read_list(self.alloc, &mut rest)?;
-        let number = self.route(channel)?;
-        self.ask_session(number, |session| flow_received(session, flow))
+        let number = self
+            .connection
+            .session_tx_by_incoming_channel(channel)
+            .ok_or(ConnectionInnerError::NotFound(None))?;
+        self.ask_session(number.0, |session| flow_received(session, flow))
     }
 
-    fn receive_disposition(&mut self, channel: u16, fields: Bytes) -> Result<(), StepError>
+    fn receive_disposition(
+        &mut self,
+        channel: IncomingChannel,
+        fields: Bytes,
+    ) -> Result<(), StepError>
         requires { self.old.waiting ≡ [] }
-        ensures { FieldsStep R.gives self.old channel (Some kind.Disposition) fields (refusal_of result) self.new }
+        ensures { FieldsStep R.gives self.old channel.0 (Some kind.Disposition) fields (refusal_of result) self.new }
     {
         let mut rest = fields;
         let disposition: Disposition = read_list(self.alloc, &mut rest)?;
-        self.refuse_unimplemented(channel, disposition)
+        drop(disposition);
+        let _number = self
+            .connection
+            .session_tx_by_incoming_channel(channel)
+            .ok_or(ConnectionInnerError::NotFound(None))?;
+        Err(StepError::Connection(ConnectionInnerError::NotImplemented(None)))
     }
 
-    fn receive_attach(&mut self, channel: u16, fields: Bytes) -> Result<(), StepError>
+    fn receive_attach(&mut self, channel: IncomingChannel, fields: Bytes) -> Result<(), StepError>
         requires { self.old.waiting ≡ [] }
-        ensures { FieldsStep R.gives self.old channel (Some kind.Attach) fields (refusal_of result) self.new }
+        ensures { FieldsStep R.gives self.old channel.0 (Some kind.Attach) fields (refusal_of result) self.new }
     {
         let mut rest = fields;
         let attach: Attach = read_list(self.alloc, &mut rest)?;
-        self.refuse_unimplemented(channel, attach)
+        let number = self
+            .connection
+            .session_tx_by_incoming_channel(channel)
+            .ok_or(ConnectionInnerError::NotFound(None))?;
+        self.ask_session(number.0, |session| attach_received(session, attach))
     }
 
-    fn receive_detach(&mut self, channel: u16, fields: Bytes) -> Result<(), StepError>
+    fn receive_detach(&mut self, channel: IncomingChannel, fields: Bytes) -> Result<(), StepError>
         requires { self.old.waiting ≡ [] }
-        ensures { FieldsStep R.gives self.old channel (Some kind.Detach) fields (refusal_of result) self.new }
+        ensures { FieldsStep R.gives self.old channel.0 (Some kind.Detach) fields (refusal_of result) self.new }
     {
         let mut rest = fields;
         let detach: Detach = read_list(self.alloc, &mut rest)?;
-        self.refuse_unimplemented(channel, detach)
+        let number = self
+            .connection
+            .session_tx_by_incoming_channel(channel)
+            .ok_or(ConnectionInnerError::NotFound(None))?;
+        self.ask_session(number.0, |session| detach_received(session, detach))
     }
 
     /// The connection's acceptance decides the route, also where the session then refuses.
-    fn receive_begin(&mut self, channel: u16, fields: Bytes) -> Result<(), StepError>
+    fn receive_begin(&mut self, channel: IncomingChannel, fields: Bytes) -> Result<(), StepError>
         requires { self.old.waiting ≡ [] }
-        ensures { FieldsStep R.gives self.old channel (Some kind.Begin) fields (refusal_of result) self.new }
+        ensures { FieldsStep R.gives self.old channel.0 (Some kind.Begin) fields (refusal_of result) self.new }
     {
         let mut rest = fields;
         let begin: Begin = read_list(self.alloc, &mut rest)?;
-        let (number, frame) = self
-            .connection
-            .on_incoming_begin(IncomingChannel(channel), begin)?;
+        let (number, frame) = self.connection.on_incoming_begin(channel, begin)?;
         let begin = begin_in(frame);
         self.ask_session(number.0, |session| begin_received(session, channel, begin))
     }
 
-    fn receive_end(&mut self, channel: u16, fields: Bytes) -> Result<(), StepError>
+    fn receive_end(&mut self, channel: IncomingChannel, fields: Bytes) -> Result<(), StepError>
         requires { self.old.waiting ≡ [] }
-        ensures { FieldsStep R.gives self.old channel (Some kind.End) fields (refusal_of result) self.new }
+        ensures { FieldsStep R.gives self.old channel.0 (Some kind.End) fields (refusal_of result) self.new }
     {
         let mut rest = fields;
         let end: End = read_list(self.alloc, &mut rest)?;
-        let (number, frame) = self
-            .connection
-            .on_incoming_end(IncomingChannel(channel), end)?;
+        let (number, frame) = self.connection.on_incoming_end(channel, end)?;
         let end = end_in(frame);
         self.ask_session(number.0, |session| end_received(session, channel, end))
     }
 
-    fn receive_open(&mut self, channel: u16, fields: Bytes) -> Result<(), StepError>
+    fn receive_open(&mut self, channel: IncomingChannel, fields: Bytes) -> Result<(), StepError>
         requires { self.old.waiting ≡ [] }
-        ensures { FieldsStep R.gives self.old channel (Some kind.Open) fields (refusal_of result) self.new }
+        ensures { FieldsStep R.gives self.old channel.0 (Some kind.Open) fields (refusal_of result) self.new }
     {
         let mut rest = fields;
         let open: Open = read_list(self.alloc, &mut rest)?;
         let limit = limit_of(&open);
-        self.connection
-            .on_incoming_open(IncomingChannel(channel), open)?;
+        self.connection.on_incoming_open(channel, open)?;
         self.encoder = FrameEncoder::new(limit);
         Ok(())
     }
 
-    fn receive_close(&mut self, channel: u16, fields: Bytes) -> Result<(), StepError>
+    fn receive_close(&mut self, channel: IncomingChannel, fields: Bytes) -> Result<(), StepError>
         requires { self.old.waiting ≡ [] }
-        ensures { FieldsStep R.gives self.old channel (Some kind.Close) fields (refusal_of result) self.new }
+        ensures { FieldsStep R.gives self.old channel.0 (Some kind.Close) fields (refusal_of result) self.new }
     {
         let mut rest = fields;
         let close: Close = read_list(self.alloc, &mut rest)?;
         take_close(&mut self.connection, channel, close)?;
         Ok(())
-    }
-
-    /// The session to which a frame on this channel goes, in every state.
-    fn route(&self, channel: u16) -> Result<u32, ConnectionInnerError>
-        ensures { RouteStep self.now.connection channel result self.now.connection }
-    {
-        match self
-            .connection
-            .session_tx_by_incoming_channel(IncomingChannel(channel))
-        {
-            Some(number) => Ok(number.0),
-            None => Err(ConnectionInnerError::NotFound(None)),
-        }
-    }
-
-    fn refuse_unimplemented<P: Drop>(&mut self, channel: u16, said: P) -> Result<(), StepError>
-        ensures { (reached : Option ℕ) × (calls : List (session.Entry R)) × Unimplemented self.old channel reached calls (refusal_of result) self.new }
-    {
-        drop(said);
-        let found = self.route(channel);
-        Err(StepError::Connection(unimplemented(found)))
     }
 }

@@ -12,14 +12,18 @@ ghost use Rattle.std.specs.Fn.{FnOnceReturnsAtMut};
 ghost use Rattle.fe2o3_amqp.specs.Engine.{OpenRequest, CloseRequest, CarriedStep, close_reason};
 
 use super::Engine;
-use super::input::{Input, StepError};
-use super::sessions::{Outgoing, end, send_flow, send_transfer, stop};
+use super::input::Input;
+use super::sessions::{
+    Outgoing, allocate_incoming_link, allocate_link, end, send_attach, send_detach, send_flow,
+    send_transfer, stop,
+};
+use super::step_error::StepError;
 use super::waiting::Waiting;
 use crate::connection::ConnectionInnerError;
 use crate::numbers::SessionNo;
 use amqp_session::{
-    ConnectionStopReason, LinkRelay, OutgoingChannel, Session, SessionFrame, SessionOutgoingItem,
-    SessionSettings, SessionStateError,
+    ConnectionStopReason, LinkRelay, OutgoingChannel, Session, SessionFrame, SessionSettings,
+    SessionStateError,
 };
 use amqp_types::{Error, SessionState};
 use std::alloc::Global;
@@ -55,7 +59,7 @@ fn begun<R: LinkRelay>(
 }
 
 impl<R: LinkRelay> Engine<R> {
-    pub(super) fn carry_out(&mut self, input: Input) -> Result<(), StepError>
+    pub(super) fn carry_out(&mut self, input: Input<R>) -> Result<(), StepError>
         requires { self.old.waiting ≡ [] }
         ensures { CarriedStep R.gives self.old input (refusal_of result) self.new }
     {
@@ -65,6 +69,24 @@ impl<R: LinkRelay> Engine<R> {
             Input::Close(error) => self.request_close(error),
             Input::Begin(number, settings) => self.request_begin(number.0, settings),
             Input::End(number, error) => self.ask_session(number.0, |session| end(session, error)),
+            Input::AllocateLink(number, name, relay) => {
+                self.ask_session(number.0, |session| allocate_link(session, name, relay))
+            }
+            Input::AllocateIncomingLink(number, name, relay, input) => {
+                self.ask_session(
+                    number.0,
+                    |session| allocate_incoming_link(session, name, relay, input),
+                )
+            }
+            Input::Attach(number, attach) => {
+                self.ask_session(number.0, |session| send_attach(session, attach))
+            }
+            Input::Detach(number, detach, expects_echo) => {
+                self.ask_session(
+                    number.0,
+                    |session| send_detach(session, detach, expects_echo),
+                )
+            }
             Input::Flow(number, flow) => self.ask_session(
                 number.0,
                 |session| send_flow(session, flow),
@@ -88,7 +110,7 @@ impl<R: LinkRelay> Engine<R> {
         ensures { OpenRequest self.old (refusal_of result) self.new }
     {
         let frame = self.connection.send_open()?;
-        self.waiting.put(Waiting::one(self.alloc, frame));
+        self.waiting.put(Waiting::one(frame));
         Ok(())
     }
 
@@ -99,7 +121,7 @@ impl<R: LinkRelay> Engine<R> {
         let reason = reason_of(&error);
         let frame = self.connection.send_close(error)?;
         self.connection.set_connection_stop_reason(reason);
-        self.waiting.put(Waiting::one(self.alloc, frame));
+        self.waiting.put(Waiting::one(frame));
         Ok(())
     }
 
@@ -114,8 +136,8 @@ impl<R: LinkRelay> Engine<R> {
         let Some(session) = self.sessions.get_mut(&number) else {
             return Err(StepError::NoSession);
         };
-        let item = call(session)?;
-        self.waiting.put(Waiting::of(self.alloc, item));
+        let waiting = call(session)?;
+        self.waiting.put(waiting);
         Ok(())
     }
 
@@ -143,10 +165,7 @@ impl<R: LinkRelay> Engine<R> {
         match begun(self.alloc, settings, channel, stop) {
             Ok((session, frame)) => {
                 drop(self.sessions.insert(number, session).unwrap());
-                self.waiting.put(Waiting::of(
-                    self.alloc,
-                    Some(SessionOutgoingItem::SingleFrame(frame)),
-                ));
+                self.waiting.put(Waiting::alone(Some(frame)));
                 Ok(())
             }
             Err(error) => {
@@ -164,7 +183,7 @@ impl<R: LinkRelay> Engine<R> {
             return Err(StepError::NoSession);
         };
         let held = session.outgoing_channel();
-        if self.connection.holder(held.0) != Some(number) {
+        if self.connection.holder(held) != Some(number) {
             return Err(StepError::Connection(ConnectionInnerError::NotFound(None)));
         }
         self.connection.deallocate_session(held);

@@ -6,7 +6,9 @@ ghost use Rattle.fe2o3_amqp.specs.Output.{answer_of};
 ghost use Rattle.fe2o3_amqp.specs.Headline.{Ran};
 
 use super::Engine;
-use super::input::{Answer, Input, StepError, Stopped};
+use super::answer::{Answer, Stopped};
+use super::input::Input;
+use super::step_error::StepError;
 use crate::laws::{law_of_histories, law_of_views};
 use amqp_session::LinkRelay;
 use std::collections::VecDeque;
@@ -28,7 +30,7 @@ impl<R: LinkRelay> Engine<R> {
     /// others stay in `inputs`. A second call goes on: nothing is put out twice, and nothing is left out.
     pub fn run(
         &mut self,
-        inputs: &mut VecDeque<Input>,
+        inputs: &mut VecDeque<Input<R>>,
         answers: &mut Vec<Answer>,
     ) -> Result<(), Stopped>
         ensures { Ran R.gives self.old inputs.old.items answers.old.items result self.new inputs.new.items answers.new.items }

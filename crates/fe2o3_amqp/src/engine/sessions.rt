@@ -1,20 +1,18 @@
 //! What is asked of one session: by a request, or by a frame that reached it.
 
-ghost use Rattle.std.specs.Prelude.{◌≡◌};
+ghost use Rattle.std.specs.Prelude.{◌≡◌, string_bytes};
 ghost use Rattle.amqp_session.specs.States.{takes_end};
-ghost use Rattle.fe2o3_amqp.specs.Calls.{is_end_received, end_reason, remote_end_reason, EndCalls, FlowCalls, TransferCalls, StopCalls, ReceivedBeginCalls, ReceivedEndCalls, ReceivedFlowCalls, ReceivedTransferCalls};
+ghost use Rattle.fe2o3_amqp.specs.Calls.{is_end_received, end_reason, remote_end_reason, EndCalls, AllocateLinkCalls, AllocateIncomingCalls, AttachCalls, DetachCalls, ReceivedAttachCalls, ReceivedDetachCalls, FlowCalls, TransferCalls, StopCalls, ReceivedBeginCalls, ReceivedEndCalls, ReceivedFlowCalls, ReceivedTransferCalls};
 ghost use Rattle.fe2o3_amqp.specs.Sessions.{Answered, RecordedEnd};
 
-use super::input::StepError;
-use amqp_session::{
-    IncomingChannel, InputHandle, LinkFlow, LinkRelay, Session, SessionOutgoingItem,
-    SessionStopReason,
-};
-use amqp_types::{Begin, End, Error, Flow, SessionState, Transfer};
+use super::step_error::StepError;
+use super::waiting::Waiting;
+use amqp_session::{IncomingChannel, InputHandle, LinkFlow, LinkRelay, Session, SessionStopReason};
+use amqp_types::{Attach, Begin, Detach, End, Error, Flow, SessionState, Transfer};
 use bytes::Bytes;
 
-/// What a session hands out, or why it refuses.
-pub(crate) type Outgoing = Result<Option<SessionOutgoingItem>, StepError>;
+/// The frames that wait for what a session hands out, or why it refuses.
+pub(crate) type Outgoing = Result<Waiting, StepError>;
 
 /// Why a session stops with an End of this side.
 fn end_reason(error: &Option<Error>) -> SessionStopReason
@@ -52,13 +50,52 @@ pub(crate) fn end<R: LinkRelay>(session: &mut Session<R>, error: Option<Error>) 
     let reason = end_reason(&error);
     let frame = session.send_end(error)?;
     session.set_session_stop_reason(reason);
-    Ok(Some(SessionOutgoingItem::SingleFrame(frame)))
+    Ok(Waiting::alone(Some(frame)))
+}
+
+pub(crate) fn allocate_link<R: LinkRelay>(
+    session: &mut Session<R>,
+    name: String,
+    relay: Option<R>,
+) -> Outgoing
+    ensures { Answered R.gives session.old (AllocateLinkCalls (string_bytes name) relay) result session.new }
+{
+    session.allocate_link(name, relay)?;
+    Ok(Waiting::none())
+}
+
+pub(crate) fn allocate_incoming_link<R: LinkRelay>(
+    session: &mut Session<R>,
+    name: String,
+    relay: R,
+    input: InputHandle,
+) -> Outgoing
+    ensures { Answered R.gives session.old (AllocateIncomingCalls (string_bytes name) relay input) result session.new }
+{
+    session.allocate_incoming_link(name, relay, input)?;
+    Ok(Waiting::none())
+}
+
+pub(crate) fn send_attach<R: LinkRelay>(session: &mut Session<R>, attach: Attach) -> Outgoing
+    ensures { Answered R.gives session.old (AttachCalls attach) result session.new }
+{
+    Ok(Waiting::alone(Some(session.on_outgoing_attach(attach))))
+}
+
+pub(crate) fn send_detach<R: LinkRelay>(
+    session: &mut Session<R>,
+    detach: Detach,
+    expects_echo: bool,
+) -> Outgoing
+    ensures { Answered R.gives session.old (DetachCalls detach expects_echo) result session.new }
+{
+    Ok(Waiting::alone(session.on_outgoing_detach(detach, expects_echo)?))
 }
 
 pub(crate) fn send_flow<R: LinkRelay>(session: &mut Session<R>, flow: LinkFlow) -> Outgoing
     ensures { Answered R.gives session.old (FlowCalls flow) result session.new }
 {
-    Ok(Some(SessionOutgoingItem::SingleFrame(session.on_outgoing_flow(flow))))
+    Ok(Waiting::alone(Some(session.on_outgoing_flow(flow))))
 }
 
 pub(crate) fn send_transfer<R: LinkRelay>(
@@ -70,25 +107,25 @@ pub(crate) fn send_transfer<R: LinkRelay>(
 ) -> Outgoing
     ensures { Answered R.gives session.old (TransferCalls (record { input_handle = input.0; transfer = transfer; payload = payload; is_first = is_first })) result session.new }
 {
-    Ok(session.on_outgoing_transfer(input, transfer, payload, is_first)?)
+    Ok(Waiting::of(session.on_outgoing_transfer(input, transfer, payload, is_first)?))
 }
 
 pub(crate) fn stop<R: LinkRelay>(session: &mut Session<R>, reason: SessionStopReason) -> Outgoing
     ensures { Answered R.gives session.old (StopCalls reason) result session.new }
 {
     session.set_session_stop_reason(reason);
-    Ok(None)
+    Ok(Waiting::none())
 }
 
 pub(crate) fn begin_received<R: LinkRelay>(
     session: &mut Session<R>,
-    channel: u16,
+    channel: IncomingChannel,
     begin: Begin,
 ) -> Outgoing
-    ensures { Answered R.gives session.old (ReceivedBeginCalls channel begin) result session.new }
+    ensures { Answered R.gives session.old (ReceivedBeginCalls channel.0 begin) result session.new }
 {
-    session.on_incoming_begin(IncomingChannel(channel), begin)?;
-    Ok(None)
+    session.on_incoming_begin(channel, begin)?;
+    Ok(Waiting::none())
 }
 
 /// Records why the peer ended the session, where its End is unsolicited.
@@ -101,21 +138,42 @@ fn record_end<R: LinkRelay>(session: &mut Session<R>, ends: bool, reason: Sessio
 }
 
 /// The peer's End. Records the reason unless this side sent End first.
-pub(crate) fn end_received<R: LinkRelay>(session: &mut Session<R>, channel: u16, end: End) -> Outgoing
-    ensures { Answered R.gives session.old (ReceivedEndCalls channel end) result session.new }
+pub(crate) fn end_received<R: LinkRelay>(
+    session: &mut Session<R>,
+    channel: IncomingChannel,
+    end: End,
+) -> Outgoing
+    ensures { Answered R.gives session.old (ReceivedEndCalls channel.0 end) result session.new }
 {
     let reason = remote_end_reason(&end);
     let ends = is_unsolicited(*session.local_state());
-    let told = session.on_incoming_end(IncomingChannel(channel), end);
+    let told = session.on_incoming_end(channel, end);
     record_end(session, ends, reason);
     told?;
-    Ok(None)
+    Ok(Waiting::none())
+}
+
+pub(crate) fn attach_received<R: LinkRelay>(session: &mut Session<R>, attach: Attach) -> Outgoing
+    ensures { Answered R.gives session.old (ReceivedAttachCalls attach) result session.new }
+{
+    session.on_incoming_attach(attach)?;
+    Ok(Waiting::none())
+}
+
+/// The peer's detach. What the link's relay answers goes out, and is answered no more.
+pub(crate) fn detach_received<R: LinkRelay>(session: &mut Session<R>, detach: Detach) -> Outgoing
+    ensures { Answered R.gives session.old (ReceivedDetachCalls detach) result session.new }
+{
+    match session.on_incoming_detach(detach)? {
+        None => Ok(Waiting::none()),
+        Some(answer) => Ok(Waiting::alone(session.on_outgoing_detach(answer, false)?)),
+    }
 }
 
 pub(crate) fn flow_received<R: LinkRelay>(session: &mut Session<R>, flow: Flow) -> Outgoing
     ensures { Answered R.gives session.old (ReceivedFlowCalls flow) result session.new }
 {
-    Ok(session.on_incoming_flow(flow)?)
+    Ok(Waiting::of(session.on_incoming_flow(flow)?))
 }
 
 /// The peer's transfer; after one that is accepted a session flow may be due.
@@ -127,5 +185,5 @@ pub(crate) fn transfer_received<R: LinkRelay>(
     ensures { Answered R.gives session.old (ReceivedTransferCalls transfer payload) result session.new }
 {
     let _none = session.on_incoming_transfer(transfer, payload)?;
-    Ok(session.maybe_outgoing_session_flow())
+    Ok(Waiting::of(session.maybe_outgoing_session_flow()))
 }

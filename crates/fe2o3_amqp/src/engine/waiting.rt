@@ -1,33 +1,41 @@
 //! Frames that wait to be put out. They come from one call, and waiting takes no memory of its own.
 
 ghost use Rattle.std.specs.Prelude.{◌≡◌, [], ◌∷◌, List, IfSome, is_some};
-ghost use Rattle.amqp_session.specs.Items.{item_frames};
-ghost use Rattle.fe2o3_amqp.specs.Waits.{body_of, frame_of, sent, waits, has_frames, InFront, FirstIs, TakesFirst};
+ghost use Rattle.amqp_session.specs.Items.{first_frame, item_frames};
+ghost use Rattle.fe2o3_amqp.specs.Waits.{body_of, frame_of, sent, behind_frames, waits, has_frames, InFront, FirstIs, TakesFirst};
 
 use amqp_frames::{Frame, FrameBody};
-use amqp_session::{SessionFrame, SessionFrameBody, SessionOutgoingItem};
-use std::alloc::Global;
+use amqp_session::{OutgoingChannel, SessionFrame, SessionFrameBody, SessionOutgoingItem};
+use amqp_types::Disposition;
 use std::collections::VecDeque;
 use std::marker::Model;
 use std::mem;
+
+/// What waits behind the first frame: frames of a session, or dispositions, each of which becomes a frame on the channel.
+#[derive(Drop)]
+enum Behind {
+    Nothing,
+    Frames(VecDeque<SessionFrame>),
+    Dispositions(OutgoingChannel, VecDeque<Disposition>),
+}
 
 /// The frames that wait, oldest first.
 #[derive(Drop)]
 pub(crate) struct Waiting {
     front: Option<Frame>,
-    behind: VecDeque<SessionFrame>,
+    behind: Behind,
 }
 
 impl Model for Waiting {
     ghost use Rattle.std.specs.Prelude.{List};
     ghost use Rattle.amqp_frames.specs.declared.frame.Frame.{Frame};
-    ghost use Rattle.fe2o3_amqp.specs.Waits.{waits, InFront};
+    ghost use Rattle.fe2o3_amqp.specs.Waits.{waits, behind_frames, InFront};
 
     ghost Value = { List Frame };
 
-    ghost view = { λ w. waits w.front w.behind.items };
+    ghost view = { λ w. waits w.front (behind_frames w.behind) };
 
-    ghost invariant = { λ w. InFront w.front w.behind.items };
+    ghost invariant = { λ w. InFront w.front (behind_frames w.behind) };
 }
 
 /// What a session's frame says, as the connection sends it.
@@ -58,51 +66,72 @@ fn frame_of(frame: SessionFrame) -> Frame
     Frame::new(frame.channel, body_of(frame.body))
 }
 
-/// The first of a session's frames, taken out.
-fn next_of(frames: &mut VecDeque<SessionFrame>) -> Option<Frame>
-    ensures same { waits result frames.new.items ≡ sent frames.old.items }
-    ensures front { InFront result frames.new.items }
+/// The first of those behind, taken out.
+fn next_of(behind: &mut Behind) -> Option<Frame>
+    ensures same { waits result (behind_frames behind.new) ≡ sent (behind_frames behind.old) }
+    ensures front { InFront result (behind_frames behind.new) }
 {
-    match frames.pop_front() {
-        Some(frame) => Some(frame_of(frame)),
-        None => None,
+    match behind {
+        Behind::Nothing => None,
+        Behind::Frames(frames) => frames.pop_front().map(frame_of),
+        Behind::Dispositions(channel, dispositions) => {
+            let disposition = dispositions.pop_front()?;
+            Some(Frame::new(channel.0, FrameBody::Disposition(disposition)))
+        }
     }
 }
 
 impl Waiting {
     /// No frame waits.
-    pub(crate) fn none(alloc: Global) -> Waiting
+    pub(crate) fn none() -> Waiting
         ensures { result ≡ [] }
     {
         Waiting {
             front: None,
-            behind: VecDeque::new(alloc),
+            behind: Behind::Nothing,
         }
     }
 
     /// One frame waits.
-    pub(crate) fn one(alloc: Global, frame: Frame) -> Waiting
+    pub(crate) fn one(frame: Frame) -> Waiting
         ensures { result ≡ frame ∷ [] }
     {
         Waiting {
             front: Some(frame),
-            behind: VecDeque::new(alloc),
+            behind: Behind::Nothing,
+        }
+    }
+
+    /// The frame waits that a session hands out, if any.
+    pub(crate) fn alone(frame: Option<SessionFrame>) -> Waiting
+        ensures { result ≡ sent (first_frame frame) }
+    {
+        match frame {
+            None => Waiting::none(),
+            Some(frame) => Waiting::one(frame_of(frame)),
         }
     }
 
     /// The frames wait that a session hands out.
-    pub(crate) fn of(alloc: Global, item: Option<SessionOutgoingItem>) -> Waiting
+    pub(crate) fn of(item: Option<SessionOutgoingItem>) -> Waiting
         ensures { result ≡ sent (item_frames item) }
     {
         match item {
-            None => Waiting::none(alloc),
-            Some(SessionOutgoingItem::SingleFrame(frame)) => Waiting::one(alloc, frame_of(frame)),
+            None => Waiting::none(),
+            Some(SessionOutgoingItem::SingleFrame(frame)) => Waiting::one(frame_of(frame)),
             Some(SessionOutgoingItem::MultipleFrames(frames)) => {
-                let mut behind = VecDeque::from(frames);
-                let front = next_of(&mut behind);
-                Waiting { front, behind }
+                Waiting::from_first(Behind::Frames(VecDeque::from(frames)))
             }
         }
+    }
+
+    /// These frames wait.
+    fn from_first(frames: Behind) -> Waiting
+        ensures { result ≡ sent (behind_frames frames) }
+    {
+        let mut behind = frames;
+        let front = next_of(&mut behind);
+        Waiting { front, behind }
     }
 
     /// From now on these frames wait, and no others.

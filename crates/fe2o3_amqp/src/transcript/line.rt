@@ -5,6 +5,7 @@ ghost use Rattle.amqp_frames.specs.Piece.{piece_bytes};
 ghost use Rattle.hex.specs.Hex.{encode_lower};
 ghost use Rattle.fe2o3_amqp.specs.Transcript.{bytes_of};
 
+use super::relay::ReplayRelay;
 use crate::engine::Input;
 use crate::numbers::SessionNo;
 use amqp_frames::Piece;
@@ -19,7 +20,7 @@ use std::io::{self, ErrorKind};
 #[derive(Drop)]
 pub(super) enum Asked {
     Nothing,
-    Input(Input),
+    Input(Input<ReplayRelay>),
     Unreadable,
 }
 
@@ -36,6 +37,8 @@ pub(super) fn text_of(line: &[u8]) -> io::Result<&str> {
 pub(super) fn asked_by(alloc: Global, text: &str) -> Result<Asked, AllocError> {
     match text {
         "" => Ok(Asked::Nothing),
+        // A carriage return is no part of a name.
+        _ if text.contains('\r') => Ok(Asked::Unreadable),
         "open" => Ok(Asked::Input(Input::Open)),
         "close" => Ok(Asked::Input(Input::Close(None))),
         _ => match text.split_once(' ') {
@@ -50,6 +53,7 @@ fn asked_with(alloc: Global, word: &str, rest: &str) -> Result<Asked, AllocError
     match word {
         "recv" => received(alloc, rest),
         "send" => sent(alloc, rest),
+        "link" => link(alloc, rest),
         _ => match number_of(rest) {
             Some(number) => Ok(of_session(word, number)),
             None => Ok(Asked::Unreadable),
@@ -75,6 +79,20 @@ fn number_of(text: &str) -> Option<SessionNo> {
     match text.parse::<u32>() {
         Ok(number) => Some(SessionNo(number)),
         Err(_) => None,
+    }
+}
+
+/// A link of the name behind the session's number, which is not empty and may hold spaces.
+fn link(alloc: Global, text: &str) -> Result<Asked, AllocError> {
+    let Some((number, name)) = text.split_once(' ') else {
+        return Ok(Asked::Unreadable);
+    };
+    match number_of(number) {
+        Some(number) if !name.is_empty() => {
+            let name = String::from_str(alloc, name)?;
+            Ok(Asked::Input(Input::AllocateLink(number, name, Some(ReplayRelay))))
+        }
+        _ => Ok(Asked::Unreadable),
     }
 }
 
@@ -109,6 +127,8 @@ fn performative(alloc: Global, number: SessionNo, bytes: Bytes) -> Result<Asked,
 /// What is asked of a session with a performative and what follows it.
 fn asked_of(number: SessionNo, performative: Performative, rest: Bytes) -> Asked {
     match performative {
+        Performative::Attach(attach) => Asked::Input(Input::Attach(number, attach)),
+        Performative::Detach(detach) => Asked::Input(Input::Detach(number, detach, true)),
         Performative::Flow(flow) => match LinkFlow::try_from(flow) {
             Ok(flow) => Asked::Input(Input::Flow(number, flow)),
             Err(()) => Asked::Unreadable,

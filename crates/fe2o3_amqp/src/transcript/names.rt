@@ -1,12 +1,12 @@
 //! The names of refusals.
 
 ghost use Rattle.std.specs.Prelude.{◌≡◌};
-ghost use Rattle.fe2o3_amqp.specs.Transcript.{name_of, frame_name, state_name, inner_name, alloc_name, session_state_name, session_name};
+ghost use Rattle.fe2o3_amqp.specs.Transcript.{name_of, frame_name, state_name, inner_name, alloc_name, session_state_name, session_name, link_name};
 
 use crate::connection::{AllocSessionError, ConnectionInnerError, ConnectionStateError};
 use crate::engine::StepError;
 use amqp_frames::Error as FrameError;
-use amqp_session::{SessionInnerError, SessionStateError};
+use amqp_session::{AllocLinkError, SessionInnerError, SessionStateError};
 
 /// The name of the refusal: that of its innermost variant.
 pub fn err_name(error: &StepError) -> &'static str
@@ -20,6 +20,7 @@ pub fn err_name(error: &StepError) -> &'static str
         StepError::AllocSession(inner) => alloc_name(inner),
         StepError::SessionState(inner) => session_state_name(inner),
         StepError::Session(inner) => session_name(inner),
+        StepError::AllocLink(inner) => link_name(inner),
         StepError::SessionInUse => "SessionInUse",
         StepError::NoSession => "NoSession",
         StepError::OutOfMemory => "OutOfMemory",
@@ -72,6 +73,18 @@ fn alloc_name(error: &AllocSessionError) -> &'static str
         AllocSessionError::ConnectionStopped(_) => "ConnectionStopped",
         AllocSessionError::ChannelMaxReached => "ChannelMaxReached",
         AllocSessionError::OutOfMemory => "OutOfMemory",
+    }
+}
+
+fn link_name(error: &AllocLinkError) -> &'static str
+    ensures { result.now ≡ link_name error.now }
+{
+    match error {
+        AllocLinkError::SessionNotMapped => "SessionNotMapped",
+        AllocLinkError::SessionStopped(_) => "SessionStopped",
+        AllocLinkError::DuplicatedLinkName => "DuplicatedLinkName",
+        AllocLinkError::HandlesExhausted => "HandlesExhausted",
+        AllocLinkError::OutOfMemory => "OutOfMemory",
     }
 }
 

@@ -8,11 +8,11 @@ invariant-loop-low l = record {
   within : l.high ≤ length l.fn.self.rows;
   fits : length l.fn.self.rows < 2 ^ 64;
   rising : IsRising l.fn.self.rows;
-  same : l.self ≡ record l.fn.self { comparisons = l.self.comparisons };
+  same : l.walk ≡ record l.fn.walk { comparisons = l.walk.comparisons };
   below : (i : ℕ) → i < l.low → number_at l.fn.self.rows i < l.first;
   above : (i : ℕ) → l.high ≤ i → i < length l.fn.self.rows → l.first ≤ number_at l.fn.self.rows i;
-  spread : 2 ^ l.self.comparisons * (l.high - l.low) ≤ length l.fn.self.rows;
-  cost : 2 ^ l.self.comparisons ≤ 2 * length l.fn.self.rows + 1;
+  spread : 2 ^ l.walk.comparisons * (l.high - l.low) ≤ length l.fn.self.rows;
+  cost : 2 ^ l.walk.comparisons ≤ 2 * length l.fn.self.rows + 1;
 }
 
 abbrev pub decreases-loop-low : goal.decreases-loop-low

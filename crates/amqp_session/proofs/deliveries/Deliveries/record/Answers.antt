@@ -14,5 +14,4 @@ pub returns-then-is_last-clause-rows : goal.returns-then-is_last-clause-rows
 returns-then-is_last-clause-rows c =
     let items = ap (λ (t : TableView). t.rows) c.self.view_is in
     let below = subst (λ (rows : List Delivery). (i : ℕ) → i < length rows → number_at rows i < c.args.delivery.number) (sym items) (c.is_last.ensures.last c.if-is_last.true) in
-    let old = ap (λ (t : TableView). t.rows) c.begin_walk.ensures in
-    c.push_back_reserved.ensures.items ∙ sym (recorded_last c.self.inside.rows.items c.args.delivery below) ∙ ap (λ rows. recorded c.args.delivery rows) (items ∙ old)
+    c.push_back_reserved.ensures.items ∙ sym (recorded_last c.self.inside.rows.items c.args.delivery below) ∙ ap (λ rows. recorded c.args.delivery rows) items

@@ -3,22 +3,22 @@ use Rattle.amqp_session.specs.declared.frame.SessionFrame.{SessionFrame}
 use Rattle.amqp_session.specs.Items.{HandsOut, is_some_list, first_frame}
 use Rattle.amqp_session.specs.States.{is_mapped}
 use Rattle.amqp_session.specs.Sending.{let_out}
-use Rattle.amqp_session.specs.Session.{SessionView}
+use Rattle.amqp_session.specs.Session.{Observed}
 use Rattle.amqp_session.proofs.Flows.{mapped_goes, parts_gone, room_taken}
 use Rattle.amqp_session.proofs.session.Session.flow_of_mapped.Goals as goal
 
-pub returns-in-Err : goal.returns-in-Err
-returns-in-Err g c =
+pub returns-in-Err-clause-step : goal.returns-in-Err-clause-step
+returns-in-Err-clause-step g c =
     let a = c.in-Err.ensures in
     rw (← c.self.view_is, a.put) (
       Some (record { before = a.before; handle = a.handle; asked = c.args.flow; answer = Err c.in-Err.error; after = a.after }),
       (refl, record { attached = a.attached; stands = a.stands }, (c.from.ensures, room_taken _ _ c.in-Ok.ensures.rows)),
     )
 
-pub returns-in-Ok-ask_flow : goal.returns-in-Ok-ask_flow
-returns-in-Ok-ask_flow g c =
+pub returns-in-Ok-ask_flow-clause-step : goal.returns-in-Ok-ask_flow-clause-step
+returns-in-Ok-ask_flow-clause-step g c =
     let a = c.in-Ok-ask_flow.ensures in
-    let mapped : is_mapped c.self.inside.state ≡ true = ap (λ (v : SessionView _). is_mapped v.state) c.self.view_is ∙ c.requires.mapped in
+    let mapped : is_mapped c.self.inside.state ≡ true = ap (λ (o : Observed _). is_mapped o.view.state) c.self.view_is ∙ c.requires.mapped in
     let out = subst (λ (f : Option SessionFrame). HandsOut (is_some_list (let_out c.self.inside.outgoing_channel.0 c.self.inside.sending)) (first_frame f ++ let_out c.self.inside.outgoing_channel.0 c.self.inside.sending) c.hand_on.result) c.echo-first.ensures c.hand_on.ensures.item in
     rw (← c.self.view_is, a.put) (
       Some (record { before = a.before; handle = a.handle; asked = c.args.flow; answer = Ok c.in-Ok-ask_flow.echo; after = a.after }),

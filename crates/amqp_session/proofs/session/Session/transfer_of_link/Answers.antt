@@ -3,8 +3,8 @@ use Rattle.amqp_session.specs.Deliveries.{TableView}
 use Rattle.amqp_session.proofs.Flows.{sender_room_taken, named_is}
 use Rattle.amqp_session.proofs.session.Session.transfer_of_link.Goals as goal
 
-pub returns-in-Err : goal.returns-in-Err
-returns-in-Err g c =
+pub returns-in-Err-clause-step : goal.returns-in-Err-clause-step
+returns-in-Err-clause-step g c =
     let a = c.in-Err.ensures in
     let rows = ap (λ (t : TableView). t.rows) c.in-Ok.ensures.rows in
     rw (← c.self.view_is, a.put) (
@@ -12,8 +12,8 @@ returns-in-Err g c =
       (refl, record { attached = a.attached; stands = a.stands }, (c.from.ensures, sender_room_taken _ _ rows)),
     )
 
-pub returns-in-Ok-ask_transfer : goal.returns-in-Ok-ask_transfer
-returns-in-Ok-ask_transfer g c =
+pub returns-in-Ok-ask_transfer-clause-step : goal.returns-in-Ok-ask_transfer-clause-step
+returns-in-Ok-ask_transfer-clause-step g c =
     let a = c.in-Ok-ask_transfer.ensures in
     let rows = ap (λ (t : TableView). t.rows) c.in-Ok.ensures.rows in
     rw (← c.self.view_is, a.put) (

@@ -1,8 +1,8 @@
 use Rattle.std.proofs.Common.{rules, refl, sym, inl}
 use Rattle.fe2o3_amqp.proofs.engine.Engine.ask_session.Goals as goal
 
-pub returns-in_err-item : goal.returns-in_err-item
-returns-in_err-item g c =
+pub returns-in_err-waiting : goal.returns-in_err-waiting
+returns-in_err-waiting g c =
     rw (← c.self.view_is) (inl (record {
       before = c.in-Some.session.now;
       after = c.call.new.arg2;

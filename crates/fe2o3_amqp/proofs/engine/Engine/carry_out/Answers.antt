@@ -1,5 +1,5 @@
-use Rattle.std.proofs.Common.{rules, None, refl}
-use Rattle.fe2o3_amqp.specs.Calls.{EndCalls, FlowCalls, TransferCalls, StopCalls}
+use Rattle.std.proofs.Common.{rules, string_bytes, None, refl}
+use Rattle.fe2o3_amqp.specs.Calls.{EndCalls, AllocateLinkCalls, AllocateIncomingCalls, AttachCalls, DetachCalls, FlowCalls, TransferCalls, StopCalls}
 use Rattle.fe2o3_amqp.proofs.Asking.{does}
 use Rattle.fe2o3_amqp.proofs.engine.Engine.carry_out.Goals as goal
 
@@ -18,3 +18,19 @@ returns-in-Transfer g c =
 pub returns-in-Stop : goal.returns-in-Stop
 returns-in-Stop g c =
     let d = does g.R.LinkRelay.gives (StopCalls c.in-Stop.reason) _ _ _ _ _ (λ s t a h. search rules) c.ask_session-in-Stop.ensures in rw c.in-Stop.is (None, d.0, d.1, (refl, d.2))
+
+pub returns-in-AllocateLink : goal.returns-in-AllocateLink
+returns-in-AllocateLink g c =
+    let d = does g.R.LinkRelay.gives (AllocateLinkCalls (string_bytes c.in-AllocateLink.name) c.in-AllocateLink.relay) _ _ _ _ _ (λ s t a h. search rules) c.ask_session-in-AllocateLink.ensures in rw c.in-AllocateLink.is (None, d.0, d.1, (refl, d.2))
+
+pub returns-in-AllocateIncomingLink : goal.returns-in-AllocateIncomingLink
+returns-in-AllocateIncomingLink g c =
+    let d = does g.R.LinkRelay.gives (AllocateIncomingCalls (string_bytes c.in-AllocateIncomingLink.name) c.in-AllocateIncomingLink.relay c.in-AllocateIncomingLink.input) _ _ _ _ _ (λ s t a h. search rules) c.ask_session-in-AllocateIncomingLink.ensures in rw c.in-AllocateIncomingLink.is (None, d.0, d.1, (refl, d.2))
+
+pub returns-in-Attach : goal.returns-in-Attach
+returns-in-Attach g c =
+    let d = does g.R.LinkRelay.gives (AttachCalls c.in-Attach.attach) _ _ _ _ _ (λ s t a h. search rules) c.ask_session-in-Attach.ensures in rw c.in-Attach.is (None, d.0, d.1, (refl, d.2))
+
+pub returns-in-Detach : goal.returns-in-Detach
+returns-in-Detach g c =
+    let d = does g.R.LinkRelay.gives (DetachCalls c.in-Detach.detach c.in-Detach.expects_echo) _ _ _ _ _ (λ s t a h. search rules) c.ask_session-in-Detach.ensures in rw c.in-Detach.is (None, d.0, d.1, (refl, d.2))

@@ -1,5 +1,5 @@
 use Rattle.std.proofs.Common.{◌≡◌, ◌++◌, [], ◌∷◌, List, ◌∙◌, ap}
-use Rattle.fe2o3_amqp.specs.declared.engine.input.Answer.{Answer}
+use Rattle.fe2o3_amqp.specs.declared.engine.answer.Answer.{Answer}
 use Rattle.fe2o3_amqp.proofs.Outputs.{put_more}
 use Rattle.fe2o3_amqp.proofs.engine.Engine.put_out.Goals as goal
 

@@ -5,7 +5,7 @@ use Rattle.amqp_session.specs.Session.{new_session}
 use Rattle.amqp_session.specs.Step.{SendBeginStep}
 use Rattle.amqp_session.specs.History as session
 use Rattle.amqp_session.specs.declared.error.SessionStateError.{SessionStateError}
-use Rattle.fe2o3_amqp.specs.declared.engine.input.StepError.TheVariants.{SessionState}
+use Rattle.fe2o3_amqp.specs.declared.engine.step_error.StepError.TheVariants.{SessionState}
 use Rattle.fe2o3_amqp.specs.Connection.{ConnectionView}
 use Rattle.fe2o3_amqp.specs.EngineView.{EngineView}
 use Rattle.fe2o3_amqp.specs.Sessions.{BeginRequest}
@@ -35,7 +35,7 @@ returns-in-Ok-begun g c =
           allocated = a;
           asked = (c.in-Ok-begun.frame, refl, refl);
           steps = (c.in-Ok-begun.session, began, refl);
-          put = same_engine _ _ _ _ _ _ _ refl entries (c.put.ensures ∙ c.of.ensures);
+          put = same_engine _ _ _ _ _ _ _ refl entries (c.put.ensures ∙ c.alone.ensures);
         },
       ),
     )

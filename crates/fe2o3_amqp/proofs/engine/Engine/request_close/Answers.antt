@@ -1,6 +1,6 @@
 use Rattle.std.proofs.Common.{rules, ◌≡◌, Some, subst, refl, ap, ◌∙◌}
 use Rattle.fe2o3_amqp.specs.Connection.{stopped}
-use Rattle.fe2o3_amqp.specs.declared.engine.input.StepError.TheVariants.{ConnectionState}
+use Rattle.fe2o3_amqp.specs.declared.engine.step_error.StepError.TheVariants.{ConnectionState}
 use Rattle.fe2o3_amqp.specs.Connection.{refusal_of}
 use Rattle.fe2o3_amqp.specs.EngineView.{EngineView}
 use Rattle.fe2o3_amqp.specs.Engine.{CloseRequest}

@@ -1,5 +1,5 @@
 use Rattle.std.proofs.Common.{◌≡◌, ◌++◌, [], ◌∷◌, List, length, arith, ap, ◌∙◌, rules}
-use Rattle.fe2o3_amqp.specs.declared.engine.input.Answer.{Answer}
+use Rattle.fe2o3_amqp.specs.declared.engine.answer.Answer.{Answer}
 use Rattle.fe2o3_amqp.proofs.Running.{Running-start, Running-more, Running-Ran, empty}
 use Rattle.fe2o3_amqp.proofs.engine.Engine.run.Goals as goal
 

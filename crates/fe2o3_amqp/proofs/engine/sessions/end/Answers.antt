@@ -1,4 +1,4 @@
-use Rattle.std.proofs.Common.{rules, Ok, Err, refl, subst, [], ◌∷◌}
+use Rattle.std.proofs.Common.{sym, rules, Ok, Err, refl, subst, [], ◌∷◌}
 use Rattle.amqp_session.specs.Step.{StopStep}
 use Rattle.amqp_session.specs.History as session
 use Rattle.fe2o3_amqp.specs.Calls.{end_reason}
@@ -11,7 +11,7 @@ returns g c =
       calls = session.SendsEnd c.args.error (Ok c.in_ok-frame.frame) ∷ session.RecordsStop (end_reason c.args.error) ∷ [];
       asked = (Ok c.in_ok-frame.frame, refl, refl);
       steps = (c.send_end.new.self, c.in_ok-frame.ensures, (c.set_session_stop_reason.new.self, stops, refl));
-      frames = refl;
+      frames = sym c.alone.ensures;
     }
 
 pub returns-in_err-frame : goal.returns-in_err-frame

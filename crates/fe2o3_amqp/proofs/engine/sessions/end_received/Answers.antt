@@ -1,10 +1,11 @@
-use Rattle.std.proofs.Common.{rules, Ok, Err, refl, ap, subst, ◌∷◌, ◌∙◌, Bool}
+use Rattle.std.proofs.Common.{sym, rules, Ok, Err, refl, ap, subst, ◌∷◌, ◌∙◌, Bool}
 use Rattle.amqp_session.specs.History as session
 use Rattle.amqp_types.specs.declared.states.SessionState.{SessionState}
 use Rattle.amqp_session.specs.States.{takes_end}
 use Rattle.fe2o3_amqp.specs.Calls.{recorded_remote_end, is_end_received}
 use Rattle.fe2o3_amqp.specs.Sessions.{RecordedEnd}
 use Rattle.fe2o3_amqp.proofs.Asked.{recorded_chain, recorded_frames}
+use Rattle.fe2o3_amqp.specs.Waits.{sent}
 use Rattle.fe2o3_amqp.proofs.engine.sessions.end_received.Goals as goal
 
 pub returns : goal.returns
@@ -14,10 +15,10 @@ returns g c =
     let mid = c.on_incoming_end-told.new.self in
     let recorded = subst (λ (b : Bool). RecordedEnd mid c.remote_end_reason-reason.result b c.record_end.new.session) (c.is_unsolicited-ends.ensures ∙ ap (λ (x : SessionState). is_end_received (takes_end x)) c.local_state.ensures) c.record_end.ensures in
     record {
-      calls = session.TakesEnd c.args.channel c.args.end (Ok tt) ∷ recorded_remote_end ends c.args.end.error;
+      calls = session.TakesEnd c.args.channel.0 c.args.end (Ok tt) ∷ recorded_remote_end ends c.args.end.error;
       asked = (Ok tt, refl, refl);
       steps = (mid, c.in_ok-told.ensures, recorded_chain gives mid c.record_end.new.session c.remote_end_reason-reason.result c.args.end.error ends c.remote_end_reason-reason.ensures recorded);
-      frames = recorded_frames _ c.args.end.error ends;
+      frames = ap sent (recorded_frames _ c.args.end.error ends) ∙ sym c.none.ensures;
     }
 
 pub returns-in_err-told : goal.returns-in_err-told
@@ -27,8 +28,8 @@ returns-in_err-told g c =
     let mid = c.on_incoming_end-told.new.self in
     let recorded = subst (λ (b : Bool). RecordedEnd mid c.remote_end_reason-reason.result b c.record_end.new.session) (c.is_unsolicited-ends.ensures ∙ ap (λ (x : SessionState). is_end_received (takes_end x)) c.local_state.ensures) c.record_end.ensures in
     record {
-      calls = session.TakesEnd c.args.channel c.args.end (Err c.in_err-told.field-0.0) ∷ recorded_remote_end ends c.args.end.error;
+      calls = session.TakesEnd c.args.channel.0 c.args.end (Err c.in_err-told.field-0.0) ∷ recorded_remote_end ends c.args.end.error;
       asked = (Err c.in_err-told.field-0.0, refl, search rules);
       steps = (mid, c.in_err-told.ensures, recorded_chain gives mid c.record_end.new.session c.remote_end_reason-reason.result c.args.end.error ends c.remote_end_reason-reason.ensures recorded);
-      frames = recorded_frames _ c.args.end.error ends ∙ (search rules);
+      frames = ap sent (recorded_frames _ c.args.end.error ends) ∙ (search rules);
     }

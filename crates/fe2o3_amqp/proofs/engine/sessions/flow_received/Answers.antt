@@ -1,7 +1,8 @@
-use Rattle.std.proofs.Common.{rules, Ok, Err, refl, [], ◌∷◌}
+use Rattle.std.proofs.Common.{◌∙◌, sym, ap, rules, Ok, Err, refl, [], ◌∷◌}
 use Rattle.std.proofs.lemmas.List.{append-nil}
 use Rattle.amqp_session.specs.History as session
 use Rattle.amqp_session.specs.Items.{item_frames}
+use Rattle.fe2o3_amqp.specs.Waits.{sent}
 use Rattle.fe2o3_amqp.proofs.engine.sessions.flow_received.Goals as goal
 
 pub returns : goal.returns
@@ -11,7 +12,7 @@ returns g c =
       calls = session.TakesFlow c.args.flow heard.0 (Ok c.in_ok-on_incoming_flow.field-0) ∷ [];
       asked = (heard.0, Ok c.in_ok-on_incoming_flow.field-0, refl, refl);
       steps = (c.on_incoming_flow.new.self, heard.1, refl);
-      frames = append-nil (item_frames c.in_ok-on_incoming_flow.field-0);
+      frames = ap sent (append-nil (item_frames c.in_ok-on_incoming_flow.field-0)) ∙ sym c.of.ensures;
     }
 
 pub returns-in_err-on_incoming_flow : goal.returns-in_err-on_incoming_flow

@@ -1,4 +1,4 @@
-use Rattle.std.proofs.Common.{refl, [], ◌∷◌}
+use Rattle.std.proofs.Common.{sym, refl, [], ◌∷◌}
 use Rattle.amqp_session.specs.History as session
 use Rattle.fe2o3_amqp.proofs.engine.sessions.send_flow.Goals as goal
 
@@ -7,5 +7,5 @@ returns g c = record {
   calls = session.SendsFlow c.args.flow c.on_outgoing_flow.result ∷ [];
   asked = (c.on_outgoing_flow.result, refl, refl);
   steps = (c.args.session.now, c.on_outgoing_flow.ensures, refl);
-  frames = refl;
+  frames = sym c.alone.ensures;
 }

@@ -1,8 +1,9 @@
-use Rattle.std.proofs.Common.{rules, Ok, Err, refl, [], ◌∷◌}
+use Rattle.std.proofs.Common.{◌∙◌, sym, ap, rules, Ok, Err, refl, [], ◌∷◌}
 use Rattle.std.proofs.lemmas.List.{append-nil}
 use Rattle.amqp_session.specs.History as session
 use Rattle.amqp_session.specs.Items.{item_frames}
 use Rattle.amqp_session.specs.Transfers.{RequestedTransfer}
+use Rattle.fe2o3_amqp.specs.Waits.{sent}
 use Rattle.fe2o3_amqp.proofs.engine.sessions.send_transfer.Goals as goal
 
 pub returns : goal.returns
@@ -12,7 +13,7 @@ returns g c =
       calls = session.SendsTransfer held (Ok c.in_ok-on_outgoing_transfer.field-0) ∷ [];
       asked = (Ok c.in_ok-on_outgoing_transfer.field-0, refl, refl);
       steps = (c.on_outgoing_transfer.new.self, c.in_ok-on_outgoing_transfer.ensures, refl);
-      frames = append-nil (item_frames c.in_ok-on_outgoing_transfer.field-0);
+      frames = ap sent (append-nil (item_frames c.in_ok-on_outgoing_transfer.field-0)) ∙ sym c.of.ensures;
     }
 
 pub returns-in_err-on_outgoing_transfer : goal.returns-in_err-on_outgoing_transfer

@@ -1,4 +1,4 @@
-use Rattle.std.proofs.Common.{refl, [], ◌∷◌}
+use Rattle.std.proofs.Common.{sym, refl, [], ◌∷◌}
 use Rattle.amqp_session.specs.History as session
 use Rattle.fe2o3_amqp.proofs.engine.sessions.stop.Goals as goal
 
@@ -7,5 +7,5 @@ returns g c = record {
   calls = session.RecordsStop c.args.reason ∷ [];
   asked = (refl, refl);
   steps = (c.set_session_stop_reason.new.self, c.set_session_stop_reason.ensures, refl);
-  frames = refl;
+  frames = sym c.none.ensures;
 }

@@ -1,7 +1,8 @@
-use Rattle.std.proofs.Common.{rules, Ok, Err, None, refl, [], ◌∷◌}
+use Rattle.std.proofs.Common.{◌∙◌, sym, ap, rules, Ok, Err, None, refl, [], ◌∷◌}
 use Rattle.std.proofs.lemmas.List.{append-nil}
 use Rattle.amqp_session.specs.History as session
 use Rattle.amqp_session.specs.Items.{item_frames}
+use Rattle.fe2o3_amqp.specs.Waits.{sent}
 use Rattle.fe2o3_amqp.proofs.engine.sessions.transfer_received.Goals as goal
 
 pub returns : goal.returns
@@ -12,7 +13,7 @@ returns g c =
       calls = session.TakesTransfer c.args.transfer c.args.payload heard.0 (Ok c.in_ok-_none._none) ∷ session.SendsSessionFlow item ∷ [];
       asked = (heard.0, Ok c.in_ok-_none._none, item, refl, refl);
       steps = (c.on_incoming_transfer.new.self, heard.1, (c.maybe_outgoing_session_flow.new.self, c.maybe_outgoing_session_flow.ensures, refl));
-      frames = append-nil (item_frames item);
+      frames = ap sent (append-nil (item_frames item)) ∙ sym c.of.ensures;
     }
 
 pub returns-in_err-_none : goal.returns-in_err-_none

@@ -4,7 +4,7 @@ use Rattle.std.specs.BinaryHeap.{heap_items}
 use Rattle.std.specs.Map.{lookup}
 use Rattle.fe2o3_amqp.proofs.AsMap.{inserted, get_at}
 use Rattle.fe2o3_amqp.proofs.Lowest.{lowest_at, lowest_next, all_held, each_popped, empty}
-use Rattle.fe2o3_amqp.proofs.connection.channels.Channels.allot.Goals as goal
+use Rattle.fe2o3_amqp.proofs.connection.channel_table.ChannelTable.allot.Goals as goal
 
 first_is : (xs : List ℕ) (a b : ℕ) → 0 < length xs → a ≡ slice_index_or xs 0 a → b ≡ slice_index_or xs 0 b → a ≡ b
 first_is [] a b h ea eb = absurd (omega arith)

@@ -7,7 +7,7 @@ ghost use Rattle.std.specs.FinMap as map;
 ghost use Rattle.fe2o3_amqp.specs.Connection.{AllocateStep, DeallocateStep, is_unopened, has_stopped, result_map};
 
 use super::Connection;
-use super::channels::AllotError;
+use super::channel_table::AllotError;
 use super::error::AllocSessionError;
 use crate::numbers::SessionNo;
 use amqp_session::{ConnectionStopReason, OutgoingChannel};
@@ -60,7 +60,7 @@ impl Connection {
             .session_by_outgoing_channel
             .allot(self.agreed_channel_max, number.0)
         {
-            Ok(channel) => Ok(OutgoingChannel(channel)),
+            Ok(channel) => Ok(channel),
             Err(AllotError::Full) => Err(AllocSessionError::ChannelMaxReached),
             Err(AllotError::OutOfMemory) => Err(AllocSessionError::OutOfMemory),
         }
@@ -71,16 +71,16 @@ impl Connection {
     pub fn deallocate_session(&mut self, channel: OutgoingChannel) -> bool
         ensures { DeallocateStep self.old channel.0 result self.new }
     {
-        if self.session_by_outgoing_channel.holder(channel.0).is_none() {
+        if self.session_by_outgoing_channel.holder(channel).is_none() {
             return false;
         }
-        self.session_by_outgoing_channel.give_back(channel.0);
+        self.session_by_outgoing_channel.give_back(channel);
         true
     }
 
     /// The number of the session that holds the channel.
-    pub(crate) fn holder(&self, channel: u16) -> Option<u32>
-        ensures { result ≡ map.get self.now.session_by_outgoing_channel channel }
+    pub(crate) fn holder(&self, channel: OutgoingChannel) -> Option<u32>
+        ensures { result ≡ map.get self.now.session_by_outgoing_channel channel.0 }
     {
         self.session_by_outgoing_channel.holder(channel)
     }

@@ -1,10 +1,11 @@
-//! Channels: which are held, and the lowest that is free, found without a walk.
+//! The channels of this side: which are held, and the lowest that is free, found without a walk.
 
 ghost use Rattle.std.specs.Prelude.{◌≡◌, ℕ, ◌≤◌, Option, Some, IsSome};
 ghost use Rattle.std.specs.Ordering.{nat_cmp};
 ghost use Rattle.std.specs.FinMap as map;
 ghost use Rattle.fe2o3_amqp.specs.Channels.{AllotStep};
 
+use amqp_session::OutgoingChannel;
 use indexmap::IndexMap;
 use std::alloc::Global;
 use std::collections::BinaryHeap;
@@ -21,7 +22,7 @@ pub(crate) enum AllotError {
 
 /// The channels that are held, each with the number of its session.
 #[derive(Drop)]
-pub(crate) struct Channels {
+pub(crate) struct ChannelTable {
     held: IndexMap<u16, u32>,
     /// Given back: `u16::MAX` less the channel, so that the lowest channel is the greatest.
     free: BinaryHeap<u16>,
@@ -29,7 +30,7 @@ pub(crate) struct Channels {
     next: u32,
 }
 
-impl Model for Channels {
+impl Model for ChannelTable {
     ghost use Rattle.std.specs.Prelude.{ℕ};
     ghost use Rattle.std.specs.Ordering.{nat_cmp};
     ghost use Rattle.std.specs.Coded.{coded_ℕ};
@@ -47,12 +48,12 @@ impl Model for Channels {
     ghost invariant = { λ t. Channelled t.held.entries (index_map_len t.held) (heap_items t.free) (heap_len t.free) (heap_capacity t.free) t.next };
 }
 
-impl Channels {
+impl ChannelTable {
     /// No channel is held.
-    pub(crate) fn new(alloc: Global) -> Channels
+    pub(crate) fn new(alloc: Global) -> ChannelTable
         ensures { result ≡ map.empty }
     {
-        Channels {
+        ChannelTable {
             held: IndexMap::new(alloc),
             free: BinaryHeap::new(alloc),
             next: 0,
@@ -60,14 +61,14 @@ impl Channels {
     }
 
     /// The session that holds the channel.
-    pub(crate) fn holder(&self, channel: u16) -> Option<u32>
-        ensures { result ≡ map.get self.now channel }
+    pub(crate) fn holder(&self, channel: OutgoingChannel) -> Option<u32>
+        ensures { result ≡ map.get self.now channel.0 }
     {
-        self.held.get(&channel).copied()
+        self.held.get(&channel.0).copied()
     }
 
     /// Gives the lowest channel that is not held, in a time that grows with the logarithm of their number.
-    pub(crate) fn allot(&mut self, max: u16, number: u32) -> Result<u16, AllotError>
+    pub(crate) fn allot(&mut self, max: u16, number: u32) -> Result<OutgoingChannel, AllotError>
         ensures { AllotStep self.old max number result self.new }
     {
         match self.free.peek() {
@@ -81,7 +82,7 @@ impl Channels {
                 }
                 self.free.pop().unwrap();
                 self.held.insert(channel, number).unwrap();
-                Ok(channel)
+                Ok(OutgoingChannel(channel))
             }
             None => {
                 if self.next > u32::from(max) {
@@ -97,17 +98,17 @@ impl Channels {
                 let channel = self.next as u16;
                 self.held.insert(channel, number).unwrap();
                 self.next += 1;
-                Ok(channel)
+                Ok(OutgoingChannel(channel))
             }
         }
     }
 
     /// Gives a channel back, which takes no memory.
-    pub(crate) fn give_back(&mut self, channel: u16)
-        requires { IsSome (map.get self.old channel) }
-        ensures { self.new ≡ map.remove self.old channel }
+    pub(crate) fn give_back(&mut self, channel: OutgoingChannel)
+        requires { IsSome (map.get self.old channel.0) }
+        ensures { self.new ≡ map.remove self.old channel.0 }
     {
-        self.held.swap_remove(&channel).unwrap();
-        self.free.push(u16::MAX - channel).unwrap();
+        self.held.swap_remove(&channel.0).unwrap();
+        self.free.push(u16::MAX - channel.0).unwrap();
     }
 }

@@ -1,0 +1,63 @@
+//! RouteTable: where frames on a channel of the peer's go.
+
+ghost use Rattle.std.specs.Prelude.{◌≡◌, OnOk, OnErr};
+ghost use Rattle.std.specs.FinMap as map;
+
+use amqp_session::IncomingChannel;
+use indexmap::IndexMap;
+use std::alloc::{AllocError, Global};
+use std::marker::Model;
+
+/// The sessions that received frames go to, by their channels.
+#[derive(Drop)]
+pub(crate) struct RouteTable {
+    routes: IndexMap<u16, u32>,
+}
+
+impl Model for RouteTable {
+    ghost use Rattle.std.specs.Prelude.{ℕ};
+    ghost use Rattle.std.specs.Ordering.{nat_cmp};
+    ghost use Rattle.std.specs.Coded.{coded_ℕ};
+    ghost use Rattle.std.specs.FinMap as map;
+
+    ghost Value = { map.FinMap nat_cmp ℕ };
+
+    ghost coded = { map.code coded_ℕ coded_ℕ };
+
+    ghost view = { λ t. map.from_entries t.routes.entries };
+}
+
+impl RouteTable {
+    /// No channel leads anywhere.
+    pub(crate) fn new(alloc: Global) -> RouteTable
+        ensures { result ≡ map.empty }
+    {
+        RouteTable {
+            routes: IndexMap::new(alloc),
+        }
+    }
+
+    /// The session to which frames on the channel go.
+    pub(crate) fn of(&self, channel: IncomingChannel) -> Option<u32>
+        ensures { result ≡ map.get self.now channel.0 }
+    {
+        self.routes.get(&channel.0).copied()
+    }
+
+    /// From now on the channel leads to this session.
+    pub(crate) fn put(&mut self, channel: IncomingChannel, number: u32) -> Result<(), AllocError>
+        ensures ok { OnOk result (self.new ≡ map.insert self.old channel.0 number) }
+        ensures err { OnErr result (self.new ≡ self.old) }
+    {
+        self.routes.insert(channel.0, number)?;
+        Ok(())
+    }
+
+    /// From now on the channel leads nowhere. Gives the session to which it led.
+    pub(crate) fn take(&mut self, channel: IncomingChannel) -> Option<u32>
+        ensures value { result ≡ map.get self.old channel.0 }
+        ensures removed { self.new ≡ map.remove self.old channel.0 }
+    {
+        self.routes.swap_remove(&channel.0)
+    }
+}
