@@ -3,7 +3,7 @@ use Rattle.std.proofs.Common.{◌≡◌, ◌⊎◌, ℕ, List, [], Option, Some,
 use Rattle.std.specs.Map.{set_value}
 use Rattle.amqp_frames.specs.declared.frame.Frame.{Frame}
 use Rattle.amqp_session.specs.Relay.{Relays}
-use Rattle.amqp_session.specs.Session.{SessionView}
+use Rattle.amqp_session.specs.Session.{Observed}
 use Rattle.amqp_session.specs.History as session
 use Rattle.fe2o3_amqp.specs.declared.connection.error.ConnectionInnerError.{ConnectionInnerError}
 use Rattle.fe2o3_amqp.specs.declared.engine.step_error.StepError.{StepError}
@@ -15,7 +15,7 @@ use Rattle.fe2o3_amqp.specs.Sessions.{Acts, Answered, Asks, Called, Unknown, Doe
 
 -- each such call is answered as is asked
 abbrev pub Answers : {R : Type 0} → Relays R → Calls R → Acts R → Type 0
-Answers g asks acts = (s t : SessionView _) (answer : Result (List Frame) StepError) → acts s answer t → Answered g s asks answer t
+Answers g asks acts = (s t : Observed _) (answer : Result (List Frame) StepError) → acts s answer t → Answered g s.view asks answer t.view
 
 -- session n made some calls, or there is none
 abbrev Calls-of : {R : Type 0} → Relays R → EngineView R → ℕ → Calls R → Option StepError → EngineView R → Type 0
@@ -27,12 +27,12 @@ called g asks acts v w n refusal answers (inl t) =
     inl (
       a.calls,
       record {
-        before = t.before;
-        after = t.after;
+        before = t.before.view;
+        after = t.after.view;
         known = t.known;
-        asked = subst (λ r. asks t.before.state a.calls r) (sym t.refused) a.asked;
+        asked = subst (λ r. asks t.before.view.state a.calls r) (sym t.refused) a.asked;
         steps = a.steps;
-        put = t.put ∙ ap (λ (fs : List Frame). record v { sessions = set_value (nat_eq n) v.sessions t.after; waiting = fs }) (sym a.frames);
+        put = t.put ∙ ap (λ (fs : List Frame). record v { sessions = set_value (nat_eq n) v.sessions t.after.view; waiting = fs }) (sym a.frames);
       },
     )
 called g asks acts v w n refusal answers (inr t) = inr (record { unknown = t.0; no_calls = refl; refused = t.1; same = t.2 })

@@ -1,5 +1,5 @@
 -- A session that begins: it stands at the end of the list, or its channel is free as before.
-use Rattle.std.proofs.Common.{◌≡◌, ℕ, List, [], ◌∷◌, ◌++◌, Bool, true, false, refl, ap, sym, ◌∙◌, Option, Some, None, cond, is_some, nat_eq, arith}
+use Rattle.std.proofs.Common.{◌≡◌, ℕ, List, [], ◌∷◌, ◌++◌, Bool, true, false, refl, ap, sym, ◌∙◌, Option, Some, None, Err, cond, is_some, nat_eq, arith}
 use Rattle.std.proofs.lemmas.Bool.Decides.{nat_tests}
 use Rattle.std.specs.Map.{lookup}
 use Rattle.std.specs.Cmp.{nat_cmp_total}
@@ -8,7 +8,9 @@ use Rattle.std.specs.FinMap.{same_map, nat_cmp-IsAntisymmetric, get-insert, get-
 use Rattle.std.specs.FinMap as map
 use Rattle.indexmap.specs.IndexMap.{insert_entry}
 use Rattle.fe2o3_amqp.specs.Channels.{ChannelTable}
-use Rattle.fe2o3_amqp.specs.Connection.{ConnectionView, DeallocateStep, given_back}
+use Rattle.fe2o3_amqp.specs.declared.connection.error.AllocSessionError.{AllocSessionError}
+use Rattle.fe2o3_amqp.specs.declared.connection.error.AllocSessionError.TheVariants as full
+use Rattle.fe2o3_amqp.specs.Connection.{ConnectionView, AllocateStep, DeallocateStep, given_back}
 use Rattle.fe2o3_amqp.proofs.AsMap.{same_test}
 
 pub not_some : {X : Type 0} → (o : Option X) (b : Bool) → b ≡ is_some o → b ≡ false → o ≡ None
@@ -48,3 +50,10 @@ held_now m c n =
 pub given_back_again : (v k w : ConnectionView) (c n : ℕ) (b : Bool) → map.get v.session_by_outgoing_channel c ≡ None → k ≡ record v { session_by_outgoing_channel = map.insert v.session_by_outgoing_channel c n } → DeallocateStep k c b w → w ≡ v
 given_back_again v k w c n true none is d = d.1 ∙ ap (λ (x : ConnectionView). given_back x c) is ∙ ap (λ h. record v { session_by_outgoing_channel = h }) (free_again v.session_by_outgoing_channel c n none)
 given_back_again v k w c n false none is d = absurd (some_none (sym (ap (λ (x : ConnectionView). map.get x.session_by_outgoing_channel c) is ∙ held_now v.session_by_outgoing_channel c n) ∙ d.0))
+
+-- where no channel is given, the connection is as it was
+pub unallocated : (v k : ConnectionView) (n : ℕ) (e : AllocSessionError) → AllocateStep v n (Err e) k → k ≡ v
+unallocated v k n full.ConnectionNotOpened a = a.1
+unallocated v k n (full.ConnectionStopped reason) a = a.2
+unallocated v k n full.ChannelMaxReached a = a.2
+unallocated v k n full.OutOfMemory a = a.2

@@ -21,3 +21,4 @@ pub mod Standing
 pub mod Outputs
 pub mod Running
 pub mod Digits
+pub mod Viewed

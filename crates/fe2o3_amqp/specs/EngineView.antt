@@ -1,8 +1,8 @@
 -- What contracts see of an engine.
-use Rattle.std.specs.Prelude.{◌-◌, ℕ, List, [], max}
+use Rattle.std.specs.Prelude.{◌-◌, ℕ, List, [], map, max}
 use Rattle.amqp_types.specs.declared.states.ConnectionState.{ConnectionState}
 use Rattle.amqp_types.specs.Open.{OpenSaid}
-use Rattle.amqp_session.specs.Session.{SessionView}
+use Rattle.amqp_session.specs.Session.{SessionView, Observed}
 use Rattle.amqp_frames.specs.declared.frame.Frame.{Frame}
 use Rattle.fe2o3_amqp.specs.Connection.{ConnectionView, new_connection}
 
@@ -14,6 +14,10 @@ pub record EngineView (R : Type 0) : Type 0 where
   pub limit : ℕ
   -- frames that are not yet put out, oldest first
   pub waiting : List Frame
+
+-- the sessions without the counts of their walks
+abbrev pub views_of : {R : Type 0} → List (ℕ × Observed R) → List (ℕ × SessionView R)
+views_of es = map (λ e. (e.0, e.1.view)) es
 
 -- ---- the limit of a piece: the size that a side allows, without the size field; no peer may ask for less than 512 bytes
 

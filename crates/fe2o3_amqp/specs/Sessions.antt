@@ -10,7 +10,7 @@ use Rattle.amqp_session.specs.declared.stop.SessionStopReason.{SessionStopReason
 use Rattle.amqp_frames.specs.declared.frame.Frame.{Frame}
 use Rattle.amqp_session.specs.Relay.{Relays}
 use Rattle.amqp_session.specs.Settings.{SettingsSaid}
-use Rattle.amqp_session.specs.Session.{SessionView, new_session}
+use Rattle.amqp_session.specs.Session.{SessionView, Observed, new_session}
 use Rattle.amqp_session.specs.Step.{StopStep, SendBeginStep}
 use Rattle.amqp_session.specs.OutgoingFrames.{calls_frames}
 use Rattle.amqp_session.specs.History as session
@@ -44,17 +44,17 @@ pub record Answered {R : Type 0} (g : Relays R) (v : SessionView R) (asks : Call
 
 -- what a call does: the session as it stands, what it answers, and the session then
 abbrev pub Acts : Type 0 → Type 1
-Acts R = SessionView R → Result (List Frame) StepError → SessionView R → Type 0
+Acts R = Observed R → Result (List Frame) StepError → Observed R → Type 0
 
 -- Session n took the call, and all else stayed. What it handed out waits.
 pub record Took {R : Type 0} (acts : Acts R) (v : EngineView R) (n : ℕ) (refusal : Option StepError) (w : EngineView R) : Type 0 where
-  pub before : SessionView R
-  pub after : SessionView R
+  pub before : Observed R
+  pub after : Observed R
   pub answer : Result (List Frame) StepError
-  pub known : lookup (nat_eq n) v.sessions ≡ Some before
+  pub known : lookup (nat_eq n) v.sessions ≡ Some before.view
   pub acted : acts before answer after
   pub refused : refusal ≡ refusal_of answer
-  pub put : w ≡ record v { sessions = set_value (nat_eq n) v.sessions after; waiting = frames_with answer }
+  pub put : w ≡ record v { sessions = set_value (nat_eq n) v.sessions after.view; waiting = frames_with answer }
 
 -- the call goes to session n, if there is one
 abbrev pub Asks : {R : Type 0} → Acts R → EngineView R → ℕ → Option StepError → EngineView R → Type 0
@@ -103,8 +103,8 @@ pub record Begun {R : Type 0} (g : Relays R) (v : EngineView R) (n : ℕ) (setti
   pub put : w ≡ record v { connection = connection; sessions = v.sessions ++ (n, after) ∷ []; waiting = sent (calls_frames calls) }
 
 -- a new session sends its Begin; memory may be refused
-abbrev pub BegunStep : {R : Type 0} → SessionView R → Result (SessionView R × SessionFrame) SessionStateError → Type 0
-BegunStep new (Ok p) = SendBeginStep new (Ok p.1) p.0
+abbrev pub BegunStep : {R : Type 0} → SessionView R → Result (Observed R × SessionFrame) SessionStateError → Type 0
+BegunStep new (Ok p) = SendBeginStep new (Ok p.1) p.0.view
 BegunStep new (Err e) = e ≡ unbegun.OutOfMemory
 
 -- nothing of a session happens

@@ -47,13 +47,13 @@ impl<R> Model for Engine<R> {
     ghost use Rattle.std.specs.Coded.{codes};
     ghost use Rattle.amqp_session.specs.Links.{links_code};
     ghost use Rattle.fe2o3_amqp.specs.Channels.{channel_table_code};
-    ghost use Rattle.fe2o3_amqp.specs.EngineView.{EngineView};
+    ghost use Rattle.fe2o3_amqp.specs.EngineView.{EngineView, views_of};
 
     ghost Value = { EngineView R };
 
     ghost coded = { Prim.hlevel (codes, channel_table_code, links_code) };
 
-    ghost view = { λ e. record { connection = e.connection; sessions = e.sessions.entries; limit = e.encoder; waiting = e.waiting } };
+    ghost view = { λ e. record { connection = e.connection; sessions = views_of e.sessions.entries; limit = e.encoder; waiting = e.waiting } };
 }
 
 /// The limit of a piece before the peer's Open.
@@ -88,7 +88,7 @@ impl<R: LinkRelay> Engine<R> {
 
     /// The session with this number, if it was begun. It stays, also when it has ended.
     pub fn session(&self, number: SessionNo) -> Option<&Session<R>>
-        ensures found { IfSome result (λ s. lookup (nat_eq number.0) self.now.sessions ≡ Some s.now) }
+        ensures found { IfSome result (λ s. lookup (nat_eq number.0) self.now.sessions ≡ Some s.now.view) }
         ensures known { is_some result ≡ is_some (lookup (nat_eq number.0) self.now.sessions) }
     {
         self.sessions.get(&number.0)

@@ -45,7 +45,7 @@ fn is_unsolicited(state: SessionState) -> bool
 }
 
 pub(crate) fn end<R: LinkRelay>(session: &mut Session<R>, error: Option<Error>) -> Outgoing
-    ensures { Answered R.gives session.old (EndCalls error) result session.new }
+    ensures { Answered R.gives session.old.view (EndCalls error) result session.new.view }
 {
     let reason = end_reason(&error);
     let frame = session.send_end(error)?;
@@ -58,7 +58,7 @@ pub(crate) fn allocate_link<R: LinkRelay>(
     name: String,
     relay: Option<R>,
 ) -> Outgoing
-    ensures { Answered R.gives session.old (AllocateLinkCalls (string_bytes name) relay) result session.new }
+    ensures { Answered R.gives session.old.view (AllocateLinkCalls (string_bytes name) relay) result session.new.view }
 {
     session.allocate_link(name, relay)?;
     Ok(Waiting::none())
@@ -70,14 +70,14 @@ pub(crate) fn allocate_incoming_link<R: LinkRelay>(
     relay: R,
     input: InputHandle,
 ) -> Outgoing
-    ensures { Answered R.gives session.old (AllocateIncomingCalls (string_bytes name) relay input) result session.new }
+    ensures { Answered R.gives session.old.view (AllocateIncomingCalls (string_bytes name) relay input) result session.new.view }
 {
     session.allocate_incoming_link(name, relay, input)?;
     Ok(Waiting::none())
 }
 
 pub(crate) fn send_attach<R: LinkRelay>(session: &mut Session<R>, attach: Attach) -> Outgoing
-    ensures { Answered R.gives session.old (AttachCalls attach) result session.new }
+    ensures { Answered R.gives session.old.view (AttachCalls attach) result session.new.view }
 {
     Ok(Waiting::alone(Some(session.on_outgoing_attach(attach))))
 }
@@ -87,13 +87,13 @@ pub(crate) fn send_detach<R: LinkRelay>(
     detach: Detach,
     expects_echo: bool,
 ) -> Outgoing
-    ensures { Answered R.gives session.old (DetachCalls detach expects_echo) result session.new }
+    ensures { Answered R.gives session.old.view (DetachCalls detach expects_echo) result session.new.view }
 {
     Ok(Waiting::alone(session.on_outgoing_detach(detach, expects_echo)?))
 }
 
 pub(crate) fn send_flow<R: LinkRelay>(session: &mut Session<R>, flow: LinkFlow) -> Outgoing
-    ensures { Answered R.gives session.old (FlowCalls flow) result session.new }
+    ensures { Answered R.gives session.old.view (FlowCalls flow) result session.new.view }
 {
     Ok(Waiting::alone(Some(session.on_outgoing_flow(flow))))
 }
@@ -105,13 +105,13 @@ pub(crate) fn send_transfer<R: LinkRelay>(
     payload: Bytes,
     is_first: bool,
 ) -> Outgoing
-    ensures { Answered R.gives session.old (TransferCalls (record { input_handle = input.0; transfer = transfer; payload = payload; is_first = is_first })) result session.new }
+    ensures { Answered R.gives session.old.view (TransferCalls (record { input_handle = input.0; transfer = transfer; payload = payload; is_first = is_first })) result session.new.view }
 {
     Ok(Waiting::of(session.on_outgoing_transfer(input, transfer, payload, is_first)?))
 }
 
 pub(crate) fn stop<R: LinkRelay>(session: &mut Session<R>, reason: SessionStopReason) -> Outgoing
-    ensures { Answered R.gives session.old (StopCalls reason) result session.new }
+    ensures { Answered R.gives session.old.view (StopCalls reason) result session.new.view }
 {
     session.set_session_stop_reason(reason);
     Ok(Waiting::none())
@@ -122,7 +122,7 @@ pub(crate) fn begin_received<R: LinkRelay>(
     channel: IncomingChannel,
     begin: Begin,
 ) -> Outgoing
-    ensures { Answered R.gives session.old (ReceivedBeginCalls channel.0 begin) result session.new }
+    ensures { Answered R.gives session.old.view (ReceivedBeginCalls channel.0 begin) result session.new.view }
 {
     session.on_incoming_begin(channel, begin)?;
     Ok(Waiting::none())
@@ -130,7 +130,7 @@ pub(crate) fn begin_received<R: LinkRelay>(
 
 /// Records why the peer ended the session, where its End is unsolicited.
 fn record_end<R: LinkRelay>(session: &mut Session<R>, ends: bool, reason: SessionStopReason)
-    ensures { RecordedEnd session.old reason ends session.new }
+    ensures { RecordedEnd session.old.view reason ends session.new.view }
 {
     if ends {
         session.set_session_stop_reason(reason);
@@ -143,7 +143,7 @@ pub(crate) fn end_received<R: LinkRelay>(
     channel: IncomingChannel,
     end: End,
 ) -> Outgoing
-    ensures { Answered R.gives session.old (ReceivedEndCalls channel.0 end) result session.new }
+    ensures { Answered R.gives session.old.view (ReceivedEndCalls channel.0 end) result session.new.view }
 {
     let reason = remote_end_reason(&end);
     let ends = is_unsolicited(*session.local_state());
@@ -154,7 +154,7 @@ pub(crate) fn end_received<R: LinkRelay>(
 }
 
 pub(crate) fn attach_received<R: LinkRelay>(session: &mut Session<R>, attach: Attach) -> Outgoing
-    ensures { Answered R.gives session.old (ReceivedAttachCalls attach) result session.new }
+    ensures { Answered R.gives session.old.view (ReceivedAttachCalls attach) result session.new.view }
 {
     session.on_incoming_attach(attach)?;
     Ok(Waiting::none())
@@ -162,7 +162,7 @@ pub(crate) fn attach_received<R: LinkRelay>(session: &mut Session<R>, attach: At
 
 /// The peer's detach. What the link's relay answers goes out, and is answered no more.
 pub(crate) fn detach_received<R: LinkRelay>(session: &mut Session<R>, detach: Detach) -> Outgoing
-    ensures { Answered R.gives session.old (ReceivedDetachCalls detach) result session.new }
+    ensures { Answered R.gives session.old.view (ReceivedDetachCalls detach) result session.new.view }
 {
     match session.on_incoming_detach(detach)? {
         None => Ok(Waiting::none()),
@@ -171,7 +171,7 @@ pub(crate) fn detach_received<R: LinkRelay>(session: &mut Session<R>, detach: De
 }
 
 pub(crate) fn flow_received<R: LinkRelay>(session: &mut Session<R>, flow: Flow) -> Outgoing
-    ensures { Answered R.gives session.old (ReceivedFlowCalls flow) result session.new }
+    ensures { Answered R.gives session.old.view (ReceivedFlowCalls flow) result session.new.view }
 {
     Ok(Waiting::of(session.on_incoming_flow(flow)?))
 }
@@ -182,7 +182,7 @@ pub(crate) fn transfer_received<R: LinkRelay>(
     transfer: Transfer,
     payload: Bytes,
 ) -> Outgoing
-    ensures { Answered R.gives session.old (ReceivedTransferCalls transfer payload) result session.new }
+    ensures { Answered R.gives session.old.view (ReceivedTransferCalls transfer payload) result session.new.view }
 {
     let _none = session.on_incoming_transfer(transfer, payload)?;
     Ok(Waiting::of(session.maybe_outgoing_session_flow()))

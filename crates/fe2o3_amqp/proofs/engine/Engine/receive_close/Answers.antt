@@ -9,7 +9,7 @@ use Rattle.amqp_frames.proofs.Decoded.{failed}
 use Rattle.fe2o3_amqp.specs.declared.engine.step_error.StepError.TheVariants as no
 use Rattle.fe2o3_amqp.specs.Connection.{refusal_of}
 use Rattle.fe2o3_amqp.proofs.FieldsReceived.{unread, was_read}
-use Rattle.fe2o3_amqp.specs.EngineView.{EngineView}
+use Rattle.fe2o3_amqp.specs.EngineView.{EngineView, views_of}
 use Rattle.fe2o3_amqp.specs.Engine.{ReceivedClose}
 use Rattle.fe2o3_amqp.proofs.engine.Engine.receive_close.Goals as goal
 
@@ -26,7 +26,7 @@ returns g c =
       [],
       (
         (refl, refl),
-        subst (λ (v : EngineView _). ReceivedClose v c.in_ok-close.close None (record { connection = c.take_close.new.connection; sessions = c.self.inside.sessions.entries; limit = c.self.inside.encoder; waiting = c.self.inside.waiting })) c.self.view_is
+        subst (λ (v : EngineView _). ReceivedClose v c.in_ok-close.close None (record { connection = c.take_close.new.connection; sessions = views_of c.self.inside.sessions.entries; limit = c.self.inside.encoder; waiting = c.self.inside.waiting })) c.self.view_is
             (None, c.take_close.new.connection, c.in_ok-take_close.ensures, refl, refl),
       ),
     )
@@ -39,7 +39,7 @@ returns-in_err-take_close g c =
       [],
       (
         (refl, refl),
-        subst (λ (v : EngineView _). ReceivedClose v c.in_ok-close.close (refusal_of c.from_residual-in_err-take_close.result) (record { connection = c.take_close.new.connection; sessions = c.self.inside.sessions.entries; limit = c.self.inside.encoder; waiting = c.self.inside.waiting })) c.self.view_is
+        subst (λ (v : EngineView _). ReceivedClose v c.in_ok-close.close (refusal_of c.from_residual-in_err-take_close.result) (record { connection = c.take_close.new.connection; sessions = views_of c.self.inside.sessions.entries; limit = c.self.inside.encoder; waiting = c.self.inside.waiting })) c.self.view_is
             (Some c.in_err-take_close.field-0.0, c.take_close.new.connection, c.in_err-take_close.ensures, search rules, refl),
       ),
     )

@@ -10,7 +10,7 @@ use Rattle.fe2o3_amqp.specs.declared.engine.step_error.StepError.TheVariants as 
 use Rattle.fe2o3_amqp.specs.Connection.{refusal_of}
 use Rattle.fe2o3_amqp.proofs.FieldsReceived.{unread, was_read}
 use Rattle.fe2o3_amqp.specs.declared.engine.step_error.StepError.TheVariants.{ConnectionState}
-use Rattle.fe2o3_amqp.specs.EngineView.{EngineView}
+use Rattle.fe2o3_amqp.specs.EngineView.{EngineView, views_of}
 use Rattle.fe2o3_amqp.specs.Engine.{ReceivedOpen}
 use Rattle.fe2o3_amqp.proofs.engine.Engine.receive_open.Goals as goal
 
@@ -28,8 +28,8 @@ returns g c =
       [],
       (
         (refl, refl),
-        subst (λ (v : EngineView _). ReceivedOpen v c.in_ok-open.«open» None (record { connection = c.on_incoming_open.new.self; sessions = c.self.inside.sessions.entries; limit = c.new-self-inside.result; waiting = c.self.inside.waiting })) c.self.view_is
-            (c.on_incoming_open.new.self, c.in_ok-on_incoming_open.ensures, ap (λ (n : ℕ). record { connection = c.on_incoming_open.new.self; sessions = c.self.inside.sessions.entries; limit = n; waiting = c.self.inside.waiting }) limit_is),
+        subst (λ (v : EngineView _). ReceivedOpen v c.in_ok-open.«open» None (record { connection = c.on_incoming_open.new.self; sessions = views_of c.self.inside.sessions.entries; limit = c.new-self-inside.result; waiting = c.self.inside.waiting })) c.self.view_is
+            (c.on_incoming_open.new.self, c.in_ok-on_incoming_open.ensures, ap (λ (n : ℕ). record { connection = c.on_incoming_open.new.self; sessions = views_of c.self.inside.sessions.entries; limit = n; waiting = c.self.inside.waiting }) limit_is),
       ),
     )
 
@@ -42,7 +42,7 @@ returns-in_err-on_incoming_open g c =
       [],
       (
         (refl, refl),
-        subst (λ (v : EngineView _). ReceivedOpen v c.in_ok-open.«open» (Some (ConnectionState c.in_err-on_incoming_open.field-0.0)) (record { connection = c.on_incoming_open.new.self; sessions = c.self.inside.sessions.entries; limit = c.self.inside.encoder; waiting = c.self.inside.waiting })) c.self.view_is
+        subst (λ (v : EngineView _). ReceivedOpen v c.in_ok-open.«open» (Some (ConnectionState c.in_err-on_incoming_open.field-0.0)) (record { connection = c.on_incoming_open.new.self; sessions = views_of c.self.inside.sessions.entries; limit = c.self.inside.encoder; waiting = c.self.inside.waiting })) c.self.view_is
             (c.on_incoming_open.new.self, c.in_err-on_incoming_open.ensures, refl),
       ),
     ))

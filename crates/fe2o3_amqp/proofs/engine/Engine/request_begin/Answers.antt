@@ -1,26 +1,27 @@
-use Rattle.std.proofs.Common.{[], ◌∷◌, Ok, Some, None, refl, ap, sym, subst, ◌∙◌, nat_eq}
+use Rattle.std.proofs.Common.{[], ◌∷◌, Ok, Err, Some, None, refl, ap, sym, subst, ◌∙◌, nat_eq}
 use Rattle.indexmap.specs.IndexMap.{insert_entry}
 use Rattle.amqp_types.specs.declared.states.SessionState.TheVariants.{Unmapped}
 use Rattle.amqp_session.specs.Session.{new_session}
 use Rattle.amqp_session.specs.Step.{SendBeginStep}
 use Rattle.amqp_session.specs.History as session
 use Rattle.amqp_session.specs.declared.error.SessionStateError.{SessionStateError}
-use Rattle.fe2o3_amqp.specs.declared.engine.step_error.StepError.TheVariants.{SessionState}
-use Rattle.fe2o3_amqp.specs.Connection.{ConnectionView}
-use Rattle.fe2o3_amqp.specs.EngineView.{EngineView}
+use Rattle.fe2o3_amqp.specs.declared.engine.step_error.StepError.TheVariants.{SessionState, AllocSession}
+use Rattle.fe2o3_amqp.specs.Connection.{ConnectionView, AllocateStep}
+use Rattle.fe2o3_amqp.specs.EngineView.{EngineView, views_of}
 use Rattle.fe2o3_amqp.specs.Sessions.{BeginRequest}
 use Rattle.fe2o3_amqp.proofs.Engines.{same_engine}
-use Rattle.fe2o3_amqp.proofs.Beginning.{not_some, appended, given_back_again}
+use Rattle.fe2o3_amqp.proofs.Viewed.{viewed_none, viewed_there, viewed_push}
+use Rattle.fe2o3_amqp.proofs.Beginning.{not_some, appended, given_back_again, unallocated}
 use Rattle.fe2o3_amqp.proofs.engine.Engine.request_begin.Goals as goal
 
 pub returns-in-Ok-begun : goal.returns-in-Ok-begun
 returns-in-Ok-begun g c =
     let none = not_some _ _ c.contains_key.ensures c.if-contains_key.false in
     let put = rw c.unwrap.ensures at c.insert.ensures.entries in
-    let entries = put ∙ ap (λ es. insert_entry nat_eq es c.args.number c.in-Ok-begun.session) c.reserve.ensures.entries ∙ appended _ c.args.number c.in-Ok-begun.session none in
+    let entries = ap views_of (put ∙ ap (λ es. insert_entry nat_eq es c.args.number c.in-Ok-begun.session) c.reserve.ensures.entries ∙ appended _ c.args.number c.in-Ok-begun.session none) ∙ viewed_push c.self.inside.sessions.entries c.args.number c.in-Ok-begun.session in
     let a = c.in-Ok-allocate_session.ensures in
     let stop = c.connection_stop_reason-stop.ensures ∙ ap (λ (k : ConnectionView). k.stop_reason) a.3 in
-    let began = subst (λ s. SendBeginStep (new_session c.args.settings c.in-Ok-allocate_session.channel.0 Unmapped s) (Ok c.in-Ok-begun.frame) c.in-Ok-begun.session) stop c.in-Ok-begun.ensures.begun in
+    let began = subst (λ s. SendBeginStep (new_session c.args.settings c.in-Ok-allocate_session.channel.0 Unmapped s) (Ok c.in-Ok-begun.frame) c.in-Ok-begun.session.view) stop c.in-Ok-begun.ensures.begun in
     rw (← c.self.view_is) (
       Some c.args.number,
       session.SendsBegin (Ok c.in-Ok-begun.frame) ∷ [],
@@ -29,12 +30,12 @@ returns-in-Ok-begun g c =
         record {
           channel = c.in-Ok-allocate_session.channel.0;
           connection = c.allocate_session.new.self;
-          after = c.in-Ok-begun.session;
-          unknown = none;
+          after = c.in-Ok-begun.session.view;
+          unknown = viewed_none c.args.number c.self.inside.sessions.entries none;
           fits = c.in-Ok-begun.ensures.fits;
           allocated = a;
           asked = (c.in-Ok-begun.frame, refl, refl);
-          steps = (c.in-Ok-begun.session, began, refl);
+          steps = (c.in-Ok-begun.session.view, began, refl);
           put = same_engine _ _ _ _ _ _ _ refl entries (c.put.ensures ∙ c.alone.ensures);
         },
       ),
@@ -46,10 +47,32 @@ returns-in-Err-begun g c =
     let none = not_some _ _ c.contains_key.ensures c.if-contains_key.false in
     let a = c.in-Ok-allocate_session.ensures in
     let same = given_back_again c.self.inside.connection c.allocate_session.new.self c.deallocate_session.new.self c.in-Ok-allocate_session.channel.0 c.args.number c.deallocate_session.result a.1.free a.3 c.deallocate_session.ensures in
-    let now : EngineView _ = record { connection = c.deallocate_session.new.self; sessions = c.reserve.new.self.entries; limit = c.self.inside.encoder; waiting = c.self.inside.waiting } in
-    let before : EngineView _ = record { connection = c.self.inside.connection; sessions = c.self.inside.sessions.entries; limit = c.self.inside.encoder; waiting = c.self.inside.waiting } in (
+    let now : EngineView _ = record { connection = c.deallocate_session.new.self; sessions = views_of c.reserve.new.self.entries; limit = c.self.inside.encoder; waiting = c.self.inside.waiting } in
+    let before : EngineView _ = record { connection = c.self.inside.connection; sessions = views_of c.self.inside.sessions.entries; limit = c.self.inside.encoder; waiting = c.self.inside.waiting } in (
       None,
       [],
       subst (λ (v : EngineView _). BeginRequest gives v c.args.number c.args.settings None [] (Some (SessionState c.in-Err-begun.error)) now) c.self.view_is
-          (subst (λ (e : SessionStateError). BeginRequest gives before c.args.number c.args.settings None [] (Some (SessionState e)) now) (sym c.in-Err-begun.ensures.begun) (((refl, refl), same_engine _ _ _ _ _ _ _ same c.reserve.ensures.entries refl), none, (c.in-Ok-allocate_session.channel.0, c.allocate_session.new.self, a))),
+          (subst (λ (e : SessionStateError). BeginRequest gives before c.args.number c.args.settings None [] (Some (SessionState e)) now) (sym c.in-Err-begun.ensures.begun) (((refl, refl), same_engine _ _ _ _ _ _ _ same (ap views_of c.reserve.ensures.entries) refl), viewed_none c.args.number c.self.inside.sessions.entries none, (c.in-Ok-allocate_session.channel.0, c.allocate_session.new.self, a))),
+    )
+
+pub returns-then-contains_key : goal.returns-then-contains_key
+returns-then-contains_key g c =
+    let there = viewed_there c.args.number c.self.inside.sessions.entries _ _ refl c.contains_key.ensures c.if-contains_key.true in
+    rw (← c.self.view_is) (None, [], (((refl, refl), refl), there))
+
+pub returns-in_default : goal.returns-in_default
+returns-in_default g c =
+    let none = viewed_none c.args.number c.self.inside.sessions.entries (not_some _ _ c.contains_key.ensures c.if-contains_key.false) in
+    rw (← c.self.view_is) (None, [], (((refl, refl), same_engine _ _ _ _ _ _ _ refl (ap views_of c.reserve.ensures.entries) refl), none))
+
+pub returns-in-Err : goal.returns-in-Err
+returns-in-Err g c =
+    let none = viewed_none c.args.number c.self.inside.sessions.entries (not_some _ _ c.contains_key.ensures c.if-contains_key.false) in
+    let same = unallocated c.self.inside.connection c.allocate_session.new.self c.args.number c.in-Err.error c.in-Err.ensures in
+    let step = subst (λ k. AllocateStep c.self.inside.connection c.args.number (Err c.in-Err.error) k) same c.in-Err.ensures in
+    let now : EngineView _ = record { connection = c.allocate_session.new.self; sessions = views_of c.reserve.new.self.entries; limit = c.self.inside.encoder; waiting = c.self.inside.waiting } in (
+      None,
+      [],
+      subst (λ (v : EngineView _). BeginRequest g.R.LinkRelay.gives v c.args.number c.args.settings None [] (Some (AllocSession c.in-Err.error)) now) c.self.view_is
+          (((refl, refl), same_engine _ _ _ _ _ _ _ same (ap views_of c.reserve.ensures.entries) refl), none, step),
     )

@@ -2,7 +2,7 @@ use Rattle.std.proofs.Common.{rules, ◌≡◌, Some, subst, refl, ap, ◌∙◌
 use Rattle.fe2o3_amqp.specs.Connection.{stopped}
 use Rattle.fe2o3_amqp.specs.declared.engine.step_error.StepError.TheVariants.{ConnectionState}
 use Rattle.fe2o3_amqp.specs.Connection.{refusal_of}
-use Rattle.fe2o3_amqp.specs.EngineView.{EngineView}
+use Rattle.fe2o3_amqp.specs.EngineView.{EngineView, views_of}
 use Rattle.fe2o3_amqp.specs.Engine.{CloseRequest}
 use Rattle.fe2o3_amqp.proofs.Engines.{same_engine}
 use Rattle.fe2o3_amqp.proofs.engine.Engine.request_close.Goals as goal
@@ -15,4 +15,4 @@ returns g c =
 pub returns-in_err-frame : goal.returns-in_err-frame
 returns-in_err-frame g c =
     let told : refusal_of c.from_residual.result ≡ Some (ConnectionState c.in_err-frame.field-0.0) = search rules in
-    rw told (subst (λ (v : EngineView _). CloseRequest v c.args.error (Some (ConnectionState c.in_err-frame.field-0.0)) (record { connection = c.send_close.new.self; sessions = c.self.inside.sessions.entries; limit = c.self.inside.encoder; waiting = c.self.inside.waiting })) c.self.view_is (c.send_close.new.self, c.in_err-frame.ensures, refl))
+    rw told (subst (λ (v : EngineView _). CloseRequest v c.args.error (Some (ConnectionState c.in_err-frame.field-0.0)) (record { connection = c.send_close.new.self; sessions = views_of c.self.inside.sessions.entries; limit = c.self.inside.encoder; waiting = c.self.inside.waiting })) c.self.view_is (c.send_close.new.self, c.in_err-frame.ensures, refl))

@@ -6,7 +6,7 @@ pub returns : goal.returns
 returns g c = record {
   calls = session.TakesBegin c.args.channel.0 c.args.begin (Ok tt) ∷ [];
   asked = (Ok tt, refl, refl);
-  steps = (c.on_incoming_begin.new.self, c.in_ok-on_incoming_begin.ensures, refl);
+  steps = (c.on_incoming_begin.new.self.view, c.in_ok-on_incoming_begin.ensures.step, refl);
   frames = sym c.none.ensures;
 }
 
@@ -14,6 +14,6 @@ pub returns-in_err-on_incoming_begin : goal.returns-in_err-on_incoming_begin
 returns-in_err-on_incoming_begin g c = record {
   calls = session.TakesBegin c.args.channel.0 c.args.begin (Err c.in_err-on_incoming_begin.field-0.0) ∷ [];
   asked = (Err c.in_err-on_incoming_begin.field-0.0, refl, search rules);
-  steps = (c.on_incoming_begin.new.self, c.in_err-on_incoming_begin.ensures, refl);
+  steps = (c.on_incoming_begin.new.self.view, c.in_err-on_incoming_begin.ensures.step, refl);
   frames = search rules;
 }

@@ -6,6 +6,6 @@ pub returns : goal.returns
 returns g c = record {
   calls = session.SendsAttach c.args.attach c.on_outgoing_attach.result ∷ [];
   asked = (c.on_outgoing_attach.result, refl, refl);
-  steps = (c.args.session.now, c.on_outgoing_attach.ensures, refl);
+  steps = (c.args.session.now.view, c.on_outgoing_attach.ensures, refl);
   frames = sym c.alone.ensures;
 }

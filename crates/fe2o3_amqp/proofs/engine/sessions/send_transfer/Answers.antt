@@ -12,7 +12,7 @@ returns g c =
     record {
       calls = session.SendsTransfer held (Ok c.in_ok-on_outgoing_transfer.field-0) ∷ [];
       asked = (Ok c.in_ok-on_outgoing_transfer.field-0, refl, refl);
-      steps = (c.on_outgoing_transfer.new.self, c.in_ok-on_outgoing_transfer.ensures, refl);
+      steps = (c.on_outgoing_transfer.new.self.view, c.in_ok-on_outgoing_transfer.ensures.step, refl);
       frames = ap sent (append-nil (item_frames c.in_ok-on_outgoing_transfer.field-0)) ∙ sym c.of.ensures;
     }
 
@@ -22,6 +22,6 @@ returns-in_err-on_outgoing_transfer g c =
     record {
       calls = session.SendsTransfer held (Err c.in_err-on_outgoing_transfer.field-0.0) ∷ [];
       asked = (Err c.in_err-on_outgoing_transfer.field-0.0, refl, search rules);
-      steps = (c.on_outgoing_transfer.new.self, c.in_err-on_outgoing_transfer.ensures, refl);
+      steps = (c.on_outgoing_transfer.new.self.view, c.in_err-on_outgoing_transfer.ensures.step, refl);
       frames = search rules;
     }

@@ -6,6 +6,6 @@ pub returns : goal.returns
 returns g c = record {
   calls = session.RecordsStop c.args.reason ∷ [];
   asked = (refl, refl);
-  steps = (c.set_session_stop_reason.new.self, c.set_session_stop_reason.ensures, refl);
+  steps = (c.set_session_stop_reason.new.self.view, c.set_session_stop_reason.ensures.step, refl);
   frames = sym c.none.ensures;
 }
