@@ -1,6 +1,11 @@
 pub mod AsMap
 pub mod Attaching
 pub mod Taking
+pub mod RunsGrow
+pub mod Walking
+pub mod Cutting
+pub mod Backward
+pub mod Keeping
 pub mod Rising
 pub mod Opening
 pub mod Numbering
