@@ -1,5 +1,5 @@
 -- What each call does to a session, by one table over the calls and their answers: all that follows is read off it.
-use Rattle.std.proofs.Common.{◌≡◌, ℕ, ◌+◌, List, [], ◌∷◌, ◌++◌, refl, ap, subst, sym, ◌∙◌, Bool, true, false, cond, Option, Some, None, Result, Ok, Err, unwrap_or, take}
+use Rattle.std.proofs.Common.{◌≡◌, ◌⊎◌, inl, inr, ℕ, ◌+◌, List, [], ◌∷◌, ◌++◌, refl, ap, subst, sym, ◌∙◌, Bool, true, false, cond, Option, Some, None, Result, Ok, Err, unwrap_or, take}
 use Rattle.std.specs.Option.{option_map}
 use Rattle.amqp_types.specs.Flow.{FlowSaid}
 use Rattle.amqp_types.specs.declared.states.SessionState.{SessionState}
@@ -18,20 +18,24 @@ use Rattle.amqp_session.specs.declared.error.LinkRelayError.{LinkRelayError}
 use Rattle.amqp_session.specs.Settings.{SettingsSaid}
 use Rattle.amqp_session.specs.States.{is_mapped, sends_begin, takes_begin, sends_end, takes_end}
 use Rattle.amqp_session.specs.Receiving.{numbered_anew, counted, reported}
-use Rattle.amqp_session.specs.Links.{LinksView}
-use Rattle.amqp_session.specs.Relay.{Relays, AttachQuestion, FlowQuestion}
+use Rattle.amqp_session.specs.Links.{LinksView, attached_at}
+use Rattle.amqp_session.specs.Relay.{DispositionGives, DispositionQuestion, Relays, AttachQuestion, FlowQuestion, Question, Gives, Asks}
 use Rattle.amqp_session.specs.Transfers.{RequestedTransfer, numbered, first_of}
 use Rattle.amqp_session.specs.Sending.{SendingView, joined, begun, moved, let_out, opened_by}
 use Rattle.amqp_session.specs.Items.{HandsOut, item_frames, first_frame, is_some_list}
 use Rattle.amqp_session.specs.Session.{SessionView, flow_frame, lets, let_gone}
-use Rattle.amqp_session.specs.Deliveries.{with_record, RecordFits}
+use Rattle.amqp_types.specs.Disposition.{DispositionSaid}
+use Rattle.amqp_types.specs.declared.definitions.Role.TheVariants.{Sender, Receiver}
+use Rattle.amqp_session.specs.Deliveries.{with_record, RecordFits, OpenView}
+use Rattle.amqp_session.specs.Disposing.{widened, num_messages, rows_of, meant, AsksAt, AsksEach, HasAsked}
+use Rattle.amqp_session.proofs.Keeping.{keeps, role_keeps}
 use Rattle.amqp_session.specs.Step.{BeginFits, begun_by, has_error, FlowFits, FlowGoes, named_delivery, waits, flow_base, flow_moved, counted_by, asked_at, FlowAnswered, FlowUnasked, FlowTaken, TransferAnswered, TransferUnasked}
 use Rattle.amqp_session.specs.Linking.{AttachAnswered, Attaches}
 use Rattle.amqp_session.specs.Linked.{taken_by}
 use Rattle.amqp_session.proofs.Taking.{at_insert, taken_release, taken_leave, taken_drop}
 use Rattle.amqp_types.specs.Attach.{AttachSaid}
 use Rattle.std.specs.FinMap as map
-use Rattle.amqp_session.specs.History.{Entry, AllocatesLink, AllocatesIncomingLink, DeallocatesLink, TakesAttach, TakesDetach, SendsAttach, SendsDetach, SendsBegin, SendsEnd, TakesBegin, TakesEnd, TakesFlow, TakesTransfer, SendsFlow, SendsTransfer, SendsSessionFlow, RecordsStop, Step}
+use Rattle.amqp_session.specs.History.{Entry, AllocatesLink, AllocatesIncomingLink, DeallocatesLink, TakesAttach, TakesDetach, SendsAttach, SendsDetach, SendsBegin, SendsEnd, TakesBegin, TakesEnd, TakesFlow, TakesTransfer, TakesDisposition, SendsDisposition, SendsFlow, SendsTransfer, SendsSessionFlow, RecordsStop, Step}
 use Rattle.amqp_session.specs.OutgoingFrames.{inner_frames, call_frames, OnChannel}
 use Rattle.amqp_session.specs.Received.{named_of, named_with, channel_by}
 use Rattle.amqp_session.specs.Headline.{transfers_in, state_by}
@@ -67,6 +71,7 @@ receives r (TakesBegin channel b (Ok u)) = numbered_anew b.next_outgoing_id b.ou
 receives r (TakesFlow f asked result) = numbered_anew f.next_outgoing_id f.outgoing_window r
 receives r (TakesTransfer t payload asked result) = counted r
 receives r (SendsSessionFlow (Some item)) = reported r
+receives r (SendsDisposition d true frame) = widened (num_messages d.first d.last) r
 receives r e = r
 
 -- the stop reason, after a call
@@ -80,7 +85,7 @@ rest_by r e = record r {
   incoming_channel = channel_by r.incoming_channel e;
   session_stop = stops r.session_stop e;
   receiving = receives r.receiving e;
-  named = with_record (named_with e) r.named;
+  named = with_record (named_with e) (keeps Sender e r.named);
 }
 
 -- ---- the sending half before anything goes out, and whether anything may
@@ -207,7 +212,7 @@ module _ {R : Type 0} (g : Relays R) where
 
   pub record Does (v : SessionView R) (e : Entry R) (w : SessionView R) : Type 0 where
     pub goes : Goes (lets_by v e) v.outgoing_channel (sending_by v e) (transfers_in (call_frames e)) w.sending
-    pub opens : w.deliveries.receiver ≡ cond (lets_by v e) (opened_by (sending_by v e) v.deliveries.receiver) v.deliveries.receiver
+    pub opens : w.deliveries.receiver ≡ cond (lets_by v e) (opened_by (sending_by v e) (keeps Receiver e v.deliveries.receiver)) (keeps Receiver e v.deliveries.receiver)
     pub rest_is : rest w ≡ rest_by (rest v) e
     pub on_channel : OnChannel v.outgoing_channel (call_frames e)
     pub word_fits : WordFits v e
@@ -219,7 +224,7 @@ module _ {R : Type 0} (g : Relays R) where
   Places e = (k : ℕ) (o : Option (Option (List ℕ))) → o ≡ taken_by k o e
 
   -- a call that lets nothing out
-  stills : (v u w : SessionView R) (e : Entry R) → w ≡ u → lets_by v e ≡ false → transfers_in (call_frames e) ≡ [] → u.sending ≡ sending_by v e → u.deliveries.receiver ≡ v.deliveries.receiver → rest u ≡ rest_by (rest v) e →
+  stills : (v u w : SessionView R) (e : Entry R) → w ≡ u → lets_by v e ≡ false → transfers_in (call_frames e) ≡ [] → u.sending ≡ sending_by v e → u.deliveries.receiver ≡ keeps Receiver e v.deliveries.receiver → rest u ≡ rest_by (rest v) e →
       OnChannel v.outgoing_channel (call_frames e) → u.links ≡ v.links → WordFits v e → RecordFits (named_with e) → Places e → Does v e w
   stills v u w e same quiet none sending rows others on links fits named_is places = rw same record {
     goes = rw quiet (none, sending);
@@ -232,11 +237,11 @@ module _ {R : Type 0} (g : Relays R) where
   }
 
   -- a call that is refused
-  unmoved : (v w : SessionView R) (e : Entry R) → w ≡ v → lets_by v e ≡ false → call_frames e ≡ [] → sending_by v e ≡ v.sending → rest v ≡ rest_by (rest v) e → WordFits v e → RecordFits (named_with e) → Places e → Does v e w
-  unmoved v w e same quiet none sending others fits named_is places = stills v v w e same quiet (ap transfers_in none) (sym sending) refl others (rw none tt) refl fits named_is places
+  unmoved : (v w : SessionView R) (e : Entry R) → w ≡ v → v.deliveries.receiver ≡ keeps Receiver e v.deliveries.receiver → lets_by v e ≡ false → call_frames e ≡ [] → sending_by v e ≡ v.sending → rest v ≡ rest_by (rest v) e → WordFits v e → RecordFits (named_with e) → Places e → Does v e w
+  unmoved v w e same kept quiet none sending others fits named_is places = stills v v w e same quiet (ap transfers_in none) (sym sending) kept others (rw none tt) refl fits named_is places
 
   -- a call that hands out one frame, which is no transfer
-  says : (v u w : SessionView R) (e : Entry R) (f h : SessionFrame) → w ≡ u → f ≡ h → call_frames e ≡ f ∷ [] → lets_by v e ≡ false → transfers_in (h ∷ []) ≡ [] → u.sending ≡ sending_by v e → u.deliveries.receiver ≡ v.deliveries.receiver →
+  says : (v u w : SessionView R) (e : Entry R) (f h : SessionFrame) → w ≡ u → f ≡ h → call_frames e ≡ f ∷ [] → lets_by v e ≡ false → transfers_in (h ∷ []) ≡ [] → u.sending ≡ sending_by v e → u.deliveries.receiver ≡ keeps Receiver e v.deliveries.receiver →
       rest u ≡ rest_by (rest v) e → h.channel ≡ v.outgoing_channel → u.links ≡ v.links → WordFits v e → RecordFits (named_with e) → Places e → Does v e w
   says v u w e f h same is one quiet none sending rows others on links fits named_is places =
       stills v u w e same quiet (ap transfers_in one ∙ ap (λ (x : SessionFrame). transfers_in (x ∷ [])) is ∙ none) sending rows others (rw one (one_on v.outgoing_channel f h is on)) links fits named_is places
@@ -245,7 +250,7 @@ module _ {R : Type 0} (g : Relays R) where
   in_state : (r : Rest) (s : SessionState) (o : Option SessionState) → o ≡ Some s → record r { state = s } ≡ record r { state = unwrap_or o r.state }
   in_state r s o e = ap (λ x. record r { state = x }) (sym (ap (λ y. unwrap_or y r.state) e))
 
-  out_does : (v u w : SessionView R) (e : Entry R) (b : Bool) → Out b u (call_frames e) w → lets_by v e ≡ b → u.sending ≡ sending_by v e → u.deliveries.receiver ≡ v.deliveries.receiver → u.outgoing_channel ≡ v.outgoing_channel →
+  out_does : (v u w : SessionView R) (e : Entry R) (b : Bool) → Out b u (call_frames e) w → lets_by v e ≡ b → u.sending ≡ sending_by v e → u.deliveries.receiver ≡ keeps Receiver e v.deliveries.receiver → u.outgoing_channel ≡ v.outgoing_channel →
       rest u ≡ rest_by (rest v) e → u.links ≡ v.links → WordFits v e → RecordFits (named_with e) → Places e → Does v e w
   out_does v u w e b o is sending rows channel others links fits named_is places = record {
     goes = rw (is, ← sending, ← channel) o.0;
@@ -257,11 +262,11 @@ module _ {R : Type 0} (g : Relays R) where
     handles_are = λ k. ap (λ m. map.get m k) o.4 ∙ ap (λ (l : LinksView _). map.get l.handles k) links ∙ places k (map.get v.links.handles k);
   }
 
-  taken_does : (v w : SessionView R) (e : Entry R) → Taken (counted_by v) (named_with e) w → lets_by v e ≡ false → call_frames e ≡ [] → sending_by v e ≡ v.sending →
+  taken_does : (v w : SessionView R) (e : Entry R) → Taken (counted_by v) (named_with e) w → v.deliveries.receiver ≡ keeps Receiver e v.deliveries.receiver → lets_by v e ≡ false → call_frames e ≡ [] → sending_by v e ≡ v.sending →
       record (rest (counted_by v)) { named = with_record (named_with e) v.deliveries.sender } ≡ rest_by (rest v) e → WordFits v e → Places e → Does v e w
-  taken_does v w e t quiet none sending others fits places = record {
+  taken_does v w e t kept quiet none sending others fits places = record {
     goes = rw (quiet, none, sending) (refl, t.0);
-    opens = rw quiet t.1;
+    opens = rw quiet (t.1 ∙ kept);
     rest_is = t.2 ∙ others;
     on_channel = rw none tt;
     word_fits = fits;
@@ -270,11 +275,11 @@ module _ {R : Type 0} (g : Relays R) where
   }
 
   -- a call that changes links alone
-  link_does : (v w : SessionView R) (l : LinksView R) (e : Entry R) → w ≡ record v { links = l } → lets_by v e ≡ false → transfers_in (call_frames e) ≡ [] → sending_by v e ≡ v.sending → rest v ≡ rest_by (rest v) e →
+  link_does : (v w : SessionView R) (l : LinksView R) (e : Entry R) → w ≡ record v { links = l } → v.deliveries.receiver ≡ keeps Receiver e v.deliveries.receiver → lets_by v e ≡ false → transfers_in (call_frames e) ≡ [] → sending_by v e ≡ v.sending → rest v ≡ rest_by (rest v) e →
       OnChannel v.outgoing_channel (call_frames e) → WordFits v e → RecordFits (named_with e) → ((k : ℕ) → map.get l.handles k ≡ taken_by k (map.get v.links.handles k) e) → Does v e w
-  link_does v w l e same quiet none sending others on fits named_is places = rw same record {
+  link_does v w l e same kept quiet none sending others on fits named_is places = rw same record {
     goes = rw (quiet, sending) (none, refl);
-    opens = rw quiet refl;
+    opens = rw quiet kept;
     rest_is = others;
     on_channel = on;
     word_fits = fits;
@@ -293,50 +298,84 @@ module _ {R : Type 0} (g : Relays R) where
   attach_keeps l new a None (Err e) t = ap (λ (x : LinksView _). x.handles) t.1
   attach_keeps l new a (Some q) result t = attached_keeps l new a q q.answer result t.3
 
+  -- relays that are asked of dispositions alone change
+  asks_keep : (gives : DispositionGives R) (d : DispositionSaid) (rows : List Delivery) (asked : List (DispositionQuestion R)) (l new : LinksView R) →
+      AsksEach gives d rows asked l new → new.handles ≡ l.handles
+  asks_keep gives d [] asked l new a = ap (λ (x : LinksView _). x.handles) a.1
+  asks_keep gives d (r ∷ rs) asked l new a = asks_keep gives d rs a.1 a.2 new a.4 ∙ ask_keeps a.0 a.3
+    where
+      ask_keeps : (one : Option (DispositionQuestion R)) → AsksAt gives d r one l a.2 → a.2.handles ≡ l.handles
+      ask_keeps None b = ap (λ (z : LinksView _). z.handles) b.1
+      ask_keeps (Some q) b = ap (λ (z : LinksView _). z.handles) b.2
+
+  -- a call that asks relays, and may take deliveries away
+  asked_does : (v w : SessionView R) (l : LinksView R) (o : OpenView) (e : Entry R) → w ≡ record v { links = l; deliveries = o } → l.handles ≡ v.links.handles → o.receiver ≡ keeps Receiver e v.deliveries.receiver →
+      lets_by v e ≡ false → call_frames e ≡ [] → sending_by v e ≡ v.sending → record (rest v) { named = o.sender } ≡ rest_by (rest v) e → WordFits v e → RecordFits (named_with e) → Places e → Does v e w
+  asked_does v w l o e same links kept quiet none sending others fits named_is places = rw same record {
+    goes = rw (quiet, none, sending) (refl, refl);
+    opens = rw quiet kept;
+    rest_is = others;
+    on_channel = rw none tt;
+    word_fits = fits;
+    named_fits = named_is;
+    handles_are = λ k. ap (λ m. map.get m k) links ∙ places k (map.get v.links.handles k);
+  }
+
+  refused_does : (v w : SessionView R) (d : DispositionSaid) (asked : List (DispositionQuestion R)) → ((asked ≡ []) × (w ≡ v)) ⊎ HasAsked g.disposition_gives v d asked w → Does v (TakesDisposition d asked (Err Refused.OutOfMemory)) w
+  refused_does v w d asked (inl s) = unmoved v w _ s.1 refl refl refl refl refl tt tt (λ k o. refl)
+  refused_does v w d asked (inr s) = asked_does v w w.links v.deliveries _ s.1 (asks_keep g.disposition_gives d (meant d (rows_of d v)) asked v.links w.links s.0) refl refl refl refl refl tt tt (λ k o. refl)
+
   pub does : (v w : SessionView R) (e : Entry R) → Step g v e w → Does v e w
   does v w (SendsBegin (Ok f)) s = says v _ w _ f _ s.2 s.1 refl refl refl refl refl (in_state (rest v) w.state (sends_begin v.state) s.0) refl refl tt tt (λ k o. refl)
-  does v w (SendsBegin (Err Begins.IllegalState)) s = unmoved v w _ s.1 refl refl refl refl tt tt (λ k o. refl)
-  does v w (SendsBegin (Err Begins.OutOfMemory)) s = unmoved v w _ s.1 refl refl refl refl tt tt (λ k o. refl)
+  does v w (SendsBegin (Err Begins.IllegalState)) s = unmoved v w _ s.1 refl refl refl refl refl tt tt (λ k o. refl)
+  does v w (SendsBegin (Err Begins.OutOfMemory)) s = unmoved v w _ s.1 refl refl refl refl refl tt tt (λ k o. refl)
   does v w (SendsBegin (Err e)) s = absurd s
   does v w (SendsEnd error (Ok f)) s = says v _ w _ f _ s.2 s.1 refl refl refl refl refl (in_state (rest v) w.state (sends_end (has_error error) v.state) s.0) refl refl tt tt (λ k o. refl)
-  does v w (SendsEnd error (Err Begins.IllegalState)) s = unmoved v w _ s.1 refl refl refl refl tt tt (λ k o. refl)
+  does v w (SendsEnd error (Err Begins.IllegalState)) s = unmoved v w _ s.1 refl refl refl refl refl tt tt (λ k o. refl)
   does v w (SendsEnd error (Err e)) s = absurd s
   does v w (TakesBegin channel b (Ok u)) s = stills v _ w _ s.2 refl refl refl refl (in_state (rest (begun_by v channel b)) w.state (takes_begin v.state) s.0) tt refl s.1 tt (λ k o. refl)
-  does v w (TakesBegin channel b (Err Begins.IllegalState)) s = unmoved v w _ s.1 refl refl refl refl tt tt (λ k o. refl)
+  does v w (TakesBegin channel b (Err Begins.IllegalState)) s = unmoved v w _ s.1 refl refl refl refl refl tt tt (λ k o. refl)
   does v w (TakesBegin channel b (Err e)) s = absurd s
   does v w (TakesEnd channel e (Ok u)) s = stills v _ w _ s.3 refl refl refl refl (in_state (rest v) w.state (takes_end v.state) s.0) tt refl tt tt (λ k o. refl)
   does v w (TakesEnd channel e (Err Begins.RemoteEnded)) s = stills v _ w _ s.3 refl refl refl refl (in_state (rest v) w.state (takes_end v.state) s.0) tt refl tt tt (λ k o. refl)
   does v w (TakesEnd channel e (Err (Begins.RemoteEndedWithError x))) s = stills v _ w _ s.2 refl refl refl refl (in_state (rest v) w.state (takes_end v.state) s.0) tt refl tt tt (λ k o. refl)
-  does v w (TakesEnd channel e (Err Begins.IllegalState)) s = unmoved v w _ s.1 refl refl refl (ap (λ o. record (rest v) { state = unwrap_or o v.state }) (sym s.0)) tt tt (λ k o. refl)
+  does v w (TakesEnd channel e (Err Begins.IllegalState)) s = unmoved v w _ s.1 refl refl refl refl (ap (λ o. record (rest v) { state = unwrap_or o v.state }) (sym s.0)) tt tt (λ k o. refl)
   does v w (TakesEnd channel e (Err x)) s = absurd s
   does v w (TakesFlow f asked (Ok item)) s = out_does v (flow_moved v f) w _ _ (taken_out (flow_moved v f) w f f.handle asked (Ok item) s.1) refl refl refl refl refl refl s.0 tt (λ k o. refl)
   does v w (TakesFlow f asked (Err e)) s = out_does v (flow_moved v f) w _ _ (taken_out (flow_moved v f) w f f.handle asked (Err e) s.1) refl refl refl refl refl refl s.0 tt (λ k o. refl)
-  does v w (TakesTransfer t payload None result) s = taken_does v w _ (unasked_takes (counted_by v) w t.handle result s) refl refl refl refl tt (λ k o. refl)
+  does v w (TakesTransfer t payload None result) s = taken_does v w _ (unasked_takes (counted_by v) w t.handle result s) refl refl refl refl refl tt (λ k o. refl)
   does v w (TakesTransfer t payload (Some q) result) s =
       let a = answered_takes (asked_at (counted_by v) t.handle q) w t.handle q.answer result s.2 in
-      taken_does v w _ (a.0, a.1, a.2, a.3, a.4) refl refl refl refl tt (λ k o. refl)
+      taken_does v w _ (a.0, a.1, a.2, a.3, a.4) refl refl refl refl refl tt (λ k o. refl)
   does v w (SendsFlow l f) s = says v v w _ f _ s.1 s.0 refl refl refl refl refl refl refl refl tt tt (λ k o. refl)
   does v w (SendsTransfer h (Ok item)) s = out_does v (waits v h) w _ _ (gone_out (waits v h) w [] _ item refl tt s.2 s.3) refl refl refl refl refl refl tt tt (λ k o. refl)
-  does v w (SendsTransfer h (Err Refused.IllegalState)) s = unmoved v w _ s.1 refl refl refl refl tt tt (λ k o. refl)
-  does v w (SendsTransfer h (Err Refused.OutOfMemory)) s = unmoved v w _ s.2 refl refl refl refl tt tt (λ k o. refl)
+  does v w (SendsTransfer h (Err Refused.IllegalState)) s = unmoved v w _ s.1 refl refl refl refl refl tt tt (λ k o. refl)
+  does v w (SendsTransfer h (Err Refused.OutOfMemory)) s = unmoved v w _ s.2 refl refl refl refl refl tt tt (λ k o. refl)
   does v w (SendsTransfer h (Err e)) s = absurd s
-  does v w (SendsSessionFlow None) s = unmoved v w _ s.1 refl refl refl refl tt tt (λ k o. refl)
+  does v w (SendsSessionFlow None) s = unmoved v w _ s.1 refl refl refl refl refl tt tt (λ k o. refl)
   does v w (SendsSessionFlow (Some (SingleFrame f))) s = says v _ w _ f _ s.2 s.1 refl refl refl refl refl refl refl refl tt tt (λ k o. refl)
   does v w (SendsSessionFlow (Some (MultipleFrames fs))) s = absurd s
   does v w (RecordsStop reason) s = stills v _ w _ s refl refl refl refl refl tt refl tt tt (λ k o. refl)
-  does v w (AllocatesLink name relay (Ok h)) s = link_does v w _ _ s.3 refl refl refl refl tt tt tt (λ k. at_insert v.links.handles h.0 k (Some name))
-  does v w (AllocatesLink name relay (Err e)) s = link_does v w v.links _ s.1 refl refl refl refl tt tt tt (λ k. refl)
-  does v w (AllocatesIncomingLink name relay input (Ok h)) s = link_does v w _ _ s.3 refl refl refl refl tt tt tt (λ k. at_insert v.links.handles h.0 k (Some name))
-  does v w (AllocatesIncomingLink name relay input (Err e)) s = link_does v w v.links _ s.1 refl refl refl refl tt tt tt (λ k. refl)
-  does v w (DeallocatesLink handle was) s = link_does v w w.links _ s.1 refl refl refl refl tt tt tt (λ k. taken_release v.links w.links handle.0 k was s.0)
-  does v w (TakesAttach a asked result) s = link_does v w w.links _ s.1 refl refl refl refl tt tt tt (λ k. ap (λ m. map.get m k) (attach_keeps v.links w.links a asked result s.0))
-  does v w (TakesDetach d None (Ok answer)) s = link_does v w w.links _ s.1 refl refl refl refl tt tt tt (λ k. ap (λ (l : LinksView _). map.get l.handles k) s.0.2)
+  does v w (AllocatesLink name relay (Ok h)) s = link_does v w _ _ s.3 refl refl refl refl refl tt tt tt (λ k. at_insert v.links.handles h.0 k (Some name))
+  does v w (AllocatesLink name relay (Err e)) s = link_does v w v.links _ s.1 refl refl refl refl refl tt tt tt (λ k. refl)
+  does v w (AllocatesIncomingLink name relay input (Ok h)) s = link_does v w _ _ s.3 refl refl refl refl refl tt tt tt (λ k. at_insert v.links.handles h.0 k (Some name))
+  does v w (AllocatesIncomingLink name relay input (Err e)) s = link_does v w v.links _ s.1 refl refl refl refl refl tt tt tt (λ k. refl)
+  does v w (DeallocatesLink handle was) s = link_does v w w.links _ s.1 refl refl refl refl refl tt tt tt (λ k. taken_release v.links w.links handle.0 k was s.0)
+  does v w (TakesAttach a asked result) s = link_does v w w.links _ s.1 refl refl refl refl refl tt tt tt (λ k. ap (λ m. map.get m k) (attach_keeps v.links w.links a asked result s.0))
+  does v w (TakesDetach d None (Ok answer)) s = link_does v w w.links _ s.1 refl refl refl refl refl tt tt tt (λ k. ap (λ (l : LinksView _). map.get l.handles k) s.0.2)
   does v w (TakesDetach d (Some q) (Ok answer)) s =
-      link_does v w w.links _ s.1 refl refl refl refl tt tt tt (λ k. ap (λ (l : LinksView _). map.get l.handles k) s.0.3 ∙ taken_drop v.links d.handle q.handle.0 k)
+      link_does v w w.links _ s.1 refl refl refl refl refl tt tt tt (λ k. ap (λ (l : LinksView _). map.get l.handles k) s.0.3 ∙ taken_drop v.links d.handle q.handle.0 k)
   does v w (TakesDetach d asked (Err e)) s = absurd s
   does v w (SendsAttach a f) s = says v v w _ f _ s.1 s.0 refl refl refl refl refl refl refl refl tt tt (λ k o. refl)
   does v w (SendsDetach d expects_echo (Ok (Some f))) s =
-      link_does v w w.links _ s.2 refl (ap (λ (x : SessionFrame). transfers_in (x ∷ [])) s.0) refl refl (one_on v.outgoing_channel f _ s.0 refl) tt tt (λ k. taken_leave v.links w.links d.handle k expects_echo true s.1)
-  does v w (SendsDetach d expects_echo (Ok None)) s = link_does v w w.links _ s.1 refl refl refl refl tt tt tt (λ k. taken_leave v.links w.links d.handle k expects_echo false s.0)
+      link_does v w w.links _ s.2 refl refl (ap (λ (x : SessionFrame). transfers_in (x ∷ [])) s.0) refl refl (one_on v.outgoing_channel f _ s.0 refl) tt tt (λ k. taken_leave v.links w.links d.handle k expects_echo true s.1)
+  does v w (SendsDetach d expects_echo (Ok None)) s = link_does v w w.links _ s.1 refl refl refl refl refl tt tt tt (λ k. taken_leave v.links w.links d.handle k expects_echo false s.0)
   does v w (SendsDetach d expects_echo (Err e)) s = absurd s
-  does v w e s = absurd s
+  does v w (SendsDisposition d true f) s = says v _ w _ f _ s.2 s.1 refl refl refl refl refl refl refl refl tt tt (λ k o. refl)
+  does v w (SendsDisposition d false f) s = says v _ w _ f _ s.2 s.1 refl refl refl refl refl refl refl refl tt tt (λ k o. refl)
+  does v w (TakesDisposition d asked (Ok None)) s =
+      let kept = role_keeps d.role d v.deliveries in
+      asked_does v w w.links _ _ s.2 (asks_keep g.disposition_gives d (meant d (rows_of d v)) asked v.links w.links s.1) kept.0 refl refl refl (ap (λ n. record (rest v) { named = n }) kept.1) tt tt (λ k o. refl)
+  does v w (TakesDisposition d asked (Ok (Some echoes))) s = asked_does v w w.links v.deliveries _ s.1.1 (asks_keep g.disposition_gives d (meant d (rows_of d v)) asked v.links w.links s.1.0) refl refl refl refl refl tt tt (λ k o. refl)
+  does v w (TakesDisposition d asked (Err Refused.OutOfMemory)) s = refused_does v w d asked s.2
+  does v w (TakesDisposition d asked (Err e)) s = absurd s

@@ -14,7 +14,7 @@ use Rattle.amqp_session.specs.Transfers.{RequestedTransfer, firsts, opened}
 use Rattle.amqp_session.specs.Sending.{SendingView, moved, let_out, opened_by, drained}
 use Rattle.amqp_session.specs.Settings.{SettingsSaid}
 use Rattle.amqp_session.specs.OutgoingFrames.{call_frames}
-use Rattle.amqp_session.specs.Received.{named_with, channel_by}
+use Rattle.amqp_session.specs.Received.{named_with, takes_away, channel_by}
 use Rattle.amqp_session.specs.Relay.{Relays}
 use Rattle.amqp_session.specs.Session.{SessionView, new_session}
 use Rattle.amqp_session.specs.Step.{flow_base, SendTransferStep}
@@ -27,6 +27,7 @@ use Rattle.amqp_session.proofs.Opening.{opened_each, with_record_each}
 use Rattle.amqp_session.proofs.Books.{inside_at, used_up, length-numbered, numbered_first, Books-joined, Books-moved, Books-begun, Goes, Books-goes}
 use Rattle.amqp_session.proofs.Numbering.{opened_same}
 use Rattle.amqp_session.proofs.Effects.{Rest, stops, sending_by, lets_by, WordFits, Does, does}
+use Rattle.amqp_session.proofs.Keeping.{keeps, keeps_each}
 use Rattle.amqp_session.proofs.Since.{receives_more, channel_more, stop_more, open_more, taken_more, live_more, input_more}
 use Rattle.amqp_session.specs.Linked.{taken_by, live_by, input_by}
 use Rattle.std.specs.Ordering.{nat_cmp}
@@ -67,7 +68,7 @@ module _ {R : Type 0} (g : Relays R) where
   before_is m H v w e b d = Books-before m (accepted H) (handed H) (window m H) v e b.settings_is d.word_fits b.sending_is
 
   -- a call opens the deliveries whose first frames go out with it
-  sent_step : (m : Made) (H : List (Entry R)) (v w : SessionView R) (e : Entry R) → Stands m H v → Does g v e w → w.deliveries.receiver ≡ opened (begun_in H) (sent_with H e) v.deliveries.receiver
+  sent_step : (m : Made) (H : List (Entry R)) (v w : SessionView R) (e : Entry R) → Stands m H v → Does g v e w → w.deliveries.receiver ≡ opened (begun_in H) (sent_with H e) (keeps Receiver e v.deliveries.receiver)
   sent_step m H v w e b d =
       let k = before_is m H v w e b d in
       let waits = sym (drop-append-le (length (handed H)) (accepted H) (accepted_by e) b.sending_is.no_more) ∙ sym k.held_is in
@@ -98,10 +99,12 @@ module _ {R : Type 0} (g : Relays R) where
   -- and the record of each number is the newest one
   opens_more : (m : Made) (H : List (Entry R)) (e : Entry R) (v u : SessionView R) → Stands m H v → Does g v e u → (role : Role) → Opens role (H ++ e ∷ []) (of_role role u.deliveries)
   opens_more m H e v u b d Receiver =
-      let o = opened_each (begun_in H) (sent_with H e) v.deliveries.receiver u.deliveries.receiver (λ n. open_at Receiver n H) (sent_step m H v u e b d) ((b.open_are Receiver).table, (b.open_are Receiver).each) in
+      let kept = keeps_each Receiver e v.deliveries.receiver (λ n. open_at Receiver n H) ((b.open_are Receiver).table, (b.open_are Receiver).each) in
+      let o = opened_each (begun_in H) (sent_with H e) (keeps Receiver e v.deliveries.receiver) u.deliveries.receiver (λ n. cond (takes_away Receiver e n) None (open_at Receiver n H)) (sent_step m H v u e b d) kept in
       record { table = o.0; each = λ n. o.1 n ∙ sym (open_more Receiver n [] None H e) }
   opens_more m H e v u b d Sender =
-      let o = with_record_each (named_with e) v.deliveries.sender u.deliveries.sender (λ n. open_at Sender n H) (ap (λ (x : Rest). x.named) d.rest_is) d.named_fits ((b.open_are Sender).table, (b.open_are Sender).each) in
+      let kept = keeps_each Sender e v.deliveries.sender (λ n. open_at Sender n H) ((b.open_are Sender).table, (b.open_are Sender).each) in
+      let o = with_record_each (named_with e) (keeps Sender e v.deliveries.sender) u.deliveries.sender (λ n. cond (takes_away Sender e n) None (open_at Sender n H)) (ap (λ (x : Rest). x.named) d.rest_is) d.named_fits kept in
       record { table = o.0; each = λ n. o.1 n ∙ sym (open_more Sender n [] None H e) }
 
   opens_new : (role : Role) → Opens {R = R} role [] (of_role role (record { receiver = []; sender = [] }))

@@ -3,6 +3,11 @@ pub mod Attaching
 pub mod Taking
 pub mod Naming
 pub mod LinkEffects
+pub mod RunsGrow
+pub mod Walking
+pub mod Cutting
+pub mod Backward
+pub mod Keeping
 pub mod Rising
 pub mod Opening
 pub mod Numbering

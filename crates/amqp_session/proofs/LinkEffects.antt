@@ -1,5 +1,5 @@
 -- What each call does to the links of a session, by one table over the calls and their answers.
-use Rattle.std.proofs.Common.{◌≡◌, ℕ, List, Option, Some, None, Result, Ok, Err, Bool, true, false, cond, nat_eq, refl, ap, sym, subst, ◌∙◌}
+use Rattle.std.proofs.Common.{[], ◌∷◌, ◌⊎◌, inl, inr, ◌≡◌, ℕ, List, Option, Some, None, Result, Ok, Err, Bool, true, false, cond, nat_eq, refl, ap, sym, subst, ◌∙◌}
 use Rattle.std.specs.FinMap as map
 use Rattle.amqp_types.specs.Flow.{FlowSaid}
 use Rattle.amqp_types.specs.Attach.{AttachSaid}
@@ -13,12 +13,15 @@ use Rattle.amqp_session.specs.declared.error.SessionStateError.TheVariants as Be
 use Rattle.amqp_session.specs.declared.frame.SessionOutgoingItem.{SessionOutgoingItem}
 use Rattle.amqp_session.specs.declared.frame.SessionOutgoingItem.TheVariants.{SingleFrame}
 use Rattle.amqp_session.specs.Links.{LinksView, put_at}
-use Rattle.amqp_session.specs.Relay.{Relays, Question, FlowQuestion, AttachQuestion, goes_on}
+use Rattle.amqp_session.specs.Relay.{Relays, Question, DispositionQuestion, FlowQuestion, AttachQuestion, goes_on}
 use Rattle.amqp_session.specs.Session.{SessionView}
 use Rattle.amqp_session.specs.Step.{flow_moved, counted_by, asked_at, FlowAnswered, FlowUnasked, FlowTaken, TransferAnswered, TransferUnasked}
 use Rattle.amqp_session.specs.Linking.{live_name, linked, Releases, Leaves, AttachAnswered, Attaches}
-use Rattle.amqp_session.specs.Linked.{live_by, input_by, where_goes, speaks_of, handle_of}
-use Rattle.amqp_session.specs.History.{Entry, AllocatesLink, AllocatesIncomingLink, DeallocatesLink, TakesAttach, TakesDetach, SendsAttach, SendsDetach, SendsBegin, SendsEnd, TakesBegin, TakesEnd, TakesFlow, TakesTransfer, SendsFlow, SendsTransfer, SendsSessionFlow, RecordsStop, Step}
+use Rattle.amqp_types.specs.Disposition.{DispositionSaid}
+use Rattle.amqp_session.specs.declared.deliveries.Delivery.{Delivery}
+use Rattle.amqp_session.specs.Disposing.{AsksAt, AsksEach, HasAsked, behind, question_of}
+use Rattle.amqp_session.specs.Linked.{asked_from, live_by, input_by, where_goes, speaks_of, handle_of}
+use Rattle.amqp_session.specs.History.{Entry, AllocatesLink, AllocatesIncomingLink, DeallocatesLink, TakesAttach, TakesDetach, SendsAttach, SendsDetach, SendsBegin, SendsEnd, TakesBegin, TakesEnd, TakesFlow, TakesTransfer, TakesDisposition, SendsDisposition, SendsFlow, SendsTransfer, SendsSessionFlow, RecordsStop, Step}
 use Rattle.amqp_session.proofs.Taking.{at_insert, at_remove}
 use Rattle.amqp_session.proofs.Effects.{attach_keeps}
 use Rattle.amqp_session.proofs.Naming.{same_number, Agree, agree_like, agree_linked, agree_release, agree_leave, agree_dropped, names_linked, names_release, names_leave, attach_waits}
@@ -117,6 +120,31 @@ module _ {R : Type 0} (g : Relays R) where
   transfer_unasked v w h (Err Refused.OutOfMemory) t = ap (λ (x : SessionView R). x.links) t.1
   transfer_unasked v w h (Err e) t = absurd t
 
+  -- ---- dispositions of the peer
+
+  -- the links where relays were asked in turn: they alone go on
+  pub record GoEach (l : LinksView R) (asked : List (DispositionQuestion R)) (new : LinksView R) : Type 0 where
+    pub names : new.names ≡ l.names
+    pub handles : new.handles ≡ l.handles
+    pub inputs : (h : ℕ) → map.get new.inputs h ≡ asked_from h (map.get l.inputs h) asked
+
+  go_behind : (d : DispositionSaid) (r : Delivery) (one : Option (DispositionQuestion R)) (others asked : List (DispositionQuestion R)) (l m new : LinksView R) →
+      AsksAt g.disposition_gives d r one l m → GoEach m others new → asked ≡ behind one others → GoEach l asked new
+  go_behind d r None others asked l m new a i e = rw e (subst (λ x. GoEach x others new) a.1 i)
+  go_behind d r (Some q) others asked l m new a i e =
+      let go = goes l m r.input_handle.0 q a.1.attached a.2 in
+      rw e record {
+        names = i.names ∙ go.names;
+        handles = i.handles ∙ go.handles;
+        inputs = λ h. i.inputs h ∙ ap (λ o. asked_from h o others)
+            (go.inputs h ∙ ap (λ x. cond (nat_eq h x.delivery.input_handle.0) (where_goes q.after (map.get l.inputs h)) (map.get l.inputs h)) (sym a.0));
+      }
+
+  go_each : (d : DispositionSaid) (rs : List Delivery) (asked : List (DispositionQuestion R)) (l new : LinksView R) →
+      AsksEach g.disposition_gives d rs asked l new → GoEach l asked new
+  go_each d [] asked l new t = rw (t.0, t.1) record { names = refl; handles = refl; inputs = λ h. refl }
+  go_each d (r ∷ rs) asked l new t = go_behind d r t.0 t.1 asked l t.2 new t.3 (go_each d rs t.1 t.2 new t.4) t.5
+
   -- ---- the table
 
   -- names and input handles are as the call says, and names and output handles agree after it
@@ -151,6 +179,16 @@ module _ {R : Type 0} (g : Relays R) where
   asks old new e input q a t names inputs = record {
     names_are = λ name. ap (λ m. map.get m name) t.names ∙ names name (map.get old.names name);
     inputs_are = λ h. t.inputs h ∙ inputs h (map.get old.inputs h);
+    agree = agree_like old new (λ name. ap (λ m. handle_of (map.get m name)) t.names)
+        (λ h. ap (λ m. live_name (map.get m h)) t.handles) a;
+  }
+
+  -- a disposition
+  disposes : (old new : LinksView R) (d : DispositionSaid) (asked : List (DispositionQuestion R)) (result : _) → Agree old → GoEach old asked new →
+      LinksBy old (TakesDisposition d asked result) new
+  disposes old new d asked result a t = record {
+    names_are = λ name. ap (λ m. map.get m name) t.names;
+    inputs_are = t.inputs;
     agree = agree_like old new (λ name. ap (λ m. handle_of (map.get m name)) t.names)
         (λ h. ap (λ m. live_name (map.get m h)) t.handles) a;
   }
@@ -233,4 +271,12 @@ module _ {R : Type 0} (g : Relays R) where
   links_by v w (SendsSessionFlow None) a s = kept v.links w.links _ a (ap links_of s.1) (λ n o. refl) (λ k o. refl)
   links_by v w (SendsSessionFlow (Some (SingleFrame f))) a s = kept v.links w.links _ a (ap links_of s.2) (λ n o. refl) (λ k o. refl)
   links_by v w (RecordsStop reason) a s = kept v.links w.links _ a (ap links_of s) (λ n o. refl) (λ k o. refl)
+  links_by v w (SendsDisposition d terminal f) a s = kept v.links w.links _ a (ap links_of s.2) (λ n o. refl) (λ k o. refl)
+  links_by v w (TakesDisposition d asked (Ok None)) a s = disposes v.links w.links d asked _ a (go_each d _ asked v.links w.links s.1)
+  links_by v w (TakesDisposition d asked (Ok (Some echoes))) a s = disposes v.links w.links d asked _ a (go_each d _ asked v.links w.links s.1.0)
+  links_by v w (TakesDisposition d asked (Err Refused.OutOfMemory)) a s =
+      disposes v.links w.links d asked _ a (elim s.2 [
+        inl x ↦ rw (x.0) record { names = ap (λ (y : SessionView R). y.links.names) x.1; handles = ap (λ (y : SessionView R). y.links.handles) x.1; inputs = λ h. ap (λ (y : SessionView R). map.get y.links.inputs h) x.1 }
+      | inr x ↦ go_each d _ asked v.links w.links x.0
+      ])
   links_by v w e a s = absurd s

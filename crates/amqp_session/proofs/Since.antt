@@ -3,7 +3,7 @@ use Rattle.std.proofs.Common.{◌≡◌, ℕ, ◌+◌, ◌-◌, ◌%◌, ◌^◌
 use Rattle.amqp_session.specs.declared.deliveries.Delivery.{Delivery}
 use Rattle.amqp_session.specs.declared.session.receiving.Receiving.{Receiving}
 use Rattle.amqp_session.specs.declared.stop.SessionStopReason.{SessionStopReason}
-use Rattle.amqp_session.specs.History.{Entry, TakesBegin, TakesFlow, TakesTransfer, SendsSessionFlow, RecordsStop}
+use Rattle.amqp_session.specs.History.{Entry, TakesBegin, TakesFlow, TakesTransfer, SendsDisposition, SendsSessionFlow, RecordsStop}
 use Rattle.amqp_session.specs.Received.{has_kind, since, says_numbers, is_session_flow, came_by, came, word_by, word_from, word, next_incoming, left_by, left, peer_window, unreported, channel_by, channel_from, stop_reason}
 use Rattle.amqp_session.specs.Headline.{open_by, open_from, Receives}
 use Rattle.amqp_types.specs.declared.definitions.Role.{Role}
@@ -11,6 +11,7 @@ use Rattle.amqp_session.specs.Session.{SessionView}
 use Rattle.amqp_session.specs.declared.link.Named.{Named}
 use Rattle.amqp_session.specs.declared.link.Attached.{Attached}
 use Rattle.amqp_session.specs.Linked.{Taken, taken_by, taken_from, live_by, live_from, input_by, input_from}
+use Rattle.amqp_session.specs.Disposing.{num_messages}
 use Rattle.amqp_session.proofs.Effects.{receives, stops, WordFits}
 
 -- ---- the calls since the last one of a kind
@@ -92,6 +93,12 @@ receives_more H v r (SendsSessionFlow (Some item)) fits h = let e : Entry _ = Se
   window_is = rw (peer_window_more H e, left_more (word H).1 (since says_numbers H) e) h.window_is;
   count_is = rw (unreported_more H e) refl;
 }
+receives_more H v r (SendsDisposition d true frame) fits h = let e : Entry _ = SendsDisposition d true frame in record {
+  next_is = rw (next_more H e, came_more (since says_numbers H) e) (omega (arith, h.next_is));
+  window_is = rw (peer_window_more H e, left_more (word H).1 (since says_numbers H) e) (ap (λ n. min (n + num_messages d.first d.last) 4294967295) h.window_is);
+  count_is = rw (unreported_more H e, came_more (since is_session_flow H) e) (omega (arith, h.count_is));
+}
+receives_more H v r (SendsDisposition d false frame) fits h = still H (SendsDisposition d false frame) r refl refl refl refl refl h
 receives_more H v r e fits h = still H e r refl refl refl refl refl h
 
 -- ---- channel, stop reason and open deliveries

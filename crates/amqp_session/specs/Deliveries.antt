@@ -1,5 +1,5 @@
 -- Open deliveries: one record for each number, by rising number (AMQP 1.0 part 2, section 2.6.12).
-use Rattle.std.specs.Prelude.{ℕ, ◌<◌, ◌^◌, List, [], ◌∷◌, Option, Some, None, if◌then◌else◌, nat_eq, nat_lt, map, slice_index}
+use Rattle.std.specs.Prelude.{ℕ, ◌<◌, ◌^◌, List, [], ◌∷◌, Option, Some, None, Bool, true, false, if◌then◌else◌, nat_eq, nat_lt, nat_le, map, slice_index, length, take, drop, ◌++◌, ◌+◌, ◌-◌}
 use Rattle.amqp_types.specs.declared.definitions.Role.{Role}
 use Rattle.amqp_types.specs.declared.definitions.Role.TheVariants.{Sender, Receiver}
 use Rattle.amqp_session.specs.declared.deliveries.Delivery.{Delivery}
@@ -67,6 +67,22 @@ pub record OpenView : Type 0 where
 abbrev pub of_role : Role → OpenView → List Delivery
 of_role Receiver v = v.receiver
 of_role Sender v = v.sender
+
+abbrev pub is_role : Role → Role → Bool
+is_role Receiver Receiver = true
+is_role Sender Sender = true
+is_role Receiver Sender = false
+is_role Sender Receiver = false
+
+abbrev pub with_role : Role → List Delivery → OpenView → OpenView
+with_role Receiver rows v = record v { receiver = rows }
+with_role Sender rows v = record v { sender = rows }
+
+-- the records without these many from a place on; those past the end are the first ones
+abbrev pub cut : ℕ → ℕ → List Delivery → List Delivery
+cut from count rows =
+    if nat_le count (length rows - from) then take from rows ++ drop (from + count) rows
+    else drop (count - (length rows - from)) (take from rows)
 
 -- A table of deliveries: its records, and how many it has room for.
 pub record TableView : Type 0 where

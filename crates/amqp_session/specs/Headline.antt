@@ -1,5 +1,5 @@
 -- What holds of every history of one session, said of the history alone (AMQP 1.0 part 2, section 2.5.6).
-use Rattle.std.specs.Prelude.{◌≡◌, ◌⊎◌, ◌<◌, ◌≤◌, ◌+◌, ◌%◌, ◌^◌, ℕ, Bool, true, false, if◌then◌else◌, List, [], ◌∷◌, ◌++◌, length, take, drop, slice_get, Option, Some, None, is_some, Result, Ok, Err, unwrap_or}
+use Rattle.std.specs.Prelude.{◌≡◌, ◌⊎◌, ◌<◌, ◌≤◌, ◌+◌, ◌%◌, ◌^◌, ℕ, true, false, if◌then◌else◌, List, [], ◌∷◌, ◌++◌, length, take, drop, slice_get, Option, Some, None, is_some, Result, Ok, Err, unwrap_or}
 use Rattle.amqp_types.specs.declared.states.SessionState.{SessionState}
 use Rattle.amqp_session.specs.declared.frame.SessionFrame.{SessionFrame}
 use Rattle.amqp_session.specs.declared.frame.SessionFrameBody.{SessionFrameBody}
@@ -21,7 +21,7 @@ use Rattle.amqp_types.specs.declared.definitions.Role.{Role}
 use Rattle.amqp_types.specs.declared.definitions.Role.TheVariants.{Sender, Receiver}
 use Rattle.std.specs.FinMap as map
 use Rattle.amqp_session.specs.Linked.{taken_at, live_at, input_at}
-use Rattle.amqp_session.specs.Received.{next_incoming, peer_window, unreported, peer_channel, named_with, stop_reason}
+use Rattle.amqp_session.specs.Received.{next_incoming, peer_window, unreported, peer_channel, named_with, takes_away, stop_reason}
 use Rattle.amqp_session.specs.History.{Entry, SendsBegin, SendsEnd, TakesBegin, TakesEnd, TakesFlow, SendsTransfer, Made}
 
 -- ---- what a call took and handed out
@@ -158,10 +158,6 @@ begun_in H = firsts (take (length (handed H)) (accepted H))
 abbrev pub adds : {R : Type 0} → Role → List (Entry R) → Entry R → List Delivery
 adds Receiver before e = records (begun_in before) (sent_with before e)
 adds Sender before e = listed (named_with e)
-
--- whether a call takes a number away: no call does yet
-abbrev pub takes_away : {R : Type 0} → Role → Entry R → ℕ → Bool
-takes_away role e n = false
 
 -- the open delivery of a role and number after a call, and after these calls
 abbrev pub open_by : {R : Type 0} → Role → ℕ → List (Entry R) → Option Delivery → Entry R → Option Delivery

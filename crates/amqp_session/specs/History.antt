@@ -25,8 +25,10 @@ use Rattle.amqp_session.specs.Relay.{Relays, AttachQuestion, FlowQuestion, Trans
 use Rattle.amqp_session.specs.Session.{SessionView, new_session}
 use Rattle.amqp_session.specs.Step.{SendBeginStep, SendEndStep, TakeBeginStep, TakeEndStep, SendTransferStep, FlowStep, TakeTransferStep, SendFlowStep, SessionFlowStep, StopStep}
 use Rattle.amqp_session.specs.Linking.{AllocateLinkStep, AllocateIncomingStep, DeallocateStep, TakeAttachStep, TakeDetachStep, SendAttachStep, SendDetachStep}
+use Rattle.amqp_session.specs.Disposing.{TakeDispositionStep, SendDispositionStep}
 
--- One call: its arguments, the questions to relays with their answers, and its answer.
+-- One call: its arguments, the questions to relays with their answers, and its answer; of a disposition that is sent also whether
+-- its state is terminal.
 pub data Entry (R : Type 0) : Type 0 where
   SendsBegin : Result SessionFrame SessionStateError → Entry R
   SendsEnd : Option ErrorSaid → Result SessionFrame SessionStateError → Entry R
@@ -43,7 +45,7 @@ pub data Entry (R : Type 0) : Type 0 where
   SendsAttach : AttachSaid → SessionFrame → Entry R
   SendsFlow : LinkFlow → SessionFrame → Entry R
   SendsTransfer : RequestedTransfer → Result (Option SessionOutgoingItem) SessionInnerError → Entry R
-  SendsDisposition : DispositionSaid → SessionFrame → Entry R
+  SendsDisposition : DispositionSaid → Bool → SessionFrame → Entry R
   SendsDetach : DetachSaid → Bool → Result (Option SessionFrame) SessionInnerError → Entry R
   SendsSessionFlow : Option SessionOutgoingItem → Entry R
   RecordsStop : SessionStopReason → Entry R
@@ -60,12 +62,12 @@ Step g v (DeallocatesLink handle was) w = DeallocateStep v handle was w
 Step g v (TakesAttach a asked result) w = TakeAttachStep g.attach_gives v a asked result w
 Step g v (TakesFlow f asked result) w = FlowStep g.flow_gives v f asked result w
 Step g v (TakesTransfer t payload asked result) w = TakeTransferStep g.transfer_gives v t payload asked result w
-Step g v (TakesDisposition d asked result) w = ⊥
+Step g v (TakesDisposition d asked result) w = TakeDispositionStep g.disposition_gives v d asked result w
 Step g v (TakesDetach d asked result) w = TakeDetachStep g.detach_gives v d asked result w
 Step g v (SendsAttach a frame) w = SendAttachStep v a frame w
 Step g v (SendsFlow l frame) w = SendFlowStep v l frame w
 Step g v (SendsTransfer h result) w = SendTransferStep v h result w
-Step g v (SendsDisposition d frame) w = ⊥
+Step g v (SendsDisposition d terminal frame) w = SendDispositionStep v d terminal frame w
 Step g v (SendsDetach d expects_echo result) w = SendDetachStep v d expects_echo result w
 Step g v (SendsSessionFlow item) w = SessionFlowStep v item w
 Step g v (RecordsStop reason) w = StopStep v reason w

@@ -13,6 +13,9 @@ pub mod Session
 pub mod Items
 pub mod Step
 pub mod Linking
+pub mod Runs
+pub mod Disposing
+pub mod Walks
 pub mod History
 pub mod Received
 pub mod Linked

@@ -7,9 +7,9 @@ use Rattle.amqp_session.specs.declared.link.Named.{Named}
 use Rattle.amqp_session.specs.declared.link.Attached.{Attached}
 use Rattle.std.specs.FinMap as map
 use Rattle.amqp_session.specs.Links.{LinksView}
-use Rattle.amqp_session.specs.Relay.{goes_on}
+use Rattle.amqp_session.specs.Relay.{DispositionQuestion, goes_on}
 use Rattle.amqp_session.specs.Received.{has_kind}
-use Rattle.amqp_session.specs.History.{Entry, AllocatesLink, AllocatesIncomingLink, DeallocatesLink, TakesAttach, TakesFlow, TakesTransfer, TakesDetach, SendsDetach}
+use Rattle.amqp_session.specs.History.{Entry, AllocatesLink, AllocatesIncomingLink, DeallocatesLink, TakesAttach, TakesFlow, TakesTransfer, TakesDisposition, TakesDetach, SendsDetach}
 
 -- ---- output handles (section 2.6.2)
 
@@ -98,15 +98,21 @@ abbrev pub speaks_of : ℕ → Option ℕ → Bool
 speaks_of h None = false
 speaks_of h (Some k) = nat_eq h k
 
+-- the relay under an input handle, after each of these questions that was of a delivery under it
+abbrev pub asked_from : {R : Type 0} → ℕ → Option (Attached R) → List (DispositionQuestion R) → Option (Attached R)
+asked_from h old [] = old
+asked_from h old (q ∷ qs) = asked_from h (if nat_eq h q.asked.delivery.input_handle.0 then where_goes q.after old else old) qs
+
 -- The relay under an input handle after a call, with the output handle of its link. It is put there by an allotment for an
--- incoming link and by the peer's attach where that is accepted, goes on with each flow and transfer that asked it, and is gone
--- with the peer's detach. The questions of a disposition name no input handle: they are not told here.
+-- incoming link and by the peer's attach where that is accepted, goes on with each flow, transfer and disposition that asked it, and
+-- is gone with the peer's detach.
 abbrev pub input_by : {R : Type 0} → ℕ → Option (Attached R) → Entry R → Option (Attached R)
 input_by h old (AllocatesIncomingLink name relay input (Ok k)) =
     if nat_eq h input.0 then Some (record { handle = k; relay = relay }) else old
 input_by h old (TakesAttach a (Some q) (Ok u)) = if nat_eq h a.handle then Some (goes_on q) else old
 input_by h old (TakesFlow f (Some q) result) = if speaks_of h f.handle then where_goes q.after old else old
 input_by h old (TakesTransfer t payload (Some q) result) = if nat_eq h t.handle then where_goes q.after old else old
+input_by h old (TakesDisposition d asked result) = asked_from h old asked
 input_by h old (TakesDetach d (Some q) result) = if nat_eq h d.handle then None else old
 input_by h old e = old
 

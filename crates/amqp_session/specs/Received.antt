@@ -1,12 +1,15 @@
 -- What a history says of the peer: its channel, the numbers of its transfers, and the deliveries that its transfers opened
 -- (AMQP 1.0 part 2, section 2.5.6). And why the session stopped.
-use Rattle.std.specs.Prelude.{ℕ, ◌+◌, ◌-◌, ◌%◌, ◌^◌, min, Bool, true, false, if◌then◌else◌, List, [], ◌∷◌, Option, Some, None, Result, Ok, Err}
+use Rattle.std.specs.Prelude.{ℕ, ◌+◌, ◌-◌, ◌%◌, ◌^◌, min, Bool, true, false, ◌&&◌, if◌then◌else◌, List, [], ◌∷◌, Option, Some, None, Result, Ok, Err}
 use Rattle.amqp_types.specs.declared.definitions.DeliveryTag.{DeliveryTag}
 use Rattle.amqp_session.specs.declared.deliveries.Delivery.{Delivery}
 use Rattle.amqp_session.specs.declared.stop.SessionStopReason.{SessionStopReason}
 use Rattle.amqp_session.specs.declared.error.LinkRelayError.{LinkRelayError}
+use Rattle.amqp_types.specs.declared.definitions.Role.{Role}
+use Rattle.amqp_session.specs.Deliveries.{is_role}
+use Rattle.amqp_session.specs.Disposing.{is_meant, num_messages}
 use Rattle.amqp_session.specs.Step.{named_delivery}
-use Rattle.amqp_session.specs.History.{Entry, TakesBegin, TakesFlow, TakesTransfer, SendsSessionFlow, RecordsStop}
+use Rattle.amqp_session.specs.History.{Entry, TakesBegin, TakesFlow, TakesTransfer, TakesDisposition, SendsDisposition, SendsSessionFlow, RecordsStop}
 
 -- ---- the calls since the last one of a kind
 
@@ -60,9 +63,11 @@ word H = word_from (0, 0) H
 abbrev pub next_incoming : {R : Type 0} → List (Entry R) → ℕ
 next_incoming H = ((word H).0 + came (since says_numbers H)) % 2 ^ 32
 
--- what these calls leave of a window: one less for each transfer, and never less than none
+-- What these calls leave of a window: one less for each transfer, and never less than none; and for each disposition with a
+-- terminal state that is sent, as many more as it settles, as far as four bytes can say.
 abbrev pub left_by : {R : Type 0} → ℕ → Entry R → ℕ
 left_by w (TakesTransfer t payload asked result) = w - 1
+left_by w (SendsDisposition d true frame) = min (w + num_messages d.first d.last) 4294967295
 left_by w e = w
 
 abbrev pub left : {R : Type 0} → ℕ → List (Entry R) → ℕ
@@ -102,6 +107,11 @@ named_of (Err e) = None
 abbrev pub named_with : {R : Type 0} → Entry R → Option Delivery
 named_with (TakesTransfer t payload (Some q) result) = named_delivery t.handle (named_of q.answer)
 named_with e = None
+
+-- whether a received disposition settles the delivery of a role and number
+abbrev pub takes_away : {R : Type 0} → Role → Entry R → ℕ → Bool
+takes_away role (TakesDisposition d asked (Ok None)) n = is_role role d.role && is_meant d.first d.last n
+takes_away role e n = false
 
 -- ---- the stop reason
 

@@ -6,6 +6,7 @@ use Rattle.amqp_types.specs.Transfer.{TransferSaid}
 use Rattle.amqp_types.specs.declared.definitions.Role.{Role}
 use Rattle.amqp_types.specs.declared.definitions.DeliveryTag.{DeliveryTag}
 use Rattle.amqp_session.specs.declared.numbers.OutputHandle.{OutputHandle}
+use Rattle.amqp_session.specs.declared.deliveries.Delivery.{Delivery}
 use Rattle.amqp_session.specs.declared.flow.LinkFlow.{LinkFlow}
 use Rattle.amqp_session.specs.declared.error.LinkRelayError.{LinkRelayError}
 use Rattle.amqp_session.specs.declared.link.Attached.{Attached}
@@ -52,9 +53,16 @@ FlowQuestion R = Question R LinkFlow (Result (Option LinkFlow) LinkRelayError)
 abbrev pub TransferQuestion : Type 0 → Type 0
 TransferQuestion R = Question R (TransferSaid × List ℕ) (Result (Option (ℕ × DeliveryTag)) LinkRelayError)
 
--- the peer's role, whether it settles, the state, and the tag of the delivery
+-- What a disposition says of one delivery: the peer's role, whether it settles, the state, and the record of the delivery, which
+-- has the input handle of the relay that is asked, and the tag that the relay is told.
+pub record DispositionAsked : Type 0 where
+  pub role : Role
+  pub settled : Bool
+  pub state : Option (List ℕ)
+  pub delivery : Delivery
+
 abbrev pub DispositionQuestion : Type 0 → Type 0
-DispositionQuestion R = Question R (Role × Bool × Option (List ℕ) × DeliveryTag) Bool
+DispositionQuestion R = Question R DispositionAsked Bool
 
 -- a detach, and whether the peer began it
 abbrev pub DetachQuestion : Type 0 → Type 0
@@ -73,6 +81,9 @@ of_flow gives o before flow answer after = gives before o flow answer after
 
 abbrev pub of_transfer : {R : Type 0} → TransferGives R → Gives R (TransferSaid × List ℕ) (Result (Option (ℕ × DeliveryTag)) LinkRelayError)
 of_transfer gives o before t answer after = gives before t.0 t.1 answer after
+
+abbrev pub of_disposition : {R : Type 0} → DispositionGives R → Gives R DispositionAsked Bool
+of_disposition gives o before d answer after = gives before d.role d.settled d.state d.delivery.tag answer after
 
 abbrev pub of_detach : {R : Type 0} → DetachGives R → Gives R (DetachSaid × Bool) (Option DetachSaid)
 of_detach gives o before d answer after = gives before o d.0 d.1 answer after

@@ -2,7 +2,7 @@
 
 ghost use Rattle.std.specs.Prelude.{◌≡◌, ℕ, ◌+◌, ◌-◌, ◌*◌, ◌^◌, ◌<◌, ◌≤◌, [], length, slice_get, slice_set, Some, OnOk, IsTrue, false};
 ghost use Rattle.std.specs.VecDeque.{deque_capacity};
-ghost use Rattle.amqp_session.specs.Deliveries.{IsRising, nothing_read, number_at, recorded};
+ghost use Rattle.amqp_session.specs.Deliveries.{IsRising, IsTable, cut, nothing_read, number_at, recorded};
 
 use crate::numbers::InputHandle;
 use amqp_types::DeliveryTag;
@@ -88,6 +88,7 @@ impl Deliveries {
     pub(crate) fn len(&self) -> usize
         ensures len { result ≡ length self.now.rows }
         ensures rising { IsRising self.now.rows }
+        ensures table { IsTable self.now.rows }
         ensures few { result ≤ 2 ^ 32 }
     {
         self.rows.len()
@@ -167,6 +168,22 @@ impl Deliveries {
         ensures not_there { result ≡ false → place < length self.now.rows → ¬ (number_at self.now.rows place ≡ number) }
     {
         place < self.rows.len() && self.rows[place].number == number
+    }
+
+    /// Takes away `count` records from a place on; those past the end are the first ones. The shorter side moves, once: nothing
+    /// moves where they stand at an end.
+    pub(crate) fn remove(&mut self, from: usize, count: usize)
+        requires from { from ≤ length self.old.rows }
+        requires count { count ≤ length self.old.rows }
+        ensures rows { self.new.rows ≡ cut from count self.old.rows }
+    {
+        let rest = self.rows.len() - from;
+        if count <= rest {
+            self.rows.drain(from..from + count);
+        } else {
+            self.rows.truncate(from);
+            self.rows.drain(..count - rest);
+        }
     }
 
     /// Where the numbers from `first` on begin, by a binary search. Each number that is read is counted.

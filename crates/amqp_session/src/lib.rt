@@ -23,5 +23,6 @@ pub use frame::{SessionFrame, SessionFrameBody, SessionOutgoingItem};
 pub use numbers::{IncomingChannel, InputHandle, OutgoingChannel, OutputHandle};
 pub use relay::LinkRelay;
 pub use session::Session;
+pub use session::dispositions::num_messages_settled_by_disposition;
 pub use settings::{DEFAULT_WINDOW, SessionSettings};
 pub use stop::{ConnectionStopReason, SessionStopReason};

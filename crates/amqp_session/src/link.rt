@@ -1,8 +1,9 @@
 //! The links of a session: names, handles and relays.
 
-ghost use Rattle.std.specs.Prelude.{◌≡◌, ℕ, IsSome, is_some};
+ghost use Rattle.std.specs.Prelude.{◌≡◌, ℕ, Option, IsSome, is_some};
 ghost use Rattle.amqp_session.specs.Links.{no_links, attached_at, put_at};
-ghost use Rattle.amqp_session.specs.Relay.{of_flow, of_transfer, Asked};
+ghost use Rattle.amqp_session.specs.Relay.{of_flow, of_transfer, Asked, DispositionQuestion};
+ghost use Rattle.amqp_session.specs.Disposing.{AsksAt, has_agreed};
 
 pub mod handles;
 mod inputs;
@@ -10,11 +11,12 @@ mod live;
 mod names;
 
 use self::handles::Place;
+use crate::deliveries::Delivery;
 use crate::error::LinkRelayError;
 use crate::flow::LinkFlow;
 use crate::numbers::{InputHandle, OutputHandle};
 use crate::relay::LinkRelay;
-use amqp_types::{DeliveryNumber, DeliveryTag, Transfer};
+use amqp_types::{DeliveryNumber, DeliveryTag, Disposition, Transfer};
 use bytes::Bytes;
 use indexmap::IndexMap;
 use slab::Slab;
@@ -99,5 +101,16 @@ impl<R: LinkRelay> Links<R> {
         ensures { Asked (of_transfer R.gives.transfer_gives) (attached_at input.0 self.old) (transfer, payload) result (λ link. self.new ≡ put_at input.0 link self.old) }
     {
         inputs::ask_transfer(&mut self.inputs, input, transfer, payload)
+    }
+
+    /// Asks the relay under the input handle of a delivery, if one is attached there, about a disposition of the delivery, and
+    /// says whether it answered true.
+    pub(crate) fn ask_disposition(&mut self, said: &Disposition, delivery: &Delivery) -> bool
+        ensures { (asked : Option (DispositionQuestion R)) × AsksAt R.gives.disposition_gives said.now delivery.now asked self.old self.new × (result ≡ has_agreed asked) }
+    {
+        if !self.is_attached(delivery.input_handle) {
+            return false;
+        }
+        inputs::ask_disposition(&mut self.inputs, said, delivery)
     }
 }

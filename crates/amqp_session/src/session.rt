@@ -7,12 +7,15 @@ ghost use Rattle.amqp_session.specs.Session.{new_session};
 ghost use Rattle.amqp_session.specs.Step.{StopStep};
 
 mod begin_end;
+pub mod dispositions;
 pub(crate) mod held;
 mod incoming;
 mod links;
 mod outgoing;
 pub mod receiving;
+pub mod runs;
 pub(crate) mod transfers;
+mod walk;
 
 use self::receiving::Receiving;
 use self::transfers::Sending;

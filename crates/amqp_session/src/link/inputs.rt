@@ -5,14 +5,16 @@ ghost use Rattle.std.specs.FinMap as map;
 ghost use Rattle.indexmap.specs.IndexMap.{spare};
 ghost use Rattle.amqp_session.specs.Links.{inputs_of};
 ghost use Rattle.std.specs.Map.{lookup, set_value};
-ghost use Rattle.amqp_session.specs.Relay.{of_flow, of_transfer, Asked};
+ghost use Rattle.amqp_session.specs.Relay.{of_flow, of_transfer, of_disposition, Asked};
+ghost use Rattle.amqp_session.specs.Disposing.{question_of};
 
 use super::Attached;
+use crate::deliveries::Delivery;
 use crate::error::LinkRelayError;
 use crate::flow::LinkFlow;
 use crate::numbers::InputHandle;
 use crate::relay::LinkRelay;
-use amqp_types::{DeliveryNumber, DeliveryTag, Transfer};
+use amqp_types::{DeliveryNumber, DeliveryTag, Disposition, Transfer};
 use bytes::Bytes;
 use indexmap::IndexMap;
 
@@ -64,4 +66,19 @@ pub(super) fn ask_transfer<R: LinkRelay>(
 {
     let link = inputs.get_mut(&input.0).unwrap();
     link.relay.on_incoming_transfer(transfer, payload)
+}
+
+/// Asks the relay under the input handle of a delivery about a disposition of it.
+pub(super) fn ask_disposition<R: LinkRelay>(
+    inputs: &mut IndexMap<u32, Attached<R>>,
+    said: &Disposition,
+    delivery: &Delivery,
+) -> bool
+    requires { IsSome (lookup (nat_eq delivery.now.input_handle.0) inputs.old.entries) }
+    ensures { Asked (of_disposition R.gives.disposition_gives) (lookup (nat_eq delivery.now.input_handle.0) inputs.old.entries) (question_of said.now delivery.now) result (λ link. inputs.new.entries ≡ set_value (nat_eq delivery.now.input_handle.0) inputs.old.entries link) }
+{
+    let link = inputs.get_mut(&delivery.input_handle.0).unwrap();
+    let (role, settled, state) = (said.role, said.settled, said.state.as_ref());
+    link.relay
+        .on_incoming_disposition(role, settled, state, &delivery.tag)
 }

@@ -1,6 +1,7 @@
 //! The numbers of what the peer sends.
 
 ghost use Rattle.std.specs.Prelude.{◌≡◌};
+ghost use Rattle.amqp_session.specs.Disposing.{widened};
 ghost use Rattle.amqp_session.specs.Receiving.{nothing_received, numbered_anew, counted, reported};
 
 /// The numbers of the transfers that the peer sends (AMQP 1.0 part 2, section 2.5.6).
@@ -41,6 +42,13 @@ impl Receiving {
         self.next_incoming_id = self.next_incoming_id.wrapping_add(1);
         self.remote_outgoing_window = self.remote_outgoing_window.saturating_sub(1);
         self.unreported = self.unreported.saturating_add(1);
+    }
+
+    /// The remote outgoing window grows by these messages, up to 4294967295.
+    pub(crate) fn widen(&mut self, messages: u32)
+        ensures { self.new ≡ widened messages self.old }
+    {
+        self.remote_outgoing_window = self.remote_outgoing_window.saturating_add(messages);
     }
 
     /// A session flow goes out.

@@ -1,0 +1,221 @@
+//! Dispositions of a session's open deliveries (AMQP 1.0 part 2, sections 2.6.12 and 2.7.6).
+
+ghost use Rattle.std.specs.Prelude.{◌≡◌, ◌≤◌, ◌<◌, ◌+◌, ◌*◌, ◌^◌, ◌⊎◌, ℕ, List, [], Bool, true, false, Some, None, Result, if◌then◌else◌, length, map, OnOk, OnErr, IfOk, IsTrue, ◌↔◌};
+ghost use Rattle.std.specs.Option.{option_map};
+ghost use Rattle.std.specs.Result.{result_map_both};
+ghost use Rattle.amqp_session.specs.Deliveries.{nothing_read, with_role};
+ghost use Rattle.amqp_session.specs.Relay.{DispositionQuestion};
+ghost use Rattle.amqp_session.specs.Disposing.{span, is_forward, num_messages, meant, not_meant, agreed, AsksEach, AreRuns, Echoes, echo_of, rows_of, IsBounded, IsWalked, HasTerminal, TakeDispositionStep, SendDispositionStep};
+
+use super::Session;
+use super::runs::Run;
+use super::walk::ask_each;
+use crate::deliveries::{Deliveries, WalkCount};
+use crate::error::SessionInnerError;
+use crate::frame::{SessionFrame, SessionFrameBody};
+use crate::link::Links;
+use crate::relay::LinkRelay;
+use amqp_types::{Disposition, Raw, Role, is_terminal};
+use std::alloc::{AllocError, Global};
+
+/// How many messages a disposition over these delivery numbers settles: one where no last is named. The numbers are serial
+/// numbers, so a range may pass 4294967295; one over half of the circle or more is backward, and counts as one message.
+pub fn num_messages_settled_by_disposition(first: u32, last: Option<u32>) -> u32
+    ensures { result ≡ num_messages first last }
+{
+    match forward_span(first, last) {
+        Some(span) => span + 1,
+        None => 1,
+    }
+}
+
+/// How far the last number of a range is behind its first, where the range is forward.
+fn forward_span(first: u32, last: Option<u32>) -> Option<u32>
+    ensures { result ≡ if is_forward first last then Some (span first last) else None }
+{
+    let span = last.unwrap_or(first).wrapping_sub(first);
+    if span < 0x8000_0000 { Some(span) } else { None }
+}
+
+impl<R: LinkRelay> Session<R> {
+    /// Takes the peer's disposition of open deliveries: those that this side sent, where the peer is receiver, and else those
+    /// that it received. It means the open ones from `first` to `last`, or `first` alone where no last is named, in this order.
+    /// The numbers are serial numbers, so a range may pass 4294967295; one over half of the circle or more is backward, and means
+    /// none. The relay of each delivery's link is told, if one is attached.
+    ///
+    /// Settled, it takes the deliveries away: `None`, without memory and without an error. Unsettled, they stay open, and the
+    /// answer is one settled disposition for each run of numbers without gaps whose relays asked for it.
+    ///
+    /// `OutOfMemory` where an unsettled one over a forward range is refused memory: before any relay is asked, or after all were,
+    /// where a state cannot be shared. The deliveries stay open then.
+    pub fn on_incoming_disposition(
+        &mut self,
+        disposition: Disposition,
+    ) -> Result<Option<Vec<Disposition>>, SessionInnerError>
+        ensures step { (asked : List (DispositionQuestion R)) × TakeDispositionStep R.gives.disposition_gives self.old.view disposition asked (result_map_both (option_map (λ v. v.items)) (λ e. e) result) self.new.view }
+        ensures bound { IsBounded disposition (rows_of disposition self.old.view) result self.new.last_walk }
+    {
+        self.last_walk = WalkCount::new();
+        if forward_span(disposition.first, disposition.last).is_none() {
+            return Ok(self.nothing_meant(disposition.settled));
+        }
+        if disposition.settled {
+            self.settle(&disposition);
+            return Ok(None);
+        }
+        match self.ask(&disposition) {
+            Ok(echoes) => Ok(Some(echoes)),
+            Err(_) => Err(SessionInnerError::OutOfMemory),
+        }
+    }
+
+    /// The frame of a disposition. A terminal state opens the remote outgoing window again by the messages that the disposition
+    /// settles, up to 4294967295. Takes no memory.
+    pub fn on_outgoing_disposition(&mut self, disposition: Disposition) -> SessionFrame
+        ensures step { (terminal : Bool) × SendDispositionStep self.old.view disposition terminal result self.new.view }
+        ensures walk { self.new.last_walk ≡ self.old.last_walk }
+    {
+        if has_terminal(&disposition.state) {
+            self.receiving.widen(num_messages_settled_by_disposition(
+                disposition.first,
+                disposition.last,
+            ));
+        }
+        SessionFrame::new(
+            self.outgoing_channel.0,
+            SessionFrameBody::Disposition(disposition),
+        )
+    }
+
+    /// The answer to a disposition that means no delivery.
+    fn nothing_meant(&self, settled: bool) -> Option<Vec<Disposition>>
+        ensures { option_map (λ v. v.items) result ≡ (if settled then None else Some []) }
+    {
+        if settled {
+            return None;
+        }
+        Some(Vec::new(self.alloc))
+    }
+
+    /// Tells the relays of a settled disposition over a forward range, and takes the deliveries of its role away.
+    fn settle(&mut self, said: &Disposition)
+        requires settled { said.now.settled ≡ true }
+        requires forward { span said.now.first said.now.last < 2 ^ 31 }
+        requires unread { self.old.last_walk ≡ nothing_read }
+        ensures asked { (asked : List (DispositionQuestion R)) × AsksEach R.gives.disposition_gives said.now (meant said.now (rows_of said.now self.old.view)) asked self.old.view.links self.new.view.links }
+        ensures view { self.new.view ≡ record self.old.view { links = self.new.view.links; deliveries = with_role said.now.role (not_meant said.now (rows_of said.now self.old.view)) self.old.view.deliveries } }
+        ensures walk { IsWalked said.now (rows_of said.now self.old.view) true self.new.last_walk }
+    {
+        let (links, walk) = (&mut self.links, &mut self.last_walk);
+        match said.role {
+            Role::Receiver => settle(self.alloc, links, &mut self.sent, walk, said),
+            Role::Sender => settle(self.alloc, links, &mut self.received, walk, said),
+        }
+    }
+
+    /// Asks the relays of an unsettled disposition over a forward range about the deliveries of its role.
+    fn ask(&mut self, said: &Disposition) -> Result<Vec<Disposition>, AllocError>
+        requires settled { said.now.settled ≡ false }
+        requires forward { span said.now.first said.now.last < 2 ^ 31 }
+        requires unread { self.old.last_walk ≡ nothing_read }
+        ensures asked { IfOk result (λ echoes. (asked : List (DispositionQuestion R)) × AsksEach R.gives.disposition_gives said.now (meant said.now (rows_of said.now self.old.view)) asked self.old.view.links self.new.view.links × Echoes said.now (agreed asked) echoes.items) }
+        ensures refused { OnErr result ((self.new.view.links ≡ self.old.view.links) ⊎ ((asked : List (DispositionQuestion R)) × AsksEach R.gives.disposition_gives said.now (meant said.now (rows_of said.now self.old.view)) asked self.old.view.links self.new.view.links)) }
+        ensures view { self.new.view ≡ record self.old.view { links = self.new.view.links } }
+        ensures walk { (went : Bool) × (OnOk result (went ≡ true)) × IsWalked said.now (rows_of said.now self.old.view) went self.new.last_walk }
+    {
+        let (links, walk) = (&mut self.links, &mut self.last_walk);
+        match said.role {
+            Role::Receiver => ask(self.alloc, links, &self.sent, walk, said),
+            Role::Sender => ask(self.alloc, links, &self.received, walk, said),
+        }
+    }
+}
+
+/// Whether a state is terminal, if one is there.
+fn has_terminal(state: &Option<Raw>) -> bool
+    ensures { IsTrue result ↔ HasTerminal state.now }
+{
+    match state {
+        None => false,
+        Some(state) => is_terminal(state),
+    }
+}
+
+/// Tells the relays of a settled disposition over a forward range, and takes the deliveries that it means away.
+fn settle<R: LinkRelay>(
+    alloc: Global,
+    links: &mut Links<R>,
+    rows: &mut Deliveries,
+    walk: &mut WalkCount,
+    said: &Disposition,
+)
+    requires settled { said.now.settled ≡ true }
+    requires forward { span said.now.first said.now.last < 2 ^ 31 }
+    requires unread { walk.old ≡ nothing_read }
+    ensures rows { rows.new.rows ≡ not_meant said.now rows.old.rows }
+    ensures asked { (asked : List (DispositionQuestion R)) × AsksEach R.gives.disposition_gives said.now (meant said.now rows.old.rows) asked links.old links.new }
+    ensures walk { IsWalked said.now rows.old.rows true walk.new }
+{
+    let mut runs = Vec::new(alloc);
+    let from = rows.place_of(said.first, walk);
+    let count = ask_each(links, rows, walk, said, from, &mut runs);
+    rows.remove(from, count);
+}
+
+/// Asks the relays of an unsettled disposition over a forward range, and gives the echoes. Room for them is taken before.
+fn ask<R: LinkRelay>(
+    alloc: Global,
+    links: &mut Links<R>,
+    rows: &Deliveries,
+    walk: &mut WalkCount,
+    said: &Disposition,
+) -> Result<Vec<Disposition>, AllocError>
+    requires settled { said.now.settled ≡ false }
+    requires forward { span said.now.first said.now.last < 2 ^ 31 }
+    requires unread { walk.old ≡ nothing_read }
+    ensures asked { IfOk result (λ echoes. (asked : List (DispositionQuestion R)) × AsksEach R.gives.disposition_gives said.now (meant said.now rows.now.rows) asked links.old links.new × Echoes said.now (agreed asked) echoes.items) }
+    ensures refused { OnErr result ((links.new ≡ links.old) ⊎ ((asked : List (DispositionQuestion R)) × AsksEach R.gives.disposition_gives said.now (meant said.now rows.now.rows) asked links.old links.new)) }
+    ensures walk { (went : Bool) × (OnOk result (went ≡ true)) × IsWalked said.now rows.now.rows went walk.new }
+{
+    let span = said.last.unwrap_or(said.first).wrapping_sub(said.first);
+    let most = rows.len().min(span as usize + 1);
+    let mut runs = Vec::with_capacity(alloc, most)?;
+    let echoes = Vec::with_capacity(alloc, most)?;
+    let from = rows.place_of(said.first, walk);
+    ask_each(links, rows, walk, said, from, &mut runs);
+    echo_all(&runs, &said.state, echoes)
+}
+
+/// The echoes of these runs, each with the state. Their room is there, unless it is refused.
+fn echo_all(
+    runs: &[Run],
+    state: &Option<Raw>,
+    room: Vec<Disposition>,
+) -> Result<Vec<Disposition>, AllocError>
+    requires { room.items ≡ [] }
+    ensures { IfOk result (λ echoes. echoes.items ≡ map (echo_of state.now) runs.now) }
+{
+    let mut echoes = room;
+    for i in 0..runs.len() {
+        let run = runs[i];
+        echoes.push(Disposition {
+            role: Role::Sender,
+            first: run.first,
+            last: Some(run.last),
+            settled: true,
+            state: cut_of(state)?,
+            batchable: false,
+        })?;
+    }
+    Ok(echoes)
+}
+
+/// Another cut of the same state: its bytes are shared.
+fn cut_of(state: &Option<Raw>) -> Result<Option<Raw>, AllocError>
+    ensures { IfOk result (λ s. s ≡ state.now) }
+{
+    match state {
+        None => Ok(None),
+        Some(state) => Ok(Some(state.clone()?)),
+    }
+}
