@@ -1,15 +1,11 @@
 //! Laws of values and performatives: a walk over parts gives them all, and what was written is read. A law answers
 //! nothing: its contract holds of every value that it is called with.
 
-ghost use Rattle.std.specs.Prelude.{◌≡◌, ◌<◌, ◌^◌, ◌++◌, ℕ, List, Result, Option, length};
-ghost use Rattle.amqp_values.specs.declared.error.ReadError.{ReadError};
-ghost use Rattle.amqp_values.specs.Reading.{Answers, ReadsFront};
-ghost use Rattle.amqp_types.specs.declared.performatives.Performative.{Performative};
 ghost use Rattle.amqp_types.specs.declared.performatives.Performative.TheVariants as performative;
 ghost use Rattle.amqp_types.specs.Items.{WalksGiveItems};
 ghost use Rattle.amqp_types.specs.Kinds.{KindsAreRead};
-ghost use Rattle.amqp_types.specs.Performatives.{IsPerformative, ListsAreRead, performative_text};
-ghost use Rattle.amqp_types.specs.Spelled.{CutIsSpelled, IsSpelledIfShort, TextsAreSpelled};
+ghost use Rattle.amqp_types.specs.Performatives.{ListsAreRead};
+ghost use Rattle.amqp_types.specs.Spelled.{CutIsSpelled, IsReadBack, IsSpelledIfShort, TextsAreSpelled};
 
 use crate::known;
 use crate::performatives::{
@@ -36,9 +32,9 @@ pub fn lists_are_read()
 /// whatever follows it, reading it gives the performative back and leaves what follows. Of a transfer, each text of the
 /// transfers that it is cut into is one of theirs.
 pub fn text_is_read(performative: &Performative)
-    ensures spelled { length (performative_text performative.now) < 2 ^ 32 → IsPerformative performative.now (performative_text performative.now) }
+    ensures spelled { IsSpelledIfShort performative.now }
     ensures cut { CutIsSpelled performative.now }
-    ensures read { length (performative_text performative.now) < 2 ^ 32 → (bytes rest : List ℕ) (r : Result (Performative × List ℕ) ReadError) → bytes ≡ performative_text performative.now ++ rest → ReadsFront IsPerformative bytes r → Answers {Y = Performative × List ℕ} (λ x. x) r (Some (performative.now, rest)) }
+    ensures read { IsReadBack performative.now }
 {
     known::performative(performative);
 }

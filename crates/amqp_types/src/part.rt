@@ -7,7 +7,7 @@ ghost use Rattle.amqp_types.specs.Part.{part_text};
 
 use crate::error::Error;
 use amqp_values::writing::{described_len, put_described};
-use amqp_values::{Encode, Leaf};
+use amqp_values::{Encode, Leaf, codes};
 use bytes::BytesMut;
 
 /// A leaf, or an error, lent for writing.
@@ -51,7 +51,7 @@ impl Encode for Part<'_> {
     fn put(&self, out: &mut BytesMut) {
         match self {
             Part::Leaf(leaf) => leaf.put(out),
-            Part::Error(error) => put_described(0x1d, &error.parts(), out),
+            Part::Error(error) => put_described(codes::ERROR, &error.parts(), out),
         }
     }
 }

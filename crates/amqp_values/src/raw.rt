@@ -4,6 +4,7 @@ ghost use Rattle.std.specs.Prelude.{◌≡◌};
 ghost use Rattle.amqp_values.specs.Reading.{Answers, Gives, ReadsFront};
 ghost use Rattle.amqp_values.specs.Raw.{IsRaw, SpellsRaw, raw_at};
 
+use crate::codes;
 use crate::error::ReadError;
 use crate::value::ValueRef;
 use crate::walk::{first, value_rest};
@@ -80,7 +81,7 @@ impl Raw {
         let Some((code, _)) = first(whole) else {
             return Err(ReadError::Malformed);
         };
-        if code == 0x40 {
+        if code == codes::NULL {
             return Err(ReadError::Malformed);
         }
         let len = whole.len() - rest.len();

@@ -11,7 +11,7 @@ ghost use Rattle.amqp_types.specs.Performatives.{performative_text};
 use crate::definitions::{Handle, ReceiverSettleMode, Role, SenderSettleMode};
 use crate::leaf;
 use amqp_values::writing::{described_len, put_described};
-use amqp_values::{Composite, Fields, Leaf, Parts, Raw, ReadError, Symbol};
+use amqp_values::{Composite, Fields, Leaf, Parts, Raw, ReadError, Symbol, codes};
 use bytes::BytesMut;
 use std::alloc::Global;
 use std::marker::Model;
@@ -216,6 +216,6 @@ impl Attach {
         ensures items { out.new.items ≡ out.old.items ++ performative_text (performative.Attach self.now) }
         ensures spare { out.new.spare + length (performative_text (performative.Attach self.now)) ≡ out.old.spare }
     {
-        put_described(0x12, &self.parts(), out)
+        put_described(codes::ATTACH, &self.parts(), out)
     }
 }

@@ -10,7 +10,7 @@ ghost use Rattle.amqp_types.specs.Performatives.{performative_text};
 use crate::definitions::Handle;
 use crate::leaf;
 use amqp_values::writing::{described_len, put_described};
-use amqp_values::{Composite, Fields, Leaf, Parts, ReadError, Symbol};
+use amqp_values::{Composite, Fields, Leaf, Parts, ReadError, Symbol, codes};
 use bytes::BytesMut;
 use std::alloc::Global;
 use std::marker::Model;
@@ -133,6 +133,6 @@ impl Begin {
         ensures items { out.new.items ≡ out.old.items ++ performative_text (performative.Begin self.now) }
         ensures spare { out.new.spare + length (performative_text (performative.Begin self.now)) ≡ out.old.spare }
     {
-        put_described(0x11, &self.parts(), out)
+        put_described(codes::BEGIN, &self.parts(), out)
     }
 }

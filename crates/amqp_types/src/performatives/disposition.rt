@@ -10,7 +10,7 @@ ghost use Rattle.amqp_types.specs.Performatives.{performative_text};
 use crate::definitions::Role;
 use crate::leaf;
 use amqp_values::writing::{described_len, put_described};
-use amqp_values::{Composite, Leaf, Parts, Raw, ReadError};
+use amqp_values::{Composite, Leaf, Parts, Raw, ReadError, codes};
 use bytes::BytesMut;
 use std::alloc::Global;
 use std::marker::Model;
@@ -118,6 +118,6 @@ impl Disposition {
         ensures items { out.new.items ≡ out.old.items ++ performative_text (performative.Disposition self.now) }
         ensures spare { out.new.spare + length (performative_text (performative.Disposition self.now)) ≡ out.old.spare }
     {
-        put_described(0x15, &self.parts(), out)
+        put_described(codes::DISPOSITION, &self.parts(), out)
     }
 }

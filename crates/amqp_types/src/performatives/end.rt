@@ -10,7 +10,7 @@ ghost use Rattle.amqp_types.specs.Performatives.{performative_text};
 use crate::error::Error;
 use crate::part::Part;
 use amqp_values::writing::{described_len, put_described};
-use amqp_values::{Composite, Parts, ReadError};
+use amqp_values::{Composite, Parts, ReadError, codes};
 use bytes::BytesMut;
 use std::alloc::Global;
 use std::marker::Model;
@@ -79,6 +79,6 @@ impl End {
         ensures items { out.new.items ≡ out.old.items ++ performative_text (performative.End self.now) }
         ensures spare { out.new.spare + length (performative_text (performative.End self.now)) ≡ out.old.spare }
     {
-        put_described(0x17, &self.parts(), out)
+        put_described(codes::END, &self.parts(), out)
     }
 }
