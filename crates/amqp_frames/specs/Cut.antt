@@ -31,7 +31,7 @@ last_text t = transfer_text (said_in text.Last t)
 
 -- ---- a transfer alone is cut
 
--- this holds of the transfer and its payload; of any other body, nothing does
+-- P holds of the transfer and its payload; for any other body this is never so
 abbrev pub OnTransfer : (TransferSaid → List ℕ → Type 0) → FrameBody → Type 0
 OnTransfer P (Transfer t payload) = P t payload
 OnTransfer P body = ⊥

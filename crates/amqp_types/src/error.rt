@@ -83,7 +83,7 @@ impl Field for Error {
 }
 
 impl Error {
-    /// The fields, lent for writing.
+    /// The fields, borrowed for writing.
     #[tactic(auto, unfolding(crate::specs::Error::error_fields))]
     pub(crate) fn parts(&self) -> [Leaf<'_>; 3]
         ensures { map leaf_text result ≡ error_fields self.now }

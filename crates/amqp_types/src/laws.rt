@@ -28,9 +28,9 @@ pub fn lists_are_read()
     ensures { ListsAreRead }
 {}
 
-/// The text that [`Performative::write`] appends is a text of that performative, if it has at most 4294967295 bytes. So
-/// whatever follows it, reading it gives the performative back and leaves what follows. Of a transfer, each text of the
-/// transfers that it is cut into is one of theirs.
+/// The text that [`Performative::write`] appends spells that performative, if it has at most 4294967295 bytes. Reading it
+/// gives the performative back, and leaves what follows it. The text of each transfer that a transfer is cut into spells
+/// that one.
 pub fn text_is_read(performative: &Performative)
     ensures spelled { IsSpelledIfShort performative.now }
     ensures cut { CutIsSpelled performative.now }
@@ -103,7 +103,8 @@ pub fn close_is_spelled(p: &Close)
     known::close(p);
 }
 
-/// So do the canonical texts of a Transfer, and of each transfer that it is cut into.
+/// The canonical text of a Transfer spells it, and so does that of each transfer that it is cut into, if it has at most
+/// 4294967295 bytes.
 pub fn transfer_is_spelled(p: &Transfer)
     ensures { TextsAreSpelled p.now }
 {

@@ -1,4 +1,4 @@
-//! Parts of a list that may be composites themselves: the error of an End, a Close or a Detach.
+//! Parts of a list, written: a field that is no composite, or the error of an End, a Close or a Detach.
 
 ghost use Rattle.std.specs.Prelude.{◌≡◌, ◌^◌, ◌+◌, ◌*◌};
 ghost use Rattle.amqp_values.specs.Writing.{optional_text};
@@ -10,7 +10,7 @@ use amqp_values::writing::{described_len, put_described};
 use amqp_values::{Encode, Leaf, codes};
 use bytes::BytesMut;
 
-/// A leaf, or an error, lent for writing.
+/// A leaf, or an error, borrowed for writing.
 #[derive(Drop)]
 pub(crate) enum Part<'a> {
     Leaf(Leaf<'a>),

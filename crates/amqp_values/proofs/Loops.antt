@@ -1,4 +1,4 @@
--- One more part.
+-- Writing the parts of a list: one more part.
 use Rattle.std.proofs.Common.{◌≡◌, ℕ, zero, suc, ◌+◌, ◌<◌, ◌≤◌, Bool, true, false, cond, eqb, List, [], ◌∷◌, ◌++◌, length, get_or, take, drop, map, refl, sym, ap, ◌∙◌, arith}
 use Rattle.amqp_values.specs.Slots.{is_null}
 use Rattle.amqp_values.specs.Reading.{joined}

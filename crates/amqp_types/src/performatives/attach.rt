@@ -23,7 +23,7 @@ pub struct Attach {
     pub name: String,
     /// The handle of the link. Mandatory.
     pub handle: Handle,
-    /// Which end the sender of the frame is. Mandatory.
+    /// The end of the link on which the sender of the frame stands. Mandatory.
     pub role: Role,
     /// How the sending end settles. Default: mixed.
     pub snd_settle_mode: SenderSettleMode,
@@ -35,11 +35,11 @@ pub struct Attach {
     pub target: Option<Raw>,
     /// The deliveries that are not settled.
     pub unsettled: Option<Fields>,
-    /// Whether more deliveries are unsettled than are named. Default: false.
+    /// Whether there are more unsettled deliveries than the map names. Default: false.
     pub incomplete_unsettled: bool,
     /// Where the delivery count begins.
     pub initial_delivery_count: Option<u32>,
-    /// The largest message, in bytes.
+    /// The largest message that the sender of the frame takes, in bytes.
     pub max_message_size: Option<u64>,
     /// What the sender of the frame can do.
     pub offered_capabilities: Option<Vec<Symbol>>,
@@ -178,7 +178,7 @@ fn take_rest(alloc: Global, parts: &mut Parts) -> Result<Rest, ReadError>
 }
 
 impl Attach {
-    /// The fields, lent for writing.
+    /// The fields, borrowed for writing.
     #[tactic(auto, unfolding(crate::specs::Attach::attach_fields))]
     pub(crate) fn parts(&self) -> [Leaf<'_>; 14]
         ensures { map leaf_text result ≡ attach_fields self.now }

@@ -22,9 +22,9 @@ pub struct Begin {
     pub remote_channel: Option<u16>,
     /// The number of the next transfer. Mandatory.
     pub next_outgoing_id: u32,
-    /// How many transfers may come. Mandatory.
+    /// How many transfers the sender of the frame can take. Mandatory.
     pub incoming_window: u32,
-    /// How many transfers may go. Mandatory.
+    /// How many transfers the sender of the frame can send. Mandatory.
     pub outgoing_window: u32,
     /// The highest handle that may be used. Default: 4294967295.
     pub handle_max: Handle,
@@ -101,7 +101,7 @@ impl Composite for Begin {
 }
 
 impl Begin {
-    /// The fields, lent for writing.
+    /// The fields, borrowed for writing.
     #[tactic(auto, unfolding(crate::specs::Begin::begin_fields))]
     pub(crate) fn parts(&self) -> [Leaf<'_>; 8]
         ensures { map leaf_text result ≡ begin_fields self.now }

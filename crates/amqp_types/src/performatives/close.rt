@@ -18,7 +18,7 @@ use std::marker::Model;
 /// A connection closes (AMQP 1.0 part 2, section 2.7.9).
 #[derive(Clone, Debug, Drop)]
 pub struct Close {
-    /// Why.
+    /// The error that is the reason, if any.
     pub error: Option<Error>,
 }
 
@@ -56,7 +56,7 @@ impl Composite for Close {
 }
 
 impl Close {
-    /// The fields, lent for writing.
+    /// The fields, borrowed for writing.
     #[tactic(auto, unfolding(crate::specs::Close::close_fields))]
     pub(crate) fn parts(&self) -> [Part<'_>; 1]
         ensures { map part_text result ≡ close_fields self.now }

@@ -24,7 +24,7 @@ pub struct Detach {
     pub handle: Handle,
     /// Whether the link is closed for good. Default: false.
     pub closed: bool,
-    /// Why.
+    /// The error that is the reason, if any.
     pub error: Option<Error>,
 }
 
@@ -70,7 +70,7 @@ impl Composite for Detach {
 }
 
 impl Detach {
-    /// The fields, lent for writing.
+    /// The fields, borrowed for writing.
     #[tactic(auto, unfolding(crate::specs::Detach::detach_fields))]
     pub(crate) fn parts(&self) -> [Part<'_>; 3]
         ensures { map part_text result ≡ detach_fields self.now }

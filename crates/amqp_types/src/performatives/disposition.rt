@@ -18,17 +18,17 @@ use std::marker::Model;
 /// The state of deliveries, and whether they are settled (AMQP 1.0 part 2, section 2.7.6).
 #[derive(Clone, Debug, Drop)]
 pub struct Disposition {
-    /// Which end the sender of the frame is. Mandatory.
+    /// The end of the link on which the sender of the frame stands. Mandatory.
     pub role: Role,
     /// The first delivery that is meant. Mandatory.
     pub first: u32,
-    /// The last one; where it is not set, the first.
+    /// The last delivery that is meant. None: the first alone.
     pub last: Option<u32>,
     /// Whether the deliveries are settled. Default: false.
     pub settled: bool,
     /// The state of the deliveries.
     pub state: Option<Raw>,
-    /// Whether an answer may wait. Default: false.
+    /// Whether the peer may delay its answer. Default: false.
     pub batchable: bool,
 }
 
@@ -88,7 +88,7 @@ impl Composite for Disposition {
 }
 
 impl Disposition {
-    /// The fields, lent for writing.
+    /// The fields, borrowed for writing.
     #[tactic(auto, unfolding(crate::specs::Disposition::disposition_fields))]
     pub(crate) fn parts(&self) -> [Leaf<'_>; 6]
         ensures { map leaf_text result ≡ disposition_fields self.now }

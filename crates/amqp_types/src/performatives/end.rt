@@ -18,7 +18,7 @@ use std::marker::Model;
 /// A session ends (AMQP 1.0 part 2, section 2.7.8).
 #[derive(Clone, Debug, Drop)]
 pub struct End {
-    /// Why.
+    /// The error that is the reason, if any.
     pub error: Option<Error>,
 }
 
@@ -56,7 +56,7 @@ impl Composite for End {
 }
 
 impl End {
-    /// The fields, lent for writing.
+    /// The fields, borrowed for writing.
     #[tactic(auto, unfolding(crate::specs::End::end_fields))]
     pub(crate) fn parts(&self) -> [Part<'_>; 1]
         ensures { map part_text result ≡ end_fields self.now }

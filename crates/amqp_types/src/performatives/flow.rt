@@ -134,7 +134,7 @@ impl Composite for Flow {
 }
 
 impl Flow {
-    /// The fields, lent for writing.
+    /// The fields, borrowed for writing.
     #[tactic(auto, unfolding(crate::specs::Flow::flow_fields))]
     pub(crate) fn parts(&self) -> [Leaf<'_>; 11]
         ensures { map leaf_text result ≡ flow_fields self.now }

@@ -147,7 +147,7 @@ impl Composite for Open {
 }
 
 impl Open {
-    /// The fields, lent for writing.
+    /// The fields, borrowed for writing.
     #[tactic(auto, unfolding(crate::specs::Open::open_fields))]
     pub(crate) fn parts(&self) -> [Leaf<'_>; 10]
         ensures { map leaf_text result ≡ open_fields self.now }

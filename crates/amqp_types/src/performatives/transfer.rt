@@ -39,7 +39,7 @@ pub struct Transfer {
     pub resume: bool,
     /// Whether the delivery is aborted. Default: false.
     pub aborted: bool,
-    /// Whether an answer may wait. Default: false.
+    /// Whether the peer may delay its answer. Default: false.
     pub batchable: bool,
 }
 
@@ -149,7 +149,7 @@ impl Composite for Transfer {
 }
 
 impl Transfer {
-    /// The fields, lent for writing.
+    /// The fields, borrowed for writing.
     pub(crate) fn parts(&self) -> [Leaf<'_>; 11]
         ensures { map leaf_text result ≡ transfer_fields self.now }
     {
