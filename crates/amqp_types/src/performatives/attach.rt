@@ -3,6 +3,7 @@
 ghost use Rattle.std.specs.Prelude.{◌≡◌, ◌<◌, ◌≤◌, ◌+◌, ◌^◌, ◌++◌, length, map, List, ℕ, Option};
 ghost use Rattle.std.specs.Option.{option_map};
 ghost use Rattle.amqp_values.specs.Reading.{Gives};
+ghost use Rattle.amqp_values.specs.Slots.{beside};
 ghost use Rattle.amqp_values.specs.Writing.{leaf_text};
 ghost use Rattle.amqp_types.specs.Attach.{attach_rest_at, attach_body_at, attach_fields, attach_first_same, attach_last_same};
 ghost use Rattle.amqp_types.specs.declared.performatives.Performative.TheVariants as performative;
@@ -161,7 +162,10 @@ struct Rest {
 
 #[tactic(auto, unfolding(crate::specs::Attach::attach_rest_at))]
 fn take_rest(alloc: Global, parts: &mut Parts) -> Result<Rest, ReadError>
-    ensures { Gives (λ r. (r.initial_delivery_count, (r.max_message_size, (option_map (λ v. v.items) r.offered_capabilities, (option_map (λ v. v.items) r.desired_capabilities, (r.properties, tt)))))) result parts.new (attach_rest_at parts.old) }
+    ensures { let symbols = option_map (λ v. v.items) in
+        Gives (λ r. beside r.initial_delivery_count (beside r.max_message_size
+        (beside (symbols r.offered_capabilities) (beside (symbols r.desired_capabilities) (beside r.properties tt)))))
+        result parts.new (attach_rest_at parts.old) }
 {
     let initial_delivery_count = parts.next(alloc)?;
     let max_message_size = parts.next(alloc)?;
