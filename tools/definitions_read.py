@@ -106,10 +106,10 @@ def contract():
     file, function = START
     lines = file.read_text(encoding="utf8").splitlines()
     names, _ = imports(lines)
-    at = next(i for i, line in enumerate(lines) if f"fn {function}(" in line)
+    at = next(i for i, line in enumerate(lines) if re.search(rf"\bfn {function}\b", line))
     end = next(i for i in range(at, len(lines)) if lines[i].strip() == "{")
-    clauses = [line for line in lines[at:end] if re.match(r"\s+(ensures|requires)\b", line)]
-    words = {word for line in clauses for word in WORD.findall(line)}
+    first = next(i for i in range(at, end) if re.match(r"\s+(ensures|requires)\b", lines[i]))
+    words = {word for line in lines[first:end] for word in WORD.findall(line)}
     return [(*names[word], word) for word in sorted(words) if word in names]
 
 
