@@ -1,4 +1,4 @@
--- Pieces: one more at a time, and all together.
+-- Cutting a payload: one more piece, and all of them.
 use Rattle.std.proofs.Common.{◌≡◌, ℕ, suc, ◌+◌, ◌-◌, ◌*◌, ◌/◌, ◌<◌, ◌≤◌, List, [], ◌∷◌, ◌++◌, length, take, drop, map, sym, ap, subst, ◌∙◌, arith, append_assoc}
 use Rattle.std.specs.Prelude.{Result, Ok, cond}
 use Rattle.std.specs.Result.{is_ok}

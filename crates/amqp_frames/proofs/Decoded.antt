@@ -1,4 +1,4 @@
--- One body stands behind a header, and one frame in bytes.
+-- No more than one body stands behind a header, and no more than one frame in bytes.
 use Rattle.std.proofs.Common.{◌≡◌, ℕ, ◌≤◌, List, [], ◌∷◌, ◌++◌, length, get_or, take, drop, refl, sym, ap, subst, ◌∙◌, arith}
 use Rattle.std.proofs.lemmas.List.{take_at, drop_at}
 use Rattle.std.specs.Prelude.{Result, Ok, Err}

@@ -1,4 +1,4 @@
--- A head and the fields behind it are a frame, and a frame is a head and the fields behind it.
+-- A frame is exactly a head and the fields behind it.
 use Rattle.std.proofs.Common.{◌≡◌, ℕ, ◌<◌, ◌≤◌, List, [], ◌∷◌, ◌++◌, length, drop, Option, Some, None, refl, sym, ap, subst, ◌∙◌, arith, inl, inr, append_assoc}
 use Rattle.std.specs.Prelude.{Result, Ok, Err}
 use Rattle.amqp_values.specs.declared.parts.Parts.{Parts}

@@ -46,15 +46,7 @@ cut_within channel m t payload pieces c =
 
 cut_body_within : (channel m : ℕ) (body : FrameBody) (pieces : List PieceParts) → IsCutBody channel body m pieces → All (Within m) pieces
 cut_body_within channel m (Transfer t payload) pieces c = cut_within channel m t payload pieces c
-cut_body_within channel m (Attach p) pieces c = absurd c
-cut_body_within channel m (Flow p) pieces c = absurd c
-cut_body_within channel m (Disposition p) pieces c = absurd c
-cut_body_within channel m (Detach p) pieces c = absurd c
-cut_body_within channel m (Begin p) pieces c = absurd c
-cut_body_within channel m (End p) pieces c = absurd c
-cut_body_within channel m (Open p) pieces c = absurd c
-cut_body_within channel m (Close p) pieces c = absurd c
-cut_body_within channel m Empty pieces c = absurd c
+cut_body_within channel m body pieces c = absurd c
 
 pub keeps_limit : KeepsLimit
 keeps_limit f m pieces four (inl w) = All-same (Within m) pieces (w.1.0 ∷ []) w.1.1 (All-cons (Within m) w.1.0 [] (whole_within f.channel m f.body w.1.0 four w.0 w.1.2.0 w.1.2.1) (All-nil (Within m)))
@@ -64,15 +56,7 @@ keeps_limit f m pieces four (inr c) = cut_body_within f.channel m f.body pieces 
 
 cut_body_joined : (channel m : ℕ) (body : FrameBody) (pieces : List PieceParts) → IsCutBody channel body m pieces → joined (map payload_part pieces) ≡ payload_of body
 cut_body_joined channel m (Transfer t payload) pieces c = c.parts
-cut_body_joined channel m (Attach p) pieces c = absurd c
-cut_body_joined channel m (Flow p) pieces c = absurd c
-cut_body_joined channel m (Disposition p) pieces c = absurd c
-cut_body_joined channel m (Detach p) pieces c = absurd c
-cut_body_joined channel m (Begin p) pieces c = absurd c
-cut_body_joined channel m (End p) pieces c = absurd c
-cut_body_joined channel m (Open p) pieces c = absurd c
-cut_body_joined channel m (Close p) pieces c = absurd c
-cut_body_joined channel m Empty pieces c = absurd c
+cut_body_joined channel m body pieces c = absurd c
 
 pub carries_payload : CarriesPayload
 carries_payload f m pieces (inl w) = ap (λ (x : List PieceParts). joined (map payload_part x)) w.1.1 ∙ append-nil w.1.0.payload ∙ w.1.2.1

@@ -8,8 +8,7 @@ use Rattle.amqp_types.specs.Transfer.{TransferSaid, said_in}
 use Rattle.amqp_types.specs.Performatives.{performative_text}
 use Rattle.amqp_frames.specs.declared.frame.Frame.{Frame}
 use Rattle.amqp_frames.specs.declared.frame.FrameBody.{FrameBody}
-use Rattle.amqp_frames.specs.declared.frame.FrameBody.TheVariants.{Attach, Flow, Transfer, Disposition, Detach, Begin}
-use Rattle.amqp_frames.specs.declared.frame.FrameBody.TheVariants.{End, Open, Close, Empty}
+use Rattle.amqp_frames.specs.declared.frame.FrameBody.TheVariants.{Transfer}
 use Rattle.amqp_frames.specs.declared.error.Error.{Error}
 use Rattle.amqp_frames.specs.declared.error.Error.TheVariants as no
 use Rattle.amqp_frames.specs.Frame.{header_text, text_of, payload_of}
@@ -32,18 +31,10 @@ last_text t = transfer_text (said_in text.Last t)
 
 -- ---- a transfer alone is cut
 
--- this holds of the transfer and its payload; of any other body, nothing does
+-- P holds of the transfer and its payload; for any other body this is never so
 abbrev pub OnTransfer : (TransferSaid → List ℕ → Type 0) → FrameBody → Type 0
 OnTransfer P (Transfer t payload) = P t payload
-OnTransfer P (Attach p) = ⊥
-OnTransfer P (Flow p) = ⊥
-OnTransfer P (Disposition p) = ⊥
-OnTransfer P (Detach p) = ⊥
-OnTransfer P (Begin p) = ⊥
-OnTransfer P (End p) = ⊥
-OnTransfer P (Open p) = ⊥
-OnTransfer P (Close p) = ⊥
-OnTransfer P Empty = ⊥
+OnTransfer P body = ⊥
 
 -- ---- which frames fit
 

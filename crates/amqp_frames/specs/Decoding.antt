@@ -1,4 +1,4 @@
--- What the parts of decoding answer.
+-- What the steps of decoding answer: the header, then the descriptor.
 use Rattle.std.specs.Prelude.{◌≡◌, ◌<◌, ◌≤◌, ℕ, List, [], ◌∷◌, ◌++◌, length, drop, Option, Some, None, Result, Ok, Err}
 use Rattle.std.specs.Int.{w16, from_be_bytes}
 use Rattle.amqp_types.specs.declared.performatives.kind.Kind.{Kind}
@@ -7,7 +7,7 @@ use Rattle.amqp_frames.specs.declared.error.Error.{Error}
 use Rattle.amqp_frames.specs.declared.error.Error.TheVariants as no
 use Rattle.amqp_frames.specs.Frame.{HasHeader}
 
--- a header stands before the body, and tells this channel
+-- the bytes begin with a header that names this channel
 pub record IsHeader (bytes : List ℕ) (n : ℕ) : Type 0 where
   pub channel : List ℕ
   pub two : length channel ≡ 2

@@ -82,12 +82,4 @@ text_of Empty = []
 
 abbrev pub payload_of : FrameBody → List ℕ
 payload_of (Transfer p payload) = payload
-payload_of (Attach p) = []
-payload_of (Flow p) = []
-payload_of (Disposition p) = []
-payload_of (Detach p) = []
-payload_of (Begin p) = []
-payload_of (End p) = []
-payload_of (Open p) = []
-payload_of (Close p) = []
-payload_of Empty = []
+payload_of body = []

@@ -1,4 +1,4 @@
--- What a fault of reading is for a frame.
+-- How an error of reading is told of a frame.
 use Rattle.amqp_values.specs.declared.error.ReadError.{ReadError}
 use Rattle.amqp_values.specs.declared.error.ReadError.TheVariants as read
 use Rattle.amqp_frames.specs.declared.error.Error.{Error}

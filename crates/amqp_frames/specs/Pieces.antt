@@ -1,4 +1,4 @@
--- What the parts of encoding make.
+-- What the steps of cutting make.
 use Rattle.std.specs.Prelude.{◌≡◌, ◌≤◌, ◌+◌, ℕ, List, [], ◌∷◌, ◌++◌, length, map, All, Result, Ok, Err}
 use Rattle.amqp_values.specs.Reading.{joined}
 use Rattle.amqp_types.specs.Transfer.{TransferSaid}

@@ -92,7 +92,8 @@ fn put_middle(
     requires room { vec_len pieces.old + count < vec_capacity pieces.old }
     requires long { step * count ≤ length rest.old }
     requires fits { length (middle_text transfer.now) + step + 4 < 2 ^ 32 }
-    ensures added { OnOk result (Adds (header_text channel ++ middle_text transfer.now) step pieces.old.items pieces.new.items rest.old rest.new (step * count)) }
+    ensures added { let head = header_text channel ++ middle_text transfer.now in
+        OnOk result (Adds head step pieces.old.items pieces.new.items rest.old rest.new (step * count)) }
     ensures room_left { OnOk result (vec_len pieces.new < vec_capacity pieces.new) }
 {
     if count == 0 {

@@ -23,7 +23,7 @@ pub struct FrameDecoder;
 pub struct FrameHead {
     /// The channel.
     pub channel: u16,
-    /// Which performative the fields are of. None where the frame has no body.
+    /// The performative that the fields belong to. None where the frame has no body.
     pub kind: Option<Kind>,
 }
 
@@ -33,11 +33,11 @@ impl FrameDecoder {
         FrameDecoder
     }
 
-    /// Reads a frame's header and descriptor from these bytes, which are one frame without its four-byte size. The fields,
-    /// and what is behind them, are left. A caller that reads the fields of this kind has decoded the frame.
+    /// Reads a frame's header and descriptor from these bytes, which are one frame without its four-byte size. It leaves the
+    /// fields and what is behind them; who then reads the fields of this kind has decoded the frame.
     ///
     /// The errors are those of [`FrameDecoder::decode`]: `DecodeError` for fewer than four bytes, and where no performative
-    /// is named; `NotImplemented` for another frame type or an extended header. The bytes are then of no more use.
+    /// is named; `NotImplemented` for another frame type or an extended header. After an error the bytes are of no use.
     pub fn head(&self, bytes: &mut Bytes) -> Result<FrameHead, Error>
         ensures { Opens bytes.old bytes.new result }
     {

@@ -34,23 +34,21 @@ impl Model for FrameEncoder {
 }
 
 impl FrameEncoder {
-    /// An encoder whose pieces have at most `max_frame_size` bytes, from 4 on: the peer's max-frame-size less the four
-    /// bytes of a frame's size.
-    pub fn new(max_frame_size: u32) -> FrameEncoder
-        requires { 4 ≤ max_frame_size }
-        ensures { result ≡ max_frame_size }
+    /// An encoder whose pieces have at most `max_piece_len` bytes, 4 or more: the peer's max-frame-size less the four bytes of
+    /// a frame's size.
+    pub fn new(max_piece_len: u32) -> FrameEncoder
+        requires { 4 ≤ max_piece_len }
+        ensures { result ≡ max_piece_len }
     {
-        FrameEncoder {
-            max_piece_len: max_frame_size,
-        }
+        FrameEncoder { max_piece_len }
     }
 
     /// The pieces of the frame, in the order in which they are to be sent.
     ///
     /// A frame that fits is one piece. A transfer that does not fit is cut: each piece but the last is full, and only the
     /// first one says what concerns the whole delivery (AMQP 1.0 part 2, section 2.6.14). `TooLarge` exactly where no
-    /// cut fits, or another performative is too long; `OutOfMemory` where memory is refused. Payload parts are cuts of the
-    /// payload: none is copied.
+    /// cut fits, or another performative is too long; `OutOfMemory` where memory is refused. The parts share the bytes of the
+    /// payload; none is copied.
     ///
     /// The pieces are read back. [`FrameDecoder`](crate::FrameDecoder) decodes the one piece of a frame as that frame. It
     /// decodes the pieces of a transfer that was cut as its first, middle and last transfers, each with its part of the

@@ -23,7 +23,7 @@ pub enum FrameBody {
     Flow(Flow),
     Transfer {
         performative: Transfer,
-        /// The message, or the part of it that this transfer carries. The decoder cuts it off the received bytes, and copies none.
+        /// The message, or the part of it that this transfer carries. A decoded payload shares the received bytes.
         payload: Bytes,
     },
     Disposition(Disposition),

@@ -9,7 +9,7 @@ use std::alloc::{AllocError, Global};
 use std::marker::Model;
 
 /// One physical frame without its four-byte size: a head, of header and performative, and a part of a payload. Only the
-/// encoder makes one. The payload part is a cut of the frame's payload.
+/// encoder makes one. The part shares the bytes of the frame's payload.
 #[derive(Debug, Drop)]
 pub struct Piece {
     head: Bytes,
@@ -56,7 +56,8 @@ impl Piece {
         self.head.len() + self.payload.len()
     }
 
-    /// Its bytes in one run. This copies the part of the payload: to send a piece, write its two parts.
+    /// Its bytes in one buffer; `OutOfMemory` where memory is refused. This copies the part of the payload: to send a piece,
+    /// write its two parts.
     pub fn to_bytes(&self, alloc: Global) -> Result<Bytes, Error>
         ensures { JoinsBytes self.now result }
     {

@@ -1,4 +1,4 @@
--- The bounds that the fields of each composite keep, by their types.
+-- What is known of the fields of each composite by their types: a number has so many bytes, a string is UTF-8.
 use Rattle.std.specs.Prelude.{ℕ, ◌<◌, ◌^◌, IfSome}
 use Rattle.std.specs.Str.{IsUtf8}
 use Rattle.amqp_values.specs.Text.{IsSymbolText}

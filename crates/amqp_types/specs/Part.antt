@@ -1,4 +1,4 @@
--- What a part of a list is written as, where it may be an error.
+-- The canonical text of a part of a list: of a field that is no composite, or of an error.
 use Rattle.std.specs.Prelude.{ℕ, List}
 use Rattle.amqp_values.specs.Writing.{leaf_text}
 use Rattle.amqp_types.specs.declared.part.Part.{Part}

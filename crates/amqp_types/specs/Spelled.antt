@@ -1,5 +1,8 @@
--- What the transfers of a delivery that is cut are written as (AMQP 1.0 part 2, section 2.6.14).
-use Rattle.std.specs.Prelude.{◌≡◌, ◌<◌, ◌^◌, length}
+-- Canonical texts: each spells its performative and is read back. So do those of the transfers that a delivery is cut into
+-- (AMQP 1.0 part 2, section 2.6.14).
+use Rattle.std.specs.Prelude.{◌≡◌, ◌<◌, ◌^◌, ◌++◌, ℕ, List, length, Some, Result}
+use Rattle.amqp_values.specs.declared.error.ReadError.{ReadError}
+use Rattle.amqp_values.specs.Reading.{Answers, ReadsFront}
 use Rattle.amqp_types.specs.declared.performatives.Performative.{Performative}
 use Rattle.amqp_types.specs.declared.performatives.Performative.TheVariants.{Transfer}
 use Rattle.amqp_types.specs.declared.performatives.transfer.TransferText.{TransferText}
@@ -10,7 +13,14 @@ use Rattle.amqp_types.specs.Transfer.{TransferSaid, said_in}
 abbrev pub IsSpelledIfShort : Performative → Type 0
 IsSpelledIfShort p = length (performative_text p) < 2 ^ 32 → IsPerformative p (performative_text p)
 
--- so do those of a transfer and of each transfer that it is cut into
+-- Whatever follows such a text, reading gives the performative back and leaves what follows, unless memory is refused.
+abbrev pub IsReadBack : Performative → Type 0
+IsReadBack p =
+    length (performative_text p) < 2 ^ 32 → (bytes rest : List ℕ) (result : Result (Performative × List ℕ) ReadError)
+    → bytes ≡ performative_text p ++ rest → ReadsFront IsPerformative bytes result
+    → Answers {Y = Performative × List ℕ} (λ x. x) result (Some (p, rest))
+
+-- the texts of a transfer and of each transfer that it is cut into spell them
 abbrev pub TextsAreSpelled : TransferSaid → Type 0
 TextsAreSpelled t = (text : TransferText) → IsSpelledIfShort (Transfer (said_in text t))
 

@@ -1,4 +1,4 @@
-//! Copies of fields that own memory: what each says is the same.
+//! Copies of fields that own memory. A copy says the same as its original.
 
 ghost use Rattle.std.specs.Prelude.{◌≡◌, IfOk, string_bytes};
 ghost use Rattle.std.specs.Option.{option_map};

@@ -30,11 +30,11 @@ pub type SequenceNo = u32;
 pub struct Handle(pub u32);
 
 /// The tag of a delivery on its link: any bytes, also more than the 32 that the standard allows (part 2,
-/// section 2.8.6). A tag that was read is a cut of the received bytes: none is copied.
+/// section 2.8.6). A tag that was read shares the received bytes; none is copied.
 #[derive(Clone, Debug, Drop, PartialEq, Eq)]
 pub struct DeliveryTag(pub Bytes);
 
-/// Which end of a link (part 2, section 2.8.1).
+/// One of the two ends of a link (part 2, section 2.8.1).
 #[derive(Clone, Copy, Debug, PartialEq, Eq)]
 pub enum Role {
     /// Written as the boolean false.

@@ -8,7 +8,7 @@ ghost use Rattle.amqp_types.specs.Error.{ErrorSaid, error_at};
 
 use crate::leaf;
 use amqp_values::composite::described;
-use amqp_values::{Composite, Field, Fields, Leaf, Parts, ReadError, Symbol};
+use amqp_values::{Composite, Field, Fields, Leaf, Parts, ReadError, Symbol, codes};
 use bytes::Bytes;
 use std::alloc::Global;
 use std::marker::Model;
@@ -78,12 +78,12 @@ impl Field for Error {
 
     #[tactic(auto, unfolding(crate::specs::Error::error_at))]
     fn read(alloc: Global, bytes: &mut Bytes) -> Result<Error, ReadError> {
-        described(alloc, 0x1d, bytes)
+        described(alloc, u64::from(codes::ERROR), bytes)
     }
 }
 
 impl Error {
-    /// The fields, lent for writing.
+    /// The fields, borrowed for writing.
     #[tactic(auto, unfolding(crate::specs::Error::error_fields))]
     pub(crate) fn parts(&self) -> [Leaf<'_>; 3]
         ensures { map leaf_text result ≡ error_fields self.now }

@@ -1,15 +1,11 @@
 //! Laws of values and performatives: a walk over parts gives them all, and what was written is read. A law answers
 //! nothing: its contract holds of every value that it is called with.
 
-ghost use Rattle.std.specs.Prelude.{◌≡◌, ◌<◌, ◌^◌, ◌++◌, ℕ, List, Result, Option, length};
-ghost use Rattle.amqp_values.specs.declared.error.ReadError.{ReadError};
-ghost use Rattle.amqp_values.specs.Reading.{Answers, ReadsFront};
-ghost use Rattle.amqp_types.specs.declared.performatives.Performative.{Performative};
 ghost use Rattle.amqp_types.specs.declared.performatives.Performative.TheVariants as performative;
 ghost use Rattle.amqp_types.specs.Items.{WalksGiveItems};
 ghost use Rattle.amqp_types.specs.Kinds.{KindsAreRead};
-ghost use Rattle.amqp_types.specs.Performatives.{IsPerformative, ListsAreRead, performative_text};
-ghost use Rattle.amqp_types.specs.Spelled.{CutIsSpelled, IsSpelledIfShort, TextsAreSpelled};
+ghost use Rattle.amqp_types.specs.Performatives.{ListsAreRead};
+ghost use Rattle.amqp_types.specs.Spelled.{CutIsSpelled, IsReadBack, IsSpelledIfShort, TextsAreSpelled};
 
 use crate::known;
 use crate::performatives::{
@@ -32,13 +28,13 @@ pub fn lists_are_read()
     ensures { ListsAreRead }
 {}
 
-/// The text that [`Performative::write`] appends is a text of that performative, if it has at most 4294967295 bytes. So
-/// whatever follows it, reading it gives the performative back and leaves what follows. Of a transfer, each text of the
-/// transfers that it is cut into is one of theirs.
+/// The text that [`Performative::write`] appends spells that performative, if it has at most 4294967295 bytes. Reading it
+/// gives the performative back, and leaves what follows it. The text of each transfer that a transfer is cut into spells
+/// that one.
 pub fn text_is_read(performative: &Performative)
-    ensures spelled { length (performative_text performative.now) < 2 ^ 32 → IsPerformative performative.now (performative_text performative.now) }
+    ensures spelled { IsSpelledIfShort performative.now }
     ensures cut { CutIsSpelled performative.now }
-    ensures read { length (performative_text performative.now) < 2 ^ 32 → (bytes rest : List ℕ) (r : Result (Performative × List ℕ) ReadError) → bytes ≡ performative_text performative.now ++ rest → ReadsFront IsPerformative bytes r → Answers {Y = Performative × List ℕ} (λ x. x) r (Some (performative.now, rest)) }
+    ensures read { IsReadBack performative.now }
 {
     known::performative(performative);
 }
@@ -107,7 +103,8 @@ pub fn close_is_spelled(p: &Close)
     known::close(p);
 }
 
-/// So do the canonical texts of a Transfer, and of each transfer that it is cut into.
+/// The canonical text of a Transfer spells it, and so does that of each transfer that it is cut into, if it has at most
+/// 4294967295 bytes.
 pub fn transfer_is_spelled(p: &Transfer)
     ensures { TextsAreSpelled p.now }
 {

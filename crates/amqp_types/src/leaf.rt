@@ -1,4 +1,4 @@
-//! Fields, lent for writing: an absent field and one that has its default are null.
+//! Fields, borrowed for writing: an absent field and one that has its default are null.
 
 ghost use Rattle.std.specs.Prelude.{◌≡◌, string_bytes};
 ghost use Rattle.std.specs.Option.{option_map};

@@ -1,4 +1,4 @@
-//! Parts of a list that may be composites themselves: the error of an End, a Close or a Detach.
+//! Parts of a list, written: a field that is no composite, or the error of an End, a Close or a Detach.
 
 ghost use Rattle.std.specs.Prelude.{◌≡◌, ◌^◌, ◌+◌, ◌*◌};
 ghost use Rattle.amqp_values.specs.Writing.{optional_text};
@@ -7,10 +7,10 @@ ghost use Rattle.amqp_types.specs.Part.{part_text};
 
 use crate::error::Error;
 use amqp_values::writing::{described_len, put_described};
-use amqp_values::{Encode, Leaf};
+use amqp_values::{Encode, Leaf, codes};
 use bytes::BytesMut;
 
-/// A leaf, or an error, lent for writing.
+/// A leaf, or an error, borrowed for writing.
 #[derive(Drop)]
 pub(crate) enum Part<'a> {
     Leaf(Leaf<'a>),
@@ -51,7 +51,7 @@ impl Encode for Part<'_> {
     fn put(&self, out: &mut BytesMut) {
         match self {
             Part::Leaf(leaf) => leaf.put(out),
-            Part::Error(error) => put_described(0x1d, &error.parts(), out),
+            Part::Error(error) => put_described(codes::ERROR, &error.parts(), out),
         }
     }
 }

@@ -18,7 +18,7 @@ pub mod transfer;
 
 use amqp_values::composite::read_list;
 use amqp_values::writing::write_described;
-use amqp_values::{ReadError, WriteError};
+use amqp_values::{ReadError, WriteError, codes};
 pub use attach::Attach;
 pub use begin::Begin;
 use bytes::{Bytes, BytesMut};
@@ -114,15 +114,20 @@ impl Performative {
         ensures too_large { IsTooLarge result ↔ (limit < length (performative_text self.now)) }
     {
         match self {
-            Performative::Open(p) => write_described(0x10, &p.parts(), out, limit),
-            Performative::Begin(p) => write_described(0x11, &p.parts(), out, limit),
-            Performative::Attach(p) => write_described(0x12, &p.parts(), out, limit),
-            Performative::Flow(p) => write_described(0x13, &p.parts(), out, limit),
-            Performative::Transfer(p) => write_described(0x14, &p.parts(), out, limit),
-            Performative::Disposition(p) => write_described(0x15, &p.parts(), out, limit),
-            Performative::Detach(p) => write_described(0x16, &p.parts(), out, limit),
-            Performative::End(p) => write_described(0x17, &p.parts(), out, limit),
-            Performative::Close(p) => write_described(0x18, &p.parts(), out, limit),
+            Performative::Open(p) => write_described(codes::OPEN, &p.parts(), out, limit),
+            Performative::Begin(p) => write_described(codes::BEGIN, &p.parts(), out, limit),
+            Performative::Attach(p) => write_described(codes::ATTACH, &p.parts(), out, limit),
+            Performative::Flow(p) => write_described(codes::FLOW, &p.parts(), out, limit),
+            Performative::Transfer(p) => write_described(codes::TRANSFER, &p.parts(), out, limit),
+            Performative::Disposition(p) => write_described(
+                codes::DISPOSITION,
+                &p.parts(),
+                out,
+                limit,
+            ),
+            Performative::Detach(p) => write_described(codes::DETACH, &p.parts(), out, limit),
+            Performative::End(p) => write_described(codes::END, &p.parts(), out, limit),
+            Performative::Close(p) => write_described(codes::CLOSE, &p.parts(), out, limit),
         }
     }
 }

@@ -27,7 +27,7 @@ pub enum ConnectionState {
     CloseReceived,
     /// The Close went out.
     CloseSent,
-    /// The Close went out with an error: what comes is of no use but the peer's Close.
+    /// The Close went out with an error. All that comes is discarded, but for the peer's Close.
     Discarding,
     /// Both Closes have passed.
     End,
@@ -48,6 +48,6 @@ pub enum SessionState {
     EndSent,
     /// The peer's End came.
     EndReceived,
-    /// The End went out with an error: what comes is of no use but the peer's End.
+    /// The End went out with an error. All that comes is discarded, but for the peer's End.
     Discarding,
 }

@@ -9,7 +9,8 @@ use Rattle.amqp_values.specs.declared.kind.Kind.TheVariants as kind
 use Rattle.amqp_values.specs.Kind.{kind_of, IsPlain, IsCompound}
 use Rattle.amqp_values.specs.Walk.{repeat, Level, inside, compound_of, data_of, value_of, elements_of, run_of, constructor_of, may_hold, under, level}
 use Rattle.amqp_values.specs.Grammar.{IsValue, plain, described as described_value, Data, fixed, flag, variable, list0, list, map, array, no_elements, bare, Values, no_values, more_values, Elements, plain_elements, described_elements, Run, last, next, Constructor, plain_constructor, compound_constructor, described_constructor}
-use Rattle.amqp_values.proofs.Numbers.{cut_again, region_again, compound_again}
+use Rattle.amqp_values.proofs.Compounds.{compound_again}
+use Rattle.amqp_values.proofs.Regions.{cut_again, region_again}
 
 no_unknown : (d : ℕ) (bytes : List ℕ) → Data d kind.Unknown bytes → ⊥
 no_unknown d bytes h = elim h [ ]

@@ -1,4 +1,4 @@
--- Symbols with lengths of one byte.
+-- The items of an array of symbols: which have lengths of one byte, and how many there can be.
 use Rattle.std.proofs.Common.{◌≡◌, ℕ, zero, suc, ◌<◌, take, Bool, true, false, List, [], ◌∷◌, ◌++◌, ◌+◌, ◌≤◌, length, get_or, ltb, ◌&&◌, not, refl, sym, ap, ◌∙◌, arith}
 use Rattle.std.specs.List.{list_all}
 use Rattle.std.proofs.lemmas.Bool.{ltb-true}

@@ -8,7 +8,8 @@ use Rattle.amqp_values.specs.Reading.{◌>>=◌, count_at, region_at, IsNumber, 
 use Rattle.amqp_values.specs.Text.{by_width, IsVar, var}
 use Rattle.amqp_values.specs.Composite.{IsList, list0, list, IsComposite, IsName, open_name, begin_name, attach_name, flow_name, transfer_name, disposition_name, detach_name, end_name, close_name, error_name, IsDescriptor, described0, described_small, described_by_number, described_by_name, IsDescribed, counted_parts, list_at, composite_at, code_of, meaning_at, code_at, descriptor_at, coded_at, described_at}
 use Rattle.amqp_values.proofs.Format.{IsFormat, bind_some, chosen, pair_is, some_is}
-use Rattle.amqp_values.proofs.NumberLaws.{headed, byte_found, number_found, number_again, count_found, count_again, region_found, region_again}
+use Rattle.amqp_values.proofs.NumberLaws.{headed}
+use Rattle.amqp_values.proofs.Regions.{byte_found, number_found, number_again, count_found, count_again, region_found, region_again}
 use Rattle.amqp_values.proofs.SlotLaws.{IsBody, Ahead}
 use Rattle.std.proofs.lemmas.Slice.Eq.{bytes_eq-Decides}
 

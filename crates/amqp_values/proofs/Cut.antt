@@ -10,7 +10,8 @@ use Rattle.amqp_values.specs.Walk.{value_at}
 use Rattle.amqp_values.specs.Grammar as g
 use Rattle.amqp_values.specs.Grammar.{IsValue, Data, Values, no_values, more_values}
 use Rattle.amqp_values.specs.Parts.{ItemsIn, no_items, list_items, map_items, IsItems, front_at, parts_at, AllParts, open_in, open_at, IsDescribed, halves_at}
-use Rattle.amqp_values.proofs.Numbers.{region_all, count_again}
+use Rattle.amqp_values.proofs.Compounds.{region_all}
+use Rattle.amqp_values.proofs.Regions.{count_again}
 use Rattle.amqp_values.proofs.Law.{value_reads, value_is_read, cut_is}
 use Rattle.amqp_values.proofs.Deeper.{value_up, values_up}
 use Rattle.amqp_values.proofs.Again.{not_zero}

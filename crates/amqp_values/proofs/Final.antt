@@ -12,7 +12,8 @@ use Rattle.amqp_values.specs.Outcome.{has_outcome_number, has_outcome_name, spel
 use Rattle.amqp_values.specs.Parts.{IsDescribed}
 use Rattle.amqp_values.proofs.Format.{chosen}
 use Rattle.amqp_values.proofs.Law.{one_front}
-use Rattle.amqp_values.proofs.Numbers.{empty_is, region_found, region_all}
+use Rattle.amqp_values.proofs.Compounds.{empty_is, region_all}
+use Rattle.amqp_values.proofs.Regions.{region_found}
 
 both_of : (a b : Bool) → (a && b) ≡ true → (a ≡ true) × (b ≡ true)
 both_of true b e = (refl, e)

@@ -1,4 +1,4 @@
--- A reader of a front that is exactly a grammar, and what its function's answer is worth.
+-- Readers that read exactly a grammar, and what follows for the functions that answer as they do.
 use Rattle.std.proofs.Common.{◌≡◌, ℕ, Bool, true, false, cond, List, ◌∷◌, ◌++◌, Option, Some, None, refl, ap, subst, ◌∙◌, inl, inr, ◌⊎◌}
 use Rattle.std.specs.Prelude.{Result, Ok, Err, IfOk}
 use Rattle.amqp_values.specs.declared.error.ReadError.{ReadError}

@@ -10,7 +10,8 @@ use Rattle.amqp_values.specs.Kind.{kind_of, IsPlain, IsCompound}
 use Rattle.amqp_values.specs.Walk.{is_ground, repeat, inside, data_of, value_of, elements_of, run_of, constructor_of, may_hold, under, level, described}
 use Rattle.amqp_values.specs.Grammar as g
 use Rattle.amqp_values.specs.Grammar.{IsValue, Data, Values, Elements, Run, Constructor}
-use Rattle.amqp_values.proofs.Numbers.{empty_is, byte_found, cut_found, region_found, Framed, compound_found}
+use Rattle.amqp_values.proofs.Compounds.{empty_is, Framed, compound_found}
+use Rattle.amqp_values.proofs.Regions.{byte_found, cut_found, region_found}
 
 -- what f reads off the front is a P
 abbrev pub Finds : (List ℕ → Type 0) → (List ℕ → Option (List ℕ)) → Type 0

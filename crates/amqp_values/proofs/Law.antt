@@ -9,7 +9,7 @@ use Rattle.amqp_values.specs.declared.kind.Kind.TheVariants as kind
 use Rattle.amqp_values.specs.Walk.{Level, data_of, value_of, under, value_at}
 use Rattle.amqp_values.specs.Grammar.{IsValue, plain, described}
 use Rattle.amqp_values.specs.Raw.{IsRaw, SpellsRaw, raw_at}
-use Rattle.amqp_values.proofs.Numbers.{byte_found}
+use Rattle.amqp_values.proofs.Regions.{byte_found}
 use Rattle.amqp_values.proofs.Found.{Finds, found}
 use Rattle.amqp_values.proofs.Again.{value_again}
 

@@ -1,6 +1,7 @@
 pub mod Format
 pub mod Utf8
 pub mod Runs
+pub mod Regions
 pub mod NumberLaws
 pub mod TextLaws
 pub mod SlotLaws
@@ -10,7 +11,7 @@ pub mod Trim
 pub mod Loops
 pub mod ArrayItems
 pub mod Under
-pub mod Numbers
+pub mod Compounds
 pub mod Found
 pub mod Again
 pub mod Law

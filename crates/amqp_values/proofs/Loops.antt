@@ -1,10 +1,10 @@
--- One more part.
+-- Writing the parts of a list: one more part.
 use Rattle.std.proofs.Common.{◌≡◌, ℕ, zero, suc, ◌+◌, ◌<◌, ◌≤◌, Bool, true, false, cond, eqb, List, [], ◌∷◌, ◌++◌, length, get_or, take, drop, map, refl, sym, ap, ◌∙◌, arith}
 use Rattle.amqp_values.specs.Slots.{is_null}
 use Rattle.amqp_values.specs.Reading.{joined}
 use Rattle.amqp_values.specs.Writing.{keep, trim, list_head, list_text}
 use Rattle.amqp_values.proofs.Trim.{joined-append, trim_null, trim_part, trim_take}
-use Rattle.std.proofs.lemmas.Bool.{eq-eqb, ne_eqb}
+use Rattle.std.proofs.lemmas.Bool.{ne_eqb}
 use Rattle.std.proofs.lemmas.List.{length-append, take_more, map_push, map-append, take-append-drop, append-nil, length-map, length-take}
 
 pub more : {X : Type 0} (f : X → List ℕ) (xs : List X) (i : ℕ) (x : X) → i < length xs → x ≡ get_or xs i x → map f (take (i + 1) xs) ≡ map f (take i xs) ++ f x ∷ []

@@ -6,7 +6,8 @@ use Rattle.amqp_values.specs.Reading.{◌>>=◌, count_at, region_at, is_empty, 
 use Rattle.amqp_values.specs.Text.{by_width, is_ascii}
 use Rattle.amqp_values.specs.Symbols.{IsRun, no_symbols, more_symbols, IsSymbols, one_symbol, array, bare, item_at, run_at, all_at, array_at, alone_at, symbols_at}
 use Rattle.amqp_values.proofs.Format.{IsFormat, bind_some, chosen, pair_is, some_is}
-use Rattle.amqp_values.proofs.NumberLaws.{headed, count_found, count_again, region_found, region_again}
+use Rattle.amqp_values.proofs.NumberLaws.{headed}
+use Rattle.amqp_values.proofs.Regions.{count_found, count_again, region_found, region_again}
 
 nothing_is : (bytes : List ℕ) → is_empty bytes ≡ true → bytes ≡ []
 nothing_is [] e = refl

@@ -4,7 +4,8 @@ use Rattle.std.specs.Str.{is_utf8}
 use Rattle.std.proofs.lemmas.Bool.{eqb-true, eq-eqb}
 use Rattle.amqp_values.specs.Text.{IsVar, var, var_at, binary_at, IsBinary, IsString, IsSymbol, is_ascii, tested_at, string_at, symbol_at}
 use Rattle.amqp_values.proofs.Format.{IsFormat, bind_some, chosen, pair_is}
-use Rattle.amqp_values.proofs.NumberLaws.{headed, region_found, region_again}
+use Rattle.amqp_values.proofs.NumberLaws.{headed}
+use Rattle.amqp_values.proofs.Regions.{region_found, region_again}
 
 pub var_found : (a b : ℕ) (bytes v rest : List ℕ) → var_at a b bytes ≡ Some (v, rest) → (text : List ℕ) × IsVar a b v text × (bytes ≡ text ++ rest)
 unfolding var_at

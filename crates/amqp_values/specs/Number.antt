@@ -1,6 +1,6 @@
 -- Numbers and booleans, in every spelling (AMQP 1.0 part 1, section 1.6).
 use Rattle.std.specs.Prelude.{◌≡◌, ℕ, List, [], ◌∷◌, length, Option, Some, None, Bool, true, false, ◌==◌, if◌then◌else◌}
-use Rattle.std.specs.Int.{w16, w32, w64, from_be_bytes}
+use Rattle.std.specs.Int.{Width, w16, w32, w64, from_be_bytes}
 use Rattle.amqp_values.specs.Reading.{◌>>=◌, byte_at, number_at}
 
 -- ---- the spellings
@@ -39,21 +39,20 @@ ushort_at bytes = do
   code ← byte_at bytes
   if code.0 == 0x60 then number_at w16 code.1 else None
 
-unfoldable pub uint_at : List ℕ → Option (ℕ × List ℕ)
-uint_at bytes =
+-- a number with three codes: for zero, for one byte, and for its whole width
+abbrev pub three_at : ℕ → ℕ → ℕ → Width → List ℕ → Option (ℕ × List ℕ)
+three_at nought small long width bytes =
     byte_at bytes >>= λ code.
-    if code.0 == 0x43 then Some (0, code.1)
-    else if code.0 == 0x52 then byte_at code.1
-    else if code.0 == 0x70 then number_at w32 code.1
+    if code.0 == nought then Some (0, code.1)
+    else if code.0 == small then byte_at code.1
+    else if code.0 == long then number_at width code.1
     else None
 
+unfoldable pub uint_at : List ℕ → Option (ℕ × List ℕ)
+uint_at = three_at 0x43 0x52 0x70 w32
+
 unfoldable pub ulong_at : List ℕ → Option (ℕ × List ℕ)
-ulong_at bytes =
-    byte_at bytes >>= λ code.
-    if code.0 == 0x44 then Some (0, code.1)
-    else if code.0 == 0x53 then byte_at code.1
-    else if code.0 == 0x80 then number_at w64 code.1
-    else None
+ulong_at = three_at 0x44 0x53 0x80 w64
 
 abbrev pub flag_at : List ℕ → Option (Bool × List ℕ)
 flag_at bytes = do

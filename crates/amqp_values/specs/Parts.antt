@@ -25,7 +25,7 @@ pub record IsItems (bytes : List ℕ) (parts : List (List ℕ)) : Type 0 where
   pub whole : bytes ≡ code ∷ body
   pub items : ItemsIn (kind_of code) body parts
 
--- items are lent exactly where there are some: all of them, in their order
+-- the items of a list or a map are given, all of them and in their order; of any other value none are
 abbrev pub Lends : List ℕ → Option (List (List ℕ)) → Type 0
 Lends bytes (Some parts) = IsItems bytes parts
 Lends bytes None = (parts : List (List ℕ)) → IsItems bytes parts → ⊥

@@ -71,46 +71,51 @@ named_at name at p = at p >>= λ x. Some (name x.0, x.1)
 abbrev pub beside : {V W : Type 0} → V → W → V × W
 beside v others = (v, others)
 
+-- the first value, and the table of those behind it
 abbrev pub slot0 : {V W : Type 0} → V × W → V
-slot0 x = x.0
+slot0 table = table.0
+
+abbrev pub behind : {V W : Type 0} → V × W → W
+behind table = table.1
 
 abbrev pub slot1 : {A V W : Type 0} → A × (V × W) → V
-slot1 x = x.1.0
+slot1 table = slot0 (behind table)
 
 abbrev pub slot2 : {A B V W : Type 0} → A × (B × (V × W)) → V
-slot2 x = x.1.1.0
+slot2 table = slot1 (behind table)
 
 abbrev pub slot3 : {A B C V W : Type 0} → A × (B × (C × (V × W))) → V
-slot3 x = x.1.1.1.0
+slot3 table = slot2 (behind table)
 
 abbrev pub slot4 : {A B C D V W : Type 0} → A × (B × (C × (D × (V × W)))) → V
-slot4 x = x.1.1.1.1.0
+slot4 table = slot3 (behind table)
 
 abbrev pub slot5 : {A B C D E V W : Type 0} → A × (B × (C × (D × (E × (V × W))))) → V
-slot5 x = x.1.1.1.1.1.0
+slot5 table = slot4 (behind table)
 
 abbrev pub slot6 : {A B C D E F V W : Type 0} → A × (B × (C × (D × (E × (F × (V × W)))))) → V
-slot6 x = x.1.1.1.1.1.1.0
+slot6 table = slot5 (behind table)
 
 abbrev pub slot7 : {A B C D E F G V W : Type 0} → A × (B × (C × (D × (E × (F × (G × (V × W))))))) → V
-slot7 x = x.1.1.1.1.1.1.1.0
+slot7 table = slot6 (behind table)
 
 abbrev pub slot8 : {A B C D E F G H V W : Type 0} → A × (B × (C × (D × (E × (F × (G × (H × (V × W)))))))) → V
-slot8 x = x.1.1.1.1.1.1.1.1.0
+slot8 table = slot7 (behind table)
 
 abbrev pub slot9 : {A B C D E F G H I V W : Type 0} → A × (B × (C × (D × (E × (F × (G × (H × (I × (V × W))))))))) → V
-slot9 x = x.1.1.1.1.1.1.1.1.1.0
+slot9 table = slot8 (behind table)
 
 abbrev pub slot10 : {A B C D E F G H I J V W : Type 0} → A × (B × (C × (D × (E × (F × (G × (H × (I × (J × (V × W)))))))))) → V
-slot10 x = x.1.1.1.1.1.1.1.1.1.1.0
+slot10 table = slot9 (behind table)
 
-abbrev pub slot11 : {A B C D E F G H I J K V W : Type 0} → A × (B × (C × (D × (E × (F × (G × (H × (I × (J × (K × (V × W))))))))))) → V
-slot11 x = x.1.1.1.1.1.1.1.1.1.1.1.0
+abbrev pub slot11 : {A B C D E F G H I J K V W : Type 0}
+    → A × (B × (C × (D × (E × (F × (G × (H × (I × (J × (K × (V × W))))))))))) → V
+slot11 table = slot10 (behind table)
 
 abbrev pub slot12 : {A B C D E F G H I J K L V W : Type 0}
     → A × (B × (C × (D × (E × (F × (G × (H × (I × (J × (K × (L × (V × W)))))))))))) → V
-slot12 x = x.1.1.1.1.1.1.1.1.1.1.1.1.0
+slot12 table = slot11 (behind table)
 
 abbrev pub slot13 : {A B C D E F G H I J K L M V W : Type 0}
     → A × (B × (C × (D × (E × (F × (G × (H × (I × (J × (K × (L × (M × (V × W))))))))))))) → V
-slot13 x = x.1.1.1.1.1.1.1.1.1.1.1.1.1.0
+slot13 table = slot12 (behind table)

@@ -1,4 +1,4 @@
--- What is left behind a value of a depth of at most so much.
+-- What is left behind a value, if its depth keeps a limit.
 use Rattle.std.specs.Prelude.{ℕ, zero, suc, ◌%◌, List, length, Option, Some, None, Bool, true, false, nat_lt, ◌==◌, if◌then◌else◌}
 use Rattle.amqp_values.specs.declared.kind.Kind.{Kind}
 use Rattle.amqp_values.specs.declared.kind.Kind.TheVariants as kind

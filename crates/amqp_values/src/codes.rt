@@ -1,4 +1,5 @@
-//! Constructor bytes: what stands before a value's data (AMQP 1.0 part 1, section 1.6).
+//! Codes: the constructor bytes that stand before a value's data (AMQP 1.0 part 1, section 1.6), and the numbers of the
+//! performatives' and the error's descriptors (part 2, sections 2.7 and 2.8.14).
 
 pub const DESCRIBED: u8 = 0x00;
 
@@ -44,6 +45,30 @@ pub const LIST8: u8 = 0xc0;
 
 pub const LIST32: u8 = 0xd0;
 
+pub const MAP8: u8 = 0xc1;
+
+pub const MAP32: u8 = 0xd1;
+
 pub const ARRAY8: u8 = 0xe0;
 
 pub const ARRAY32: u8 = 0xf0;
+
+pub const OPEN: u8 = 0x10;
+
+pub const BEGIN: u8 = 0x11;
+
+pub const ATTACH: u8 = 0x12;
+
+pub const FLOW: u8 = 0x13;
+
+pub const TRANSFER: u8 = 0x14;
+
+pub const DISPOSITION: u8 = 0x15;
+
+pub const DETACH: u8 = 0x16;
+
+pub const END: u8 = 0x17;
+
+pub const CLOSE: u8 = 0x18;
+
+pub const ERROR: u8 = 0x1d;

@@ -55,29 +55,29 @@ pub fn read_list<C: Composite>(alloc: Global, bytes: &mut Bytes) -> Result<C, Re
 }
 
 #[tactic(auto, unfolding(crate::specs::Composite::code_of))]
-fn code_of_name(name: &[u8]) -> Option<u64>
+fn code_of_name(name: &[u8]) -> Option<u8>
     ensures { result ≡ code_of name.now }
 {
     if name == b"amqp:open:list".as_slice() {
-        Some(0x10)
+        Some(codes::OPEN)
     } else if name == b"amqp:begin:list".as_slice() {
-        Some(0x11)
+        Some(codes::BEGIN)
     } else if name == b"amqp:attach:list".as_slice() {
-        Some(0x12)
+        Some(codes::ATTACH)
     } else if name == b"amqp:flow:list".as_slice() {
-        Some(0x13)
+        Some(codes::FLOW)
     } else if name == b"amqp:transfer:list".as_slice() {
-        Some(0x14)
+        Some(codes::TRANSFER)
     } else if name == b"amqp:disposition:list".as_slice() {
-        Some(0x15)
+        Some(codes::DISPOSITION)
     } else if name == b"amqp:detach:list".as_slice() {
-        Some(0x16)
+        Some(codes::DETACH)
     } else if name == b"amqp:end:list".as_slice() {
-        Some(0x17)
+        Some(codes::END)
     } else if name == b"amqp:close:list".as_slice() {
-        Some(0x18)
+        Some(codes::CLOSE)
     } else if name == b"amqp:error:list".as_slice() {
-        Some(0x1d)
+        Some(codes::ERROR)
     } else {
         None
     }
@@ -87,7 +87,7 @@ fn meaning(name: &[u8]) -> Result<u64, ReadError>
     ensures { (rest : List ℕ) → Gives (λ x. x) result rest (meaning_at (name.now, rest)) }
 {
     match code_of_name(name) {
-        Some(code) => Ok(code),
+        Some(code) => Ok(u64::from(code)),
         None => Err(ReadError::Malformed),
     }
 }

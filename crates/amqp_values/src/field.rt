@@ -22,7 +22,8 @@ pub trait Field: Drop {
     ghost at: { List ℕ → Option (Seen × List ℕ) };
 
     /// Reads the value at the front of the bytes, in any spelling of its type, and leaves the rest. `Malformed` where
-    /// no front is such a value, `OutOfMemory` where memory for a text or a cut is refused; the rest is then not defined.
+    /// no front is such a value, `OutOfMemory` where memory for a text or a cut is refused. After an error the bytes that are
+    /// left are of no use.
     fn read(alloc: Global, bytes: &mut Bytes) -> Result<Self, ReadError>
         ensures { Gives view result bytes.new (at bytes.old) };
 }

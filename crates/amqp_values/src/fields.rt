@@ -4,6 +4,7 @@ ghost use Rattle.std.specs.Prelude.{◌≡◌};
 ghost use Rattle.amqp_values.specs.Reading.{Gives};
 ghost use Rattle.amqp_values.specs.Raw.{IsMap, MakesFields, has_map_code, map_at};
 
+use crate::codes;
 use crate::error::ReadError;
 use crate::raw::Raw;
 use bytes::Bytes;
@@ -79,5 +80,5 @@ impl Fields {
 fn is_map(raw: &Raw) -> bool
     ensures { result ≡ has_map_code raw.now }
 {
-    matches!(raw.bytes(), [0xc1 | 0xd1, ..])
+    matches!(raw.bytes(), [codes::MAP8 | codes::MAP32, ..])
 }

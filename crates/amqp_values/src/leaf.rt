@@ -1,4 +1,4 @@
-//! Leaves: the values of fields that are no composites, lent for writing.
+//! Leaves: the values of fields that are no composites, borrowed for writing.
 
 ghost use Rattle.std.specs.Prelude.{◌≡◌, ℕ, ◌+◌, ◌^◌, ◌<◌, ◌≤◌, List, ◌∷◌, [], ◌++◌, length};
 ghost use Rattle.amqp_values.specs.Slots.{is_null};
@@ -10,7 +10,7 @@ use crate::encode::Encode;
 use crate::symbol::Symbol;
 use bytes::BytesMut;
 
-/// A value that a part of a list may hold, lent.
+/// A value that a part of a list may hold, borrowed.
 #[derive(Drop)]
 pub enum Leaf<'a> {
     Null,

@@ -4,12 +4,13 @@ ghost use Rattle.std.specs.Prelude.{◌≡◌, ◌↔◌, IsTrue};
 ghost use Rattle.amqp_values.specs.Outcome.{IsTerminal, has_outcome_name, has_outcome_number};
 ghost use Rattle.amqp_values.specs.Outcome.{spells_large, spells_name, spells_small, stands_for_outcome};
 
+use crate::codes;
 use crate::raw::Raw;
 use crate::walk::{first, region};
 
 /// Whether a delivery state is terminal: a described value whose descriptor is that of accepted, rejected, released or
-/// modified, by number or by name, in any spelling. Any other value is not, received too. What stands behind the
-/// descriptor is not looked at (part 3, section 3.4).
+/// modified, by number or by name, in any spelling. No other value is terminal; the state received is not. The value behind
+/// the descriptor does not count (part 3, section 3.4).
 pub fn is_terminal(value: &Raw) -> bool
     ensures { IsTrue result ↔ IsTerminal value.now }
 {
@@ -25,10 +26,10 @@ fn stands_for_outcome(descriptor: &[u8]) -> bool
     ensures { result ≡ stands_for_outcome descriptor.now }
 {
     match first(descriptor) {
-        Some((0x53, data)) => spells_small(data),
-        Some((0x80, data)) => spells_large(data),
-        Some((0xa3, data)) => spells_name(false, data),
-        Some((0xb3, data)) => spells_name(true, data),
+        Some((codes::SMALL_ULONG, data)) => spells_small(data),
+        Some((codes::ULONG, data)) => spells_large(data),
+        Some((codes::SYMBOL8, data)) => spells_name(false, data),
+        Some((codes::SYMBOL32, data)) => spells_name(true, data),
         _ => false,
     }
 }

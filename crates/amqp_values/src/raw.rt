@@ -4,6 +4,7 @@ ghost use Rattle.std.specs.Prelude.{◌≡◌};
 ghost use Rattle.amqp_values.specs.Reading.{Answers, Gives, ReadsFront};
 ghost use Rattle.amqp_values.specs.Raw.{IsRaw, SpellsRaw, raw_at};
 
+use crate::codes;
 use crate::error::ReadError;
 use crate::value::ValueRef;
 use crate::walk::{first, value_rest};
@@ -15,8 +16,8 @@ use std::marker::Model;
 /// A value with no values inside has a depth of 0, the list without data one of 1. Lists, maps, arrays and described
 /// values have one more than the deepest value inside.
 ///
-/// Its bytes are a cut of those that it was read from: none is copied. Of a value only the structure is known:
-/// codes, sizes, lengths, counts and the data of booleans. The bytes of texts, symbols and characters are free.
+/// It shares the bytes that it was read from; none is copied. Only its structure was checked: codes, sizes, lengths, counts
+/// and the data of booleans. The bytes of texts, symbols and characters may be any.
 #[derive(Clone, Debug, Drop)]
 pub struct Raw {
     bytes: Bytes,
@@ -80,7 +81,7 @@ impl Raw {
         let Some((code, _)) = first(whole) else {
             return Err(ReadError::Malformed);
         };
-        if code == 0x40 {
+        if code == codes::NULL {
             return Err(ReadError::Malformed);
         }
         let len = whole.len() - rest.len();
@@ -96,7 +97,7 @@ impl Raw {
         self.bytes.as_slice()
     }
 
-    /// The value, lent. Its parts are reached from there.
+    /// The value, borrowed. Its parts are reached from there.
     pub fn view(&self) -> ValueRef<'_>
         ensures { result ≡ self.now }
     {

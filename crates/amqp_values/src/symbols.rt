@@ -21,7 +21,7 @@ fn item(alloc: Global, long: bool, bytes: &mut Bytes) -> Result<Symbol, ReadErro
     Symbol::of_bytes(alloc, text.as_slice())
 }
 
-/// Reads `count` symbols, which have to fill the bytes. The list grows as they are read, since the count may be false.
+/// Reads `count` symbols, which have to fill the bytes. The list grows as they are read, since the count may be wrong.
 fn run(alloc: Global, count: u32, long: bool, bytes: Bytes) -> Result<Vec<Symbol>, ReadError>
     ensures { Answers (λ v. v.items) result (run_at count long bytes) }
 {

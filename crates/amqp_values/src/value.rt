@@ -1,4 +1,4 @@
-//! Values, lent: the code, the descriptor and the parts of a value, without memory (AMQP 1.0 part 1, section 1.6).
+//! Borrowed values: the code, the descriptor and the parts of a value; no call takes memory (AMQP 1.0 part 1, section 1.6).
 
 ghost use Rattle.std.specs.Prelude.{◌≡◌, ℕ, List, ◌∷◌};
 ghost use Rattle.std.specs.Iterator.{YieldsFirst, item_count};
@@ -10,7 +10,7 @@ use crate::kind::{Kind, kind_at};
 use crate::walk::{count, first, region, value_rest};
 use std::marker::Model;
 
-/// One whole value, lent: a raw value, or a part of one. It may be the null.
+/// One whole value, borrowed: a raw value, or a part of one. It may be the null.
 ///
 /// None of its calls takes memory.
 #[derive(Debug, Drop)]
@@ -29,7 +29,7 @@ impl<'a> Model for ValueRef<'a> {
     ghost invariant = { λ v. IsValue 64 v.bytes.now };
 }
 
-/// The parts of a list or a map, each lent in its order; a map gives key, value, key, value. It ends.
+/// The parts of a list or a map in their order, each borrowed. A map gives key, value, key, value. The iterator ends.
 ///
 /// None of its calls takes memory.
 #[derive(Debug, Drop)]
@@ -50,7 +50,7 @@ impl<'a> Model for Items<'a> {
 }
 
 impl<'a> ValueRef<'a> {
-    /// Lends bytes that are one value.
+    /// Bytes that are one value, borrowed.
     pub(crate) fn new(bytes: &'a [u8]) -> ValueRef<'a>
         requires { IsValue 64 bytes.now }
         ensures { result ≡ bytes.now }

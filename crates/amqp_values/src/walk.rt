@@ -1,4 +1,4 @@
-//! Walking over one value: where it ends, if its depth is at most so much (AMQP 1.0 part 1, section 1.6).
+//! Walking over one value: where it ends, if its depth keeps a limit (AMQP 1.0 part 1, section 1.6).
 
 ghost use Rattle.std.specs.Prelude.{◌≡◌, ◌<◌, length};
 ghost use Rattle.std.specs.Option.{option_map};
@@ -104,7 +104,7 @@ fn data(kind: Kind, bytes: &[u8], depth: u8) -> Option<&[u8]>
     }
 }
 
-/// The bytes behind a size, a count and what they frame; that fills the size exactly.
+/// The bytes behind a size, a count and the parts or elements, which have to fill the size exactly.
 #[cycle(walk)]
 #[tactic(auto, unfolding(crate::specs::Walk::inside))]
 fn compound(kind: Kind, wide: bool, bytes: &[u8], depth: u8) -> Option<&[u8]>
@@ -205,7 +205,7 @@ fn run(kind: Kind, count: u32, bytes: &[u8], depth: u8) -> Option<&[u8]>
     Some(rest)
 }
 
-/// Whether an array may have a constructor of this kind and no element, with so much depth left for that.
+/// Whether an array may have a constructor of this kind and no element, where so much depth is left.
 #[tactic(auto, using(crate::proofs::Under::under_some, crate::proofs::Under::under_none, crate::proofs::Under::under_more))]
 fn may_hold(kind: Kind, depth: u8) -> bool
     ensures { result ≡ may_hold (under depth) kind }

@@ -9,7 +9,7 @@ use crate::encode::Encode;
 use crate::error::WriteError;
 use bytes::BytesMut;
 
-/// How many parts are left without the nulls at the end, and their size.
+/// How many parts stand before the nulls at the end, and their size.
 fn extent<T: Encode>(items: &[T]) -> (usize, u128)
     requires many { length items.now ≤ 16 }
     requires long { T.most < 2 ^ 123 }

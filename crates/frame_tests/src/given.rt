@@ -58,7 +58,7 @@ pub(crate) fn pieces(
     FrameEncoder::new(limit).encode(alloc, &Frame::new(0, body))
 }
 
-/// As many bytes as are asked for, each another than the one before.
+/// As many bytes as are asked for; each differs from the one before.
 pub(crate) fn payload(alloc: Global, len: u8) -> Result<Bytes, Fail> {
     let mut bytes = Vec::new(alloc);
     for byte in 0..len {

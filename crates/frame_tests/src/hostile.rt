@@ -1,4 +1,4 @@
-//! Bytes of anyone as frames: each is answered.
+//! Untrusted bytes as frames: each is answered.
 
 use amqp_frames::{Error, FrameBody, FrameDecoder};
 use bytes::Bytes;
@@ -107,12 +107,13 @@ fn answered(alloc: Global, text: &[u8]) -> Result<Answer, Fail> {
     Ok(decoded(alloc, Bytes::copy_from_slice(alloc, text)?))
 }
 
-/// Whether the answer is one that decoding gives where memory is there.
+/// Whether the answer is one that decoding may give where memory is not refused.
 fn is_answered(answer: Answer) -> bool {
     answer != Answer::OutOfMemory && answer != Answer::Other
 }
 
-/// Whether the bytes with another one at this place are answered; they are no frame of AMQP where the first two differ.
+/// Whether the bytes with another one at this place are answered. Where one of the first two differs they are no frame of
+/// AMQP.
 fn is_right(alloc: Global, text: &mut Vec<u8>, place: usize, byte: u8) -> Result<bool, Fail> {
     let Some(at) = text.get_mut(place) else {
         return Ok(false);
@@ -127,7 +128,7 @@ fn is_right(alloc: Global, text: &mut Vec<u8>, place: usize, byte: u8) -> Result
     Ok(is_answered(answer) && (answer == Answer::NotImplemented) == is_header)
 }
 
-/// Whether each byte may be changed to nothing, to all and to its complement.
+/// Whether decoding answers where a byte is changed to 00, to ff or to its complement, at each place in turn.
 fn may_be_changed(alloc: Global, digits: &str) -> Result<bool, Fail> {
     let mut text = hex::decode(alloc, digits)?;
     for place in 0..text.len() {
@@ -153,7 +154,7 @@ fn a_changed_byte_is_answered(rt: HostRuntime) -> Result<(), Fail> {
     Ok(())
 }
 
-/// What a proper front of a frame is, whose performative ends after so many bytes.
+/// What decoding answers of a front of a frame whose performative ends after so many bytes.
 fn of_front(len: usize, end: usize) -> Answer {
     if len == 4 {
         Answer::Empty

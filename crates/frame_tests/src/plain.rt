@@ -49,7 +49,7 @@ fn head(alloc: Global, performative: &Performative) -> Result<Vec<u8>, Fail> {
     Ok(Vec::from_slice(alloc, out.as_slice())?)
 }
 
-/// A head and a part as one run.
+/// A head and a part in one buffer.
 fn run(alloc: Global, head: &[u8], part: &[u8]) -> Result<Vec<u8>, Fail> {
     let mut whole = Vec::from_slice(alloc, head)?;
     whole.extend_from_slice(part)?;

@@ -23,7 +23,7 @@ const TEXTS: [&'static str; 9] = [
     "005318 45",
 ];
 
-/// The length that the performative of that kind tells.
+/// The length that `encoded_len` of that kind answers.
 fn len(performative: &Performative) -> u128 {
     match performative {
         Performative::Open(p) => p.encoded_len(),
@@ -56,7 +56,7 @@ fn put(performative: &Performative, out: &mut BytesMut)
     }
 }
 
-/// The digits of the text that is put, which has to have the length that was told.
+/// The digits of the text that `put` appends; its length has to be the one that `encoded_len` answers.
 fn put_alone(alloc: Global, performative: &Performative) -> Result<String, Fail> {
     let len = performative.encoded_len();
     if 1000 < len {
@@ -67,7 +67,7 @@ fn put_alone(alloc: Global, performative: &Performative) -> Result<String, Fail>
     Ok(hex::encode(alloc, out.as_slice())?)
 }
 
-/// Whether the text is put as it is read, and is as long as was told.
+/// Whether `put` appends the text that was read, of the length that `encoded_len` answers.
 fn is_put(alloc: Global, digits: &str) -> Result<bool, Fail> {
     let performative = read(alloc, digits)?;
     text_is_read(&performative);

@@ -27,7 +27,7 @@ pub fn read(alloc: Global, digits: &str) -> Result<Performative, Fail> {
     }
 }
 
-/// The digits of the text that is written, which has the length that was said.
+/// The digits of the text that is written; its length has to be the one that `encoded_len` answers.
 pub fn written(alloc: Global, performative: &Performative) -> Result<String, Fail> {
     let mut out = BytesMut::new(alloc);
     performative.write(&mut out, u32::MAX)?;

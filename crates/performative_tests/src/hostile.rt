@@ -1,4 +1,4 @@
-//! Bytes of anyone: each is answered, and none makes memory run out.
+//! Untrusted bytes: each is answered, and none makes memory run out.
 
 use crate::digits::{bytes, rewritten};
 use amqp_types::{Performative, ReadError};
@@ -21,7 +21,7 @@ const BODIES: [&'static str; 10] = [
     "005318c0250100531dc01f03a316616d71703a636f6e6e656374696f6e3a666f72636564a10362796540",
 ];
 
-/// Whether the bytes are a performative; that memory was refused fails the test.
+/// Whether the bytes are a performative. The test fails where memory is refused.
 fn is_read(alloc: Global, text: &[u8]) -> Result<bool, Fail> {
     match Performative::read(alloc, Bytes::copy_from_slice(alloc, text)?) {
         Ok(_) => Ok(true),
@@ -30,7 +30,7 @@ fn is_read(alloc: Global, text: &[u8]) -> Result<bool, Fail> {
     }
 }
 
-/// The bytes with this one at this place.
+/// The bytes with another one at this place.
 fn with(alloc: Global, text: &[u8], place: usize, byte: u8) -> Result<Vec<u8>, Fail> {
     let mut bytes = Vec::new(alloc);
     for (i, old) in text.iter().enumerate() {

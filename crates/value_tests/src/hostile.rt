@@ -1,11 +1,11 @@
-//! Values of anyone: deep ones, and numbers that promise more than there is.
+//! Untrusted values: deep ones, and sizes and counts that promise more than there is.
 
 use crate::reading::{Answer, WHOLE, read};
 use bytes::{Bytes, BytesMut};
 use std::alloc::Global;
 use std::test::Fail;
 
-/// A value of this depth: described values, one inside the other, round a value of no depth.
+/// A value of this depth: described values, one inside the other; the innermost value has no depth.
 fn described(alloc: Global, depth: u8) -> Result<Bytes, Fail> {
     let mut text = BytesMut::new(alloc);
     for _ in 0..depth {
@@ -28,7 +28,8 @@ fn in_descriptors(alloc: Global, depth: u8) -> Result<Bytes, Fail> {
     Ok(text.freeze()?)
 }
 
-/// Arrays of one element each, one inside the other, round one without an element: as deep as one more than their number.
+/// Arrays of one element each, `around` of them, one inside the other; the innermost array has no element. The depth is
+/// `around` + 1.
 fn arrays(alloc: Global, around: u8) -> Result<Bytes, Fail> {
     let mut text = BytesMut::new(alloc);
     text.extend_from_slice(&[0xe0])?;
@@ -40,7 +41,7 @@ fn arrays(alloc: Global, around: u8) -> Result<Bytes, Fail> {
     Ok(text.freeze()?)
 }
 
-/// Maps, one inside the other as the value of a key, round an empty one: as deep as one more than their number.
+/// Maps, `around` of them, each the value of a key in the one before; the innermost map is empty. The depth is `around` + 1.
 fn maps(alloc: Global, around: u8) -> Result<Bytes, Fail> {
     let mut text = BytesMut::new(alloc);
     for inside in (0..around).rev() {

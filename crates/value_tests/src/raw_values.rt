@@ -56,7 +56,7 @@ fn values_are_told_from_other_bytes(rt: HostRuntime) -> Result<(), Fail> {
     Ok(())
 }
 
-/// So many lists of one part each, one inside the other, round an empty one.
+/// So many lists of one part each, one inside the other; the innermost list is empty.
 fn nested(alloc: Global, lists: u8) -> Result<Bytes, Fail>
     requires { lists < 80 }
 {

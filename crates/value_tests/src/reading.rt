@@ -10,7 +10,7 @@ pub(crate) enum Answer {
     Value { left: usize },
     /// No value.
     Malformed,
-    /// It can't be told: memory was refused.
+    /// Memory was refused.
     OutOfMemory,
 }
 

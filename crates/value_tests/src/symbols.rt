@@ -1,4 +1,4 @@
-//! Symbols, and what a want of memory is told as.
+//! Symbols, and the error for refused memory.
 
 use amqp_values::{ReadError, Symbol};
 use std::alloc::{AllocError, Global};
@@ -8,7 +8,7 @@ fn symbol(alloc: Global, text: &str) -> Result<Option<Symbol>, Fail> {
     Ok(Symbol::new(String::from_str(alloc, text)?))
 }
 
-/// Whether the text makes a symbol that tells it, and is the same as its copy.
+/// Whether the text makes a symbol that gives the text back and equals its copy.
 fn is_symbol(alloc: Global, text: &str) -> Result<bool, Fail> {
     match symbol(alloc, text)? {
         Some(symbol) => {

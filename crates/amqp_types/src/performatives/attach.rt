@@ -3,6 +3,7 @@
 ghost use Rattle.std.specs.Prelude.{◌≡◌, ◌<◌, ◌≤◌, ◌+◌, ◌^◌, ◌++◌, length, map, List, ℕ, Option};
 ghost use Rattle.std.specs.Option.{option_map};
 ghost use Rattle.amqp_values.specs.Reading.{Gives};
+ghost use Rattle.amqp_values.specs.Slots.{beside};
 ghost use Rattle.amqp_values.specs.Writing.{leaf_text};
 ghost use Rattle.amqp_types.specs.Attach.{attach_rest_at, attach_body_at, attach_fields, attach_first_same, attach_last_same};
 ghost use Rattle.amqp_types.specs.declared.performatives.Performative.TheVariants as performative;
@@ -11,7 +12,7 @@ ghost use Rattle.amqp_types.specs.Performatives.{performative_text};
 use crate::definitions::{Handle, ReceiverSettleMode, Role, SenderSettleMode};
 use crate::leaf;
 use amqp_values::writing::{described_len, put_described};
-use amqp_values::{Composite, Fields, Leaf, Parts, Raw, ReadError, Symbol};
+use amqp_values::{Composite, Fields, Leaf, Parts, Raw, ReadError, Symbol, codes};
 use bytes::BytesMut;
 use std::alloc::Global;
 use std::marker::Model;
@@ -23,7 +24,7 @@ pub struct Attach {
     pub name: String,
     /// The handle of the link. Mandatory.
     pub handle: Handle,
-    /// Which end the sender of the frame is. Mandatory.
+    /// The end of the link on which the sender of the frame stands. Mandatory.
     pub role: Role,
     /// How the sending end settles. Default: mixed.
     pub snd_settle_mode: SenderSettleMode,
@@ -35,11 +36,11 @@ pub struct Attach {
     pub target: Option<Raw>,
     /// The deliveries that are not settled.
     pub unsettled: Option<Fields>,
-    /// Whether more deliveries are unsettled than are named. Default: false.
+    /// Whether there are more unsettled deliveries than the map names. Default: false.
     pub incomplete_unsettled: bool,
     /// Where the delivery count begins.
     pub initial_delivery_count: Option<u32>,
-    /// The largest message, in bytes.
+    /// The largest message that the sender of the frame takes, in bytes.
     pub max_message_size: Option<u64>,
     /// What the sender of the frame can do.
     pub offered_capabilities: Option<Vec<Symbol>>,
@@ -161,7 +162,10 @@ struct Rest {
 
 #[tactic(auto, unfolding(crate::specs::Attach::attach_rest_at))]
 fn take_rest(alloc: Global, parts: &mut Parts) -> Result<Rest, ReadError>
-    ensures { Gives (λ r. (r.initial_delivery_count, (r.max_message_size, (option_map (λ v. v.items) r.offered_capabilities, (option_map (λ v. v.items) r.desired_capabilities, (r.properties, tt)))))) result parts.new (attach_rest_at parts.old) }
+    ensures { let symbols = option_map (λ v. v.items) in
+        Gives (λ r. beside r.initial_delivery_count (beside r.max_message_size
+        (beside (symbols r.offered_capabilities) (beside (symbols r.desired_capabilities) (beside r.properties tt)))))
+        result parts.new (attach_rest_at parts.old) }
 {
     let initial_delivery_count = parts.next(alloc)?;
     let max_message_size = parts.next(alloc)?;
@@ -178,7 +182,7 @@ fn take_rest(alloc: Global, parts: &mut Parts) -> Result<Rest, ReadError>
 }
 
 impl Attach {
-    /// The fields, lent for writing.
+    /// The fields, borrowed for writing.
     #[tactic(auto, unfolding(crate::specs::Attach::attach_fields))]
     pub(crate) fn parts(&self) -> [Leaf<'_>; 14]
         ensures { map leaf_text result ≡ attach_fields self.now }
@@ -216,6 +220,6 @@ impl Attach {
         ensures items { out.new.items ≡ out.old.items ++ performative_text (performative.Attach self.now) }
         ensures spare { out.new.spare + length (performative_text (performative.Attach self.now)) ≡ out.old.spare }
     {
-        put_described(0x12, &self.parts(), out)
+        put_described(codes::ATTACH, &self.parts(), out)
     }
 }

@@ -10,7 +10,7 @@ ghost use Rattle.amqp_types.specs.Performatives.{performative_text};
 use crate::definitions::Handle;
 use crate::leaf;
 use amqp_values::writing::{described_len, put_described};
-use amqp_values::{Composite, Fields, Leaf, Parts, ReadError, Symbol};
+use amqp_values::{Composite, Fields, Leaf, Parts, ReadError, Symbol, codes};
 use bytes::BytesMut;
 use std::alloc::Global;
 use std::marker::Model;
@@ -22,9 +22,9 @@ pub struct Begin {
     pub remote_channel: Option<u16>,
     /// The number of the next transfer. Mandatory.
     pub next_outgoing_id: u32,
-    /// How many transfers may come. Mandatory.
+    /// How many transfers the sender of the frame can take. Mandatory.
     pub incoming_window: u32,
-    /// How many transfers may go. Mandatory.
+    /// How many transfers the sender of the frame can send. Mandatory.
     pub outgoing_window: u32,
     /// The highest handle that may be used. Default: 4294967295.
     pub handle_max: Handle,
@@ -101,7 +101,7 @@ impl Composite for Begin {
 }
 
 impl Begin {
-    /// The fields, lent for writing.
+    /// The fields, borrowed for writing.
     #[tactic(auto, unfolding(crate::specs::Begin::begin_fields))]
     pub(crate) fn parts(&self) -> [Leaf<'_>; 8]
         ensures { map leaf_text result ≡ begin_fields self.now }
@@ -133,6 +133,6 @@ impl Begin {
         ensures items { out.new.items ≡ out.old.items ++ performative_text (performative.Begin self.now) }
         ensures spare { out.new.spare + length (performative_text (performative.Begin self.now)) ≡ out.old.spare }
     {
-        put_described(0x11, &self.parts(), out)
+        put_described(codes::BEGIN, &self.parts(), out)
     }
 }

@@ -12,7 +12,7 @@ use crate::error::Error;
 use crate::leaf;
 use crate::part::Part;
 use amqp_values::writing::{described_len, put_described};
-use amqp_values::{Composite, Leaf, Parts, ReadError};
+use amqp_values::{Composite, Leaf, Parts, ReadError, codes};
 use bytes::BytesMut;
 use std::alloc::Global;
 use std::marker::Model;
@@ -24,7 +24,7 @@ pub struct Detach {
     pub handle: Handle,
     /// Whether the link is closed for good. Default: false.
     pub closed: bool,
-    /// Why.
+    /// The error that is the reason, if any.
     pub error: Option<Error>,
 }
 
@@ -70,7 +70,7 @@ impl Composite for Detach {
 }
 
 impl Detach {
-    /// The fields, lent for writing.
+    /// The fields, borrowed for writing.
     #[tactic(auto, unfolding(crate::specs::Detach::detach_fields))]
     pub(crate) fn parts(&self) -> [Part<'_>; 3]
         ensures { map part_text result ≡ detach_fields self.now }
@@ -97,6 +97,6 @@ impl Detach {
         ensures items { out.new.items ≡ out.old.items ++ performative_text (performative.Detach self.now) }
         ensures spare { out.new.spare + length (performative_text (performative.Detach self.now)) ≡ out.old.spare }
     {
-        put_described(0x16, &self.parts(), out)
+        put_described(codes::DETACH, &self.parts(), out)
     }
 }

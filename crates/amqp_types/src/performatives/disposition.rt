@@ -10,7 +10,7 @@ ghost use Rattle.amqp_types.specs.Performatives.{performative_text};
 use crate::definitions::Role;
 use crate::leaf;
 use amqp_values::writing::{described_len, put_described};
-use amqp_values::{Composite, Leaf, Parts, Raw, ReadError};
+use amqp_values::{Composite, Leaf, Parts, Raw, ReadError, codes};
 use bytes::BytesMut;
 use std::alloc::Global;
 use std::marker::Model;
@@ -18,17 +18,17 @@ use std::marker::Model;
 /// The state of deliveries, and whether they are settled (AMQP 1.0 part 2, section 2.7.6).
 #[derive(Clone, Debug, Drop)]
 pub struct Disposition {
-    /// Which end the sender of the frame is. Mandatory.
+    /// The end of the link on which the sender of the frame stands. Mandatory.
     pub role: Role,
     /// The first delivery that is meant. Mandatory.
     pub first: u32,
-    /// The last one; where it is not set, the first.
+    /// The last delivery that is meant. None: the first alone.
     pub last: Option<u32>,
     /// Whether the deliveries are settled. Default: false.
     pub settled: bool,
     /// The state of the deliveries.
     pub state: Option<Raw>,
-    /// Whether an answer may wait. Default: false.
+    /// Whether the peer may delay its answer. Default: false.
     pub batchable: bool,
 }
 
@@ -88,7 +88,7 @@ impl Composite for Disposition {
 }
 
 impl Disposition {
-    /// The fields, lent for writing.
+    /// The fields, borrowed for writing.
     #[tactic(auto, unfolding(crate::specs::Disposition::disposition_fields))]
     pub(crate) fn parts(&self) -> [Leaf<'_>; 6]
         ensures { map leaf_text result ≡ disposition_fields self.now }
@@ -118,6 +118,6 @@ impl Disposition {
         ensures items { out.new.items ≡ out.old.items ++ performative_text (performative.Disposition self.now) }
         ensures spare { out.new.spare + length (performative_text (performative.Disposition self.now)) ≡ out.old.spare }
     {
-        put_described(0x15, &self.parts(), out)
+        put_described(codes::DISPOSITION, &self.parts(), out)
     }
 }

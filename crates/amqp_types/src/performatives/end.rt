@@ -10,7 +10,7 @@ ghost use Rattle.amqp_types.specs.Performatives.{performative_text};
 use crate::error::Error;
 use crate::part::Part;
 use amqp_values::writing::{described_len, put_described};
-use amqp_values::{Composite, Parts, ReadError};
+use amqp_values::{Composite, Parts, ReadError, codes};
 use bytes::BytesMut;
 use std::alloc::Global;
 use std::marker::Model;
@@ -18,7 +18,7 @@ use std::marker::Model;
 /// A session ends (AMQP 1.0 part 2, section 2.7.8).
 #[derive(Clone, Debug, Drop)]
 pub struct End {
-    /// Why.
+    /// The error that is the reason, if any.
     pub error: Option<Error>,
 }
 
@@ -56,7 +56,7 @@ impl Composite for End {
 }
 
 impl End {
-    /// The fields, lent for writing.
+    /// The fields, borrowed for writing.
     #[tactic(auto, unfolding(crate::specs::End::end_fields))]
     pub(crate) fn parts(&self) -> [Part<'_>; 1]
         ensures { map part_text result ≡ end_fields self.now }
@@ -79,6 +79,6 @@ impl End {
         ensures items { out.new.items ≡ out.old.items ++ performative_text (performative.End self.now) }
         ensures spare { out.new.spare + length (performative_text (performative.End self.now)) ≡ out.old.spare }
     {
-        put_described(0x17, &self.parts(), out)
+        put_described(codes::END, &self.parts(), out)
     }
 }

@@ -10,7 +10,7 @@ ghost use Rattle.amqp_types.specs.Performatives.{performative_text};
 use crate::definitions::Handle;
 use crate::leaf;
 use amqp_values::writing::{described_len, put_described};
-use amqp_values::{Composite, Fields, Leaf, Parts, ReadError};
+use amqp_values::{Composite, Fields, Leaf, Parts, ReadError, codes};
 use bytes::BytesMut;
 use std::alloc::Global;
 use std::marker::Model;
@@ -134,7 +134,7 @@ impl Composite for Flow {
 }
 
 impl Flow {
-    /// The fields, lent for writing.
+    /// The fields, borrowed for writing.
     #[tactic(auto, unfolding(crate::specs::Flow::flow_fields))]
     pub(crate) fn parts(&self) -> [Leaf<'_>; 11]
         ensures { map leaf_text result ≡ flow_fields self.now }
@@ -169,6 +169,6 @@ impl Flow {
         ensures items { out.new.items ≡ out.old.items ++ performative_text (performative.Flow self.now) }
         ensures spare { out.new.spare + length (performative_text (performative.Flow self.now)) ≡ out.old.spare }
     {
-        put_described(0x13, &self.parts(), out)
+        put_described(codes::FLOW, &self.parts(), out)
     }
 }

@@ -4,8 +4,8 @@ ghost use Rattle.std.specs.Prelude.{◌≡◌};
 ghost use Rattle.amqp_values.specs.Reading.{Gives};
 ghost use Rattle.amqp_types.specs.Kinds.{kind_at, kind_of};
 
-use amqp_values::ReadError;
 use amqp_values::composite::descriptor;
+use amqp_values::{ReadError, codes};
 use bytes::Bytes;
 
 /// One of the nine performatives.
@@ -27,16 +27,19 @@ pub enum Kind {
 fn kind_of(code: u64) -> Option<Kind>
     ensures { result ≡ kind_of code }
 {
-    match code {
-        0x10 => Some(Kind::Open),
-        0x11 => Some(Kind::Begin),
-        0x12 => Some(Kind::Attach),
-        0x13 => Some(Kind::Flow),
-        0x14 => Some(Kind::Transfer),
-        0x15 => Some(Kind::Disposition),
-        0x16 => Some(Kind::Detach),
-        0x17 => Some(Kind::End),
-        0x18 => Some(Kind::Close),
+    if code > 0xff {
+        return None;
+    }
+    match code as u8 {
+        codes::OPEN => Some(Kind::Open),
+        codes::BEGIN => Some(Kind::Begin),
+        codes::ATTACH => Some(Kind::Attach),
+        codes::FLOW => Some(Kind::Flow),
+        codes::TRANSFER => Some(Kind::Transfer),
+        codes::DISPOSITION => Some(Kind::Disposition),
+        codes::DETACH => Some(Kind::Detach),
+        codes::END => Some(Kind::End),
+        codes::CLOSE => Some(Kind::Close),
         _ => None,
     }
 }

@@ -9,7 +9,7 @@ ghost use Rattle.amqp_types.specs.Performatives.{performative_text};
 
 use crate::{copies, leaf};
 use amqp_values::writing::{described_len, put_described};
-use amqp_values::{Composite, Fields, Leaf, Parts, ReadError, Symbol};
+use amqp_values::{Composite, Fields, Leaf, Parts, ReadError, Symbol, codes};
 use bytes::BytesMut;
 use std::alloc::{AllocError, Global};
 use std::marker::Model;
@@ -147,7 +147,7 @@ impl Composite for Open {
 }
 
 impl Open {
-    /// The fields, lent for writing.
+    /// The fields, borrowed for writing.
     #[tactic(auto, unfolding(crate::specs::Open::open_fields))]
     pub(crate) fn parts(&self) -> [Leaf<'_>; 10]
         ensures { map leaf_text result ≡ open_fields self.now }
@@ -181,6 +181,6 @@ impl Open {
         ensures items { out.new.items ≡ out.old.items ++ performative_text (performative.Open self.now) }
         ensures spare { out.new.spare + length (performative_text (performative.Open self.now)) ≡ out.old.spare }
     {
-        put_described(0x10, &self.parts(), out)
+        put_described(codes::OPEN, &self.parts(), out)
     }
 }

@@ -11,7 +11,7 @@ ghost use Rattle.amqp_types.specs.Performatives.{performative_text};
 use crate::definitions::{DeliveryTag, Handle, ReceiverSettleMode};
 use crate::leaf;
 use amqp_values::writing::{described_len, put_described};
-use amqp_values::{Composite, Leaf, Parts, Raw, ReadError};
+use amqp_values::{Composite, Leaf, Parts, Raw, ReadError, codes};
 use bytes::BytesMut;
 use std::alloc::Global;
 use std::marker::Model;
@@ -39,7 +39,7 @@ pub struct Transfer {
     pub resume: bool,
     /// Whether the delivery is aborted. Default: false.
     pub aborted: bool,
-    /// Whether an answer may wait. Default: false.
+    /// Whether the peer may delay its answer. Default: false.
     pub batchable: bool,
 }
 
@@ -149,7 +149,7 @@ impl Composite for Transfer {
 }
 
 impl Transfer {
-    /// The fields, lent for writing.
+    /// The fields, borrowed for writing.
     pub(crate) fn parts(&self) -> [Leaf<'_>; 11]
         ensures { map leaf_text result ≡ transfer_fields self.now }
     {
@@ -223,7 +223,7 @@ impl Transfer {
         ensures items { out.new.items ≡ out.old.items ++ performative_text (performative.Transfer (said_in text self.now)) }
         ensures spare { out.new.spare + length (performative_text (performative.Transfer (said_in text self.now))) ≡ out.old.spare }
     {
-        put_described(0x14, &self.parts_in(text), out)
+        put_described(codes::TRANSFER, &self.parts_in(text), out)
     }
 
     /// The length in bytes of the canonical text. Takes no memory and writes nothing.
@@ -241,6 +241,6 @@ impl Transfer {
         ensures items { out.new.items ≡ out.old.items ++ performative_text (performative.Transfer self.now) }
         ensures spare { out.new.spare + length (performative_text (performative.Transfer self.now)) ≡ out.old.spare }
     {
-        put_described(0x14, &self.parts(), out)
+        put_described(codes::TRANSFER, &self.parts(), out)
     }
 }

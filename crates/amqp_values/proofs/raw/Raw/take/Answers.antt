@@ -8,4 +8,4 @@ overflow_sub-len c = shorter c.as_slice-whole.result.now c.in-Some.rest.now (sym
 pub invariant_of-result : goal.invariant_of-result
 invariant_of-result c =
     rw (c.in_ok-bytes.ensures.front, ← c.as_slice-whole.ensures)
-    (raw_is c.as_slice-whole.result.now c.in-Some.rest.now c.in-Some-first.code c.in-Some-first.field-0-1.now (sym c.in-Some.ensures) (sym c.in-Some-first.ensures) c.if-code-eq64.false).0
+    (raw_is c.as_slice-whole.result.now c.in-Some.rest.now c.in-Some-first.code c.in-Some-first.field-0-1.now (sym c.in-Some.ensures) (sym c.in-Some-first.ensures) c.if-code-eq-NULL.false).0
