@@ -40,7 +40,7 @@ use Rattle.fe2o3_amqp.specs.EngineView.{EngineView}
 use Rattle.fe2o3_amqp.specs.Waits.{sent}
 use Rattle.fe2o3_amqp.specs.Calls.{Calls, received_calls}
 use Rattle.fe2o3_amqp.specs.Sessions.{Untouched, Called, Unknown, Reaches, Begun, BeginRequest, ReleaseRequest}
-use Rattle.fe2o3_amqp.specs.Engine.{Entry, Carries, Received, ReceivedFrame, OpenRequest, CloseRequest, ReceivedOpen, ReceivedClose, Unimplemented, Finds, close_reason, remote_reason, recorded}
+use Rattle.fe2o3_amqp.specs.Engine.{Entry, Carries, Received, ReceivedFrame, OpenRequest, CloseRequest, ReceivedOpen, ReceivedClose, Finds, close_reason, remote_reason, recorded}
 use Rattle.fe2o3_amqp.specs.Event.{Event, Quiet, SentOpen, SentClose, AcceptedOpen, CameClose, Began, Released, event, event_by, received_event, channel_of}
 use Rattle.fe2o3_amqp.specs.ByHistory.{remote_close_reason, limit_by}
 use Rattle.fe2o3_amqp.specs.Headline.{own_frames, asked_calls}
@@ -236,6 +236,7 @@ IsSession (body.Begin p) = Unit {0}
 IsSession (body.End p) = Unit {0}
 IsSession (body.Attach p) = Unit {0}
 IsSession (body.Detach p) = Unit {0}
+IsSession (body.Disposition p) = Unit {0}
 IsSession (body.Flow p) = Unit {0}
 IsSession (body.Transfer p payload) = Unit {0}
 IsSession b = ⊥
@@ -247,6 +248,8 @@ found v c (body.Attach p) i n k (Some no.OutOfMemory) f h = absurd (h refl)
 found v c (body.Attach p) i n k r f h = f.1
 found v c (body.Detach p) i n k (Some no.OutOfMemory) f h = absurd (h refl)
 found v c (body.Detach p) i n k r f h = f.1
+found v c (body.Disposition p) i n k (Some no.OutOfMemory) f h = absurd (h refl)
+found v c (body.Disposition p) i n k r f h = f.1
 found v c (body.Flow p) i n k (Some no.OutOfMemory) f h = absurd (h refl)
 found v c (body.Flow p) i n k r f h = f.1
 found v c (body.Transfer p payload) i n k (Some no.OutOfMemory) f h = absurd (h refl)
@@ -258,6 +261,7 @@ unfound v c (body.Begin p) i = lost_begin v c p.remote_channel
 unfound v c (body.End p) i = lost_end v c
 unfound v c (body.Attach p) i = lost v c
 unfound v c (body.Detach p) i = lost v c
+unfound v c (body.Disposition p) i = lost v c
 unfound v c (body.Flow p) i = lost v c
 unfound v c (body.Transfer p payload) i = lost v c
 unfound v c b i = absurd i
@@ -276,6 +280,7 @@ session_event v limit c (body.End p) (Some n) r i = record { no_begin = tt; limi
 session_event v limit c (body.End p) None r i = record { no_begin = tt; limit_is = refl; no_frames = refl }
 session_event v limit c (body.Attach p) reached r i = record { no_begin = tt; limit_is = refl; no_frames = refl }
 session_event v limit c (body.Detach p) reached r i = record { no_begin = tt; limit_is = refl; no_frames = refl }
+session_event v limit c (body.Disposition p) reached r i = record { no_begin = tt; limit_is = refl; no_frames = refl }
 session_event v limit c (body.Flow p) reached r i = record { no_begin = tt; limit_is = refl; no_frames = refl }
 session_event v limit c (body.Transfer p payload) reached r i = record { no_begin = tt; limit_is = refl; no_frames = refl }
 session_event v limit c b reached r i = absurd i
@@ -287,6 +292,7 @@ none_event c (body.Begin p) r i = refl
 none_event c (body.End p) r i = refl
 none_event c (body.Attach p) r i = refl
 none_event c (body.Detach p) r i = refl
+none_event c (body.Disposition p) r i = refl
 none_event c (body.Flow p) r i = refl
 none_event c (body.Transfer p payload) r i = refl
 none_event c b r i = absurd i
@@ -320,16 +326,6 @@ reaches g v w e c b i is carry idle fe (inr s) = by s.4
 
 -- ---- received frames
 
--- a frame that is not implemented yet
-not_taken : {R : Type 0} (g : Relays R) (v w : EngineView R) (e : Entry R) (c : ℕ) (b : FrameBody) → event e ≡ received_event c b e.reached e.refusal → ((r : Option StepError) → received_event c b None r ≡ Quiet) → v.waiting ≡ [] → e.frames ≡ w.waiting →
-    Unimplemented v c e.reached e.calls e.refusal w → Deed g v e w
-not_taken g v w e c b is quiet idle fe s =
-    refuses g v w e (is ∙ ap (λ o. received_event c b o e.refusal) s.0.0.0 ∙ quiet e.refusal) (λ x. let y = sym s.1.2 ∙ x in cc) idle fe s.0
-
-disposition_quiet : (c : ℕ) (p : DispositionSaid) (r : Option StepError) → received_event c (body.Disposition p) None r ≡ Quiet
-disposition_quiet c p (Some no.OutOfMemory) = refl
-disposition_quiet c p r = refl
-
 frame : {R : Type 0} (g : Relays R) (v w : EngineView R) (e : Entry R) (c : ℕ) (b : FrameBody) → event e ≡ received_event c b e.reached e.refusal → ((s : SessionState) → received_calls c b s e.calls e.refusal → asked_calls e.input e.received s e.calls e.refusal) →
     v.waiting ≡ [] → e.frames ≡ w.waiting → ReceivedFrame g v c b e.reached e.calls e.refusal w → Deed g v e w
 frame g v w e c body.Empty is carry idle fe s =
@@ -337,7 +333,7 @@ frame g v w e c body.Empty is carry idle fe s =
 frame g v w e c (body.Open o) is carry idle fe s = took_open g v w e c o e.refusal is refl idle fe s.0 s.1
 frame g v w e c (body.Close p) is carry idle fe s = took_close g v w e c p is idle fe s.0 s.1
 frame g v w e c (body.Attach p) is carry idle fe s = reaches g v w e c (body.Attach p) tt is carry idle fe s
-frame g v w e c (body.Disposition p) is carry idle fe s = not_taken g v w e c (body.Disposition p) is (disposition_quiet c p) idle fe s
+frame g v w e c (body.Disposition p) is carry idle fe s = reaches g v w e c (body.Disposition p) tt is carry idle fe s
 frame g v w e c (body.Detach p) is carry idle fe s = reaches g v w e c (body.Detach p) tt is carry idle fe s
 frame g v w e c (body.Begin p) is carry idle fe s = reaches g v w e c (body.Begin p) tt is carry idle fe s
 frame g v w e c (body.End p) is carry idle fe s = reaches g v w e c (body.End p) tt is carry idle fe s
@@ -368,6 +364,7 @@ carries g v w (input.Attach k a) received reached calls r frames idle fe s = doe
 carries g v w (input.Detach k d expects_echo) received reached calls r frames idle fe s = does g v w _ k.0 _ refl (request_plain (input.Detach k d expects_echo)) (λ t a. a) idle fe s.1
 carries g v w (input.Flow k l) received reached calls r frames idle fe s = does g v w _ k.0 _ refl (request_plain (input.Flow k l)) (λ t a. a) idle fe s.1
 carries g v w (input.Transfer k h t payload first) received reached calls r frames idle fe s = does g v w _ k.0 _ refl (request_plain (input.Transfer k h t payload first)) (λ x a. a) idle fe s.1
+carries g v w (input.Disposition k d) received reached calls r frames idle fe s = does g v w _ k.0 _ refl (request_plain (input.Disposition k d)) (λ t a. a) idle fe s.1
 carries g v w (input.Stop k reason) received reached calls r frames idle fe s = does g v w _ k.0 _ refl (request_plain (input.Stop k reason)) (λ t a. a) idle fe s.1
 
 pub deed : {R : Type 0} (g : Relays R) (v w : EngineView R) (e : Entry R) → v.waiting ≡ [] → e.frames ≡ w.waiting → Carries g v e.input e.received e.reached e.calls e.refusal w → Deed g v e w

@@ -22,3 +22,4 @@ pub mod Outputs
 pub mod Running
 pub mod Digits
 pub mod Viewed
+pub mod Echoing

@@ -103,6 +103,7 @@ end_along g v w c asks e plain (inr s) = (λ o. subst (λ z. GoesAlong z e) (sym
 passes : {R : Type 0} (g : Relays R) (v w : EngineView R) (c : ℕ) (b : FrameBody) (e : Entry R) → ReceivedFrame g v c b e.reached e.calls e.refusal w → Passes b v.connection.state (map.get v.connection.session_by_incoming_channel c) e
 passes g v w c (body.Attach p) e s = along g v w c _ e (received_plain c (body.Attach p)) s
 passes g v w c (body.Detach p) e s = along g v w c _ e (received_plain c (body.Detach p)) s
+passes g v w c (body.Disposition p) e s = along g v w c _ e (received_plain c (body.Disposition p)) s
 passes g v w c (body.Flow p) e s = along g v w c _ e (received_plain c (body.Flow p)) s
 passes g v w c (body.Transfer p payload) e s = along g v w c _ e (received_plain c (body.Transfer p payload)) s
 passes g v w c (body.End p) e s = end_along g v w c _ e (received_plain c (body.End p)) s
@@ -167,9 +168,9 @@ frame_known g v w c (body.Begin p) reached calls r k s = reaches_known g (Finds 
 frame_known g v w c (body.End p) reached calls r k s = reaches_known g (Finds v.connection c (body.End p)) v w _ reached calls r (received_plain c (body.End p)) (λ n u f. k.routed c n f.1) s
 frame_known g v w c (body.Attach p) reached calls r k s = reaches_known g (Finds v.connection c (body.Attach p)) v w _ reached calls r (received_plain c (body.Attach p)) (λ n u f. k.routed c n f.0) s
 frame_known g v w c (body.Detach p) reached calls r k s = reaches_known g (Finds v.connection c (body.Detach p)) v w _ reached calls r (received_plain c (body.Detach p)) (λ n u f. k.routed c n f.0) s
+frame_known g v w c (body.Disposition p) reached calls r k s = reaches_known g (Finds v.connection c (body.Disposition p)) v w _ reached calls r (received_plain c (body.Disposition p)) (λ n u f. k.routed c n f.0) s
 frame_known g v w c (body.Flow p) reached calls r k s = reaches_known g (Finds v.connection c (body.Flow p)) v w _ reached calls r (received_plain c (body.Flow p)) (λ n u f. k.routed c n f.0) s
 frame_known g v w c (body.Transfer p payload) reached calls r k s = reaches_known g (Finds v.connection c (body.Transfer p payload)) v w _ reached calls r (received_plain c (body.Transfer p payload)) (λ n u f. k.routed c n f.0) s
-frame_known g v w c b reached calls r k s = λ e. let x = sym s.1.2 ∙ e in cc
 
 pub all_known : {R : Type 0} (g : Relays R) (made : ConnectionState) (o : OpenSaid) (H : List (Entry R)) (w : EngineView R) → LeadsTo g made o H w → AllKnown H
 all_known g made o H w l before after e is f received =

@@ -21,7 +21,7 @@ use Rattle.amqp_session.specs.declared.error.SessionStateError.{SessionStateErro
 use Rattle.amqp_session.specs.declared.error.SessionInnerError.{SessionInnerError}
 use Rattle.amqp_session.specs.declared.stop.SessionStopReason.{SessionStopReason}
 use Rattle.amqp_session.specs.declared.stop.SessionStopReason.TheVariants as stop
-use Rattle.amqp_session.specs.Relay.{AttachQuestion, FlowQuestion, TransferQuestion, DetachQuestion}
+use Rattle.amqp_session.specs.Relay.{AttachQuestion, FlowQuestion, TransferQuestion, DispositionQuestion, DetachQuestion}
 use Rattle.amqp_session.specs.States.{takes_end}
 use Rattle.amqp_session.specs.Transfers.{RequestedTransfer}
 use Rattle.amqp_session.specs.History as session
@@ -91,6 +91,9 @@ abbrev pub TransferCalls : {R : Type 0} → RequestedTransfer → Calls R
 TransferCalls h s calls refusal = (result : Result (Option SessionOutgoingItem) SessionInnerError)
     × (calls ≡ session.SendsTransfer h result ∷ []) × (refusal ≡ session_refusal result)
 
+abbrev pub DispositionCalls : {R : Type 0} → DispositionSaid → Calls R
+DispositionCalls d s calls refusal = (terminal : Bool) × (f : SessionFrame) × (calls ≡ session.SendsDisposition d terminal f ∷ []) × (refusal ≡ None)
+
 abbrev pub StopCalls : {R : Type 0} → SessionStopReason → Calls R
 StopCalls reason s calls refusal = (calls ≡ session.RecordsStop reason ∷ []) × (refusal ≡ None)
 
@@ -137,6 +140,23 @@ abbrev pub ReceivedFlowCalls : {R : Type 0} → FlowSaid → Calls R
 ReceivedFlowCalls f s calls refusal = (asked : Option (FlowQuestion _)) × (result : Result (Option SessionOutgoingItem) SessionInnerError)
     × (calls ≡ session.TakesFlow f asked result ∷ []) × (refusal ≡ session_refusal result)
 
+-- the dispositions that a received one is answered by
+abbrev pub echoes_of : Result (Option (List DispositionSaid)) SessionInnerError → List DispositionSaid
+echoes_of (Ok (Some ds)) = ds
+echoes_of (Ok None) = []
+echoes_of (Err e) = []
+
+-- each of them goes out, in order
+abbrev pub SentEach : {R : Type 0} → List DispositionSaid → List (session.Entry R) → Type 0
+SentEach [] calls = calls ≡ []
+SentEach {R} (d ∷ ds) calls = (terminal : Bool) × (f : SessionFrame) × (others : List (session.Entry R))
+    × (calls ≡ session.SendsDisposition d terminal f ∷ others) × SentEach ds others
+
+abbrev pub ReceivedDispositionCalls : {R : Type 0} → DispositionSaid → Calls R
+ReceivedDispositionCalls d s calls refusal = (asked : List (DispositionQuestion _)) × (result : Result (Option (List DispositionSaid)) SessionInnerError)
+    × (sent : List (session.Entry _)) × SentEach (echoes_of result) sent
+    × (calls ≡ session.TakesDisposition d asked result ∷ sent) × (refusal ≡ session_refusal result)
+
 -- after a transfer that is accepted, the session is asked for a flow of its own
 abbrev pub flow_after : {R : Type 0} → Result (Option DispositionSaid) SessionInnerError → Option SessionOutgoingItem → List (session.Entry R)
 flow_after (Ok d) item = session.SendsSessionFlow item ∷ []
@@ -161,6 +181,7 @@ request_calls (input.Attach n a) = AttachCalls a
 request_calls (input.Detach n d expects_echo) = DetachCalls d expects_echo
 request_calls (input.Flow n l) = FlowCalls l
 request_calls (input.Transfer n h t payload first) = TransferCalls (record { input_handle = h.0; transfer = t; payload = payload; is_first = first })
+request_calls (input.Disposition n d) = DispositionCalls d
 request_calls (input.Stop n reason) = StopCalls reason
 request_calls i = NoCalls
 
@@ -172,4 +193,5 @@ received_calls c (body.Attach a) = ReceivedAttachCalls a
 received_calls c (body.Detach d) = ReceivedDetachCalls d
 received_calls c (body.Flow f) = ReceivedFlowCalls f
 received_calls c (body.Transfer t payload) = ReceivedTransferCalls t payload
+received_calls c (body.Disposition d) = ReceivedDispositionCalls d
 received_calls c b = NoCalls

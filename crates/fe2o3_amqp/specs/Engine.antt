@@ -24,7 +24,7 @@ use Rattle.fe2o3_amqp.specs.declared.engine.input.Input.TheVariants as input
 use Rattle.fe2o3_amqp.specs.declared.engine.step_error.StepError.{StepError}
 use Rattle.fe2o3_amqp.specs.declared.engine.step_error.StepError.TheVariants as no
 use Rattle.fe2o3_amqp.specs.States.{takes_close}
-use Rattle.fe2o3_amqp.specs.Connection.{ConnectionView, stopped, not_implemented, SendOpenStep, SendCloseStep, IncomingOpenStep, IncomingCloseStep, BeginRouteStep, EndRouteStep, RouteStep}
+use Rattle.fe2o3_amqp.specs.Connection.{ConnectionView, stopped, SendOpenStep, SendCloseStep, IncomingOpenStep, IncomingCloseStep, BeginRouteStep, EndRouteStep, RouteStep}
 use Rattle.fe2o3_amqp.specs.EngineView.{EngineView, peer_limit}
 use Rattle.fe2o3_amqp.specs.Calls.{request_calls, received_calls}
 use Rattle.fe2o3_amqp.specs.Sessions.{Untouched, Nothing, Does, Reaches, BeginRequest, ReleaseRequest}
@@ -77,22 +77,12 @@ Finds v c (body.Begin b) found w = BeginRouteStep v c b.remote_channel found w
 Finds v c (body.End e) found w = EndRouteStep v c found w
 Finds v c b found w = RouteStep v c found w
 
--- Not implemented yet: a Disposition, though there be a session for it.
-abbrev pub unimplemented : Result ℕ ConnectionInnerError → ConnectionInnerError
-unimplemented (Ok n) = not_implemented
-unimplemented (Err e) = e
-
-abbrev pub Unimplemented : {R : Type 0} → EngineView R → ℕ → Option ℕ → List (session.Entry R) → Option StepError → EngineView R → Type 0
-Unimplemented v channel reached calls refusal w = Nothing v reached calls w
-    × ((found : Result ℕ ConnectionInnerError) × RouteStep v.connection channel found v.connection × (refusal ≡ Some (no.Connection (unimplemented found))))
-
 -- ---- received frames
 
 abbrev pub ReceivedFrame : {R : Type 0} → Relays R → EngineView R → ℕ → FrameBody → Option ℕ → List (session.Entry R) → Option StepError → EngineView R → Type 0
 ReceivedFrame g v c body.Empty reached calls refusal w = Nothing v reached calls w × (refusal ≡ None)
 ReceivedFrame g v c (body.Open o) reached calls refusal w = Untouched reached calls × ReceivedOpen v o refusal w
 ReceivedFrame g v c (body.Close p) reached calls refusal w = Untouched reached calls × ReceivedClose v p refusal w
-ReceivedFrame g v c (body.Disposition p) reached calls refusal w = Unimplemented v c reached calls refusal w
 ReceivedFrame g v c b reached calls refusal w = Reaches g (Finds v.connection c b) v (received_calls c b) reached calls refusal w
 
 -- The fields of this kind are not there, or they say a body that was received.
@@ -145,6 +135,7 @@ Carries g v (input.Detach n d expects_echo) received reached calls refusal w =
 Carries g v (input.Flow n l) received reached calls refusal w = (received ≡ None) × Does g v n.0 (request_calls (input.Flow n l)) reached calls refusal w
 Carries g v (input.Transfer n h t payload first) received reached calls refusal w =
     (received ≡ None) × Does g v n.0 (request_calls (input.Transfer n h t payload first)) reached calls refusal w
+Carries g v (input.Disposition n d) received reached calls refusal w = (received ≡ None) × Does g v n.0 (request_calls (input.Disposition n d)) reached calls refusal w
 Carries g v (input.Stop n reason) received reached calls refusal w = (received ≡ None) × Does g v n.0 (request_calls (input.Stop n reason)) reached calls refusal w
 
 -- the input is carried out

@@ -65,6 +65,7 @@ names (input.Attach n a) = Some n.0
 names (input.Detach n d expects_echo) = Some n.0
 names (input.Flow n l) = Some n.0
 names (input.Transfer n h t payload first) = Some n.0
+names (input.Disposition n d) = Some n.0
 names (input.Stop n reason) = Some n.0
 names i = None
 
@@ -83,9 +84,10 @@ abbrev pub GoesAlong : {R : Type 0} → Option ℕ → Entry R → Type 0
 GoesAlong None e = (e.reached ≡ None) × (e.refusal ≡ Some (no.Connection not_found))
 GoesAlong (Some n) e = (e.reached ≡ Some n) × ¬ (e.refusal ≡ Some (no.Connection not_found))
 
--- an Attach, a Flow, a Transfer and a Detach go along in every state of the connection; an End in Opened alone
+-- an Attach, a Flow, a Transfer, a Disposition and a Detach go along in every state of the connection; an End in Opened alone
 abbrev pub Passes : {R : Type 0} → FrameBody → ConnectionState → Option ℕ → Entry R → Type 0
 Passes (body.Attach p) s route e = GoesAlong route e
+Passes (body.Disposition p) s route e = GoesAlong route e
 Passes (body.Detach p) s route e = GoesAlong route e
 Passes (body.Flow p) s route e = GoesAlong route e
 Passes (body.Transfer p payload) s route e = GoesAlong route e

@@ -1,6 +1,6 @@
 -- What requests and received frames do with the session that they reach: its calls, what is answered, and the frames that
 -- wait then.
-use Rattle.std.specs.Prelude.{◌≡◌, ◌⊎◌, ◌<◌, ◌^◌, ℕ, List, [], ◌∷◌, ◌++◌, Option, Some, None, Result, Ok, Err, IsSome, nat_eq, Bool, true, false}
+use Rattle.std.specs.Prelude.{◌≡◌, ◌⊎◌, ◌<◌, ◌^◌, ℕ, List, [], ◌∷◌, ◌++◌, map, Option, Some, None, Result, Ok, Err, IsSome, nat_eq, Bool, true, false}
 use Rattle.std.specs.Map.{lookup, set_value}
 use Rattle.amqp_types.specs.declared.states.SessionState.TheVariants as at
 use Rattle.amqp_session.specs.declared.frame.SessionFrame.{SessionFrame}
@@ -19,8 +19,9 @@ use Rattle.fe2o3_amqp.specs.declared.engine.step_error.StepError.{StepError}
 use Rattle.fe2o3_amqp.specs.declared.engine.step_error.StepError.TheVariants as no
 use Rattle.fe2o3_amqp.specs.Connection.{ConnectionView, AllocateStep, Holds, given_back, not_found, refusal_of}
 use Rattle.fe2o3_amqp.specs.EngineView.{EngineView}
-use Rattle.fe2o3_amqp.specs.Waits.{sent}
-use Rattle.fe2o3_amqp.specs.Calls.{Calls, BeginCalls}
+use Rattle.fe2o3_amqp.specs.Waits.{sent, disposition_frame}
+use Rattle.fe2o3_amqp.specs.Calls.{Calls, BeginCalls, SentEach}
+use Rattle.amqp_types.specs.Disposition.{DispositionSaid}
 
 -- ---- one session
 
@@ -39,6 +40,11 @@ pub record Answered {R : Type 0} (g : Relays R) (v : SessionView R) (asks : Call
   pub asked : asks v.state calls (refusal_of result)
   pub steps : session.Chain g v calls w
   pub frames : sent (calls_frames calls) ≡ frames_with result
+
+-- Each disposition goes out, in order; the session's channel stays, and each frame is on it.
+abbrev pub SendsAll : {R : Type 0} → Relays R → SessionView R → List DispositionSaid → SessionView R → Type 0
+SendsAll {R} g v ds w = (calls : List (session.Entry R)) × SentEach ds calls × session.Chain g v calls w
+    × (calls_frames calls ≡ map (disposition_frame v.outgoing_channel) ds) × (w.outgoing_channel ≡ v.outgoing_channel)
 
 -- ---- one session, among those of an engine
 

@@ -2,7 +2,7 @@
 
 use crate::numbers::SessionNo;
 use amqp_session::{InputHandle, LinkFlow, SessionSettings, SessionStopReason};
-use amqp_types::{Attach, Detach, Error, Transfer};
+use amqp_types::{Attach, Detach, Disposition, Error, Transfer};
 use bytes::Bytes;
 
 /// A received frame, or a local request. `R` relays what comes for the links of a session.
@@ -33,6 +33,8 @@ pub enum Input<R> {
     /// A transfer of the link of the input handle is to be sent, with its payload: the first of its delivery, or a later
     /// one.
     Transfer(SessionNo, InputHandle, Transfer, Bytes, bool),
+    /// A disposition of deliveries of the session is to be sent.
+    Disposition(SessionNo, Disposition),
     /// The session's channel is given back, for another session. Callers do so after the exchange of End: frames of the
     /// session would still carry the channel.
     Release(SessionNo),

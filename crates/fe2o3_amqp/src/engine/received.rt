@@ -14,8 +14,8 @@ ghost use Rattle.fe2o3_amqp.specs.Engine.{ReceivedStep, FieldsStep, ReceivedClos
 
 use super::Engine;
 use super::sessions::{
-    attach_received, begin_received, detach_received, end_received, flow_received,
-    transfer_received,
+    attach_received, begin_received, detach_received, disposition_received, end_received,
+    flow_received, transfer_received,
 };
 use super::step_error::StepError;
 use crate::connection::{Connection, ConnectionInnerError, ConnectionStateError};
@@ -168,12 +168,14 @@ impl<R: LinkRelay> Engine<R> {
     {
         let mut rest = fields;
         let disposition: Disposition = read_list(self.alloc, &mut rest)?;
-        drop(disposition);
-        let _number = self
+        let number = self
             .connection
             .session_tx_by_incoming_channel(channel)
             .ok_or(ConnectionInnerError::NotFound(None))?;
-        Err(StepError::Connection(ConnectionInnerError::NotImplemented(None)))
+        self.ask_session(
+            number.0,
+            |session| disposition_received(session, disposition),
+        )
     }
 
     fn receive_attach(&mut self, channel: IncomingChannel, fields: Bytes) -> Result<(), StepError>

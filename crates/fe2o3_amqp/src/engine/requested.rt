@@ -14,8 +14,8 @@ ghost use Rattle.fe2o3_amqp.specs.Engine.{OpenRequest, CloseRequest, CarriedStep
 use super::Engine;
 use super::input::Input;
 use super::sessions::{
-    Outgoing, allocate_incoming_link, allocate_link, end, send_attach, send_detach, send_flow,
-    send_transfer, stop,
+    Outgoing, allocate_incoming_link, allocate_link, end, send_attach, send_detach,
+    send_disposition, send_flow, send_transfer, stop,
 };
 use super::step_error::StepError;
 use super::waiting::Waiting;
@@ -96,6 +96,9 @@ impl<R: LinkRelay> Engine<R> {
                     number.0,
                     |session| send_transfer(session, input, transfer, payload, is_first),
                 )
+            }
+            Input::Disposition(number, disposition) => {
+                self.ask_session(number.0, |session| send_disposition(session, disposition))
             }
             Input::Release(number) => self.request_release(number.0),
             Input::Stop(number, reason) => self.ask_session(

@@ -2,14 +2,20 @@
 
 ghost use Rattle.std.specs.Prelude.{◌≡◌, string_bytes};
 ghost use Rattle.amqp_session.specs.States.{takes_end};
-ghost use Rattle.fe2o3_amqp.specs.Calls.{is_end_received, end_reason, remote_end_reason, EndCalls, AllocateLinkCalls, AllocateIncomingCalls, AttachCalls, DetachCalls, ReceivedAttachCalls, ReceivedDetachCalls, FlowCalls, TransferCalls, StopCalls, ReceivedBeginCalls, ReceivedEndCalls, ReceivedFlowCalls, ReceivedTransferCalls};
-ghost use Rattle.fe2o3_amqp.specs.Sessions.{Answered, RecordedEnd};
+ghost use Rattle.fe2o3_amqp.specs.Calls.{is_end_received, end_reason, remote_end_reason, EndCalls, AllocateLinkCalls, AllocateIncomingCalls, AttachCalls, DetachCalls, ReceivedAttachCalls, ReceivedDetachCalls, FlowCalls, TransferCalls, StopCalls, ReceivedBeginCalls, ReceivedEndCalls, ReceivedFlowCalls, ReceivedTransferCalls, DispositionCalls, ReceivedDispositionCalls};
+ghost use Rattle.amqp_types.specs.Disposition.{DispositionSaid};
+ghost use Rattle.amqp_session.specs.declared.frame.SessionFrameBody.TheVariants as said;
+ghost use Rattle.fe2o3_amqp.specs.Sessions.{Answered, SendsAll, RecordedEnd};
 
 use super::step_error::StepError;
 use super::waiting::Waiting;
-use amqp_session::{IncomingChannel, InputHandle, LinkFlow, LinkRelay, Session, SessionStopReason};
-use amqp_types::{Attach, Begin, Detach, End, Error, Flow, SessionState, Transfer};
+use amqp_session::{
+    IncomingChannel, InputHandle, LinkFlow, LinkRelay, Session, SessionFrame, SessionFrameBody,
+    SessionStopReason,
+};
+use amqp_types::{Attach, Begin, Detach, Disposition, End, Error, Flow, SessionState, Transfer};
 use bytes::Bytes;
+use std::collections::VecDeque;
 
 /// The frames that wait for what a session hands out, or why it refuses.
 pub(crate) type Outgoing = Result<Waiting, StepError>;
@@ -110,6 +116,15 @@ pub(crate) fn send_transfer<R: LinkRelay>(
     Ok(Waiting::of(session.on_outgoing_transfer(input, transfer, payload, is_first)?))
 }
 
+pub(crate) fn send_disposition<R: LinkRelay>(
+    session: &mut Session<R>,
+    disposition: Disposition,
+) -> Outgoing
+    ensures { Answered R.gives session.old.view (DispositionCalls disposition) result session.new.view }
+{
+    Ok(Waiting::alone(Some(session.on_outgoing_disposition(disposition))))
+}
+
 pub(crate) fn stop<R: LinkRelay>(session: &mut Session<R>, reason: SessionStopReason) -> Outgoing
     ensures { Answered R.gives session.old.view (StopCalls reason) result session.new.view }
 {
@@ -174,6 +189,50 @@ pub(crate) fn flow_received<R: LinkRelay>(session: &mut Session<R>, flow: Flow) 
     ensures { Answered R.gives session.old.view (ReceivedFlowCalls flow) result session.new.view }
 {
     Ok(Waiting::of(session.on_incoming_flow(flow)?))
+}
+
+/// Sends each disposition, in order. As frames they are on the session's channel, and wait as they are: that takes no memory.
+fn send_each<R: LinkRelay>(
+    session: &mut Session<R>,
+    dispositions: Vec<Disposition>,
+) -> VecDeque<Disposition>
+    ensures same { result.items ≡ dispositions.items }
+    ensures sent { SendsAll R.gives session.old.view dispositions.items session.new.view }
+{
+    let mut waiting = VecDeque::from(dispositions);
+    for _turn in 0..waiting.len() {
+        let disposition = waiting.pop_front().unwrap();
+        let frame = session.on_outgoing_disposition(disposition);
+        waiting.push_back_reserved(disposition_in(frame));
+    }
+    waiting
+}
+
+/// The disposition of a session's frame.
+fn disposition_in(frame: SessionFrame) -> Disposition
+    requires { (d : DispositionSaid) × (frame.body ≡ said.Disposition d) }
+    ensures { frame.body ≡ said.Disposition result }
+{
+    match frame.body {
+        SessionFrameBody::Disposition(disposition) => disposition,
+        _ => unreachable!(),
+    }
+}
+
+/// The peer's disposition. What the relays answer goes out, one disposition for each run of deliveries.
+pub(crate) fn disposition_received<R: LinkRelay>(
+    session: &mut Session<R>,
+    disposition: Disposition,
+) -> Outgoing
+    ensures { Answered R.gives session.old.view (ReceivedDispositionCalls disposition) result session.new.view }
+{
+    match session.on_incoming_disposition(disposition)? {
+        None => Ok(Waiting::none()),
+        Some(echoes) => {
+            let channel = session.outgoing_channel();
+            Ok(Waiting::dispositions(channel, send_each(session, echoes)))
+        }
+    }
 }
 
 /// The peer's transfer; after one that is accepted a session flow may be due.

@@ -1,8 +1,8 @@
 //! Frames that wait to be put out. They come from one call, and waiting takes no memory of its own.
 
-ghost use Rattle.std.specs.Prelude.{◌≡◌, [], ◌∷◌, List, IfSome, is_some};
+ghost use Rattle.std.specs.Prelude.{◌≡◌, [], ◌∷◌, List, map, IfSome, is_some};
 ghost use Rattle.amqp_session.specs.Items.{first_frame, item_frames};
-ghost use Rattle.fe2o3_amqp.specs.Waits.{body_of, frame_of, sent, behind_frames, waits, has_frames, InFront, FirstIs, TakesFirst};
+ghost use Rattle.fe2o3_amqp.specs.Waits.{body_of, frame_of, sent, disposition_frame, behind_frames, waits, has_frames, InFront, FirstIs, TakesFirst};
 
 use amqp_frames::{Frame, FrameBody};
 use amqp_session::{OutgoingChannel, SessionFrame, SessionFrameBody, SessionOutgoingItem};
@@ -123,6 +123,16 @@ impl Waiting {
                 Waiting::from_first(Behind::Frames(VecDeque::from(frames)))
             }
         }
+    }
+
+    /// These dispositions wait, each as a frame on this channel.
+    pub(crate) fn dispositions(
+        channel: OutgoingChannel,
+        dispositions: VecDeque<Disposition>,
+    ) -> Waiting
+        ensures { result ≡ sent (map (disposition_frame channel.0) dispositions.items) }
+    {
+        Waiting::from_first(Behind::Dispositions(channel, dispositions))
     }
 
     /// These frames wait.

@@ -128,6 +128,9 @@ fn performative(alloc: Global, number: SessionNo, bytes: Bytes) -> Result<Asked,
 fn asked_of(number: SessionNo, performative: Performative, rest: Bytes) -> Asked {
     match performative {
         Performative::Attach(attach) => Asked::Input(Input::Attach(number, attach)),
+        Performative::Disposition(disposition) => {
+            Asked::Input(Input::Disposition(number, disposition))
+        }
         Performative::Detach(detach) => Asked::Input(Input::Detach(number, detach, true)),
         Performative::Flow(flow) => match LinkFlow::try_from(flow) {
             Ok(flow) => Asked::Input(Input::Flow(number, flow)),

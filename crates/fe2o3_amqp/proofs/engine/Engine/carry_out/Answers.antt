@@ -1,5 +1,5 @@
 use Rattle.std.proofs.Common.{rules, string_bytes, None, refl}
-use Rattle.fe2o3_amqp.specs.Calls.{EndCalls, AllocateLinkCalls, AllocateIncomingCalls, AttachCalls, DetachCalls, FlowCalls, TransferCalls, StopCalls}
+use Rattle.fe2o3_amqp.specs.Calls.{EndCalls, AllocateLinkCalls, AllocateIncomingCalls, AttachCalls, DetachCalls, DispositionCalls, FlowCalls, TransferCalls, StopCalls}
 use Rattle.fe2o3_amqp.proofs.Asking.{does}
 use Rattle.fe2o3_amqp.proofs.engine.Engine.carry_out.Goals as goal
 
@@ -34,3 +34,7 @@ returns-in-Attach g c =
 pub returns-in-Detach : goal.returns-in-Detach
 returns-in-Detach g c =
     let d = does g.R.LinkRelay.gives (DetachCalls c.in-Detach.detach c.in-Detach.expects_echo) _ _ _ _ _ (λ s t a h. search rules) c.ask_session-in-Detach.ensures in rw c.in-Detach.is (None, d.0, d.1, (refl, d.2))
+
+pub returns-in-Disposition : goal.returns-in-Disposition
+returns-in-Disposition g c =
+    let d = does g.R.LinkRelay.gives (DispositionCalls c.in-Disposition.disposition) _ _ _ _ _ (λ s t a h. search rules) c.ask_session-in-Disposition.ensures in rw c.in-Disposition.is (None, d.0, d.1, (refl, d.2))
