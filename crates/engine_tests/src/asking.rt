@@ -1,6 +1,6 @@
 //! Asking an engine, one input at a time.
 
-use crate::given::{ReplayEngine, pieces_said, unnamed_open};
+use crate::given::{ReplayEngine, ReplayInput, pieces_said, unnamed_open};
 use bytes::Bytes;
 use fe2o3_amqp::{
     ConnectionState, DeliveryTag, Engine, Handle, Input, InputHandle, Piece, SessionNo,
@@ -9,7 +9,7 @@ use fe2o3_amqp::{
 use std::alloc::{AllocError, Global};
 
 /// What an input is answered.
-pub fn answer(engine: &mut ReplayEngine, input: Input) -> &'static str {
+pub fn answer(engine: &mut ReplayEngine, input: ReplayInput) -> &'static str {
     match engine.step(input) {
         Ok(()) => "done",
         Err(error) => err_name(&error),
