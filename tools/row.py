@@ -2,7 +2,7 @@
 
 from canonical import boolean, composite, string, symbol, tag, uint, ushort
 
-OPEN, BEGIN, FLOW, TRANSFER, END, CLOSE, ERROR = 0x10, 0x11, 0x13, 0x14, 0x17, 0x18, 0x1D
+OPEN, BEGIN, ATTACH, FLOW, TRANSFER, DETACH, END, CLOSE, ERROR = 0x10, 0x11, 0x12, 0x13, 0x14, 0x16, 0x17, 0x18, 0x1D
 
 LAST = 4294967295
 
@@ -57,6 +57,16 @@ def one_symbol(text):
     """An array of one symbol: the size of what follows, the count, the constructor, the item (AMQP 1.0 part 1, section 1.6.24)."""
     item = symbol(text)
     return bytes([0xE0, len(item) + 1, 1]) + item
+
+
+def attach(name, handle, is_receiver=True):
+    """An Attach (AMQP 1.0 part 2, section 2.7.3) without source and target."""
+    return composite(ATTACH, [string(name), uint(handle), boolean(is_receiver)]).hex()
+
+
+def detach(handle, closed=False, condition=None):
+    """A Detach (AMQP 1.0 part 2, section 2.7.7)."""
+    return composite(DETACH, [uint(handle), boolean(True if closed else None), error(condition)]).hex()
 
 
 def flow(next_incoming_id, incoming_window, next_outgoing_id=0, outgoing_window=8, handle=None, *of_link, drain=False, echo=False):
