@@ -10,7 +10,13 @@ mod driving;
 mod errors;
 pub mod example;
 #[cfg(test)]
+mod facing;
+#[cfg(test)]
 mod given;
+#[cfg(test)]
+mod linking;
+#[cfg(test)]
+mod links;
 #[cfg(test)]
 mod relay;
 #[cfg(test)]
@@ -29,5 +35,7 @@ mod several;
 mod steps;
 #[cfg(test)]
 mod stopping;
+#[cfg(test)]
+mod telling;
 #[cfg(test)]
 mod transcripts;
