@@ -61,8 +61,9 @@ class Session:
         self.queue, self.handed = [], 0
         self.base, self.width = 0, 0
         self.next_incoming, self.is_mapped, self.is_ending = 0, False, False
-        # the first frame of a delivery has its number and tag
-        self.deliveries, self.unanswered = 0, []
+        self.deliveries = 0
+        # detaches by which the relay answered, and which the client's recording has still to show
+        self.unanswered = []
 
     def out(self, text):
         return f"out 020000{self.number:02x}" + text.hex()

@@ -1,6 +1,10 @@
 """Rows of links in an engine: names, attach and detach, flows and transfers of a link (AMQP 1.0 part 2, section 2.6)."""
 
+from pathlib import Path
+
 from row import attach, begin, detach, end, flow, out, recv, transfer
+
+EXAMPLE = Path(__file__).resolve().parent.parent / "examples" / "a_link.txt"
 
 UNKNOWN, IN_USE = "err RemoteAttachingLinkNameNotFound", "err HandleInUse"
 LIVE, UNATTACHED = "err DuplicatedLinkName", "err UnattachedHandle"
@@ -27,6 +31,19 @@ def has_handle(rows, handle, name, output):
 def echoes(rows, handle, output):
     """An echo is asked for on a handle of the peer's, and goes out on the output handle."""
     hear(rows, flow(0, 8, 0, 8, handle, 3, 4, 1, echo=True), out(flow(0, 5000, 0, 5000, output, 3, 4, 1)))
+
+
+def example(rows):
+    rows.row("The lines of the example a_link.txt")
+    before = len(rows.asked)
+    rows.open()
+    rows.begin(0)
+    hear(rows, begin(0, 0, 8, 8))
+    rows.ask("link 0 a")
+    rows.ask("send 0 " + attach("a", 0), out(attach("a", 0)))
+    hear(rows, attach("a", 5, False))
+    hear(rows, detach(5, True), out(detach(0, True)))
+    assert EXAMPLE.read_text().splitlines() == rows.asked[before:]
 
 
 def attached_and_detached(rows):
@@ -155,6 +172,7 @@ def two_sessions(rows):
 
 
 def write(rows):
+    example(rows)
     attached_and_detached(rows)
     outside_mapped(rows)
     sent(rows)

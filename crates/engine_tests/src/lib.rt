@@ -1,5 +1,6 @@
-//! Tests of an engine that need its types, by public calls alone: single inputs and runs, refused memory, conversions, and a
-//! transcript that another program drives. The rows of a connection and of transcripts are those of the program `engine_rows`.
+//! Tests of an engine that need its types, by public calls alone: single inputs and runs, links with two kinds of relay, refused
+//! memory, conversions, and a transcript that another program drives. The rows of a connection and of transcripts are those of
+//! the program `engine_rows`.
 #![tactic(auto)]
 
 #[cfg(test)]

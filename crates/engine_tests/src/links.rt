@@ -1,11 +1,13 @@
 //! Links in an engine, with two kinds of relay: that of transcripts, whose answers are known, and one that has a choice.
 
-use crate::asking::hear;
+use crate::asking::{answer, begins, hear, opened};
+use crate::given::ReplayEngine;
 use crate::linking::{
     allot, allot_incoming, handle_of, mapped, puts_out_one, send_attach, send_detach, send_flow,
 };
 use crate::telling::{Telling, Told};
-use fe2o3_amqp::{Engine, LinkRelay, ReplayRelay};
+use fe2o3_amqp::session::AllocLinkError;
+use fe2o3_amqp::{Engine, Input, LinkRelay, ReplayRelay, SessionNo, SessionStopReason, StepError};
 use std::alloc::Global;
 
 /// The peer's attaches on channel 5: of "a" on handle 5, of "c" on handle 6.
@@ -129,5 +131,44 @@ fn a_relay_is_told_of_a_detach_that_the_peer_began(rt: HostRuntime) {
     assert!(rt; puts_out_one(rt.alloc(), &mut engine, want));
     assert!(rt; ends_in_silence(rt.alloc(), &mut engine));
     assert_eq!(rt; told.counts(), [1, 0, 1, 0]);
+    drop(engine);
+}
+
+/// Why no link is allotted.
+#[derive(Clone, Copy, Debug, PartialEq)]
+enum Why {
+    NotMapped,
+    Stopped(SessionStopReason),
+    Other,
+}
+
+/// Why session 0 allots no link without a name.
+fn unallotted(alloc: Global, engine: &mut ReplayEngine) -> Why {
+    match engine.step(Input::AllocateLink(SessionNo(0), String::new(alloc), None)) {
+        Err(StepError::AllocLink(AllocLinkError::SessionNotMapped)) => Why::NotMapped,
+        Err(StepError::AllocLink(AllocLinkError::SessionStopped(reason))) => Why::Stopped(reason),
+        _ => Why::Other,
+    }
+}
+
+#[test]
+fn a_link_that_is_not_allotted_is_told_why(rt: HostRuntime) {
+    let mut engine = opened(rt.alloc());
+    assert!(rt; begins(&mut engine, 0));
+    assert_eq!(rt; unallotted(rt.alloc(), &mut engine), Why::NotMapped);
+    let stop = Input::Stop(SessionNo(0), SessionStopReason::RemoteEnded);
+    assert_eq!(rt; answer(&mut engine, stop), "done");
+    let want = Why::Stopped(SessionStopReason::RemoteEnded);
+    assert_eq!(rt; unallotted(rt.alloc(), &mut engine), want);
+    drop(engine);
+}
+
+#[test]
+fn a_link_of_an_ended_session_is_told_so(rt: HostRuntime) {
+    let mut engine: ReplayEngine = mapped(rt.alloc());
+    assert_eq!(rt; answer(&mut engine, Input::End(SessionNo(0), None)), "done");
+    assert!(rt; puts_out_one(rt.alloc(), &mut engine, "out 0200000000531745\n"));
+    let want = Why::Stopped(SessionStopReason::Ended);
+    assert_eq!(rt; unallotted(rt.alloc(), &mut engine), want);
     drop(engine);
 }
