@@ -1,4 +1,4 @@
-"""The canonical spelling of what recorded transfers and flows hold (AMQP 1.0 part 1, section 1.6), for the scripts beside it."""
+"""The canonical spelling of fields and performatives (AMQP 1.0 part 1, section 1.6), for the scripts beside it."""
 
 
 def uint(value):
@@ -31,6 +31,18 @@ def composite(code, fields):
     if len(data) < 255:
         return bytes([0x00, 0x53, code, 0xC0, len(data) + 1, len(fields)]) + data
     return bytes([0x00, 0x53, code, 0xD0]) + (len(data) + 4).to_bytes(4, "big") + len(fields).to_bytes(4, "big") + data
+
+
+def ulong(value):
+    if value is None:
+        return b"\x40"
+    if value == 0:
+        return b"\x44"
+    return bytes([0x53, value]) if value < 256 else b"\x80" + value.to_bytes(8, "big")
+
+
+def ubyte(value):
+    return b"\x40" if value is None else bytes([0x50, value])
 
 
 def ushort(value):

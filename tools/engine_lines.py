@@ -1,6 +1,6 @@
 """Rows of the lines of a transcript: which are read, and which end it."""
 
-from row import OUR_OPEN, begin, closing, flow, out, transfer
+from row import OUR_OPEN, begin, closing, flow, opening, out, transfer
 
 FIRST = transfer(text="t") + "70"
 
@@ -54,6 +54,18 @@ def bad(rows):
         "send 0 " + closing(),
         "send 0 " + begin(0),
         "send 0 " + flow(1, 1),
+        "send 0 " + opening("a"),
+        "link",
+        "link ",
+        "link 0",
+        "link 0 ",
+        "link a",
+        "link  a",
+        "link a 0",
+        "link +0 a",
+        "link -1 a",
+        "link 4294967296 a",
+        "links 0 a",
     ]:
         rows.row(f"This line cannot be read: [{line}]")
         rows.ask(line, "bad line 1", "status 2")

@@ -4,14 +4,16 @@
     tools/expected_engine.py            writes crates/engine_rows/{stdin,stdout}
 
 Each row is a transcript for an engine of its own in HeaderExchange, whose Open is named `replay`. Beside each line stands what it has to
-print (AMQP 1.0 part 2, sections 2.4 and 2.5; docs/PROTOCOL.md for the tables). Nothing is taken from the program's output.
+print (AMQP 1.0 part 2, sections 2.4 to 2.6; docs/PROTOCOL.md for the tables). Nothing is taken from the program's output.
 """
 
 from pathlib import Path
 
 import engine_alone
 import engine_connections
+import engine_handles
 import engine_lines
+import engine_links
 import engine_sessions
 from row import EngineRows
 
@@ -20,7 +22,7 @@ CRATE = Path(__file__).resolve().parent.parent / "crates" / "engine_rows"
 
 def main():
     rows = EngineRows()
-    for part in (engine_alone, engine_connections, engine_sessions, engine_lines):
+    for part in (engine_alone, engine_connections, engine_sessions, engine_links, engine_handles, engine_lines):
         part.write(rows)
     rows.write(CRATE)
 

@@ -1,135 +1,147 @@
 #!/usr/bin/env python3
-"""Writes the input and the expected output of the program exchange_tests from one recorded exchange.
+"""Writes the input and the expected output of the program exchange_tests from recorded exchanges.
 
     tools/expected_exchange.py          writes crates/exchange_tests/{stdin,stdout}
 
-The recording (crates/codec_tests/captures/proton-duo-window.*) is of two qpid-protons with frames of 512 bytes and a session window of
-4. Here the engine takes the client's place: what the server sent comes as `recv` lines, and what the client sent is asked for by
-`open`, `begin`, `send`, `end` and `close` lines. Each transfer is asked for one place before it was recorded, so that it waits for the
-window that the server opens in between; the last one at its own place.
+The recordings (crates/codec_tests/captures) are of a qpid-proton client: with a qpid-proton server, frames of 512 bytes and a session
+window of 4 (proton-duo-window); with RabbitMQ, three sessions and five links (proton-rmq-frames); with a qpid-proton server that refuses,
+redirects, and ends a session, where links go and come back under their names (proton-duo-errors). A line `-- NAME` begins each.
 
-What is expected is worked out here from the recorded fields: the transfers go out in the recorded order with the recorded fields and
-payloads, but a delivery-id and a tag stand on the first frame of a delivery alone; each as soon as a request finds it inside the latest
-recorded window. Links are not there, so the recorded attaches, dispositions and detaches of the server are answered NotImplemented, and
-its flows and transfers, which name links, UnattachedHandle: their windows count all the same.
+The engine takes the client's place: what the server sent comes as `recv` lines, and what the client sent is asked for by `open`, `begin`,
+`link`, `send`, `end` and `close` lines, each where it was recorded, but:
+- a link is allotted where its attach was recorded, or behind the server's Begin where it was recorded before that, since a session that is
+  not mapped allots none. The handles agree with the recorded ones in all three.
+- the detach by which the client answered the server's is the relay's: it goes out by itself.
+- in proton-duo-window each transfer is asked for one place before it was recorded, so that it waits for the window that the server opens in
+  between; the last one at its own place.
+- an End or a Close is asked for without an error, and the numbers of an Open, a Begin and a Flow are this side's.
+- dispositions are left out on this side, and refused when they come: client.TAKES_DISPOSITIONS.
+
+What is expected is worked out from the recorded fields, by client.py and not by the engine.
 """
 
-import json
 from pathlib import Path
 
-from canonical import boolean, composite, tag, uint
+from canonical import composite, uint
+from client import Session
+from recorded import ATTACH, BEGIN, CLOSE, DETACH, DISPOSITION, END, FLOW, OPEN, TRANSFER, recording
 
-ROOT = Path(__file__).resolve().parent.parent
-CAPTURE = ROOT / "crates" / "codec_tests" / "captures" / "proton-duo-window"
-CRATE = ROOT / "crates" / "exchange_tests"
+CRATE = Path(__file__).resolve().parent.parent / "crates" / "exchange_tests"
 
-OPEN, BEGIN, ATTACH, FLOW, TRANSFER, DISPOSITION, DETACH, END, CLOSE = range(0x10, 0x19)
+# each recording, and by how many places a transfer is asked for before it was recorded
+RECORDINGS = {"proton-duo-window": 1, "proton-rmq-frames": 0, "proton-duo-errors": 0}
 
-
-class Message:
-    """A transfer that the client sent: its fields and its payload, and whether it is the first of its delivery."""
-
-    def __init__(self, line, frame, is_first):
-        fields = line["fields"] + [None] * (11 - len(line["fields"]))
-        self.handle, self.delivery, self.tag, self.format, self.settled, self.more = fields[:6]
-        self.payload = frame[len(frame) - line["payload"]:]
-        self.is_first = is_first
-
-    def text(self, delivery):
-        more = True if self.more else None
-        first = [uint(delivery), tag(self.tag), uint(self.format), boolean(self.settled)]
-        middle = first if self.is_first else [b"\x40"] * 4
-        return composite(TRANSFER, [uint(self.handle)] + middle + [boolean(more)]) + self.payload
-
-    def asked(self):
-        return "send 0 " + self.text(None).hex()
-
-    def sent(self):
-        return "out 02000000" + self.text(self.delivery).hex()
-
-
-def flow(line, numbers):
-    fields = line["fields"] + [None] * (11 - len(line["fields"]))
-    of_link = [uint(fields[i]) for i in range(4, 8)]
-    drain = boolean(True if fields[8] else None)
-    return composite(FLOW, [uint(n) for n in numbers] + of_link + [drain])
+OUR_OPEN = "out 02000000005310c01204a1067265706c61794070000400006000ff"
+OUR_BEGIN = composite(BEGIN, [b"\x40", uint(0), uint(5000), uint(5000)])
 
 
 class Exchange:
-    def __init__(self):
-        self.lines, self.out = [], []
-        self.queue, self.handed = [], 0
-        self.base, self.width = 0, 0
-        self.received = 0
+    def __init__(self, name):
+        self.lines, self.out = ["-- " + name], ["-- " + name]
+        # the client's sessions by its channels, and those to which the server's channels lead
+        self.sessions, self.routes = {}, {}
+        # attaches that wait for the server's Begin
+        self.early = []
+        self.is_closing = False
 
-    def ask(self, line, *answers):
+    def ask(self, line, answers):
         self.lines.append(line)
         self.out.extend(answers)
 
-    def request(self, message):
-        """A transfer is asked for; then all that the window allows goes out, in order."""
-        self.ask(message.asked())
-        self.queue.append(message)
-        while self.queue and (self.handed - self.base) % 2**32 < self.width:
-            self.out.append(self.queue.pop(0).sent())
-            self.handed += 1
+    def ask_all(self, asked):
+        for line, answers in asked:
+            self.ask(line, answers)
 
-    def hear(self, line, frame):
-        answers = {ATTACH: ["err NotImplemented"], DISPOSITION: ["err NotImplemented"], DETACH: ["err NotImplemented"],
-                   FLOW: ["err UnattachedHandle"], TRANSFER: ["err UnattachedHandle"]}
-        self.ask("recv " + frame.hex(), *answers.get(line["code"], []))
-        if line["code"] == BEGIN:
-            self.base, self.width = self.handed, line["fields"][2]
-        if line["code"] == FLOW:
-            self.base, self.width = line["fields"][0], line["fields"][1]
-            self.received = line["fields"][2]
-        if line["code"] == TRANSFER:
-            self.received += 1
+    def hear(self, frame):
+        self.ask("recv " + frame.bytes.hex(), self.heard(frame))
+        if frame.code == BEGIN:
+            for attach in [it for it in self.early if it.channel == frame["remote_channel"]]:
+                self.ask_all(self.sessions[attach.channel].ask_attach(attach))
 
-    def send_flow(self, line):
-        asked = flow(line, [line["fields"][i] for i in range(4)])
-        out = flow(line, [self.received, 5000, self.handed, 5000])
-        self.ask("send 0 " + asked.hex(), "out 02000000" + out.hex())
+    def heard(self, frame):
+        """What the server's frame is answered."""
+        if frame.code is None or frame.code == OPEN:
+            return []
+        if frame.code == BEGIN:
+            self.routes[frame.channel] = self.sessions[frame["remote_channel"]]
+            self.routes[frame.channel].hear_begin(frame)
+            return []
+        if frame.code == CLOSE:
+            return ended("Closed", frame, self.is_closing)
+        if frame.code == END:
+            return ended("Ended", frame, self.routes.pop(frame.channel).is_ending)
+        session = self.routes[frame.channel]
+        takes = {ATTACH: session.hear_attach, FLOW: session.hear_flow, TRANSFER: session.hear_transfer,
+                 DISPOSITION: session.hear_disposition, DETACH: session.hear_detach}
+        return takes[frame.code](frame)
+
+    def request(self, frame):
+        """What the client sent, but its transfers, is asked for."""
+        if frame.code == OPEN:
+            self.ask("open", [OUR_OPEN])
+        elif frame.code == CLOSE:
+            self.is_closing = True
+            self.ask("close", ["out 0200000000531845"])
+        elif frame.code == BEGIN:
+            assert frame.channel == len(self.sessions), "the lowest channel"
+            session = self.sessions[frame.channel] = Session(frame.channel)
+            self.ask(f"begin {frame.channel}", [session.out(OUR_BEGIN)])
+        else:
+            self.request_of(self.sessions[frame.channel], frame)
+
+    def request_of(self, session, frame):
+        if frame.code == END:
+            session.is_ending = True
+            self.ask(f"end {session.number}", [session.out(composite(END, []))])
+        elif frame.code == ATTACH and not session.is_mapped:
+            self.early.append(frame)
+        else:
+            asks = {ATTACH: session.ask_attach, FLOW: session.ask_flow, DISPOSITION: session.ask_disposition, DETACH: session.ask_detach}
+            self.ask_all(asks[frame.code](frame))
+
+    def transfer(self, frame, is_first):
+        self.ask_all(self.sessions[frame.channel].ask_transfer(frame, is_first))
 
 
-def messages(recorded):
+def ended(name, frame, is_answer):
+    """How the server's Close or End is answered: one with an error always as an error, one without where it is the first."""
+    if frame["error"] is not None:
+        return [f"err Remote{name}WithError"]
+    return [] if is_answer else [f"err Remote{name}"]
+
+
+def transfers(recorded):
+    """The client's transfers, and whether each is the first of its delivery."""
     made, going = [], {}
-    for side, frame, line in recorded:
-        if side == "A" and line["code"] == TRANSFER:
-            handle = line["fields"][0]
-            made.append(Message(line, frame, not going.get(handle, False)))
-            going[handle] = len(line["fields"]) > 5 and bool(line["fields"][5])
+    for frame in recorded:
+        if frame.side == "A" and frame.code == TRANSFER:
+            link = frame.channel, frame["handle"]
+            made.append((frame, not going.get(link, False)))
+            going[link] = bool(frame["more"])
     return made
 
 
-def main():
-    texts = CAPTURE.with_suffix(".txt").read_text().split("\n")
-    lines = CAPTURE.with_suffix(".fields.jsonl").read_text().split("\n")
-    recorded = [(t[0], bytes.fromhex(t[2:]), json.loads(l)) for t, l in zip(texts, lines) if t]
-    asked = messages(recorded)
-    exchange, place = Exchange(), 0
-    exchange.ask("open", "out 02000000005310c01204a1067265706c61794070000400006000ff")
-    for side, frame, line in recorded:
-        code = line["code"]
-        if side == "B":
-            exchange.hear(line, frame)
-        elif code == BEGIN:
-            exchange.ask("begin 0", "out 02000000" + composite(BEGIN, [b"\x40", uint(0), uint(5000), uint(5000)]).hex())
-        elif code == TRANSFER:
-            # one ahead: at the first place two are asked for, at the last place none is left
-            for message in asked[place + 1 if place else 0:place + 2]:
-                exchange.request(message)
+def replayed(name, ahead):
+    recorded = recording(name)
+    exchange, asked, place = Exchange(name), transfers(recorded), 0
+    for frame in recorded:
+        if frame.side == "B":
+            exchange.hear(frame)
+        elif frame.code == TRANSFER:
+            # at the first place those ahead are asked for too, at the last ones none is left
+            for of in asked[place + ahead if place else 0:place + ahead + 1]:
+                exchange.transfer(*of)
             place += 1
-        elif code == FLOW:
-            exchange.send_flow(line)
-        elif code == END:
-            exchange.ask("end 0", "out 0200000000531745")
-        elif code == CLOSE:
-            exchange.ask("close", "out 0200000000531845")
-    assert not exchange.queue, "a transfer waits at the end"
-    assert exchange.handed == len(asked)
-    CRATE.joinpath("stdin").write_text("\n".join(exchange.lines) + "\n")
-    CRATE.joinpath("stdout").write_text("\n".join(exchange.out) + "\n")
+        elif frame.code is not None:
+            exchange.request(frame)
+    assert all(not it.queue and not it.unanswered for it in exchange.sessions.values()), "something waits at the end"
+    return exchange
+
+
+def main():
+    exchanges = [replayed(name, ahead) for name, ahead in RECORDINGS.items()]
+    for file, lines in ("stdin", [it.lines for it in exchanges]), ("stdout", [it.out for it in exchanges]):
+        CRATE.joinpath(file).write_text("".join(line + "\n" for each in lines for line in each))
 
 
 if __name__ == "__main__":

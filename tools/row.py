@@ -59,6 +59,16 @@ def one_symbol(text):
     return bytes([0xE0, len(item) + 1, 1]) + item
 
 
+def attach(name, handle, is_receiver=True):
+    """An Attach (AMQP 1.0 part 2, section 2.7.3) without source and target."""
+    return composite(ATTACH, [string(name), uint(handle), boolean(is_receiver)]).hex()
+
+
+def detach(handle, closed=False, condition=None):
+    """A Detach (AMQP 1.0 part 2, section 2.7.7)."""
+    return composite(DETACH, [uint(handle), boolean(True if closed else None), error(condition)]).hex()
+
+
 def flow(next_incoming_id, incoming_window, next_outgoing_id=0, outgoing_window=8, handle=None, *of_link, drain=False, echo=False):
     """A Flow (AMQP 1.0 part 2, section 2.7.4); of_link are delivery-count, link-credit and available."""
     numbers = [uint(it) for it in (next_incoming_id, incoming_window, next_outgoing_id, outgoing_window, handle, *of_link)]

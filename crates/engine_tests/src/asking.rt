@@ -3,13 +3,13 @@
 use crate::given::{ReplayEngine, pieces_said, unnamed_open};
 use bytes::Bytes;
 use fe2o3_amqp::{
-    ConnectionState, DeliveryTag, Engine, Handle, Input, InputHandle, Piece, SessionNo,
+    ConnectionState, DeliveryTag, Engine, Handle, Input, InputHandle, LinkRelay, Piece, SessionNo,
     SessionSettings, SessionState, SessionStopReason, Transfer, err_name, hex_bytes,
 };
 use std::alloc::{AllocError, Global};
 
 /// What an input is answered.
-pub fn answer(engine: &mut ReplayEngine, input: Input) -> &'static str {
+pub fn answer<R: LinkRelay>(engine: &mut Engine<R>, input: Input<R>) -> &'static str {
     match engine.step(input) {
         Ok(()) => "done",
         Err(error) => err_name(&error),
@@ -17,7 +17,7 @@ pub fn answer(engine: &mut ReplayEngine, input: Input) -> &'static str {
 }
 
 /// What a received frame is answered, that hexadecimal digits say.
-pub fn hear(alloc: Global, engine: &mut ReplayEngine, digits: &str) -> &'static str {
+pub fn hear<R: LinkRelay>(alloc: Global, engine: &mut Engine<R>, digits: &str) -> &'static str {
     match hex_bytes(alloc, digits) {
         Ok(Some(bytes)) => answer(engine, Input::Received(bytes)),
         _ => "no bytes",
@@ -25,7 +25,7 @@ pub fn hear(alloc: Global, engine: &mut ReplayEngine, digits: &str) -> &'static 
 }
 
 /// The pieces of the first frame that waits.
-pub fn pieces(engine: &mut ReplayEngine) -> Option<Vec<Piece>> {
+pub fn pieces<R: LinkRelay>(engine: &mut Engine<R>) -> Option<Vec<Piece>> {
     match engine.next_output() {
         Ok(pieces) => pieces,
         Err(error) => {
@@ -36,7 +36,7 @@ pub fn pieces(engine: &mut ReplayEngine) -> Option<Vec<Piece>> {
 }
 
 /// The lines of the first frame that waits, if one waits.
-fn next_lines(alloc: Global, engine: &mut ReplayEngine) -> Result<String, AllocError> {
+fn next_lines<R: LinkRelay>(alloc: Global, engine: &mut Engine<R>) -> Result<String, AllocError> {
     match pieces(engine) {
         Some(pieces) => pieces_said(alloc, &pieces),
         None => Ok(String::new(alloc)),
@@ -44,7 +44,7 @@ fn next_lines(alloc: Global, engine: &mut ReplayEngine) -> Result<String, AllocE
 }
 
 /// Whether these lines, each with a line feed, are those of the first frame that waits; without a line no frame waits.
-pub fn puts_out(alloc: Global, engine: &mut ReplayEngine, lines: &str) -> bool {
+pub fn puts_out<R: LinkRelay>(alloc: Global, engine: &mut Engine<R>, lines: &str) -> bool {
     match next_lines(alloc, engine) {
         Ok(text) => text.as_str() == lines,
         Err(_) => false,
@@ -63,7 +63,7 @@ pub fn opened(alloc: Global) -> ReplayEngine {
 }
 
 /// Whether a session begins, of default settings; its Begin is taken out.
-pub fn begins(engine: &mut ReplayEngine, number: u32) -> bool {
+pub fn begins<R: LinkRelay>(engine: &mut Engine<R>, number: u32) -> bool {
     let begin = Input::Begin(SessionNo(number), SessionSettings::new());
     answer(engine, begin) == "done" && pieces(engine).is_some()
 }
@@ -86,8 +86,8 @@ pub fn first_transfer(tag: &'static [u8]) -> Transfer {
 }
 
 /// What the request of a first transfer is answered.
-pub fn send(
-    engine: &mut ReplayEngine,
+pub fn send<R: LinkRelay>(
+    engine: &mut Engine<R>,
     number: u32,
     tag: &'static [u8],
     payload: Bytes,

@@ -3,13 +3,16 @@
 use bytes::Bytes;
 use fe2o3_amqp::definitions::Error as AmqpError;
 use fe2o3_amqp::{
-    Answer, ConnectionState, Engine, Open, Piece, ReplayRelay, Symbol, err_name, out_line,
+    Answer, ConnectionState, Engine, Input, Open, Piece, ReplayRelay, Symbol, err_name, out_line,
 };
 use std::alloc::{AllocError, Global};
 use std::test::Fail;
 
 /// An engine whose links are relayed as those of transcripts are.
 pub type ReplayEngine = Engine<ReplayRelay>;
+
+/// An input of such an engine.
+pub type ReplayInput = Input<ReplayRelay>;
 
 /// An Open without a name, with the usual limits, and nothing else.
 pub fn unnamed_open(alloc: Global) -> Open {

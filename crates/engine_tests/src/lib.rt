@@ -1,5 +1,6 @@
-//! Tests of an engine that need its types, by public calls alone: single inputs and runs, refused memory, conversions, and a
-//! transcript that another program drives. The rows of a connection and of transcripts are those of the program `engine_rows`.
+//! Tests of an engine that need its types, by public calls alone: single inputs and runs, links with two kinds of relay, refused
+//! memory, conversions, and a transcript that another program drives. The rows of a connection and of transcripts are those of
+//! the program `engine_rows`.
 #![tactic(auto)]
 
 #[cfg(test)]
@@ -10,7 +11,13 @@ mod driving;
 mod errors;
 pub mod example;
 #[cfg(test)]
+mod facing;
+#[cfg(test)]
 mod given;
+#[cfg(test)]
+mod linking;
+#[cfg(test)]
+mod links;
 #[cfg(test)]
 mod relay;
 #[cfg(test)]
@@ -29,5 +36,7 @@ mod several;
 mod steps;
 #[cfg(test)]
 mod stopping;
+#[cfg(test)]
+mod telling;
 #[cfg(test)]
 mod transcripts;

@@ -1,18 +1,18 @@
 //! Giving an engine several inputs at once, and what it answers.
 
-use crate::given::{ReplayEngine, said};
+use crate::given::{ReplayEngine, ReplayInput, said};
 use bytes::Bytes;
 use fe2o3_amqp::{Answer, Input};
 use std::alloc::{AllocError, Global};
 use std::collections::VecDeque;
 
 /// Received bytes, without the frame's size.
-pub fn heard(bytes: &'static [u8]) -> Input {
+pub fn heard(bytes: &'static [u8]) -> ReplayInput {
     Input::Received(Bytes::from_static(bytes))
 }
 
 /// Puts an input behind the others, if memory is there.
-pub fn push(inputs: &mut VecDeque<Input>, input: Input) -> bool {
+pub fn push(inputs: &mut VecDeque<ReplayInput>, input: ReplayInput) -> bool {
     inputs.push_back(input).is_ok()
 }
 
@@ -20,7 +20,7 @@ pub fn push(inputs: &mut VecDeque<Input>, input: Input) -> bool {
 fn answers(
     alloc: Global,
     engine: &mut ReplayEngine,
-    mut inputs: VecDeque<Input>,
+    mut inputs: VecDeque<ReplayInput>,
 ) -> Option<Vec<Answer>> {
     let mut answers = Vec::new(alloc);
     let outcome = engine.run(&mut inputs, &mut answers);
@@ -35,7 +35,7 @@ fn answers(
 fn ran(
     alloc: Global,
     engine: &mut ReplayEngine,
-    inputs: VecDeque<Input>,
+    inputs: VecDeque<ReplayInput>,
 ) -> Result<String, AllocError> {
     match answers(alloc, engine, inputs) {
         Some(answers) => said(alloc, &answers),
@@ -47,7 +47,7 @@ fn ran(
 pub fn runs_to(
     alloc: Global,
     engine: &mut ReplayEngine,
-    inputs: VecDeque<Input>,
+    inputs: VecDeque<ReplayInput>,
     want: &str,
 ) -> bool {
     match ran(alloc, engine, inputs) {

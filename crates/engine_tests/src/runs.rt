@@ -1,7 +1,7 @@
 //! Whole runs of an engine.
 
 use crate::asking::{answer, engine_in};
-use crate::given::{ReplayEngine, unnamed_open};
+use crate::given::{ReplayEngine, ReplayInput, unnamed_open};
 use crate::running::{heard, push, runs_to};
 use bytes::Bytes;
 use fe2o3_amqp::{ConnectionState, Engine, Input};
@@ -9,7 +9,7 @@ use std::alloc::{AllocError, Global};
 use std::collections::VecDeque;
 
 /// Received bytes and then a Close.
-fn inputs(alloc: Global, bytes: &'static [u8]) -> VecDeque<Input> {
+fn inputs(alloc: Global, bytes: &'static [u8]) -> VecDeque<ReplayInput> {
     let mut inputs = VecDeque::new(alloc);
     let _are_there = push(&mut inputs, heard(bytes)) && push(&mut inputs, Input::Close(None));
     inputs

@@ -1,7 +1,7 @@
 //! Runs of several inputs, of which some stand behind others that hand out frames.
 
 use crate::asking::{answer, begins, engine_in, first_transfer, hear, opened};
-use crate::given::{ReplayEngine, peer_open};
+use crate::given::{ReplayEngine, ReplayInput, peer_open};
 use crate::running::{heard, push, runs_to};
 use bytes::Bytes;
 use fe2o3_amqp::{ConnectionState, Input, InputHandle, SessionNo, SessionSettings};
@@ -15,12 +15,12 @@ const BEGIN: &'static [u8] = b"\x02\0\0\x05\0\x53\x11\xc0\x09\x04\x60\0\0\x43\x5
 const FLOW: &'static [u8] = b"\x02\0\0\x05\0\x53\x13\xc0\x07\x04\x43\x52\x02\x43\x52\x08";
 
 /// The request of a session's Begin, of default settings.
-fn begin(number: u32) -> Input {
+fn begin(number: u32) -> ReplayInput {
     Input::Begin(SessionNo(number), SessionSettings::new())
 }
 
 /// The request of a first transfer of session 0, on handle 0.
-fn transfer(tag: &'static [u8], payload: &'static [u8]) -> Input {
+fn transfer(tag: &'static [u8], payload: &'static [u8]) -> ReplayInput {
     Input::Transfer(
         SessionNo(0),
         InputHandle(0),
@@ -31,7 +31,7 @@ fn transfer(tag: &'static [u8], payload: &'static [u8]) -> Input {
 }
 
 /// An Open, a Begin, two transfers and a Close, with what the peer answers in between.
-fn exchange(alloc: Global) -> VecDeque<Input> {
+fn exchange(alloc: Global) -> VecDeque<ReplayInput> {
     let mut inputs = VecDeque::new(alloc);
     let _are_there = push(&mut inputs, Input::Open)
         && push(&mut inputs, Input::Received(peer_open()))
@@ -65,7 +65,7 @@ out 0200000000531845
 }
 
 /// Inputs that are refused by each layer, between others that hand out frames.
-fn with_refusals(alloc: Global) -> VecDeque<Input> {
+fn with_refusals(alloc: Global) -> VecDeque<ReplayInput> {
     let mut inputs = VecDeque::new(alloc);
     let _are_there = push(&mut inputs, begin(0))
         && push(&mut inputs, begin(0))
@@ -101,7 +101,7 @@ out 0200000000531845
 }
 
 /// Three Begins and a Close: each hands out a frame.
-pub fn all_hand_out(alloc: Global) -> VecDeque<Input> {
+pub fn all_hand_out(alloc: Global) -> VecDeque<ReplayInput> {
     let mut inputs = VecDeque::new(alloc);
     let _are_there = push(&mut inputs, begin(2))
         && push(&mut inputs, begin(1))
@@ -130,7 +130,7 @@ fn each_input_is_answered_before_the_next(rt: HostRuntime) {
 }
 
 /// Three transfers for a window of two, and an End behind the flow that lets two of them out.
-fn let_out_at_once(alloc: Global) -> VecDeque<Input> {
+fn let_out_at_once(alloc: Global) -> VecDeque<ReplayInput> {
     let mut inputs = VecDeque::new(alloc);
     let _are_there = push(&mut inputs, transfer(b"\x0a", b"\xff"))
         && push(&mut inputs, transfer(b"\x0b", b"\xfe"))
@@ -164,7 +164,7 @@ out 0200000000531745
 }
 
 /// A Begin and a Close.
-fn begin_and_close(alloc: Global) -> VecDeque<Input> {
+fn begin_and_close(alloc: Global) -> VecDeque<ReplayInput> {
     let mut inputs = VecDeque::new(alloc);
     let _are_there = push(&mut inputs, begin(1)) && push(&mut inputs, Input::Close(None));
     inputs

@@ -1,16 +1,16 @@
 //! A run that stops for want of memory, and the next one, which goes on.
 
 use crate::asking::opened;
-use crate::given::{ReplayEngine, said};
+use crate::given::{ReplayEngine, ReplayInput, said};
 use crate::several::{ALL_HANDED_OUT, all_hand_out};
-use fe2o3_amqp::{Answer, Input};
+use fe2o3_amqp::Answer;
 use std::alloc::{AllocError, Global};
 use std::collections::VecDeque;
 
 /// Whether a run takes all inputs: where it stops, a second one goes on, and as many are left as the first did not take.
 fn goes_on(
     engine: &mut ReplayEngine,
-    inputs: &mut VecDeque<Input>,
+    inputs: &mut VecDeque<ReplayInput>,
     answers: &mut Vec<Answer>,
 ) -> bool {
     let total = inputs.len();
@@ -28,7 +28,7 @@ fn goes_on(
 fn ran_on(
     alloc: Global,
     engine: &mut ReplayEngine,
-    mut inputs: VecDeque<Input>,
+    mut inputs: VecDeque<ReplayInput>,
 ) -> Result<String, AllocError> {
     let mut answers = Vec::new(alloc);
     if !goes_on(engine, &mut inputs, &mut answers) {

@@ -12,12 +12,14 @@ use std::test::Fail;
 #[test]
 fn lines_end_at_a_line_feed(rt: HostRuntime) {
     // lines, output, errors, status
-    let rows: [(&'static [u8], &'static [u8], &'static [u8], u8); 6] = [
+    let rows: [(&'static [u8], &'static [u8], &'static [u8], u8); 8] = [
         (b"", b"", b"", 0),
         (b"close", b"err IllegalState\n", b"", 0),
         (b"\nclose", b"err IllegalState\n", b"", 0),
         (b"close\r\n", b"", b"bad line 1\n", 2),
         (b"begin 1\r", b"", b"bad line 1\n", 2),
+        (b"link 1 a\r\n", b"", b"bad line 1\n", 2),
+        (b"link 1 a\rb\n", b"", b"bad line 1\n", 2),
         (b"close\n\xff\n", b"err IllegalState\n", b"", 3),
     ];
     for (lines, output, errors, status) in rows {

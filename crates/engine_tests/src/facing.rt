@@ -1,0 +1,118 @@
+//! Two engines face to face: what one puts out, the other receives. The link is attached on both sides before transfers pass.
+
+use crate::asking::{answer, pieces, send};
+use crate::linking::{allot, mapped_by, send_attach, send_flow};
+use crate::telling::{Telling, Told};
+use bytes::Bytes;
+use fe2o3_amqp::{Engine, Input, LinkRelay, Piece, ReplayRelay};
+use std::alloc::Global;
+
+/// A Begin on channel 0, which names channel 0 and grants a window of 2.
+const BEGIN: &str = "02000000005311c009046000004352025208";
+
+/// What an engine answers to a frame of one piece.
+fn arrive<R: LinkRelay>(alloc: Global, to: &mut Engine<R>, pieces: &Vec<Piece>) -> &'static str {
+    match pieces.as_slice() {
+        [piece] => match piece.to_bytes(alloc) {
+            Ok(bytes) => answer(to, Input::Received(bytes)),
+            Err(_) => "no bytes",
+        },
+        _ => "not one piece",
+    }
+}
+
+/// What an engine answers to the first frame that waits in the other.
+fn pass<F: LinkRelay, T: LinkRelay>(
+    alloc: Global,
+    from: &mut Engine<F>,
+    to: &mut Engine<T>,
+) -> &'static str {
+    match pieces(from) {
+        Some(pieces) => arrive(alloc, to, &pieces),
+        None => "nothing waits",
+    }
+}
+
+/// What an engine answers to a transfer of the other.
+fn transfer<F: LinkRelay, T: LinkRelay>(
+    alloc: Global,
+    from: &mut Engine<F>,
+    to: &mut Engine<T>,
+) -> &'static str {
+    match send(from, 0, b"\x0a", Bytes::from_static(b"\xff")) {
+        "done" => pass(alloc, from, to),
+        refusal => refusal,
+    }
+}
+
+/// Whether "a" is live on one side and, by an attach of it, attached under 0 on the other.
+fn attach<F: LinkRelay, T: LinkRelay>(
+    alloc: Global,
+    from: &mut Engine<F>,
+    to: &mut Engine<T>,
+    relay: T,
+) -> bool {
+    allot(alloc, to, "a", Some(relay)) == "done"
+        && send_attach(alloc, from, "a", 0) == "done"
+        && pass(alloc, from, to) == "done"
+}
+
+/// Whether two transfers pass, a third one waits for the window, and a flow of the other side lets it go.
+fn two_pass<F: LinkRelay, T: LinkRelay>(
+    alloc: Global,
+    from: &mut Engine<F>,
+    to: &mut Engine<T>,
+) -> bool {
+    transfer(alloc, from, to) == "done"
+        && transfer(alloc, from, to) == "done"
+        && transfer(alloc, from, to) == "nothing waits"
+        && send_flow(to, 0) == "done"
+        && pass(alloc, to, from) == "done"
+        && pass(alloc, from, to) == "done"
+}
+
+#[test]
+fn an_attach_that_goes_out_attaches_the_link_that_waits(rt: HostRuntime) {
+    let told = Told::new();
+    let relay = Telling {
+        told: &told,
+        refusals: 0,
+    };
+    let mut from: Engine<ReplayRelay> = mapped_by(rt.alloc(), BEGIN);
+    let mut to = mapped_by(rt.alloc(), BEGIN);
+    assert!(rt; attach(rt.alloc(), &mut from, &mut to, relay));
+    assert_eq!(rt; told.counts(), [1, 0, 0, 0]);
+    assert!(rt; attach(rt.alloc(), &mut to, &mut from, ReplayRelay));
+    assert!(rt; two_pass(rt.alloc(), &mut from, &mut to));
+    assert_eq!(rt; told.counts(), [1, 3, 0, 0]);
+    drop(to);
+    drop(from);
+}
+
+#[test]
+fn the_relay_of_transcripts_is_attached_alike(rt: HostRuntime) {
+    let mut from: Engine<ReplayRelay> = mapped_by(rt.alloc(), BEGIN);
+    let mut to = mapped_by(rt.alloc(), BEGIN);
+    assert!(rt; attach(rt.alloc(), &mut from, &mut to, ReplayRelay));
+    assert!(rt; attach(rt.alloc(), &mut to, &mut from, ReplayRelay));
+    assert!(rt; two_pass(rt.alloc(), &mut from, &mut to));
+    drop(to);
+    drop(from);
+}
+
+#[test]
+fn without_an_attach_nothing_reaches_a_link(rt: HostRuntime) {
+    let mut from: Engine<ReplayRelay> = mapped_by(rt.alloc(), BEGIN);
+    let mut to: Engine<ReplayRelay> = mapped_by(rt.alloc(), BEGIN);
+    let relay = Some(ReplayRelay);
+    assert_eq!(rt; allot(rt.alloc(), &mut to, "a", relay), "done");
+    for _ in 0..2 {
+        let answer = transfer(rt.alloc(), &mut from, &mut to);
+        assert_eq!(rt; answer, "UnattachedHandle");
+    }
+    assert_eq!(rt; send_flow(&mut to, 0), "done");
+    let answer = pass(rt.alloc(), &mut to, &mut from);
+    assert_eq!(rt; answer, "UnattachedHandle");
+    drop(to);
+    drop(from);
+}

@@ -1,0 +1,133 @@
+//! Asking an engine for links, with whatever relay.
+
+use crate::asking::{answer, begins, hear, puts_out};
+use crate::given::unnamed_open;
+use fe2o3_amqp::{
+    Attach, ConnectionState, Detach, Engine, Handle, Input, InputHandle, LinkFlow, LinkRelay,
+    ReceiverSettleMode, Role, SenderSettleMode, SessionNo,
+};
+use std::alloc::{AllocError, Global};
+
+/// The peer's Begin on channel 5, which names channel 0 and grants a window of 1.
+const BEGIN: &str = "02000005005311c009046000004352015208";
+
+/// An engine in `Opened` that has session 0, which is mapped; the peer's channel is 5.
+pub fn mapped<R: LinkRelay>(alloc: Global) -> Engine<R> {
+    mapped_by(alloc, BEGIN)
+}
+
+/// The same, where this Begin of the peer's maps the session.
+pub fn mapped_by<R: LinkRelay>(alloc: Global, begin: &str) -> Engine<R> {
+    let mut engine = Engine::new(alloc, ConnectionState::Opened, unnamed_open(alloc));
+    let _is_mapped = begins(&mut engine, 0) && hear(alloc, &mut engine, begin) == "done";
+    engine
+}
+
+/// The output handle of the live link of a name; 1000 where there is none.
+pub fn handle_of<R: LinkRelay>(engine: &Engine<R>, name: &str) -> u32 {
+    match engine.session(SessionNo(0)) {
+        Some(session) => match session.output_handle(name) {
+            Some(handle) => handle.0,
+            None => 1000,
+        },
+        None => 1000,
+    }
+}
+
+/// What the request of a link is answered, whose relay waits for the peer's attach.
+pub fn allot<R: LinkRelay>(
+    alloc: Global,
+    engine: &mut Engine<R>,
+    name: &str,
+    relay: Option<R>,
+) -> &'static str {
+    match String::from_str(alloc, name) {
+        Ok(name) => answer(engine, Input::AllocateLink(SessionNo(0), name, relay)),
+        Err(AllocError) => "no name",
+    }
+}
+
+/// What the request of a link is answered whose attach came on an input handle.
+pub fn allot_incoming<R: LinkRelay>(
+    alloc: Global,
+    engine: &mut Engine<R>,
+    name: &str,
+    relay: R,
+    input: u32,
+) -> &'static str {
+    let number = SessionNo(0);
+    let input = InputHandle(input);
+    match String::from_str(alloc, name) {
+        Ok(name) => answer(
+            engine,
+            Input::AllocateIncomingLink(number, name, relay, input),
+        ),
+        Err(AllocError) => "no name",
+    }
+}
+
+/// An attach of this side's, as a receiver.
+fn attach(alloc: Global, name: &str, handle: u32) -> Result<Attach, AllocError> {
+    Ok(Attach {
+        name: String::from_str(alloc, name)?,
+        handle: Handle(handle),
+        role: Role::Receiver,
+        snd_settle_mode: SenderSettleMode::Mixed,
+        rcv_settle_mode: ReceiverSettleMode::First,
+        source: None,
+        target: None,
+        unsettled: None,
+        incomplete_unsettled: false,
+        initial_delivery_count: None,
+        max_message_size: None,
+        offered_capabilities: None,
+        desired_capabilities: None,
+        properties: None,
+    })
+}
+
+/// What the request of an attach is answered.
+pub fn send_attach<R: LinkRelay>(
+    alloc: Global,
+    engine: &mut Engine<R>,
+    name: &str,
+    handle: u32,
+) -> &'static str {
+    match attach(alloc, name, handle) {
+        Ok(attach) => answer(engine, Input::Attach(SessionNo(0), attach)),
+        Err(AllocError) => "no name",
+    }
+}
+
+/// What the request of a flow with credit 20 is answered.
+pub fn send_flow<R: LinkRelay>(engine: &mut Engine<R>, handle: u32) -> &'static str {
+    let flow = LinkFlow {
+        handle: Handle(handle),
+        delivery_count: None,
+        link_credit: Some(20),
+        available: None,
+        drain: false,
+        echo: false,
+        properties: None,
+    };
+    answer(engine, Input::Flow(SessionNo(0), flow))
+}
+
+/// What the request of a detach is answered, closed and without an error, that the peer is to answer or not.
+pub fn send_detach<R: LinkRelay>(
+    engine: &mut Engine<R>,
+    handle: u32,
+    expects_echo: bool,
+) -> &'static str {
+    let detach = Detach {
+        handle: Handle(handle),
+        closed: true,
+        error: None,
+    };
+    answer(engine, Input::Detach(SessionNo(0), detach, expects_echo))
+}
+
+/// Whether one frame waits, whose only piece is this line.
+pub fn puts_out_one<R: LinkRelay>(alloc: Global, engine: &mut Engine<R>, line: &str) -> bool {
+    engine.has_output() && puts_out(alloc, engine, line) && !engine.has_output()
+}
