@@ -16,7 +16,8 @@ pub is_backward : (b : Bool) (n : ℕ) (o : Option ℕ) → o ≡ cond b (Some n
 is_backward true n o e h = absurd (let x : is_some o ≡ true = ap is_some e in cc)
 is_backward false n o e h = refl
 
-none_of : (d : DispositionSaid) (rows : List Delivery) → is_forward d.first d.last ≡ false → filter (λ r. is_meant d.first d.last r.number) rows ≡ []
+none_of : (d : DispositionSaid) (rows : List Delivery) → is_forward d.first d.last ≡ false →
+    filter (λ r. is_meant d.first d.last r.number) rows ≡ []
 none_of d [] e = refl
 none_of d (r ∷ rs) e = rw e (none_of d rs e)
 
@@ -28,7 +29,9 @@ with_same : (r : Role) (o : OpenView) → with_role r (of_role r o) o ≡ o
 with_same Receiver o = refl
 with_same Sender o = refl
 
-pub backward : {R : Type 0} → (gives : DispositionGives R) (d : DispositionSaid) (v : SessionView R) (answer : Option (List DispositionSaid)) → is_forward d.first d.last ≡ false → answer ≡ cond d.settled None (Some []) →
+pub backward : {R : Type 0} →
+    (gives : DispositionGives R) (d : DispositionSaid) (v : SessionView R) (answer : Option (List DispositionSaid)) →
+    is_forward d.first d.last ≡ false → answer ≡ cond d.settled None (Some []) →
     (asked : List (DispositionQuestion R)) × TakeDispositionStep gives v d asked (Ok answer) v
 backward {R} gives d v answer back is = ([], by d.settled refl)
   where
@@ -45,11 +48,14 @@ backward {R} gives d v answer back is = ([], by d.settled refl)
     by true s = subst (λ (a : Option (List DispositionSaid)). TakeDispositionStep gives v d [] (Ok a) v) (sym (is ∙ ap (λ b. cond b None (Some [])) s)) (s, asks, sym left)
     by false s = subst (λ (a : Option (List DispositionSaid)). TakeDispositionStep gives v d [] (Ok a) v) (sym (is ∙ ap (λ b. cond b None (Some [])) s)) (s, (asks, refl), record { runs = []; are_runs = record { apart = tt; hold = λ n h. refl }; are_said = refl })
 
-pub backward_bound : {X : Type 0} → (d : DispositionSaid) (rows : List Delivery) (result : X) (walk : WalkCount) → is_forward d.first d.last ≡ false → walk ≡ nothing_read → IsBounded {X = X} d rows (Ok result) walk
+pub backward_bound : {X : Type 0} → (d : DispositionSaid) (rows : List Delivery) (result : X) (walk : WalkCount) →
+    is_forward d.first d.last ≡ false → walk ≡ nothing_read → IsBounded {X = X} d rows (Ok result) walk
 backward_bound d rows result walk back is =
     let none = ap length (none_of d (in_order d.first rows) back) in
     rw is record { turns = omega arith; each_read = omega (arith, none); comparisons = omega arith; backward = λ e. refl }
 
-pub backward_same : {R : Type 0} → (gives : DispositionGives R) (d : DispositionSaid) (v w : SessionView R) (answer : Option (List DispositionSaid)) → is_forward d.first d.last ≡ false → answer ≡ cond d.settled None (Some []) → w ≡ v →
+pub backward_same : {R : Type 0} →
+    (gives : DispositionGives R) (d : DispositionSaid) (v w : SessionView R) (answer : Option (List DispositionSaid)) →
+    is_forward d.first d.last ≡ false → answer ≡ cond d.settled None (Some []) → w ≡ v →
     (asked : List (DispositionQuestion R)) × TakeDispositionStep gives v d asked (Ok answer) w
 backward_same {R} gives d v w answer back is same = subst (λ (u : SessionView R). (asked : List (DispositionQuestion R)) × TakeDispositionStep gives v d asked (Ok answer) u) (sym same) (backward gives d v answer back is)

@@ -10,8 +10,8 @@ use Rattle.amqp_types.specs.Disposition.{DispositionSaid}
 use Rattle.amqp_session.specs.declared.deliveries.Delivery.{Delivery}
 use Rattle.amqp_session.specs.Deliveries.{Above, Under, IsRising, IsTable, cut}
 use Rattle.amqp_session.specs.declared.deliveries.WalkCount.{WalkCount}
-use Rattle.amqp_session.specs.Disposing.{is_meant, in_order, meant, not_meant, IsWalked}
-use Rattle.amqp_session.specs.Walks.{turned, EachMeant, IsSplit}
+use Rattle.amqp_session.specs.Disposing.{is_meant, in_order, meant, not_meant}
+use Rattle.amqp_session.specs.Walks.{turned, EachMeant, IsSplit, IsWalked}
 use Rattle.amqp_session.proofs.Walking.{turned_length}
 
 above_drop : (n j : ℕ) (rows : List Delivery) → Above n rows → Above n (drop j rows)
@@ -71,11 +71,13 @@ table_take i rows t = subst IsTable (ap (λ xs. take i rows ++ xs) (none i rows)
 
 -- ---- what is meant is a stretch of the order
 
-filter_all : (d : DispositionSaid) (rows : List Delivery) → EachMeant d true rows → (filter (λ r. is_meant d.first d.last r.number) rows ≡ rows) × (not_meant d rows ≡ [])
+filter_all : (d : DispositionSaid) (rows : List Delivery) → EachMeant d true rows →
+    (filter (λ r. is_meant d.first d.last r.number) rows ≡ rows) × (not_meant d rows ≡ [])
 filter_all d [] e = (refl, refl)
 filter_all d (r ∷ rs) e = let rest = filter_all d rs e.1 in (rw e.0 (ap (λ xs. r ∷ xs) rest.0), rw e.0 rest.1)
 
-filter_none : (d : DispositionSaid) (rows : List Delivery) → EachMeant d false rows → (filter (λ r. is_meant d.first d.last r.number) rows ≡ []) × (not_meant d rows ≡ rows)
+filter_none : (d : DispositionSaid) (rows : List Delivery) → EachMeant d false rows →
+    (filter (λ r. is_meant d.first d.last r.number) rows ≡ []) × (not_meant d rows ≡ rows)
 filter_none d [] e = (refl, refl)
 filter_none d (r ∷ rs) e = let rest = filter_none d rs e.1 in (rw e.0 rest.0, rw e.0 (ap (λ xs. r ∷ xs) rest.1))
 
@@ -84,7 +86,8 @@ each_split d b [] ys e = (tt, e)
 each_split d b (x ∷ xs) ys e = let s = each_split d b xs ys e.1 in ((e.0, s.0), s.1)
 
 -- those meant are the first of the order
-pub split_meant : (d : DispositionSaid) (rows : List Delivery) (from n : ℕ) → in_order d.first rows ≡ turned from rows → IsSplit d (turned from rows) n → meant d rows ≡ take n (turned from rows)
+pub split_meant : (d : DispositionSaid) (rows : List Delivery) (from n : ℕ) → in_order d.first rows ≡ turned from rows →
+    IsSplit d (turned from rows) n → meant d rows ≡ take n (turned from rows)
 split_meant d rows from n o s =
     ap (filter (λ r. is_meant d.first d.last r.number)) (o ∙ sym (take-append-drop n (turned from rows))) ∙ filter-append (λ r. is_meant d.first d.last r.number) (take n (turned from rows)) (drop n (turned from rows))
     ∙ rw ((filter_all d (take n (turned from rows)) s.near).0, (filter_none d (drop n (turned from rows)) s.far).0) (append-nil (take n (turned from rows)))
@@ -105,21 +108,24 @@ not_meant_append : (d : DispositionSaid) (xs ys : List Delivery) → not_meant d
 not_meant_append d xs ys = filter-append (λ r. not (is_meant d.first d.last r.number)) xs ys
 
 -- those meant stand at the front of one part
-near_cut : (d : DispositionSaid) (t near far : List Delivery) → EachMeant d true near → EachMeant d false (far ++ t) → not_meant d (t ++ (near ++ far)) ≡ t ++ far
+near_cut : (d : DispositionSaid) (t near far : List Delivery) → EachMeant d true near → EachMeant d false (far ++ t) →
+    not_meant d (t ++ (near ++ far)) ≡ t ++ far
 near_cut d t near far n f =
     let s = each_split d false far t f in
     not_meant_append d t (near ++ far) ∙ ap (λ xs. xs ++ not_meant d (near ++ far)) (filter_none d t s.1).1
     ∙ ap (λ xs. t ++ xs) (not_meant_append d near far ∙ ap (λ xs. xs ++ not_meant d far) (filter_all d near n).1 ∙ (filter_none d far s.0).1)
 
 -- or they are all of one and the front of the other
-far_cut : (d : DispositionSaid) (all near far : List Delivery) → EachMeant d true (all ++ near) → EachMeant d false far → not_meant d ((near ++ far) ++ all) ≡ far
+far_cut : (d : DispositionSaid) (all near far : List Delivery) → EachMeant d true (all ++ near) → EachMeant d false far →
+    not_meant d ((near ++ far) ++ all) ≡ far
 far_cut d all near far n f =
     let s = each_split d true all near n in
     not_meant_append d (near ++ far) all ∙ ap (λ xs. not_meant d (near ++ far) ++ xs) (filter_all d all s.0).1
     ∙ append-nil (not_meant d (near ++ far)) ∙ not_meant_append d near far ∙ ap (λ xs. xs ++ not_meant d far) (filter_all d near s.1).1 ∙ (filter_none d far f).1
 
 -- those that are left are the others
-pub split_cut : (d : DispositionSaid) (rows : List Delivery) (from n : ℕ) → from ≤ length rows → IsSplit d (turned from rows) n → cut from n rows ≡ not_meant d rows
+pub split_cut : (d : DispositionSaid) (rows : List Delivery) (from n : ℕ) → from ≤ length rows → IsSplit d (turned from rows) n →
+    cut from n rows ≡ not_meant d rows
 split_cut d rows from n h s =
     let front : List Delivery = take from rows in
     let back : List Delivery = drop from rows in
@@ -147,14 +153,16 @@ split_cut d rows from n h s =
           ∙ ap (λ xs. not_meant d (front ++ xs)) (take-append-drop n back) ∙ ap (not_meant d) whole
     ]
 
-pub meant_length : (d : DispositionSaid) (rows : List Delivery) (from n : ℕ) → from ≤ length rows → n ≤ length rows → in_order d.first rows ≡ turned from rows → IsSplit d (turned from rows) n → length (meant d rows) ≡ n
+pub meant_length : (d : DispositionSaid) (rows : List Delivery) (from n : ℕ) → from ≤ length rows → n ≤ length rows →
+    in_order d.first rows ≡ turned from rows → IsSplit d (turned from rows) n → length (meant d rows) ≡ n
 meant_length d rows from n h k o s =
     let a = ap length (split_meant d rows from n o s) in
     let b = length-take n (turned from rows) in
     let c = turned_length from rows h in
     omega (arith, a, b, c, k)
 
-pub walked : (d : DispositionSaid) (rows : List Delivery) (from n : ℕ) (placed walk : WalkCount) → from ≤ length rows → n ≤ length rows → in_order d.first rows ≡ turned from rows → IsSplit d (turned from rows) n →
+pub walked : (d : DispositionSaid) (rows : List Delivery) (from n : ℕ) (placed walk : WalkCount) → from ≤ length rows →
+    n ≤ length rows → in_order d.first rows ≡ turned from rows → IsSplit d (turned from rows) n →
     walk.turns ≤ n + 1 → n ≤ walk.turns → walk.comparisons ≡ placed.comparisons → 2 ^ placed.comparisons ≤ 2 * length rows + 1 → IsWalked d rows true walk
 walked d rows from n placed walk h k o s most least search cost =
     let len = meant_length d rows from n h k o s in

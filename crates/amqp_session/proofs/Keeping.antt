@@ -40,7 +40,8 @@ under_left d n (e ∷ es) a = by (under_left d n es a.1) (is_meant d.first d.las
     by rest true = rest
     by rest false = (a.0, rest)
 
-record_left : (d : DispositionSaid) (n : ℕ) (rows : List Delivery) → record_at n (not_meant d rows) ≡ cond (is_meant d.first d.last n) None (record_at n rows)
+record_left : (d : DispositionSaid) (n : ℕ) (rows : List Delivery) →
+    record_at n (not_meant d rows) ≡ cond (is_meant d.first d.last n) None (record_at n rows)
 record_left d n [] = none (is_meant d.first d.last n)
   where
     none : (b : Bool) → None ≡ cond b None (let o : Option Delivery = None in o)
@@ -51,7 +52,8 @@ record_left d n (e ∷ es) = by (record_left d n es) (is_meant d.first d.last e.
     same : (b : Bool) → nat_eq e.number n ≡ true → is_meant d.first d.last e.number ≡ b → is_meant d.first d.last n ≡ b
     same b q m = let is : e.number ≡ n = grind (arith, nat_tests, common_steps) in subst (λ k. is_meant d.first d.last k ≡ b) is m
 
-    by : record_at n (not_meant d es) ≡ cond (is_meant d.first d.last n) None (record_at n es) → (b c : Bool) → is_meant d.first d.last e.number ≡ b → nat_eq e.number n ≡ c →
+    by : record_at n (not_meant d es) ≡ cond (is_meant d.first d.last n) None (record_at n es) → (b c : Bool) →
+        is_meant d.first d.last e.number ≡ b → nat_eq e.number n ≡ c →
         record_at n (cond (not b) (e ∷ not_meant d es) (not_meant d es)) ≡ cond (is_meant d.first d.last n) None (cond c (Some e) (record_at n es))
     by rest true true m q = rest ∙ rw (same true q m) refl
     by rest true false m q = rest
@@ -59,7 +61,8 @@ record_left d n (e ∷ es) = by (record_left d n es) (is_meant d.first d.last e.
     by rest false false m q = ap (λ t. cond t (Some e) (record_at n (not_meant d es))) q ∙ rest
 
 -- a table of a role after a call, where each number's record was this before
-pub keeps_each : {R : Type 0} → (role : Role) (e : Entry R) (rows : List Delivery) (old : ℕ → Option Delivery) → IsTable rows × ((n : ℕ) → record_at n rows ≡ old n) →
+pub keeps_each : {R : Type 0} → (role : Role) (e : Entry R) (rows : List Delivery) (old : ℕ → Option Delivery) →
+    IsTable rows × ((n : ℕ) → record_at n rows ≡ old n) →
     IsTable (keeps role e rows) × ((n : ℕ) → record_at n (keeps role e rows) ≡ cond (takes_away role e n) None (old n))
 keeps_each role (TakesDisposition d asked (Ok None)) rows old b = by (is_role role d.role)
   where

@@ -10,14 +10,16 @@ use Rattle.amqp_session.specs.Disposing.{distance, is_in, AreApart, AreRuns}
 
 -- ---- the last run
 
-pub last_goes_on : (runs : List Run) (n k : ℕ) (x : Run) → length runs ≡ suc k → Some x ≡ slice_get runs k → nat_eq ((x.last + 1) % 2 ^ 32) n ≡ goes_on n runs
+pub last_goes_on : (runs : List Run) (n k : ℕ) (x : Run) → length runs ≡ suc k → Some x ≡ slice_get runs k →
+    nat_eq ((x.last + 1) % 2 ^ 32) n ≡ goes_on n runs
 last_goes_on [] n k x len at = absurd (omega (arith, len))
 last_goes_on (r ∷ []) n zero x len at = ap (λ o. nat_eq (((unwrap_or o x).last + 1) % 2 ^ 32) n) at
 last_goes_on (r ∷ []) n (suc k) x len at = absurd (omega (arith, len))
 last_goes_on (r ∷ s ∷ rs) n zero x len at = absurd (omega (arith, len))
 last_goes_on (r ∷ s ∷ rs) n (suc k) x len at = last_goes_on (s ∷ rs) n k x (omega (arith, len)) at
 
-pub last_longer : (runs : List Run) (n k : ℕ) (x : Run) → length runs ≡ suc k → x ≡ slice_index_or runs k x → longer n runs ≡ slice_set runs k (record { first = x.first; last = n })
+pub last_longer : (runs : List Run) (n k : ℕ) (x : Run) → length runs ≡ suc k → x ≡ slice_index_or runs k x →
+    longer n runs ≡ slice_set runs k (record { first = x.first; last = n })
 last_longer [] n k x len at = absurd (omega (arith, len))
 last_longer (r ∷ []) n zero x len at = ap (λ (y : Run). record { first = y.first; last = n } ∷ []) (sym at)
 last_longer (r ∷ []) n (suc k) x len at = absurd (omega (arith, len))
@@ -28,16 +30,19 @@ pub has_last : (runs : List Run) (n : ℕ) → true ≡ goes_on n runs → 0 < l
 has_last [] n e = absurd (cc)
 has_last (r ∷ rs) n e = omega arith
 
-pub read_last : (runs : List Run) (n : ℕ) (x : Run) → Some x ≡ slice_get runs (length runs - 1) → nat_eq ((x.last + 1) % 2 ^ 32) n ≡ goes_on n runs
+pub read_last : (runs : List Run) (n : ℕ) (x : Run) → Some x ≡ slice_get runs (length runs - 1) →
+    nat_eq ((x.last + 1) % 2 ^ 32) n ≡ goes_on n runs
 read_last [] n x at = absurd (cc)
 read_last (r ∷ rs) n x at = last_goes_on (r ∷ rs) n (length rs) x refl (at ∙ ap (slice_get (r ∷ rs)) (omega arith))
 
 -- ---- distances
 
-dist_next : (first m n : ℕ) → first < 2 ^ 32 → m < 2 ^ 32 → n < 2 ^ 32 → distance first m < distance first n → (m + 1) % 2 ^ 32 ≡ n → distance first n ≡ distance first m + 1
+dist_next : (first m n : ℕ) → first < 2 ^ 32 → m < 2 ^ 32 → n < 2 ^ 32 → distance first m < distance first n → (m + 1) % 2 ^ 32 ≡ n →
+    distance first n ≡ distance first m + 1
 dist_next first m n hf hm hn less next = omega arith
 
-dist_gap : (first m n : ℕ) → first < 2 ^ 32 → m < 2 ^ 32 → n < 2 ^ 32 → distance first m < distance first n → ¬ ((m + 1) % 2 ^ 32 ≡ n) → distance first m + 1 < distance first n
+dist_gap : (first m n : ℕ) → first < 2 ^ 32 → m < 2 ^ 32 → n < 2 ^ 32 → distance first m < distance first n →
+    ¬ ((m + 1) % 2 ^ 32 ≡ n) → distance first m + 1 < distance first n
 dist_gap first m n hf hm hn less other = omega arith
 
 dist_same : (first m n : ℕ) → first < 2 ^ 32 → m < 2 ^ 32 → n < 2 ^ 32 → distance first m ≡ distance first n → m ≡ n
@@ -123,13 +128,15 @@ module _ (first n : ℕ) (hf : first < 2 ^ 32) (hn : n < 2 ^ 32) where
   next_not : (m : ℕ) → nat_eq ((m + 1) % 2 ^ 32) n ≡ false → ¬ ((m + 1) % 2 ^ 32 ≡ n)
   next_not m t e = absurd (let v : nat_eq ((m + 1) % 2 ^ 32) n ≡ true = grind (arith, nat_tests, common_steps) in cc)
 
-  longer_apart : (runs : List Run) → goes_on n runs ≡ true → EndBefore first (distance first n) runs → AreApart first runs → AreApart first (longer n runs)
+  longer_apart : (runs : List Run) → goes_on n runs ≡ true → EndBefore first (distance first n) runs → AreApart first runs →
+      AreApart first (longer n runs)
   longer_apart [] t e a = absurd (cc)
   longer_apart (r ∷ []) t e a = (a.0, hn, omega (arith, a.2, e.0), tt, tt)
   longer_apart (r ∷ s ∷ []) t e a = (a.0, a.1, a.2, a.3, longer_apart (s ∷ []) t e.1 a.4)
   longer_apart (r ∷ s ∷ u ∷ rs) t e a = (a.0, a.1, a.2, a.3, longer_apart (s ∷ u ∷ rs) t e.1 a.4)
 
-  more_apart : (runs : List Run) → goes_on n runs ≡ false → EndBefore first (distance first n) runs → AreApart first runs → AreApart first (runs ++ record { first = n; last = n } ∷ [])
+  more_apart : (runs : List Run) → goes_on n runs ≡ false → EndBefore first (distance first n) runs → AreApart first runs →
+      AreApart first (runs ++ record { first = n; last = n } ∷ [])
   more_apart [] t e a = (hn, hn, omega arith, tt, tt)
   more_apart (r ∷ []) t e a = (a.0, a.1, a.2, dist_gap first r.last n hf a.1 hn e.0 (next_not r.last t), more_apart [] refl tt tt)
   more_apart (r ∷ s ∷ rs) t e a = (a.0, a.1, a.2, a.3, more_apart (s ∷ rs) t e.1 a.4)
@@ -139,7 +146,8 @@ module _ (first n : ℕ) (hf : first < 2 ^ 32) (hn : n < 2 ^ 32) where
   longer_ends (r ∷ []) e = (omega arith, tt)
   longer_ends (r ∷ s ∷ rs) e = (omega (arith, e.0), longer_ends (s ∷ rs) e.1)
 
-  more_ends : (runs : List Run) → EndBefore first (distance first n) runs → EndBefore first (distance first n + 1) (runs ++ record { first = n; last = n } ∷ [])
+  more_ends : (runs : List Run) → EndBefore first (distance first n) runs →
+      EndBefore first (distance first n + 1) (runs ++ record { first = n; last = n } ∷ [])
   more_ends [] e = (omega arith, tt)
   more_ends (r ∷ rs) e = (omega (arith, e.0), more_ends rs e.1)
 
@@ -152,7 +160,8 @@ module _ (first n : ℕ) (hf : first < 2 ^ 32) (hn : n < 2 ^ 32) where
   or_assoc true y z = refl
   or_assoc false y z = refl
 
-  longer_holds : (k : ℕ) → k < 2 ^ 32 → (runs : List Run) → goes_on n runs ≡ true → EndBefore first (distance first n) runs → AreApart first runs → list_any (is_in first k) (longer n runs) ≡ (list_any (is_in first k) runs || nat_eq k n)
+  longer_holds : (k : ℕ) → k < 2 ^ 32 → (runs : List Run) → goes_on n runs ≡ true → EndBefore first (distance first n) runs →
+      AreApart first runs → list_any (is_in first k) (longer n runs) ≡ (list_any (is_in first k) runs || nat_eq k n)
   longer_holds k hk [] t e a = absurd (cc)
   longer_holds k hk (r ∷ []) t e a =
       let d = dist_next first r.last n hf a.1 hn e.0 (next_is r.last t) in
@@ -162,7 +171,8 @@ module _ (first n : ℕ) (hf : first < 2 ^ 32) (hn : n < 2 ^ 32) where
       ∙ or_false (is_in first k r) (nat_eq k n)
   longer_holds k hk (r ∷ s ∷ rs) t e a = ap (λ b. is_in first k r || b) (longer_holds k hk (s ∷ rs) t e.1 a.4) ∙ or_assoc (is_in first k r) (list_any (is_in first k) (s ∷ rs)) (nat_eq k n)
 
-  more_holds : (k : ℕ) → k < 2 ^ 32 → (runs : List Run) → list_any (is_in first k) (runs ++ record { first = n; last = n } ∷ []) ≡ (list_any (is_in first k) runs || nat_eq k n)
+  more_holds : (k : ℕ) → k < 2 ^ 32 → (runs : List Run) →
+      list_any (is_in first k) (runs ++ record { first = n; last = n } ∷ []) ≡ (list_any (is_in first k) runs || nat_eq k n)
   more_holds k hk [] = ap (λ b. b || false) (one_alone (distance first n) (distance first k) ∙ same_number first k n hf hk hn) ∙ none (nat_eq k n)
     where
       none : (b : Bool) → (b || false) ≡ (false || b)
@@ -179,10 +189,12 @@ module _ (first n : ℕ) (hf : first < 2 ^ 32) (hn : n < 2 ^ 32) where
   holds_more k (m ∷ ms) = sym (or_assoc (nat_eq k m) (list_any (nat_eq k) ms) (nat_eq k n)) ∙ ap (λ b. nat_eq k m || b) (holds_more k ms)
 
   -- the runs of these numbers and one more, which is farther than all
-  pub grown : (numbers : List ℕ) (runs : List Run) → EndBefore first (distance first n) runs → AreRuns first numbers runs → AreRuns first (numbers ++ n ∷ []) (extended n runs)
+  pub grown : (numbers : List ℕ) (runs : List Run) → EndBefore first (distance first n) runs → AreRuns first numbers runs →
+      AreRuns first (numbers ++ n ∷ []) (extended n runs)
   grown numbers runs e a = by (goes_on n runs) refl
     where
-      by : (b : Bool) → goes_on n runs ≡ b → AreRuns first (numbers ++ n ∷ []) (cond b (longer n runs) (runs ++ record { first = n; last = n } ∷ []))
+      by : (b : Bool) → goes_on n runs ≡ b →
+          AreRuns first (numbers ++ n ∷ []) (cond b (longer n runs) (runs ++ record { first = n; last = n } ∷ []))
       by true t = record { apart = longer_apart runs t e a.apart; hold = λ k hk. longer_holds k hk runs t e a.apart ∙ ap (λ b. b || nat_eq k n) (a.hold k hk) ∙ holds_more k numbers }
       by false t = record { apart = more_apart runs t e a.apart; hold = λ k hk. more_holds k hk runs ∙ ap (λ b. b || nat_eq k n) (a.hold k hk) ∙ holds_more k numbers }
 

@@ -47,11 +47,13 @@ farther_less : (first j k : ℕ) (rows : List Delivery) → j ≤ k → Farther 
 farther_less first j k [] h f = tt
 farther_less first j k (r ∷ rs) h f = (omega (arith, h, f.0), f.1)
 
-farther_append : (first k : ℕ) (xs ys : List Delivery) → Farther first k xs → Farther first (reach first k xs) ys → Farther first k (xs ++ ys)
+farther_append : (first k : ℕ) (xs ys : List Delivery) → Farther first k xs → Farther first (reach first k xs) ys →
+    Farther first k (xs ++ ys)
 farther_append first k [] ys f g = g
 farther_append first k (r ∷ rs) ys f g = (f.0, farther_append first (distance first r.number + 1) rs ys f.1 g)
 
-farther_split : (first k : ℕ) (xs ys : List Delivery) → Farther first k (xs ++ ys) → Farther first k xs × Farther first (reach first k xs) ys
+farther_split : (first k : ℕ) (xs ys : List Delivery) → Farther first k (xs ++ ys) →
+    Farther first k xs × Farther first (reach first k xs) ys
 farther_split first k [] ys f = (tt, f)
 farther_split first k (r ∷ rs) ys f = let s = farther_split first (distance first r.number + 1) rs ys f.1 in ((f.0, s.0), s.1)
 
@@ -90,7 +92,8 @@ down_distance : (first n : ℕ) → n < first → first < 2 ^ 32 → distance fi
 down_distance first n h k = omega arith
 
 module _ (first : ℕ) (hf : first < 2 ^ 32) where
-  up_farther : (c : ℕ) (rows : List Delivery) → AtLeast c rows → IsRising rows → Under (2 ^ 32) rows → Farther first (c - first) (from_on first rows)
+  up_farther : (c : ℕ) (rows : List Delivery) → AtLeast c rows → IsRising rows → Under (2 ^ 32) rows →
+      Farther first (c - first) (from_on first rows)
   up_farther c [] a r u = tt
   up_farther c (e ∷ es) a r u =
       elim (cases_lt e.number first) [
@@ -128,7 +131,8 @@ module _ (first : ℕ) (hf : first < 2 ^ 32) where
       farther_append first 0 (from_on first rows) (below first rows) up (farther_less first (reach first 0 (from_on first rows)) (0 + (2 ^ 32 - first)) (below first rows) (omega (arith, far)) (down_farther 0 rows (least_zero rows) t.0))
 
 -- the order is that of the table, turned to the place where the numbers begin
-parts : (first : ℕ) (rows : List Delivery) (from : ℕ) → from ≤ length rows → ((i : ℕ) → i < from → number_at rows i < first) → ((i : ℕ) → from ≤ i → i < length rows → first ≤ number_at rows i) →
+parts : (first : ℕ) (rows : List Delivery) (from : ℕ) → from ≤ length rows → ((i : ℕ) → i < from → number_at rows i < first) →
+    ((i : ℕ) → from ≤ i → i < length rows → first ≤ number_at rows i) →
     (from_on first rows ≡ drop from rows) × (below first rows ≡ take from rows)
 parts first [] zero h low high = (refl, refl)
 parts first [] (suc from) h low high = absurd (omega (arith, h))
@@ -141,7 +145,9 @@ parts first (e ∷ es) (suc from) h low high =
     let rest = parts first es from (omega (arith, h)) (λ i lt. low (suc i) (omega (arith, lt))) (λ i k lt. high (suc i) (omega (arith, k)) (omega (arith, lt))) in
     (ap (λ b. cond b (e ∷ from_on first es) (from_on first es)) (not_ge first e.number less) ∙ rest.0, ap (λ b. cond b (e ∷ below first es) (below first es)) (is_lt e.number first less) ∙ ap (λ xs. e ∷ xs) rest.1)
 
-pub order_turned : (first : ℕ) (rows : List Delivery) (from : ℕ) → from ≤ length rows → ((i : ℕ) → i < from → number_at rows i < first) → ((i : ℕ) → from ≤ i → i < length rows → first ≤ number_at rows i) → in_order first rows ≡ turned from rows
+pub order_turned : (first : ℕ) (rows : List Delivery) (from : ℕ) → from ≤ length rows →
+    ((i : ℕ) → i < from → number_at rows i < first) → ((i : ℕ) → from ≤ i → i < length rows → first ≤ number_at rows i) →
+    in_order first rows ≡ turned from rows
 order_turned first rows from h low high = let p = parts first rows from h low high in rw (p.0, p.1) refl
 
 -- ---- the walk
@@ -150,7 +156,8 @@ pub turned_length : (from : ℕ) (rows : List Delivery) → from ≤ length rows
 turned_length from rows h = let a = length-append (drop from rows) (take from rows) in let b = length-drop from rows in let c = length-take from rows in omega (arith, a, b, c, h)
 
 -- the record that is read at a step
-pub turned_read : (from : ℕ) (rows : List Delivery) (count : ℕ) (x : Delivery) → from ≤ length rows → count < length rows → slice_get rows (around from count (length rows)) ≡ Some x → get_or (turned from rows) count x ≡ x
+pub turned_read : (from : ℕ) (rows : List Delivery) (count : ℕ) (x : Delivery) → from ≤ length rows → count < length rows →
+    slice_get rows (around from count (length rows)) ≡ Some x → get_or (turned from rows) count x ≡ x
 turned_read from rows count x h lt at =
     elim (cases_lt count (length rows - from)) [
       | inl near ↦
@@ -166,36 +173,44 @@ turned_read from rows count x h lt at =
     ]
 
 -- all of these are meant, and one more
-pub each_more : (d : DispositionSaid) (b : Bool) (xs : List Delivery) (x : Delivery) → EachMeant d b xs → is_meant d.first d.last x.number ≡ b → EachMeant d b (xs ++ x ∷ [])
+pub each_more : (d : DispositionSaid) (b : Bool) (xs : List Delivery) (x : Delivery) → EachMeant d b xs →
+    is_meant d.first d.last x.number ≡ b → EachMeant d b (xs ++ x ∷ [])
 each_more d b [] x e h = (h, tt)
 each_more d b (r ∷ rs) x e h = (e.0, each_more d b rs x e.1 h)
 
 -- a number of a forward range, and one that is not
-pub meant_is : (d : DispositionSaid) (n : ℕ) → span d.first d.last < 2 ^ 31 → distance d.first n ≤ span d.first d.last → is_meant d.first d.last n ≡ true
+pub meant_is : (d : DispositionSaid) (n : ℕ) → span d.first d.last < 2 ^ 31 → distance d.first n ≤ span d.first d.last →
+    is_meant d.first d.last n ≡ true
 meant_is d n f h = rw (is_lt (span d.first d.last) (2 ^ 31) f, is_ge (distance d.first n) (span d.first d.last) h) refl
 
-pub meant_not : (d : DispositionSaid) (n : ℕ) → span d.first d.last < 2 ^ 31 → span d.first d.last < distance d.first n → is_meant d.first d.last n ≡ false
+pub meant_not : (d : DispositionSaid) (n : ℕ) → span d.first d.last < 2 ^ 31 → span d.first d.last < distance d.first n →
+    is_meant d.first d.last n ≡ false
 meant_not d n f h = rw (is_lt (span d.first d.last) (2 ^ 31) f, not_ge (distance d.first n) (span d.first d.last) h) refl
 
 -- from a number that is too far on, none is meant
-pub far_all : (d : DispositionSaid) (k : ℕ) (rows : List Delivery) → span d.first d.last < 2 ^ 31 → span d.first d.last < k → Farther d.first k rows → EachMeant d false rows
+pub far_all : (d : DispositionSaid) (k : ℕ) (rows : List Delivery) → span d.first d.last < 2 ^ 31 → span d.first d.last < k →
+    Farther d.first k rows → EachMeant d false rows
 far_all d k [] f h r = tt
 far_all d k (e ∷ es) f h r = (meant_not d e.number f (omega (arith, h, r.0)), far_all d (distance d.first e.number + 1) es f (omega (arith, h, r.0)) r.1)
 
-meant_near : (d : DispositionSaid) (n : ℕ) → span d.first d.last < 2 ^ 31 → is_meant d.first d.last n ≡ true → distance d.first n ≤ span d.first d.last
+meant_near : (d : DispositionSaid) (n : ℕ) → span d.first d.last < 2 ^ 31 → is_meant d.first d.last n ≡ true →
+    distance d.first n ≤ span d.first d.last
 meant_near d n f e =
     elim (cases_lt (span d.first d.last) (distance d.first n)) [
       | inl far ↦ absurd (let u = meant_not d n f far in cc)
       | inr near ↦ near
     ]
 
-reach_near : (d : DispositionSaid) (k : ℕ) (rows : List Delivery) → span d.first d.last < 2 ^ 31 → k ≤ span d.first d.last + 1 → EachMeant d true rows → reach d.first k rows ≤ span d.first d.last + 1
+reach_near : (d : DispositionSaid) (k : ℕ) (rows : List Delivery) → span d.first d.last < 2 ^ 31 → k ≤ span d.first d.last + 1 →
+    EachMeant d true rows → reach d.first k rows ≤ span d.first d.last + 1
 reach_near d k [] f h e = h
 reach_near d k (r ∷ rs) f h e = let near = meant_near d r.number f e.0 in reach_near d (distance d.first r.number + 1) rs f (omega (arith, near)) e.1
 
 -- ---- questions
 
-first_agreed : {R : Type 0} → (gives : DispositionGives R) (d : DispositionSaid) (x : Delivery) (one : Option (DispositionQuestion R)) (l new : LinksView R) → AsksAt gives d x one l new →
+first_agreed : {R : Type 0} →
+    (gives : DispositionGives R) (d : DispositionSaid) (x : Delivery) (one : Option (DispositionQuestion R)) (l new : LinksView R) →
+    AsksAt gives d x one l new →
     agreed (behind one []) ≡ cond (has_agreed one) (x.number ∷ []) []
 first_agreed gives d x None l new h = refl
 first_agreed gives d x (Some q) l new h = by q.answer
@@ -204,7 +219,8 @@ first_agreed gives d x (Some q) l new h = by q.answer
     by true = rw h.0 refl
     by false = refl
 
-behind_agreed : {R : Type 0} → (one : Option (DispositionQuestion R)) (as' bs : List (DispositionQuestion R)) (ns : List ℕ) → agreed bs ≡ agreed as' ++ ns → agreed (behind one bs) ≡ agreed (behind one as') ++ ns
+behind_agreed : {R : Type 0} → (one : Option (DispositionQuestion R)) (as' bs : List (DispositionQuestion R)) (ns : List ℕ) →
+    agreed bs ≡ agreed as' ++ ns → agreed (behind one bs) ≡ agreed (behind one as') ++ ns
 behind_agreed None as' bs ns e = e
 behind_agreed (Some q) as' bs ns e = by q.answer
   where
@@ -226,7 +242,8 @@ asks_more gives d (r ∷ rs) x as' one l m new h a =
 -- ---- runs
 
 -- the runs of what is noted, with a number more
-pub noted_more : {R : Type 0} → (first n : ℕ) (settled answer : Bool) (as' bs : List (DispositionQuestion R)) (runs : List Run) → first < 2 ^ 32 → n < 2 ^ 32 → agreed bs ≡ agreed as' ++ cond answer (n ∷ []) [] →
+pub noted_more : {R : Type 0} → (first n : ℕ) (settled answer : Bool) (as' bs : List (DispositionQuestion R)) (runs : List Run) →
+    first < 2 ^ 32 → n < 2 ^ 32 → agreed bs ≡ agreed as' ++ cond answer (n ∷ []) [] →
     EndBefore first (distance first n) runs → AreRuns first (noted settled as') runs →
     AreRuns first (noted settled bs) (noted_by settled answer n runs) × EndBefore first (distance first n + 1) (noted_by settled answer n runs)
 noted_more first n true answer as' bs runs hf hn e ends a = (a, end_later first (distance first n) (distance first n + 1) runs (omega arith) ends)
@@ -250,7 +267,8 @@ pub record Reads (d : DispositionSaid) (order : List Delivery) (count : ℕ) (x 
   pub few : count ≤ reach d.first 0 (take count order)
   pub far : Farther d.first (distance d.first x.number) (drop count order)
 
-pub reads : (d : DispositionSaid) (rows : List Delivery) (from count : ℕ) (x : Delivery) → d.first < 2 ^ 32 → IsTable rows → from ≤ length rows → in_order d.first rows ≡ turned from rows → count < length rows →
+pub reads : (d : DispositionSaid) (rows : List Delivery) (from count : ℕ) (x : Delivery) → d.first < 2 ^ 32 → IsTable rows →
+    from ≤ length rows → in_order d.first rows ≡ turned from rows → count < length rows →
     slice_get rows (around from count (length rows)) ≡ Some x → Reads d (turned from rows) count x
 reads d rows from count x hf t h o lt at =
     let order = turned from rows in
@@ -272,9 +290,11 @@ reads d rows from count x hf t h o lt at =
     }
 
 -- the walk ends at a record that is too far on
-pub stops_at : (d : DispositionSaid) (order : List Delivery) (count : ℕ) (x : Delivery) → span d.first d.last < 2 ^ 31 → Reads d order count x → span d.first d.last < distance d.first x.number → EachMeant d true (take count order) → IsSplit d order count
+pub stops_at : (d : DispositionSaid) (order : List Delivery) (count : ℕ) (x : Delivery) → span d.first d.last < 2 ^ 31 →
+    Reads d order count x → span d.first d.last < distance d.first x.number → EachMeant d true (take count order) → IsSplit d order count
 stops_at d order count x f r far near = record { near = near; far = far_all d (distance d.first x.number) (drop count order) f far r.far }
 
 -- or at the end
-pub stops_end : (d : DispositionSaid) (order : List Delivery) (count : ℕ) → length order ≤ count → EachMeant d true (take count order) → IsSplit d order count
+pub stops_end : (d : DispositionSaid) (order : List Delivery) (count : ℕ) → length order ≤ count →
+    EachMeant d true (take count order) → IsSplit d order count
 stops_end d order count h near = record { near = near; far = subst (EachMeant d false) (sym (drop_all count order h)) tt }

@@ -58,10 +58,12 @@ abbrev pub question_of : DispositionSaid → Delivery → DispositionAsked
 question_of d r = record { role = d.role; settled = d.settled; state = d.state; delivery = r }
 
 -- Of one record the relay attached under its input handle is asked; none, where none is attached.
-abbrev pub AsksAt : {R : Type 0} → DispositionGives R → DispositionSaid → Delivery → Option (DispositionQuestion R) → LinksView R → LinksView R → Type 0
+abbrev pub AsksAt : {R : Type 0} → DispositionGives R → DispositionSaid → Delivery → Option (DispositionQuestion R) → LinksView R →
+    LinksView R → Type 0
 AsksAt gives d r None l new = (attached_at r.input_handle.0 l ≡ None) × (new ≡ l)
 AsksAt gives d r (Some q) l new =
-    (q.asked ≡ question_of d r) × Asks (of_disposition gives) (attached_at r.input_handle.0 l) q × (new ≡ put_at r.input_handle.0 (goes_on q) l)
+    (q.asked ≡ question_of d r) × Asks (of_disposition gives) (attached_at r.input_handle.0 l) q
+    × (new ≡ put_at r.input_handle.0 (goes_on q) l)
 
 -- whether a relay was asked and answered true
 abbrev pub has_agreed : {R : Type 0} → Option (DispositionQuestion R) → Bool
@@ -74,7 +76,8 @@ behind None qs = qs
 behind (Some q) qs = q ∷ qs
 
 -- the same of each record in turn
-abbrev pub AsksEach : {R : Type 0} → DispositionGives R → DispositionSaid → List Delivery → List (DispositionQuestion R) → LinksView R → LinksView R → Type 0
+abbrev pub AsksEach : {R : Type 0} → DispositionGives R → DispositionSaid → List Delivery → List (DispositionQuestion R) →
+    LinksView R → LinksView R → Type 0
 AsksEach gives d [] asked l new = (asked ≡ []) × (new ≡ l)
 AsksEach {R} gives d (r ∷ rs) asked l new =
     (one : Option (DispositionQuestion R)) × (others : List (DispositionQuestion R)) × (m : LinksView R)
@@ -99,7 +102,8 @@ IsGapBefore first n (r ∷ rs) = distance first n + 1 < distance first r.first
 abbrev pub AreApart : ℕ → List Run → Type 0
 AreApart first [] = Unit {0}
 AreApart first (r ∷ rs) =
-    (r.first < 2 ^ 32) × (r.last < 2 ^ 32) × (distance first r.first ≤ distance first r.last) × IsGapBefore first r.last rs × AreApart first rs
+    (r.first < 2 ^ 32) × (r.last < 2 ^ 32) × (distance first r.first ≤ distance first r.last)
+    × IsGapBefore first r.last rs × AreApart first rs
 
 -- These are the runs of the numbers: together they hold exactly them.
 pub record AreRuns (first : ℕ) (numbers : List ℕ) (runs : List Run) : Type 0 where
@@ -121,12 +125,14 @@ abbrev pub rows_of : {R : Type 0} → DispositionSaid → SessionView R → List
 rows_of d v = of_role d.role v.deliveries
 
 -- the relays were asked, and nothing else has moved
-abbrev pub HasAsked : {R : Type 0} → DispositionGives R → SessionView R → DispositionSaid → List (DispositionQuestion R) → SessionView R → Type 0
+abbrev pub HasAsked : {R : Type 0} → DispositionGives R → SessionView R → DispositionSaid → List (DispositionQuestion R) →
+    SessionView R → Type 0
 HasAsked gives v d asked w = AsksEach gives d (meant d (rows_of d v)) asked v.links w.links × (w ≡ record v { links = w.links })
 
 -- A settled one takes the records that it means away, and never fails. An unsettled one leaves them open and is answered by the
 -- echoes; memory may be refused for a forward one: before any relay is asked, or after all were.
-abbrev pub TakeDispositionStep : {R : Type 0} → DispositionGives R → SessionView R → DispositionSaid → List (DispositionQuestion R) → Result (Option (List DispositionSaid)) SessionInnerError → SessionView R → Type 0
+abbrev pub TakeDispositionStep : {R : Type 0} → DispositionGives R → SessionView R → DispositionSaid → List (DispositionQuestion R) →
+    Result (Option (List DispositionSaid)) SessionInnerError → SessionView R → Type 0
 TakeDispositionStep gives v d asked (Ok None) w =
     (d.settled ≡ true) × AsksEach gives d (meant d (rows_of d v)) asked v.links w.links
     × (w ≡ record v { links = w.links; deliveries = with_role d.role (not_meant d (rows_of d v)) v.deliveries })
@@ -142,12 +148,6 @@ pub record IsBounded {X : Type 0} (d : DispositionSaid) (rows : List Delivery) (
   pub each_read : OnOk result (length (meant d rows) ≤ walk.turns)
   pub comparisons : 2 ^ walk.comparisons ≤ 2 * length rows + 1
   pub backward : is_forward d.first d.last ≡ false → walk ≡ nothing_read
-
--- how much of a table a walk for a disposition has read, where it went over the records, and where it did not
-pub record IsWalked (d : DispositionSaid) (rows : List Delivery) (went : Bool) (walk : WalkCount) : Type 0 where
-  pub turns : walk.turns ≤ length (meant d rows) + 1
-  pub each_read : went ≡ true → length (meant d rows) ≤ walk.turns
-  pub comparisons : 2 ^ walk.comparisons ≤ 2 * length rows + 1
 
 -- ---- a disposition goes out
 

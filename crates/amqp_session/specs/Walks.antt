@@ -1,11 +1,12 @@
 -- The order in which a walk goes over a table.
-use Rattle.std.specs.Prelude.{◌≡◌, ◌+◌, ◌-◌, ℕ, Bool, true, false, if◌then◌else◌, nat_lt, List, [], ◌∷◌, ◌++◌, take, drop}
+use Rattle.std.specs.Prelude.{◌≡◌, ◌≤◌, ◌+◌, ◌-◌, ◌*◌, ◌^◌, ℕ, Bool, true, false, if◌then◌else◌, nat_lt, List, [], ◌∷◌, ◌++◌, take, drop, length}
 use Rattle.amqp_types.specs.Disposition.{DispositionSaid}
 use Rattle.amqp_session.specs.declared.deliveries.Delivery.{Delivery}
 use Rattle.amqp_session.specs.Relay.{DispositionQuestion}
+use Rattle.amqp_session.specs.declared.deliveries.WalkCount.{WalkCount}
 use Rattle.amqp_session.specs.declared.session.runs.Run.{Run}
 use Rattle.amqp_session.specs.Runs.{extended}
-use Rattle.amqp_session.specs.Disposing.{is_meant, agreed}
+use Rattle.amqp_session.specs.Disposing.{is_meant, meant, agreed}
 
 -- the place of the table that is this far behind another, where the front is behind the end
 abbrev pub around : ℕ → ℕ → ℕ → ℕ
@@ -32,3 +33,9 @@ noted settled asked = if settled then [] else agreed asked
 -- the runs, after a relay was asked about a number
 abbrev pub noted_by : Bool → Bool → ℕ → List Run → List Run
 noted_by settled answer n runs = if settled then runs else (if answer then extended n runs else runs)
+
+-- how much of a table a walk for a disposition has read, where it went over the records, and where it did not
+pub record IsWalked (d : DispositionSaid) (rows : List Delivery) (went : Bool) (walk : WalkCount) : Type 0 where
+  pub turns : walk.turns ≤ length (meant d rows) + 1
+  pub each_read : went ≡ true → length (meant d rows) ≤ walk.turns
+  pub comparisons : 2 ^ walk.comparisons ≤ 2 * length rows + 1

@@ -5,6 +5,8 @@
 #[cfg(test)]
 mod conversions;
 #[cfg(test)]
+mod dispositions;
+#[cfg(test)]
 mod laws;
 #[cfg(test)]
 mod links;

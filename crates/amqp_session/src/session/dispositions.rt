@@ -5,7 +5,8 @@ ghost use Rattle.std.specs.Option.{option_map};
 ghost use Rattle.std.specs.Result.{result_map_both};
 ghost use Rattle.amqp_session.specs.Deliveries.{nothing_read, with_role};
 ghost use Rattle.amqp_session.specs.Relay.{DispositionQuestion};
-ghost use Rattle.amqp_session.specs.Disposing.{span, is_forward, num_messages, meant, not_meant, agreed, AsksEach, AreRuns, Echoes, echo_of, rows_of, IsBounded, IsWalked, HasTerminal, TakeDispositionStep, SendDispositionStep};
+ghost use Rattle.amqp_session.specs.Walks.{IsWalked};
+ghost use Rattle.amqp_session.specs.Disposing.{span, is_forward, num_messages, meant, not_meant, agreed, AsksEach, AreRuns, Echoes, echo_of, rows_of, IsBounded, HasTerminal, TakeDispositionStep, SendDispositionStep};
 
 use super::Session;
 use super::runs::Run;

@@ -1,0 +1,218 @@
+//! Dispositions: which open deliveries they mean, what relays are asked, the echoes, and the counts of the walk.
+
+ghost use Rattle.std.specs.Prelude.{⊤};
+
+use crate::made::{begin, transfer};
+use amqp_session::{
+    IncomingChannel, InputHandle, LinkFlow, LinkRelay, LinkRelayError, OutgoingChannel,
+    OutputHandle, Session, SessionFrameBody, SessionSettings, num_messages_settled_by_disposition,
+};
+use amqp_types::{
+    Attach, DeliveryNumber, DeliveryTag, Detach, Disposition, Raw, Role, SessionState, Transfer,
+};
+use bytes::Bytes;
+use std::alloc::Global;
+use std::test::Fail;
+
+/// Names each transfer by its number and tag, and asks for an echo of those with the tag `y`.
+#[derive(Drop)]
+struct Marked;
+
+impl LinkRelay for Marked {
+    ghost gives = { record {
+      attach_gives = λ old attach result new. ⊤;
+      flow_gives = λ old handle flow result new. ⊤;
+      transfer_gives = λ old transfer payload result new. ⊤;
+      disposition_gives = λ old role settled state tag result new. ⊤;
+      detach_gives = λ old handle detach remote_initiated result new. ⊤;
+    } };
+
+    fn on_incoming_attach(&mut self, _attach: Attach) -> Result<(), LinkRelayError> {
+        Ok(())
+    }
+
+    fn on_incoming_flow(
+        &mut self,
+        _handle: OutputHandle,
+        _flow: LinkFlow,
+    ) -> Result<Option<LinkFlow>, LinkRelayError> {
+        Ok(None)
+    }
+
+    fn on_incoming_transfer(
+        &mut self,
+        transfer: Transfer,
+        _payload: Bytes,
+    ) -> Result<Option<(DeliveryNumber, DeliveryTag)>, LinkRelayError> {
+        match (transfer.delivery_id, transfer.delivery_tag) {
+            (Some(number), Some(tag)) => Ok(Some((number, tag))),
+            _ => Ok(None),
+        }
+    }
+
+    fn on_incoming_disposition(
+        &mut self,
+        _role: Role,
+        _settled: bool,
+        _state: Option<&Raw>,
+        tag: &DeliveryTag,
+    ) -> bool {
+        tag.0.len() == 1
+    }
+
+    fn on_incoming_detach(
+        &mut self,
+        _handle: OutputHandle,
+        _detach: Detach,
+        _remote_initiated: bool,
+    ) -> Option<Detach> {
+        None
+    }
+}
+
+/// A mapped session with a link under input handle 0; the remote outgoing window is 8.
+fn mapped(alloc: Global) -> Result<Session<Marked>, Fail> {
+    let mut session = Session::new(
+        alloc,
+        SessionSettings::new(),
+        OutgoingChannel(3),
+        SessionState::BeginSent,
+        None,
+    );
+    let _begun = session.on_incoming_begin(IncomingChannel(7), begin(100));
+    let name = String::from_str(alloc, "a")?;
+    let _handle = session.allocate_incoming_link(name, Marked, InputHandle(0));
+    Ok(session)
+}
+
+/// A transfer of the peer with a number; its relay asks for an echo of it, or does not.
+fn receive(session: &mut Session<Marked>, number: u32, asks: bool) -> bool {
+    let tag: &'static [u8] = if asks { b"y" } else { b"no" };
+    let mut coming = transfer(Some(tag));
+    coming.delivery_id = Some(number);
+    let payload = Bytes::from_static(b"m");
+    session.on_incoming_transfer(coming, payload).is_ok()
+}
+
+/// The accepted state, and that of received.
+const ACCEPTED: &[u8] = b"\x00\x53\x24\x45";
+
+const RECEIVED: &[u8] = b"\x00\x53\x23\x45";
+
+/// A disposition of what this session received, with a state.
+fn said(first: u32, last: Option<u32>, settled: bool, state: &'static [u8]) -> Disposition {
+    Disposition {
+        role: Role::Sender,
+        first,
+        last,
+        settled,
+        state: match Raw::read(Bytes::from_static(state)) {
+            Ok((state, _rest)) => Some(state),
+            Err(_error) => None,
+        },
+        batchable: true,
+    }
+}
+
+/// Whether an echo is of this run, settled, by a sender, with the accepted state, and not batchable.
+fn is_echo(echo: &Disposition, first: u32, last: u32) -> bool {
+    *echo
+        == Disposition {
+            settled: true,
+            batchable: false,
+            ..said(first, Some(last), true, ACCEPTED)
+        }
+}
+
+/// Whether the answer is these two echoes.
+fn two_echoes(
+    session: &mut Session<Marked>,
+    range: (u32, u32),
+    one: (u32, u32),
+    other: (u32, u32),
+) -> bool {
+    match session.on_incoming_disposition(said(range.0, Some(range.1), false, ACCEPTED)) {
+        Ok(Some(echoes)) => {
+            echoes.len() == 2
+                && is_echo(&echoes[0], one.0, one.1)
+                && is_echo(&echoes[1], other.0, other.1)
+        }
+        _answer => false,
+    }
+}
+
+#[test]
+fn echoes_are_maximal_runs(rt: HostRuntime) -> Result<(), Fail> {
+    let mut session = mapped(rt.alloc())?;
+    for number in 1..6 {
+        assert!(rt; receive(&mut session, number, number != 4));
+    }
+    assert!(rt; two_echoes(&mut session, (1, 5), (1, 3), (5, 5)));
+    assert_eq!(rt; session.open_deliveries(), 5);
+    assert_eq!(rt; session.last_walk().turns, 5);
+    drop(session);
+    Ok(())
+}
+
+#[test]
+fn a_range_passes_the_wrap(rt: HostRuntime) -> Result<(), Fail> {
+    let mut session = mapped(rt.alloc())?;
+    assert!(rt; receive(&mut session, 0, false));
+    assert!(rt; receive(&mut session, 1, true));
+    assert!(rt; receive(&mut session, 4294967294, false));
+    assert!(rt; receive(&mut session, 4294967295, true));
+    let all = (4294967295, 4294967295);
+    assert!(rt; two_echoes(&mut session, (4294967294, 1), all, (1, 1)));
+    let settled = said(4294967295, Some(0), true, ACCEPTED);
+    assert!(rt; session.on_incoming_disposition(settled) == Ok(None));
+    assert_eq!(rt; session.open_deliveries(), 2);
+    let backward = said(0, Some(2147483648), true, ACCEPTED);
+    assert!(rt; session.on_incoming_disposition(backward) == Ok(None));
+    assert_eq!(rt; session.open_deliveries(), 2);
+    assert_eq!(rt; session.last_walk().turns, 0);
+    drop(session);
+    Ok(())
+}
+
+#[test]
+fn a_walk_reads_what_is_meant(rt: HostRuntime) -> Result<(), Fail> {
+    let mut session = mapped(rt.alloc())?;
+    let _none = session.on_incoming_disposition(said(7, None, true, ACCEPTED));
+    assert!(rt; session.last_walk().turns <= 1 && session.last_walk().comparisons <= 1);
+    let mut all = true;
+    for number in 0..1000 {
+        all = receive(&mut session, number, false) && all;
+    }
+    assert!(rt; all);
+    let _settled = session.on_incoming_disposition(said(10, Some(19), true, ACCEPTED));
+    assert_eq!(rt; session.open_deliveries(), 990);
+    let walk = session.last_walk();
+    assert!(rt; walk.turns == 11 && walk.comparisons <= 11);
+    drop(session);
+    Ok(())
+}
+
+#[test]
+fn a_terminal_state_opens_the_window_again(rt: HostRuntime) -> Result<(), Fail> {
+    let mut session = mapped(rt.alloc())?;
+    let frame = session.on_outgoing_disposition(said(1, Some(3), true, ACCEPTED));
+    assert!(rt; frame.channel == 3 && matches!(&frame.body, SessionFrameBody::Disposition(_)));
+    assert_eq!(rt; session.remote_outgoing_window(), 11);
+    let _frame = session.on_outgoing_disposition(said(1, Some(3), true, RECEIVED));
+    assert_eq!(rt; session.remote_outgoing_window(), 11);
+    drop(session);
+    Ok(())
+}
+
+#[test]
+fn messages_are_counted_along_the_circle(rt: HostRuntime) {
+    assert_eq!(rt; num_messages_settled_by_disposition(1, Some(3)), 3);
+    assert_eq!(rt; num_messages_settled_by_disposition(1, None), 1);
+    assert_eq!(rt; num_messages_settled_by_disposition(3, Some(1)), 1);
+    assert_eq!(rt; num_messages_settled_by_disposition(0, Some(4294967295)), 1);
+    assert_eq!(rt; num_messages_settled_by_disposition(4294967295, Some(0)), 2);
+    assert_eq!(rt;
+        num_messages_settled_by_disposition(0, Some(2147483647)),
+        2147483648
+    );
+}
