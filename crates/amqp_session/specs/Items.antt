@@ -10,7 +10,7 @@ item_frames None = []
 item_frames (Some (SingleFrame f)) = f ∷ []
 item_frames (Some (MultipleFrames fs)) = fs.items
 
--- These frames are handed out: as a list where that is said, though it is one, and never an empty list.
+-- These frames are handed out: as a list where `as_list` is true, even for one frame; never as an empty list.
 abbrev pub HandsOut : Bool → List SessionFrame → Option SessionOutgoingItem → Type 0
 HandsOut as_list frames None = frames ≡ []
 HandsOut as_list frames (Some (SingleFrame f)) = (as_list ≡ false) × (frames ≡ f ∷ [])

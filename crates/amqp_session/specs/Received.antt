@@ -45,7 +45,7 @@ abbrev pub came : {R : Type 0} → List (Entry R) → ℕ
 came [] = 0
 came (e ∷ es) = came_by e + came es
 
--- the number of the peer's next transfer and its outgoing window, as the peer says them
+-- the number of the peer's next transfer and its outgoing window, as the peer sends them
 abbrev pub word_by : {R : Type 0} → ℕ × ℕ → Entry R → ℕ × ℕ
 word_by old (TakesBegin channel b (Ok u)) = (b.next_outgoing_id, b.outgoing_window)
 word_by old (TakesFlow f asked result) = (f.next_outgoing_id, f.outgoing_window)
@@ -55,7 +55,7 @@ abbrev pub word_from : {R : Type 0} → ℕ × ℕ → List (Entry R) → ℕ ×
 word_from old [] = old
 word_from old (e ∷ es) = word_from (word_by old e) es
 
--- its latest word: both are 0 before the first one
+-- the latest of them that it sent; both are 0 before the first
 abbrev pub word : {R : Type 0} → List (Entry R) → ℕ × ℕ
 word H = word_from (0, 0) H
 
@@ -78,7 +78,7 @@ left w (e ∷ es) = left (left_by w e) es
 abbrev pub peer_window : {R : Type 0} → List (Entry R) → ℕ
 peer_window H = left (word H).1 (since says_numbers H)
 
--- the count: the transfers that came since the last session flow, as far as four bytes can say
+-- the transfers that came since the last session flow, but never more than four bytes can hold
 abbrev pub unreported : {R : Type 0} → List (Entry R) → ℕ
 unreported H = min (came (since is_session_flow H)) 4294967295
 

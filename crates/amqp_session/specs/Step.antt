@@ -1,5 +1,5 @@
 -- What each call of a session does: its answer, the frames handed out with it, the questions to relays, and the session
--- after it. A refusal's case says that no refusal before it stands.
+-- after it. The case of a refusal says that the refusals that are tested before it do not apply.
 use Rattle.std.specs.Prelude.{◌≡◌, ◌<◌, ◌^◌, ◌⊎◌, ℕ, Bool, true, false, List, [], ◌∷◌, ◌++◌, Option, Some, None, Result, Ok, Err, IsSome, unwrap_or}
 use Rattle.std.specs.Option.{option_map}
 use Rattle.amqp_types.specs.declared.definitions.DeliveryTag.{DeliveryTag}

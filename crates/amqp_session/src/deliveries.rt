@@ -1,4 +1,4 @@
-//! Tables of open deliveries, sorted by number, that are read by counted reads alone.
+//! Tables of open deliveries, sorted by number. Each read from another module is counted.
 
 ghost use Rattle.std.specs.Prelude.{◌≡◌, ℕ, ◌+◌, ◌-◌, ◌*◌, ◌^◌, ◌<◌, ◌≤◌, [], length, slice_get, slice_set, Some, OnOk, IsTrue, false};
 ghost use Rattle.std.specs.VecDeque.{deque_capacity};
@@ -24,16 +24,16 @@ pub struct Delivery {
 /// How much of a table a walk read.
 #[derive(Clone, Copy, Debug, PartialEq, Eq)]
 pub struct WalkCount {
-    /// How many records.
+    /// How many records were read.
     pub turns: u64,
-    /// How many numbers alone, in the search for the place where the walk begins.
+    /// How many numbers were compared, in the search for the place where the walk begins.
     pub comparisons: u32,
 }
 
 /// The open deliveries of one role, by rising number.
 ///
-/// From outside, a record is read by [`Deliveries::delivery`] and a number by [`Deliveries::number`] alone, and each such
-/// read is counted. A record that comes at the end costs constant time.
+/// Another module reads a record by [`Deliveries::delivery`] and a number by [`Deliveries::number`], and by no other call; both
+/// count the read. A record that comes at the end costs constant time.
 #[derive(Drop)]
 pub(crate) struct Deliveries {
     rows: VecDeque<Delivery>,
@@ -116,7 +116,7 @@ impl Deliveries {
         &self.rows[at]
     }
 
-    /// Takes room for more records. On a refusal the table stays as it is.
+    /// Reserves room for more records. When memory is refused the table stays as it is.
     pub(crate) fn reserve(&mut self, additional: usize) -> Result<(), AllocError>
         ensures room { OnOk result (length self.new.rows + additional ≤ self.new.capacity) }
         ensures rows { self.new ≡ record self.old { capacity = self.new.capacity } }

@@ -156,10 +156,10 @@ pub enum BeginError {
     OutOfMemory,
 }
 
-/// Why a handle has no outcome of a session's end to give.
+/// Why a handle cannot tell how the session ended. No call answers it yet.
 #[derive(Clone, Copy, Debug, PartialEq, Eq, thiserror::Error)]
 pub enum TryEndError {
-    /// The session's end was given out before.
+    /// The outcome was given before.
     #[error("Session is already ended")]
     AlreadyEnded,
     /// The peer's End has not come.

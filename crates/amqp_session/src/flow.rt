@@ -6,7 +6,7 @@ ghost use Rattle.amqp_session.specs.LinkFlow.{link_part};
 
 use amqp_types::{Fields, Flow, Handle};
 
-/// The fields of a Flow that a link sends or gets. The fields of the session are the session's own.
+/// The fields of a Flow that a link sends or gets. The session fills in its own fields.
 #[derive(Clone, Debug, Drop, PartialEq)]
 pub struct LinkFlow {
     /// The link.
@@ -17,9 +17,9 @@ pub struct LinkFlow {
     pub link_credit: Option<u32>,
     /// How many messages wait at the sender.
     pub available: Option<u32>,
-    /// Whether the credit is to be used up.
+    /// Whether the sender is to use up the credit.
     pub drain: bool,
-    /// Whether a flow is wanted in answer.
+    /// Whether the peer is to answer with a flow.
     pub echo: bool,
     /// Anything else.
     pub properties: Option<Fields>,

@@ -1,4 +1,4 @@
-//! Frames of a session: a channel, and what is said on it (AMQP 1.0 part 2, section 2.3).
+//! Frames of a session: a channel and a performative (AMQP 1.0 part 2, section 2.3).
 
 ghost use Rattle.std.specs.Prelude.{◌≡◌};
 
@@ -11,18 +11,18 @@ use std::fmt;
 pub struct SessionFrame {
     /// The channel: 0 to 65535.
     pub channel: u16,
-    /// What is said.
+    /// The performative.
     pub body: SessionFrameBody,
 }
 
-/// What a session's frame says.
+/// The performative of a session's frame, with the payload of a transfer.
 #[derive(Drop, PartialEq)]
 pub enum SessionFrameBody {
     Attach(Attach),
     Flow(Flow),
     Transfer {
         performative: Transfer,
-        /// The message, or the part of it that this transfer carries. It is moved or cut, never copied.
+        /// The message, or the part of it that this transfer carries. It is moved or shared, never copied.
         payload: Bytes,
     },
     Disposition(Disposition),

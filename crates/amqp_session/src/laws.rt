@@ -1,4 +1,5 @@
-//! Laws: what holds over every history of a session, on functions that do nothing; and of the numbers with a direction.
+//! Laws: what holds of every history of a session, as contracts of functions that do nothing; and how channels and handles
+//! compare.
 
 ghost use Rattle.std.specs.Prelude.{List, Option, ◌≡◌, ◌⊎◌, ◌<◌, ◌/◌, nat_eq, true};
 ghost use Rattle.std.specs.List.{fold};
@@ -52,8 +53,8 @@ pub fn law_of_links<R: LinkRelay>()
 {}
 
 /// After the session was asked for a session flow in `Mapped`, the count of the transfers that came since the last one is 0
-/// or below half of the incoming window, rounded down: a receiver that asks after each transfer never stands with half of
-/// its window used up and unreported.
+/// or below half of the incoming window, rounded down. So where the session is asked after each transfer, half of its window
+/// is never consumed and not reported.
 pub fn law_of_session_flows<R: LinkRelay>()
     ensures { (v w : SessionView R) (item : Option SessionOutgoingItem) → SessionFlowStep v item w → is_mapped v.state ≡ true →
         (w.receiving.unreported ≡ 0) ⊎ (w.receiving.unreported < v.settings.incoming_window / 2) }

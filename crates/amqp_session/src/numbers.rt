@@ -1,4 +1,4 @@
-//! Channels and handles by their direction: the numbers are of one kind, and a mistake of direction does not compile.
+//! Channels and handles, one type for each direction: where they are mixed up, the code does not compile.
 
 ghost use Rattle.std.specs.Prelude.{◌≡◌};
 

@@ -1,4 +1,4 @@
-//! What a session asks of its links: each link has a relay, whose answers the session carries out.
+//! What a session asks of its links: each link has a relay, and the session does what the relay answers.
 
 ghost use Rattle.std.specs.Prelude.{ℕ, List, Bool, Option, Result, option_copied};
 ghost use Rattle.amqp_session.specs.Relay.{Relays};
@@ -19,8 +19,8 @@ use bytes::Bytes;
 
 /// The session's side of a link (AMQP 1.0 part 2, section 2.6).
 ///
-/// Each call is known by a relation of the relay before it, its arguments, its answer and the relay after it, so a relay
-/// may have a choice. A session makes room for all that may follow before it asks.
+/// A relation says of each call how the relay before it, its arguments, its answer and the relay after it belong together; so a
+/// relay may have a choice. A session reserves memory for all that may follow before it asks.
 pub trait LinkRelay: Drop {
     /// What a relay may answer: for each call a relation of the relay before, the arguments, the answer and the relay after.
     ghost gives: { Relays Self };

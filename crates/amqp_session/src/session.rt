@@ -29,11 +29,11 @@ use amqp_types::SessionState;
 use std::alloc::Global;
 use std::marker::Model;
 
-/// A session, which a connection or a test drives: it takes and makes frames, and waits for nothing.
+/// A session. It takes received performatives and makes frames; it does no input or output, and never blocks.
 ///
-/// Calls that begin with `on_incoming_` take what the peer sent; those that begin with `on_outgoing_`, and `send_begin`
-/// and `send_end`, what this side wants to send, and give the frames. A refused call of the state changes nothing. After a
-/// refusal for want of memory nothing went out, and only the numbers of what was received have moved.
+/// Calls that begin with `on_incoming_` take what the peer sent. Those that begin with `on_outgoing_`, and `send_begin` and
+/// `send_end`, take what this side wants to send, and give the frames. A call that the state refuses changes nothing. When
+/// memory is refused nothing goes out, and only the numbers of what was received change.
 #[derive(Drop)]
 pub struct Session<R> {
     alloc: Global,
@@ -80,7 +80,7 @@ impl<R> Model for Session<R> {
 
 impl<R: LinkRelay> Session<R> {
     /// A session with these settings on an outgoing channel, in a state, with the reason why its connection stopped, if it
-    /// did. Nothing waits, no link is attached, no delivery is open, and what the peer says is 0.
+    /// did. Nothing waits, no link is attached, no delivery is open, and the numbers that the peer gives are 0.
     pub fn new(
         alloc: Global,
         settings: SessionSettings,
@@ -116,7 +116,7 @@ impl<R: LinkRelay> Session<R> {
         &self.state
     }
 
-    /// Whether a transfer is taken: exactly in `Mapped`.
+    /// Whether a transfer may be requested: exactly in `Mapped`.
     pub fn can_send(&self) -> bool
         ensures { result ≡ is_mapped self.now.view.state }
     {

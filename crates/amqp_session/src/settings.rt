@@ -16,7 +16,7 @@ pub struct SessionSettings {
     pub next_outgoing_id: u32,
     /// How many transfers may come before a flow grants more.
     pub incoming_window: u32,
-    /// How many transfers this side keeps.
+    /// How many transfers this side can send at most before it waits.
     pub outgoing_window: u32,
     /// The highest handle that the peer may use.
     pub handle_max: Handle,

@@ -16,7 +16,7 @@ pub fn answer<R: LinkRelay>(engine: &mut Engine<R>, input: Input<R>) -> &'static
     }
 }
 
-/// What a received frame is answered, that hexadecimal digits say.
+/// The answer to a received frame, given by its hexadecimal digits.
 pub fn hear<R: LinkRelay>(alloc: Global, engine: &mut Engine<R>, digits: &str) -> &'static str {
     match hex_bytes(alloc, digits) {
         Ok(Some(bytes)) => answer(engine, Input::Received(bytes)),
@@ -51,7 +51,7 @@ pub fn puts_out<R: LinkRelay>(alloc: Global, engine: &mut Engine<R>, lines: &str
     }
 }
 
-/// An engine in this state, whose Open has no name. Tests drop it by name: where a scope's end lets it go, the proof takes
+/// An engine in this state, whose Open has no name. Tests drop it by an explicit call: at the end of a scope the proof takes
 /// minutes.
 pub fn engine_in(alloc: Global, state: ConnectionState) -> ReplayEngine {
     Engine::new(alloc, state, unnamed_open(alloc))

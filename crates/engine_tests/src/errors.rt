@@ -1,4 +1,4 @@
-//! Errors of the connection, told as others.
+//! Conversions of errors of the connection.
 
 use crate::given::error;
 use bytes::Bytes;

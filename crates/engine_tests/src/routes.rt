@@ -55,7 +55,7 @@ fn an_end_takes_the_route_away(rt: HostRuntime) {
     drop(engine);
 }
 
-/// What the request is answered that records an end of this side as the reason.
+/// The answer to the request that records, as the reason, that this side ended the session.
 fn stop(engine: &mut ReplayEngine, number: u32) -> &'static str {
     answer(
         engine,
@@ -75,7 +75,7 @@ fn the_first_stop_reason_of_a_session_stays(rt: HostRuntime) {
     drop(engine);
 }
 
-/// What the peer's Begin on a channel is answered, which names channel 0 and grants a window of 100.
+/// The answer to the peer's Begin on a channel, which names channel 0 and grants a window of 100.
 fn begun_on(alloc: Global, engine: &mut ReplayEngine, channel: u16) -> &'static str {
     let [high, low] = channel.to_be_bytes();
     let frame = [

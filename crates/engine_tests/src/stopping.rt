@@ -1,4 +1,4 @@
-//! A run that stops for want of memory, and the next one, which goes on.
+//! A run that stops where memory is refused, and the next one, which goes on.
 
 use crate::asking::opened;
 use crate::given::{ReplayEngine, ReplayInput, said};
@@ -40,7 +40,7 @@ fn ran_on(
     }
 }
 
-/// Whether all is answered as without want of memory, or an input was refused for it.
+/// Whether the answers are those of a run without a refusal, or an input was refused for memory.
 fn is_whole(text: &str) -> bool {
     text == ALL_HANDED_OUT || text.contains("OutOfMemory\n")
 }

@@ -199,7 +199,7 @@ took_close g v w e c p is idle fe u s =
 
 -- ---- received frames of sessions
 
--- how the connection moves carry it finds a session, or does not
+-- how the connection changes where it finds a session, and where it does not
 abbrev Found : ConnectionView → ℕ → FrameBody → Type 0
 Found v c b = (n : ℕ) (k : ConnectionView) (r : Option StepError) → Finds v c b (Ok n) k → ¬ (r ≡ Some no.OutOfMemory) → Moved v (received_event c b (Some n) r) k
 

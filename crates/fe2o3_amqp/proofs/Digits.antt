@@ -1,4 +1,4 @@
--- The digits of joined bytes.
+-- The digits of two byte strings that are joined.
 use Rattle.std.proofs.Common.{◌≡◌, ℕ, ◌/◌, ◌%◌, List, [], ◌∷◌, ◌++◌, slice_index, refl, ap}
 use Rattle.hex.specs.Hex.{encode_with}
 

@@ -1,4 +1,4 @@
--- A kind's fields are read, and what they say is heard; or they are not there.
+-- The fields of a kind are read, and their frame is received; or they are not there.
 use Rattle.std.proofs.Common.{◌≡◌, ℕ, List, [], Option, Some, None, refl, sym, subst, inl, inr}
 use Rattle.std.specs.Prelude.{Ok, Err}
 use Rattle.amqp_values.specs.declared.error.ReadError.{ReadError}

@@ -34,7 +34,7 @@ occurs c items = sum_by (λ y. mark (nat_eq (y + c) 65535)) items
 abbrev pub held_at : List (ℕ × ℕ) → ℕ → ℕ
 held_at es c = mark (is_some (lookup (nat_eq c) es))
 
--- each channel that was ever held is held or given back, and not both, once
+-- each channel that was ever held is either held or given back, and stands there once
 pub record Channelled (held : List (ℕ × ℕ)) (held_len : ℕ) (free : List ℕ) (free_len capacity next : ℕ) : Type 0 where
   pub ordered : IsHeap nat_cmp free
   pub each : (c : ℕ) → occurs c free + held_at held c ≡ mark (nat_lt c next)

@@ -1,4 +1,4 @@
--- How one error of the connection is told as another.
+-- The conversions between errors of the connection.
 use Rattle.fe2o3_amqp.specs.declared.connection.error.ConnectionStateError.{ConnectionStateError}
 use Rattle.fe2o3_amqp.specs.declared.connection.error.ConnectionStateError.TheVariants as state
 use Rattle.fe2o3_amqp.specs.declared.connection.error.ConnectionInnerError.{ConnectionInnerError}

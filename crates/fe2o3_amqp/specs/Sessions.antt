@@ -113,7 +113,7 @@ abbrev pub BegunStep : {R : Type 0} → SessionView R → Result (Observed R × 
 BegunStep new (Ok p) = SendBeginStep new (Ok p.1) p.0.view
 BegunStep new (Err e) = e ≡ unbegun.OutOfMemory
 
--- nothing of a session happens
+-- no session is reached, and none is called
 abbrev pub Untouched : {R : Type 0} → Option ℕ → List (session.Entry R) → Type 0
 Untouched reached calls = (reached ≡ None) × (calls ≡ [])
 

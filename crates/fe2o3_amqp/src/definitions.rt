@@ -1,4 +1,4 @@
-//! What all of AMQP's frames speak of, and the usual settings of a connection.
+//! The error that frames carry, and the usual settings of a connection.
 
 pub use amqp_types::Error;
 

@@ -30,9 +30,9 @@ use std::marker::Model;
 pub use step_error::StepError;
 use waiting::Waiting;
 
-/// A connection with its sessions and its frames: what the peer sends and what this side wants go in, and what is to be sent
-/// comes out, or why it is refused (AMQP 1.0 part 2, sections 2.3 to 2.5). It does no input or output itself. `R` relays
-/// what comes for the links of its sessions.
+/// A connection with its sessions and its frames. Received frames and local requests go in; the frames that are to be sent, or
+/// refusals, come out (AMQP 1.0 part 2, sections 2.3 to 2.5). It does no input or output itself. Each link of a session has a
+/// relay of the type `R`.
 #[derive(Drop)]
 pub struct Engine<R> {
     alloc: Global,
@@ -103,9 +103,9 @@ impl<R: LinkRelay> Engine<R> {
 
     /// Takes one input: connection and sessions do what it asks, and the frames that this hands out wait to be put out.
     ///
-    /// `OutputWaiting` where frames still wait, and nothing has then changed. `Frame` where received bytes are no frame,
-    /// `OutOfMemory` where memory is refused before anything was done, `NoSession` and `SessionInUse` where no session has
-    /// the number, or one has it: nothing has then changed. Every other refusal is that of the connection or the session.
+    /// Nothing changes where the refusal is `OutputWaiting` (frames still wait), `Frame` (the received bytes are no frame, or
+    /// memory for its fields is refused), `NoSession`, `SessionInUse`, `AllocSession`, or `OutOfMemory`, which `Begin` alone
+    /// meets: the engine has no room for one more session. Every other refusal is that of the connection or of the session.
     pub fn step(&mut self, input: Input<R>) -> Result<(), StepError>
         ensures { Steps R.gives self.old input (refusal_of result) self.new }
     {

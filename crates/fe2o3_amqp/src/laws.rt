@@ -1,4 +1,4 @@
-//! Laws: what follows from the definitions alone, on functions that do nothing.
+//! Laws: what holds of every history of an engine, as contracts of functions that do nothing.
 
 ghost use Rattle.std.specs.Prelude.{List};
 ghost use Rattle.amqp_types.specs.declared.states.ConnectionState.{ConnectionState};
@@ -19,8 +19,8 @@ pub fn law_of_views<R: LinkRelay>()
     session::law_of_views::<R>();
 }
 
-/// Every legal history keeps the headline; among the rest, where the headers were exchanged at most one Open and one Close
-/// are handed out (AMQP 1.0 part 2, section 2.4).
+/// Every legal history has the properties of `Headline`. One of them: an engine made in `HeaderExchange` hands out at most one
+/// Open and one Close (AMQP 1.0 part 2, section 2.4).
 pub fn law_of_histories<R: LinkRelay>()
     ensures { (state : ConnectionState) (o : OpenSaid) (H : List (Entry R)) (w : EngineView R) → LeadsTo R.gives state o H w → Headline state o H }
 {

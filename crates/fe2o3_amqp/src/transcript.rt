@@ -1,4 +1,4 @@
-//! Transcripts: lines of text say what an engine is given, and lines of text say what it answers.
+//! Transcripts: lines of text are the inputs of an engine, and lines of text its answers.
 
 mod line;
 mod names;
@@ -39,9 +39,9 @@ const FAILED: u8 = 3;
 /// `output` gets `out HEX`, in lower case, for each piece, `err NAME` for each refusal, and `err TooLarge` for a frame
 /// that does not fit the peer's limit. What belongs to a line is written, and flushed, before the next line is read.
 ///
-/// The status is 0 at the end of the input. At a line that says none of these, `errors` gets `bad line K`, with K
-/// from 1, and the status is 2. Where reading fails, a line that is not UTF-8 among it, or writing, or where memory is
-/// refused, it is 3. The output of earlier lines stands.
+/// The status is 0 at the end of the input. At any other line `errors` gets `bad line K`, where K counts from 1, and the status
+/// is 2. The status is 3 where reading or writing fails, where a line is not UTF-8, and where memory is refused. The output of
+/// earlier lines stands.
 pub fn replay<I: BufRead, O: Write, E: Write>(
     alloc: Global,
     input: &mut I,

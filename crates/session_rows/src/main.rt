@@ -39,7 +39,7 @@ use std::io::{self, BufRead, BufReader, BufWriter, Write};
 fn main(rt: HostRuntime) -> anyhow::Result<()> {
     let mut session = made::session(rt.alloc(), "Unmapped")?;
     let outcome = run(&rt, &mut session);
-    // By name, since the end of its scope takes the prover minutes.
+    // An explicit call, since the end of its scope takes the prover minutes.
     drop(session);
     outcome
 }

@@ -1,4 +1,4 @@
-//! Want of memory: nothing went out, and what waited stands as before.
+//! Refused memory: nothing goes out, and what waited still waits.
 
 use crate::made::{ABSENT, Answer, NONE, NOTHING, begin, grant, grant_link, send};
 use crate::relays::Quiet;
@@ -33,7 +33,7 @@ fn view<R: LinkRelay>(session: &Session<R>) -> Shown {
     }
 }
 
-/// A transfer is sent, and once more where memory is refused; none where the session then showed another thing.
+/// Sends a transfer, and sends it again where memory was refused. `None` where the session had changed by then.
 fn send_twice(one: &mut Session<Quiet>, is_first: bool) -> Option<Answer> {
     let before = view(one);
     let answer = send(one, Some(b"t"), is_first);
@@ -46,8 +46,8 @@ fn send_twice(one: &mut Session<Quiet>, is_first: bool) -> Option<Answer> {
     Some(send(one, Some(b"t"), is_first))
 }
 
-/// A flow comes that leaves so much of the window, and once more where memory is refused: the windows have moved then, and
-/// nothing else. None where the session showed another thing.
+/// Receives a flow that leaves so much of the window, and receives it again where memory was refused. `None` where more than
+/// the windows had changed by then.
 fn grant_twice(one: &mut Session<Quiet>, from: u32, width: u32, left: u32) -> Option<Answer> {
     let before = view(one);
     let answer = grant(one, Some(from), width);
@@ -99,7 +99,7 @@ fn send_begin(one: &mut Session<Quiet>) -> Option<bool> {
     }
 }
 
-/// A Begin goes out, and once more where memory is refused: the session shows what it showed.
+/// Sends a Begin, and sends it again where memory was refused: the session is as it was.
 fn begin_twice(one: &mut Session<Quiet>) -> bool {
     let before = view(one);
     match send_begin(one) {

@@ -60,8 +60,7 @@ impl LinkRelay for Quiet {
     }
 }
 
-/// Takes as many flows as it has credit for, and refuses transfers. Its relations say less than it does: any answer to a
-/// flow may come.
+/// Takes as many flows as it has credit for, and refuses transfers. Its relations say less: they allow any answer to a flow.
 #[derive(Drop)]
 pub struct Choosing {
     pub credit: u32,

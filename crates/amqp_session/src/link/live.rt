@@ -62,7 +62,8 @@ impl<R: LinkRelay> Links<R> {
         true
     }
 
-    /// Leaves the live link of a handle, whose place waits for the peer's answer or is free; and says whether a detach goes out.
+    /// Takes the live link of a handle away. The handle then waits for the peer's answer, or is free. Says whether a detach goes
+    /// out.
     pub(crate) fn leave(&mut self, handle: u32, expects_echo: bool) -> bool
         ensures { Leaves self.old handle expects_echo result self.new }
     {

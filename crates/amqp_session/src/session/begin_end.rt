@@ -115,8 +115,8 @@ impl<R: LinkRelay> Session<R> {
         ))
     }
 
-    /// Takes the peer's Begin, which came on this channel: it gives both windows and the peer's next number. HeldTransfer-back
-    /// transfers stay held back. Takes no memory.
+    /// Takes the peer's Begin, which came on this channel: it gives both windows and the peer's next number. Transfers
+    /// that wait go on waiting. Takes no memory.
     ///
     /// `IllegalState` in any state but `Unmapped` and `BeginSent`. Nothing changes then.
     pub fn on_incoming_begin(
@@ -140,7 +140,7 @@ impl<R: LinkRelay> Session<R> {
 
     /// Takes the peer's End. Takes no memory.
     ///
-    /// `RemoteEnded` where the peer ended the session by itself, and `RemoteEndedWithError` where its End has an error; the
+    /// `RemoteEnded` where the peer's End is unsolicited, and `RemoteEndedWithError` where its End has an error; the
     /// state moves all the same. `IllegalState` in `Unmapped` and `EndReceived`: nothing changes then.
     pub fn on_incoming_end(
         &mut self,

@@ -14,7 +14,7 @@ use std::marker::Model;
 
 /// A transfer that was accepted, for the link of an input handle.
 ///
-/// The tag that its record will keep is taken as it is accepted, so that nothing needs memory as it goes out.
+/// The tag for the record of its delivery is taken when the transfer is accepted, so that it needs no memory when it goes out.
 #[derive(Drop)]
 pub(crate) struct HeldTransfer {
     input_handle: InputHandle,
@@ -82,7 +82,7 @@ impl HeldTransfer {
         })
     }
 
-    /// The frame, where this is the number of the next delivery: a first frame takes it, and any other has none.
+    /// The frame, where `delivery` is the number of the next delivery: the first frame of a delivery gets it, and any other none.
     pub(crate) fn numbered(self, channel: OutgoingChannel, delivery: u32) -> Numbered
         ensures frame { result.frame ≡ frame_of channel.0 delivery self }
         ensures delivery { result.delivery ≡ record_of delivery self }

@@ -24,7 +24,7 @@ use amqp_types::{DeliveryNumber, DeliveryTag, Disposition, Flow, Transfer};
 use bytes::Bytes;
 use std::alloc::{AllocError, Global};
 
-/// Room for what a flow lets out: for a list of frames, and for the deliveries that they open. None is taken where nothing
+/// Memory for what a flow lets out: for a list of frames, and for the deliveries that they open. None is taken where nothing
 /// goes out.
 fn take_room(
     alloc: Global,

@@ -88,8 +88,8 @@ impl<R: LinkRelay> Session<R> {
     }
 
     /// Takes the peer's detach: the link leaves the table, and its relay is told whether the peer began. It did where no detach
-    /// of this side is awaited, which is then no longer awaited. The relay's answer is handed back. An input handle without
-    /// a link is passed over. Takes no memory, and never fails.
+    /// of this side is awaited; one that is awaited is so no longer. The relay's answer is handed back. For an input handle
+    /// without a link nothing happens. Takes no memory, and never fails.
     pub fn on_incoming_detach(
         &mut self,
         detach: Detach,

@@ -167,7 +167,7 @@ impl Sending {
         self.remote_incoming_window -= count as u32;
     }
 
-    /// The transfer waits: the window is used up. On a refusal nothing changes.
+    /// The transfer waits, since the window is used up. When memory is refused nothing changes.
     fn hold_back(&mut self, held: HeldTransfer) -> Result<(), AllocError>
         requires { self.old.remote_incoming_window ≡ 0 }
         ensures ok { OnOk result (self.new ≡ drained (joined self.old held)) }
@@ -201,7 +201,7 @@ impl Sending {
         out.frame
     }
 
-    /// The transfer goes behind those that wait, and the window lets out what it can. On a refusal nothing changes.
+    /// The transfer goes behind those that wait, and the window lets out what it can. When memory is refused nothing changes.
     fn send_behind(
         &mut self,
         alloc: Global,

@@ -91,7 +91,7 @@ impl ChannelTable {
                 if self.held.reserve(1).is_err() {
                     return Err(AllotError::OutOfMemory);
                 }
-                // What is given back later then takes no memory.
+                // Then no memory is needed when it is given back.
                 if self.free.reserve(self.next as usize + 1).is_err() {
                     return Err(AllotError::OutOfMemory);
                 }

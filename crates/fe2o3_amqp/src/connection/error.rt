@@ -52,7 +52,7 @@ pub enum ConnectionInnerError {
     /// The state does not take this.
     #[error("Illegal local state")]
     IllegalState,
-    /// The peer asks for what is left out, as a session that it begins itself.
+    /// The peer asks for something that is left out, such as a session that it begins itself.
     #[error("Not implemented {:?}", .0)]
     NotImplemented(Option<String>),
     /// No session is on this channel.
@@ -87,7 +87,7 @@ impl From<ConnectionStateError> for ConnectionInnerError {
     }
 }
 
-/// Why a connection fails, as its user is told.
+/// Why a connection fails, as its user sees it.
 #[derive(Debug, Drop, PartialEq, thiserror::Error)]
 pub enum Error {
     /// The transport failed.
@@ -116,10 +116,10 @@ pub enum Error {
     OutOfMemory,
 }
 
-/// Why a handle has no outcome of a connection's close to give. No call answers it yet.
+/// Why a handle cannot tell how the connection closed. No call answers it yet.
 #[derive(Clone, Copy, Debug, PartialEq, Eq, thiserror::Error)]
 pub enum TryCloseError {
-    /// The outcome was given out before.
+    /// The outcome was given before.
     #[error("Illegal local state")]
     AlreadyClosed,
     /// The peer's Close has not come.

@@ -62,7 +62,7 @@ fn after_incoming_close(state: ConnectionState) -> Option<ConnectionState>
     }
 }
 
-/// How the peer's Close is told, in the state that it led to.
+/// How the peer's Close is answered, in the state that it led to.
 fn answer_close(state: ConnectionState, error: Option<Error>) -> Result<(), ConnectionStateError>
     ensures { refusal_of result ≡ told state error }
 {

@@ -20,8 +20,8 @@ impl Connection {
     /// Begin's `remote-channel`. Gives that session's number, and the frame for it.
     ///
     /// `IllegalState` outside `Opened`. `NotImplemented(None)` without a `remote-channel`: sessions that the peer begins are
-    /// left out. `NotFound(None)` where no session holds that channel. `OutOfMemory` where memory is refused. The channel
-    /// leads where it led then.
+    /// left out. `NotFound(None)` where no session holds that channel. `OutOfMemory` where memory is refused. Then the route
+    /// stays as it was.
     pub fn on_incoming_begin(
         &mut self,
         channel: IncomingChannel,

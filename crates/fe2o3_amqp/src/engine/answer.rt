@@ -3,7 +3,7 @@
 use super::step_error::StepError;
 use amqp_frames::{Frame, Piece};
 
-/// What became of an input, and what is to be sent for it.
+/// Whether an input was accepted, and what is to be sent for it.
 #[derive(Debug, Drop)]
 pub enum Answer {
     /// The input was accepted.

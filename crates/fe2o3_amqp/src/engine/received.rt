@@ -1,5 +1,5 @@
-//! Received frames: who handles what. An empty frame is no one's; Open and Close are the connection's; all others go along
-//! their channel's route to a session.
+//! Received frames: who handles what. Nothing happens for an empty frame; the connection takes Open and Close; all others go
+//! along their channel's route to a session.
 
 ghost use Rattle.std.specs.Prelude.{◌≡◌, ℕ, Option, Some, None, List, []};
 ghost use Rattle.std.specs.Option.{option_map};
@@ -101,7 +101,7 @@ impl<R: LinkRelay> Engine<R> {
         let mut fields = bytes;
         let head = self.decoder.head(&mut fields)?;
         match head.kind {
-            // An empty frame is no one's.
+            // An empty frame asks for nothing.
             None => Ok(()),
             Some(kind) => self.receive_kind(IncomingChannel(head.channel), kind, fields),
         }

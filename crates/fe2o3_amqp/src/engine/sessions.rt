@@ -40,7 +40,7 @@ fn remote_end_reason(end: &End) -> SessionStopReason
     }
 }
 
-/// Whether the peer's End is unsolicited in this state: it answers none of this side.
+/// Whether the peer's End is unsolicited in this state: this side sent none.
 fn is_unsolicited(state: SessionState) -> bool
     ensures { result ≡ is_end_received (takes_end state) }
 {

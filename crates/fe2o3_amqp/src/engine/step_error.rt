@@ -11,7 +11,7 @@ pub enum StepError {
     /// Frames of an earlier input still wait to be taken out. Nothing has changed.
     #[error("output is waiting")]
     OutputWaiting,
-    /// The received bytes are no frame. Nothing has changed.
+    /// The received bytes are no frame or one that is left out, or memory for its fields was refused. Nothing has changed.
     #[error("{0}")]
     Frame(FrameError),
     /// The connection's state does not take this, or the peer closed.
@@ -38,7 +38,7 @@ pub enum StepError {
     /// A session of this number is there. Nothing has changed.
     #[error("session in use")]
     SessionInUse,
-    /// Memory was refused before anything was done. Nothing has changed.
+    /// The engine's own room for a new session was refused (`Begin` alone). Nothing has changed.
     #[error("out of memory")]
     OutOfMemory,
 }

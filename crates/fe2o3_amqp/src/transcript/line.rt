@@ -48,7 +48,7 @@ pub(super) fn asked_by(alloc: Global, text: &str) -> Result<Asked, AllocError> {
     }
 }
 
-/// What a line asks for that has something behind its first word.
+/// What a line of more than one word asks for.
 fn asked_with(alloc: Global, word: &str, rest: &str) -> Result<Asked, AllocError> {
     match word {
         "recv" => received(alloc, rest),
@@ -61,7 +61,7 @@ fn asked_with(alloc: Global, word: &str, rest: &str) -> Result<Asked, AllocError
     }
 }
 
-/// What a line asks for that has a session's number behind its word.
+/// What a line asks for whose second word is a session's number.
 fn of_session(word: &str, number: SessionNo) -> Asked {
     match word {
         "begin" => Asked::Input(Input::Begin(number, SessionSettings::new())),
@@ -71,7 +71,7 @@ fn of_session(word: &str, number: SessionNo) -> Asked {
     }
 }
 
-/// The number that decimal digits say, without a sign; `None` where it is no number to 4294967295.
+/// The number of these decimal digits; `None` for anything else, for a sign too, and above 4294967295.
 fn number_of(text: &str) -> Option<SessionNo> {
     if text.starts_with('+') {
         return None;
@@ -145,8 +145,8 @@ fn asked_of(number: SessionNo, performative: Performative, rest: Bytes) -> Asked
     }
 }
 
-/// The bytes that hexadecimal digits, in either case, say; `None` where their number is odd or another character stands
-/// among them. `AllocError` where memory is refused.
+/// The bytes of these hexadecimal digits, in either case; `None` where their number is odd or another character stands among
+/// them. `AllocError` where memory is refused.
 pub fn hex_bytes(alloc: Global, text: &str) -> Result<Option<Bytes>, AllocError>
     ensures { IfOk result (λ bytes. bytes ≡ bytes_of text.now) }
 {
