@@ -139,20 +139,7 @@ impl<R: LinkRelay> Session<R> {
         ensures walk { self.new.last_walk ≡ self.old.last_walk }
     {
         self.receiving.count_transfer();
-        let input = InputHandle::from(transfer.handle);
-        self.transfer_of_link(input, transfer, payload)
-    }
-
-    /// What follows for the link of a transfer.
-    fn transfer_of_link(
-        &mut self,
-        input: InputHandle,
-        transfer: Transfer,
-        payload: Bytes,
-    ) -> Result<Option<Disposition>, SessionInnerError>
-        ensures step { (asked : Option (TransferQuestion R)) × LinkTransferStep R.gives.transfer_gives self.old.view input.0 transfer payload asked result self.new.view }
-        ensures walk { self.new.last_walk ≡ self.old.last_walk }
-    {
+        let input = InputHandle(transfer.handle.0);
         if !self.links.is_attached(input) {
             return Err(SessionInnerError::UnattachedHandle);
         }
