@@ -1,5 +1,6 @@
 -- Open deliveries: one record for each number, by rising number (AMQP 1.0 part 2, section 2.6.12).
-use Rattle.std.specs.Prelude.{ℕ, ◌<◌, ◌^◌, List, [], ◌∷◌, Option, Some, None, Bool, true, false, if◌then◌else◌, nat_eq, nat_lt, nat_le, map, slice_index, length, take, drop, ◌++◌, ◌+◌, ◌-◌}
+use Rattle.std.specs.Prelude.{ℕ, ◌<◌, ◌^◌, List, [], ◌∷◌, Option, Some, None, Bool, true, false, if◌then◌else◌, nat_eq, nat_lt, nat_le, map}
+use Rattle.std.specs.Prelude.{slice_index, length, take, drop, ◌++◌, ◌+◌, ◌-◌}
 use Rattle.amqp_types.specs.declared.definitions.Role.{Role}
 use Rattle.amqp_types.specs.declared.definitions.Role.TheVariants.{Sender, Receiver}
 use Rattle.amqp_session.specs.declared.deliveries.Delivery.{Delivery}

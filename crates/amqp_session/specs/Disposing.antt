@@ -1,6 +1,8 @@
 -- What a disposition means, asks and answers (AMQP 1.0 part 2, sections 2.6.12 and 2.7.6). Delivery numbers are serial numbers
 -- (section 2.8.10).
-use Rattle.std.specs.Prelude.{◌≡◌, ◌<◌, ◌≤◌, ◌+◌, ◌-◌, ◌*◌, ◌%◌, ◌^◌, ◌&&◌, ◌⊎◌, ◌↔◌, IsTrue, ℕ, Bool, true, false, not, if◌then◌else◌, nat_lt, nat_le, nat_eq, List, [], ◌∷◌, ◌++◌, length, map, Option, Some, None, Result, Ok, Err, OnOk, unwrap_or, min}
+use Rattle.std.specs.Prelude.{◌≡◌, ◌<◌, ◌≤◌, ◌+◌, ◌-◌, ◌*◌, ◌%◌, ◌^◌, ◌&&◌, ◌⊎◌, ◌↔◌, IsTrue, ℕ, Bool, true, false, not, if◌then◌else◌}
+use Rattle.std.specs.Prelude.{nat_lt, nat_le, nat_eq, List, [], ◌∷◌, ◌++◌, length, map, Option, Some, None, Result, Ok, Err, OnOk}
+use Rattle.std.specs.Prelude.{unwrap_or, min}
 use Rattle.std.specs.List.{filter, list_any}
 use Rattle.amqp_values.specs.Outcome.{IsTerminal}
 use Rattle.amqp_types.specs.Disposition.{DispositionSaid}
@@ -143,7 +145,8 @@ TakeDispositionStep gives v d asked (Err e) w = ⊥
 
 -- how much of a role's records the call may have read: a turn for each one meant and one more, and as many numbers as the length
 -- of the table has binary digits, and one more; nothing for a backward range
-pub record IsBounded {X : Type 0} (d : DispositionSaid) (rows : List Delivery) (result : Result X SessionInnerError) (walk : WalkCount) : Type 0 where
+pub record IsBounded {X : Type 0} (d : DispositionSaid) (rows : List Delivery) (result : Result X SessionInnerError)
+    (walk : WalkCount) : Type 0 where
   pub turns : walk.turns ≤ length (meant d rows) + 1
   pub each_read : OnOk result (length (meant d rows) ≤ walk.turns)
   pub comparisons : 2 ^ walk.comparisons ≤ 2 * length rows + 1

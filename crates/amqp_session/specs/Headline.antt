@@ -1,5 +1,6 @@
 -- What holds of every history of one session, said of the history alone (AMQP 1.0 part 2, section 2.5.6).
-use Rattle.std.specs.Prelude.{◌≡◌, ◌⊎◌, ◌<◌, ◌≤◌, ◌+◌, ◌%◌, ◌^◌, ℕ, true, false, if◌then◌else◌, List, [], ◌∷◌, ◌++◌, length, take, drop, slice_get, Option, Some, None, is_some, Result, Ok, Err, unwrap_or}
+use Rattle.std.specs.Prelude.{◌≡◌, ◌⊎◌, ◌<◌, ◌≤◌, ◌+◌, ◌%◌, ◌^◌, ℕ, true, false, if◌then◌else◌, List, [], ◌∷◌, ◌++◌, length, take, drop}
+use Rattle.std.specs.Prelude.{slice_get, Option, Some, None, is_some, Result, Ok, Err, unwrap_or}
 use Rattle.amqp_types.specs.declared.states.SessionState.{SessionState}
 use Rattle.amqp_session.specs.declared.frame.SessionFrame.{SessionFrame}
 use Rattle.amqp_session.specs.declared.frame.SessionFrameBody.{SessionFrameBody}
@@ -118,7 +119,9 @@ carried b = None
 -- A frame carries a delivery-id exactly where it is the first of its delivery, whatever the request came with: one that goes on
 -- with a delivery never does.
 abbrev pub FirstAlone : {R : Type 0} → List (Entry R) → Type 0
-FirstAlone H = (k : ℕ) (h : RequestedTransfer) (f : SessionFrame) → slice_get (accepted H) k ≡ Some h → slice_get (handed H) k ≡ Some f → is_some (carried f.body) ≡ h.is_first
+FirstAlone H =
+    (k : ℕ) (h : RequestedTransfer) (f : SessionFrame) → slice_get (accepted H) k ≡ Some h → slice_get (handed H) k ≡ Some f →
+    is_some (carried f.body) ≡ h.is_first
 
 -- Each transfer is inside the window that holds as it is handed out.
 abbrev pub Inside : {R : Type 0} → Made → List (Entry R) → Type 0

@@ -23,8 +23,10 @@ use Rattle.amqp_session.specs.Settings.{SettingsSaid}
 use Rattle.amqp_session.specs.Transfers.{RequestedTransfer}
 use Rattle.amqp_session.specs.Relay.{Relays, AttachQuestion, FlowQuestion, TransferQuestion, DispositionQuestion, DetachQuestion}
 use Rattle.amqp_session.specs.Session.{SessionView, new_session}
-use Rattle.amqp_session.specs.Step.{SendBeginStep, SendEndStep, TakeBeginStep, TakeEndStep, SendTransferStep, FlowStep, TakeTransferStep, SendFlowStep, SessionFlowStep, StopStep}
-use Rattle.amqp_session.specs.Linking.{AllocateLinkStep, AllocateIncomingStep, DeallocateStep, TakeAttachStep, TakeDetachStep, SendAttachStep, SendDetachStep}
+use Rattle.amqp_session.specs.Step.{SendBeginStep, SendEndStep, TakeBeginStep, TakeEndStep, SendTransferStep, FlowStep, TakeTransferStep}
+use Rattle.amqp_session.specs.Step.{SendFlowStep, SessionFlowStep, StopStep}
+use Rattle.amqp_session.specs.Linking.{AllocateLinkStep, AllocateIncomingStep, DeallocateStep, TakeAttachStep, TakeDetachStep}
+use Rattle.amqp_session.specs.Linking.{SendAttachStep, SendDetachStep}
 use Rattle.amqp_session.specs.Disposing.{TakeDispositionStep, SendDispositionStep}
 
 -- One call: its arguments, the questions to relays with their answers, and its answer; of a disposition that is sent also whether

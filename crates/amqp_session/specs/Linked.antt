@@ -1,6 +1,7 @@
 -- What a history says of links: how each output handle is taken, which link is live by each name, and which relay stands under
 -- each input handle (AMQP 1.0 part 2, sections 2.6.1 to 2.6.6).
-use Rattle.std.specs.Prelude.{◌≡◌, ◌↔◌, ℕ, Bool, if◌then◌else◌, nat_eq, bytes_eq, List, [], ◌∷◌, ◌++◌, Option, Some, None, Ok, Err, true, false}
+use Rattle.std.specs.Prelude.{◌≡◌, ◌↔◌, ℕ, Bool, if◌then◌else◌, nat_eq, bytes_eq, List, [], ◌∷◌, ◌++◌, Option, Some, None, Ok, Err, true}
+use Rattle.std.specs.Prelude.{false}
 use Rattle.amqp_types.specs.Detach.{DetachSaid}
 use Rattle.amqp_session.specs.declared.frame.SessionFrame.{SessionFrame}
 use Rattle.amqp_session.specs.declared.link.Named.{Named}
@@ -9,7 +10,8 @@ use Rattle.std.specs.FinMap as map
 use Rattle.amqp_session.specs.Links.{LinksView}
 use Rattle.amqp_session.specs.Relay.{DispositionQuestion, goes_on}
 use Rattle.amqp_session.specs.Received.{has_kind}
-use Rattle.amqp_session.specs.History.{Entry, AllocatesLink, AllocatesIncomingLink, DeallocatesLink, TakesAttach, TakesFlow, TakesTransfer, TakesDisposition, TakesDetach, SendsDetach}
+use Rattle.amqp_session.specs.History.{Entry, AllocatesLink, AllocatesIncomingLink, DeallocatesLink, TakesAttach, TakesFlow, TakesTransfer}
+use Rattle.amqp_session.specs.History.{TakesDisposition, TakesDetach, SendsDetach}
 
 -- ---- output handles (section 2.6.2)
 

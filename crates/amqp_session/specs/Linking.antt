@@ -5,7 +5,8 @@ use Rattle.std.specs.FinMap as map
 use Rattle.amqp_types.specs.Attach.{AttachSaid}
 use Rattle.amqp_types.specs.Detach.{DetachSaid}
 use Rattle.amqp_types.specs.declared.states.SessionState.{SessionState}
-use Rattle.amqp_types.specs.declared.states.SessionState.TheVariants.{Unmapped, BeginSent, BeginReceived, Mapped, EndSent, EndReceived, Discarding}
+use Rattle.amqp_types.specs.declared.states.SessionState.TheVariants.{Unmapped, BeginSent, BeginReceived, Mapped, EndSent, EndReceived}
+use Rattle.amqp_types.specs.declared.states.SessionState.TheVariants.{Discarding}
 use Rattle.amqp_session.specs.declared.frame.SessionFrame.{SessionFrame}
 use Rattle.amqp_session.specs.declared.frame.SessionFrameBody.TheVariants as Body
 use Rattle.amqp_session.specs.declared.link.Named.{Named}
@@ -86,8 +87,10 @@ MayAllot v name = (is_mapped v.state ≡ true) × (named_at name v.links ≡ Non
 
 -- the allotment is refused so: a handle may be missing, or memory, where nothing else refuses it
 abbrev pub AllotRefused : {R : Type 0} → SessionView R → List ℕ → AllocLinkError → Type 0
-AllotRefused v name Unallotted.SessionNotMapped = (is_mapped v.state ≡ false) × (why_unallotted v.state v.session_stop ≡ Unallotted.SessionNotMapped)
-AllotRefused v name (Unallotted.SessionStopped reason) = (is_mapped v.state ≡ false) × (why_unallotted v.state v.session_stop ≡ Unallotted.SessionStopped reason)
+AllotRefused v name Unallotted.SessionNotMapped =
+    (is_mapped v.state ≡ false) × (why_unallotted v.state v.session_stop ≡ Unallotted.SessionNotMapped)
+AllotRefused v name (Unallotted.SessionStopped reason) =
+    (is_mapped v.state ≡ false) × (why_unallotted v.state v.session_stop ≡ Unallotted.SessionStopped reason)
 AllotRefused v name Unallotted.DuplicatedLinkName = (is_mapped v.state ≡ true) × IsSome (named_at name v.links)
 AllotRefused v name Unallotted.HandlesExhausted = MayAllot v name
 AllotRefused v name Unallotted.OutOfMemory = MayAllot v name
@@ -101,8 +104,10 @@ IsFull Unallotted.HandlesExhausted = Unit {0}
 IsFull Unallotted.OutOfMemory = Unit {0}
 
 -- The output handle is one that is not taken; which one is left open. The links are then as the call says.
-abbrev pub AllotStep : {R : Type 0} → SessionView R → List ℕ → (OutputHandle → LinksView R) → Result OutputHandle AllocLinkError → SessionView R → Type 0
-AllotStep v name gives (Ok h) w = MayAllot v name × (map.get v.links.handles h.0 ≡ None) × (h.0 < 2 ^ 32) × (w ≡ record v { links = gives h })
+abbrev pub AllotStep : {R : Type 0} → SessionView R → List ℕ → (OutputHandle → LinksView R) → Result OutputHandle AllocLinkError →
+    SessionView R → Type 0
+AllotStep v name gives (Ok h) w =
+    MayAllot v name × (map.get v.links.handles h.0 ≡ None) × (h.0 < 2 ^ 32) × (w ≡ record v { links = gives h })
 AllotStep v name gives (Err e) w = AllotRefused v name e × (w ≡ v)
 
 -- the relay, if any, waits under the name
@@ -110,8 +115,10 @@ abbrev pub AllocateLinkStep : {R : Type 0} → SessionView R → List ℕ → Op
 AllocateLinkStep v name relay result w = AllotStep v name (λ h. linked name h relay v.links) result w
 
 -- the relay is put under the input handle at once, and none waits under the name
-abbrev pub AllocateIncomingStep : {R : Type 0} → SessionView R → List ℕ → R → InputHandle → Result OutputHandle AllocLinkError → SessionView R → Type 0
-AllocateIncomingStep v name relay input result w = AllotStep v name (λ h. put_at input.0 (record { handle = h; relay = relay }) (linked name h None v.links)) result w
+abbrev pub AllocateIncomingStep : {R : Type 0} → SessionView R → List ℕ → R → InputHandle → Result OutputHandle AllocLinkError →
+    SessionView R → Type 0
+AllocateIncomingStep v name relay input result w =
+    AllotStep v name (λ h. put_at input.0 (record { handle = h; relay = relay }) (linked name h None v.links)) result w
 
 -- a live link is released, and it is said whether there was one
 abbrev pub Releases : {R : Type 0} → LinksView R → ℕ → Bool → LinksView R → Type 0
@@ -135,13 +142,16 @@ IsWaited None = ⊥
 IsWaited (Some n) = IsSome n.waiting
 
 -- The link's relay answered so: it is attached and waits no longer, or it goes on to wait.
-abbrev pub AttachLeaves : {R : Type 0} → OutputHandle → R → Result (Unit {0}) LinkRelayError → Result (Attached R) LinkRelayError → Named R → Type 0
-AttachLeaves handle after (Ok u) (Ok link) new = (link ≡ record { handle = handle; relay = after }) × (new ≡ record { handle = handle; waiting = None })
+abbrev pub AttachLeaves : {R : Type 0} → OutputHandle → R → Result (Unit {0}) LinkRelayError →
+    Result (Attached R) LinkRelayError → Named R → Type 0
+AttachLeaves handle after (Ok u) (Ok link) new =
+    (link ≡ record { handle = handle; relay = after }) × (new ≡ record { handle = handle; waiting = None })
 AttachLeaves handle after (Err e) (Err x) new = (x ≡ e) × (new ≡ record { handle = handle; waiting = Some after })
 AttachLeaves handle after (Ok u) (Err x) new = ⊥
 AttachLeaves handle after (Err e) (Ok link) new = ⊥
 
-pub record WaitAsked {R : Type 0} (gives : AttachGives R) (old : Named R) (a : AttachSaid) (result : Result (Attached R) LinkRelayError) (new : Named R) : Type 0 where
+pub record WaitAsked {R : Type 0} (gives : AttachGives R) (old : Named R) (a : AttachSaid)
+    (result : Result (Attached R) LinkRelayError) (new : Named R) : Type 0 where
   pub before : R
   pub after : R
   pub answer : Result (Unit {0}) LinkRelayError
@@ -150,7 +160,8 @@ pub record WaitAsked {R : Type 0} (gives : AttachGives R) (old : Named R) (a : A
   pub leaves : AttachLeaves old.handle after answer result new
 
 -- the same, of the link of the attach's name
-pub record AttachAsked {R : Type 0} (gives : AttachGives R) (names : Names R) (a : AttachSaid) (result : Result (Attached R) LinkRelayError) (new : Names R) : Type 0 where
+pub record AttachAsked {R : Type 0} (gives : AttachGives R) (names : Names R) (a : AttachSaid)
+    (result : Result (Attached R) LinkRelayError) (new : Names R) : Type 0 where
   pub old : Named R
   pub left : Named R
   pub live : map.get names a.name ≡ Some old
@@ -165,7 +176,8 @@ AttachRefused (Some n) Refused.OutOfMemory = IsSome n.waiting
 AttachRefused n e = ⊥
 
 -- what follows from the relay's answer: it is put under the input handle, or goes on to wait
-abbrev pub AttachAnswered : {R : Type 0} → LinksView R → AttachSaid → AttachQuestion R → Result (Unit {0}) LinkRelayError → Result (Unit {0}) SessionInnerError → LinksView R → Type 0
+abbrev pub AttachAnswered : {R : Type 0} → LinksView R → AttachSaid → AttachQuestion R → Result (Unit {0}) LinkRelayError →
+    Result (Unit {0}) SessionInnerError → LinksView R → Type 0
 AttachAnswered l a q (Ok u) (Ok r) new =
     new ≡ put_at a.handle (goes_on q) (record l { names = map.insert l.names a.name (record { handle = q.handle; waiting = None }) })
 AttachAnswered l a q (Err e) (Err x) new =
@@ -173,14 +185,16 @@ AttachAnswered l a q (Err e) (Err x) new =
 AttachAnswered l a q (Ok u) (Err x) new = ⊥
 AttachAnswered l a q (Err e) (Ok r) new = ⊥
 
-abbrev pub Attaches : {R : Type 0} → AttachGives R → LinksView R → AttachSaid → Option (AttachQuestion R) → Result (Unit {0}) SessionInnerError → LinksView R → Type 0
+abbrev pub Attaches : {R : Type 0} → AttachGives R → LinksView R → AttachSaid → Option (AttachQuestion R) →
+    Result (Unit {0}) SessionInnerError → LinksView R → Type 0
 Attaches gives l a None (Ok u) new = ⊥
 Attaches gives l a None (Err e) new = AttachRefused (named_at a.name l) e × (new ≡ l)
 Attaches gives l a (Some q) result new =
     (q.asked ≡ a) × (named_at a.name l ≡ Some (record { handle = q.handle; waiting = Some q.before })) × gives q.before a q.answer q.after
     × AttachAnswered l a q q.answer result new
 
-abbrev pub TakeAttachStep : {R : Type 0} → AttachGives R → SessionView R → AttachSaid → Option (AttachQuestion R) → Result (Unit {0}) SessionInnerError → SessionView R → Type 0
+abbrev pub TakeAttachStep : {R : Type 0} → AttachGives R → SessionView R → AttachSaid → Option (AttachQuestion R) →
+    Result (Unit {0}) SessionInnerError → SessionView R → Type 0
 TakeAttachStep gives v a asked result w = Attaches gives v.links a asked result w.links × (w ≡ record v { links = w.links })
 
 -- ---- detach
@@ -196,8 +210,10 @@ Leaves l h true false new = (name_at h l ≡ None) × (new ≡ l)
 Leaves l h false true new = (was : Bool) × Releases l h was new
 Leaves l h false false new = ⊥
 
-abbrev pub SendDetachStep : {R : Type 0} → SessionView R → DetachSaid → Bool → Result (Option SessionFrame) SessionInnerError → SessionView R → Type 0
-SendDetachStep v d expects_echo (Ok (Some frame)) w = (frame ≡ detach_frame v d) × Leaves v.links d.handle expects_echo true w.links × (w ≡ record v { links = w.links })
+abbrev pub SendDetachStep : {R : Type 0} → SessionView R → DetachSaid → Bool → Result (Option SessionFrame) SessionInnerError →
+    SessionView R → Type 0
+SendDetachStep v d expects_echo (Ok (Some frame)) w =
+    (frame ≡ detach_frame v d) × Leaves v.links d.handle expects_echo true w.links × (w ≡ record v { links = w.links })
 SendDetachStep v d expects_echo (Ok None) w = Leaves v.links d.handle expects_echo false w.links × (w ≡ record v { links = w.links })
 SendDetachStep v d expects_echo (Err e) w = ⊥
 
@@ -207,11 +223,14 @@ dropped input h l = record l { handles = if awaits h l then map.remove l.handles
 
 -- An input handle that is not attached is passed over. Else the relay is told whether the peer began the detach: it did where no
 -- own detach is awaited. The relay's answer is handed back.
-abbrev pub Detaches : {R : Type 0} → DetachGives R → LinksView R → DetachSaid → Option (DetachQuestion R) → Option DetachSaid → LinksView R → Type 0
+abbrev pub Detaches : {R : Type 0} → DetachGives R → LinksView R → DetachSaid → Option (DetachQuestion R) → Option DetachSaid →
+    LinksView R → Type 0
 Detaches gives l d None answer new = (attached_at d.handle l ≡ None) × (answer ≡ None) × (new ≡ l)
 Detaches gives l d (Some q) answer new =
-    (q.asked ≡ (d, not (awaits q.handle.0 l))) × Asks (of_detach gives) (attached_at d.handle l) q × (answer ≡ q.answer) × (new ≡ dropped d.handle q.handle.0 l)
+    (q.asked ≡ (d, not (awaits q.handle.0 l))) × Asks (of_detach gives) (attached_at d.handle l) q × (answer ≡ q.answer)
+    × (new ≡ dropped d.handle q.handle.0 l)
 
-abbrev pub TakeDetachStep : {R : Type 0} → DetachGives R → SessionView R → DetachSaid → Option (DetachQuestion R) → Result (Option DetachSaid) SessionInnerError → SessionView R → Type 0
+abbrev pub TakeDetachStep : {R : Type 0} → DetachGives R → SessionView R → DetachSaid → Option (DetachQuestion R) →
+    Result (Option DetachSaid) SessionInnerError → SessionView R → Type 0
 TakeDetachStep gives v d asked (Ok answer) w = Detaches gives v.links d asked answer w.links × (w ≡ record v { links = w.links })
 TakeDetachStep gives v d asked (Err e) w = ⊥

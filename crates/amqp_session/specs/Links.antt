@@ -59,10 +59,14 @@ inputs_of es = map.from_entries es
 -- ---- codes: a link is stored as the tuple of its parts, and so is each map
 
 abbrev pub named_code : {R : Type 0} → Coded R → Coded (Named R)
-named_code {R} code = code_by (ℕ × Option R) (coded× coded_ℕ (coded_option code)) (λ n. (n.handle.0, n.waiting)) (λ p. record { handle = record { 0 = p.0 }; waiting = p.1 }) (λ _. refl)
+named_code {R} code =
+    code_by (ℕ × Option R) (coded× coded_ℕ (coded_option code)) (λ n. (n.handle.0, n.waiting))
+    (λ p. record { handle = record { 0 = p.0 }; waiting = p.1 }) (λ _. refl)
 
 abbrev pub attached_code : {R : Type 0} → Coded R → Coded (Attached R)
-attached_code {R} code = code_by (ℕ × R) (coded× coded_ℕ code) (λ a. (a.handle.0, a.relay)) (λ p. record { handle = record { 0 = p.0 }; relay = p.1 }) (λ _. refl)
+attached_code {R} code =
+    code_by (ℕ × R) (coded× coded_ℕ code) (λ a. (a.handle.0, a.relay))
+    (λ p. record { handle = record { 0 = p.0 }; relay = p.1 }) (λ _. refl)
 
 abbrev pub names_code : {R : Type 0} → Coded R → Coded (Names R)
 names_code code = map.code (coded_list coded_ℕ) (named_code code)
@@ -74,4 +78,6 @@ abbrev pub inputs_code : {R : Type 0} → Coded R → Coded (Inputs R)
 inputs_code code = map.code coded_ℕ (attached_code code)
 
 abbrev pub links_code : {R : Type 0} → Coded R → Coded (LinksView R)
-links_code {R} code = code_by (Names R × (Handles × Inputs R)) (coded× (names_code code) (coded× handles_code (inputs_code code))) (λ l. (l.names, (l.handles, l.inputs))) (λ p. record { names = p.0; handles = p.1.0; inputs = p.1.1 }) (λ _. refl)
+links_code {R} code =
+    code_by (Names R × (Handles × Inputs R)) (coded× (names_code code) (coded× handles_code (inputs_code code)))
+    (λ l. (l.names, (l.handles, l.inputs))) (λ p. record { names = p.0; handles = p.1.0; inputs = p.1.1 }) (λ _. refl)

@@ -5,7 +5,8 @@ use Rattle.amqp_session.specs.declared.frame.SessionOutgoingItem.{SessionOutgoin
 use Rattle.amqp_session.specs.declared.error.SessionStateError.{SessionStateError}
 use Rattle.amqp_session.specs.declared.error.SessionInnerError.{SessionInnerError}
 use Rattle.amqp_session.specs.Items.{item_frames, first_frame}
-use Rattle.amqp_session.specs.History.{Entry, SendsBegin, SendsEnd, TakesFlow, SendsAttach, SendsFlow, SendsTransfer, SendsDisposition, SendsDetach, SendsSessionFlow}
+use Rattle.amqp_session.specs.History.{Entry, SendsBegin, SendsEnd, TakesFlow, SendsAttach, SendsFlow, SendsTransfer, SendsDisposition}
+use Rattle.amqp_session.specs.History.{SendsDetach, SendsSessionFlow}
 
 abbrev pub state_frames : Result SessionFrame SessionStateError → List SessionFrame
 state_frames (Ok f) = f ∷ []

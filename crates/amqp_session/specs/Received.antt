@@ -1,6 +1,7 @@
 -- What a history says of the peer: its channel, the numbers of its transfers, and the deliveries that its transfers opened
 -- (AMQP 1.0 part 2, section 2.5.6). And why the session stopped.
-use Rattle.std.specs.Prelude.{ℕ, ◌+◌, ◌-◌, ◌%◌, ◌^◌, min, Bool, true, false, ◌&&◌, if◌then◌else◌, List, [], ◌∷◌, Option, Some, None, Result, Ok, Err}
+use Rattle.std.specs.Prelude.{ℕ, ◌+◌, ◌-◌, ◌%◌, ◌^◌, min, Bool, true, false, ◌&&◌, if◌then◌else◌, List, [], ◌∷◌, Option, Some, None, Result}
+use Rattle.std.specs.Prelude.{Ok, Err}
 use Rattle.amqp_types.specs.declared.definitions.DeliveryTag.{DeliveryTag}
 use Rattle.amqp_session.specs.declared.deliveries.Delivery.{Delivery}
 use Rattle.amqp_session.specs.declared.stop.SessionStopReason.{SessionStopReason}
@@ -9,7 +10,8 @@ use Rattle.amqp_types.specs.declared.definitions.Role.{Role}
 use Rattle.amqp_session.specs.Deliveries.{is_role}
 use Rattle.amqp_session.specs.Disposing.{is_meant, num_messages}
 use Rattle.amqp_session.specs.Step.{named_delivery}
-use Rattle.amqp_session.specs.History.{Entry, TakesBegin, TakesFlow, TakesTransfer, TakesDisposition, SendsDisposition, SendsSessionFlow, RecordsStop}
+use Rattle.amqp_session.specs.History.{Entry, TakesBegin, TakesFlow, TakesTransfer, TakesDisposition, SendsDisposition, SendsSessionFlow}
+use Rattle.amqp_session.specs.History.{RecordsStop}
 
 -- ---- the calls since the last one of a kind
 

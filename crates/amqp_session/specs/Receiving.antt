@@ -11,7 +11,11 @@ numbered_anew next window r = record r { next_incoming_id = next; remote_outgoin
 
 -- a transfer came: its window falls, but not below 0, and the count of transfers since the last session flow grows
 abbrev pub counted : Receiving → Receiving
-counted r = record { next_incoming_id = (r.next_incoming_id + 1) % 2 ^ 32; remote_outgoing_window = r.remote_outgoing_window - 1; unreported = min (r.unreported + 1) 4294967295 }
+counted r = record {
+  next_incoming_id = (r.next_incoming_id + 1) % 2 ^ 32;
+  remote_outgoing_window = r.remote_outgoing_window - 1;
+  unreported = min (r.unreported + 1) 4294967295;
+}
 
 -- a session flow went out
 abbrev pub reported : Receiving → Receiving

@@ -98,7 +98,8 @@ pub record Asks {R Q A : Type 0} (gives : Gives R Q A) (old : Option (Attached R
   pub stands : gives q.handle q.before q.asked q.answer q.after
 
 -- the same, of what is asked and answered, and of how the relay is put back
-pub record Asked {R Q A : Type 0} (gives : Gives R Q A) (old : Option (Attached R)) (asked : Q) (answer : A) (IsPut : Attached R → Type 0) : Type 0 where
+pub record Asked {R Q A : Type 0} (gives : Gives R Q A) (old : Option (Attached R)) (asked : Q) (answer : A)
+    (IsPut : Attached R → Type 0) : Type 0 where
   pub handle : OutputHandle
   pub before : R
   pub after : R

@@ -50,7 +50,10 @@ new_session settings channel state stop = record {
 
 -- the Begin that is sent: the settings, with the number of the next transfer (section 2.7.2)
 abbrev pub begin_frame : {R : Type 0} → SessionView R → SessionFrame
-begin_frame v = record { channel = v.outgoing_channel; body = Body.Begin (begin_of v.settings v.incoming_channel v.sending.next_outgoing_id) }
+begin_frame v = record {
+  channel = v.outgoing_channel;
+  body = Body.Begin (begin_of v.settings v.incoming_channel v.sending.next_outgoing_id);
+}
 
 -- the End that is sent (section 2.7.8)
 abbrev pub end_frame : {R : Type 0} → SessionView R → Option ErrorSaid → SessionFrame
@@ -98,7 +101,8 @@ lets v = if is_mapped v.state then let_out v.outgoing_channel v.sending else []
 abbrev pub let_gone : {R : Type 0} → SessionView R → SessionView R
 let_gone v = record v {
   sending = if is_mapped v.state then drained v.sending else v.sending;
-  deliveries = record v.deliveries { receiver = if is_mapped v.state then opened_by v.sending v.deliveries.receiver else v.deliveries.receiver };
+  deliveries =
+      record v.deliveries { receiver = if is_mapped v.state then opened_by v.sending v.deliveries.receiver else v.deliveries.receiver };
 }
 
 -- a session flow is due: half of the incoming window, rounded down, has come since the last one

@@ -2,7 +2,8 @@
 -- stands with None is not allowed in that state.
 use Rattle.std.specs.Prelude.{Option, Some, None, Bool, true, false}
 use Rattle.amqp_types.specs.declared.states.SessionState.{SessionState}
-use Rattle.amqp_types.specs.declared.states.SessionState.TheVariants.{Unmapped, BeginSent, BeginReceived, Mapped, EndSent, EndReceived, Discarding}
+use Rattle.amqp_types.specs.declared.states.SessionState.TheVariants.{Unmapped, BeginSent, BeginReceived, Mapped, EndSent, EndReceived}
+use Rattle.amqp_types.specs.declared.states.SessionState.TheVariants.{Discarding}
 
 abbrev pub is_mapped : SessionState → Bool
 is_mapped Unmapped = false

@@ -1,6 +1,7 @@
 -- What each call of a session does: its answer, the frames handed out with it, the questions to relays, and the session
 -- after it. The case of a refusal says that the refusals that are tested before it do not apply.
-use Rattle.std.specs.Prelude.{◌≡◌, ◌<◌, ◌^◌, ◌⊎◌, ℕ, Bool, true, false, List, [], ◌∷◌, ◌++◌, Option, Some, None, Result, Ok, Err, IsSome, unwrap_or}
+use Rattle.std.specs.Prelude.{◌≡◌, ◌<◌, ◌^◌, ◌⊎◌, ℕ, Bool, true, false, List, [], ◌∷◌, ◌++◌, Option, Some, None, Result, Ok, Err, IsSome}
+use Rattle.std.specs.Prelude.{unwrap_or}
 use Rattle.std.specs.Option.{option_map}
 use Rattle.amqp_types.specs.declared.definitions.DeliveryTag.{DeliveryTag}
 use Rattle.amqp_types.specs.Error.{ErrorSaid}
@@ -28,7 +29,8 @@ use Rattle.amqp_session.specs.Sending.{joined, begun, moved}
 use Rattle.amqp_session.specs.Receiving.{numbered_anew, counted, reported}
 use Rattle.amqp_session.specs.Deliveries.{with_record, RecordFits}
 use Rattle.amqp_session.specs.Links.{attached_at, put_at}
-use Rattle.amqp_session.specs.Relay.{FlowGives, TransferGives, FlowQuestion, TransferQuestion, Question, goes_on, of_flow, of_transfer, Asks}
+use Rattle.amqp_session.specs.Relay.{FlowGives, TransferGives, FlowQuestion, TransferQuestion, Question, goes_on, of_flow, of_transfer}
+use Rattle.amqp_session.specs.Relay.{Asks}
 use Rattle.amqp_session.specs.Items.{HandsOut, is_some_list, first_frame}
 use Rattle.amqp_session.specs.Session.{SessionView, begin_frame, end_frame, flow_frame, session_flow_frame, lets, let_gone, is_due}
 
@@ -57,7 +59,8 @@ SendBeginStep v (Err (Begins.RemoteEndedWithError e)) w = ⊥
 SendBeginStep v (Err (Begins.ConnectionStopped r)) w = ⊥
 
 abbrev pub SendEndStep : {R : Type 0} → SessionView R → Option ErrorSaid → Result SessionFrame SessionStateError → SessionView R → Type 0
-SendEndStep v error (Ok frame) w = (sends_end (has_error error) v.state ≡ Some w.state) × (frame ≡ end_frame v error) × (w ≡ record v { state = w.state })
+SendEndStep v error (Ok frame) w =
+    (sends_end (has_error error) v.state ≡ Some w.state) × (frame ≡ end_frame v error) × (w ≡ record v { state = w.state })
 SendEndStep v error (Err Begins.IllegalState) w = (sends_end (has_error error) v.state ≡ None) × (w ≡ v)
 SendEndStep v error (Err Begins.OutOfMemory) w = ⊥
 SendEndStep v error (Err Begins.RemoteEnded) w = ⊥
@@ -79,7 +82,8 @@ pub record BeginFits (b : BeginSaid) : Type 0 where
   pub outgoing_window : b.outgoing_window < 2 ^ 32
 
 abbrev pub TakeBeginStep : {R : Type 0} → SessionView R → ℕ → BeginSaid → Result (Unit {0}) SessionStateError → SessionView R → Type 0
-TakeBeginStep v channel b (Ok u) w = (takes_begin v.state ≡ Some w.state) × BeginFits b × (w ≡ record (begun_by v channel b) { state = w.state })
+TakeBeginStep v channel b (Ok u) w =
+    (takes_begin v.state ≡ Some w.state) × BeginFits b × (w ≡ record (begun_by v channel b) { state = w.state })
 TakeBeginStep v channel b (Err Begins.IllegalState) w = (takes_begin v.state ≡ None) × (w ≡ v)
 TakeBeginStep v channel b (Err Begins.OutOfMemory) w = ⊥
 TakeBeginStep v channel b (Err Begins.RemoteEnded) w = ⊥
@@ -89,9 +93,12 @@ TakeBeginStep v channel b (Err (Begins.ConnectionStopped r)) w = ⊥
 -- An End of the peer moves the state, also where it is answered as an error: one without an error that answers an own End
 -- is Ok.
 abbrev pub TakeEndStep : {R : Type 0} → SessionView R → EndSaid → Result (Unit {0}) SessionStateError → SessionView R → Type 0
-TakeEndStep v e (Ok u) w = (takes_end v.state ≡ Some w.state) × (answers_end v.state ≡ true) × (e.error ≡ None) × (w ≡ record v { state = w.state })
-TakeEndStep v e (Err Begins.RemoteEnded) w = (takes_end v.state ≡ Some w.state) × (answers_end v.state ≡ false) × (e.error ≡ None) × (w ≡ record v { state = w.state })
-TakeEndStep v e (Err (Begins.RemoteEndedWithError x)) w = (takes_end v.state ≡ Some w.state) × (e.error ≡ Some x) × (w ≡ record v { state = w.state })
+TakeEndStep v e (Ok u) w =
+    (takes_end v.state ≡ Some w.state) × (answers_end v.state ≡ true) × (e.error ≡ None) × (w ≡ record v { state = w.state })
+TakeEndStep v e (Err Begins.RemoteEnded) w =
+    (takes_end v.state ≡ Some w.state) × (answers_end v.state ≡ false) × (e.error ≡ None) × (w ≡ record v { state = w.state })
+TakeEndStep v e (Err (Begins.RemoteEndedWithError x)) w =
+    (takes_end v.state ≡ Some w.state) × (e.error ≡ Some x) × (w ≡ record v { state = w.state })
 TakeEndStep v e (Err Begins.IllegalState) w = (takes_end v.state ≡ None) × (w ≡ v)
 TakeEndStep v e (Err Begins.OutOfMemory) w = ⊥
 TakeEndStep v e (Err (Begins.ConnectionStopped r)) w = ⊥
@@ -107,8 +114,11 @@ abbrev pub waits : {R : Type 0} → SessionView R → RequestedTransfer → Sess
 waits v h = record v { sending = joined v.sending h }
 
 -- It waits while the window is used up. Else older ones go out first, and then it, while the window lasts.
-abbrev pub SendTransferStep : {R : Type 0} → SessionView R → RequestedTransfer → Result (Option SessionOutgoingItem) SessionInnerError → SessionView R → Type 0
-SendTransferStep v h (Ok item) w = (is_mapped v.state ≡ true) × ¬ (IsUntagged h) × HandsOut (is_some_held v.sending.held) (lets (waits v h)) item × (w ≡ let_gone (waits v h))
+abbrev pub SendTransferStep : {R : Type 0} → SessionView R → RequestedTransfer →
+    Result (Option SessionOutgoingItem) SessionInnerError → SessionView R → Type 0
+SendTransferStep v h (Ok item) w =
+    (is_mapped v.state ≡ true) × ¬ (IsUntagged h) × HandsOut (is_some_held v.sending.held) (lets (waits v h)) item
+    × (w ≡ let_gone (waits v h))
 SendTransferStep v h (Err Refused.IllegalState) w = ((is_mapped v.state ≡ false) ⊎ IsUntagged h) × (w ≡ v)
 SendTransferStep v h (Err Refused.OutOfMemory) w = (is_mapped v.state ≡ true) × ¬ (IsUntagged h) × (w ≡ v)
 SendTransferStep v h (Err e) w = ⊥
@@ -139,7 +149,8 @@ abbrev pub FlowGoes : {R : Type 0} → SessionView R → Option LinkFlow → Opt
 FlowGoes v echo item w = HandsOut (is_some_list (lets v)) (first_frame (option_map (flow_frame v) echo) ++ lets v) item × (w ≡ let_gone v)
 
 -- what follows from the relay's answer
-abbrev pub FlowAnswered : {R : Type 0} → SessionView R → Result (Option LinkFlow) LinkRelayError → Result (Option SessionOutgoingItem) SessionInnerError → SessionView R → Type 0
+abbrev pub FlowAnswered : {R : Type 0} → SessionView R → Result (Option LinkFlow) LinkRelayError →
+    Result (Option SessionOutgoingItem) SessionInnerError → SessionView R → Type 0
 FlowAnswered v (Ok echo) (Ok item) w = FlowGoes v echo item w
 FlowAnswered v (Err e) (Err x) w = (x ≡ inner_of_relay e) × (w ≡ v)
 FlowAnswered v (Ok echo) (Err x) w = ⊥
@@ -151,7 +162,8 @@ IsKnown v None = Unit {0}
 IsKnown v (Some h) = IsSome (attached_at h v.links)
 
 -- what follows where no relay is asked
-abbrev pub FlowUnasked : {R : Type 0} → SessionView R → Option ℕ → Result (Option SessionOutgoingItem) SessionInnerError → SessionView R → Type 0
+abbrev pub FlowUnasked : {R : Type 0} → SessionView R → Option ℕ → Result (Option SessionOutgoingItem) SessionInnerError →
+    SessionView R → Type 0
 FlowUnasked v handle (Ok item) w = (handle ≡ None) × FlowGoes v None item w
 FlowUnasked v None (Err Refused.UnattachedHandle) w = ⊥
 FlowUnasked v (Some h) (Err Refused.UnattachedHandle) w = (attached_at h v.links ≡ None) × (w ≡ v)
@@ -159,18 +171,21 @@ FlowUnasked v handle (Err Refused.OutOfMemory) w = IsKnown v handle × (w ≡ v)
 FlowUnasked v handle (Err e) w = ⊥
 
 -- what follows for a link, whose relay is asked or not
-abbrev pub LinkFlowStep : {R : Type 0} → FlowGives R → SessionView R → ℕ → LinkFlow → Option (FlowQuestion R) → Result (Option SessionOutgoingItem) SessionInnerError → SessionView R → Type 0
+abbrev pub LinkFlowStep : {R : Type 0} → FlowGives R → SessionView R → ℕ → LinkFlow → Option (FlowQuestion R) →
+    Result (Option SessionOutgoingItem) SessionInnerError → SessionView R → Type 0
 LinkFlowStep gives v input flow None result w = FlowUnasked v (Some input) result w
 LinkFlowStep gives v input flow (Some q) result w =
     (q.asked ≡ flow) × Asks (of_flow gives) (attached_at input v.links) q × FlowAnswered (asked_at v input q) q.answer result w
 
 -- what follows once the windows have moved
-abbrev pub FlowTaken : {R : Type 0} → FlowGives R → SessionView R → FlowSaid → Option ℕ → Option (FlowQuestion R) → Result (Option SessionOutgoingItem) SessionInnerError → SessionView R → Type 0
+abbrev pub FlowTaken : {R : Type 0} → FlowGives R → SessionView R → FlowSaid → Option ℕ → Option (FlowQuestion R) →
+    Result (Option SessionOutgoingItem) SessionInnerError → SessionView R → Type 0
 FlowTaken gives v f None None result w = FlowUnasked v None result w
 FlowTaken gives v f None (Some q) result w = ⊥
 FlowTaken gives v f (Some input) asked result w = LinkFlowStep gives v input (link_flow_of input f) asked result w
 
-abbrev pub FlowStep : {R : Type 0} → FlowGives R → SessionView R → FlowSaid → Option (FlowQuestion R) → Result (Option SessionOutgoingItem) SessionInnerError → SessionView R → Type 0
+abbrev pub FlowStep : {R : Type 0} → FlowGives R → SessionView R → FlowSaid → Option (FlowQuestion R) →
+    Result (Option SessionOutgoingItem) SessionInnerError → SessionView R → Type 0
 FlowStep gives v f asked result w = FlowFits v f × FlowTaken gives (flow_moved v f) f f.handle asked result w
 
 -- ---- a transfer comes (section 2.5.6)
@@ -186,11 +201,14 @@ named_delivery handle (Some x) = Some (record { number = x.0; input_handle = rec
 
 -- the session with it
 abbrev pub named_by : {R : Type 0} → SessionView R → ℕ → Option (ℕ × DeliveryTag) → SessionView R
-named_by v handle named = record v { deliveries = record v.deliveries { sender = with_record (named_delivery handle named) v.deliveries.sender } }
+named_by v handle named =
+    record v { deliveries = record v.deliveries { sender = with_record (named_delivery handle named) v.deliveries.sender } }
 
 -- what follows from the relay's answer: the number that it names is of four bytes
-abbrev pub TransferAnswered : {R : Type 0} → SessionView R → ℕ → Result (Option (ℕ × DeliveryTag)) LinkRelayError → Result (Option DispositionSaid) SessionInnerError → SessionView R → Type 0
-TransferAnswered v handle (Ok named) (Ok reply) w = RecordFits (named_delivery handle named) × (reply ≡ None) × (w ≡ named_by v handle named)
+abbrev pub TransferAnswered : {R : Type 0} → SessionView R → ℕ → Result (Option (ℕ × DeliveryTag)) LinkRelayError →
+    Result (Option DispositionSaid) SessionInnerError → SessionView R → Type 0
+TransferAnswered v handle (Ok named) (Ok reply) w =
+    RecordFits (named_delivery handle named) × (reply ≡ None) × (w ≡ named_by v handle named)
 TransferAnswered v handle (Err e) (Err x) w = (x ≡ inner_of_relay e) × (w ≡ v)
 TransferAnswered v handle (Ok named) (Err x) w = ⊥
 TransferAnswered v handle (Err e) (Ok reply) w = ⊥
@@ -202,12 +220,15 @@ TransferUnasked v handle (Err Refused.OutOfMemory) w = IsSome (attached_at handl
 TransferUnasked v handle (Err e) w = ⊥
 
 -- what follows once the number is counted
-abbrev pub LinkTransferStep : {R : Type 0} → TransferGives R → SessionView R → ℕ → TransferSaid → List ℕ → Option (TransferQuestion R) → Result (Option DispositionSaid) SessionInnerError → SessionView R → Type 0
+abbrev pub LinkTransferStep : {R : Type 0} → TransferGives R → SessionView R → ℕ → TransferSaid → List ℕ →
+    Option (TransferQuestion R) → Result (Option DispositionSaid) SessionInnerError → SessionView R → Type 0
 LinkTransferStep gives v input t payload None result w = TransferUnasked v input result w
 LinkTransferStep gives v input t payload (Some q) result w =
-    (q.asked ≡ (t, payload)) × Asks (of_transfer gives) (attached_at input v.links) q × TransferAnswered (asked_at v input q) input q.answer result w
+    (q.asked ≡ (t, payload)) × Asks (of_transfer gives) (attached_at input v.links) q
+    × TransferAnswered (asked_at v input q) input q.answer result w
 
-abbrev pub TakeTransferStep : {R : Type 0} → TransferGives R → SessionView R → TransferSaid → List ℕ → Option (TransferQuestion R) → Result (Option DispositionSaid) SessionInnerError → SessionView R → Type 0
+abbrev pub TakeTransferStep : {R : Type 0} → TransferGives R → SessionView R → TransferSaid → List ℕ →
+    Option (TransferQuestion R) → Result (Option DispositionSaid) SessionInnerError → SessionView R → Type 0
 TakeTransferStep gives v t payload asked result w = LinkTransferStep gives (counted_by v) t.handle t payload asked result w
 
 -- ---- flows of this side, and stop reasons
@@ -218,7 +239,8 @@ SendFlowStep v l frame w = (frame ≡ flow_frame v l) × (w ≡ v)
 -- A session flow goes out in Mapped where half of the window has come since the last one, and then the count is 0.
 abbrev pub SessionFlowStep : {R : Type 0} → SessionView R → Option SessionOutgoingItem → SessionView R → Type 0
 SessionFlowStep v None w = (is_due v ≡ false) × (w ≡ v)
-SessionFlowStep v (Some (SingleFrame f)) w = (is_due v ≡ true) × (f ≡ session_flow_frame v) × (w ≡ record v { receiving = reported v.receiving })
+SessionFlowStep v (Some (SingleFrame f)) w =
+    (is_due v ≡ true) × (f ≡ session_flow_frame v) × (w ≡ record v { receiving = reported v.receiving })
 SessionFlowStep v (Some (MultipleFrames fs)) w = ⊥
 
 -- the first reason that is recorded stays

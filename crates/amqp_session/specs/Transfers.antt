@@ -46,7 +46,9 @@ kept_tag first t = if first then (if unwrap_or t.settled false then None else t.
 
 -- the record that goes with the frame
 abbrev pub record_of : ℕ → RequestedTransfer → Option Delivery
-record_of n h = option_map (λ tag. record { number = n % 2 ^ 32; input_handle = record { 0 = h.input_handle }; tag = record { 0 = tag } }) (kept_tag h.is_first h.transfer)
+record_of n h =
+    option_map (λ tag. record { number = n % 2 ^ 32; input_handle = record { 0 = h.input_handle }; tag = record { 0 = tag } })
+    (kept_tag h.is_first h.transfer)
 
 -- the records that go with the frames of these, in order
 abbrev pub records : ℕ → List RequestedTransfer → List Delivery

@@ -22,7 +22,7 @@ pub enum SessionStateError {
     #[error("Remote ended with error")]
     RemoteEndedWithError(ErrorCondition),
     /// Memory was refused.
-    #[error("Out of memory")]
+    #[error("out of memory")]
     OutOfMemory,
 }
 
@@ -42,7 +42,7 @@ pub enum AllocLinkError {
     #[error("No output handle is left")]
     HandlesExhausted,
     /// Memory was refused.
-    #[error("Out of memory")]
+    #[error("out of memory")]
     OutOfMemory,
 }
 
@@ -56,7 +56,7 @@ pub enum LinkRelayError {
     #[error("Found Transfer frame being sent to a Sender")]
     TransferFrameToSender,
     /// Memory was refused.
-    #[error("Out of memory")]
+    #[error("out of memory")]
     OutOfMemory,
 }
 
@@ -91,7 +91,7 @@ pub enum SessionInnerError {
     #[error("Unknown transaction ID")]
     UnknownTxnId,
     /// Memory was refused.
-    #[error("Out of memory")]
+    #[error("out of memory")]
     OutOfMemory,
 }
 
@@ -126,7 +126,7 @@ pub enum Error {
     #[error("Unknown transaction ID")]
     UnknownTxnId,
     /// Memory was refused.
-    #[error("Out of memory")]
+    #[error("out of memory")]
     OutOfMemory,
 }
 
@@ -152,7 +152,7 @@ pub enum BeginError {
     #[error("Local channel-max reached")]
     LocalChannelMaxReached,
     /// Memory was refused.
-    #[error("Out of memory")]
+    #[error("out of memory")]
     OutOfMemory,
 }
 

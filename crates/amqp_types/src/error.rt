@@ -11,6 +11,7 @@ use amqp_values::composite::described;
 use amqp_values::{Composite, Field, Fields, Leaf, Parts, ReadError, Symbol, codes};
 use bytes::Bytes;
 use std::alloc::Global;
+use std::fmt::{self, Display, Formatter};
 use std::marker::Model;
 
 /// Why a link, a session or a connection ended (AMQP 1.0 part 2, section 2.8.14).
@@ -50,6 +51,16 @@ impl PartialEq for Error {
         self.condition == other.condition
             && self.description == other.description
             && self.info == other.info
+    }
+}
+
+/// The condition, and what went wrong in words, if it is said.
+impl Display for Error {
+    fn fmt<W: fmt::Write>(&self, f: &mut Formatter<W>) -> fmt::Result {
+        match &self.description {
+            Some(description) => write!(f, "{}: {}", self.condition.as_str(), description.as_str()),
+            None => f.write_str(self.condition.as_str()),
+        }
     }
 }
 

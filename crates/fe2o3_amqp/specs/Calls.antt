@@ -92,7 +92,8 @@ TransferCalls h s calls refusal = (result : Result (Option SessionOutgoingItem) 
     × (calls ≡ session.SendsTransfer h result ∷ []) × (refusal ≡ session_refusal result)
 
 abbrev pub DispositionCalls : {R : Type 0} → DispositionSaid → Calls R
-DispositionCalls d s calls refusal = (terminal : Bool) × (f : SessionFrame) × (calls ≡ session.SendsDisposition d terminal f ∷ []) × (refusal ≡ None)
+DispositionCalls d s calls refusal =
+    (terminal : Bool) × (f : SessionFrame) × (calls ≡ session.SendsDisposition d terminal f ∷ []) × (refusal ≡ None)
 
 abbrev pub StopCalls : {R : Type 0} → SessionStopReason → Calls R
 StopCalls reason s calls refusal = (calls ≡ session.RecordsStop reason ∷ []) × (refusal ≡ None)
@@ -119,14 +120,16 @@ recorded_remote_end false error = []
 
 abbrev pub ReceivedEndCalls : {R : Type 0} → ℕ → EndSaid → Calls R
 ReceivedEndCalls channel e s calls refusal = (result : Result (Unit {0}) SessionStateError)
-    × (calls ≡ session.TakesEnd channel e result ∷ recorded_remote_end (is_end_received (takes_end s)) e.error) × (refusal ≡ state_refusal result)
+    × (calls ≡ session.TakesEnd channel e result ∷ recorded_remote_end (is_end_received (takes_end s)) e.error)
+    × (refusal ≡ state_refusal result)
 
 abbrev pub ReceivedAttachCalls : {R : Type 0} → AttachSaid → Calls R
 ReceivedAttachCalls a s calls refusal = (asked : Option (AttachQuestion _)) × (result : Result (Unit {0}) SessionInnerError)
     × (calls ≡ session.TakesAttach a asked result ∷ []) × (refusal ≡ session_refusal result)
 
 -- the detach that a relay answers goes out, and the peer is to answer it no more
-abbrev pub answer_to : {R : Type 0} → Result (Option DetachSaid) SessionInnerError → Result (Option SessionFrame) SessionInnerError → List (session.Entry R)
+abbrev pub answer_to : {R : Type 0} → Result (Option DetachSaid) SessionInnerError →
+    Result (Option SessionFrame) SessionInnerError → List (session.Entry R)
 answer_to (Ok (Some d)) sent = session.SendsDetach d false sent ∷ []
 answer_to (Ok None) sent = []
 answer_to (Err e) sent = []
@@ -153,18 +156,22 @@ SentEach {R} (d ∷ ds) calls = (terminal : Bool) × (f : SessionFrame) × (othe
     × (calls ≡ session.SendsDisposition d terminal f ∷ others) × SentEach ds others
 
 abbrev pub ReceivedDispositionCalls : {R : Type 0} → DispositionSaid → Calls R
-ReceivedDispositionCalls d s calls refusal = (asked : List (DispositionQuestion _)) × (result : Result (Option (List DispositionSaid)) SessionInnerError)
+ReceivedDispositionCalls d s calls refusal =
+    (asked : List (DispositionQuestion _)) × (result : Result (Option (List DispositionSaid)) SessionInnerError)
     × (sent : List (session.Entry _)) × SentEach (echoes_of result) sent
     × (calls ≡ session.TakesDisposition d asked result ∷ sent) × (refusal ≡ session_refusal result)
 
 -- after a transfer that is accepted, the session is asked for a flow of its own
-abbrev pub flow_after : {R : Type 0} → Result (Option DispositionSaid) SessionInnerError → Option SessionOutgoingItem → List (session.Entry R)
+abbrev pub flow_after : {R : Type 0} → Result (Option DispositionSaid) SessionInnerError → Option SessionOutgoingItem →
+    List (session.Entry R)
 flow_after (Ok d) item = session.SendsSessionFlow item ∷ []
 flow_after (Err e) item = []
 
 abbrev pub ReceivedTransferCalls : {R : Type 0} → TransferSaid → List ℕ → Calls R
-ReceivedTransferCalls t payload s calls refusal = (asked : Option (TransferQuestion _)) × (result : Result (Option DispositionSaid) SessionInnerError)
-    × (item : Option SessionOutgoingItem) × (calls ≡ session.TakesTransfer t payload asked result ∷ flow_after result item) × (refusal ≡ session_refusal result)
+ReceivedTransferCalls t payload s calls refusal =
+    (asked : Option (TransferQuestion _)) × (result : Result (Option DispositionSaid) SessionInnerError)
+    × (item : Option SessionOutgoingItem) × (calls ≡ session.TakesTransfer t payload asked result ∷ flow_after result item)
+    × (refusal ≡ session_refusal result)
 
 -- ---- the table
 
@@ -180,7 +187,8 @@ request_calls (input.AllocateIncomingLink n name relay h) = AllocateIncomingCall
 request_calls (input.Attach n a) = AttachCalls a
 request_calls (input.Detach n d expects_echo) = DetachCalls d expects_echo
 request_calls (input.Flow n l) = FlowCalls l
-request_calls (input.Transfer n h t payload first) = TransferCalls (record { input_handle = h.0; transfer = t; payload = payload; is_first = first })
+request_calls (input.Transfer n h t payload first) =
+    TransferCalls (record { input_handle = h.0; transfer = t; payload = payload; is_first = first })
 request_calls (input.Disposition n d) = DispositionCalls d
 request_calls (input.Stop n reason) = StopCalls reason
 request_calls i = NoCalls

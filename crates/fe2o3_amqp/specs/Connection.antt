@@ -36,7 +36,14 @@ pub record ConnectionView : Type 0 where
   pub session_by_incoming_channel : ChannelTable
 
 abbrev pub new_connection : ConnectionState → OpenSaid → ConnectionView
-new_connection s o = record { state = s; stop_reason = None; local_open = o; agreed_channel_max = o.channel_max; session_by_outgoing_channel = map.empty; session_by_incoming_channel = map.empty }
+new_connection s o = record {
+  state = s;
+  stop_reason = None;
+  local_open = o;
+  agreed_channel_max = o.channel_max;
+  session_by_outgoing_channel = map.empty;
+  session_by_incoming_channel = map.empty;
+}
 
 -- ---- stop reasons: the first one stays
 
@@ -53,13 +60,16 @@ abbrev pub open_frame : OpenSaid → Frame
 open_frame o = record { channel = 0; body = body.Open o }
 
 abbrev pub SendOpenStep : ConnectionView → Result Frame ConnectionStateError → ConnectionView → Type 0
-SendOpenStep v (Ok f) w = (s : ConnectionState) × (sends_open v.state ≡ Some s) × (f ≡ open_frame v.local_open) × (w ≡ record v { state = s })
+SendOpenStep v (Ok f) w =
+    (s : ConnectionState) × (sends_open v.state ≡ Some s) × (f ≡ open_frame v.local_open) × (w ≡ record v { state = s })
 SendOpenStep v (Err state.IllegalState) w = (sends_open v.state ≡ None) × (w ≡ v)
 SendOpenStep v (Err state.OutOfMemory) w = IsSome (sends_open v.state) × (w ≡ v)
 SendOpenStep v (Err e) w = ⊥
 
 abbrev pub IncomingOpenStep : ConnectionView → OpenSaid → Option ConnectionStateError → ConnectionView → Type 0
-IncomingOpenStep v o None w = (s : ConnectionState) × (takes_open v.state ≡ Some s) × (w ≡ record v { state = s; agreed_channel_max = min v.local_open.channel_max o.channel_max })
+IncomingOpenStep v o None w =
+    (s : ConnectionState) × (takes_open v.state ≡ Some s)
+    × (w ≡ record v { state = s; agreed_channel_max = min v.local_open.channel_max o.channel_max })
 IncomingOpenStep v o (Some state.IllegalState) w = (takes_open v.state ≡ None) × (w ≡ v)
 IncomingOpenStep v o (Some e) w = ⊥
 
@@ -73,7 +83,8 @@ closes_by None s = sends_close s
 closes_by (Some e) s = sends_close_with_error s
 
 abbrev pub SendCloseStep : ConnectionView → Option ErrorSaid → Result Frame ConnectionStateError → ConnectionView → Type 0
-SendCloseStep v error (Ok f) w = (s : ConnectionState) × (closes_by error v.state ≡ Some s) × (f ≡ close_frame error) × (w ≡ record v { state = s })
+SendCloseStep v error (Ok f) w =
+    (s : ConnectionState) × (closes_by error v.state ≡ Some s) × (f ≡ close_frame error) × (w ≡ record v { state = s })
 SendCloseStep v error (Err state.IllegalState) w = (closes_by error v.state ≡ None) × (w ≡ v)
 SendCloseStep v error (Err e) w = ⊥
 
@@ -85,7 +96,8 @@ told s None = None
 
 abbrev pub IncomingCloseStep : ConnectionView → CloseSaid → Option ConnectionStateError → ConnectionView → Type 0
 IncomingCloseStep v c (Some state.IllegalState) w = (takes_close v.state ≡ None) × (w ≡ v)
-IncomingCloseStep v c refusal w = (s : ConnectionState) × (takes_close v.state ≡ Some s) × (refusal ≡ told s c.error) × (w ≡ record v { state = s })
+IncomingCloseStep v c refusal w =
+    (s : ConnectionState) × (takes_close v.state ≡ Some s) × (refusal ≡ told s c.error) × (w ≡ record v { state = s })
 
 -- ---- channels: the lowest one that is not held goes to a session
 
@@ -108,11 +120,16 @@ abbrev pub Allots : ConnectionState → Type 0
 Allots s = (is_unopened s ≡ false) × (has_stopped s ≡ false)
 
 abbrev pub AllocateStep : ConnectionView → ℕ → Result ℕ AllocSessionError → ConnectionView → Type 0
-AllocateStep v number (Ok channel) w = Allots v.state × IsLowestFree v.session_by_outgoing_channel channel × (channel ≤ v.agreed_channel_max) × (w ≡ record v { session_by_outgoing_channel = map.insert v.session_by_outgoing_channel channel number })
+AllocateStep v number (Ok channel) w =
+    Allots v.state × IsLowestFree v.session_by_outgoing_channel channel × (channel ≤ v.agreed_channel_max)
+    × (w ≡ record v { session_by_outgoing_channel = map.insert v.session_by_outgoing_channel channel number })
 AllocateStep v number (Err full.ConnectionNotOpened) w = (is_unopened v.state ≡ true) × (w ≡ v)
-AllocateStep v number (Err (full.ConnectionStopped reason)) w = (has_stopped v.state ≡ true) × (reason ≡ unwrap_or v.stop_reason Closed) × (w ≡ v)
-AllocateStep v number (Err full.ChannelMaxReached) w = Allots v.state × ((d : ℕ) → d ≤ v.agreed_channel_max → IsSome (map.get v.session_by_outgoing_channel d)) × (w ≡ v)
-AllocateStep v number (Err full.OutOfMemory) w = Allots v.state × ((d : ℕ) × IsLowestFree v.session_by_outgoing_channel d × (d ≤ v.agreed_channel_max)) × (w ≡ v)
+AllocateStep v number (Err (full.ConnectionStopped reason)) w =
+    (has_stopped v.state ≡ true) × (reason ≡ unwrap_or v.stop_reason Closed) × (w ≡ v)
+AllocateStep v number (Err full.ChannelMaxReached) w =
+    Allots v.state × ((d : ℕ) → d ≤ v.agreed_channel_max → IsSome (map.get v.session_by_outgoing_channel d)) × (w ≡ v)
+AllocateStep v number (Err full.OutOfMemory) w =
+    Allots v.state × ((d : ℕ) × IsLowestFree v.session_by_outgoing_channel d × (d ≤ v.agreed_channel_max)) × (w ≡ v)
 
 -- the session holds the channel
 abbrev pub Holds : ConnectionView → ℕ → ℕ → Type 0
@@ -135,18 +152,26 @@ not_implemented = inner.NotImplemented None
 
 -- the connection accepts a Begin, and makes the route
 abbrev pub BeginRouteStep : ConnectionView → ℕ → Option ℕ → Result ℕ ConnectionInnerError → ConnectionView → Type 0
-BeginRouteStep v channel remote (Ok number) w = (v.state ≡ Opened) × ((c : ℕ) × (remote ≡ Some c) × (map.get v.session_by_outgoing_channel c ≡ Some number)) × (w ≡ record v { session_by_incoming_channel = map.insert v.session_by_incoming_channel channel number })
+BeginRouteStep v channel remote (Ok number) w =
+    (v.state ≡ Opened) × ((c : ℕ) × (remote ≡ Some c) × (map.get v.session_by_outgoing_channel c ≡ Some number))
+    × (w ≡ record v { session_by_incoming_channel = map.insert v.session_by_incoming_channel channel number })
 BeginRouteStep v channel remote (Err inner.IllegalState) w = ¬ (v.state ≡ Opened) × (w ≡ v)
 BeginRouteStep v channel remote (Err (inner.NotImplemented text)) w = (v.state ≡ Opened) × (remote ≡ None) × (text ≡ None) × (w ≡ v)
-BeginRouteStep v channel remote (Err (inner.NotFound text)) w = (v.state ≡ Opened) × ((c : ℕ) × (remote ≡ Some c) × (map.get v.session_by_outgoing_channel c ≡ None)) × (text ≡ None) × (w ≡ v)
-BeginRouteStep v channel remote (Err inner.OutOfMemory) w = (v.state ≡ Opened) × ((c : ℕ) × (remote ≡ Some c) × IsSome (map.get v.session_by_outgoing_channel c)) × (w ≡ v)
+BeginRouteStep v channel remote (Err (inner.NotFound text)) w =
+    (v.state ≡ Opened) × ((c : ℕ) × (remote ≡ Some c) × (map.get v.session_by_outgoing_channel c ≡ None)) × (text ≡ None)
+    × (w ≡ v)
+BeginRouteStep v channel remote (Err inner.OutOfMemory) w =
+    (v.state ≡ Opened) × ((c : ℕ) × (remote ≡ Some c) × IsSome (map.get v.session_by_outgoing_channel c)) × (w ≡ v)
 BeginRouteStep v channel remote (Err e) w = ⊥
 
 -- the connection accepts an End, and takes the route away
 abbrev pub EndRouteStep : ConnectionView → ℕ → Result ℕ ConnectionInnerError → ConnectionView → Type 0
-EndRouteStep v channel (Ok number) w = (v.state ≡ Opened) × (map.get v.session_by_incoming_channel channel ≡ Some number) × (w ≡ record v { session_by_incoming_channel = map.remove v.session_by_incoming_channel channel })
+EndRouteStep v channel (Ok number) w =
+    (v.state ≡ Opened) × (map.get v.session_by_incoming_channel channel ≡ Some number)
+    × (w ≡ record v { session_by_incoming_channel = map.remove v.session_by_incoming_channel channel })
 EndRouteStep v channel (Err inner.IllegalState) w = ¬ (v.state ≡ Opened) × (w ≡ v)
-EndRouteStep v channel (Err (inner.NotFound text)) w = (v.state ≡ Opened) × (map.get v.session_by_incoming_channel channel ≡ None) × (text ≡ None) × (w ≡ v)
+EndRouteStep v channel (Err (inner.NotFound text)) w =
+    (v.state ≡ Opened) × (map.get v.session_by_incoming_channel channel ≡ None) × (text ≡ None) × (w ≡ v)
 EndRouteStep v channel (Err e) w = ⊥
 
 -- other frames go along the route, in every state

@@ -24,7 +24,8 @@ use Rattle.fe2o3_amqp.specs.declared.engine.input.Input.TheVariants as input
 use Rattle.fe2o3_amqp.specs.declared.engine.step_error.StepError.{StepError}
 use Rattle.fe2o3_amqp.specs.declared.engine.step_error.StepError.TheVariants as no
 use Rattle.fe2o3_amqp.specs.States.{takes_close}
-use Rattle.fe2o3_amqp.specs.Connection.{ConnectionView, stopped, SendOpenStep, SendCloseStep, IncomingOpenStep, IncomingCloseStep, BeginRouteStep, EndRouteStep, RouteStep}
+use Rattle.fe2o3_amqp.specs.Connection.{ConnectionView, stopped, SendOpenStep, SendCloseStep, IncomingOpenStep, IncomingCloseStep}
+use Rattle.fe2o3_amqp.specs.Connection.{BeginRouteStep, EndRouteStep, RouteStep}
 use Rattle.fe2o3_amqp.specs.EngineView.{EngineView, peer_limit}
 use Rattle.fe2o3_amqp.specs.Calls.{request_calls, received_calls}
 use Rattle.fe2o3_amqp.specs.Sessions.{Untouched, Nothing, Does, Reaches, BeginRequest, ReleaseRequest}
@@ -32,8 +33,10 @@ use Rattle.fe2o3_amqp.specs.Sessions.{Untouched, Nothing, Does, Reaches, BeginRe
 -- ---- requests of the connection
 
 abbrev pub OpenRequest : {R : Type 0} → EngineView R → Option StepError → EngineView R → Type 0
-OpenRequest v None w = (f : Frame) × (k : ConnectionView) × SendOpenStep v.connection (Ok f) k × (w ≡ record v { connection = k; waiting = f ∷ [] })
-OpenRequest v (Some (no.ConnectionState e)) w = (k : ConnectionView) × SendOpenStep v.connection (Err e) k × (w ≡ record v { connection = k })
+OpenRequest v None w =
+    (f : Frame) × (k : ConnectionView) × SendOpenStep v.connection (Ok f) k × (w ≡ record v { connection = k; waiting = f ∷ [] })
+OpenRequest v (Some (no.ConnectionState e)) w =
+    (k : ConnectionView) × SendOpenStep v.connection (Err e) k × (w ≡ record v { connection = k })
 OpenRequest v (Some e) w = ⊥
 
 abbrev pub close_reason : Option ErrorSaid → ConnectionStopReason
@@ -41,15 +44,20 @@ close_reason None = stop.Closed
 close_reason (Some e) = stop.ClosedWithError
 
 abbrev pub CloseRequest : {R : Type 0} → EngineView R → Option ErrorSaid → Option StepError → EngineView R → Type 0
-CloseRequest v error None w = (f : Frame) × (k : ConnectionView) × SendCloseStep v.connection error (Ok f) k × (w ≡ record v { connection = stopped k (close_reason error); waiting = f ∷ [] })
-CloseRequest v error (Some (no.ConnectionState e)) w = (k : ConnectionView) × SendCloseStep v.connection error (Err e) k × (w ≡ record v { connection = k })
+CloseRequest v error None w =
+    (f : Frame) × (k : ConnectionView) × SendCloseStep v.connection error (Ok f) k
+    × (w ≡ record v { connection = stopped k (close_reason error); waiting = f ∷ [] })
+CloseRequest v error (Some (no.ConnectionState e)) w =
+    (k : ConnectionView) × SendCloseStep v.connection error (Err e) k × (w ≡ record v { connection = k })
 CloseRequest v error (Some e) w = ⊥
 
 -- ---- received frames of the connection
 
 abbrev pub ReceivedOpen : {R : Type 0} → EngineView R → OpenSaid → Option StepError → EngineView R → Type 0
-ReceivedOpen v o None w = (k : ConnectionView) × IncomingOpenStep v.connection o None k × (w ≡ record v { connection = k; limit = peer_limit o })
-ReceivedOpen v o (Some (no.ConnectionState e)) w = (k : ConnectionView) × IncomingOpenStep v.connection o (Some e) k × (w ≡ record v { connection = k })
+ReceivedOpen v o None w =
+    (k : ConnectionView) × IncomingOpenStep v.connection o None k × (w ≡ record v { connection = k; limit = peer_limit o })
+ReceivedOpen v o (Some (no.ConnectionState e)) w =
+    (k : ConnectionView) × IncomingOpenStep v.connection o (Some e) k × (w ≡ record v { connection = k })
 ReceivedOpen v o (Some e) w = ⊥
 
 abbrev pub remote_reason : Option ErrorSaid → ConnectionStopReason
@@ -63,7 +71,8 @@ recorded (Some CloseReceived) r k = stopped k r
 recorded (Some s) r k = k
 
 abbrev pub ReceivedCloseStep : ConnectionView → CloseSaid → Option ConnectionStateError → ConnectionView → Type 0
-ReceivedCloseStep v c refusal w = (k : ConnectionView) × IncomingCloseStep v c refusal k × (w ≡ recorded (takes_close v.state) (remote_reason c.error) k)
+ReceivedCloseStep v c refusal w =
+    (k : ConnectionView) × IncomingCloseStep v c refusal k × (w ≡ recorded (takes_close v.state) (remote_reason c.error) k)
 
 abbrev pub ReceivedClose : {R : Type 0} → EngineView R → CloseSaid → Option StepError → EngineView R → Type 0
 ReceivedClose v c refusal w = (told : Option ConnectionStateError) × (k : ConnectionView) × ReceivedCloseStep v.connection c told k
@@ -79,31 +88,40 @@ Finds v c b found w = RouteStep v c found w
 
 -- ---- received frames
 
-abbrev pub ReceivedFrame : {R : Type 0} → Relays R → EngineView R → ℕ → FrameBody → Option ℕ → List (session.Entry R) → Option StepError → EngineView R → Type 0
+abbrev pub ReceivedFrame : {R : Type 0} → Relays R → EngineView R → ℕ → FrameBody → Option ℕ → List (session.Entry R) →
+    Option StepError → EngineView R → Type 0
 ReceivedFrame g v c body.Empty reached calls refusal w = Nothing v reached calls w × (refusal ≡ None)
 ReceivedFrame g v c (body.Open o) reached calls refusal w = Untouched reached calls × ReceivedOpen v o refusal w
 ReceivedFrame g v c (body.Close p) reached calls refusal w = Untouched reached calls × ReceivedClose v p refusal w
 ReceivedFrame g v c b reached calls refusal w = Reaches g (Finds v.connection c b) v (received_calls c b) reached calls refusal w
 
 -- The fields of this kind are not there, or they say a body that was received.
-abbrev pub ReceivedOf : {R : Type 0} → Relays R → EngineView R → ℕ → Option Kind → List ℕ → Option Frame → Option ℕ → List (session.Entry R) → Option StepError → EngineView R → Type 0
+abbrev pub ReceivedOf : {R : Type 0} → Relays R → EngineView R → ℕ → Option Kind → List ℕ → Option Frame → Option ℕ →
+    List (session.Entry R) → Option StepError → EngineView R → Type 0
 ReceivedOf g v c k fields received reached calls refusal w =
     ((e : Error) × NoBodyOf k fields e × (received ≡ None) × Nothing v reached calls w × (refusal ≡ Some (no.Frame e)))
-    ⊎ ((b : FrameBody) × (rest : List ℕ) × IsBodyOf k b fields rest × (received ≡ Some (record { channel = c; body = b })) × ReceivedFrame g v c b reached calls refusal w)
+    ⊎ ((b : FrameBody) × (rest : List ℕ) × IsBodyOf k b fields rest × (received ≡ Some (record { channel = c; body = b }))
+    × ReceivedFrame g v c b reached calls refusal w)
 
 -- The bytes are no frame, or they are a frame that was received.
-abbrev pub Received : {R : Type 0} → Relays R → EngineView R → List ℕ → Option Frame → Option ℕ → List (session.Entry R) → Option StepError → EngineView R → Type 0
+abbrev pub Received : {R : Type 0} → Relays R → EngineView R → List ℕ → Option Frame → Option ℕ → List (session.Entry R) →
+    Option StepError → EngineView R → Type 0
 Received g v bytes received reached calls refusal w =
     ((e : Error) × Decodes bytes (Err e) × (received ≡ None) × Nothing v reached calls w × (refusal ≡ Some (no.Frame e)))
-    ⊎ ((f : Frame) × (rest : List ℕ) × IsFrame f bytes rest × (received ≡ Some f) × ReceivedFrame g v f.channel f.body reached calls refusal w)
+    ⊎ ((f : Frame) × (rest : List ℕ) × IsFrame f bytes rest × (received ≡ Some f)
+    × ReceivedFrame g v f.channel f.body reached calls refusal w)
 
 -- some body stands in the fields and is received, or none stands there
 abbrev pub FieldsStep : {R : Type 0} → Relays R → EngineView R → ℕ → Option Kind → List ℕ → Option StepError → EngineView R → Type 0
-FieldsStep g v c k fields refusal w = (received : Option Frame) × (reached : Option ℕ) × (calls : List (session.Entry _)) × ReceivedOf g v c k fields received reached calls refusal w
+FieldsStep g v c k fields refusal w =
+    (received : Option Frame) × (reached : Option ℕ) × (calls : List (session.Entry _))
+    × ReceivedOf g v c k fields received reached calls refusal w
 
 -- some frame stands in the bytes and is received, or none stands there
 abbrev pub ReceivedStep : {R : Type 0} → Relays R → EngineView R → List ℕ → Option StepError → EngineView R → Type 0
-ReceivedStep g v bytes refusal w = (received : Option Frame) × (reached : Option ℕ) × (calls : List (session.Entry _)) × Received g v bytes received reached calls refusal w
+ReceivedStep g v bytes refusal w =
+    (received : Option Frame) × (reached : Option ℕ) × (calls : List (session.Entry _))
+    × Received g v bytes received reached calls refusal w
 
 -- ---- a step
 
@@ -118,37 +136,50 @@ pub record Entry (R : Type 0) : Type 0 where
   pub refusal : Option StepError
   pub frames : List Frame
 
-abbrev pub Carries : {R : Type 0} → Relays R → EngineView R → Input R → Option Frame → Option ℕ → List (session.Entry R) → Option StepError → EngineView R → Type 0
+abbrev pub Carries : {R : Type 0} → Relays R → EngineView R → Input R → Option Frame → Option ℕ → List (session.Entry R) →
+    Option StepError → EngineView R → Type 0
 Carries g v (input.Received bytes) received reached calls refusal w = Received g v bytes received reached calls refusal w
 Carries g v input.Open received reached calls refusal w = (received ≡ None) × Untouched reached calls × OpenRequest v refusal w
-Carries g v (input.Close error) received reached calls refusal w = (received ≡ None) × Untouched reached calls × CloseRequest v error refusal w
-Carries g v (input.Begin n settings) received reached calls refusal w = (received ≡ None) × BeginRequest g v n.0 settings reached calls refusal w
+Carries g v (input.Close error) received reached calls refusal w =
+    (received ≡ None) × Untouched reached calls × CloseRequest v error refusal w
+Carries g v (input.Begin n settings) received reached calls refusal w =
+    (received ≡ None) × BeginRequest g v n.0 settings reached calls refusal w
 Carries g v (input.Release n) received reached calls refusal w = (received ≡ None) × ReleaseRequest v n.0 reached calls refusal w
-Carries g v (input.End n error) received reached calls refusal w = (received ≡ None) × Does g v n.0 (request_calls (input.End n error)) reached calls refusal w
+Carries g v (input.End n error) received reached calls refusal w =
+    (received ≡ None) × Does g v n.0 (request_calls (input.End n error)) reached calls refusal w
 Carries g v (input.AllocateLink n name relay) received reached calls refusal w =
     (received ≡ None) × Does g v n.0 (request_calls (input.AllocateLink n name relay)) reached calls refusal w
 Carries g v (input.AllocateIncomingLink n name relay h) received reached calls refusal w =
     (received ≡ None) × Does g v n.0 (request_calls (input.AllocateIncomingLink n name relay h)) reached calls refusal w
-Carries g v (input.Attach n a) received reached calls refusal w = (received ≡ None) × Does g v n.0 (request_calls (input.Attach n a)) reached calls refusal w
+Carries g v (input.Attach n a) received reached calls refusal w =
+    (received ≡ None) × Does g v n.0 (request_calls (input.Attach n a)) reached calls refusal w
 Carries g v (input.Detach n d expects_echo) received reached calls refusal w =
     (received ≡ None) × Does g v n.0 (request_calls (input.Detach n d expects_echo)) reached calls refusal w
-Carries g v (input.Flow n l) received reached calls refusal w = (received ≡ None) × Does g v n.0 (request_calls (input.Flow n l)) reached calls refusal w
+Carries g v (input.Flow n l) received reached calls refusal w =
+    (received ≡ None) × Does g v n.0 (request_calls (input.Flow n l)) reached calls refusal w
 Carries g v (input.Transfer n h t payload first) received reached calls refusal w =
     (received ≡ None) × Does g v n.0 (request_calls (input.Transfer n h t payload first)) reached calls refusal w
-Carries g v (input.Disposition n d) received reached calls refusal w = (received ≡ None) × Does g v n.0 (request_calls (input.Disposition n d)) reached calls refusal w
-Carries g v (input.Stop n reason) received reached calls refusal w = (received ≡ None) × Does g v n.0 (request_calls (input.Stop n reason)) reached calls refusal w
+Carries g v (input.Disposition n d) received reached calls refusal w =
+    (received ≡ None) × Does g v n.0 (request_calls (input.Disposition n d)) reached calls refusal w
+Carries g v (input.Stop n reason) received reached calls refusal w =
+    (received ≡ None) × Does g v n.0 (request_calls (input.Stop n reason)) reached calls refusal w
 
 -- the input is carried out
 abbrev pub CarriedStep : {R : Type 0} → Relays R → EngineView R → Input R → Option StepError → EngineView R → Type 0
-CarriedStep g v i refusal w = (received : Option Frame) × (reached : Option ℕ) × (calls : List (session.Entry _)) × Carries g v i received reached calls refusal w
+CarriedStep g v i refusal w =
+    (received : Option Frame) × (reached : Option ℕ) × (calls : List (session.Entry _))
+    × Carries g v i received reached calls refusal w
 
 -- what waits stops all else
 abbrev pub WaitingStep : {R : Type 0} → EngineView R → Entry R → EngineView R → Type 0
-WaitingStep v e w = ¬ (v.waiting ≡ []) × (e.refusal ≡ Some no.OutputWaiting) × (e.received ≡ None) × Nothing v e.reached e.calls w × (e.frames ≡ [])
+WaitingStep v e w =
+    ¬ (v.waiting ≡ []) × (e.refusal ≡ Some no.OutputWaiting) × (e.received ≡ None) × Nothing v e.reached e.calls w
+    × (e.frames ≡ [])
 
 -- where nothing waits, the frames handed out are those that wait then
 abbrev pub Step : {R : Type 0} → Relays R → EngineView R → Entry R → EngineView R → Type 0
-Step g v e w = WaitingStep v e w ⊎ ((v.waiting ≡ []) × (e.frames ≡ w.waiting) × Carries g v e.input e.received e.reached e.calls e.refusal w)
+Step g v e w =
+    WaitingStep v e w ⊎ ((v.waiting ≡ []) × (e.frames ≡ w.waiting) × Carries g v e.input e.received e.reached e.calls e.refusal w)
 
 -- a step with this input and this refusal
 abbrev pub Steps : {R : Type 0} → Relays R → EngineView R → Input R → Option StepError → EngineView R → Type 0

@@ -28,7 +28,8 @@ use Rattle.fe2o3_amqp.specs.Waits.{sent}
 use Rattle.fe2o3_amqp.specs.Calls.{NoCalls, Calls, request_calls, received_calls}
 use Rattle.fe2o3_amqp.specs.Engine.{Entry}
 use Rattle.fe2o3_amqp.specs.Event.{Event, SentOpen, SentClose, event}
-use Rattle.fe2o3_amqp.specs.ByHistory.{of_session, begun, session_state, state_from, stop_reason, channel_max, limit_after, route, held, last_frames}
+use Rattle.fe2o3_amqp.specs.ByHistory.{of_session, begun, session_state, state_from, stop_reason, channel_max, limit_after, route, held}
+use Rattle.fe2o3_amqp.specs.ByHistory.{last_frames}
 use Rattle.fe2o3_amqp.specs.History.{Chain, LeadsTo}
 use Rattle.fe2o3_amqp.specs.Output.{Speaks}
 
@@ -76,7 +77,8 @@ ReachesNamed (Some m) n e = (e.reached ≡ Some n) × ¬ (e.refusal ≡ Some no.
 
 -- so it is in every state of the connection, unless output waits, or memory is refused before
 abbrev pub RequestsReach : {R : Type 0} → ConnectionState → List (Entry R) → Type 0
-RequestsReach s H = Each H (λ before e. (n : ℕ) → names e.input ≡ Some n → ¬ (e.refusal ≡ Some no.OutputWaiting) → ¬ (e.refusal ≡ Some no.OutOfMemory) →
+RequestsReach s H =
+    Each H (λ before e. (n : ℕ) → names e.input ≡ Some n → ¬ (e.refusal ≡ Some no.OutputWaiting) → ¬ (e.refusal ≡ Some no.OutOfMemory) →
     ReachesNamed (begun s n before) n e)
 
 -- A frame goes along the route of its channel, and to no other session; without a route it is NotFound.
@@ -91,7 +93,9 @@ Passes (body.Disposition p) s route e = GoesAlong route e
 Passes (body.Detach p) s route e = GoesAlong route e
 Passes (body.Flow p) s route e = GoesAlong route e
 Passes (body.Transfer p payload) s route e = GoesAlong route e
-Passes (body.End p) s route e = (s ≡ Opened → GoesAlong route e) × (¬ (s ≡ Opened) → (e.reached ≡ None) × (e.refusal ≡ Some (no.Connection inner.IllegalState)))
+Passes (body.End p) s route e =
+    (s ≡ Opened → GoesAlong route e)
+    × (¬ (s ≡ Opened) → (e.reached ≡ None) × (e.refusal ≡ Some (no.Connection inner.IllegalState)))
 Passes b s route e = Unit {0}
 
 -- so it is, unless memory is refused before
@@ -101,7 +105,9 @@ FramesReach s H = Each H (λ before e. (f : Frame) → e.received ≡ Some f →
 
 -- a Begin of the peer's reaches the session that holds the channel that it answers
 abbrev pub RoutesFollow : {R : Type 0} → List (Entry R) → Type 0
-RoutesFollow H = Each H (λ before e. (c : ℕ) (b : BeginSaid) → e.received ≡ Some (record { channel = c; body = body.Begin b }) → (n : ℕ) → e.reached ≡ Some n →
+RoutesFollow H =
+    Each H (λ before e. (c : ℕ) (b : BeginSaid) → e.received ≡ Some (record { channel = c; body = body.Begin b }) →
+    (n : ℕ) → e.reached ≡ Some n →
     (d : ℕ) × (b.remote_channel ≡ Some d) × (held d before ≡ Some n))
 
 -- the session that a received frame reaches is there
@@ -229,7 +235,8 @@ abbrev pub IsTaken : {R : Type 0} → Entry R → Type 0
 IsTaken e = ¬ (e.refusal ≡ Some no.OutputWaiting)
 
 -- these entries were run, from the view, inputs and answers before to those after
-pub record Runs {R : Type 0} (g : Relays R) (es : List (Entry R)) (v : EngineView R) (inputs : List (Input R)) (answers : List Answer) (v' : EngineView R) (inputs' : List (Input R)) (answers' : List Answer) : Type 0 where
+pub record Runs {R : Type 0} (g : Relays R) (es : List (Entry R)) (v : EngineView R) (inputs : List (Input R))
+    (answers : List Answer) (v' : EngineView R) (inputs' : List (Input R)) (answers' : List Answer) : Type 0 where
   -- the inputs are taken from the front, and none is refused because output waits
   pub taken : inputs ≡ inputs_of es ++ inputs'
   pub all_taken : All IsTaken es
@@ -244,7 +251,8 @@ pub record Runs {R : Type 0} (g : Relays R) (es : List (Entry R)) (v : EngineVie
   pub said : Speaks v.limit v.waiting es v'.waiting out
 
 -- A run takes all inputs and puts out all frames, or it stops and says how many inputs it took.
-pub record Ran {R : Type 0} (g : Relays R) (v : EngineView R) (inputs : List (Input R)) (answers : List Answer) (result : Result (Unit {0}) Stopped) (v' : EngineView R) (inputs' : List (Input R)) (answers' : List Answer) : Type 0 where
+pub record Ran {R : Type 0} (g : Relays R) (v : EngineView R) (inputs : List (Input R)) (answers : List Answer)
+    (result : Result (Unit {0}) Stopped) (v' : EngineView R) (inputs' : List (Input R)) (answers' : List Answer) : Type 0 where
   pub entries : List (Entry R)
   pub runs : Runs g entries v inputs answers v' inputs' answers'
   pub result_is : MatchResult result (λ _. (inputs' ≡ []) × (v'.waiting ≡ [])) (λ stopped. stopped.done ≡ length entries)

@@ -53,7 +53,9 @@ FirstFits limit (f ∷ fs) = Fits f limit
 
 abbrev pub NextOutput : {R X : Type 0} → (X → List PieceParts) → EngineView R → Result (Option X) OutputError → EngineView R → Type 0
 NextOutput view v (Ok None) w = (v.waiting ≡ []) × (w ≡ v)
-NextOutput view v (Ok (Some x)) w = (f : Frame) × (fs : List Frame) × (v.waiting ≡ f ∷ fs) × Fits f v.limit × Cut f v.limit (view x) × ReadBack f v.limit (view x) × (w ≡ record v { waiting = fs })
+NextOutput view v (Ok (Some x)) w =
+    (f : Frame) × (fs : List Frame) × (v.waiting ≡ f ∷ fs) × Fits f v.limit × Cut f v.limit (view x) × ReadBack f v.limit (view x)
+    × (w ≡ record v { waiting = fs })
 NextOutput view v (Err (no.TooLarge g)) w = (fs : List Frame) × (v.waiting ≡ g ∷ fs) × (¬ Fits g v.limit) × (w ≡ record v { waiting = fs })
 NextOutput view v (Err no.Memory) w = FirstFits v.limit v.waiting × (w ≡ v)
 

@@ -1,6 +1,7 @@
 -- What requests and received frames do with the session that they reach: its calls, what is answered, and the frames that
 -- wait then.
-use Rattle.std.specs.Prelude.{◌≡◌, ◌⊎◌, ◌<◌, ◌^◌, ℕ, List, [], ◌∷◌, ◌++◌, map, Option, Some, None, Result, Ok, Err, IsSome, nat_eq, Bool, true, false}
+use Rattle.std.specs.Prelude.{◌≡◌, ◌⊎◌, ◌<◌, ◌^◌, ℕ, List, [], ◌∷◌, ◌++◌, map, Option, Some, None, Result, Ok, Err, IsSome, nat_eq, Bool}
+use Rattle.std.specs.Prelude.{true, false}
 use Rattle.std.specs.Map.{lookup, set_value}
 use Rattle.amqp_types.specs.declared.states.SessionState.TheVariants as at
 use Rattle.amqp_session.specs.declared.frame.SessionFrame.{SessionFrame}
@@ -35,7 +36,8 @@ frames_with (Ok frames) = frames
 frames_with (Err e) = []
 
 -- the session was asked, made these calls, and answered
-pub record Answered {R : Type 0} (g : Relays R) (v : SessionView R) (asks : Calls R) (result : Result (List Frame) StepError) (w : SessionView R) : Type 0 where
+pub record Answered {R : Type 0} (g : Relays R) (v : SessionView R) (asks : Calls R) (result : Result (List Frame) StepError)
+    (w : SessionView R) : Type 0 where
   pub calls : List (session.Entry R)
   pub asked : asks v.state calls (refusal_of result)
   pub steps : session.Chain g v calls w
@@ -67,7 +69,8 @@ abbrev pub Asks : {R : Type 0} → Acts R → EngineView R → ℕ → Option St
 Asks acts v n refusal w = Took acts v n refusal w ⊎ ((lookup (nat_eq n) v.sessions ≡ None) × (refusal ≡ Some no.NoSession) × (w ≡ v))
 
 -- Session n made these calls, and went on to another view; all else stayed. What it handed out waits.
-pub record Called {R : Type 0} (g : Relays R) (v : EngineView R) (n : ℕ) (asks : Calls R) (calls : List (session.Entry R)) (refusal : Option StepError) (w : EngineView R) : Type 0 where
+pub record Called {R : Type 0} (g : Relays R) (v : EngineView R) (n : ℕ) (asks : Calls R) (calls : List (session.Entry R))
+    (refusal : Option StepError) (w : EngineView R) : Type 0 where
   pub before : SessionView R
   pub after : SessionView R
   pub known : lookup (nat_eq n) v.sessions ≡ Some before
@@ -76,28 +79,33 @@ pub record Called {R : Type 0} (g : Relays R) (v : EngineView R) (n : ℕ) (asks
   pub put : w ≡ record v { sessions = set_value (nat_eq n) v.sessions after; waiting = sent (calls_frames calls) }
 
 -- no session has the number
-pub record Unknown {R : Type 0} (v : EngineView R) (n : ℕ) (calls : List (session.Entry R)) (refusal : Option StepError) (w : EngineView R) : Type 0 where
+pub record Unknown {R : Type 0} (v : EngineView R) (n : ℕ) (calls : List (session.Entry R)) (refusal : Option StepError)
+    (w : EngineView R) : Type 0 where
   pub unknown : lookup (nat_eq n) v.sessions ≡ None
   pub no_calls : calls ≡ []
   pub refused : refusal ≡ Some no.NoSession
   pub same : w ≡ v
 
 -- A request names session n: it reaches it, if there is one.
-abbrev pub Does : {R : Type 0} → Relays R → EngineView R → ℕ → Calls R → Option ℕ → List (session.Entry R) → Option StepError → EngineView R → Type 0
+abbrev pub Does : {R : Type 0} → Relays R → EngineView R → ℕ → Calls R → Option ℕ → List (session.Entry R) → Option StepError →
+    EngineView R → Type 0
 Does g v n asks reached calls refusal w =
     ((reached ≡ Some n) × Called g v n asks calls refusal w) ⊎ ((reached ≡ None) × Unknown v n calls refusal w)
 
 -- A frame reaches the session that the connection finds, or the connection says why there is none.
-abbrev pub Reaches : {R : Type 0} → Relays R → (Result ℕ ConnectionInnerError → ConnectionView → Type 0) → EngineView R → Calls R → Option ℕ → List (session.Entry R) → Option StepError → EngineView R → Type 0
+abbrev pub Reaches : {R : Type 0} → Relays R → (Result ℕ ConnectionInnerError → ConnectionView → Type 0) → EngineView R →
+    Calls R → Option ℕ → List (session.Entry R) → Option StepError → EngineView R → Type 0
 Reaches g finds v asks reached calls refusal w =
-    ((e : ConnectionInnerError) × (k : ConnectionView) × finds (Err e) k × (reached ≡ None) × (calls ≡ []) × (refusal ≡ Some (no.Connection e)) × (w ≡ record v { connection = k }))
+    ((e : ConnectionInnerError) × (k : ConnectionView) × finds (Err e) k × (reached ≡ None) × (calls ≡ [])
+    × (refusal ≡ Some (no.Connection e)) × (w ≡ record v { connection = k }))
     ⊎ ((n : ℕ) × (k : ConnectionView) × finds (Ok n) k × (reached ≡ Some n)
     × (Called g (record v { connection = k }) n asks calls refusal w ⊎ Unknown (record v { connection = k }) n calls refusal w))
 
 -- ---- a session comes, and gives its channel back
 
 -- A session that was not there is made on the channel that the connection gave, and sends its Begin.
-pub record Begun {R : Type 0} (g : Relays R) (v : EngineView R) (n : ℕ) (settings : SettingsSaid) (calls : List (session.Entry R)) (w : EngineView R) : Type 0 where
+pub record Begun {R : Type 0} (g : Relays R) (v : EngineView R) (n : ℕ) (settings : SettingsSaid) (calls : List (session.Entry R))
+    (w : EngineView R) : Type 0 where
   pub channel : ℕ
   pub connection : ConnectionView
   pub after : SessionView R
@@ -121,11 +129,14 @@ Untouched reached calls = (reached ≡ None) × (calls ≡ [])
 abbrev pub Nothing : {R : Type 0} → EngineView R → Option ℕ → List (session.Entry R) → EngineView R → Type 0
 Nothing v reached calls w = Untouched reached calls × (w ≡ v)
 
-abbrev pub BeginRequest : {R : Type 0} → Relays R → EngineView R → ℕ → SettingsSaid → Option ℕ → List (session.Entry R) → Option StepError → EngineView R → Type 0
+abbrev pub BeginRequest : {R : Type 0} → Relays R → EngineView R → ℕ → SettingsSaid → Option ℕ → List (session.Entry R) →
+    Option StepError → EngineView R → Type 0
 BeginRequest g v n settings reached calls None w = (reached ≡ Some n) × Begun g v n settings calls w
 BeginRequest g v n settings reached calls (Some no.SessionInUse) w = Nothing v reached calls w × IsSome (lookup (nat_eq n) v.sessions)
-BeginRequest g v n settings reached calls (Some (no.AllocSession e)) w = Nothing v reached calls w × (lookup (nat_eq n) v.sessions ≡ None) × AllocateStep v.connection n (Err e) v.connection
-BeginRequest g v n settings reached calls (Some (no.SessionState unbegun.OutOfMemory)) w = Nothing v reached calls w × (lookup (nat_eq n) v.sessions ≡ None)
+BeginRequest g v n settings reached calls (Some (no.AllocSession e)) w =
+    Nothing v reached calls w × (lookup (nat_eq n) v.sessions ≡ None) × AllocateStep v.connection n (Err e) v.connection
+BeginRequest g v n settings reached calls (Some (no.SessionState unbegun.OutOfMemory)) w =
+    Nothing v reached calls w × (lookup (nat_eq n) v.sessions ≡ None)
     × ((c : ℕ) × (k : ConnectionView) × AllocateStep v.connection n (Ok c) k)
 BeginRequest g v n settings reached calls (Some no.OutOfMemory) w = Nothing v reached calls w × (lookup (nat_eq n) v.sessions ≡ None)
 BeginRequest g v n settings reached calls (Some e) w = ⊥
@@ -133,7 +144,8 @@ BeginRequest g v n settings reached calls (Some e) w = ⊥
 -- The channel of session n is given back, where it still holds it. Its route stays, and so does the session.
 abbrev pub ReleaseRequest : {R : Type 0} → EngineView R → ℕ → Option ℕ → List (session.Entry R) → Option StepError → EngineView R → Type 0
 ReleaseRequest v n reached calls None w = Untouched reached calls
-    × ((s : SessionView _) × (lookup (nat_eq n) v.sessions ≡ Some s) × Holds v.connection s.outgoing_channel n × (w ≡ record v { connection = given_back v.connection s.outgoing_channel }))
+    × ((s : SessionView _) × (lookup (nat_eq n) v.sessions ≡ Some s) × Holds v.connection s.outgoing_channel n
+    × (w ≡ record v { connection = given_back v.connection s.outgoing_channel }))
 ReleaseRequest v n reached calls (Some no.NoSession) w = Nothing v reached calls w × (lookup (nat_eq n) v.sessions ≡ None)
 ReleaseRequest v n reached calls (Some (no.Connection e)) w = Nothing v reached calls w × (e ≡ not_found)
     × ((s : SessionView _) × (lookup (nat_eq n) v.sessions ≡ Some s) × ¬ (Holds v.connection s.outgoing_channel n))

@@ -1,7 +1,9 @@
 -- The states of a connection, as tables: from which state a call moves to which (AMQP 1.0 part 2, section 2.4.6).
 use Rattle.std.specs.Prelude.{Option, Some, None}
 use Rattle.amqp_types.specs.declared.states.ConnectionState.{ConnectionState}
-use Rattle.amqp_types.specs.declared.states.ConnectionState.TheVariants.{HeaderExchange, HeaderSent, OpenPipe, OpenClosePipe, OpenReceived, OpenSent, ClosePipe, Opened, CloseReceived, CloseSent, Discarding, End}
+use Rattle.amqp_types.specs.declared.states.ConnectionState.TheVariants.{HeaderExchange, HeaderSent, OpenPipe, OpenClosePipe, OpenReceived}
+use Rattle.amqp_types.specs.declared.states.ConnectionState.TheVariants.{OpenSent, ClosePipe, Opened, CloseReceived, CloseSent, Discarding}
+use Rattle.amqp_types.specs.declared.states.ConnectionState.TheVariants.{End}
 
 -- this side sends its Open
 abbrev pub sends_open : ConnectionState → Option ConnectionState

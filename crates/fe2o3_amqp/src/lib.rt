@@ -14,8 +14,8 @@ pub mod transcript;
 
 pub use amqp_frames::{Frame, FrameBody, FrameDecoder, FrameEncoder, Piece};
 pub use amqp_session::{
-    AllocLinkError, BeginError, ConnectionStopReason, DEFAULT_WINDOW, IncomingChannel, InputHandle, LinkFlow,
-    LinkRelay, LinkRelayError, OutgoingChannel, OutputHandle, Session, SessionFrame,
+    AllocLinkError, BeginError, ConnectionStopReason, DEFAULT_WINDOW, IncomingChannel, InputHandle,
+    LinkFlow, LinkRelay, LinkRelayError, OutgoingChannel, OutputHandle, Session, SessionFrame,
     SessionFrameBody, SessionInnerError, SessionOutgoingItem, SessionSettings, SessionStateError,
     SessionStopReason,
 };

@@ -16,7 +16,7 @@ pub enum ConnectionStateError {
     #[error("Remote peer closed")]
     RemoteClosed,
     /// The peer closed the connection with this error; its state has moved.
-    #[error("Remote peer closed connection with error {:?}", .0)]
+    #[error("Remote peer closed connection with error {}", .0)]
     RemoteClosedWithError(AmqpError),
     /// The transport failed. No call answers it: the transport is above.
     #[error("{0}")]
@@ -62,7 +62,7 @@ pub enum ConnectionInnerError {
     #[error("Remote peer closed")]
     RemoteClosed,
     /// The peer closed the connection with this error. Only a conversion makes it.
-    #[error("Remote peer closed connection with error {:?}", .0)]
+    #[error("Remote peer closed connection with error {}", .0)]
     RemoteClosedWithError(AmqpError),
     /// Memory was refused.
     #[error("out of memory")]
@@ -109,7 +109,7 @@ pub enum Error {
     #[error("Remote peer closed")]
     RemoteClosed,
     /// The peer closed the connection with this error.
-    #[error("Remote peer closed connection with error {:?}", .0)]
+    #[error("Remote peer closed connection with error {}", .0)]
     RemoteClosedWithError(AmqpError),
     /// Memory was refused.
     #[error("out of memory")]

@@ -53,7 +53,7 @@ pub enum OpenError {
     #[error("Remote peer closed")]
     RemoteClosed,
     /// The peer closed the connection with this error.
-    #[error("Remote peer closed connection with error {:?}", .0)]
+    #[error("Remote peer closed connection with error {}", .0)]
     RemoteClosedWithError(AmqpError),
     /// Memory was refused.
     #[error("out of memory")]
