@@ -1,14 +1,12 @@
 """The client's side of a recorded exchange, as the engine has to take it: its sessions, their windows, and their links.
 
 It is kept by AMQP 1.0 part 2, sections 2.5 and 2.6, from the recorded fields alone. An output handle is the lowest that is not taken;
-one whose own detach is not answered is taken. The relay of a link answers a detach that the server began, and nothing else.
+one whose own detach is not answered is taken. The relay of a link answers a detach that the server began, and an unsettled disposition:
+that it echoes, settled, for each run of open deliveries (section 2.6.12).
 """
 
 from canonical import boolean, composite, tag, uint
-from recorded import DETACH, FLOW, TRANSFER
-
-# Whether dispositions are taken. Where they are not, a received one is refused, and none can be asked for.
-TAKES_DISPOSITIONS = False
+from recorded import DETACH, DISPOSITION, FLOW, TRANSFER
 
 
 class Links:
@@ -64,6 +62,8 @@ class Session:
         self.deliveries = 0
         # detaches by which the relay answered, and which the client's recording has still to show
         self.unanswered = []
+        # sent deliveries that are open, and those of which an echo went out, which the client's recording has still to settle
+        self.open, self.echoed = [], []
 
     def out(self, text):
         return f"out 020000{self.number:02x}" + text.hex()
@@ -95,8 +95,17 @@ class Session:
         return [] if frame["handle"] in self.links.inputs else ["err UnattachedHandle"]
 
     def hear_disposition(self, frame):
-        assert frame["settled"], "a settled one is not answered"
-        return [] if TAKES_DISPOSITIONS else ["err NotImplemented"]
+        """A settled one closes the deliveries that it means, an unsettled one is echoed and leaves them open."""
+        assert frame["role"], "the server received what it speaks of"
+        meant = [number for number in self.open if number in numbers_of(frame)]
+        if frame["settled"]:
+            self.open = [number for number in self.open if number not in meant]
+            self.echoed = [number for number in self.echoed if number not in meant]
+            return []
+        self.echoed = sorted({*self.echoed, *meant})
+        state = frame.spelled()[4]
+        of_run = lambda first, last: composite(DISPOSITION, [boolean(False), uint(first), uint(last), boolean(True), state])
+        return [self.out(of_run(*run)) for run in runs(meant)]
 
     def hear_attach(self, frame):
         return self.links.attach(frame["name"], frame["handle"])
@@ -147,14 +156,32 @@ class Session:
         def sent():
             number, self.deliveries = self.deliveries, self.deliveries + is_first
             assert not is_first or number == frame["delivery_id"], "deliveries go out in the recorded order"
+            self.open += [number] if is_first and not frame["settled"] else []
             return self.out(text(number))
 
         self.queue.append(sent)
         yield self.asked(text(None).hex()), self.drained()
 
     def ask_disposition(self, frame):
-        if TAKES_DISPOSITIONS:
+        """One that settles what an echo has settled was already given by the relay."""
+        if frame["role"] or not set(numbers_of(frame)) <= set(self.echoed):
             yield self.asked(frame.body()), [self.out(frame.canonical())]
+        else:
+            assert frame["settled"]
+            self.echoed = [number for number in self.echoed if number not in numbers_of(frame)]
 
     def asked(self, body):
         return f"send {self.number} {body}"
+
+
+def numbers_of(frame):
+    """The deliveries of a recorded disposition, none of which passes the wrap."""
+    last = frame["first"] if frame["last"] is None else frame["last"]
+    return range(frame["first"], last + 1)
+
+
+def runs(numbers):
+    """The maximal runs of rising numbers, each as its first and last."""
+    firsts = [number for number in numbers if number - 1 not in numbers]
+    lasts = [number for number in numbers if number + 1 not in numbers]
+    return list(zip(firsts, lasts))

@@ -1,6 +1,6 @@
 """Rows of an engine's connection: each line in each state that a transcript can reach (AMQP 1.0 part 2, section 2.4)."""
 
-from row import OUR_CLOSE, OUR_OPEN, attach, begin, closing, detach, end, flow, opening, out, recv, transfer
+from row import OUR_CLOSE, OUR_OPEN, attach, begin, closing, detach, disposition, end, flow, opening, out, recv, transfer
 
 PEER_OPEN, PEER_CLOSE = recv(opening("a", 262144, 255)), recv(closing())
 OPENED = [("open", [OUR_OPEN]), (PEER_OPEN, [])]
@@ -65,11 +65,13 @@ def lines(state):
     yield "a link of an unknown session", "link 0 a", ["err NoSession"]
     yield "the Attach of an unknown session", "send 0 " + attach("a", 0), ["err NoSession"]
     yield "the Detach of an unknown session", "send 0 " + detach(0), ["err NoSession"]
+    yield "the Disposition of an unknown session", "send 0 " + disposition(0), ["err NoSession"]
     yield "the peer's Begin, which answers a channel that no session holds", recv(begin(0), 7), in_opened(state, "err NotFound")
     yield "the peer's Begin, which answers none", recv(begin(None), 7), in_opened(state, "err NotImplemented")
     yield "an End without a route", recv(end(), 7), in_opened(state, "err NotFound")
     yield "an Attach without a route", recv(attach("a", 5), 7), ["err NotFound"]
     yield "a Detach without a route", recv(detach(5), 7), ["err NotFound"]
+    yield "a Disposition without a route", recv(disposition(0), 7), ["err NotFound"]
     yield "a Flow without a route", recv(flow(0, 1), 7), ["err NotFound"]
     yield "a Transfer without a route", recv(transfer(0, "t") + "70", 7), ["err NotFound"]
 

@@ -2,7 +2,7 @@
 
 from pathlib import Path
 
-from row import attach, begin, detach, end, flow, out, recv, transfer
+from row import attach, begin, detach, end, flow, opening, out, recv, transfer
 
 EXAMPLE = Path(__file__).resolve().parent.parent / "examples" / "a_link.txt"
 
@@ -10,10 +10,10 @@ UNKNOWN, IN_USE = "err RemoteAttachingLinkNameNotFound", "err HandleInUse"
 LIVE, UNATTACHED = "err DuplicatedLinkName", "err UnattachedHandle"
 
 
-def mapped(rows, title, window=8):
+def mapped(rows, title, window=8, peer=opening("a", 262144, 255)):
     """A row of an opened connection, whose session 0 is mapped; the peer's channel is 5."""
     rows.row(title)
-    rows.open()
+    rows.open(peer)
     rows.begin(0)
     rows.ask(recv(begin(0, 0, window, 8), 5))
 

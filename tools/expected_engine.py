@@ -11,6 +11,7 @@ from pathlib import Path
 
 import engine_alone
 import engine_connections
+import engine_dispositions
 import engine_handles
 import engine_lines
 import engine_links
@@ -22,7 +23,7 @@ CRATE = Path(__file__).resolve().parent.parent / "crates" / "engine_rows"
 
 def main():
     rows = EngineRows()
-    for part in (engine_alone, engine_connections, engine_sessions, engine_links, engine_handles, engine_lines):
+    for part in (engine_alone, engine_connections, engine_sessions, engine_links, engine_handles, engine_dispositions, engine_lines):
         part.write(rows)
     rows.write(CRATE)
 

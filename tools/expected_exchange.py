@@ -5,17 +5,21 @@
 
 The recordings (crates/codec_tests/captures) are of a qpid-proton client: with a qpid-proton server, frames of 512 bytes and a session
 window of 4 (proton-duo-window); with RabbitMQ, three sessions and five links (proton-rmq-frames); with a qpid-proton server that refuses,
-redirects, and ends a session, where links go and come back under their names (proton-duo-errors). A line `-- NAME` begins each.
+redirects, and ends a session, where links go and come back under their names (proton-duo-errors); and with one that gives every outcome,
+over ranges, to links of each settle mode (proton-duo-outcomes). A line `-- NAME` begins each.
 
 The engine takes the client's place: what the server sent comes as `recv` lines, and what the client sent is asked for by `open`, `begin`,
 `link`, `send`, `end` and `close` lines, each where it was recorded, but:
 - a link is allotted where its attach was recorded, or behind the server's Begin where it was recorded before that, since a session that is
-  not mapped allots none. The handles agree with the recorded ones in all three.
+  not mapped allots none. The handles agree with the recorded ones in all four.
 - the detach by which the client answered the server's is the relay's: it goes out by itself.
 - in proton-duo-window each transfer is asked for one place before it was recorded, so that it waits for the window that the server opens in
   between; the last one at its own place.
 - an End or a Close is asked for without an error, and the numbers of an Open, a Begin and a Flow are this side's.
-- dispositions are left out on this side, and refused when they come: client.TAKES_DISPOSITIONS.
+- the dispositions by which the client settled what the server had told it of unsettled are the relay's: they go out by themselves. In
+  proton-duo-outcomes the client sent one for each delivery and without a state, where the relay sends one for each run and repeats the
+  state; and it was silent on delivery 18, of which the server spoke twice before it settled it.
+- in proton-duo-outcomes the server's End comes behind the client's Close, and is refused: the connection is no longer open.
 
 What is expected is worked out from the recorded fields, by client.py and not by the engine.
 """
@@ -29,7 +33,7 @@ from recorded import ATTACH, BEGIN, CLOSE, DETACH, DISPOSITION, END, FLOW, OPEN,
 CRATE = Path(__file__).resolve().parent.parent / "crates" / "exchange_tests"
 
 # each recording, and by how many places a transfer is asked for before it was recorded
-RECORDINGS = {"proton-duo-window": 1, "proton-rmq-frames": 0, "proton-duo-errors": 0}
+RECORDINGS = {"proton-duo-window": 1, "proton-rmq-frames": 0, "proton-duo-errors": 0, "proton-duo-outcomes": 0}
 
 OUR_OPEN = "out 02000000005310c01204a1067265706c61794070000400006000ff"
 OUR_BEGIN = composite(BEGIN, [b"\x40", uint(0), uint(5000), uint(5000)])
@@ -68,6 +72,8 @@ class Exchange:
             return []
         if frame.code == CLOSE:
             return ended("Closed", frame, self.is_closing)
+        if frame.code == END and self.is_closing:
+            return ["err IllegalState"]
         if frame.code == END:
             return ended("Ended", frame, self.routes.pop(frame.channel).is_ending)
         session = self.routes[frame.channel]
@@ -134,7 +140,8 @@ def replayed(name, ahead):
             place += 1
         elif frame.code is not None:
             exchange.request(frame)
-    assert all(not it.queue and not it.unanswered for it in exchange.sessions.values()), "something waits at the end"
+    left = [it.queue + it.unanswered + it.echoed for it in exchange.sessions.values()]
+    assert not any(left), "something waits at the end"
     return exchange
 
 

@@ -4,24 +4,29 @@
     tools/expected_session.py           writes crates/session_rows/{stdin,stdout}
 
 Each row is a new session, calls, and beside each call what it has to answer (AMQP 1.0 part 2, sections 2.5 to 2.7; docs/PROTOCOL.md for
-the states). The answers stand here as a person wrote them, or follow from the tables below; nothing is taken from the program's output.
+the states). The answers stand here as a person wrote them, or follow from the tables below, or are those of the plain model in
+session_model.py; nothing is taken from the program's output.
 """
 
 from pathlib import Path
 
+import session_dispositions
 import session_flows
 import session_links
+import session_model
 import session_states
 import session_transfers
 import session_windows
 from row import SessionRows
+
+PARTS = [session_states, session_windows, session_transfers, session_flows, session_links, session_dispositions, session_model]
 
 CRATE = Path(__file__).resolve().parent.parent / "crates" / "session_rows"
 
 
 def main():
     rows = SessionRows()
-    for part in (session_states, session_windows, session_transfers, session_flows, session_links):
+    for part in PARTS:
         part.write(rows)
     rows.write(CRATE)
 

@@ -33,14 +33,17 @@ class Frame:
         return self.fields[name]
 
     def canonical(self):
-        """The performative as a writer of the canonical spelling gives it; raw values and maps as they were recorded."""
+        """The performative as a writer of the canonical spelling gives it."""
+        return composite(self.code, self.spelled())
+
+    def spelled(self):
+        """The fields in canonical spelling; raw values and maps as they were recorded."""
         _, _, at = value(self.bytes, 5)
         found, _ = parts(self.bytes, at + 1, self.bytes[at])
         spelled = [self.bytes[start:end] for start, _, end in found]
         table = TABLES[self.code][1]
         spelled += [b"\x40"] * (len(table) - len(spelled))
-        fields = [spell(name, kind, need, self[name], bytes_) for (name, kind, need), bytes_ in zip(table, spelled)]
-        return composite(self.code, fields)
+        return [spell(name, kind, need, self[name], bytes_) for (name, kind, need), bytes_ in zip(table, spelled)]
 
 
 def spell(name, kind, need, said, recorded):

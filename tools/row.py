@@ -2,7 +2,9 @@
 
 from canonical import boolean, composite, string, symbol, tag, uint, ushort
 
-OPEN, BEGIN, ATTACH, FLOW, TRANSFER, DETACH, END, CLOSE, ERROR = 0x10, 0x11, 0x12, 0x13, 0x14, 0x16, 0x17, 0x18, 0x1D
+OPEN, BEGIN, ATTACH, FLOW, TRANSFER, DISPOSITION, DETACH, END, CLOSE = range(0x10, 0x19)
+
+ERROR = 0x1D
 
 LAST = 4294967295
 
@@ -59,16 +61,6 @@ def one_symbol(text):
     return bytes([0xE0, len(item) + 1, 1]) + item
 
 
-def attach(name, handle, is_receiver=True):
-    """An Attach (AMQP 1.0 part 2, section 2.7.3) without source and target."""
-    return composite(ATTACH, [string(name), uint(handle), boolean(is_receiver)]).hex()
-
-
-def detach(handle, closed=False, condition=None):
-    """A Detach (AMQP 1.0 part 2, section 2.7.7)."""
-    return composite(DETACH, [uint(handle), boolean(True if closed else None), error(condition)]).hex()
-
-
 def flow(next_incoming_id, incoming_window, next_outgoing_id=0, outgoing_window=8, handle=None, *of_link, drain=False, echo=False):
     """A Flow (AMQP 1.0 part 2, section 2.7.4); of_link are delivery-count, link-credit and available."""
     numbers = [uint(it) for it in (next_incoming_id, incoming_window, next_outgoing_id, outgoing_window, handle, *of_link)]
@@ -82,6 +74,22 @@ def transfer(delivery_id=None, text=None, handle=0, format=None, settled=None, m
     delivery_tag = tag(None if text is None else {"bin": text.encode().hex()})
     words = [boolean(settled), boolean(True if more else None)]
     return composite(TRANSFER, [uint(handle), uint(delivery_id), delivery_tag, uint(format), *words]).hex()
+
+
+# the states of a delivery (AMQP 1.0 part 3, section 3.4): received at section 0, offset 5; accepted; rejected; released
+RECEIVED, ACCEPTED, REJECTED, RELEASED = "005323c00402435205", "00532445", "00532545", "00532645"
+
+
+def disposition(first, last=None, settled=False, state=ACCEPTED, of_receiver=True, batchable=False):
+    """A Disposition (AMQP 1.0 part 2, section 2.7.6); without a last number it means the first alone."""
+    fields = [boolean(of_receiver), uint(first), uint(last), boolean(True if settled else None)]
+    fields.append(b"\x40" if state is None else bytes.fromhex(state))
+    return composite(DISPOSITION, [*fields, boolean(True if batchable else None)]).hex()
+
+
+def echo(first, last, state=ACCEPTED):
+    """The Disposition by which this side settles a run of deliveries: its last number is always named."""
+    return disposition(first, last, True, state, of_receiver=False)
 
 
 def attach(name, handle, receives=True):

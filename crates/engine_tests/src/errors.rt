@@ -7,7 +7,6 @@ use fe2o3_amqp::{
     AllocSessionError, BeginError, ConnectionInnerError, ConnectionStateError,
     ConnectionStopReason, NegotiationError, OpenError, TryCloseError,
 };
-use std::alloc::Global;
 use std::test::Fail;
 
 #[test]

@@ -88,31 +88,3 @@ fn an_attach_that_goes_out_attaches_the_link_that_waits(rt: HostRuntime) {
     drop(to);
     drop(from);
 }
-
-#[test]
-fn the_relay_of_transcripts_is_attached_alike(rt: HostRuntime) {
-    let mut from: Engine<ReplayRelay> = mapped_by(rt.alloc(), BEGIN);
-    let mut to = mapped_by(rt.alloc(), BEGIN);
-    assert!(rt; attach(rt.alloc(), &mut from, &mut to, ReplayRelay));
-    assert!(rt; attach(rt.alloc(), &mut to, &mut from, ReplayRelay));
-    assert!(rt; two_pass(rt.alloc(), &mut from, &mut to));
-    drop(to);
-    drop(from);
-}
-
-#[test]
-fn without_an_attach_nothing_reaches_a_link(rt: HostRuntime) {
-    let mut from: Engine<ReplayRelay> = mapped_by(rt.alloc(), BEGIN);
-    let mut to: Engine<ReplayRelay> = mapped_by(rt.alloc(), BEGIN);
-    let relay = Some(ReplayRelay);
-    assert_eq!(rt; allot(rt.alloc(), &mut to, "a", relay), "done");
-    for _ in 0..2 {
-        let answer = transfer(rt.alloc(), &mut from, &mut to);
-        assert_eq!(rt; answer, "UnattachedHandle");
-    }
-    assert_eq!(rt; send_flow(&mut to, 0), "done");
-    let answer = pass(rt.alloc(), &mut to, &mut from);
-    assert_eq!(rt; answer, "UnattachedHandle");
-    drop(to);
-    drop(from);
-}

@@ -6,6 +6,8 @@
 #[cfg(test)]
 mod asking;
 #[cfg(test)]
+mod dispositions;
+#[cfg(test)]
 mod driving;
 #[cfg(test)]
 mod errors;
@@ -18,8 +20,6 @@ mod given;
 mod linking;
 #[cfg(test)]
 mod links;
-#[cfg(test)]
-mod relay;
 #[cfg(test)]
 mod replaying;
 #[cfg(test)]

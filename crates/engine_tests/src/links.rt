@@ -57,14 +57,6 @@ fn is_detached<R: LinkRelay>(alloc: Global, engine: &mut Engine<R>) -> bool {
 }
 
 #[test]
-fn a_detach_goes_out_once_and_is_answered(rt: HostRuntime) {
-    let mut engine = mapped(rt.alloc());
-    assert!(rt; attaches(rt.alloc(), &mut engine, ReplayRelay));
-    assert!(rt; is_detached(rt.alloc(), &mut engine));
-    drop(engine);
-}
-
-#[test]
 fn a_relay_is_told_once_that_its_detach_is_answered(rt: HostRuntime) {
     let told = Told::new();
     let mut engine = mapped(rt.alloc());

@@ -1,6 +1,6 @@
 //! Whole runs of an engine.
 
-use crate::asking::{answer, engine_in};
+use crate::asking::answer;
 use crate::given::{ReplayEngine, ReplayInput, unnamed_open};
 use crate::running::{heard, push, runs_to};
 use bytes::Bytes;
@@ -18,23 +18,6 @@ fn inputs(alloc: Global, bytes: &'static [u8]) -> VecDeque<ReplayInput> {
 /// Whether the answers to received bytes and then to a Close are these.
 fn closes_to(alloc: Global, engine: &mut ReplayEngine, bytes: &'static [u8], want: &str) -> bool {
     runs_to(alloc, engine, inputs(alloc, bytes), want)
-}
-
-#[test]
-fn a_run_takes_all_inputs(rt: HostRuntime) {
-    let mut engine = engine_in(rt.alloc(), ConnectionState::Opened);
-    let want = "NotImplemented\ndone\nout 0200000000531845\n";
-    assert!(rt; closes_to(rt.alloc(), &mut engine, b"\x02\x01\0\0", want));
-    drop(engine);
-}
-
-#[test]
-fn what_waits_is_put_out_first(rt: HostRuntime) {
-    let mut engine = engine_in(rt.alloc(), ConnectionState::HeaderExchange);
-    assert_eq!(rt; answer(&mut engine, Input::Open), "done");
-    let want = "out 02000000005310c00c04a1004070000400006000ff\ndone\ndone\nout 0200000000531845\n";
-    assert!(rt; closes_to(rt.alloc(), &mut engine, b"\x02\0\0\0", want));
-    drop(engine);
 }
 
 /// A name of 600 bytes.

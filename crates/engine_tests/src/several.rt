@@ -1,15 +1,12 @@
 //! Runs of several inputs, of which some stand behind others that hand out frames.
 
-use crate::asking::{answer, begins, engine_in, first_transfer, hear, opened};
-use crate::given::{ReplayEngine, ReplayInput, peer_open};
+use crate::asking::{answer, begins, first_transfer, hear, opened};
+use crate::given::{ReplayEngine, ReplayInput};
 use crate::running::{heard, push, runs_to};
 use bytes::Bytes;
-use fe2o3_amqp::{ConnectionState, Input, InputHandle, SessionNo, SessionSettings};
+use fe2o3_amqp::{Input, InputHandle, SessionNo, SessionSettings};
 use std::alloc::Global;
 use std::collections::VecDeque;
-
-/// The peer's Begin on channel 5, which names channel 0 and grants a window of 8.
-const BEGIN: &'static [u8] = b"\x02\0\0\x05\0\x53\x11\xc0\x09\x04\x60\0\0\x43\x52\x08\x52\x08";
 
 /// The peer's Flow on channel 5, which expects transfer 0 and grants a window of 2.
 const FLOW: &'static [u8] = b"\x02\0\0\x05\0\x53\x13\xc0\x07\x04\x43\x52\x02\x43\x52\x08";
@@ -28,40 +25,6 @@ fn transfer(tag: &'static [u8], payload: &'static [u8]) -> ReplayInput {
         Bytes::from_static(payload),
         true,
     )
-}
-
-/// An Open, a Begin, two transfers and a Close, with what the peer answers in between.
-fn exchange(alloc: Global) -> VecDeque<ReplayInput> {
-    let mut inputs = VecDeque::new(alloc);
-    let _are_there = push(&mut inputs, Input::Open)
-        && push(&mut inputs, Input::Received(peer_open()))
-        && push(&mut inputs, begin(0))
-        && push(&mut inputs, heard(BEGIN))
-        && push(&mut inputs, transfer(b"\x0a", b"\xff"))
-        && push(&mut inputs, transfer(b"\x0b", b"\xfe"))
-        && push(&mut inputs, Input::Close(None));
-    inputs
-}
-
-#[test]
-fn a_run_takes_a_whole_exchange(rt: HostRuntime) {
-    let mut engine = engine_in(rt.alloc(), ConnectionState::HeaderExchange);
-    let want = "done
-out 02000000005310c00c04a1004070000400006000ff
-done
-done
-out 02000000005311c00d04404370000013887000001388
-done
-done
-out 02000000005314c006034343a0010aff
-done
-out 02000000005314c00703435201a0010bfe
-done
-out 0200000000531845
-";
-    let inputs = exchange(rt.alloc());
-    assert!(rt; runs_to(rt.alloc(), &mut engine, inputs, want));
-    drop(engine);
 }
 
 /// Inputs that are refused by each layer, between others that hand out frames.

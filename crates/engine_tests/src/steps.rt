@@ -20,16 +20,6 @@ fn an_open_goes_out(rt: HostRuntime) {
 }
 
 #[test]
-fn a_close_goes_out(rt: HostRuntime) {
-    let mut engine = engine_in(rt.alloc(), ConnectionState::Opened);
-    assert_eq!(rt; answer(&mut engine, Input::Close(None)), "done");
-    assert!(rt; puts_out(rt.alloc(), &mut engine, "out 0200000000531845\n"));
-    let reason = engine.connection().connection_stop_reason();
-    assert_eq!(rt; reason, Some(ConnectionStopReason::Closed));
-    drop(engine);
-}
-
-#[test]
 fn received_frames_move_the_state(rt: HostRuntime) {
     let mut engine = engine_in(rt.alloc(), ConnectionState::OpenSent);
     assert_eq!(rt; answer(&mut engine, Input::Received(empty())), "done");

@@ -111,12 +111,15 @@ pub fn transfer_taken(
 ) -> anyhow::Result<String> {
     match answer {
         Ok(None) => line(alloc, "none"),
-        Ok(Some(disposition)) => {
-            let text = digits(alloc, &Performative::Disposition(disposition))?;
-            Ok(format!(in alloc; "disposition {text}\n")?)
-        }
+        Ok(Some(said)) => disposition(alloc, said),
         Err(error) => refused(alloc, &error),
     }
+}
+
+/// The line of a disposition that a relay asks for.
+pub fn disposition(alloc: Global, said: Disposition) -> anyhow::Result<String> {
+    let text = digits(alloc, &Performative::Disposition(said))?;
+    Ok(format!(in alloc; "disposition {text}\n")?)
 }
 
 /// The line of an allotment.

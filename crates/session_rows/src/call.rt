@@ -1,7 +1,7 @@
 //! Calls of a session that take a performative.
 
 use crate::relay::RowRelay;
-use crate::{answer, reading};
+use crate::{answer, disposition, reading};
 use amqp_session::{IncomingChannel, InputHandle, LinkFlow, Session};
 use amqp_types::Performative;
 use std::alloc::Global;
@@ -25,6 +25,9 @@ pub fn received(
         Performative::Flow(flow) => answer::handed_out(alloc, session.on_incoming_flow(flow)),
         Performative::Transfer(transfer) => {
             answer::transfer_taken(alloc, session.on_incoming_transfer(transfer, payload))
+        }
+        Performative::Disposition(said) => {
+            disposition::echoed(alloc, session.on_incoming_disposition(said))
         }
         Performative::Detach(detach) => answer::detached(alloc, session.on_incoming_detach(detach)),
         _ => Err(anyhow::anyhow!("no call takes it")),

@@ -13,10 +13,11 @@ pub fn answer(
     line: &str,
 ) -> anyhow::Result<String> {
     match reading::word(line) {
-        ("link", name) => allot(alloc, session, name, Some(RowRelay { refusals: 0 })),
+        ("link", name) => allot(alloc, session, name, Some(RowRelay::new())),
         ("link-refusing", rest) => allot_refusing(alloc, session, rest),
         ("link-bare", name) => allot(alloc, session, name, None),
-        ("link-incoming", rest) => allot_incoming(alloc, session, rest),
+        ("link-incoming", rest) => allot_incoming(alloc, session, rest, false),
+        ("link-deaf", rest) => allot_incoming(alloc, session, rest, true),
         ("unlink", handle) => release(alloc, session, handle),
         ("handle-of", name) => answer::live(alloc, session.output_handle(name)),
         _ => sent(alloc, session, line),
@@ -50,19 +51,22 @@ fn allot_refusing(
     text: &str,
 ) -> anyhow::Result<String> {
     let (count, name) = reading::word(text);
-    let refusals = reading::number(count)?;
-    allot(alloc, session, name, Some(RowRelay { refusals }))
+    let mut relay = RowRelay::new();
+    relay.refusals = reading::number(count)?;
+    allot(alloc, session, name, Some(relay))
 }
 
 fn allot_incoming(
     alloc: Global,
     session: &mut Session<RowRelay>,
     text: &str,
+    is_deaf: bool,
 ) -> anyhow::Result<String> {
     let (input, name) = reading::word(text);
     let input = InputHandle(reading::number(input)?);
     let name = String::from_str(alloc, name)?;
-    let relay = RowRelay { refusals: 0 };
+    let mut relay = RowRelay::new();
+    relay.is_deaf = is_deaf;
     answer::allotted(alloc, session.allocate_incoming_link(name, relay, input))
 }
 

@@ -11,9 +11,13 @@
 //! | `link NAME`, `link-bare NAME` | `allocate_link`, with a relay and without one |
 //! | `link-refusing N NAME` | `allocate_link`, with a relay that refuses N attaches first |
 //! | `link-incoming INPUT NAME` | `allocate_incoming_link` |
+//! | `link-deaf INPUT NAME` | the same, with a relay that asks for no echo of a disposition |
 //! | `unlink OUTPUT`, `handle-of NAME` | `deallocate_link`, `output_handle` |
 //! | `attach HEX` | `on_outgoing_attach` |
 //! | `detach HEX`, `detach-awaited HEX` | `on_outgoing_detach`, with no answer to come and with one |
+//! | `disposition HEX` | `on_outgoing_disposition` |
+//! | `walk LEAST MOST COMPARISONS` | `last_walk`: from LEAST to MOST turns, and at most so many comparisons |
+//! | `messages FIRST`, `messages FIRST LAST` | `num_messages_settled_by_disposition` |
 //! | `session-flow` | `maybe_outgoing_session_flow` |
 //! | `stop REASON` | `set_session_stop_reason` |
 //! | `show`, `reasons` | the calls that read |
@@ -21,11 +25,12 @@
 //!
 //! An answer is `ok`, `none` or `err` and the refusal; of an allotment `handle` and its number, of a release whether there was a
 //! link. A frame is `out`, its channel, the performative's text and, behind a transfer, its payload; `list` goes before several
-//! frames. What a relay has to say is `disposition` or `detach`, and its text.
+//! frames, and before the echoes of a disposition. What a relay has to say is `disposition` or `detach`, and its text.
 #![tactic(auto)]
 
 mod answer;
 mod call;
+mod disposition;
 mod link;
 mod made;
 mod reading;

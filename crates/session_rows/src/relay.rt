@@ -7,12 +7,25 @@ use amqp_types::{Attach, DeliveryNumber, DeliveryTag, Detach, Raw, Role, Transfe
 use bytes::Bytes;
 
 /// Accepts an attach, once it has refused as many as it is to; answers a flow that asks for an echo with the same flow on its
-/// output handle; keeps a transfer open that is not settled and has a number and a tag; asks for an echo of every unsettled
-/// disposition; and answers a detach that the peer began with one on its output handle, closed alike and without an error.
+/// output handle; keeps a transfer open that is not settled and has a number and a tag; answers a detach that the peer began with one
+/// on its output handle, closed alike and without an error. It asks for an echo of an unsettled disposition where that has no
+/// state, or the delivery's tag does not begin with `n`; a deaf one asks for none.
 #[derive(Drop)]
 pub struct RowRelay {
     /// How many attaches it is still to refuse.
     pub refusals: u32,
+    /// Whether it asks for no echo.
+    pub is_deaf: bool,
+}
+
+impl RowRelay {
+    /// One that accepts each attach, and may ask for echoes.
+    pub fn new() -> Self {
+        RowRelay {
+            refusals: 0,
+            is_deaf: false,
+        }
+    }
 }
 
 impl LinkRelay for RowRelay {
@@ -65,10 +78,10 @@ impl LinkRelay for RowRelay {
         &mut self,
         _role: Role,
         settled: bool,
-        _state: Option<&Raw>,
-        _tag: &DeliveryTag,
+        state: Option<&Raw>,
+        tag: &DeliveryTag,
     ) -> bool {
-        !settled
+        !settled && !self.is_deaf && (state.is_none() || !tag.0.as_slice().starts_with(b"n"))
     }
 
     fn on_incoming_detach(

@@ -1,7 +1,7 @@
 //! A line of the rows, and its answer.
 
 use crate::relay::RowRelay;
-use crate::{answer, call, link, made, reading};
+use crate::{answer, call, disposition, link, made, reading};
 use amqp_session::Session;
 use std::alloc::Global;
 
@@ -44,6 +44,9 @@ fn once(alloc: Global, session: &mut Session<RowRelay>, line: &str) -> anyhow::R
         ("later", rest) => call::transfer(alloc, session, rest, false),
         ("end", rest) => end(alloc, session, rest),
         ("stop", rest) => stop(alloc, session, rest),
+        ("disposition", rest) => disposition::sent(alloc, session, rest),
+        ("walk", rest) => disposition::walk(alloc, session, rest),
+        ("messages", rest) => disposition::messages(alloc, rest),
         _ => plain(alloc, session, line),
     }
 }

@@ -1,0 +1,66 @@
+//! Calls of a session for dispositions, and their answers.
+
+use crate::relay::RowRelay;
+use crate::{answer, reading};
+use amqp_session::{Session, SessionInnerError, num_messages_settled_by_disposition};
+use amqp_types::{Disposition, Performative};
+use std::alloc::Global;
+
+/// The lines of the echoes that a received disposition is answered.
+pub fn echoed(
+    alloc: Global,
+    answer: Result<Option<Vec<Disposition>>, SessionInnerError>,
+) -> anyhow::Result<String> {
+    match answer {
+        Ok(None) => answer::line(alloc, "none"),
+        Ok(Some(echoes)) => all(alloc, echoes),
+        Err(error) => Ok(format!(in alloc; "err {error:?}\n")?),
+    }
+}
+
+/// The lines of several dispositions.
+fn all(alloc: Global, echoes: Vec<Disposition>) -> anyhow::Result<String> {
+    let mut text = answer::line(alloc, "list")?;
+    for echo in echoes {
+        text.push_str(answer::disposition(alloc, echo)?.as_str())?;
+    }
+    Ok(text)
+}
+
+/// What is handed out for a disposition.
+pub fn sent(
+    alloc: Global,
+    session: &mut Session<RowRelay>,
+    digits: &str,
+) -> anyhow::Result<String> {
+    let (performative, _rest) = reading::performative(alloc, digits)?;
+    let Performative::Disposition(said) = performative else {
+        anyhow::bail!("no disposition");
+    };
+    answer::frame(alloc, session.on_outgoing_disposition(said))
+}
+
+/// Whether the counts of the latest walk are within these bounds; the counts, where they are not.
+pub fn walk(alloc: Global, session: &Session<RowRelay>, text: &str) -> anyhow::Result<String> {
+    let (least, rest) = reading::word(text);
+    let (most, comparisons) = reading::word(rest);
+    let walk = session.last_walk();
+    let (turns, compared) = (walk.turns, walk.comparisons);
+    let is_in = turns >= reading::number(least)? as u64 && turns <= reading::number(most)? as u64;
+    if is_in && compared <= reading::number(comparisons)? {
+        return answer::line(alloc, "ok");
+    }
+    Ok(format!(in alloc; "turns={turns} comparisons={compared}\n")?)
+}
+
+/// How many messages a disposition settles over a range of numbers.
+pub fn messages(alloc: Global, text: &str) -> anyhow::Result<String> {
+    let (first, last) = reading::word(text);
+    let first = reading::number(first)?;
+    let last = match last {
+        "" => None,
+        last => Some(reading::number(last)?),
+    };
+    let count = num_messages_settled_by_disposition(first, last);
+    Ok(format!(in alloc; "{count}\n")?)
+}
