@@ -1,5 +1,5 @@
 -- Tables that lose a stretch of their records.
-use Rattle.std.proofs.Common.{◌≡◌, ℕ, suc, zero, ◌≤◌, ◌+◌, ◌-◌, ◌*◌, ◌^◌, List, [], ◌∷◌, ◌++◌, length, take, drop, refl, ap, sym, ◌∙◌, subst, arith, cond, Bool, true, false, not, nat_le, inl, inr, append-nil, length-drop, length-take}
+use Rattle.std.proofs.Common.{◌≡◌, ℕ, suc, zero, ◌≤◌, ◌<◌, ◌+◌, ◌-◌, ◌*◌, ◌^◌, List, [], ◌∷◌, ◌++◌, length, take, drop, refl, ap, sym, ◌∙◌, subst, arith, cond, Bool, true, false, not, nat_le, inl, inr, append-nil, length-drop, length-take}
 use Rattle.std.specs.List.{filter}
 use Rattle.std.proofs.lemmas.Bool.{cases_lt}
 use Rattle.std.proofs.lemmas.Bool.Decides.{nat_tests}
@@ -8,60 +8,41 @@ use Rattle.std.proofs.lemmas.List.{drop_all, drop-drop, take-append-drop, take-a
 use Rattle.std.proofs.lemmas.List.Elements.{filter-append}
 use Rattle.amqp_types.specs.Disposition.{DispositionSaid}
 use Rattle.amqp_session.specs.declared.deliveries.Delivery.{Delivery}
-use Rattle.amqp_session.specs.Deliveries.{Above, Under, IsRising, IsTable, cut}
+use Rattle.amqp_session.specs.Deliveries.{EachNumber, IsRising, IsTable, cut}
 use Rattle.amqp_session.specs.declared.deliveries.WalkCount.{WalkCount}
 use Rattle.amqp_session.specs.Disposing.{is_meant, in_order, meant, not_meant}
 use Rattle.amqp_session.specs.Walks.{turned, EachMeant, IsSplit, IsWalked}
 use Rattle.amqp_session.proofs.Walking.{turned_length}
 
-above_drop : (n j : ℕ) (rows : List Delivery) → Above n rows → Above n (drop j rows)
-above_drop n zero rows a = a
-above_drop n (suc j) [] a = tt
-above_drop n (suc j) (e ∷ es) a = above_drop n j es a.1
+each_drop : (P : ℕ → Type 0) (j : ℕ) (rows : List Delivery) → EachNumber P rows → EachNumber P (drop j rows)
+each_drop P zero rows a = a
+each_drop P (suc j) [] a = tt
+each_drop P (suc j) (e ∷ es) a = each_drop P j es a.1
 
 rising_drop : (j : ℕ) (rows : List Delivery) → IsRising rows → IsRising (drop j rows)
 rising_drop zero rows r = r
 rising_drop (suc j) [] r = tt
 rising_drop (suc j) (e ∷ es) r = rising_drop j es r.1
 
-under_drop : (n j : ℕ) (rows : List Delivery) → Under n rows → Under n (drop j rows)
-under_drop n zero rows a = a
-under_drop n (suc j) [] a = tt
-under_drop n (suc j) (e ∷ es) a = under_drop n j es a.1
-
-above_cut : (n i j : ℕ) (rows : List Delivery) → Above n rows → Above n (take i rows ++ drop j rows)
-above_cut n zero j rows a = above_drop n j rows a
-above_cut n (suc i) j [] a = above_drop n j [] a
-above_cut n (suc i) zero (e ∷ es) a = (a.0, join n i es (e ∷ es) a.1 a)
+each_cut : (P : ℕ → Type 0) (i j : ℕ) (rows : List Delivery) → EachNumber P rows → EachNumber P (take i rows ++ drop j rows)
+each_cut P i j rows a = join i rows (drop j rows) a (each_drop P j rows a)
   where
-    join : (m k : ℕ) (xs ys : List Delivery) → Above m xs → Above m ys → Above m (take k xs ++ ys)
-    join m zero xs ys h g = g
-    join m (suc k) [] ys h g = g
-    join m (suc k) (x ∷ xs) ys h g = (h.0, join m k xs ys h.1 g)
-above_cut n (suc i) (suc j) (e ∷ es) a = (a.0, above_cut n i j es a.1)
+    join : (k : ℕ) (xs ys : List Delivery) → EachNumber P xs → EachNumber P ys → EachNumber P (take k xs ++ ys)
+    join zero xs ys h g = g
+    join (suc k) [] ys h g = g
+    join (suc k) (x ∷ xs) ys h g = (h.0, join k xs ys h.1 g)
 
 rising_cut : (i j : ℕ) (rows : List Delivery) → i ≤ j → IsRising rows → IsRising (take i rows ++ drop j rows)
 rising_cut zero j rows h r = rising_drop j rows r
 rising_cut (suc i) j [] h r = rising_drop j [] r
 rising_cut (suc i) zero (e ∷ es) h r = absurd (omega (arith, h))
-rising_cut (suc i) (suc j) (e ∷ es) h r = (above_cut e.number i j es r.0, rising_cut i j es (omega (arith, h)) r.1)
-
-under_cut : (n i j : ℕ) (rows : List Delivery) → Under n rows → Under n (take i rows ++ drop j rows)
-under_cut n zero j rows a = under_drop n j rows a
-under_cut n (suc i) j [] a = under_drop n j [] a
-under_cut n (suc i) zero (e ∷ es) a = (a.0, join n i es (e ∷ es) a.1 a)
-  where
-    join : (m k : ℕ) (xs ys : List Delivery) → Under m xs → Under m ys → Under m (take k xs ++ ys)
-    join m zero xs ys h g = g
-    join m (suc k) [] ys h g = g
-    join m (suc k) (x ∷ xs) ys h g = (h.0, join m k xs ys h.1 g)
-under_cut n (suc i) (suc j) (e ∷ es) a = (a.0, under_cut n i j es a.1)
+rising_cut (suc i) (suc j) (e ∷ es) h r = (each_cut (λ k. e.number < k) i j es r.0, rising_cut i j es (omega (arith, h)) r.1)
 
 pub table_cut : (i j : ℕ) (rows : List Delivery) → i ≤ j → IsTable rows → IsTable (take i rows ++ drop j rows)
-table_cut i j rows h t = (rising_cut i j rows h t.0, under_cut (2 ^ 32) i j rows t.1)
+table_cut i j rows h t = (rising_cut i j rows h t.0, each_cut (λ k. k < 2 ^ 32) i j rows t.1)
 
 pub table_drop : (j : ℕ) (rows : List Delivery) → IsTable rows → IsTable (drop j rows)
-table_drop j rows t = (rising_drop j rows t.0, under_drop (2 ^ 32) j rows t.1)
+table_drop j rows t = (rising_drop j rows t.0, each_drop (λ k. k < 2 ^ 32) j rows t.1)
 
 pub table_take : (i : ℕ) (rows : List Delivery) → IsTable rows → IsTable (take i rows)
 table_take i rows t = subst IsTable (ap (λ xs. take i rows ++ xs) (none i rows) ∙ append-nil (take i rows)) (table_cut i (i + length rows) rows (omega arith) t)

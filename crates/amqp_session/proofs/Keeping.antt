@@ -1,12 +1,12 @@
 -- What a settled disposition leaves of a table.
-use Rattle.std.proofs.Common.{◌≡◌, ℕ, ◌^◌, ◌&&◌, List, [], ◌∷◌, refl, ap, ◌∙◌, subst, arith, cond, Bool, true, false, not, nat_eq, Option, Some, None, Ok}
+use Rattle.std.proofs.Common.{◌≡◌, ℕ, ◌^◌, ◌<◌, ◌&&◌, List, [], ◌∷◌, refl, ap, ◌∙◌, subst, arith, cond, Bool, true, false, not, nat_eq, Option, Some, None, Ok}
 use Rattle.std.proofs.lemmas.Bool.Decides.{nat_tests}
 use Rattle.std.proofs.lemmas.Grind.{common_steps}
 use Rattle.amqp_types.specs.Disposition.{DispositionSaid}
 use Rattle.amqp_types.specs.declared.definitions.Role.{Role}
 use Rattle.amqp_types.specs.declared.definitions.Role.TheVariants.{Sender, Receiver}
 use Rattle.amqp_session.specs.declared.deliveries.Delivery.{Delivery}
-use Rattle.amqp_session.specs.Deliveries.{Above, Under, IsRising, IsTable, record_at, OpenView, of_role, with_role, is_role}
+use Rattle.amqp_session.specs.Deliveries.{EachNumber, IsRising, IsTable, record_at, OpenView, of_role, with_role, is_role}
 use Rattle.amqp_session.specs.Disposing.{is_meant, not_meant}
 use Rattle.amqp_session.specs.History.{Entry, TakesDisposition}
 use Rattle.amqp_session.specs.Received.{takes_away}
@@ -16,11 +16,11 @@ abbrev pub keeps : {R : Type 0} → Role → Entry R → List Delivery → List 
 keeps role (TakesDisposition d asked (Ok None)) rows = cond (is_role role d.role) (not_meant d rows) rows
 keeps role e rows = rows
 
-above_left : (d : DispositionSaid) (n : ℕ) (rows : List Delivery) → Above n rows → Above n (not_meant d rows)
-above_left d n [] a = tt
-above_left d n (e ∷ es) a = by (above_left d n es a.1) (is_meant d.first d.last e.number)
+each_left : (P : ℕ → Type 0) (d : DispositionSaid) (rows : List Delivery) → EachNumber P rows → EachNumber P (not_meant d rows)
+each_left P d [] a = tt
+each_left P d (e ∷ es) a = by (each_left P d es a.1) (is_meant d.first d.last e.number)
   where
-    by : Above n (not_meant d es) → (b : Bool) → Above n (cond (not b) (e ∷ not_meant d es) (not_meant d es))
+    by : EachNumber P (not_meant d es) → (b : Bool) → EachNumber P (cond (not b) (e ∷ not_meant d es) (not_meant d es))
     by rest true = rest
     by rest false = (a.0, rest)
 
@@ -30,15 +30,7 @@ rising_left d (e ∷ es) r = by (rising_left d es r.1) (is_meant d.first d.last 
   where
     by : IsRising (not_meant d es) → (b : Bool) → IsRising (cond (not b) (e ∷ not_meant d es) (not_meant d es))
     by rest true = rest
-    by rest false = (above_left d e.number es r.0, rest)
-
-under_left : (d : DispositionSaid) (n : ℕ) (rows : List Delivery) → Under n rows → Under n (not_meant d rows)
-under_left d n [] a = tt
-under_left d n (e ∷ es) a = by (under_left d n es a.1) (is_meant d.first d.last e.number)
-  where
-    by : Under n (not_meant d es) → (b : Bool) → Under n (cond (not b) (e ∷ not_meant d es) (not_meant d es))
-    by rest true = rest
-    by rest false = (a.0, rest)
+    by rest false = (each_left (λ k. e.number < k) d es r.0, rest)
 
 record_left : (d : DispositionSaid) (n : ℕ) (rows : List Delivery) →
     record_at n (not_meant d rows) ≡ cond (is_meant d.first d.last n) None (record_at n rows)
@@ -67,7 +59,7 @@ pub keeps_each : {R : Type 0} → (role : Role) (e : Entry R) (rows : List Deliv
 keeps_each role (TakesDisposition d asked (Ok None)) rows old b = by (is_role role d.role)
   where
     by : (t : Bool) → IsTable (cond t (not_meant d rows) rows) × ((n : ℕ) → record_at n (cond t (not_meant d rows) rows) ≡ cond (t && is_meant d.first d.last n) None (old n))
-    by true = ((rising_left d rows b.0.0, under_left d (2 ^ 32) rows b.0.1), λ n. record_left d n rows ∙ ap (cond (is_meant d.first d.last n) None) (b.1 n))
+    by true = ((rising_left d rows b.0.0, each_left (λ k. k < 2 ^ 32) d rows b.0.1), λ n. record_left d n rows ∙ ap (cond (is_meant d.first d.last n) None) (b.1 n))
     by false = b
 keeps_each role e rows old b = b
 

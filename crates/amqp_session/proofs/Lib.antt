@@ -1,4 +1,5 @@
 pub mod AsMap
+pub mod Asking
 pub mod Attaching
 pub mod Taking
 pub mod Naming

@@ -9,7 +9,7 @@ use Rattle.std.specs.List.{insert}
 use Rattle.std.proofs.lemmas.List.{get_or-map}
 use Rattle.std.proofs.lemmas.List.Edits.{insert_end}
 use Rattle.amqp_session.specs.declared.deliveries.Delivery.{Delivery}
-use Rattle.amqp_session.specs.Deliveries.{recorded, with_record, Above, Under, IsRising, IsTable, number_at}
+use Rattle.amqp_session.specs.Deliveries.{recorded, with_record, EachNumber, Above, Under, IsRising, IsTable, number_at}
 
 -- a comparison halves what is left
 pub halved : (c w w' n : ℕ) → 0 < w → w' ≤ w / 2 → 2 ^ c * w ≤ n → (2 ^ (c + 1) * w' ≤ n) × (2 ^ (c + 1) ≤ 2 * n + 1)
@@ -98,13 +98,13 @@ above_less m n (e ∷ es) h a = (omega (arith, h, a.0), above_less m n es h a.1)
 above_same : (m n : ℕ) (rows : List Delivery) → m ≡ n → Above n rows → Above m rows
 above_same m n rows e a = subst (λ k. Above k rows) (sym e) a
 
-above_recorded : (n : ℕ) (d : Delivery) (rows : List Delivery) → n < d.number → Above n rows → Above n (recorded d rows)
-above_recorded n d [] h a = (h, tt)
-above_recorded n d (e ∷ es) h a =
+each_recorded : (P : ℕ → Type 0) (d : Delivery) (rows : List Delivery) → P d.number → EachNumber P rows → EachNumber P (recorded d rows)
+each_recorded P d [] h a = (h, tt)
+each_recorded P d (e ∷ es) h a =
     elim (cases_order e.number d.number) [
-      | inl same ↦ subst (λ xs. Above n xs) (sym (recorded_same d e es same)) (h, a.1)
-      | inr (inl less) ↦ subst (λ xs. Above n xs) (sym (recorded_less d e es less)) (a.0, above_recorded n d es h a.1)
-      | inr (inr more) ↦ subst (λ xs. Above n xs) (sym (recorded_more d e es more)) (h, (a.0, a.1))
+      | inl same ↦ subst (λ xs. EachNumber P xs) (sym (recorded_same d e es same)) (h, a.1)
+      | inr (inl less) ↦ subst (λ xs. EachNumber P xs) (sym (recorded_less d e es less)) (a.0, each_recorded P d es h a.1)
+      | inr (inr more) ↦ subst (λ xs. EachNumber P xs) (sym (recorded_more d e es more)) (h, (a.0, a.1))
     ]
 
 -- the numbers still rise
@@ -113,7 +113,7 @@ recorded_rising d [] r = (tt, tt)
 recorded_rising d (e ∷ es) r =
     elim (cases_order e.number d.number) [
       | inl same ↦ subst IsRising (sym (recorded_same d e es same)) (above_same d.number e.number es (sym same) r.0, r.1)
-      | inr (inl less) ↦ subst IsRising (sym (recorded_less d e es less)) (above_recorded e.number d es less r.0, recorded_rising d es r.1)
+      | inr (inl less) ↦ subst IsRising (sym (recorded_less d e es less)) (each_recorded (λ k. e.number < k) d es less r.0, recorded_rising d es r.1)
       | inr (inr more) ↦ subst IsRising (sym (recorded_more d e es more)) ((more, above_less d.number e.number es more r.0), (r.0, r.1))
     ]
 
@@ -162,18 +162,9 @@ recorded_before rows place d h below above rising other =
       | inr (inr more) ↦ absurd (omega arith)
     ])
 
-under_recorded : (n : ℕ) (d : Delivery) (rows : List Delivery) → d.number < n → Under n rows → Under n (recorded d rows)
-under_recorded n d [] h a = (h, tt)
-under_recorded n d (e ∷ es) h a =
-    elim (cases_order e.number d.number) [
-      | inl same ↦ subst (λ xs. Under n xs) (sym (recorded_same d e es same)) (h, a.1)
-      | inr (inl less) ↦ subst (λ xs. Under n xs) (sym (recorded_less d e es less)) (a.0, under_recorded n d es h a.1)
-      | inr (inr more) ↦ subst (λ xs. Under n xs) (sym (recorded_more d e es more)) (h, (a.0, a.1))
-    ]
-
 -- a table with a record more is one
 pub recorded_table : (d : Delivery) (rows : List Delivery) → d.number < 2 ^ 32 → IsTable rows → IsTable (recorded d rows)
-recorded_table d rows h t = (recorded_rising d rows t.0, under_recorded (2 ^ 32) d rows h t.1)
+recorded_table d rows h t = (recorded_rising d rows t.0, each_recorded (λ k. k < 2 ^ 32) d rows h t.1)
 
 few_above : (m n : ℕ) (rows : List Delivery) → Above m rows → IsRising rows → Under n rows → m < n → m + length rows < n
 few_above m n [] a r u h = omega arith

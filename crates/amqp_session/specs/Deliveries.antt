@@ -31,10 +31,14 @@ abbrev pub newest : ℕ → Option Delivery → List Delivery → Option Deliver
 newest n old [] = old
 newest n old (d ∷ ds) = newest n (if nat_eq d.number n then Some d else old) ds
 
+-- each number is so
+abbrev pub EachNumber : (ℕ → Type 0) → List Delivery → Type 0
+EachNumber P [] = Unit {0}
+EachNumber P (e ∷ es) = P e.number × EachNumber P es
+
 -- all numbers are above n
 abbrev pub Above : ℕ → List Delivery → Type 0
-Above n [] = Unit {0}
-Above n (e ∷ es) = (n < e.number) × Above n es
+Above n rows = EachNumber (λ k. n < k) rows
 
 -- the numbers rise
 abbrev pub IsRising : List Delivery → Type 0
@@ -43,8 +47,7 @@ IsRising (e ∷ es) = Above e.number es × IsRising es
 
 -- all numbers are below n
 abbrev pub Under : ℕ → List Delivery → Type 0
-Under n [] = Unit {0}
-Under n (e ∷ es) = (e.number < n) × Under n es
+Under n rows = EachNumber (λ k. k < n) rows
 
 -- The records of a table: their numbers rise, and are of four bytes.
 abbrev pub IsTable : List Delivery → Type 0

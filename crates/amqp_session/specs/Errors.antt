@@ -35,16 +35,10 @@ error_of_inner Refused.UnknownTxnId = Answered.UnknownTxnId
 error_of_inner Refused.OutOfMemory = Answered.OutOfMemory
 
 abbrev pub error_of_relay : LinkRelayError → Error
-error_of_relay Relayed.UnattachedHandle = Answered.UnattachedHandle
-error_of_relay Relayed.TransferFrameToSender = Answered.TransferFrameToSender
-error_of_relay Relayed.OutOfMemory = Answered.OutOfMemory
+error_of_relay e = error_of_inner (inner_of_relay e)
 
 abbrev pub error_of_state : SessionStateError → Error
-error_of_state Begun.IllegalState = Answered.IllegalState
-error_of_state (Begun.ConnectionStopped r) = Answered.ConnectionStopped r
-error_of_state Begun.RemoteEnded = Answered.RemoteEnded
-error_of_state (Begun.RemoteEndedWithError e) = Answered.RemoteEndedWithError e
-error_of_state Begun.OutOfMemory = Answered.OutOfMemory
+error_of_state e = error_of_inner (inner_of_state e)
 
 abbrev pub begin_of_state : SessionStateError → BeginError
 begin_of_state Begun.IllegalState = Unbegun.IllegalState

@@ -224,11 +224,7 @@ impl From<LinkRelayError> for Error {
     ghost from_gives = { λ e x. x ≡ error_of_relay e };
 
     fn from(error: LinkRelayError) -> Error {
-        match error {
-            LinkRelayError::UnattachedHandle => Error::UnattachedHandle,
-            LinkRelayError::TransferFrameToSender => Error::TransferFrameToSender,
-            LinkRelayError::OutOfMemory => Error::OutOfMemory,
-        }
+        Error::from(SessionInnerError::from(error))
     }
 }
 
@@ -236,15 +232,7 @@ impl From<SessionStateError> for Error {
     ghost from_gives = { λ e x. x ≡ error_of_state e };
 
     fn from(error: SessionStateError) -> Error {
-        match error {
-            SessionStateError::IllegalState => Error::IllegalState,
-            SessionStateError::ConnectionStopped(reason) => Error::ConnectionStopped(reason),
-            SessionStateError::RemoteEnded => Error::RemoteEnded,
-            SessionStateError::RemoteEndedWithError(condition) => {
-                Error::RemoteEndedWithError(condition)
-            }
-            SessionStateError::OutOfMemory => Error::OutOfMemory,
-        }
+        Error::from(SessionInnerError::from(error))
     }
 }
 

@@ -2,7 +2,7 @@
 
 ghost use Rattle.std.specs.Prelude.{◌≡◌};
 ghost use Rattle.std.specs.Result.{result_ok};
-ghost use Rattle.amqp_session.specs.LinkFlow.{link_part};
+ghost use Rattle.amqp_session.specs.LinkFlow.{link_flow_of, link_part};
 
 use amqp_types::{Fields, Flow, Handle};
 
@@ -25,6 +25,23 @@ pub struct LinkFlow {
     pub properties: Option<Fields>,
 }
 
+impl LinkFlow {
+    /// The link's part of a flow that names this handle.
+    pub(crate) fn of(handle: Handle, flow: Flow) -> LinkFlow
+        ensures { result ≡ link_flow_of handle.0 flow }
+    {
+        LinkFlow {
+            handle,
+            delivery_count: flow.delivery_count,
+            link_credit: flow.link_credit,
+            available: flow.available,
+            drain: flow.drain,
+            echo: flow.echo,
+            properties: flow.properties,
+        }
+    }
+}
+
 impl TryFrom<Flow> for LinkFlow {
     type Error = ();
 
@@ -35,14 +52,6 @@ impl TryFrom<Flow> for LinkFlow {
         let Some(handle) = flow.handle else {
             return Err(());
         };
-        Ok(LinkFlow {
-            handle,
-            delivery_count: flow.delivery_count,
-            link_credit: flow.link_credit,
-            available: flow.available,
-            drain: flow.drain,
-            echo: flow.echo,
-            properties: flow.properties,
-        })
+        Ok(LinkFlow::of(handle, flow))
     }
 }

@@ -8,10 +8,10 @@ use Rattle.amqp_session.specs.History as session
 use Rattle.fe2o3_amqp.specs.declared.connection.error.ConnectionInnerError.{ConnectionInnerError}
 use Rattle.fe2o3_amqp.specs.declared.engine.step_error.StepError.{StepError}
 use Rattle.fe2o3_amqp.specs.declared.engine.step_error.StepError.TheVariants.{Connection}
-use Rattle.fe2o3_amqp.specs.Connection.{ConnectionView}
+use Rattle.fe2o3_amqp.specs.Connection.{ConnectionView, RouteStep, not_found}
 use Rattle.fe2o3_amqp.specs.EngineView.{EngineView}
 use Rattle.fe2o3_amqp.specs.Calls.{Calls}
-use Rattle.fe2o3_amqp.specs.Sessions.{Acts, Answered, Asks, Called, Unknown, Does, Reaches}
+use Rattle.fe2o3_amqp.specs.Sessions.{Acts, Answered, Asks, AsksAlong, Called, Unknown, Does, Reaches}
 
 -- each such call is answered as is asked
 abbrev pub Answers : {R : Type 0} → Relays R → Calls R → Acts R → Type 0
@@ -55,3 +55,10 @@ reaches g finds asks acts u v w k n refusal same found answers asked =
 pub reaches_none : {R : Type 0} (g : Relays R) (finds : Result ℕ ConnectionInnerError → ConnectionView → Type 0) (asks : Calls R) (u v : EngineView R) (k : ConnectionView) (e : ConnectionInnerError) (refusal : Option StepError) →
     u ≡ v → finds (Err e) k → refusal ≡ Some (Connection e) → (reached : Option ℕ) × (calls : List (session.Entry R)) × Reaches g finds v asks reached calls refusal (record u { connection = k })
 reaches_none g finds asks u v k e refusal same found refused = (None, [], inl (e, k, found, refl, refl, refused, ap (λ (x : EngineView _). record x { connection = k }) same))
+
+-- a frame that goes along its channel's route
+pub passes : {R : Type 0} (g : Relays R) (asks : Calls R) (acts : Acts R) (v w : EngineView R) (c : ℕ) (refusal : Option StepError) → Answers g asks acts →
+    AsksAlong acts v c refusal w → (reached : Option ℕ) × (calls : List (session.Entry R)) × Reaches g (RouteStep v.connection c) v asks reached calls refusal w
+passes g asks acts v w c refusal answers (inl x) = reaches g (RouteStep v.connection c) asks acts v v w v.connection x.0 refusal refl (x.1, refl) answers x.2
+passes g asks acts v w c refusal answers (inr x) =
+    (None, [], inl (not_found, v.connection, (x.0, refl, refl), refl, refl, x.1, x.2))

@@ -11,7 +11,7 @@ use Rattle.fe2o3_amqp.specs.Channels.{ChannelTable}
 use Rattle.fe2o3_amqp.specs.declared.connection.error.AllocSessionError.{AllocSessionError}
 use Rattle.fe2o3_amqp.specs.declared.connection.error.AllocSessionError.TheVariants as full
 use Rattle.fe2o3_amqp.specs.Connection.{ConnectionView, AllocateStep, DeallocateStep, given_back}
-use Rattle.fe2o3_amqp.proofs.AsMap.{same_test}
+use Rattle.amqp_session.proofs.AsMap.{same_test}
 
 pub not_some : {X : Type 0} → (o : Option X) (b : Bool) → b ≡ is_some o → b ≡ false → o ≡ None
 not_some None b e f = refl

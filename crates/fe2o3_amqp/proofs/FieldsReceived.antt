@@ -1,12 +1,10 @@
 -- The fields of a kind are read, and their frame is received; or they are not there.
-use Rattle.std.proofs.Common.{◌≡◌, ℕ, List, [], Option, Some, None, refl, sym, subst, inl, inr}
-use Rattle.std.specs.Prelude.{Ok, Err}
+use Rattle.std.proofs.Common.{◌≡◌, ℕ, List, [], Option, Some, None, Result, Ok, Err, refl, ap, sym, subst, inl, inr}
+use Rattle.std.specs.Prelude.{IsErrAnd}
 use Rattle.amqp_values.specs.declared.error.ReadError.{ReadError}
 use Rattle.amqp_values.specs.declared.error.ReadError.TheVariants as read
-use Rattle.amqp_values.specs.declared.parts.Parts.{Parts}
 use Rattle.amqp_values.specs.Reading.{Gives}
 use Rattle.amqp_values.specs.Composite.{composite_at}
-use Rattle.amqp_values.proofs.SlotLaws.{IsBody}
 use Rattle.amqp_types.specs.declared.performatives.kind.Kind.{Kind}
 use Rattle.amqp_session.specs.Relay.{Relays}
 use Rattle.amqp_session.specs.History as session
@@ -14,32 +12,58 @@ use Rattle.amqp_frames.specs.declared.error.Error.TheVariants as error
 use Rattle.amqp_frames.specs.declared.decoder.FrameHead.{FrameHead}
 use Rattle.amqp_frames.specs.declared.frame.FrameBody.{FrameBody}
 use Rattle.amqp_frames.specs.FrameError.{error_of}
-use Rattle.amqp_frames.specs.Head.{IsFields, IsBodyOf, Opens}
+use Rattle.amqp_frames.specs.Head.{Opens}
+use Rattle.amqp_frames.proofs.Decoded.{failed}
 use Rattle.amqp_frames.proofs.Headed.{fields_found, no_fields, not_decoded}
 use Rattle.fe2o3_amqp.specs.declared.engine.step_error.StepError.{StepError}
 use Rattle.fe2o3_amqp.specs.declared.engine.step_error.StepError.TheVariants as no
+use Rattle.fe2o3_amqp.specs.Connection.{RouteStep, refusal_of}
 use Rattle.fe2o3_amqp.specs.EngineView.{EngineView}
+use Rattle.fe2o3_amqp.specs.Calls.{Calls}
+use Rattle.fe2o3_amqp.specs.Sessions.{Acts, AsksAlong, Reaches}
 use Rattle.fe2o3_amqp.specs.Engine.{ReceivedFrame, FieldsStep, ReceivedStep}
+use Rattle.fe2o3_amqp.proofs.Asking.{Answers, passes}
+use Rattle.fe2o3_amqp.proofs.KindFields.{Reads}
 
 abbrev pub SomeReceivedFrame : {R : Type 0} → Relays R → EngineView R → ℕ → FrameBody → Option StepError → EngineView R → Type 0
 SomeReceivedFrame g v c b refusal w = (reached : Option ℕ) × (calls : List (session.Entry _)) × ReceivedFrame g v c b reached calls refusal w
 
-pub unread : {R : Type 0} (g : Relays R) {V : Type 0} (B : V → List (List ℕ) → Type 0) (at : Parts → Option (V × Parts)) → IsBody B at → (says : V → List ℕ → FrameBody × List ℕ)
-    → (k : Kind) → ((b : FrameBody) (fields rest : List ℕ) → IsBodyOf (Some k) b fields rest → IsFields B says b fields rest)
-    → (v : EngineView R) (c : ℕ) (fields left : List ℕ) (e : ReadError) (refusal : Option StepError) → Gives {X = V} (λ x. x) (Err e) left (composite_at at fields)
-    → refusal ≡ Some (no.Frame (error_of e)) → FieldsStep g v c (Some k) fields refusal v
-unread g B at law says k carry v c fields left read.Malformed refusal a r =
-    (None, None, [], inl (error.DecodeError, λ b rest f. no_fields B at law says fields a b rest (carry b fields rest f), refl, ((refl, refl), refl), r))
-unread g B at law says k carry v c fields left read.OutOfMemory refusal a r = (None, None, [], inl (error.OutOfMemory, tt, refl, ((refl, refl), refl), r))
+pub unread : {R X : Type 0} (g : Relays R) {k : Kind} {V : Type 0} (r : Reads k V) (v : EngineView R) (c : ℕ) (fields left : List ℕ) (e : ReadError)
+    (result : Result X StepError) → Gives {X = V} (λ x. x) (Err e) left (composite_at r.reader fields) → IsErrAnd result (λ x. x ≡ no.Frame (error_of e)) →
+    FieldsStep g v c (Some k) fields (refusal_of result) v
+unread g r v c fields left read.Malformed result a f = (
+  None,
+  None,
+  [],
+  inl (
+    error.DecodeError,
+    λ b rest x. no_fields r.IsText r.reader r.law r.says fields a b rest (r.is_fields b fields rest x),
+    refl,
+    ((refl, refl), refl),
+    ap refusal_of (failed result _ f),
+  ),
+)
+unread g r v c fields left read.OutOfMemory result a f =
+    (None, None, [], inl (error.OutOfMemory, tt, refl, ((refl, refl), refl), ap refusal_of (failed result _ f)))
 
-pub was_read : {R : Type 0} (g : Relays R) {V : Type 0} (B : V → List (List ℕ) → Type 0) (at : Parts → Option (V × Parts)) → IsBody B at → (says : V → List ℕ → FrameBody × List ℕ)
-    → (k : Kind) → ((b : FrameBody) (fields rest : List ℕ) → IsFields B says b fields rest → IsBodyOf (Some k) b fields rest)
-    → (v w : EngineView R) (c : ℕ) (fields left : List ℕ) (p : V) (refusal : Option StepError) → composite_at at fields ≡ Some (p, left)
-    → SomeReceivedFrame g v c (says p left).0 refusal w → FieldsStep g v c (Some k) fields refusal w
-was_read g B at law says k carry v w c fields left p refusal a h =
-    let b = (says p left).0 in
-    let rest = (says p left).1 in
-    (Some (record { channel = c; body = b }), h.0, h.1, inr (b, rest, carry b fields rest (fields_found B at law says fields left p b rest a refl), refl, h.2))
+pub was_read : {R : Type 0} (g : Relays R) {k : Kind} {V : Type 0} (r : Reads k V) (v w : EngineView R) (c : ℕ) (fields left : List ℕ) (p : V)
+    (refusal : Option StepError) → composite_at r.reader fields ≡ Some (p, left) → SomeReceivedFrame g v c (r.says p left).0 refusal w →
+    FieldsStep g v c (Some k) fields refusal w
+was_read g r v w c fields left p refusal a h =
+    let b = (r.says p left).0 in
+    let rest = (r.says p left).1 in
+    let is = r.is_body b fields rest (fields_found r.IsText r.reader r.law r.says fields left p b rest a refl) in
+    (Some (record { channel = c; body = b }), h.0, h.1, inr (b, rest, is, refl, h.2))
+
+-- it goes along its channel's route
+pub was_passed : {R : Type 0} (g : Relays R) {k : Kind} {V : Type 0} (r : Reads k V) (asks : Calls R) (acts : Acts R) (v w : EngineView R) (c : ℕ)
+    (fields left : List ℕ) (p : V) (refusal : Option StepError) → composite_at r.reader fields ≡ Some (p, left) →
+    ((reached : Option ℕ) (calls : List (session.Entry R)) → Reaches g (RouteStep v.connection c) v asks reached calls refusal w →
+    ReceivedFrame g v c (r.says p left).0 reached calls refusal w) →
+    Answers g asks acts → AsksAlong acts v c refusal w → FieldsStep g v c (Some k) fields refusal w
+was_passed g r asks acts v w c fields left p refusal a carry answers asked =
+    let h = passes g asks acts v w c refusal answers asked in
+    was_read g r v w c fields left p refusal a (h.0, h.1, carry h.0 h.1 h.2)
 
 -- ---- behind a head
 

@@ -20,7 +20,7 @@ use Rattle.fe2o3_amqp.specs.Event.{Event, Quiet, SentOpen, SentClose, AcceptedOp
 use Rattle.fe2o3_amqp.specs.History.{Taken, Chain, LeadsTo}
 use Rattle.fe2o3_amqp.specs.ByHistory.{held_by, held_from, held, route_by, route_from, route}
 use Rattle.fe2o3_amqp.specs.Headline.{HeldOnce}
-use Rattle.fe2o3_amqp.proofs.AsMap.{same_test}
+use Rattle.amqp_session.proofs.AsMap.{same_test}
 use Rattle.fe2o3_amqp.proofs.Beginning.{some_none}
 use Rattle.fe2o3_amqp.proofs.Deeds.{Moved, Effect, IsNoBegin}
 use Rattle.fe2o3_amqp.proofs.Passages.{Passage, passage, by_history}

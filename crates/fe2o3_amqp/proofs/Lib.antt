@@ -1,4 +1,3 @@
-pub mod AsMap
 pub mod Lowest
 pub mod Asked
 pub mod Asking
@@ -6,6 +5,7 @@ pub mod Passing
 pub mod Beginning
 pub mod Engines
 pub mod StateTables
+pub mod KindFields
 pub mod FieldsReceived
 pub mod Deeds
 pub mod Carrying

@@ -1,14 +1,13 @@
 -- What the connection passes on, or refuses to.
-use Rattle.std.proofs.Common.{◌≡◌, ℕ, Option, Some, None, Result, Ok, Err, refl, sym, ap, subst, ◌∙◌}
+use Rattle.std.proofs.Common.{◌≡◌, ℕ, Option, Some, None, Result, Ok, Err, refl, sym, ap, ◌∙◌}
 use Rattle.std.specs.Option.{option_map, ok_or}
-use Rattle.std.specs.FinMap as map
 use Rattle.amqp_types.specs.Begin.{BeginSaid}
 use Rattle.amqp_types.specs.End.{EndSaid}
 use Rattle.amqp_session.specs.declared.frame.SessionFrame.{SessionFrame}
 use Rattle.amqp_session.specs.declared.frame.SessionFrameBody.TheVariants as said
 use Rattle.fe2o3_amqp.specs.declared.numbers.SessionNo.{SessionNo}
 use Rattle.fe2o3_amqp.specs.declared.connection.error.ConnectionInnerError.{ConnectionInnerError}
-use Rattle.fe2o3_amqp.specs.Connection.{ConnectionView, RouteStep, not_found, passed_on}
+use Rattle.fe2o3_amqp.specs.Connection.{not_found, passed_on}
 
 pub passed_number : (fr : SessionFrame) (found : Result ℕ ConnectionInnerError) (x : SessionNo × SessionFrame) → Ok x ≡ passed_on fr found → found ≡ Ok x.0.0
 passed_number fr (Ok n) x e = ap (λ (r : Result (SessionNo × SessionFrame) ConnectionInnerError). number r) (sym e)
@@ -54,12 +53,10 @@ none_found : (found : Option ℕ) (x : ConnectionInnerError) → Err x ≡ route
 none_found None x e = (refl, cc)
 none_found (Some n) x e = absurd cc
 
-pub route_found : (v : ConnectionView) (c : ℕ) (found : Option SessionNo) (number : SessionNo) → found ≡ option_map (λ n. record { 0 = n }) (map.get v.session_by_incoming_channel c) → Ok number ≡ ok_or found not_found →
-    RouteStep v c (Ok number.0) v
-route_found v c found number is e = (number_found (map.get v.session_by_incoming_channel c) number (e ∙ ap (λ f. ok_or f not_found) is), refl)
+pub route_found : (found : Option ℕ) (asked : Option SessionNo) (number : SessionNo) → asked ≡ option_map (λ n. record { 0 = n }) found →
+    Ok number ≡ ok_or asked not_found → found ≡ Some number.0
+route_found found asked number is e = number_found found number (e ∙ ap (λ f. ok_or f not_found) is)
 
-pub route_missing : (v : ConnectionView) (c : ℕ) (found : Option SessionNo) (x : ConnectionInnerError) → found ≡ option_map (λ n. record { 0 = n }) (map.get v.session_by_incoming_channel c) → Err x ≡ ok_or found not_found →
-    RouteStep v c (Err x) v
-route_missing v c found x is e =
-    let n = none_found (map.get v.session_by_incoming_channel c) x (e ∙ ap (λ f. ok_or f not_found) is) in
-    subst (λ y. RouteStep v c (Err y) v) (sym n.1) (n.0, refl, refl)
+pub route_missing : (found : Option ℕ) (asked : Option SessionNo) (x : ConnectionInnerError) → asked ≡ option_map (λ n. record { 0 = n }) found →
+    Err x ≡ ok_or asked not_found → (found ≡ None) × (x ≡ not_found)
+route_missing found asked x is e = none_found found x (e ∙ ap (λ f. ok_or f not_found) is)

@@ -33,81 +33,37 @@ lands : (i j : ℕ) (s t u : ConnectionState) → Some u ≡ Some t → Spends i
 lands i j s t u e m = subst (λ (x : ConnectionState). Spends i j s x) (some_is u t e) m
 
 pub sends_open_spends : (s t : ConnectionState) → sends_open s ≡ Some t → Spends 1 0 s t
-sends_open_spends at.Start t e = absurd cc
-sends_open_spends at.HeaderReceived t e = absurd cc
 sends_open_spends at.HeaderSent t e = lands 1 0 at.HeaderSent t at.OpenPipe e (record { open_spent = omega arith; close_spent = omega arith })
 sends_open_spends at.HeaderExchange t e = lands 1 0 at.HeaderExchange t at.OpenSent e (record { open_spent = omega arith; close_spent = omega arith })
-sends_open_spends at.OpenPipe t e = absurd cc
-sends_open_spends at.OpenClosePipe t e = absurd cc
 sends_open_spends at.OpenReceived t e = lands 1 0 at.OpenReceived t at.Opened e (record { open_spent = omega arith; close_spent = omega arith })
-sends_open_spends at.OpenSent t e = absurd cc
-sends_open_spends at.ClosePipe t e = absurd cc
-sends_open_spends at.Opened t e = absurd cc
-sends_open_spends at.CloseReceived t e = absurd cc
-sends_open_spends at.CloseSent t e = absurd cc
-sends_open_spends at.Discarding t e = absurd cc
-sends_open_spends at.End t e = absurd cc
+sends_open_spends s t e = absurd cc
 
 pub takes_open_spends : (s t : ConnectionState) → takes_open s ≡ Some t → Spends 0 0 s t
-takes_open_spends at.Start t e = absurd cc
-takes_open_spends at.HeaderReceived t e = absurd cc
-takes_open_spends at.HeaderSent t e = absurd cc
 takes_open_spends at.HeaderExchange t e = lands 0 0 at.HeaderExchange t at.OpenReceived e (record { open_spent = omega arith; close_spent = omega arith })
-takes_open_spends at.OpenPipe t e = absurd cc
-takes_open_spends at.OpenClosePipe t e = absurd cc
-takes_open_spends at.OpenReceived t e = absurd cc
 takes_open_spends at.OpenSent t e = lands 0 0 at.OpenSent t at.Opened e (record { open_spent = omega arith; close_spent = omega arith })
 takes_open_spends at.ClosePipe t e = lands 0 0 at.ClosePipe t at.CloseSent e (record { open_spent = omega arith; close_spent = omega arith })
-takes_open_spends at.Opened t e = absurd cc
-takes_open_spends at.CloseReceived t e = absurd cc
-takes_open_spends at.CloseSent t e = absurd cc
-takes_open_spends at.Discarding t e = absurd cc
-takes_open_spends at.End t e = absurd cc
+takes_open_spends s t e = absurd cc
 
 pub sends_close_spends : (s t : ConnectionState) → sends_close s ≡ Some t → Spends 0 1 s t
-sends_close_spends at.Start t e = absurd cc
-sends_close_spends at.HeaderReceived t e = absurd cc
-sends_close_spends at.HeaderSent t e = absurd cc
-sends_close_spends at.HeaderExchange t e = absurd cc
 sends_close_spends at.OpenPipe t e = lands 0 1 at.OpenPipe t at.OpenClosePipe e (record { open_spent = omega arith; close_spent = omega arith })
-sends_close_spends at.OpenClosePipe t e = absurd cc
-sends_close_spends at.OpenReceived t e = absurd cc
 sends_close_spends at.OpenSent t e = lands 0 1 at.OpenSent t at.ClosePipe e (record { open_spent = omega arith; close_spent = omega arith })
-sends_close_spends at.ClosePipe t e = absurd cc
 sends_close_spends at.Opened t e = lands 0 1 at.Opened t at.CloseSent e (record { open_spent = omega arith; close_spent = omega arith })
 sends_close_spends at.CloseReceived t e = lands 0 1 at.CloseReceived t at.End e (record { open_spent = omega arith; close_spent = omega arith })
-sends_close_spends at.CloseSent t e = absurd cc
-sends_close_spends at.Discarding t e = absurd cc
-sends_close_spends at.End t e = absurd cc
+sends_close_spends s t e = absurd cc
 
 pub sends_close_with_error_spends : (s t : ConnectionState) → sends_close_with_error s ≡ Some t → Spends 0 1 s t
-sends_close_with_error_spends at.Start t e = absurd cc
-sends_close_with_error_spends at.HeaderReceived t e = absurd cc
-sends_close_with_error_spends at.HeaderSent t e = absurd cc
-sends_close_with_error_spends at.HeaderExchange t e = absurd cc
 sends_close_with_error_spends at.OpenPipe t e = lands 0 1 at.OpenPipe t at.Discarding e (record { open_spent = omega arith; close_spent = omega arith })
-sends_close_with_error_spends at.OpenClosePipe t e = absurd cc
-sends_close_with_error_spends at.OpenReceived t e = absurd cc
 sends_close_with_error_spends at.OpenSent t e = lands 0 1 at.OpenSent t at.Discarding e (record { open_spent = omega arith; close_spent = omega arith })
-sends_close_with_error_spends at.ClosePipe t e = absurd cc
 sends_close_with_error_spends at.Opened t e = lands 0 1 at.Opened t at.Discarding e (record { open_spent = omega arith; close_spent = omega arith })
 sends_close_with_error_spends at.CloseReceived t e = lands 0 1 at.CloseReceived t at.End e (record { open_spent = omega arith; close_spent = omega arith })
-sends_close_with_error_spends at.CloseSent t e = absurd cc
-sends_close_with_error_spends at.Discarding t e = absurd cc
-sends_close_with_error_spends at.End t e = absurd cc
+sends_close_with_error_spends s t e = absurd cc
 
 pub takes_close_spends : (s t : ConnectionState) → takes_close s ≡ Some t → Spends 0 0 s t
-takes_close_spends at.Start t e = absurd cc
-takes_close_spends at.HeaderReceived t e = absurd cc
-takes_close_spends at.HeaderSent t e = absurd cc
-takes_close_spends at.HeaderExchange t e = absurd cc
 takes_close_spends at.OpenPipe t e = lands 0 0 at.OpenPipe t at.CloseReceived e (record { open_spent = omega arith; close_spent = omega arith })
 takes_close_spends at.OpenClosePipe t e = lands 0 0 at.OpenClosePipe t at.CloseReceived e (record { open_spent = omega arith; close_spent = omega arith })
 takes_close_spends at.OpenReceived t e = lands 0 0 at.OpenReceived t at.CloseReceived e (record { open_spent = omega arith; close_spent = omega arith })
 takes_close_spends at.OpenSent t e = lands 0 0 at.OpenSent t at.CloseReceived e (record { open_spent = omega arith; close_spent = omega arith })
-takes_close_spends at.ClosePipe t e = absurd cc
 takes_close_spends at.Opened t e = lands 0 0 at.Opened t at.CloseReceived e (record { open_spent = omega arith; close_spent = omega arith })
-takes_close_spends at.CloseReceived t e = absurd cc
 takes_close_spends at.CloseSent t e = lands 0 0 at.CloseSent t at.End e (record { open_spent = omega arith; close_spent = omega arith })
 takes_close_spends at.Discarding t e = lands 0 0 at.Discarding t at.End e (record { open_spent = omega arith; close_spent = omega arith })
-takes_close_spends at.End t e = absurd cc
+takes_close_spends s t e = absurd cc

@@ -3,6 +3,7 @@
 use Rattle.std.specs.Prelude.{◌≡◌, ◌⊎◌, ◌<◌, ◌^◌, ℕ, List, [], ◌∷◌, ◌++◌, map, Option, Some, None, Result, Ok, Err, IsSome, nat_eq, Bool}
 use Rattle.std.specs.Prelude.{true, false}
 use Rattle.std.specs.Map.{lookup, set_value}
+use Rattle.std.specs.FinMap.{get}
 use Rattle.amqp_types.specs.declared.states.SessionState.TheVariants as at
 use Rattle.amqp_session.specs.declared.frame.SessionFrame.{SessionFrame}
 use Rattle.amqp_session.specs.declared.error.SessionStateError.{SessionStateError}
@@ -67,6 +68,12 @@ pub record Took {R : Type 0} (acts : Acts R) (v : EngineView R) (n : ℕ) (refus
 -- the call goes to session n, if there is one
 abbrev pub Asks : {R : Type 0} → Acts R → EngineView R → ℕ → Option StepError → EngineView R → Type 0
 Asks acts v n refusal w = Took acts v n refusal w ⊎ ((lookup (nat_eq n) v.sessions ≡ None) × (refusal ≡ Some no.NoSession) × (w ≡ v))
+
+-- the call goes to the session that the channel's route leads to, if there is a route
+abbrev pub AsksAlong : {R : Type 0} → Acts R → EngineView R → ℕ → Option StepError → EngineView R → Type 0
+AsksAlong acts v channel refusal w =
+    ((n : ℕ) × (get v.connection.session_by_incoming_channel channel ≡ Some n) × Asks acts v n refusal w)
+    ⊎ ((get v.connection.session_by_incoming_channel channel ≡ None) × (refusal ≡ Some (no.Connection not_found)) × (w ≡ v))
 
 -- Session n made these calls, and went on to another view; all else stayed. What it handed out waits.
 pub record Called {R : Type 0} (g : Relays R) (v : EngineView R) (n : ℕ) (asks : Calls R) (calls : List (session.Entry R))

@@ -2,7 +2,6 @@
 
 ghost use Rattle.std.specs.Prelude.{◌≡◌, ◌≤◌, ◌<◌, ◌^◌, ◌+◌, ◌++◌, ℕ, [], true, false, Option, Some, None, IsSome, IfOk, OnOk, length, vec_len, vec_capacity};
 ghost use Rattle.std.specs.Option.{option_map};
-ghost use Rattle.amqp_session.specs.LinkFlow.{link_flow_of};
 ghost use Rattle.amqp_session.specs.Items.{HandsOut, is_some_list, first_frame};
 ghost use Rattle.amqp_session.specs.Deliveries.{with_record, RecordFits};
 ghost use Rattle.amqp_session.specs.States.{is_mapped};
@@ -85,21 +84,6 @@ fn alone(frame: Option<SessionFrame>) -> Option<SessionOutgoingItem>
     }
 }
 
-/// What a flow says of the link that it names.
-fn link_flow(input: InputHandle, flow: Flow) -> LinkFlow
-    ensures { result ≡ link_flow_of input.0 flow }
-{
-    LinkFlow {
-        handle: input.into(),
-        delivery_count: flow.delivery_count,
-        link_credit: flow.link_credit,
-        available: flow.available,
-        drain: flow.drain,
-        echo: flow.echo,
-        properties: flow.properties,
-    }
-}
-
 impl<R: LinkRelay> Session<R> {
     /// Takes the peer's Flow: it gives both windows and the peer's next number, in every state and whatever is then
     /// answered. A flow that names a link goes on to its relay. What goes out is the relay's flow, if any, and behind it, in
@@ -119,8 +103,7 @@ impl<R: LinkRelay> Session<R> {
         match flow.handle {
             None => self.flow_of_session(),
             Some(handle) => {
-                let input = InputHandle::from(handle);
-                self.flow_of_link(input, link_flow(input, flow))
+                self.flow_of_link(InputHandle::from(handle), LinkFlow::of(handle, flow))
             }
         }
     }

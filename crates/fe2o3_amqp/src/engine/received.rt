@@ -10,18 +10,20 @@ ghost use Rattle.amqp_session.specs.declared.frame.SessionFrameBody.TheVariants 
 ghost use Rattle.fe2o3_amqp.specs.Connection.{refusal_of};
 ghost use Rattle.amqp_session.specs.History as session;
 ghost use Rattle.fe2o3_amqp.specs.EngineView.{peer_limit};
+ghost use Rattle.std.specs.Fn.{FnOnceReturnsAtMut};
+ghost use Rattle.fe2o3_amqp.specs.Sessions.{AsksAlong};
 ghost use Rattle.fe2o3_amqp.specs.Engine.{ReceivedStep, FieldsStep, ReceivedCloseStep, recorded, remote_reason};
 
 use super::Engine;
 use super::sessions::{
-    attach_received, begin_received, detach_received, disposition_received, end_received,
+    Outgoing, attach_received, begin_received, detach_received, disposition_received, end_received,
     flow_received, transfer_received,
 };
 use super::step_error::StepError;
 use crate::connection::{Connection, ConnectionInnerError, ConnectionStateError};
 use amqp_frames::FrameEncoder;
 use amqp_session::{
-    ConnectionStopReason, IncomingChannel, LinkRelay, SessionFrame, SessionFrameBody,
+    ConnectionStopReason, IncomingChannel, LinkRelay, Session, SessionFrame, SessionFrameBody,
 };
 use amqp_types::{
     Attach, Begin, Close, ConnectionState, Detach, Disposition, End, Error, Flow, Kind, Open,
@@ -129,18 +131,29 @@ impl<R: LinkRelay> Engine<R> {
         }
     }
 
+    /// Calls the session to which the channel's route leads, and lets what it hands out wait.
+    fn ask_along<F>(&mut self, channel: IncomingChannel, call: F) -> Result<(), StepError>
+    where
+        F: FnOnce(&mut Session<R>) -> Outgoing + Drop,
+        requires idle { self.old.waiting ≡ [] }
+        requires callable { F.IsAlwaysCallable call }
+        ensures { AsksAlong (FnOnceReturnsAtMut F.FnOnce call) self.old channel.0 (refusal_of result) self.new }
+    {
+        let number = self
+            .connection
+            .session_tx_by_incoming_channel(channel)
+            .ok_or(ConnectionInnerError::NotFound(None))?;
+        self.ask_session(number.0, call)
+    }
+
     fn receive_transfer(&mut self, channel: IncomingChannel, fields: Bytes) -> Result<(), StepError>
         requires { self.old.waiting ≡ [] }
         ensures { FieldsStep R.gives self.old channel.0 (Some kind.Transfer) fields (refusal_of result) self.new }
     {
         let mut rest = fields;
         let transfer: Transfer = read_list(self.alloc, &mut rest)?;
-        let number = self
-            .connection
-            .session_tx_by_incoming_channel(channel)
-            .ok_or(ConnectionInnerError::NotFound(None))?;
-        self.ask_session(
-            number.0,
+        self.ask_along(
+            channel,
             |session| transfer_received(session, transfer, rest),
         )
     }
@@ -151,11 +164,7 @@ impl<R: LinkRelay> Engine<R> {
     {
         let mut rest = fields;
         let flow: Flow = read_list(self.alloc, &mut rest)?;
-        let number = self
-            .connection
-            .session_tx_by_incoming_channel(channel)
-            .ok_or(ConnectionInnerError::NotFound(None))?;
-        self.ask_session(number.0, |session| flow_received(session, flow))
+        self.ask_along(channel, |session| flow_received(session, flow))
     }
 
     fn receive_disposition(
@@ -168,12 +177,8 @@ impl<R: LinkRelay> Engine<R> {
     {
         let mut rest = fields;
         let disposition: Disposition = read_list(self.alloc, &mut rest)?;
-        let number = self
-            .connection
-            .session_tx_by_incoming_channel(channel)
-            .ok_or(ConnectionInnerError::NotFound(None))?;
-        self.ask_session(
-            number.0,
+        self.ask_along(
+            channel,
             |session| disposition_received(session, disposition),
         )
     }
@@ -184,11 +189,7 @@ impl<R: LinkRelay> Engine<R> {
     {
         let mut rest = fields;
         let attach: Attach = read_list(self.alloc, &mut rest)?;
-        let number = self
-            .connection
-            .session_tx_by_incoming_channel(channel)
-            .ok_or(ConnectionInnerError::NotFound(None))?;
-        self.ask_session(number.0, |session| attach_received(session, attach))
+        self.ask_along(channel, |session| attach_received(session, attach))
     }
 
     fn receive_detach(&mut self, channel: IncomingChannel, fields: Bytes) -> Result<(), StepError>
@@ -197,11 +198,7 @@ impl<R: LinkRelay> Engine<R> {
     {
         let mut rest = fields;
         let detach: Detach = read_list(self.alloc, &mut rest)?;
-        let number = self
-            .connection
-            .session_tx_by_incoming_channel(channel)
-            .ok_or(ConnectionInnerError::NotFound(None))?;
-        self.ask_session(number.0, |session| detach_received(session, detach))
+        self.ask_along(channel, |session| detach_received(session, detach))
     }
 
     /// The connection's acceptance decides the route, also where the session then refuses.

@@ -6,15 +6,8 @@ use Rattle.fe2o3_amqp.specs.declared.connection.error.ConnectionInnerError.{Conn
 use Rattle.fe2o3_amqp.specs.EngineView.{EngineView}
 use Rattle.fe2o3_amqp.specs.Sessions.{Reaches}
 use Rattle.fe2o3_amqp.proofs.Passing.{passed_number, passed_frame, passed_error, same_begin}
-use Rattle.amqp_types.specs.declared.performatives.Performative.TheVariants as performative
-use Rattle.amqp_types.specs.declared.performatives.kind.Kind.TheVariants as kind
-use Rattle.amqp_types.specs.Begin.{IsBeginBody, begin_body_at}
-use Rattle.amqp_types.proofs.BodyLaws.{begin_body}
-use Rattle.amqp_frames.specs.Frame.{body_of}
-use Rattle.amqp_frames.specs.FrameError.{error_of}
-use Rattle.amqp_frames.proofs.Decoded.{failed}
-use Rattle.fe2o3_amqp.specs.declared.engine.step_error.StepError.TheVariants as no
 use Rattle.fe2o3_amqp.specs.Connection.{refusal_of}
+use Rattle.fe2o3_amqp.proofs.KindFields.{begin_fields}
 use Rattle.fe2o3_amqp.proofs.FieldsReceived.{unread, was_read}
 use Rattle.fe2o3_amqp.specs.Connection.{BeginRouteStep}
 use Rattle.fe2o3_amqp.specs.Calls.{ReceivedBeginCalls}
@@ -23,8 +16,8 @@ use Rattle.fe2o3_amqp.proofs.engine.Engine.receive_begin.Goals as goal
 
 pub returns-in_err-begin : goal.returns-in_err-begin
 returns-in_err-begin g c =
-    unread g.R.LinkRelay.gives IsBeginBody begin_body_at begin_body (λ p behind. body_of (performative.Begin p) behind) kind.Begin (λ b f r x. x) c.args.self.now c.args.channel.0 c.args.fields c.read_list.new.bytes c.in_err-begin.field-0.0 _
-    c.in_err-begin.ensures (ap refusal_of (failed c.from_residual.result (no.Frame (error_of c.in_err-begin.field-0.0)) c.from_residual.ensures.1))
+    unread g.R.LinkRelay.gives begin_fields c.args.self.now c.args.channel.0 c.args.fields c.read_list.new.bytes c.in_err-begin.field-0.0
+    c.from_residual.result c.in_err-begin.ensures c.from_residual.ensures.1
 
 pub returns : goal.returns
 returns g c =
@@ -36,7 +29,7 @@ returns g c =
     let same : c.begin_in-begin.result ≡ c.in_ok-begin.begin = same_begin _ _ (sym c.begin_in-begin.ensures ∙ ap (λ (f : SessionFrame). f.body) passed) in
     let step = subst (λ (v : EngineView _). BeginRouteStep v.connection c.args.channel.0 c.in_ok-begin.begin.remote_channel (Ok c.in_ok-number.number.0) c.on_incoming_begin.new.self) c.self.view_is
     (subst (λ (r : Result ℕ ConnectionInnerError). BeginRouteStep c.self.inside.connection c.args.channel.0 c.in_ok-begin.begin.remote_channel r c.on_incoming_begin.new.self) number p.1) in
-    was_read gives IsBeginBody begin_body_at begin_body (λ p behind. body_of (performative.Begin p) behind) kind.Begin (λ b f r x. x) c.args.self.now c.ask_session.new.self c.args.channel.0 c.args.fields c.read_list.new.bytes c.in_ok-begin.begin _
+    was_read gives begin_fields c.args.self.now c.ask_session.new.self c.args.channel.0 c.args.fields c.read_list.new.bytes c.in_ok-begin.begin _
     c.in_ok-begin.ensures
     (subst (λ x. (reached : Option ℕ) × (calls : List (session.Entry _)) × Reaches gives (BeginRouteStep c.args.self.now.connection c.args.channel.0 c.in_ok-begin.begin.remote_channel) c.args.self.now (ReceivedBeginCalls c.args.channel.0 x) reached calls (refusal_of c.ask_session.result) c.ask_session.new.self) same
     (reaches gives (BeginRouteStep c.args.self.now.connection c.args.channel.0 c.in_ok-begin.begin.remote_channel) (ReceivedBeginCalls c.args.channel.0 c.begin_in-begin.result) _ _ _ _ c.on_incoming_begin.new.self _ _ c.self.view_is step (λ s t a h. search rules) c.ask_session.ensures))
@@ -47,7 +40,7 @@ returns-in_err-number g c =
     let p = c.in_err-number.ensures in
     let step = subst (λ (v : EngineView _). BeginRouteStep v.connection c.args.channel.0 c.in_ok-begin.begin.remote_channel (Err c.in_err-number.field-0.0) c.on_incoming_begin.new.self) c.self.view_is
     (subst (λ (r : Result ℕ ConnectionInnerError). BeginRouteStep c.self.inside.connection c.args.channel.0 c.in_ok-begin.begin.remote_channel r c.on_incoming_begin.new.self) (passed_error frame p.0 c.in_err-number.field-0.0 p.2) p.1) in
-    was_read g.R.LinkRelay.gives IsBeginBody begin_body_at begin_body (λ p behind. body_of (performative.Begin p) behind) kind.Begin (λ b f r x. x) c.args.self.now _ c.args.channel.0 c.args.fields c.read_list.new.bytes c.in_ok-begin.begin _
+    was_read g.R.LinkRelay.gives begin_fields c.args.self.now _ c.args.channel.0 c.args.fields c.read_list.new.bytes c.in_ok-begin.begin _
     c.in_ok-begin.ensures
     (reaches_none g.R.LinkRelay.gives (BeginRouteStep c.args.self.now.connection c.args.channel.0 c.in_ok-begin.begin.remote_channel) (ReceivedBeginCalls c.args.channel.0 c.in_ok-begin.begin) _ _ c.on_incoming_begin.new.self c.in_err-number.field-0.0 _ c.self.view_is step (search rules))
 

@@ -1,13 +1,6 @@
 use Rattle.std.proofs.Common.{rules, None, Some, [], refl, ap, subst}
-use Rattle.amqp_types.specs.declared.performatives.Performative.TheVariants as performative
-use Rattle.amqp_types.specs.declared.performatives.kind.Kind.TheVariants as kind
-use Rattle.amqp_types.specs.Close.{IsCloseBody, close_body_at}
-use Rattle.amqp_types.proofs.BodyLaws.{close_body}
-use Rattle.amqp_frames.specs.Frame.{body_of}
-use Rattle.amqp_frames.specs.FrameError.{error_of}
-use Rattle.amqp_frames.proofs.Decoded.{failed}
-use Rattle.fe2o3_amqp.specs.declared.engine.step_error.StepError.TheVariants as no
 use Rattle.fe2o3_amqp.specs.Connection.{refusal_of}
+use Rattle.fe2o3_amqp.proofs.KindFields.{close_fields}
 use Rattle.fe2o3_amqp.proofs.FieldsReceived.{unread, was_read}
 use Rattle.fe2o3_amqp.specs.EngineView.{EngineView, views_of}
 use Rattle.fe2o3_amqp.specs.Engine.{ReceivedClose}
@@ -15,12 +8,12 @@ use Rattle.fe2o3_amqp.proofs.engine.Engine.receive_close.Goals as goal
 
 pub returns-in_err-close : goal.returns-in_err-close
 returns-in_err-close g c =
-    unread g.R.LinkRelay.gives IsCloseBody close_body_at close_body (λ p behind. body_of (performative.Close p) behind) kind.Close (λ b f r x. x) c.args.self.now c.args.channel.0 c.args.fields c.read_list.new.bytes c.in_err-close.field-0.0 _
-    c.in_err-close.ensures (ap refusal_of (failed c.from_residual.result (no.Frame (error_of c.in_err-close.field-0.0)) c.from_residual.ensures.1))
+    unread g.R.LinkRelay.gives close_fields c.args.self.now c.args.channel.0 c.args.fields c.read_list.new.bytes c.in_err-close.field-0.0
+    c.from_residual.result c.in_err-close.ensures c.from_residual.ensures.1
 
 pub returns : goal.returns
 returns g c =
-    was_read g.R.LinkRelay.gives IsCloseBody close_body_at close_body (λ p behind. body_of (performative.Close p) behind) kind.Close (λ b f r x. x) c.args.self.now _ c.args.channel.0 c.args.fields c.read_list.new.bytes c.in_ok-close.close _
+    was_read g.R.LinkRelay.gives close_fields c.args.self.now _ c.args.channel.0 c.args.fields c.read_list.new.bytes c.in_ok-close.close _
     c.in_ok-close.ensures (
       None,
       [],
@@ -33,7 +26,7 @@ returns g c =
 
 pub returns-in_err-take_close : goal.returns-in_err-take_close
 returns-in_err-take_close g c =
-    was_read g.R.LinkRelay.gives IsCloseBody close_body_at close_body (λ p behind. body_of (performative.Close p) behind) kind.Close (λ b f r x. x) c.args.self.now _ c.args.channel.0 c.args.fields c.read_list.new.bytes c.in_ok-close.close _
+    was_read g.R.LinkRelay.gives close_fields c.args.self.now _ c.args.channel.0 c.args.fields c.read_list.new.bytes c.in_ok-close.close _
     c.in_ok-close.ensures (
       None,
       [],

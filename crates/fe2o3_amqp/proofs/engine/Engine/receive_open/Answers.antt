@@ -1,13 +1,6 @@
 use Rattle.std.proofs.Common.{rules, ◌≡◌, ℕ, None, Some, [], refl, ◌∙◌, ap, subst}
-use Rattle.amqp_types.specs.declared.performatives.Performative.TheVariants as performative
-use Rattle.amqp_types.specs.declared.performatives.kind.Kind.TheVariants as kind
-use Rattle.amqp_types.specs.Open.{IsOpenBody, open_body_at}
-use Rattle.amqp_types.proofs.BodyLaws.{open_body}
-use Rattle.amqp_frames.specs.Frame.{body_of}
-use Rattle.amqp_frames.specs.FrameError.{error_of}
-use Rattle.amqp_frames.proofs.Decoded.{failed}
-use Rattle.fe2o3_amqp.specs.declared.engine.step_error.StepError.TheVariants as no
 use Rattle.fe2o3_amqp.specs.Connection.{refusal_of}
+use Rattle.fe2o3_amqp.proofs.KindFields.{open_fields}
 use Rattle.fe2o3_amqp.proofs.FieldsReceived.{unread, was_read}
 use Rattle.fe2o3_amqp.specs.declared.engine.step_error.StepError.TheVariants.{ConnectionState}
 use Rattle.fe2o3_amqp.specs.EngineView.{EngineView, views_of}
@@ -16,13 +9,13 @@ use Rattle.fe2o3_amqp.proofs.engine.Engine.receive_open.Goals as goal
 
 pub returns-in_err-open : goal.returns-in_err-open
 returns-in_err-open g c =
-    unread g.R.LinkRelay.gives IsOpenBody open_body_at open_body (λ p behind. body_of (performative.Open p) behind) kind.Open (λ b f r x. x) c.args.self.now c.args.channel.0 c.args.fields c.read_list.new.bytes c.in_err-open.field-0.0 _
-    c.in_err-open.ensures (ap refusal_of (failed c.from_residual.result (no.Frame (error_of c.in_err-open.field-0.0)) c.from_residual.ensures.1))
+    unread g.R.LinkRelay.gives open_fields c.args.self.now c.args.channel.0 c.args.fields c.read_list.new.bytes c.in_err-open.field-0.0
+    c.from_residual.result c.in_err-open.ensures c.from_residual.ensures.1
 
 pub returns : goal.returns
 returns g c =
     let limit_is = c.new-self-inside.ensures ∙ c.limit_of-limit.ensures in
-    was_read g.R.LinkRelay.gives IsOpenBody open_body_at open_body (λ p behind. body_of (performative.Open p) behind) kind.Open (λ b f r x. x) c.args.self.now _ c.args.channel.0 c.args.fields c.read_list.new.bytes c.in_ok-open.«open» _
+    was_read g.R.LinkRelay.gives open_fields c.args.self.now _ c.args.channel.0 c.args.fields c.read_list.new.bytes c.in_ok-open.«open» _
     c.in_ok-open.ensures (
       None,
       [],
@@ -36,7 +29,7 @@ returns g c =
 pub returns-in_err-on_incoming_open : goal.returns-in_err-on_incoming_open
 returns-in_err-on_incoming_open g c =
     let told : refusal_of c.from_residual-in_err-on_incoming_open.result ≡ Some (ConnectionState c.in_err-on_incoming_open.field-0.0) = search rules in
-    rw told (was_read g.R.LinkRelay.gives IsOpenBody open_body_at open_body (λ p behind. body_of (performative.Open p) behind) kind.Open (λ b f r x. x) c.args.self.now _ c.args.channel.0 c.args.fields c.read_list.new.bytes c.in_ok-open.«open» _
+    rw told (was_read g.R.LinkRelay.gives open_fields c.args.self.now _ c.args.channel.0 c.args.fields c.read_list.new.bytes c.in_ok-open.«open» _
     c.in_ok-open.ensures (
       None,
       [],

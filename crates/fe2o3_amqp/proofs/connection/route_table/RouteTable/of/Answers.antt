@@ -1,6 +1,6 @@
 use Rattle.std.proofs.Common.{ap, sym, ◌∙◌}
 use Rattle.std.specs.FinMap as map
-use Rattle.fe2o3_amqp.proofs.AsMap.{get_at}
+use Rattle.amqp_session.proofs.AsMap.{get_at}
 use Rattle.fe2o3_amqp.proofs.connection.route_table.RouteTable.of.Goals as goal
 
 pub returns : goal.returns

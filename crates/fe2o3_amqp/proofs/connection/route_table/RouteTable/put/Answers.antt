@@ -1,6 +1,6 @@
 use Rattle.std.proofs.Common.{ap, ◌∙◌}
 use Rattle.std.specs.FinMap as map
-use Rattle.fe2o3_amqp.proofs.AsMap.{inserted}
+use Rattle.amqp_session.proofs.AsMap.{inserted}
 use Rattle.fe2o3_amqp.proofs.connection.route_table.RouteTable.put.Goals as goal
 
 pub returns-clause-ok : goal.returns-clause-ok
