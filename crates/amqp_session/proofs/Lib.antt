@@ -20,3 +20,8 @@ pub mod Histories
 pub mod LinkLaws
 pub mod SessionFlows
 pub mod Channels
+pub mod PairRoom
+pub mod PairRuns
+pub mod PairSteps
+pub mod PairHolding
+pub mod PairArrivals

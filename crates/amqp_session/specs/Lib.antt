@@ -21,3 +21,5 @@ pub mod Received
 pub mod Linked
 pub mod OutgoingFrames
 pub mod Headline
+pub mod Pair
+pub mod PairLedger

@@ -8,6 +8,7 @@ pub mod frame;
 pub mod laws;
 pub mod link;
 pub mod numbers;
+pub mod pair;
 pub mod relay;
 pub mod session;
 pub mod settings;
@@ -21,6 +22,7 @@ pub use error::{
 pub use flow::LinkFlow;
 pub use frame::{SessionFrame, SessionFrameBody, SessionOutgoingItem};
 pub use numbers::{IncomingChannel, InputHandle, OutgoingChannel, OutputHandle};
+pub use pair::{SessionPair, Side};
 pub use relay::LinkRelay;
 pub use session::Session;
 pub use session::dispositions::num_messages_settled_by_disposition;

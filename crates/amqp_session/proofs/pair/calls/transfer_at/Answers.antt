@@ -1,0 +1,17 @@
+use Rattle.std.proofs.Common.{arith, refl, sym, append-nil, inl, inr, Err}
+use Rattle.amqp_session.specs.declared.error.SessionInnerError.TheVariants as Refused
+use Rattle.amqp_session.proofs.PairRoom.{transfer_few}
+use Rattle.amqp_session.proofs.pair.calls.transfer_at.Goals as goal
+
+pub returns-then-not-can_send : goal.returns-then-not-can_send
+returns-then-not-can_send g c = inr record {
+  item = Err Refused.IllegalState;
+  makes = ((inl (sym c.if-not-can_send.ensures), refl), sym (append-nil _));
+  says = refl;
+}
+
+pub put-requires : goal.put-requires
+put-requires g c =
+    let few = transfer_few _ _ _ _ c.in-Ok.ensures.step in
+    let room = c.if-not-makes_room.ensures.room refl in
+    omega (arith, few, room)
