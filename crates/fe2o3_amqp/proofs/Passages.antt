@@ -87,27 +87,42 @@ by_history g get by from none more left step (e ∷ es) v w c =
 
 -- ---- the connection's state and the reason why it stopped
 
+-- what no channel and no route moves
+record Settled : Type 0 where
+  state : ConnectionState
+  stop_reason : Option ConnectionStopReason
+  local_open : OpenSaid
+  agreed_channel_max : ℕ
+
+abbrev settled : ConnectionView → Settled
+settled k = record { state = k.state; stop_reason = k.stop_reason; local_open = k.local_open; agreed_channel_max = k.agreed_channel_max }
+
+in_state : (r : Option ConnectionStopReason) (o : OpenSaid) (m : ℕ) (s t : ConnectionState) → s ≡ t → ◌≡◌ {A = Settled}
+    (record { state = s; stop_reason = r; local_open = o; agreed_channel_max = m })
+    (record { state = t; stop_reason = r; local_open = o; agreed_channel_max = m })
+in_state r o m s t e = ap (λ (u : ConnectionState). record { state = u; stop_reason = r; local_open = o; agreed_channel_max = m }) e
+
+settles : (v w : ConnectionView) (ev : Event) → Moved v ev w → ◌≡◌ {A = Settled} (settled w) (record {
+  state = state_by v.state ev;
+  stop_reason = reason_by v.state ev v.stop_reason;
+  local_open = v.local_open;
+  agreed_channel_max = channel_max_by v.local_open ev v.agreed_channel_max;
+})
+settles v w Quiet m = ap settled m
+settles v w SentOpen m = ap settled m.2 ∙ in_state _ _ _ _ _ (to (sends_open v.state) v.state m.0 m.1)
+settles v w (SentClose error) m = ap settled m.2 ∙ in_state _ _ _ _ _ (to (closes_by error v.state) v.state m.0 m.1)
+settles v w (AcceptedOpen o) m = ap settled m.2 ∙ in_state _ _ _ _ _ (to (takes_open v.state) v.state m.0 m.1)
+settles v w (CameClose c) m = ap settled m
+settles v w (Began n settings c) m = ap settled m
+settles v w (Released n) m = ap settled m.2
+settles v w (Routed c n) m = ap settled m.1
+settles v w (Unrouted c) m = ap settled m
+
 pub moved_state : (v w : ConnectionView) (ev : Event) → Moved v ev w → w.state ≡ state_by v.state ev
-moved_state v w Quiet m = ap (λ (k : ConnectionView). k.state) m
-moved_state v w SentOpen m = ap (λ (k : ConnectionView). k.state) m.2 ∙ to (sends_open v.state) v.state m.0 m.1
-moved_state v w (SentClose error) m = ap (λ (k : ConnectionView). k.state) m.2 ∙ to (closes_by error v.state) v.state m.0 m.1
-moved_state v w (AcceptedOpen o) m = ap (λ (k : ConnectionView). k.state) m.2 ∙ to (takes_open v.state) v.state m.0 m.1
-moved_state v w (CameClose c) m = ap (λ (k : ConnectionView). k.state) m
-moved_state v w (Began n settings c) m = ap (λ (k : ConnectionView). k.state) m
-moved_state v w (Released n) m = ap (λ (k : ConnectionView). k.state) m.2
-moved_state v w (Routed c n) m = ap (λ (k : ConnectionView). k.state) m.1
-moved_state v w (Unrouted c) m = ap (λ (k : ConnectionView). k.state) m
+moved_state v w ev m = ap (λ (k : Settled). k.state) (settles v w ev m)
 
 pub moved_reason : (v w : ConnectionView) (ev : Event) → Moved v ev w → w.stop_reason ≡ reason_by v.state ev v.stop_reason
-moved_reason v w Quiet m = ap (λ (k : ConnectionView). k.stop_reason) m
-moved_reason v w SentOpen m = ap (λ (k : ConnectionView). k.stop_reason) m.2
-moved_reason v w (SentClose error) m = ap (λ (k : ConnectionView). k.stop_reason) m.2
-moved_reason v w (AcceptedOpen o) m = ap (λ (k : ConnectionView). k.stop_reason) m.2
-moved_reason v w (CameClose c) m = ap (λ (k : ConnectionView). k.stop_reason) m
-moved_reason v w (Began n settings c) m = ap (λ (k : ConnectionView). k.stop_reason) m
-moved_reason v w (Released n) m = ap (λ (k : ConnectionView). k.stop_reason) m.2
-moved_reason v w (Routed c n) m = ap (λ (k : ConnectionView). k.stop_reason) m.1
-moved_reason v w (Unrouted c) m = ap (λ (k : ConnectionView). k.stop_reason) m
+moved_reason v w ev m = ap (λ (k : Settled). k.stop_reason) (settles v w ev m)
 
 pub state_law : {R : Type 0} (g : Relays R) (es : List (Entry R)) (v w : EngineView R) → Chain g v es w → w.connection.state ≡ state_from v.connection.state es
 state_law g = by_history g (λ v. v.connection.state) (λ e s. state_by s (event e)) state_from (λ x. refl) (λ x e es. refl)
@@ -143,26 +158,10 @@ reason_law g es v w c = ap (λ (x : Standing). x.1) (standing_law g es v w c)
 -- ---- the Open of this side, and the channel maximum
 
 moved_open : (v w : ConnectionView) (ev : Event) → Moved v ev w → w.local_open ≡ v.local_open
-moved_open v w Quiet m = ap (λ (k : ConnectionView). k.local_open) m
-moved_open v w SentOpen m = ap (λ (k : ConnectionView). k.local_open) m.2
-moved_open v w (SentClose error) m = ap (λ (k : ConnectionView). k.local_open) m.2
-moved_open v w (AcceptedOpen o) m = ap (λ (k : ConnectionView). k.local_open) m.2
-moved_open v w (CameClose c) m = ap (λ (k : ConnectionView). k.local_open) m
-moved_open v w (Began n settings c) m = ap (λ (k : ConnectionView). k.local_open) m
-moved_open v w (Released n) m = ap (λ (k : ConnectionView). k.local_open) m.2
-moved_open v w (Routed c n) m = ap (λ (k : ConnectionView). k.local_open) m.1
-moved_open v w (Unrouted c) m = ap (λ (k : ConnectionView). k.local_open) m
+moved_open v w ev m = ap (λ (k : Settled). k.local_open) (settles v w ev m)
 
 moved_max : (v w : ConnectionView) (ev : Event) → Moved v ev w → w.agreed_channel_max ≡ channel_max_by v.local_open ev v.agreed_channel_max
-moved_max v w Quiet m = ap (λ (k : ConnectionView). k.agreed_channel_max) m
-moved_max v w SentOpen m = ap (λ (k : ConnectionView). k.agreed_channel_max) m.2
-moved_max v w (SentClose error) m = ap (λ (k : ConnectionView). k.agreed_channel_max) m.2
-moved_max v w (AcceptedOpen o) m = ap (λ (k : ConnectionView). k.agreed_channel_max) m.2
-moved_max v w (CameClose c) m = ap (λ (k : ConnectionView). k.agreed_channel_max) m
-moved_max v w (Began n settings c) m = ap (λ (k : ConnectionView). k.agreed_channel_max) m
-moved_max v w (Released n) m = ap (λ (k : ConnectionView). k.agreed_channel_max) m.2
-moved_max v w (Routed c n) m = ap (λ (k : ConnectionView). k.agreed_channel_max) m.1
-moved_max v w (Unrouted c) m = ap (λ (k : ConnectionView). k.agreed_channel_max) m
+moved_max v w ev m = ap (λ (k : Settled). k.agreed_channel_max) (settles v w ev m)
 
 pub open_law : {R : Type 0} (g : Relays R) (es : List (Entry R)) (v w : EngineView R) → Chain g v es w → w.connection.local_open ≡ v.connection.local_open
 open_law g = by_history g (λ v. v.connection.local_open) (λ e o. o) (λ o es. o) (λ x. refl) (λ x e es. refl)
