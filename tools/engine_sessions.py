@@ -1,6 +1,6 @@
 """Rows of sessions in an engine: channels, routes, and the peer's window (AMQP 1.0 part 2, sections 2.5 and 2.7)."""
 
-from row import begin, end, flow, opening, out, recv, transfer
+from row import OUR_OPEN, begin, end, flow, opening, out, recv, transfer
 
 ILLEGAL = "err IllegalState"
 
@@ -45,6 +45,28 @@ def windows(rows):
     rows.ask(recv(flow(1, 1), 5))
     rows.ask(send("c", "fd"), ILLEGAL)
     rows.ask("end 0", ILLEGAL)
+
+
+def second_begins(rows):
+    """A second Begin of the peer's for a session: the session refuses it and keeps its window, and both channels lead to it."""
+    rows.row("A Begin for a mapped session is refused, its window stays 1, and frames on both channels reach the session")
+    rows.open()
+    rows.begin(0)
+    rows.ask(recv(begin(0, 0, 1, 8), 5))
+    rows.ask(recv(begin(0, 0, 100, 8), 9), ILLEGAL)
+    rows.ask(send("a", "ff"), sent(0, "a", "ff"))
+    rows.ask(send("b", "fe"))
+    rows.ask(recv(flow(1, 1, 0, 8, 7), 9), "err UnattachedHandle")
+    rows.ask(recv(flow(1, 1), 5), sent(1, "b", "fe"))
+    rows.ask(send("c", "fd"))
+    rows.ask(recv(flow(2, 1), 9), sent(2, "c", "fd"))
+    for title, body, answer in [
+        ("The same Begin on every channel is refused alike", begin(0, 0, 100, 8), f"65536 {ILLEGAL}"),
+        ("A flow on every channel: it is taken on the one that leads to the session", flow(0, 1), "65535 err NotFound"),
+    ]:
+        rows.row(title)
+        rows.asked += ["each-channel " + body, "open", recv(opening("a")), "begin 0", recv(begin(0, 0, 1, 8), 5)]
+        rows.said += ["1 " + OUR_OPEN, "1 " + out(begin()), answer]
 
 
 def cut_transfers(rows):
@@ -131,6 +153,7 @@ def routes(rows):
 
 def write(rows):
     windows(rows)
+    second_begins(rows)
     cut_transfers(rows)
     channels(rows)
     routes(rows)

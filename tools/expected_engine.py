@@ -3,8 +3,9 @@
 
     tools/expected_engine.py            writes crates/engine_rows/{stdin,stdout}
 
-Each row is a transcript for an engine of its own in HeaderExchange, whose Open is named `replay`. Beside each line stands what it has to
-print (AMQP 1.0 part 2, sections 2.4 to 2.6; docs/PROTOCOL.md for the tables). Nothing is taken from the program's output.
+Each row is a transcript for an engine of its own in HeaderExchange, whose Open is named `replay`, or calls of a connection alone, or of handles
+with the runs of their engine. Beside each line stands what it has to print (AMQP 1.0 part 2, sections 2.4 to 2.6; docs/PROTOCOL.md for the
+tables). Behind them stand whole recorded exchanges. Nothing is taken from the program's output.
 """
 
 from pathlib import Path
@@ -16,6 +17,8 @@ import engine_handles
 import engine_lines
 import engine_links
 import engine_sessions
+import engine_wishes
+import expected_exchange
 from row import EngineRows
 
 CRATE = Path(__file__).resolve().parent.parent / "crates" / "engine_rows"
@@ -23,8 +26,9 @@ CRATE = Path(__file__).resolve().parent.parent / "crates" / "engine_rows"
 
 def main():
     rows = EngineRows()
-    for part in (engine_alone, engine_connections, engine_sessions, engine_links, engine_handles, engine_dispositions, engine_lines):
+    for part in (engine_alone, engine_connections, engine_sessions, engine_links, engine_handles, engine_dispositions, engine_lines, engine_wishes):
         part.write(rows)
+    expected_exchange.write(rows)
     rows.write(CRATE)
 
 

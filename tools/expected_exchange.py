@@ -1,12 +1,9 @@
-#!/usr/bin/env python3
-"""Writes the input and the expected output of the program exchange_tests from recorded exchanges.
-
-    tools/expected_exchange.py          writes crates/exchange_tests/{stdin,stdout}
+"""Recorded exchanges as rows of the program engine_rows, for expected_engine.py.
 
 The recordings (crates/codec_tests/captures) are of a qpid-proton client: with a qpid-proton server, frames of 512 bytes and a session
 window of 4 (proton-duo-window); with RabbitMQ, three sessions and five links (proton-rmq-frames); with a qpid-proton server that refuses,
 redirects, and ends a session, where links go and come back under their names (proton-duo-errors); and with one that gives every outcome,
-over ranges, to links of each settle mode (proton-duo-outcomes). A line `-- NAME` begins each.
+over ranges, to links of each settle mode (proton-duo-outcomes). The name of the recording is the title of the row.
 
 The engine takes the client's place: what the server sent comes as `recv` lines, and what the client sent is asked for by `open`, `begin`,
 `link`, `send`, `end` and `close` lines, each where it was recorded, but:
@@ -24,13 +21,9 @@ The engine takes the client's place: what the server sent comes as `recv` lines,
 What is expected is worked out from the recorded fields, by client.py and not by the engine.
 """
 
-from pathlib import Path
-
 from canonical import composite, uint
 from client import Session
 from recorded import ATTACH, BEGIN, CLOSE, DETACH, DISPOSITION, END, FLOW, OPEN, TRANSFER, recording
-
-CRATE = Path(__file__).resolve().parent.parent / "crates" / "exchange_tests"
 
 # each recording, and by how many places a transfer is asked for before it was recorded
 RECORDINGS = {"proton-duo-window": 1, "proton-rmq-frames": 0, "proton-duo-errors": 0, "proton-duo-outcomes": 0}
@@ -145,11 +138,8 @@ def replayed(name, ahead):
     return exchange
 
 
-def main():
-    exchanges = [replayed(name, ahead) for name, ahead in RECORDINGS.items()]
-    for file, lines in ("stdin", [it.lines for it in exchanges]), ("stdout", [it.out for it in exchanges]):
-        CRATE.joinpath(file).write_text("".join(line + "\n" for each in lines for line in each))
-
-
-if __name__ == "__main__":
-    main()
+def write(rows):
+    for name, ahead in RECORDINGS.items():
+        exchange = replayed(name, ahead)
+        rows.asked += exchange.lines
+        rows.said += exchange.out

@@ -5,7 +5,8 @@
 
 Each value comes from what another implementation's decoder said of the frame (captures/NAME.fields.jsonl). Only the
 spellings of raw values and maps, which the decoder does not give, are cut from the frame's bytes (captures/NAME.txt);
-they are decoded here, and have to be what the other decoder said.
+they are decoded here, and have to be what the other decoder said. Behind them stand frames of which a byte was changed
+(expected_hostile.py).
 """
 
 import json
@@ -231,6 +232,10 @@ def expected(frame, said):
 
 
 def main():
+    # they read the tables above
+    import expected_hostile
+    import expected_messages
+
     given, wanted = [], []
     for frames in sorted((CRATE / "captures").glob("*.txt")):
         lines = frames.read_text().splitlines()
@@ -239,10 +244,14 @@ def main():
         for line, fields in zip(lines, said):
             given.append(line.split(" ")[1])
             wanted.append(expected(bytes.fromhex(given[-1]), fields))
+    hostile = len(given)
+    expected_hostile.write(given[:], given, wanted)
+    changed = sum(map(len, wanted[hostile:]))
+    messages = expected_messages.write(given, wanted)
     (CRATE / "stdin").write_text("\n".join(given) + "\n")
     (CRATE / "stdout").write_text("\n".join(wanted) + "\n")
     refused = sum(line == "malformed" for line in wanted)
-    print(f"{len(wanted)} frames, {refused} refused")
+    print(f"{hostile} frames, {refused} refused; {changed} changed ones; {messages} messages")
 
 
 if __name__ == "__main__":

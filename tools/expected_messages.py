@@ -1,7 +1,4 @@
-#!/usr/bin/env python3
-"""Writes the input and the expected output of the program message_tests from the recorded frames.
-
-    tools/expected_messages.py          writes crates/message_tests/{stdin,stdout}
+"""Recorded messages of several frames, for expected_frames.py: how each is cut.
 
 A message that was recorded as several transfers is one line of the input: the other side's max-frame-size less four, and
 the frames. What is expected is made from what another implementation's decoder said of the first frame, and from the
@@ -69,8 +66,9 @@ def messages():
                 yield other - 4, [frame for frame, _, _ in of], of[0][1], b"".join(part for _, _, part in of)
 
 
-def main():
-    given, wanted = [], []
+def write(given, wanted):
+    """Adds the messages to the lines of the input and of the output, and says how many there are."""
+    count = 0
     for limit, frames, transfer, payload in messages():
         assert not any(transfer[RECEIVER:])
         header = bytes.fromhex(frames[0])[:4]
@@ -80,11 +78,5 @@ def main():
         given.append(f"{limit} {' '.join(frames)}")
         wanted.append(f"{len(pieces)} pieces, {len(payload)} bytes, whole, {digest}")
         wanted += [f"{head.hex()} {len(part)}" for head, part in pieces]
-    crate = CRATES / "message_tests"
-    (crate / "stdin").write_text("\n".join(given) + "\n")
-    (crate / "stdout").write_text("\n".join(wanted) + "\n")
-    print(f"{len(given)} messages")
-
-
-if __name__ == "__main__":
-    main()
+        count += 1
+    return count

@@ -9,7 +9,7 @@ from random import Random
 from row import ACCEPTED, LAST, RECEIVED, RELEASED, detach, disposition, echo, flow, refused, transfer
 
 CIRCLE, HALF = 2**32, 2**31
-ROWS, CALLS = 120, 30
+ROWS, CALLS = 2000, 12
 
 # input handles, and whether the link that stands under one at first asks for echoes; under 9 there is none
 HANDLES = {0: True, 4: False, 6: True}

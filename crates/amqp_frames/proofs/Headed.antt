@@ -23,7 +23,7 @@ use Rattle.amqp_frames.specs.declared.error.Error.{Error}
 use Rattle.amqp_frames.specs.declared.error.Error.TheVariants as no
 use Rattle.amqp_frames.specs.Frame.{IsBody, IsFrame, IsSaid, Decodes, body_of}
 use Rattle.amqp_frames.specs.Decoding.{IsHeader, Names}
-use Rattle.amqp_frames.specs.Head.{IsFields, IsBodyOf, IsLongEnough, MayAskForMemory, NoBodyOf, Opens, ReadsBodyOf}
+use Rattle.amqp_frames.specs.Head.{IsFields, IsBodyOf, IsLongEnough, MayAskForMemory, NoBodyOf, Opens, ReadsBodyOf, ReadsFrameOf}
 use Rattle.amqp_frames.specs.FrameError.{error_of}
 use Rattle.amqp_frames.proofs.Decoded.{same_header, has_header, same_frame, framed}
 
@@ -226,8 +226,22 @@ decodes bytes left h o (Ok x) b =
     ((o.2 (record { channel = h.channel; body = x.0 }) x.1).1 (refl, b.0), λ f rest is. let k = (o.2 f rest).0 is in same_frame f rest h.channel x k.0 (b.1 f.body rest k.1))
 decodes bytes left h o (Err e) b = not_decoded bytes left h e o b
 
-pub of_kind_is : (k j : Option Kind) (fields : List ℕ) (r : Result (FrameBody × List ℕ) Error) → k ≡ j → ReadsBodyOf j fields r → ReadsBodyOf k fields r
-of_kind_is k j fields r is h = subst (λ (x : Option Kind). ReadsBodyOf x fields r) (sym is) h
+-- the same, where the fields gave the frame
+decodes_frame : (bytes left : List ℕ) (h : FrameHead) → Opens bytes left (Ok h) → (r : Result (Frame × List ℕ) Error) → ReadsFrameOf h.channel h.kind left r → Decodes bytes r
+decodes_frame bytes left h o (Ok x) b =
+    subst (λ (n : ℕ). Decodes bytes (Ok (record { channel = n; body = x.0.body }, x.1))) (sym b.0) (decodes bytes left h o (Ok (x.0.body, x.1)) b.1)
+decodes_frame bytes left h o (Err e) b = not_decoded bytes left h e o b
+
+frame_of_kind : (n : ℕ) (k j : Option Kind) (fields : List ℕ) (r : Result (Frame × List ℕ) Error) → k ≡ j → ReadsFrameOf n j fields r → ReadsFrameOf n k fields r
+frame_of_kind n k j fields r is h = subst (λ (x : Option Kind). ReadsFrameOf n x fields r) (sym is) h
 
 pub no_body : (fields rest : List ℕ) → rest ≡ [] → ReadsBodyOf None fields (Ok (body.Empty, rest))
 no_body fields left e = ((refl, e), λ b rest t. ap (λ (x : FrameBody). let r : FrameBody × List ℕ = (x, rest) in r) t.0 ∙ ap (λ (x : List ℕ). let r : FrameBody × List ℕ = (body.Empty, x) in r) (t.1 ∙ sym e))
+
+pub decodes_empty : (bytes left rest : List ℕ) (h : FrameHead) (f : Frame) → Opens bytes left (Ok h) → h.kind ≡ None → f ≡ record { channel = h.channel; body = body.Empty } → rest ≡ [] → Decodes bytes (Ok (f, rest))
+decodes_empty bytes left rest h f o is made e =
+    decodes_frame bytes left h o (Ok (f, rest))
+    (frame_of_kind h.channel h.kind None left (Ok (f, rest)) is (subst (λ (g : Frame). ReadsFrameOf h.channel None left (Ok (g, rest))) (sym made) (refl, no_body left rest e)))
+
+pub decodes_kind : (bytes left : List ℕ) (h : FrameHead) (k : Option Kind) → Opens bytes left (Ok h) → h.kind ≡ k → (r : Result (Frame × List ℕ) Error) → ReadsFrameOf h.channel k left r → Decodes bytes r
+decodes_kind bytes left h k o is r b = decodes_frame bytes left h o r (frame_of_kind h.channel h.kind k left r is b)

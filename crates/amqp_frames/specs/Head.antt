@@ -76,3 +76,8 @@ ReadsBodyOf k fields (Ok x) =
     IsBodyOf k x.0 fields x.1 × ((b : FrameBody) (rest : List ℕ) → IsBodyOf k b fields rest → ◌≡◌ {A = FrameBody
     × List ℕ} (b, rest) x)
 ReadsBodyOf k fields (Err e) = NoBodyOf k fields e
+
+-- the one frame on this channel with a body of this kind, and what is behind it
+abbrev pub ReadsFrameOf : ℕ → Option Kind → List ℕ → Result (Frame × List ℕ) Error → Type 0
+ReadsFrameOf n k fields (Ok x) = (x.0.channel ≡ n) × ReadsBodyOf k fields (Ok (x.0.body, x.1))
+ReadsFrameOf n k fields (Err e) = NoBodyOf k fields e

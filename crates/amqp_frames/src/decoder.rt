@@ -4,7 +4,7 @@ ghost use Rattle.std.specs.Prelude.{◌≡◌, ◌<◌, ◌≤◌, length, Some}
 ghost use Rattle.amqp_types.specs.declared.performatives.kind.Kind.TheVariants as kind;
 ghost use Rattle.amqp_frames.specs.Decoding.{Names, ReadsHeader};
 ghost use Rattle.amqp_frames.specs.Frame.{Decodes};
-ghost use Rattle.amqp_frames.specs.Head.{Opens, ReadsBodyOf};
+ghost use Rattle.amqp_frames.specs.Head.{Opens, ReadsFrameOf};
 
 use crate::error::Error;
 use crate::frame::{Frame, FrameBody};
@@ -59,8 +59,22 @@ impl FrameDecoder {
     {
         let mut fields = bytes;
         let head = self.head(&mut fields)?;
-        let (body, rest) = body(alloc, head.kind, fields)?;
-        Ok((Frame::new(head.channel, body), rest))
+        let Some(kind) = head.kind else {
+            return Ok((Frame::new(head.channel, FrameBody::Empty), Bytes::new()));
+        };
+        // Each kind's fields are read by a function of its own, which gives the whole frame: a function pays at its entry for the
+        // size of its locals, those of the arms that are not taken too, and a call for the size of what it hands on.
+        match kind {
+            Kind::Open => read_open(alloc, head.channel, fields),
+            Kind::Begin => read_begin(alloc, head.channel, fields),
+            Kind::Attach => read_attach(alloc, head.channel, fields),
+            Kind::Flow => read_flow(alloc, head.channel, fields),
+            Kind::Transfer => read_transfer(alloc, head.channel, fields),
+            Kind::Disposition => read_disposition(alloc, head.channel, fields),
+            Kind::Detach => read_detach(alloc, head.channel, fields),
+            Kind::End => read_end(alloc, head.channel, fields),
+            Kind::Close => read_close(alloc, head.channel, fields),
+        }
     }
 }
 
@@ -90,115 +104,149 @@ fn kind(bytes: &mut Bytes) -> Result<Option<Kind>, Error>
     Ok(Some(Kind::read(bytes)?))
 }
 
-/// The body of this kind, and the rest behind it.
-fn body(alloc: Global, kind: Option<Kind>, fields: Bytes) -> Result<(FrameBody, Bytes), Error>
-    ensures { ReadsBodyOf kind fields result }
-{
-    match kind {
-        None => Ok((FrameBody::Empty, Bytes::new())),
-        Some(kind) => named(alloc, kind, fields),
-    }
-}
-
-fn named(alloc: Global, kind: Kind, fields: Bytes) -> Result<(FrameBody, Bytes), Error>
-    ensures { ReadsBodyOf (Some kind) fields result }
-{
-    match kind {
-        Kind::Open => read_open(alloc, fields),
-        Kind::Begin => read_begin(alloc, fields),
-        Kind::Attach => read_attach(alloc, fields),
-        Kind::Flow => read_flow(alloc, fields),
-        Kind::Transfer => read_transfer(alloc, fields),
-        Kind::Disposition => read_disposition(alloc, fields),
-        Kind::Detach => read_detach(alloc, fields),
-        Kind::End => read_end(alloc, fields),
-        Kind::Close => read_close(alloc, fields),
-    }
-}
-
-fn read_open(alloc: Global, fields: Bytes) -> Result<(FrameBody, Bytes), Error>
-    ensures { ReadsBodyOf (Some kind.Open) fields result }
-{
-    lists_are_read();
-    let mut rest = fields;
-    let p = read_list(alloc, &mut rest)?;
-    Ok((FrameBody::Open(p), rest))
-}
-
-fn read_begin(alloc: Global, fields: Bytes) -> Result<(FrameBody, Bytes), Error>
-    ensures { ReadsBodyOf (Some kind.Begin) fields result }
-{
-    lists_are_read();
-    let mut rest = fields;
-    let p = read_list(alloc, &mut rest)?;
-    Ok((FrameBody::Begin(p), rest))
-}
-
-fn read_attach(alloc: Global, fields: Bytes) -> Result<(FrameBody, Bytes), Error>
-    ensures { ReadsBodyOf (Some kind.Attach) fields result }
-{
-    lists_are_read();
-    let mut rest = fields;
-    let p = read_list(alloc, &mut rest)?;
-    Ok((FrameBody::Attach(p), rest))
-}
-
-fn read_flow(alloc: Global, fields: Bytes) -> Result<(FrameBody, Bytes), Error>
-    ensures { ReadsBodyOf (Some kind.Flow) fields result }
-{
-    lists_are_read();
-    let mut rest = fields;
-    let p = read_list(alloc, &mut rest)?;
-    Ok((FrameBody::Flow(p), rest))
-}
-
-fn read_transfer(alloc: Global, fields: Bytes) -> Result<(FrameBody, Bytes), Error>
-    ensures { ReadsBodyOf (Some kind.Transfer) fields result }
+#[inline(never)]
+fn read_open(alloc: Global, channel: u16, fields: Bytes) -> Result<(Frame, Bytes), Error>
+    ensures { ReadsFrameOf channel (Some kind.Open) fields result }
 {
     lists_are_read();
     let mut rest = fields;
     let p = read_list(alloc, &mut rest)?;
     Ok((
-        FrameBody::Transfer {
-            performative: p,
-            payload: rest,
+        Frame {
+            channel,
+            body: FrameBody::Open(p),
+        },
+        rest,
+    ))
+}
+
+#[inline(never)]
+fn read_begin(alloc: Global, channel: u16, fields: Bytes) -> Result<(Frame, Bytes), Error>
+    ensures { ReadsFrameOf channel (Some kind.Begin) fields result }
+{
+    lists_are_read();
+    let mut rest = fields;
+    let p = read_list(alloc, &mut rest)?;
+    Ok((
+        Frame {
+            channel,
+            body: FrameBody::Begin(p),
+        },
+        rest,
+    ))
+}
+
+#[inline(never)]
+fn read_attach(alloc: Global, channel: u16, fields: Bytes) -> Result<(Frame, Bytes), Error>
+    ensures { ReadsFrameOf channel (Some kind.Attach) fields result }
+{
+    lists_are_read();
+    let mut rest = fields;
+    let p = read_list(alloc, &mut rest)?;
+    Ok((
+        Frame {
+            channel,
+            body: FrameBody::Attach(p),
+        },
+        rest,
+    ))
+}
+
+#[inline(never)]
+fn read_flow(alloc: Global, channel: u16, fields: Bytes) -> Result<(Frame, Bytes), Error>
+    ensures { ReadsFrameOf channel (Some kind.Flow) fields result }
+{
+    lists_are_read();
+    let mut rest = fields;
+    let p = read_list(alloc, &mut rest)?;
+    Ok((
+        Frame {
+            channel,
+            body: FrameBody::Flow(p),
+        },
+        rest,
+    ))
+}
+
+#[inline(never)]
+fn read_transfer(alloc: Global, channel: u16, fields: Bytes) -> Result<(Frame, Bytes), Error>
+    ensures { ReadsFrameOf channel (Some kind.Transfer) fields result }
+{
+    lists_are_read();
+    let mut rest = fields;
+    let p = read_list(alloc, &mut rest)?;
+    Ok((
+        Frame {
+            channel,
+            body: FrameBody::Transfer {
+                performative: p,
+                payload: rest,
+            },
         },
         Bytes::new(),
     ))
 }
 
-fn read_disposition(alloc: Global, fields: Bytes) -> Result<(FrameBody, Bytes), Error>
-    ensures { ReadsBodyOf (Some kind.Disposition) fields result }
+#[inline(never)]
+fn read_disposition(alloc: Global, channel: u16, fields: Bytes) -> Result<(Frame, Bytes), Error>
+    ensures { ReadsFrameOf channel (Some kind.Disposition) fields result }
 {
     lists_are_read();
     let mut rest = fields;
     let p = read_list(alloc, &mut rest)?;
-    Ok((FrameBody::Disposition(p), rest))
+    Ok((
+        Frame {
+            channel,
+            body: FrameBody::Disposition(p),
+        },
+        rest,
+    ))
 }
 
-fn read_detach(alloc: Global, fields: Bytes) -> Result<(FrameBody, Bytes), Error>
-    ensures { ReadsBodyOf (Some kind.Detach) fields result }
+#[inline(never)]
+fn read_detach(alloc: Global, channel: u16, fields: Bytes) -> Result<(Frame, Bytes), Error>
+    ensures { ReadsFrameOf channel (Some kind.Detach) fields result }
 {
     lists_are_read();
     let mut rest = fields;
     let p = read_list(alloc, &mut rest)?;
-    Ok((FrameBody::Detach(p), rest))
+    Ok((
+        Frame {
+            channel,
+            body: FrameBody::Detach(p),
+        },
+        rest,
+    ))
 }
 
-fn read_end(alloc: Global, fields: Bytes) -> Result<(FrameBody, Bytes), Error>
-    ensures { ReadsBodyOf (Some kind.End) fields result }
+#[inline(never)]
+fn read_end(alloc: Global, channel: u16, fields: Bytes) -> Result<(Frame, Bytes), Error>
+    ensures { ReadsFrameOf channel (Some kind.End) fields result }
 {
     lists_are_read();
     let mut rest = fields;
     let p = read_list(alloc, &mut rest)?;
-    Ok((FrameBody::End(p), rest))
+    Ok((
+        Frame {
+            channel,
+            body: FrameBody::End(p),
+        },
+        rest,
+    ))
 }
 
-fn read_close(alloc: Global, fields: Bytes) -> Result<(FrameBody, Bytes), Error>
-    ensures { ReadsBodyOf (Some kind.Close) fields result }
+#[inline(never)]
+fn read_close(alloc: Global, channel: u16, fields: Bytes) -> Result<(Frame, Bytes), Error>
+    ensures { ReadsFrameOf channel (Some kind.Close) fields result }
 {
     lists_are_read();
     let mut rest = fields;
     let p = read_list(alloc, &mut rest)?;
-    Ok((FrameBody::Close(p), rest))
+    Ok((
+        Frame {
+            channel,
+            body: FrameBody::Close(p),
+        },
+        rest,
+    ))
 }

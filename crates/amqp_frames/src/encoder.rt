@@ -57,8 +57,9 @@ impl FrameEncoder {
         ensures { Encodes (λ v. v.items) frame.now self.now result }
     {
         let limit = self.max_piece_len;
-        if frame.body.is_within(limit - 4) {
-            let pieces = whole(alloc, frame)?;
+        let len = frame.body.text_len();
+        if frame.body.is_within(len, limit - 4) {
+            let pieces = whole(alloc, frame, len as usize)?;
             return Ok(pieces);
         }
         in_pieces(alloc, frame, limit)
@@ -78,15 +79,16 @@ impl FrameEncoder {
     }
 }
 
-/// The one piece of a frame that is whole.
-fn whole(alloc: Global, frame: &Frame) -> Result<Vec<Piece>, AllocError>
-    requires { length (text_of frame.now.body) + length (payload_of frame.now.body) + 4 < 2 ^ 32 }
+/// The one piece of a frame that is whole, whose text has this length.
+fn whole(alloc: Global, frame: &Frame, len: usize) -> Result<Vec<Piece>, AllocError>
+    requires text { len ≡ length (text_of frame.now.body) }
+    requires fits { length (text_of frame.now.body) + length (payload_of frame.now.body) + 4 < 2 ^ 32 }
     ensures { IfOk result (λ v. (p : _) × (v.items ≡ p ∷ []) × IsWholePiece frame.now p × DecodesTo frame.now (piece_bytes p)) }
 {
     whole_is_read(frame);
     let mut pieces = Vec::with_capacity(alloc, 1)?;
     let payload = frame.body.payload()?;
-    let head = whole_head(alloc, frame.channel, &frame.body)?;
+    let head = whole_head(alloc, frame.channel, &frame.body, len)?;
     pieces.push(Piece::new(head, payload)).unwrap();
     Ok(pieces)
 }

@@ -11,6 +11,7 @@ use bytes::{Bytes, BytesMut};
 use std::alloc::{AllocError, Global};
 
 /// A buffer with the header, and room for `len` bytes behind it.
+#[inline(always)]
 fn header(alloc: Global, channel: u16, len: usize) -> Result<BytesMut, AllocError>
     requires { len < 2 ^ 32 }
     ensures { IfOk result (λ b. (b.items ≡ header_text channel) × (len ≤ b.spare)) }
@@ -21,13 +22,18 @@ fn header(alloc: Global, channel: u16, len: usize) -> Result<BytesMut, AllocErro
     Ok(out)
 }
 
-/// The head of a frame that is whole.
-pub(crate) fn whole_head(alloc: Global, channel: u16, body: &FrameBody) -> Result<Bytes, AllocError>
-    requires { length (text_of body.now) < 2 ^ 32 }
+/// The head of a frame that is whole, whose text has this length.
+pub(crate) fn whole_head(
+    alloc: Global,
+    channel: u16,
+    body: &FrameBody,
+    len: usize,
+) -> Result<Bytes, AllocError>
+    requires text { len ≡ length (text_of body.now) }
+    requires fits { length (text_of body.now) < 2 ^ 32 }
     ensures { IfOk result (λ b. b ≡ header_text channel ++ text_of body.now) }
 {
-    let len = body.text_len();
-    let mut out = header(alloc, channel, len as usize)?;
+    let mut out = header(alloc, channel, len)?;
     body.put_text(&mut out);
     Ok(out.freeze()?)
 }

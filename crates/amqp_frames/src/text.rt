@@ -54,6 +54,7 @@ impl FrameBody {
     }
 
     /// The length of the payload.
+    #[inline(always)]
     pub(crate) fn payload_len(&self) -> usize
         ensures value { result ≡ length (payload_of self.now) }
         ensures bound { result < 2 ^ 63 }
@@ -68,6 +69,7 @@ impl FrameBody {
     }
 
     /// The payload, empty where there is none. It shares the frame's bytes.
+    #[inline(always)]
     pub(crate) fn payload(&self) -> Result<Bytes, AllocError>
         ensures { IfOk result (λ b. b ≡ payload_of self.now) }
     {
@@ -80,11 +82,13 @@ impl FrameBody {
         }
     }
 
-    /// Whether text and payload have at most `room` bytes.
-    pub(crate) fn is_within(&self, room: u32) -> bool
+    /// Whether a text of this length and the payload have at most `room` bytes.
+    #[inline(always)]
+    pub(crate) fn is_within(&self, len: u128, room: u32) -> bool
+        requires text { len ≡ length (text_of self.now) }
+        requires bound { len < 2 ^ 127 }
         ensures { IsTrue result ↔ (length (text_of self.now) + length (payload_of self.now) ≤ room) }
     {
-        let payload = self.payload_len() as u128;
-        self.text_len() + payload <= u128::from(room)
+        len + self.payload_len() as u128 <= u128::from(room)
     }
 }

@@ -50,6 +50,15 @@ table_take i rows t = subst IsTable (ap (λ xs. take i rows ++ xs) (none i rows)
     none : (k : ℕ) (xs : List Delivery) → drop (k + length xs) xs ≡ []
     none k xs = drop_all (k + length xs) xs (omega arith)
 
+-- a table without some of its records is one
+pub table_without : (from count : ℕ) (rows : List Delivery) → IsTable rows → IsTable (cut from count rows)
+table_without from count rows t =
+    either (nat_le count (length rows - from)) _ _ (table_cut from (from + count) rows (omega arith) t) (table_drop (count - (length rows - from)) (take from rows) (table_take from rows t))
+  where
+    either : (b : Bool) (xs ys : List Delivery) → IsTable xs → IsTable ys → IsTable (cond b xs ys)
+    either true xs ys h g = h
+    either false xs ys h g = g
+
 -- ---- what is meant is a stretch of the order
 
 filter_all : (d : DispositionSaid) (rows : List Delivery) → EachMeant d true rows →

@@ -25,3 +25,4 @@ pub mod PairRuns
 pub mod PairSteps
 pub mod PairHolding
 pub mod PairArrivals
+pub mod PairMoving

@@ -9,7 +9,7 @@ use Rattle.std.specs.List.{insert}
 use Rattle.std.proofs.lemmas.List.{get_or-map}
 use Rattle.std.proofs.lemmas.List.Edits.{insert_end}
 use Rattle.amqp_session.specs.declared.deliveries.Delivery.{Delivery}
-use Rattle.amqp_session.specs.Deliveries.{recorded, with_record, EachNumber, Above, Under, IsRising, IsTable, number_at}
+use Rattle.amqp_session.specs.Deliveries.{recorded, with_record, EachNumber, Above, Under, IsRising, IsTable, IsMissing, number_at}
 
 -- a comparison halves what is left
 pub halved : (c w w' n : ℕ) → 0 < w → w' ≤ w / 2 → 2 ^ c * w ≤ n → (2 ^ (c + 1) * w' ≤ n) × (2 ^ (c + 1) ≤ 2 * n + 1)
@@ -174,3 +174,40 @@ few_above m n (e ∷ es) a r u h = let more = few_above e.number n es r.0 r.1 u.
 pub few_rows : (n : ℕ) (rows : List Delivery) → IsRising rows → Under n rows → length rows ≤ n
 few_rows n [] r u = omega arith
 few_rows n (e ∷ es) r u = let more = few_above e.number n es r.0 r.1 u.1 u.0 in omega (arith, more)
+
+-- a number rises by one at least from each place to the next
+pub far_at : (rows : List Delivery) → IsRising rows → (i k j : ℕ) → j ≡ i + k → j < length rows → number_at rows i + k ≤ number_at rows j
+far_at rows r i zero j e h = subst (λ n. number_at rows i + 0 ≤ number_at rows n) (let same : i ≡ j = omega (arith, e) in same) (omega arith)
+far_at rows r i (suc k) j e h =
+    let less = far_at rows r i k (j - 1) (omega (arith, e)) (omega (arith, h)) in
+    let one = rising_at rows r (j - 1) j (omega (arith, e)) h in
+    omega (arith, less, one)
+
+-- what is as far behind the front as a number, or farther, is no smaller
+pub front_above : (rows : List Delivery) (first far : ℕ) → IsRising rows → first ≤ number_at rows 0 + far → (i : ℕ) → far ≤ i → i < length rows → first ≤ number_at rows i
+front_above rows first far r h i ge lt =
+    let more = far_at rows r 0 i i (omega arith) lt in
+    omega (arith, more, h, ge)
+
+-- what is nearer to the front, by more than the missing numbers, is smaller
+pub front_below : (rows : List Delivery) (first far missing : ℕ) → IsRising rows → IsMissing missing rows → far ≡ first - number_at rows 0 → (i : ℕ) → i + missing < far → i < length rows → number_at rows i < first
+front_below rows first far missing r m e i near lt =
+    let last = m (omega (arith, lt)) in
+    let more = far_at rows r i (length rows - 1 - i) (length rows - 1) (omega (arith, lt)) (omega (arith, lt)) in
+    omega (arith, last, more, e, near)
+
+-- the last number is as far behind the first as its place, or farther
+pub ends_apart : (rows : List Delivery) (n : ℕ) (first last : Delivery) → IsRising rows → n ≡ length rows → 0 < n → first ≡ slice_index_or rows 0 first → last ≡ slice_index_or rows (n - 1) last → first.number + (n - 1) ≤ last.number
+ends_apart rows n first last r e some at_first at_last =
+    let front = number_read rows 0 first (omega (arith, e, some)) at_first in
+    let back = number_read rows (n - 1) last (omega (arith, e, some)) at_last in
+    let more = far_at rows r 0 (n - 1) (n - 1) (omega arith) (omega (arith, e, some)) in
+    omega (arith, front, back, more)
+
+-- how many are missing, by the two ends
+pub ends_missing : (rows : List Delivery) (n : ℕ) (first last : Delivery) → IsRising rows → n ≡ length rows → 0 < n → first ≡ slice_index_or rows 0 first → last ≡ slice_index_or rows (n - 1) last → IsMissing (last.number - first.number - (n - 1)) rows
+ends_missing rows n first last r e some at_first at_last = λ any.
+    let apart = ends_apart rows n first last r e some at_first at_last in
+    let front = number_read rows 0 first (omega (arith, e, some)) at_first in
+    let back : number_at rows (length rows - 1) ≡ last.number = subst (λ k. number_at rows (k - 1) ≡ last.number) e (number_read rows (n - 1) last (omega (arith, e, some)) at_last) in
+    omega (arith, front, back, apart, e)

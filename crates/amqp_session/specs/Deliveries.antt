@@ -1,6 +1,6 @@
 -- Open deliveries: one record for each number, by rising number (AMQP 1.0 part 2, section 2.6.12).
 use Rattle.std.specs.Prelude.{ℕ, ◌<◌, ◌^◌, List, [], ◌∷◌, Option, Some, None, Bool, true, false, if◌then◌else◌, nat_eq, nat_lt, nat_le, map}
-use Rattle.std.specs.Prelude.{slice_index, length, take, drop, ◌++◌, ◌+◌, ◌-◌}
+use Rattle.std.specs.Prelude.{◌≡◌, slice_index, length, take, drop, ◌++◌, ◌+◌, ◌-◌}
 use Rattle.amqp_types.specs.declared.definitions.Role.{Role}
 use Rattle.amqp_types.specs.declared.definitions.Role.TheVariants.{Sender, Receiver}
 use Rattle.amqp_session.specs.declared.deliveries.Delivery.{Delivery}
@@ -56,6 +56,11 @@ IsTable rows = IsRising rows × Under (2 ^ 32) rows
 -- the number at a place
 abbrev pub number_at : List Delivery → ℕ → ℕ
 number_at rows i = slice_index (map (λ row. row.number) rows) i
+
+-- so many numbers are missing between the first record's and the last one's
+abbrev pub IsMissing : ℕ → List Delivery → Type 0
+IsMissing missing rows =
+    0 < length rows → number_at rows (length rows - 1) ≡ number_at rows 0 + (length rows - 1) + missing
 
 -- the record of a number
 abbrev pub record_at : ℕ → List Delivery → Option Delivery

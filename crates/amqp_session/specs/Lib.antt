@@ -23,3 +23,4 @@ pub mod OutgoingFrames
 pub mod Headline
 pub mod Pair
 pub mod PairLedger
+pub mod PairOrder

@@ -2,7 +2,8 @@
 -- on the way lead from what was taken of a run to what was put on it (AMQP 1.0 part 2, section 2.5.6).
 use Rattle.std.specs.Prelude.{◌≡◌, ◌+◌, ◌-◌, ◌%◌, ◌^◌, ◌<◌, ◌≤◌, ℕ, min, Bool, true, false, List, [], ◌∷◌, Some}
 use Rattle.amqp_types.specs.declared.states.SessionState.{SessionState}
-use Rattle.amqp_types.specs.declared.states.SessionState.TheVariants.{Unmapped, BeginSent, BeginReceived, Mapped, EndSent, EndReceived, Discarding}
+use Rattle.amqp_types.specs.declared.states.SessionState.TheVariants.{Unmapped, BeginSent, BeginReceived, Mapped}
+use Rattle.amqp_types.specs.declared.states.SessionState.TheVariants.{EndSent, EndReceived, Discarding}
 use Rattle.amqp_session.specs.declared.frame.SessionFrame.{SessionFrame}
 use Rattle.amqp_session.specs.declared.frame.SessionFrameBody.{SessionFrameBody}
 use Rattle.amqp_session.specs.declared.frame.SessionFrameBody.TheVariants as Body
@@ -19,15 +20,15 @@ has_begun EndSent = false
 has_begun EndReceived = false
 has_begun Discarding = false
 
--- a Begin of the peer came
-abbrev pub has_heard : SessionState → Bool
-has_heard Unmapped = false
-has_heard BeginSent = false
-has_heard BeginReceived = true
-has_heard Mapped = true
-has_heard EndSent = true
-has_heard EndReceived = true
-has_heard Discarding = true
+-- a Begin of the peer was received
+abbrev pub has_received : SessionState → Bool
+has_received Unmapped = false
+has_received BeginSent = false
+has_received BeginReceived = true
+has_received Mapped = true
+has_received EndSent = true
+has_received EndReceived = true
+has_received Discarding = true
 
 -- A place in the run of frames that one session sends: whether its Begin is among those before, how many transfers are, and how
 -- many transfers of the other session the last flow among them says were received (0 where there is none). None of these wraps.
@@ -36,9 +37,10 @@ pub record Place : Type 0 where
   pub sent : ℕ
   pub offered : ℕ
 
--- the sender of a run, as far as its frames show it, and the first number of the other session
+-- the sender of a run, as far as its frames show it: whether it received the other's Begin, its own first number and window, and the
+-- first number of the other session
 pub record RunOf : Type 0 where
-  pub heard : Bool
+  pub received_begin : Bool
   pub first : ℕ
   pub window : ℕ
   pub others : ℕ
@@ -46,12 +48,14 @@ pub record RunOf : Type 0 where
 -- a frame leads from one place of its sender's run to the next
 abbrev pub Moves : RunOf → Place → SessionFrameBody → Place → Type 0
 Moves s p (Body.Begin b) q =
-    (p.begun ≡ false) × (b.next_outgoing_id ≡ (s.first + p.sent) % 2 ^ 32) × (b.incoming_window ≡ s.window) × (q ≡ record p { begun = true })
+    (p.begun ≡ false) × (b.next_outgoing_id ≡ (s.first + p.sent) % 2 ^ 32) × (b.incoming_window ≡ s.window)
+    × (q ≡ record p { begun = true })
 Moves s p (Body.Flow f) q =
-    (received : ℕ) × (s.heard ≡ true) × (p.begun ≡ true) × (p.offered ≤ received) × (f.next_incoming_id ≡ Some ((s.others + received) % 2 ^ 32))
-    × (f.incoming_window ≡ s.window) × (f.next_outgoing_id ≡ (s.first + p.sent) % 2 ^ 32) × (q ≡ record p { offered = received })
-Moves s p (Body.Transfer t payload) q = (s.heard ≡ true) × (p.begun ≡ true) × (q ≡ record p { sent = p.sent + 1 })
-Moves s p (Body.Attach a) q = (s.heard ≡ true) × (p.begun ≡ true) × (q ≡ p)
+    (received : ℕ) × (s.received_begin ≡ true) × (p.begun ≡ true) × (p.offered ≤ received)
+    × (f.next_incoming_id ≡ Some ((s.others + received) % 2 ^ 32)) × (f.incoming_window ≡ s.window)
+    × (f.next_outgoing_id ≡ (s.first + p.sent) % 2 ^ 32) × (q ≡ record p { offered = received })
+Moves s p (Body.Transfer t payload) q = (s.received_begin ≡ true) × (p.begun ≡ true) × (q ≡ record p { sent = p.sent + 1 })
+Moves s p (Body.Attach a) q = (s.received_begin ≡ true) × (p.begun ≡ true) × (q ≡ p)
 Moves s p (Body.Disposition d) q = ⊥
 Moves s p (Body.Detach d) q = ⊥
 Moves s p (Body.End e) q = ⊥
@@ -84,7 +88,7 @@ core v = record {
 -- and may still send is what the other offered, and the other's window.
 pub record Keeps (v : Core) (put taken : Place) (other : SettingsSaid) : Type 0 where
   pub begun_is : put.begun ≡ has_begun v.state
-  pub heard_is : taken.begun ≡ has_heard v.state
+  pub received_is : taken.begun ≡ has_received v.state
   pub next_is : v.next ≡ (v.settings.next_outgoing_id + put.sent) % 2 ^ 32
   pub incoming_is : taken.begun ≡ true → v.incoming ≡ (other.next_outgoing_id + taken.sent) % 2 ^ 32
   pub window_is : taken.begun ≡ true → put.sent + v.window ≡ taken.offered + other.incoming_window
@@ -93,7 +97,12 @@ pub record Keeps (v : Core) (put taken : Place) (other : SettingsSaid) : Type 0 
   pub count_is : min (taken.sent - put.offered) 4294967295 ≤ v.count
 
 abbrev pub run_of : Core → SettingsSaid → RunOf
-run_of v other = record { heard = has_heard v.state; first = v.settings.next_outgoing_id; window = v.settings.incoming_window; others = other.next_outgoing_id }
+run_of v other = record {
+  received_begin = has_received v.state;
+  first = v.settings.next_outgoing_id;
+  window = v.settings.incoming_window;
+  others = other.next_outgoing_id;
+}
 
 -- its first number and its window are of four bytes
 abbrev pub FitsSettings : SettingsSaid → Type 0

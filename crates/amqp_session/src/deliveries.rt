@@ -2,7 +2,7 @@
 
 ghost use Rattle.std.specs.Prelude.{◌≡◌, ℕ, ◌+◌, ◌-◌, ◌*◌, ◌^◌, ◌<◌, ◌≤◌, [], length, slice_get, slice_set, Some, OnOk, IsTrue, false};
 ghost use Rattle.std.specs.VecDeque.{deque_capacity};
-ghost use Rattle.amqp_session.specs.Deliveries.{IsRising, IsTable, cut, nothing_read, number_at, recorded};
+ghost use Rattle.amqp_session.specs.Deliveries.{IsRising, IsTable, IsMissing, cut, nothing_read, number_at, recorded};
 
 use crate::numbers::InputHandle;
 use amqp_types::DeliveryTag;
@@ -37,6 +37,15 @@ pub struct WalkCount {
 #[derive(Drop)]
 pub(crate) struct Deliveries {
     rows: VecDeque<Delivery>,
+    /// How many numbers are missing between the first and the last.
+    missing: usize,
+}
+
+/// A part of a table: the places from `low` on, and below `high`.
+#[derive(Clone, Copy)]
+struct Part {
+    low: usize,
+    high: usize,
 }
 
 impl WalkCount {
@@ -53,7 +62,7 @@ impl WalkCount {
 
 impl Model for Deliveries {
     ghost use Rattle.std.specs.VecDeque.{deque_capacity};
-    ghost use Rattle.amqp_session.specs.Deliveries.{TableView, IsTable};
+    ghost use Rattle.amqp_session.specs.Deliveries.{TableView, IsTable, IsMissing};
 
     ghost Value = { TableView };
 
@@ -62,7 +71,19 @@ impl Model for Deliveries {
       capacity = deque_capacity t.rows;
     } };
 
-    ghost invariant = { λ t. IsTable t.rows.items };
+    ghost invariant = { λ t. IsTable t.rows.items × IsMissing t.missing t.rows.items };
+}
+
+/// How many numbers are missing between the first and the last of a table.
+fn missing(rows: &VecDeque<Delivery>) -> usize
+    requires table { IsTable rows.now.items }
+    ensures missing { IsMissing result rows.now.items }
+{
+    let len = rows.len();
+    if len == 0 {
+        return 0;
+    }
+    (rows[len - 1].number - rows[0].number) as usize - (len - 1)
 }
 
 /// A record takes the place of the one that stands there.
@@ -74,6 +95,47 @@ fn replace(rows: &mut VecDeque<Delivery>, place: usize, delivery: Delivery)
     rows[place] = delivery;
 }
 
+/// Whether the number stands at the place.
+fn stands_at(rows: &VecDeque<Delivery>, place: usize, number: u32) -> bool
+    ensures there { IsTrue result → (place < length rows.now.items) × (number_at rows.now.items place ≡ number) }
+    ensures not_there { result ≡ false → place < length rows.now.items → ¬ (number_at rows.now.items place ≡ number) }
+{
+    place < rows.len() && rows[place].number == number
+}
+
+/// Puts a record at its place: that of an older one of its number, or between the others.
+fn put_at(rows: &mut VecDeque<Delivery>, place: usize, delivery: Delivery)
+    requires table { IsTable rows.old.items }
+    requires room { length rows.old.items < deque_capacity rows.old }
+    requires within { place ≤ length rows.old.items }
+    requires below { (i : ℕ) → i < place → number_at rows.old.items i < delivery.number }
+    requires above { (i : ℕ) → place ≤ i → i < length rows.old.items → delivery.number ≤ number_at rows.old.items i }
+    ensures items { rows.new.items ≡ recorded delivery rows.old.items }
+    ensures capacity { deque_capacity rows.old ≤ deque_capacity rows.new }
+{
+    if stands_at(rows, place, delivery.number) {
+        replace(rows, place, delivery);
+    } else {
+        rows.insert(place, delivery).unwrap();
+    }
+}
+
+/// Takes away `count` records from a place on; those past the end are the first ones. The shorter side moves, once: nothing moves
+/// where they stand at an end.
+fn cut_out(rows: &mut VecDeque<Delivery>, from: usize, count: usize)
+    requires from { from ≤ length rows.old.items }
+    requires count { count ≤ length rows.old.items }
+    ensures items { rows.new.items ≡ cut from count rows.old.items }
+{
+    let rest = rows.len() - from;
+    if count <= rest {
+        rows.drain(from..from + count);
+    } else {
+        rows.truncate(from);
+        rows.drain(..count - rest);
+    }
+}
+
 impl Deliveries {
     /// A table with no record.
     pub(crate) fn new(alloc: Global) -> Deliveries
@@ -81,6 +143,7 @@ impl Deliveries {
     {
         Deliveries {
             rows: VecDeque::new(alloc),
+            missing: 0,
         }
     }
 
@@ -130,11 +193,11 @@ impl Deliveries {
         ensures rows { self.new.rows ≡ recorded delivery self.old.rows }
         ensures capacity { self.old.capacity ≤ self.new.capacity }
     {
-        if self.is_last(delivery.number) {
-            self.rows.push_back_reserved(delivery);
-        } else {
-            self.put(delivery);
+        if !self.is_last(delivery.number) {
+            return self.put(delivery);
         }
+        self.rows.push_back_reserved(delivery);
+        self.missing = missing(&self.rows);
     }
 
     /// Whether all numbers are below this one.
@@ -155,19 +218,8 @@ impl Deliveries {
         ensures capacity { self.old.capacity ≤ self.new.capacity }
     {
         let place = self.place_of(delivery.number, &mut WalkCount::new());
-        if self.stands_at(place, delivery.number) {
-            replace(&mut self.rows, place, delivery);
-        } else {
-            self.rows.insert(place, delivery).unwrap();
-        }
-    }
-
-    /// Whether the number stands at the place.
-    fn stands_at(&self, place: usize, number: u32) -> bool
-        ensures there { IsTrue result → (place < length self.now.rows) × (number_at self.now.rows place ≡ number) }
-        ensures not_there { result ≡ false → place < length self.now.rows → ¬ (number_at self.now.rows place ≡ number) }
-    {
-        place < self.rows.len() && self.rows[place].number == number
+        put_at(&mut self.rows, place, delivery);
+        self.missing = missing(&self.rows);
     }
 
     /// Takes away `count` records from a place on; those past the end are the first ones. The shorter side moves, once: nothing
@@ -177,16 +229,12 @@ impl Deliveries {
         requires count { count ≤ length self.old.rows }
         ensures rows { self.new.rows ≡ cut from count self.old.rows }
     {
-        let rest = self.rows.len() - from;
-        if count <= rest {
-            self.rows.drain(from..from + count);
-        } else {
-            self.rows.truncate(from);
-            self.rows.drain(..count - rest);
-        }
+        cut_out(&mut self.rows, from, count);
+        self.missing = missing(&self.rows);
     }
 
-    /// Where the numbers from `first` on begin, by a binary search. Each number that is read is counted.
+    /// Where the numbers from `first` on begin, by a binary search of the part that can hold the place. Each number that is read is
+    /// counted.
     pub(crate) fn place_of(&self, first: u32, walk: &mut WalkCount) -> usize
         requires { walk.old.comparisons ≡ 0 }
         ensures same { walk.new ≡ record walk.old { comparisons = walk.new.comparisons } }
@@ -195,8 +243,9 @@ impl Deliveries {
         ensures above { (i : ℕ) → result ≤ i → i < length self.now.rows → first ≤ number_at self.now.rows i }
         ensures cost { 2 ^ walk.new.comparisons ≤ 2 * length self.now.rows + 1 }
     {
-        let mut low = 0;
-        let mut high = self.len();
+        let part = self.part_of(first, walk);
+        let mut low = part.low;
+        let mut high = part.high;
         while low < high {
             let middle = low + (high - low) / 2;
             if self.number(middle, walk) < first {
@@ -206,5 +255,31 @@ impl Deliveries {
             }
         }
         low
+    }
+
+    /// The part that can hold the place where the numbers from `first` on begin. Numbers are whole and rise: so the front tells the
+    /// place, but for the missing numbers. Where those are more than half of the records, reading the front could cost a read more
+    /// than halving the whole table, and the part is the whole table.
+    fn part_of(&self, first: u32, walk: &mut WalkCount) -> Part
+        requires { walk.old.comparisons ≡ 0 }
+        ensures same { walk.new ≡ record walk.old { comparisons = walk.new.comparisons } }
+        ensures rising { IsRising self.now.rows }
+        ensures few { length self.now.rows ≤ 2 ^ 32 }
+        ensures order { result.low ≤ result.high }
+        ensures within { result.high ≤ length self.now.rows }
+        ensures below { (i : ℕ) → i < result.low → number_at self.now.rows i < first }
+        ensures above { (i : ℕ) → result.high ≤ i → i < length self.now.rows → first ≤ number_at self.now.rows i }
+        ensures spread { 2 ^ walk.new.comparisons * (result.high - result.low) ≤ length self.now.rows }
+        ensures cost { 2 ^ walk.new.comparisons ≤ 2 * length self.now.rows + 1 }
+    {
+        let len = self.len();
+        if len / 2 < self.missing || len == 0 {
+            return Part { low: 0, high: len };
+        }
+        let far = first.saturating_sub(self.number(0, walk)) as usize;
+        Part {
+            low: far.saturating_sub(self.missing).min(len),
+            high: far.min(len),
+        }
     }
 }

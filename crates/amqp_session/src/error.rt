@@ -156,7 +156,7 @@ pub enum BeginError {
     OutOfMemory,
 }
 
-/// Why a handle cannot tell how the session ended. No call answers it yet.
+/// Why a handle cannot tell how the session ended.
 #[derive(Clone, Copy, Debug, PartialEq, Eq, thiserror::Error)]
 pub enum TryEndError {
     /// The outcome was given before.

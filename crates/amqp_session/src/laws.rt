@@ -1,7 +1,7 @@
 //! Laws: what holds of every history of a session, as contracts of functions that do nothing; and how channels and handles
 //! compare.
 
-ghost use Rattle.std.specs.Prelude.{List, Option, ◌≡◌, ◌⊎◌, ◌<◌, ◌/◌, nat_eq, true};
+ghost use Rattle.std.specs.Prelude.{ℕ, Result, List, Option, ◌≡◌, ◌⊎◌, ◌<◌, ◌/◌, nat_eq, true};
 ghost use Rattle.std.specs.List.{fold};
 ghost use Rattle.std.specs.Hash as fed;
 ghost use Rattle.std.specs.Ordering.{nat_cmp};
@@ -13,6 +13,16 @@ ghost use Rattle.amqp_session.specs.History.{Entry, Made, LeadsTo};
 ghost use Rattle.amqp_session.specs.Headline.{Headline, Stands};
 ghost use Rattle.amqp_session.specs.Linked.{LinksAgree, ShownAgree, AwaitedOnce};
 ghost use Rattle.amqp_session.specs.OutgoingFrames.{OnChannel, calls_frames};
+ghost use Rattle.amqp_session.specs.Settings.{SettingsSaid};
+ghost use Rattle.amqp_session.specs.Transfers.{RequestedTransfer};
+ghost use Rattle.amqp_session.specs.declared.error.AllocLinkError.{AllocLinkError};
+ghost use Rattle.amqp_session.specs.declared.flow.LinkFlow.{LinkFlow};
+ghost use Rattle.amqp_session.specs.declared.numbers.OutputHandle.{OutputHandle as HandleSaid};
+ghost use Rattle.amqp_session.specs.declared.pair.Side.{Side};
+ghost use Rattle.amqp_types.specs.Attach.{AttachSaid};
+ghost use Rattle.amqp_session.specs.Pair.{PairView, Said, new_pair, AllocateLinkStep, BeginStep, AttachStep, FlowStep, TransferStep, ArriveStep};
+ghost use Rattle.amqp_session.specs.PairLedger.{FitsSettings};
+ghost use Rattle.amqp_session.specs.PairOrder.{IsMove, PairCall, PairChain, ArrivesInOrder, AreHistories};
 
 use crate::numbers::{IncomingChannel, InputHandle, OutgoingChannel, OutputHandle};
 use crate::relay::LinkRelay;
@@ -37,6 +47,32 @@ pub fn law_of_views<R: LinkRelay>()
 pub fn law_of_channels<R: LinkRelay>()
     ensures { let g = R.gives in
         (m : Made) (h : List (Entry R)) (v : SessionView R) → LeadsTo g m h v → OnChannel m.channel (calls_frames h) }
+{}
+
+/// Each call of a pair is a move of one side: calls of its session, of which what they take comes off the way to it, from the
+/// front, and what they hand out goes behind what is on the way to the other. And whatever moves a new pair has seen, the calls of
+/// each side's session are a history of it, and what each side sent is what the other received, and behind it what is still on the
+/// way: in order, each frame once (AMQP 1.0 part 2, section 2.5.6).
+pub fn law_of_pairs<R: LinkRelay>()
+    ensures allocate_link { let g = R.gives in
+        (side : Side) (name : List ℕ) (relay : Option R) (handle : Result HandleSaid AllocLinkError) (p q : PairView R)
+        → AllocateLinkStep g side name relay handle p q → IsMove g side p q }
+    ensures begin { let g = R.gives in
+        (side : Side) (result : Said) (p q : PairView R) → BeginStep g side result p q → IsMove g side p q }
+    ensures send_attach { let g = R.gives in
+        (side : Side) (a : AttachSaid) (result : Said) (p q : PairView R) → AttachStep g side a result p q → IsMove g side p q }
+    ensures send_flow { let g = R.gives in
+        (side : Side) (l : LinkFlow) (result : Said) (p q : PairView R) → FlowStep g side l result p q → IsMove g side p q }
+    ensures send_transfer { let g = R.gives in
+        (side : Side) (h : RequestedTransfer) (result : Said) (p q : PairView R) → TransferStep g side h result p q
+        → IsMove g side p q }
+    ensures arrive { let g = R.gives in
+        (side : Side) (result : Said) (p q : PairView R) → ArriveStep g side result p q → IsMove g side p q }
+    ensures histories { let g = R.gives in
+        (s t : SettingsSaid) (h : List (PairCall R)) (p : PairView R) → FitsSettings s → FitsSettings t
+        → PairChain g (new_pair s t) h p → AreHistories g s t h p }
+    ensures order { let g = R.gives in
+        (s t : SettingsSaid) (h : List (PairCall R)) (p : PairView R) → PairChain g (new_pair s t) h p → ArrivesInOrder h p }
 {}
 
 /// After any calls the live links' names and output handles are one to one, as the history says it and as the session shows it:

@@ -60,6 +60,7 @@ impl<R: LinkRelay> SessionPair<R> {
     /// Two sessions in `Unmapped` with these settings, each on channel 0, and nothing on the way. Takes no memory.
     pub fn new(alloc: Global, a: SessionSettings, b: SessionSettings) -> SessionPair<R>
         ensures view { result ≡ new_pair a b }
+        ensures holds { PairHolds result }
     {
         note_range(a.next_outgoing_id, a.incoming_window);
         note_range(b.next_outgoing_id, b.incoming_window);
@@ -101,6 +102,7 @@ impl<R: LinkRelay> SessionPair<R> {
         relay: Option<R>,
     ) -> Result<OutputHandle, AllocLinkError>
         ensures step { AllocateLinkStep R.gives side (string_bytes name) relay result self.old self.new }
+        ensures holds { PairHolds self.new }
     {
         match side {
             Side::A => self.a.allocate_link(name, relay),
@@ -114,6 +116,7 @@ impl<R: LinkRelay> SessionPair<R> {
     /// Nothing changes then.
     pub fn begin(&mut self, side: Side) -> Result<(), SessionInnerError>
         ensures step { BeginStep R.gives side result self.old self.new }
+        ensures holds { PairHolds self.new }
     {
         match side {
             Side::A => begin_at(&mut self.a, &mut self.to_b),
@@ -126,6 +129,7 @@ impl<R: LinkRelay> SessionPair<R> {
     /// `IllegalState` outside `Mapped`. `OutOfMemory` where memory is refused. Nothing changes then.
     pub fn send_attach(&mut self, side: Side, attach: Attach) -> Result<(), SessionInnerError>
         ensures step { AttachStep R.gives side attach result self.old self.new }
+        ensures holds { PairHolds self.new }
     {
         match side {
             Side::A => attach_at(&self.a, attach, &mut self.to_b),
@@ -138,6 +142,7 @@ impl<R: LinkRelay> SessionPair<R> {
     /// `IllegalState` outside `Mapped`. `OutOfMemory` where memory is refused. Nothing changes then.
     pub fn send_flow(&mut self, side: Side, flow: LinkFlow) -> Result<(), SessionInnerError>
         ensures step { FlowStep R.gives side flow result self.old self.new }
+        ensures holds { PairHolds self.new }
     {
         match side {
             Side::A => flow_at(&self.a, flow, &mut self.to_b),
@@ -159,6 +164,7 @@ impl<R: LinkRelay> SessionPair<R> {
         is_first: bool,
     ) -> Result<(), SessionInnerError>
         ensures step { TransferStep R.gives side (record { input_handle = input_handle.0; transfer = transfer; payload = payload; is_first = is_first }) result self.old self.new }
+        ensures holds { PairHolds self.new }
     {
         match side {
             Side::A => transfer_at(
@@ -187,6 +193,7 @@ impl<R: LinkRelay> SessionPair<R> {
     /// the session's answer; a frame that it refuses is gone.
     pub fn arrive(&mut self, side: Side) -> Result<(), SessionInnerError>
         ensures step { ArriveStep R.gives side result self.old self.new }
+        ensures holds { PairHolds self.new }
     {
         match side {
             Side::A => arrive_at(&mut self.a, &mut self.to_a, &mut self.to_b),

@@ -45,6 +45,15 @@ impl Model for SessionSettings {
     } };
 }
 
+impl Default for SessionSettings {
+    ghost is_default = { λ s. s ≡ default_settings };
+
+    /// As [`SessionSettings::new`].
+    fn default() -> SessionSettings {
+        SessionSettings::new()
+    }
+}
+
 impl SessionSettings {
     /// Number 0 first, both windows 5000, any handle, and nothing else.
     pub fn new() -> SessionSettings

@@ -65,6 +65,7 @@ impl Field for Handle {
 
     ghost at = { uint_at };
 
+    #[inline(always)]
     fn read(alloc: Global, bytes: &mut Bytes) -> Result<Handle, ReadError> {
         Ok(Handle(u32::read(alloc, bytes)?))
     }
@@ -77,6 +78,7 @@ impl Field for DeliveryTag {
 
     ghost at = { binary_at };
 
+    #[inline(always)]
     fn read(alloc: Global, bytes: &mut Bytes) -> Result<DeliveryTag, ReadError> {
         Ok(DeliveryTag(Bytes::read(alloc, bytes)?))
     }
@@ -90,6 +92,7 @@ impl Field for Role {
     ghost at = { role_at };
 
     #[tactic(auto, unfolding(crate::specs::Definitions::role_at))]
+    #[inline(always)]
     fn read(alloc: Global, bytes: &mut Bytes) -> Result<Role, ReadError> {
         if bool::read(alloc, bytes)? {
             Ok(Role::Receiver)
@@ -107,6 +110,7 @@ impl Field for SenderSettleMode {
     ghost at = { sender_mode_at };
 
     #[tactic(auto, unfolding(crate::specs::Definitions::sender_mode_at))]
+    #[inline(always)]
     fn read(alloc: Global, bytes: &mut Bytes) -> Result<SenderSettleMode, ReadError> {
         match u8::read(alloc, bytes)? {
             0 => Ok(SenderSettleMode::Unsettled),
@@ -125,6 +129,7 @@ impl Field for ReceiverSettleMode {
     ghost at = { receiver_mode_at };
 
     #[tactic(auto, unfolding(crate::specs::Definitions::receiver_mode_at))]
+    #[inline(always)]
     fn read(alloc: Global, bytes: &mut Bytes) -> Result<ReceiverSettleMode, ReadError> {
         match u8::read(alloc, bytes)? {
             0 => Ok(ReceiverSettleMode::First),

@@ -10,6 +10,7 @@ ghost use Rattle.amqp_types.specs.Definitions.{receiver_mode_text, sender_mode_o
 use crate::definitions::{DeliveryTag, Handle, ReceiverSettleMode, Role, SenderSettleMode};
 use amqp_values::{Fields, Leaf, Raw, Symbol};
 
+#[inline(always)]
 pub(crate) fn uint_or(n: u32, default: u32) -> Leaf<'static>
     ensures { leaf_text result ≡ uint_or default n }
 {
@@ -20,6 +21,7 @@ pub(crate) fn uint_or(n: u32, default: u32) -> Leaf<'static>
     }
 }
 
+#[inline(always)]
 pub(crate) fn ushort_or(n: u16, default: u16) -> Leaf<'static>
     ensures { leaf_text result ≡ ushort_or default n }
 {
@@ -30,12 +32,14 @@ pub(crate) fn ushort_or(n: u16, default: u16) -> Leaf<'static>
     }
 }
 
+#[inline(always)]
 pub(crate) fn flag(set: bool) -> Leaf<'static>
     ensures { leaf_text result ≡ flag_text set }
 {
     if set { Leaf::Boolean(true) } else { Leaf::Null }
 }
 
+#[inline(always)]
 pub(crate) fn optional_uint(n: Option<u32>) -> Leaf<'static>
     ensures { leaf_text result ≡ optional_text uint_text n }
 {
@@ -45,6 +49,7 @@ pub(crate) fn optional_uint(n: Option<u32>) -> Leaf<'static>
     }
 }
 
+#[inline(always)]
 pub(crate) fn optional_ushort(n: Option<u16>) -> Leaf<'static>
     ensures { leaf_text result ≡ optional_text ushort_text n }
 {
@@ -54,6 +59,7 @@ pub(crate) fn optional_ushort(n: Option<u16>) -> Leaf<'static>
     }
 }
 
+#[inline(always)]
 pub(crate) fn optional_ulong(n: Option<u64>) -> Leaf<'static>
     ensures { leaf_text result ≡ optional_text ulong_text n }
 {
@@ -63,6 +69,7 @@ pub(crate) fn optional_ulong(n: Option<u64>) -> Leaf<'static>
     }
 }
 
+#[inline(always)]
 pub(crate) fn optional_boolean(b: Option<bool>) -> Leaf<'static>
     ensures { leaf_text result ≡ optional_text boolean_text b }
 {
@@ -72,6 +79,7 @@ pub(crate) fn optional_boolean(b: Option<bool>) -> Leaf<'static>
     }
 }
 
+#[inline(always)]
 pub(crate) fn optional_string(text: &Option<String>) -> Leaf<'_>
     ensures { leaf_text result ≡ optional_text string_text (option_map string_bytes text.now) }
 {
@@ -81,6 +89,7 @@ pub(crate) fn optional_string(text: &Option<String>) -> Leaf<'_>
     }
 }
 
+#[inline(always)]
 pub(crate) fn optional_symbols(symbols: &Option<Vec<Symbol>>) -> Leaf<'_>
     ensures { leaf_text result ≡ optional_text symbols_text (option_map (λ v. v.items) symbols.now) }
 {
@@ -90,6 +99,7 @@ pub(crate) fn optional_symbols(symbols: &Option<Vec<Symbol>>) -> Leaf<'_>
     }
 }
 
+#[inline(always)]
 pub(crate) fn optional_value(value: &Option<Raw>) -> Leaf<'_>
     ensures { leaf_text result ≡ optional_text value_text value.now }
 {
@@ -99,6 +109,7 @@ pub(crate) fn optional_value(value: &Option<Raw>) -> Leaf<'_>
     }
 }
 
+#[inline(always)]
 pub(crate) fn optional_fields(fields: &Option<Fields>) -> Leaf<'_>
     ensures { leaf_text result ≡ optional_text value_text fields.now }
 {
@@ -108,6 +119,7 @@ pub(crate) fn optional_fields(fields: &Option<Fields>) -> Leaf<'_>
     }
 }
 
+#[inline(always)]
 pub(crate) fn optional_tag(tag: &Option<DeliveryTag>) -> Leaf<'_>
     ensures { leaf_text result ≡ optional_text binary_text (option_map (λ t. t.0) tag.now) }
 {
@@ -117,6 +129,7 @@ pub(crate) fn optional_tag(tag: &Option<DeliveryTag>) -> Leaf<'_>
     }
 }
 
+#[inline(always)]
 pub(crate) fn optional_handle(handle: Option<Handle>) -> Leaf<'static>
     ensures { leaf_text result ≡ optional_text uint_text (option_map (λ h. h.0) handle) }
 {
@@ -126,6 +139,7 @@ pub(crate) fn optional_handle(handle: Option<Handle>) -> Leaf<'static>
     }
 }
 
+#[inline(always)]
 pub(crate) fn role(role: Role) -> Leaf<'static>
     ensures { leaf_text result ≡ role_text role }
 {
@@ -135,6 +149,7 @@ pub(crate) fn role(role: Role) -> Leaf<'static>
     }
 }
 
+#[inline(always)]
 pub(crate) fn sender_mode(mode: SenderSettleMode) -> Leaf<'static>
     ensures { leaf_text result ≡ sender_mode_or_mixed mode }
 {
@@ -145,6 +160,7 @@ pub(crate) fn sender_mode(mode: SenderSettleMode) -> Leaf<'static>
     }
 }
 
+#[inline(always)]
 pub(crate) fn receiver_mode(mode: ReceiverSettleMode) -> Leaf<'static>
     ensures { leaf_text result ≡ receiver_mode_or_first mode }
 {
@@ -154,6 +170,7 @@ pub(crate) fn receiver_mode(mode: ReceiverSettleMode) -> Leaf<'static>
     }
 }
 
+#[inline(always)]
 pub(crate) fn optional_receiver_mode(mode: Option<ReceiverSettleMode>) -> Leaf<'static>
     ensures { leaf_text result ≡ optional_text receiver_mode_text mode }
 {

@@ -23,6 +23,7 @@ pub trait Composite: Drop {
 }
 
 #[tactic(auto, unfolding(crate::specs::Composite::list_at))]
+#[inline(always)]
 fn list(bytes: &mut Bytes) -> Result<Parts, ReadError>
     ensures { Gives (λ p. p) result bytes.new (list_at bytes.old) }
 {
@@ -47,6 +48,7 @@ fn list(bytes: &mut Bytes) -> Result<Parts, ReadError>
 
 /// The composite whose list stands at the front, behind its descriptor.
 #[tactic(auto, unfolding(crate::specs::Composite::composite_at))]
+#[inline(always)]
 pub fn read_list<C: Composite>(alloc: Global, bytes: &mut Bytes) -> Result<C, ReadError>
     ensures { Gives (λ x. x) result bytes.new (composite_at C.body_at bytes.old) }
 {
@@ -83,6 +85,7 @@ fn code_of_name(name: &[u8]) -> Option<u8>
     }
 }
 
+#[inline(never)]
 fn meaning(name: &[u8]) -> Result<u64, ReadError>
     ensures { (rest : List ℕ) → Gives (λ x. x) result rest (meaning_at (name.now, rest)) }
 {

@@ -7,6 +7,7 @@ ghost use Rattle.amqp_values.specs.Reading.{Gives, byte_at, number_at, count_at,
 use crate::error::ReadError;
 use bytes::Bytes;
 
+#[inline(always)]
 pub(crate) fn take_byte(bytes: &mut Bytes) -> Result<u8, ReadError>
     ensures { Gives (λ x. x) result bytes.new (byte_at bytes.old) }
 {
@@ -18,6 +19,7 @@ pub(crate) fn take_byte(bytes: &mut Bytes) -> Result<u8, ReadError>
     Ok(first)
 }
 
+#[inline(always)]
 pub(crate) fn take_u16(bytes: &mut Bytes) -> Result<u16, ReadError>
     ensures { Gives (λ x. x) result bytes.new (number_at w16 bytes.old) }
 {
@@ -30,6 +32,7 @@ pub(crate) fn take_u16(bytes: &mut Bytes) -> Result<u16, ReadError>
     Ok(number)
 }
 
+#[inline(always)]
 pub(crate) fn take_u32(bytes: &mut Bytes) -> Result<u32, ReadError>
     ensures { Gives (λ x. x) result bytes.new (number_at w32 bytes.old) }
 {
@@ -42,6 +45,7 @@ pub(crate) fn take_u32(bytes: &mut Bytes) -> Result<u32, ReadError>
     Ok(number)
 }
 
+#[inline(always)]
 pub(crate) fn take_u64(bytes: &mut Bytes) -> Result<u64, ReadError>
     ensures { Gives (λ x. x) result bytes.new (number_at w64 bytes.old) }
 {
@@ -57,6 +61,7 @@ pub(crate) fn take_u64(bytes: &mut Bytes) -> Result<u64, ReadError>
 }
 
 /// A length or a count: one byte, or four where it is wide.
+#[inline(always)]
 pub(crate) fn take_count(wide: bool, bytes: &mut Bytes) -> Result<u32, ReadError>
     ensures { Gives (λ x. x) result bytes.new (count_at wide bytes.old) }
 {
@@ -69,6 +74,7 @@ pub(crate) fn take_count(wide: bool, bytes: &mut Bytes) -> Result<u32, ReadError
 
 /// So many bytes, cut off and not copied.
 #[tactic(auto, unfolding(crate::specs::Reading::cut_at))]
+#[inline(always)]
 fn cut(len: usize, bytes: &mut Bytes) -> Result<Bytes, ReadError>
     ensures value { Gives (λ x. x) result bytes.new (cut_at len bytes.old) }
     ensures len { IfOk result (λ b. length b ≡ len) }
@@ -81,6 +87,7 @@ fn cut(len: usize, bytes: &mut Bytes) -> Result<Bytes, ReadError>
 
 /// A length, and that many bytes.
 #[tactic(auto, unfolding(crate::specs::Reading::region_at))]
+#[inline(always)]
 pub(crate) fn take_region(wide: bool, bytes: &mut Bytes) -> Result<Bytes, ReadError>
     ensures value { Gives (λ x. x) result bytes.new (region_at wide bytes.old) }
     ensures bound { IfOk result (λ b. length b < 2 ^ 32) }

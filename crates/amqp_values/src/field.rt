@@ -36,6 +36,7 @@ impl Field for u8 {
     ghost at = { ubyte_at };
 
     #[tactic(auto, unfolding(crate::specs::Number::ubyte_at))]
+    #[inline(always)]
     fn read(_alloc: Global, bytes: &mut Bytes) -> Result<u8, ReadError> {
         match take_byte(bytes)? {
             codes::UBYTE => take_byte(bytes),
@@ -52,6 +53,7 @@ impl Field for u16 {
     ghost at = { ushort_at };
 
     #[tactic(auto, unfolding(crate::specs::Number::ushort_at))]
+    #[inline(always)]
     fn read(_alloc: Global, bytes: &mut Bytes) -> Result<u16, ReadError> {
         match take_byte(bytes)? {
             codes::USHORT => take_u16(bytes),
@@ -68,6 +70,7 @@ impl Field for u32 {
     ghost at = { uint_at };
 
     #[tactic(auto, unfolding(crate::specs::Number::uint_at))]
+    #[inline(always)]
     fn read(_alloc: Global, bytes: &mut Bytes) -> Result<u32, ReadError> {
         match take_byte(bytes)? {
             codes::UINT0 => Ok(0),
@@ -86,6 +89,7 @@ impl Field for u64 {
     ghost at = { ulong_at };
 
     #[tactic(auto, unfolding(crate::specs::Number::ulong_at))]
+    #[inline(always)]
     fn read(_alloc: Global, bytes: &mut Bytes) -> Result<u64, ReadError> {
         match take_byte(bytes)? {
             codes::ULONG0 => Ok(0),
@@ -104,6 +108,7 @@ impl Field for bool {
     ghost at = { boolean_at };
 
     #[tactic(auto, unfolding(crate::specs::Number::boolean_at))]
+    #[inline(always)]
     fn read(_alloc: Global, bytes: &mut Bytes) -> Result<bool, ReadError> {
         match take_byte(bytes)? {
             codes::TRUE => Ok(true),

@@ -28,6 +28,7 @@ pub enum Leaf<'a> {
     Value(&'a [u8]),
 }
 
+#[inline(always)]
 fn uint_len(n: u32) -> u128
     ensures { result ≡ length (uint_text n) }
 {
@@ -40,6 +41,7 @@ fn uint_len(n: u32) -> u128
     }
 }
 
+#[inline(always)]
 fn put_uint(out: &mut BytesMut, n: u32)
     requires { length (uint_text n) ≤ out.old.spare }
     ensures items { out.new.items ≡ out.old.items ++ uint_text n }
@@ -55,6 +57,7 @@ fn put_uint(out: &mut BytesMut, n: u32)
     }
 }
 
+#[inline(always)]
 fn ulong_len(n: u64) -> u128
     ensures { result ≡ length (ulong_text n) }
 {
@@ -67,6 +70,7 @@ fn ulong_len(n: u64) -> u128
     }
 }
 
+#[inline(always)]
 fn put_ulong(out: &mut BytesMut, n: u64)
     requires { length (ulong_text n) ≤ out.old.spare }
     ensures items { out.new.items ≡ out.old.items ++ ulong_text n }
@@ -82,6 +86,7 @@ fn put_ulong(out: &mut BytesMut, n: u64)
     }
 }
 
+#[inline(always)]
 fn put_ushort(out: &mut BytesMut, n: u16)
     requires { 3 ≤ out.old.spare }
     ensures items { out.new.items ≡ out.old.items ++ leaf_text (Leaf.Ushort n) }
@@ -92,6 +97,7 @@ fn put_ushort(out: &mut BytesMut, n: u16)
 }
 
 #[tactic(auto, unfolding(crate::specs::Writing::var_text))]
+#[inline(always)]
 fn var_len(s: &[u8], short: u8, long: u8) -> u128
     ensures value { result ≡ length (var_text short long s.now) }
     ensures small { result < 2 ^ 65 }
@@ -101,6 +107,7 @@ fn var_len(s: &[u8], short: u8, long: u8) -> u128
 }
 
 #[tactic(auto, unfolding(crate::specs::Writing::var_text))]
+#[inline(always)]
 fn put_var(out: &mut BytesMut, s: &[u8], short: u8, long: u8)
     requires room { length (var_text short long s.now) ≤ out.old.spare }
     requires fits { length (var_text short long s.now) < 2 ^ 32 }
@@ -117,12 +124,14 @@ fn put_var(out: &mut BytesMut, s: &[u8], short: u8, long: u8)
     out.extend_reserved(s);
 }
 
+#[inline(always)]
 fn boolean_code(set: bool) -> u8
     ensures { boolean_text set ≡ result ∷ [] }
 {
     if set { codes::TRUE } else { codes::FALSE }
 }
 
+#[inline(always)]
 fn begins_as_null(bytes: &[u8]) -> bool
     ensures { result ≡ is_null bytes.now }
 {
@@ -135,6 +144,7 @@ impl Encode for Leaf<'_> {
     ghost most = { 2 ^ 100 };
 
     #[tactic(auto, unfolding(crate::specs::Writing::var_text, crate::specs::Writing::symbols_text))]
+    #[inline(always)]
     fn is_null(&self) -> bool {
         match self {
             Leaf::Null => true,
@@ -143,6 +153,7 @@ impl Encode for Leaf<'_> {
         }
     }
 
+    #[inline(always)]
     fn encoded_len(&self) -> u128 {
         match self {
             Leaf::Null | Leaf::Boolean(_) => 1,
@@ -158,6 +169,7 @@ impl Encode for Leaf<'_> {
         }
     }
 
+    #[inline(always)]
     fn put(&self, out: &mut BytesMut) {
         match self {
             Leaf::Null => out.extend_reserved(&[codes::NULL]),

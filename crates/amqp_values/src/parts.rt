@@ -22,6 +22,7 @@ impl Parts {
     /// The next field; `None` where it is null or the list has ended. `Malformed` where what stands there is not of the
     /// type, `OutOfMemory` as [`Field::read`].
     #[tactic(auto, unfolding(crate::specs::Slots::optional_at))]
+    #[inline(always)]
     pub fn next<F: Field>(&mut self, alloc: Global) -> Result<Option<F>, ReadError>
         ensures { Gives (option_map F.view) result self.new (optional_at F.at self.old) }
     {
@@ -38,6 +39,7 @@ impl Parts {
 
     /// The next field, which is mandatory: `Malformed` also where it is null or the list has ended.
     #[tactic(auto, unfolding(crate::specs::Slots::required_at))]
+    #[inline(always)]
     pub fn required<F: Field>(&mut self, alloc: Global) -> Result<F, ReadError>
         ensures { Gives F.view result self.new (required_at F.at self.old) }
     {
@@ -46,6 +48,7 @@ impl Parts {
 
     /// The next field, or its default where it is null or the list has ended.
     #[tactic(auto, unfolding(crate::specs::Slots::default_at))]
+    #[inline(always)]
     pub fn or<F: Field>(&mut self, alloc: Global, default: F) -> Result<F, ReadError>
         ensures { Gives F.view result self.new (default_at (F.view default) F.at self.old) }
     {
@@ -54,6 +57,7 @@ impl Parts {
 
     /// Answers the composite if neither a part nor a byte is left, else `Malformed`.
     #[tactic(auto, unfolding(crate::specs::Slots::end_at))]
+    #[inline(always)]
     pub fn finish<C: Drop>(&self, composite: C) -> Result<C, ReadError>
         ensures { Gives (λ x. x) result self.now (finished_at composite self.now) }
     {

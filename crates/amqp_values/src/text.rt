@@ -13,6 +13,7 @@ use std::alloc::Global;
 
 /// A length and that many bytes, behind the short code or the long one.
 #[tactic(auto, unfolding(crate::specs::Text::var_at))]
+#[inline(always)]
 pub(crate) fn variable(bytes: &mut Bytes, short: u8, long: u8) -> Result<Bytes, ReadError>
     ensures value { Gives (λ x. x) result bytes.new (var_at short long bytes.old) }
     ensures bound { IfOk result (λ b. length b < 2 ^ 32) }
@@ -35,6 +36,7 @@ impl Field for Bytes {
     ghost at = { binary_at };
 
     #[tactic(auto, unfolding(crate::specs::Text::binary_at))]
+    #[inline(always)]
     fn read(_alloc: Global, bytes: &mut Bytes) -> Result<Bytes, ReadError> {
         variable(bytes, codes::BINARY8, codes::BINARY32)
     }

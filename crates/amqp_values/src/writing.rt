@@ -10,6 +10,7 @@ use crate::error::WriteError;
 use bytes::BytesMut;
 
 /// How many parts stand before the nulls at the end, and their size.
+#[inline(always)]
 fn extent<T: Encode>(items: &[T]) -> (usize, u128)
     requires many { length items.now ≤ 16 }
     requires long { T.most < 2 ^ 123 }
@@ -31,6 +32,7 @@ fn extent<T: Encode>(items: &[T]) -> (usize, u128)
     (count, size)
 }
 
+#[inline(always)]
 fn put_all<T: Encode>(items: &[T], out: &mut BytesMut)
     requires room { length (joined (map T.text items.now)) ≤ out.old.spare }
     requires fits { length (joined (map T.text items.now)) < 2 ^ 32 }
@@ -44,6 +46,7 @@ fn put_all<T: Encode>(items: &[T], out: &mut BytesMut)
 
 /// The parts without the nulls at the end, and their size.
 #[tactic(auto, using(crate::proofs::Loops::trimmed, crate::proofs::Loops::trimmed_bound))]
+#[inline(always)]
 fn trimmed<T: Encode>(items: &[T]) -> (&[T], u128)
     requires many { length items.now ≤ 16 }
     requires long { T.most < 2 ^ 123 }
@@ -57,6 +60,7 @@ fn trimmed<T: Encode>(items: &[T]) -> (&[T], u128)
 }
 
 #[tactic(auto, unfolding(crate::specs::Writing::list_text))]
+#[inline(always)]
 fn list_len<T: Encode>(parts: &[T], size: u128) -> u128
     requires small { size < 2 ^ 127 }
     requires size_is { size ≡ length (joined (map T.text parts.now)) }
@@ -73,6 +77,7 @@ fn list_len<T: Encode>(parts: &[T], size: u128) -> u128
 }
 
 #[tactic(auto, unfolding(crate::specs::Writing::list_text))]
+#[inline(always)]
 fn put_head(out: &mut BytesMut, count: usize, size: usize)
     requires room { length (list_head count size) ≤ out.old.spare }
     requires parts { 0 < count }
@@ -91,6 +96,7 @@ fn put_head(out: &mut BytesMut, count: usize, size: usize)
 }
 
 #[tactic(auto, unfolding(crate::specs::Writing::list_text))]
+#[inline(always)]
 fn put_list<T: Encode>(parts: &[T], size: usize, out: &mut BytesMut)
     requires few { length parts.now ≤ 16 }
     requires size_is { size ≡ length (joined (map T.text parts.now)) }

@@ -2,6 +2,9 @@
 //! reads it, for an engine of its own. What the transcript prints follows, then what it says of a line that it cannot read,
 //! and its status where that is not 0.
 //!
+//! Behind `each-channel HEX` a transcript goes on with that performative on each channel from 0 to 65535, and what is the same
+//! several times in a row is printed once, behind its count.
+//!
 //! Behind `connection STATE` the lines are calls of a connection alone, in that state:
 //!
 //! | Line | Call |
@@ -12,9 +15,21 @@
 //! | `allocate N`, `deallocate CHANNEL` | `allocate_session`, `deallocate_session` |
 //! | `stop REASON` | `set_connection_stop_reason` |
 //! | `route CHANNEL`, `show` | the calls that read |
+//!
+//! Behind `handled STATE` the lines are runs of a handled engine, whose connection is in that state, and calls of its handles:
+//!
+//! | Line | Run or call |
+//! |---|---|
+//! | `run` | a run without inputs |
+//! | `open`, `close`, `close CONDITION`, `begin N`, `end N`, `recv HEX` | a run with this input |
+//! | `connection CALL`, `other CALL` | of the first handle of the connection, of the second: `is`, `try`, `close`, `close CONDITION` |
+//! | `handle N` | two handles of session N |
+//! | `session CALL`, `twin CALL` | of the first of these, of the second: `is`, `try`, `end`, `end CONDITION`, `close` |
+//! | `engine STATE` | another engine is handed to the handles |
 #![tactic(auto)]
 
 mod connection;
+mod handled;
 mod reading;
 mod row;
 

@@ -85,12 +85,16 @@ pub fn open(alloc: Global, name: &str) -> anyhow::Result<Open> {
     })
 }
 
+/// What these digits say.
+pub fn bytes(alloc: Global, digits: &str) -> anyhow::Result<Bytes> {
+    Ok(Bytes::from_vec(hex::decode(alloc, digits)?)?)
+}
+
 /// A channel, and the performative behind it.
 pub fn on_channel(alloc: Global, text: &str) -> anyhow::Result<(u16, Performative)> {
     let Some((number, digits)) = text.split_once(' ') else {
         anyhow::bail!("no channel");
     };
-    let bytes = Bytes::from_vec(hex::decode(alloc, digits)?)?;
-    let (performative, _rest) = Performative::read(alloc, bytes)?;
+    let (performative, _rest) = Performative::read(alloc, bytes(alloc, digits)?)?;
     Ok((channel(number)?, performative))
 }

@@ -1,6 +1,6 @@
 //! A row, and what it prints.
 
-use crate::connection;
+use crate::{connection, handled};
 use fe2o3_amqp::replay;
 use std::alloc::Global;
 use std::io::Write;
@@ -18,12 +18,49 @@ pub fn next(alloc: Global, lines: &mut String, line: &str) -> anyhow::Result<Vec
     Ok(text)
 }
 
-/// What a row prints: the calls of a connection, or else a transcript.
+/// What a row prints: the calls of a connection, or of handles, a transcript that ends on each channel, or else a transcript.
 pub fn answer(alloc: Global, lines: &str) -> anyhow::Result<Vec<u8>> {
-    match lines.strip_prefix("connection ") {
-        Some(text) => Ok(connection::answer(alloc, text)?.into_bytes()),
+    if let Some(text) = lines.strip_prefix("connection ") {
+        return Ok(connection::answer(alloc, text)?.into_bytes());
+    }
+    if let Some(text) = lines.strip_prefix("handled ") {
+        return Ok(handled::answer(alloc, text)?.into_bytes());
+    }
+    match lines.strip_prefix("each-channel ") {
+        Some(text) => on_each_channel(alloc, text),
         None => transcript(alloc, lines),
     }
+}
+
+/// What a transcript prints behind which the same performative comes on each channel: each line, and how often it stands there
+/// in a row.
+fn on_each_channel(alloc: Global, text: &str) -> anyhow::Result<Vec<u8>> {
+    let (body, lines) = text.split_once('\n').unwrap_or((text, ""));
+    let mut all = String::from_str(alloc, lines)?;
+    for channel in 0..=u16::MAX {
+        let digits = hex::encode(alloc, &channel.to_be_bytes())?;
+        all.push_str(format!(in alloc; "recv 0200{digits}{body}\n")?.as_str())?;
+    }
+    counted(alloc, transcript(alloc, all.as_str())?.as_slice())
+}
+
+/// Each line once that stands several times in a row, behind their count.
+fn counted(alloc: Global, text: &[u8]) -> anyhow::Result<Vec<u8>> {
+    let mut said = Vec::new(alloc);
+    let mut last = String::new(alloc);
+    let mut count = 0u64;
+    for line in std::str::from_utf8(text)?.lines() {
+        if line != last.as_str() {
+            if count > 0 {
+                writeln!(said, "{count} {last}")?;
+            }
+            last = String::from_str(alloc, line)?;
+            count = 0;
+        }
+        count = count.saturating_add(1);
+    }
+    writeln!(said, "{count} {last}")?;
+    Ok(said)
 }
 
 /// What a transcript prints.

@@ -1,10 +1,12 @@
-//! Tests of an engine that need its types, by public calls alone: single inputs and runs, links with two kinds of relay, refused
-//! memory, conversions, and a transcript that another program drives. The rows of a connection and of transcripts are those of
-//! the program `engine_rows`.
+//! Tests of an engine that need its types, by public calls alone: single inputs and runs, links with two kinds of relay, a close
+//! by a handle, refused memory, conversions, and a transcript that another program drives. The rows of a connection, of handles
+//! and of transcripts are those of the program `engine_rows`.
 #![tactic(auto)]
 
 #[cfg(test)]
 mod asking;
+#[cfg(test)]
+mod closing;
 #[cfg(test)]
 mod dispositions;
 #[cfg(test)]

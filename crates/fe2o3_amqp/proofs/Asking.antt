@@ -52,6 +52,15 @@ reaches g finds asks acts u v w k n refusal same found answers asked =
       | inr x ↦ (Some n, [], inr (n, k, found, refl, inr x))
     ]
 
+-- so it is, and that session was reached
+pub reaches_there : {R : Type 0} (g : Relays R) (finds : Result ℕ ConnectionInnerError → ConnectionView → Type 0) (asks : Calls R) (acts : Acts R) (u v w : EngineView R) (k : ConnectionView) (n : ℕ) (refusal : Option StepError) →
+    u ≡ v → finds (Ok n) k → Answers g asks acts → Asks acts (record u { connection = k }) n refusal w → (calls : List (session.Entry R)) × Reaches g finds v asks (Some n) calls refusal w
+reaches_there g finds asks acts u v w k n refusal same found answers asked =
+    elim (called g asks acts (record v { connection = k }) w n refusal answers (subst (λ (x : EngineView _). Asks acts (record x { connection = k }) n refusal w) same asked)) [
+      | inl c ↦ (c.0, inr (n, k, found, refl, inl c.1))
+      | inr x ↦ ([], inr (n, k, found, refl, inr x))
+    ]
+
 pub reaches_none : {R : Type 0} (g : Relays R) (finds : Result ℕ ConnectionInnerError → ConnectionView → Type 0) (asks : Calls R) (u v : EngineView R) (k : ConnectionView) (e : ConnectionInnerError) (refusal : Option StepError) →
     u ≡ v → finds (Err e) k → refusal ≡ Some (Connection e) → (reached : Option ℕ) × (calls : List (session.Entry R)) × Reaches g finds v asks reached calls refusal (record u { connection = k })
 reaches_none g finds asks u v k e refusal same found refused = (None, [], inl (e, k, found, refl, refl, refused, ap (λ (x : EngineView _). record x { connection = k }) same))

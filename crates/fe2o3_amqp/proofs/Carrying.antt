@@ -40,7 +40,7 @@ use Rattle.fe2o3_amqp.specs.EngineView.{EngineView}
 use Rattle.fe2o3_amqp.specs.Waits.{sent}
 use Rattle.fe2o3_amqp.specs.Calls.{Calls, received_calls}
 use Rattle.fe2o3_amqp.specs.Sessions.{Untouched, Called, Unknown, Reaches, Begun, BeginRequest, ReleaseRequest}
-use Rattle.fe2o3_amqp.specs.Engine.{Entry, Carries, Received, ReceivedFrame, OpenRequest, CloseRequest, ReceivedOpen, ReceivedClose, Finds, close_reason, remote_reason, recorded}
+use Rattle.fe2o3_amqp.specs.Engine.{Entry, Carries, Received, ReceivedFrame, OpenRequest, CloseRequest, ReceivedOpen, ReceivedClose, Finds, close_reason, remote_reason, recorded, NoneReceived}
 use Rattle.fe2o3_amqp.specs.Event.{Event, Quiet, SentOpen, SentClose, AcceptedOpen, CameClose, Began, Released, event, event_by, received_event, channel_of}
 use Rattle.fe2o3_amqp.specs.ByHistory.{remote_close_reason, limit_by}
 use Rattle.fe2o3_amqp.specs.Headline.{own_frames, asked_calls}
@@ -340,10 +340,15 @@ frame g v w e c (body.End p) is carry idle fe s = reaches g v w e c (body.End p)
 frame g v w e c (body.Flow p) is carry idle fe s = reaches g v w e c (body.Flow p) tt is carry idle fe s
 frame g v w e c (body.Transfer p payload) is carry idle fe s = reaches g v w e c (body.Transfer p payload) tt is carry idle fe s
 
+none_waits : (bytes : List ℕ) (r : Option StepError) → NoneReceived bytes r → ¬ (r ≡ Some no.OutputWaiting)
+none_waits bytes (Some (no.Frame e)) n = λ x. cc
+none_waits bytes (Some no.OutOfMemory) n = λ x. cc
+none_waits bytes r n = absurd n
+
 arrives : {R : Type 0} (g : Relays R) (v w : EngineView R) (bytes : List ℕ) (received : Option Frame) (reached : Option ℕ) (calls : List (session.Entry R)) (r : Option StepError) (frames : List Frame) →
     v.waiting ≡ [] → frames ≡ w.waiting → Received g v bytes received reached calls r w → Deed g v (of (input.Received bytes) received reached calls r frames) w
 arrives {R = R} g v w bytes received reached calls r frames idle fe (inl s) =
-    refuses g v w _ (ap (λ x. event_by {R = R} (input.Received bytes) x reached r frames) s.2) (λ x. let y = sym s.4 ∙ x in cc) idle fe s.3
+    refuses g v w _ (ap (λ x. event_by {R = R} (input.Received bytes) x reached r frames) s.1) (none_waits bytes r s.0) idle fe s.2
 arrives {R = R} g v w bytes received reached calls r frames idle fe (inr s) =
     frame g v w _ s.0.channel s.0.body (received_is R bytes s.0 received reached r frames s.3)
     (λ t a. subst (λ (x : Calls _). x t calls r) (sym (ap (λ x. asked_calls (input.Received bytes) x) s.3)) a) idle fe s.4

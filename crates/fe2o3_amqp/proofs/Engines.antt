@@ -6,15 +6,26 @@ use Rattle.amqp_frames.specs.declared.frame.Frame.{Frame}
 use Rattle.fe2o3_amqp.specs.Connection.{ConnectionView}
 use Rattle.amqp_session.specs.Session.{SessionView}
 use Rattle.fe2o3_amqp.specs.Waits.{has_frames}
+use Rattle.fe2o3_amqp.specs.Kept.{Outcomes, Wishes}
 use Rattle.fe2o3_amqp.specs.EngineView.{EngineView}
 use Rattle.fe2o3_amqp.specs.Engine.{recorded}
 
-pub same_engine : {R : Type 0} (k k' : ConnectionView) (es es' : List (ℕ × SessionView R)) (limit : ℕ) (fs fs' : List Frame) → k ≡ k' → es ≡ es' → fs ≡ fs' →
-    ◌≡◌ {A = EngineView R} (record { connection = k; sessions = es; limit = limit; waiting = fs }) (record { connection = k'; sessions = es'; limit = limit; waiting = fs' })
-same_engine k k' es es' limit fs fs' e f h =
-    ap (λ x. record { connection = x; sessions = es; limit = limit; waiting = fs }) e
-    ∙ ap (λ x. record { connection = k'; sessions = x; limit = limit; waiting = fs }) f
-    ∙ ap (λ (x : List Frame). record { connection = k'; sessions = es'; limit = limit; waiting = x }) h
+pub same_engine : {R : Type 0} {o : Outcomes} {q : Wishes} (k k' : ConnectionView) (es es' : List (ℕ × SessionView R)) (limit : ℕ) (fs fs' : List Frame) → k ≡ k' → es ≡ es' → fs ≡ fs' →
+    ◌≡◌ {A = EngineView R} (record { connection = k; sessions = es; limit = limit; waiting = fs; outcomes = o; wishes = q })
+    (record { connection = k'; sessions = es'; limit = limit; waiting = fs'; outcomes = o; wishes = q })
+same_engine {o = o} {q = q} k k' es es' limit fs fs' e f h =
+    ap (λ x. record { connection = x; sessions = es; limit = limit; waiting = fs; outcomes = o; wishes = q }) e
+    ∙ ap (λ x. record { connection = k'; sessions = x; limit = limit; waiting = fs; outcomes = o; wishes = q }) f
+    ∙ ap (λ (x : List Frame). record { connection = k'; sessions = es'; limit = limit; waiting = x; outcomes = o; wishes = q }) h
+
+-- with what is kept
+pub same_keeping : {R : Type 0} (v : EngineView R) (k : ConnectionView) (es : List (ℕ × SessionView R)) (fs : List Frame) (o : Outcomes) (q : Wishes) → k ≡ v.connection → es ≡ v.sessions → fs ≡ v.waiting → o ≡ v.outcomes → q ≡ v.wishes →
+    ◌≡◌ {A = EngineView R} (record { connection = k; sessions = es; limit = v.limit; waiting = fs; outcomes = o; wishes = q }) v
+same_keeping v k es fs o q e f h i j =
+    ap (λ x. record { connection = x; sessions = es; limit = v.limit; waiting = fs; outcomes = o; wishes = q }) e
+    ∙ ap (λ x. record v { sessions = x; waiting = fs; outcomes = o; wishes = q }) f
+    ∙ ap (λ (x : List Frame). record v { waiting = x; outcomes = o; wishes = q }) h
+    ∙ ap (λ x. record v { outcomes = x; wishes = q }) i ∙ ap (λ x. record v { wishes = x }) j
 
 pub recorded_as : (next next' : Option ConnectionState) (r r' : ConnectionStopReason) (k : ConnectionView) → next ≡ next' → r ≡ r' → recorded next r k ≡ recorded next' r' k
 recorded_as next next' r r' k e f = ap (λ x. recorded x r k) e ∙ ap (λ x. recorded next' x k) f

@@ -16,7 +16,7 @@ use Rattle.fe2o3_amqp.specs.Waits.{body_of, sent}
 use Rattle.fe2o3_amqp.specs.EngineView.{EngineView, new_engine}
 use Rattle.fe2o3_amqp.specs.Engine.{Entry}
 use Rattle.fe2o3_amqp.specs.Event.{Event, Quiet, SentOpen, SentClose, AcceptedOpen, CameClose, Began, Released, Routed, Unrouted, event}
-use Rattle.fe2o3_amqp.specs.History.{Chain, LeadsTo}
+use Rattle.fe2o3_amqp.proofs.Apart.{Chain, LeadsTo}
 use Rattle.fe2o3_amqp.specs.Headline.{opens, closes, is_open, is_close, handed, own_frames}
 use Rattle.fe2o3_amqp.proofs.Deeds.{Moved}
 use Rattle.fe2o3_amqp.proofs.Passages.{Passage, passage}

@@ -17,7 +17,7 @@ use Rattle.fe2o3_amqp.specs.Connection.{ConnectionView, Holds}
 use Rattle.fe2o3_amqp.specs.EngineView.{EngineView, new_engine}
 use Rattle.fe2o3_amqp.specs.Engine.{Entry}
 use Rattle.fe2o3_amqp.specs.Event.{Event, Quiet, SentOpen, SentClose, AcceptedOpen, CameClose, Began, Released, Routed, Unrouted, event, is_number}
-use Rattle.fe2o3_amqp.specs.History.{Taken, Chain, LeadsTo}
+use Rattle.fe2o3_amqp.proofs.Apart.{Taken, Chain, LeadsTo}
 use Rattle.fe2o3_amqp.specs.ByHistory.{held_by, held_from, held, route_by, route_from, route}
 use Rattle.fe2o3_amqp.specs.Headline.{HeldOnce}
 use Rattle.amqp_session.proofs.AsMap.{same_test}

@@ -1,4 +1,8 @@
+pub mod Apart
+pub mod Picked
 pub mod Lowest
+pub mod Queue
+pub mod Placed
 pub mod Asked
 pub mod Asking
 pub mod Passing
@@ -19,7 +23,11 @@ pub mod Telling
 pub mod OnChannel
 pub mod Standing
 pub mod Outputs
+pub mod Staying
+pub mod KeptOutcomes
 pub mod Running
+pub mod Refusing
+pub mod Hearing
 pub mod Digits
 pub mod Viewed
 pub mod Echoing

@@ -12,7 +12,7 @@ use Rattle.fe2o3_amqp.specs.EngineView.{EngineView, new_engine}
 use Rattle.fe2o3_amqp.specs.Calls.{Calls}
 use Rattle.fe2o3_amqp.specs.Sessions.{Does}
 use Rattle.fe2o3_amqp.specs.Engine.{Entry, Step, Carries}
-use Rattle.fe2o3_amqp.specs.History.{Chain, LeadsTo}
+use Rattle.fe2o3_amqp.proofs.Apart.{Chain, LeadsTo}
 use Rattle.fe2o3_amqp.specs.ByHistory.{begun}
 use Rattle.fe2o3_amqp.specs.Headline.{RequestsReach, ReachesNamed, names}
 use Rattle.fe2o3_amqp.proofs.Beginning.{some_none}

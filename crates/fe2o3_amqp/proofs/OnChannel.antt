@@ -13,7 +13,7 @@ use Rattle.fe2o3_amqp.specs.Waits.{sent}
 use Rattle.fe2o3_amqp.specs.Connection.{new_connection}
 use Rattle.fe2o3_amqp.specs.EngineView.{EngineView, new_engine}
 use Rattle.fe2o3_amqp.specs.Engine.{Entry}
-use Rattle.fe2o3_amqp.specs.History.{Chain, LeadsTo}
+use Rattle.fe2o3_amqp.proofs.Apart.{Chain, LeadsTo}
 use Rattle.fe2o3_amqp.specs.Event.{is_number}
 use Rattle.fe2o3_amqp.specs.ByHistory.{calls_at, of_session, begun}
 use Rattle.fe2o3_amqp.specs.Headline.{AllOn, OnItsChannel}

@@ -1,5 +1,5 @@
 -- What is put out, step by step.
-use Rattle.std.proofs.Common.{◌≡◌, ℕ, List, [], ◌∷◌, ◌++◌, refl, ap, sym, subst, ◌∙◌, append_assoc, Some}
+use Rattle.std.proofs.Common.{◌⊎◌, None, nat_eq, inl, inr, ◌≡◌, ℕ, List, [], ◌∷◌, ◌++◌, refl, ap, sym, subst, ◌∙◌, append_assoc, Some}
 use Rattle.std.proofs.lemmas.List.{append-nil}
 use Rattle.amqp_frames.specs.declared.frame.Frame.{Frame}
 use Rattle.amqp_frames.specs.Cut.{Fits}
@@ -7,10 +7,52 @@ use Rattle.fe2o3_amqp.specs.declared.engine.answer.Answer.{Answer}
 use Rattle.fe2o3_amqp.specs.Waits.{FirstIs}
 use Rattle.fe2o3_amqp.specs.EngineView.{EngineView}
 use Rattle.fe2o3_amqp.specs.Engine.{Entry}
-use Rattle.fe2o3_amqp.specs.History.{Taken}
+use Rattle.fe2o3_amqp.specs.History.{IsClosed, IsEnded, OutcomesTaken, Taken, OnlyLeft}
+use Rattle.fe2o3_amqp.specs.Kept.{Outcomes}
+use Rattle.fe2o3_amqp.specs.Connection.{ConnectionView}
+use Rattle.amqp_session.specs.Session.{SessionView}
+use Rattle.std.specs.Map.{lookup}
+use Rattle.std.specs.FinMap as map
+use Rattle.amqp_types.specs.declared.states.SessionState.TheVariants.{Unmapped}
 use Rattle.fe2o3_amqp.specs.Event.{event}
 use Rattle.fe2o3_amqp.specs.ByHistory.{limit_by, limit_after}
 use Rattle.fe2o3_amqp.specs.Output.{FirstFits, IsOut, IsOuts, PutOut, Speaks, NextAnswer, answer_of}
+
+-- ---- what leaves
+
+outcomes_same : {R : Type 0} (v w : EngineView R) → w.outcomes ≡ v.outcomes → OutcomesTaken v w
+outcomes_same v w e = record { close = inl (ap (λ (o : Outcomes). o.connection) e); ends = λ n. inl (ap (λ (o : Outcomes). map.get o.sessions n) e) }
+
+-- what is gone once stays gone, and connection and sessions stayed meanwhile
+outcomes_more : {R : Type 0} (u v w : EngineView R) → v.connection ≡ u.connection → v.sessions ≡ u.sessions → OutcomesTaken u v → OutcomesTaken v w → OutcomesTaken u w
+outcomes_more u v w k ss s t = record { close = close s.close t.close; ends = λ n. ended n (s.ends n) (t.ends n) }
+  where
+    close : (v.outcomes.connection ≡ u.outcomes.connection) ⊎ (IsClosed u × (v.outcomes.connection ≡ None)) →
+        (w.outcomes.connection ≡ v.outcomes.connection) ⊎ (IsClosed v × (w.outcomes.connection ≡ None)) →
+        (w.outcomes.connection ≡ u.outcomes.connection) ⊎ (IsClosed u × (w.outcomes.connection ≡ None))
+    close (inl a) (inl b) = inl (b ∙ a)
+    close (inr a) (inl b) = inr (a.0, b ∙ a.1)
+    close a (inr b) = inr (ap (λ (x : ConnectionView). x.state) (sym k) ∙ b.0, b.1)
+
+    ended : (n : ℕ) → (map.get v.outcomes.sessions n ≡ map.get u.outcomes.sessions n) ⊎ (IsEnded n u × (map.get v.outcomes.sessions n ≡ None)) →
+        (map.get w.outcomes.sessions n ≡ map.get v.outcomes.sessions n) ⊎ (IsEnded n v × (map.get w.outcomes.sessions n ≡ None)) →
+        (map.get w.outcomes.sessions n ≡ map.get u.outcomes.sessions n) ⊎ (IsEnded n u × (map.get w.outcomes.sessions n ≡ None))
+    ended n (inl a) (inl b) = inl (b ∙ a)
+    ended n (inr a) (inl b) = inr (a.0, b ∙ a.1)
+    ended n a (inr b) = inr (subst (λ (es : List (ℕ × SessionView _)). (x : SessionView _) × (lookup (nat_eq n) es ≡ Some x) × (x.state ≡ Unmapped)) ss b.0, b.1)
+
+pub Taken-none : {R : Type 0} (v : EngineView R) → Taken v v
+Taken-none v = record { gone = []; left = refl; connection_is = refl; sessions_is = refl; limit_is = refl; outcomes_are = outcomes_same v v refl }
+
+pub Taken-more : {R : Type 0} (u v w : EngineView R) → Taken u v → Taken v w → Taken u w
+Taken-more u v w s t = record {
+  gone = s.gone ++ t.gone;
+  left = s.left ∙ ap (λ (ts : List Frame). s.gone ++ ts) t.left ∙ sym (append_assoc s.gone t.gone w.waiting);
+  connection_is = t.connection_is ∙ s.connection_is;
+  sessions_is = t.sessions_is ∙ s.sessions_is;
+  limit_is = t.limit_is ∙ s.limit_is;
+  outcomes_are = outcomes_more u v w s.connection_is s.sessions_is s.outcomes_are t.outcomes_are;
+}
 
 pub outs_more : (limit : ℕ) (fs : List Frame) (f : Frame) (outs : List Answer) (a : Answer) → IsOuts limit fs outs → IsOut limit f a → IsOuts limit (fs ++ f ∷ []) (outs ++ a ∷ [])
 outs_more limit [] f outs a h o = (a, [], ap (λ (xs : List Answer). xs ++ a ∷ []) h, o, refl)
@@ -30,14 +72,14 @@ pub record PutSoFar {R : Type 0} (v : EngineView R) (answers : List Answer) (w :
   pub out : List Answer
   pub appended : answers' ≡ answers ++ out
   pub put : PutOut v.limit v.waiting w.waiting out
-  pub taken : Taken v w
+  pub taken : OnlyLeft v w
 
 pub put_none : {R : Type 0} (v : EngineView R) (answers : List Answer) → PutSoFar v answers v answers
 put_none v answers = record {
   out = [];
   appended = sym (append-nil answers);
   put = record { gone = []; left = refl; answers = refl };
-  taken = record { gone = []; left = refl; connection_is = refl; sessions_is = refl; limit_is = refl };
+  taken = record { taken = Taken-none v; outcomes_stay = refl; wishes_stay = refl };
 }
 
 pub put_more : {R : Type 0} (v u w : EngineView R) (answers answers1 answers2 : List Answer) (a : Answer) → PutSoFar v answers u answers1 → NextAnswer u (Some a) w → answers2 ≡ answers1 ++ a ∷ [] → PutSoFar v answers w answers2
@@ -46,17 +88,23 @@ put_more v u w answers answers1 answers2 a p n pushed =
     let same : w.waiting ≡ n.1 = ap (λ (x : EngineView _). x.waiting) n.4 in
     let left : v.waiting ≡ (p.put.gone ++ f ∷ []) ++ w.waiting =
     p.put.left ∙ ap (λ (xs : List Frame). p.put.gone ++ xs) (n.2 ∙ ap (λ (xs : List Frame). f ∷ xs) (sym same)) ∙ sym (append_assoc p.put.gone (f ∷ []) w.waiting) in
-    let out : IsOut v.limit f a = subst (λ k. IsOut k f a) p.taken.limit_is n.3 in
+    let out : IsOut v.limit f a = subst (λ k. IsOut k f a) p.taken.taken.limit_is n.3 in
+    let more : Taken u w = record {
+      gone = f ∷ [];
+      left = n.2 ∙ ap (λ (xs : List Frame). f ∷ xs) (sym same);
+      connection_is = ap (λ (x : EngineView _). x.connection) n.4;
+      sessions_is = ap (λ (x : EngineView _). x.sessions) n.4;
+      limit_is = ap (λ (x : EngineView _). x.limit) n.4;
+      outcomes_are = outcomes_same u w (ap (λ (x : EngineView _). x.outcomes) n.4);
+    } in
     record {
       out = p.out ++ a ∷ [];
       appended = pushed ∙ ap (λ (xs : List Answer). xs ++ a ∷ []) p.appended ∙ append_assoc answers p.out (a ∷ []);
       put = record { gone = p.put.gone ++ f ∷ []; left = left; answers = outs_more v.limit p.put.gone f p.out a p.put.answers out };
       taken = record {
-        gone = p.put.gone ++ f ∷ [];
-        left = left;
-        connection_is = ap (λ (x : EngineView _). x.connection) n.4 ∙ p.taken.connection_is;
-        sessions_is = ap (λ (x : EngineView _). x.sessions) n.4 ∙ p.taken.sessions_is;
-        limit_is = ap (λ (x : EngineView _). x.limit) n.4 ∙ p.taken.limit_is;
+        taken = Taken-more v u w p.taken.taken more;
+        outcomes_stay = ap (λ (x : EngineView _). x.outcomes) n.4 ∙ p.taken.outcomes_stay;
+        wishes_stay = ap (λ (x : EngineView _). x.wishes) n.4 ∙ p.taken.wishes_stay;
       };
     }
 

@@ -17,7 +17,7 @@ use Rattle.fe2o3_amqp.specs.EngineView.{EngineView}
 use Rattle.fe2o3_amqp.specs.Waits.{sent}
 use Rattle.fe2o3_amqp.specs.Engine.{Entry, Step}
 use Rattle.fe2o3_amqp.specs.Event.{Event, Quiet, SentOpen, SentClose, AcceptedOpen, CameClose, Began, Released, Routed, Unrouted, event, event_by}
-use Rattle.fe2o3_amqp.specs.History.{Taken, Chain}
+use Rattle.fe2o3_amqp.proofs.Apart.{Taken, Chain}
 use Rattle.fe2o3_amqp.specs.ByHistory.{state_by, state_from, reason_by, reason_from, channel_max_by, channel_max_from, limit_by, limit_after, waiting_by, last_frames_from}
 use Rattle.fe2o3_amqp.specs.Headline.{own_frames}
 use Rattle.fe2o3_amqp.proofs.Beginning.{some_none}

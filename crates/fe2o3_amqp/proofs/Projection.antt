@@ -11,7 +11,7 @@ use Rattle.amqp_session.specs.History as session
 use Rattle.fe2o3_amqp.specs.Connection.{ConnectionView}
 use Rattle.fe2o3_amqp.specs.EngineView.{EngineView}
 use Rattle.fe2o3_amqp.specs.Engine.{Entry}
-use Rattle.fe2o3_amqp.specs.History.{Chain}
+use Rattle.fe2o3_amqp.proofs.Apart.{Chain}
 use Rattle.fe2o3_amqp.specs.Event.{Event, Began, event, is_number}
 use Rattle.fe2o3_amqp.specs.ByHistory.{calls_at, of_session, state_by, reason_by, begun_by, begun_from}
 use Rattle.fe2o3_amqp.proofs.Beginning.{some_none}

@@ -22,8 +22,8 @@ use Rattle.fe2o3_amqp.specs.Connection.{ConnectionView, EndRouteStep, RouteStep,
 use Rattle.fe2o3_amqp.specs.EngineView.{EngineView, new_engine}
 use Rattle.fe2o3_amqp.specs.Calls.{Calls}
 use Rattle.fe2o3_amqp.specs.Sessions.{Called, Unknown, Reaches}
-use Rattle.fe2o3_amqp.specs.Engine.{Entry, Step, Carries, ReceivedFrame, ReceivedOpen, Finds}
-use Rattle.fe2o3_amqp.specs.History.{Chain, LeadsTo}
+use Rattle.fe2o3_amqp.specs.Engine.{Entry, Step, NoneReceived, Carries, ReceivedFrame, ReceivedOpen, Finds}
+use Rattle.fe2o3_amqp.proofs.Apart.{Chain, LeadsTo}
 use Rattle.fe2o3_amqp.specs.ByHistory.{state_from, route}
 use Rattle.fe2o3_amqp.specs.Headline.{HasReceived, Receives, AllReceived, GoesAlong, Passes, FramesReach, RoutesFollow, AllKnown}
 use Rattle.fe2o3_amqp.proofs.Beginning.{some_none}
@@ -36,8 +36,13 @@ use Rattle.fe2o3_amqp.proofs.Keeping.{IsThere, Kept, kept, kept_taken, kept_new,
 received_none : (bytes : List ℕ) (received : Option Frame) (r : Option StepError) → received ≡ None → HasReceived bytes None r → HasReceived bytes received r
 received_none bytes received r is h = subst (λ x. HasReceived bytes x r) (sym is) h
 
+has_none : (bytes : List ℕ) (r : Option StepError) → NoneReceived bytes r → HasReceived bytes None r
+has_none bytes (Some (no.Frame e)) n = n
+has_none bytes (Some no.OutOfMemory) n = tt
+has_none bytes r n = absurd n
+
 input_receives : {R : Type 0} (g : Relays R) (v w : EngineView R) (i : Input R) (e : Entry R) → Carries g v i e.received e.reached e.calls e.refusal w → Receives i e
-input_receives g v w (input.Received bytes) e (inl s) = received_none bytes e.received e.refusal s.2 (subst (λ r. HasReceived bytes None r) (sym s.4) s.1)
+input_receives g v w (input.Received bytes) e (inl s) = received_none bytes e.received e.refusal s.1 (has_none bytes e.refusal s.0)
 input_receives g v w (input.Received bytes) e (inr s) = subst (λ x. HasReceived bytes x e.refusal) (sym s.3) (s.1, s.2)
 input_receives g v w i e s = s.0
 
@@ -63,7 +68,7 @@ received_frame g v w e f is (inl s) = absurd (some_none (sym is ∙ s.2))
 received_frame g v w e f is (inr s) = by e.input s.2
   where
     by : (i : Input _) → Carries g v i e.received e.reached e.calls e.refusal w → ReceivedFrame g v f.channel f.body e.reached e.calls e.refusal w
-    by (input.Received bytes) (inl x) = absurd (some_none (sym is ∙ x.2))
+    by (input.Received bytes) (inl x) = absurd (some_none (sym is ∙ x.1))
     by (input.Received bytes) (inr x) = subst (λ (h : Frame). ReceivedFrame g v h.channel h.body e.reached e.calls e.refusal w) (same_frame x.0 f (sym x.3 ∙ is)) x.4
     by i x = absurd (some_none (sym is ∙ x.0))
 

@@ -7,7 +7,7 @@ use Rattle.amqp_session.specs.History as session
 use Rattle.amqp_session.specs.Headline as single
 use Rattle.fe2o3_amqp.specs.EngineView.{EngineView, new_engine}
 use Rattle.fe2o3_amqp.specs.Engine.{Entry}
-use Rattle.fe2o3_amqp.specs.History.{LeadsTo}
+use Rattle.fe2o3_amqp.proofs.Apart.{LeadsTo}
 use Rattle.fe2o3_amqp.specs.ByHistory.{of_session, begun}
 use Rattle.fe2o3_amqp.specs.Headline.{Stands}
 use Rattle.fe2o3_amqp.proofs.Beginning.{some_none}

@@ -21,7 +21,7 @@ use Rattle.fe2o3_amqp.specs.EngineView.{EngineView, new_engine}
 use Rattle.fe2o3_amqp.specs.Waits.{sent}
 use Rattle.fe2o3_amqp.specs.Engine.{Entry}
 use Rattle.fe2o3_amqp.specs.Event.{Quiet, event, event_by, received_event}
-use Rattle.fe2o3_amqp.specs.History.{Chain, LeadsTo}
+use Rattle.fe2o3_amqp.proofs.Apart.{Chain, LeadsTo}
 use Rattle.fe2o3_amqp.specs.ByHistory.{of_session, session_state}
 use Rattle.fe2o3_amqp.specs.Headline.{Asked, AllAsked, FramesAre, RanShort, asked_calls, own_frames}
 use Rattle.fe2o3_amqp.proofs.Beginning.{some_none}

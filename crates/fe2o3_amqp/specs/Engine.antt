@@ -1,5 +1,5 @@
 -- What a step of an engine does.
-use Rattle.std.specs.Prelude.{◌≡◌, ◌⊎◌, ℕ, List, [], ◌∷◌, Option, Some, None, Result, Ok, Err}
+use Rattle.std.specs.Prelude.{◌≡◌, ◌⊎◌, ℕ, List, [], ◌∷◌, Option, Some, None, IsSome, Result, Ok, Err}
 use Rattle.std.specs.Option.{option_map}
 use Rattle.amqp_types.specs.declared.performatives.kind.Kind.{Kind}
 use Rattle.amqp_types.specs.declared.states.ConnectionState.{ConnectionState}
@@ -26,6 +26,7 @@ use Rattle.fe2o3_amqp.specs.declared.engine.step_error.StepError.TheVariants as 
 use Rattle.fe2o3_amqp.specs.States.{takes_close}
 use Rattle.fe2o3_amqp.specs.Connection.{ConnectionView, stopped, SendOpenStep, SendCloseStep, IncomingOpenStep, IncomingCloseStep}
 use Rattle.fe2o3_amqp.specs.Connection.{BeginRouteStep, EndRouteStep, RouteStep}
+use Rattle.fe2o3_amqp.specs.Kept.{outcomes_by}
 use Rattle.fe2o3_amqp.specs.EngineView.{EngineView, peer_limit}
 use Rattle.fe2o3_amqp.specs.Calls.{request_calls, received_calls}
 use Rattle.fe2o3_amqp.specs.Sessions.{Untouched, Nothing, Does, Reaches, BeginRequest, ReleaseRequest}
@@ -95,19 +96,38 @@ ReceivedFrame g v c (body.Open o) reached calls refusal w = Untouched reached ca
 ReceivedFrame g v c (body.Close p) reached calls refusal w = Untouched reached calls × ReceivedClose v p refusal w
 ReceivedFrame g v c b reached calls refusal w = Reaches g (Finds v.connection c b) v (received_calls c b) reached calls refusal w
 
--- The fields of this kind are not there, or they say a body that was received.
+-- the errors that a Close or an End names: of these the engine keeps a copy for handles
+abbrev pub named_error : FrameBody → Option ErrorSaid
+named_error (body.Close c) = c.error
+named_error (body.End e) = e.error
+named_error b = None
+
+-- Why no body was received: the fields of this kind are not there, or memory was refused for the copy of an error.
+abbrev pub NoneReceivedOf : Option Kind → List ℕ → Option StepError → Type 0
+NoneReceivedOf k fields (Some (no.Frame e)) = NoBodyOf k fields e
+NoneReceivedOf k fields (Some no.OutOfMemory) =
+    (b : FrameBody) × (rest : List ℕ) × IsBodyOf k b fields rest × IsSome (named_error b)
+NoneReceivedOf k fields refusal = ⊥
+
+-- why no frame was received
+abbrev pub NoneReceived : List ℕ → Option StepError → Type 0
+NoneReceived bytes (Some (no.Frame e)) = Decodes bytes (Err e)
+NoneReceived bytes (Some no.OutOfMemory) = (f : Frame) × (rest : List ℕ) × IsFrame f bytes rest × IsSome (named_error f.body)
+NoneReceived bytes refusal = ⊥
+
+-- The fields of this kind say no body that was received, or they say one.
 abbrev pub ReceivedOf : {R : Type 0} → Relays R → EngineView R → ℕ → Option Kind → List ℕ → Option Frame → Option ℕ →
     List (session.Entry R) → Option StepError → EngineView R → Type 0
 ReceivedOf g v c k fields received reached calls refusal w =
-    ((e : Error) × NoBodyOf k fields e × (received ≡ None) × Nothing v reached calls w × (refusal ≡ Some (no.Frame e)))
+    (NoneReceivedOf k fields refusal × (received ≡ None) × Nothing v reached calls w)
     ⊎ ((b : FrameBody) × (rest : List ℕ) × IsBodyOf k b fields rest × (received ≡ Some (record { channel = c; body = b }))
     × ReceivedFrame g v c b reached calls refusal w)
 
--- The bytes are no frame, or they are a frame that was received.
+-- The bytes hold no frame that was received, or they hold one.
 abbrev pub Received : {R : Type 0} → Relays R → EngineView R → List ℕ → Option Frame → Option ℕ → List (session.Entry R) →
     Option StepError → EngineView R → Type 0
 Received g v bytes received reached calls refusal w =
-    ((e : Error) × Decodes bytes (Err e) × (received ≡ None) × Nothing v reached calls w × (refusal ≡ Some (no.Frame e)))
+    (NoneReceived bytes refusal × (received ≡ None) × Nothing v reached calls w)
     ⊎ ((f : Frame) × (rest : List ℕ) × IsFrame f bytes rest × (received ≡ Some f)
     × ReceivedFrame g v f.channel f.body reached calls refusal w)
 
@@ -117,11 +137,21 @@ FieldsStep g v c k fields refusal w =
     (received : Option Frame) × (reached : Option ℕ) × (calls : List (session.Entry _))
     × ReceivedOf g v c k fields received reached calls refusal w
 
--- some frame stands in the bytes and is received, or none stands there
+-- what is kept of an answer, beside what was done
+abbrev pub kept : {R : Type 0} → Option Frame → Option ℕ → Option StepError → EngineView R → EngineView R
+kept received reached refusal m = record m { outcomes = outcomes_by received reached refusal m.outcomes }
+
+-- so it is, and the outcome is kept
+abbrev pub FieldsKept : {R : Type 0} → Relays R → EngineView R → ℕ → Option Kind → List ℕ → Option StepError → EngineView R → Type 0
+FieldsKept g v c k fields refusal w =
+    (received : Option Frame) × (reached : Option ℕ) × (calls : List (session.Entry _)) × (m : EngineView _)
+    × ReceivedOf g v c k fields received reached calls refusal m × (w ≡ kept received reached refusal m)
+
+-- some frame stands in the bytes and is received, or none stands there; the outcome is kept
 abbrev pub ReceivedStep : {R : Type 0} → Relays R → EngineView R → List ℕ → Option StepError → EngineView R → Type 0
 ReceivedStep g v bytes refusal w =
-    (received : Option Frame) × (reached : Option ℕ) × (calls : List (session.Entry _))
-    × Received g v bytes received reached calls refusal w
+    (received : Option Frame) × (reached : Option ℕ) × (calls : List (session.Entry _)) × (m : EngineView _)
+    × Received g v bytes received reached calls refusal m × (w ≡ kept received reached refusal m)
 
 -- ---- a step
 
@@ -164,11 +194,11 @@ Carries g v (input.Disposition n d) received reached calls refusal w =
 Carries g v (input.Stop n reason) received reached calls refusal w =
     (received ≡ None) × Does g v n.0 (request_calls (input.Stop n reason)) reached calls refusal w
 
--- the input is carried out
+-- the input is carried out, and the outcome is kept
 abbrev pub CarriedStep : {R : Type 0} → Relays R → EngineView R → Input R → Option StepError → EngineView R → Type 0
 CarriedStep g v i refusal w =
-    (received : Option Frame) × (reached : Option ℕ) × (calls : List (session.Entry _))
-    × Carries g v i received reached calls refusal w
+    (received : Option Frame) × (reached : Option ℕ) × (calls : List (session.Entry _)) × (m : EngineView _)
+    × Carries g v i received reached calls refusal m × (w ≡ kept received reached refusal m)
 
 -- what waits stops all else
 abbrev pub WaitingStep : {R : Type 0} → EngineView R → Entry R → EngineView R → Type 0
@@ -176,12 +206,21 @@ WaitingStep v e w =
     ¬ (v.waiting ≡ []) × (e.refusal ≡ Some no.OutputWaiting) × (e.received ≡ None) × Nothing v e.reached e.calls w
     × (e.frames ≡ [])
 
--- where nothing waits, the frames handed out are those that wait then
+-- Where nothing waits, the frames handed out are those that wait then. What is kept for handles stays.
 abbrev pub Step : {R : Type 0} → Relays R → EngineView R → Entry R → EngineView R → Type 0
 Step g v e w =
     WaitingStep v e w ⊎ ((v.waiting ≡ []) × (e.frames ≡ w.waiting) × Carries g v e.input e.received e.reached e.calls e.refusal w)
 
--- a step with this input and this refusal
-abbrev pub Steps : {R : Type 0} → Relays R → EngineView R → Input R → Option StepError → EngineView R → Type 0
-Steps g v i refusal w = (received : Option Frame) × (reached : Option ℕ) × (calls : List (session.Entry _)) × (frames : List Frame)
-    × Step g v (record { input = i; received = received; reached = reached; calls = calls; refusal = refusal; frames = frames }) w
+-- then the outcome of the entry is kept
+abbrev pub Keeps : {R : Type 0} → Entry R → EngineView R → EngineView R → Type 0
+Keeps e m w = w ≡ kept e.received e.reached e.refusal m
+
+-- a step with this input and this refusal, and what is kept of it
+pub record Steps {R : Type 0} (g : Relays R) (v : EngineView R) (i : Input R) (refusal : Option StepError) (w : EngineView R) : Type 0 where
+  pub received : Option Frame
+  pub reached : Option ℕ
+  pub calls : List (session.Entry R)
+  pub frames : List Frame
+  pub done : EngineView R
+  pub step : Step g v (record { input = i; received = received; reached = reached; calls = calls; refusal = refusal; frames = frames }) done
+  pub keeps : w ≡ kept received reached refusal done

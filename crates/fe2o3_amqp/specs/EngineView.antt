@@ -5,6 +5,7 @@ use Rattle.amqp_types.specs.Open.{OpenSaid}
 use Rattle.amqp_session.specs.Session.{SessionView, Observed}
 use Rattle.amqp_frames.specs.declared.frame.Frame.{Frame}
 use Rattle.fe2o3_amqp.specs.Connection.{ConnectionView, new_connection}
+use Rattle.fe2o3_amqp.specs.Kept.{Outcomes, Wishes, no_outcomes, no_wishes}
 
 pub record EngineView (R : Type 0) : Type 0 where
   pub connection : ConnectionView
@@ -14,6 +15,9 @@ pub record EngineView (R : Type 0) : Type 0 where
   pub limit : ℕ
   -- frames that are not yet put out, oldest first
   pub waiting : List Frame
+  -- kept for handles
+  pub outcomes : Outcomes
+  pub wishes : Wishes
 
 -- the sessions without the counts of their walks
 abbrev pub views_of : {R : Type 0} → List (ℕ × Observed R) → List (ℕ × SessionView R)
@@ -28,4 +32,11 @@ abbrev pub peer_limit : OpenSaid → ℕ
 peer_limit o = max o.max_frame_size 512 - 4
 
 abbrev pub new_engine : {R : Type 0} → ConnectionState → OpenSaid → EngineView R
-new_engine s o = record { connection = new_connection s o; sessions = []; limit = own_limit o; waiting = [] }
+new_engine s o = record {
+  connection = new_connection s o;
+  sessions = [];
+  limit = own_limit o;
+  waiting = [];
+  outcomes = no_outcomes;
+  wishes = no_wishes;
+}

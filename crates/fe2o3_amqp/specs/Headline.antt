@@ -22,6 +22,7 @@ use Rattle.amqp_session.specs.History as session
 use Rattle.amqp_session.specs.Headline as single
 use Rattle.amqp_session.specs.Relay.{Relays}
 use Rattle.amqp_session.specs.OutgoingFrames.{calls_frames}
+use Rattle.fe2o3_amqp.specs.Kept.{Outcomes, outcomes_by}
 use Rattle.fe2o3_amqp.specs.EngineView.{EngineView, own_limit}
 use Rattle.fe2o3_amqp.specs.Connection.{not_found, open_frame, close_frame}
 use Rattle.fe2o3_amqp.specs.Waits.{sent}
@@ -234,25 +235,33 @@ inputs_of (e ∷ es) = e.input ∷ inputs_of es
 abbrev pub IsTaken : {R : Type 0} → Entry R → Type 0
 IsTaken e = ¬ (e.refusal ≡ Some no.OutputWaiting)
 
--- these entries were run, from the view, inputs and answers before to those after
-pub record Runs {R : Type 0} (g : Relays R) (es : List (Entry R)) (v : EngineView R) (inputs : List (Input R))
-    (answers : List Answer) (v' : EngineView R) (inputs' : List (Input R)) (answers' : List Answer) : Type 0 where
-  -- the inputs are taken from the front, and none is refused because output waits
-  pub taken : inputs ≡ inputs_of es ++ inputs'
+-- the outcomes that entries leave
+abbrev pub outcomes_from : {R : Type 0} → Outcomes → List (Entry R) → Outcomes
+outcomes_from o [] = o
+outcomes_from o (e ∷ es) = outcomes_from (outcomes_by e.received e.reached e.refusal o) es
+
+-- these entries were run, from the view and answers before to those after
+pub record Runs {R : Type 0} (g : Relays R) (es : List (Entry R)) (v : EngineView R) (answers : List Answer) (v' : EngineView R)
+    (answers' : List Answer) : Type 0 where
+  -- none is refused because output waits
   pub all_taken : All IsTaken es
   -- they are steps from the one view to the other
   pub steps : Chain g v es v'
   -- whatever legal history came before, it goes on by these entries; all of it keeps the headline, and gives the view
   pub goes_on : (s : ConnectionState) (o : OpenSaid) (H : List (Entry R)) → LeadsTo g s o H v →
       LeadsTo g s o (H ++ es) v' × Headline s o (H ++ es) × Stands s o (H ++ es) v'
+  -- their outcomes are kept, and no handle takes one meanwhile
+  pub outcomes_are : v'.outcomes ≡ outcomes_from v.outcomes es
   -- what is appended is what waited and the output of the entries, but for the frames that wait now
   pub out : List Answer
   pub appended : answers' ≡ answers ++ out
   pub said : Speaks v.limit v.waiting es v'.waiting out
 
--- A run takes all inputs and puts out all frames, or it stops and says how many inputs it took.
-pub record Ran {R : Type 0} (g : Relays R) (v : EngineView R) (inputs : List (Input R)) (answers : List Answer)
+-- A run takes inputs from the front, behind wishes that were accepted, if any. It takes all inputs and puts out all frames, or it
+-- stops and says how many inputs it took.
+pub record Ran {R : Type 0} (g : Relays R) (wished : List (Entry R)) (v : EngineView R) (inputs : List (Input R)) (answers : List Answer)
     (result : Result (Unit {0}) Stopped) (v' : EngineView R) (inputs' : List (Input R)) (answers' : List Answer) : Type 0 where
   pub entries : List (Entry R)
-  pub runs : Runs g entries v inputs answers v' inputs' answers'
+  pub taken : inputs ≡ inputs_of entries ++ inputs'
+  pub runs : Runs g (wished ++ entries) v answers v' answers'
   pub result_is : MatchResult result (λ _. (inputs' ≡ []) × (v'.waiting ≡ [])) (λ stopped. stopped.done ≡ length entries)

@@ -3,7 +3,9 @@ pub mod Channels
 pub mod ConnectionErrors
 pub mod Connection
 pub mod Waits
+pub mod Kept
 pub mod EngineView
+pub mod Places
 pub mod Calls
 pub mod Sessions
 pub mod Engine
@@ -12,5 +14,7 @@ pub mod Event
 pub mod ByHistory
 pub mod Output
 pub mod Headline
+pub mod Handles
+pub mod HandledRun
 pub mod ReplayRelay
 pub mod Transcript

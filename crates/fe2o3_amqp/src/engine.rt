@@ -8,7 +8,9 @@ ghost use Rattle.fe2o3_amqp.specs.Engine.{Steps};
 ghost use Rattle.fe2o3_amqp.specs.Connection.{refusal_of};
 
 pub mod answer;
+mod handling;
 pub mod input;
+pub(crate) mod kept;
 mod output;
 mod received;
 mod requested;
@@ -25,6 +27,7 @@ use amqp_types::{ConnectionState, Open};
 pub use answer::{Answer, OutputError, Stopped};
 use indexmap::IndexMap;
 pub use input::Input;
+use kept::Kept;
 use std::alloc::Global;
 use std::marker::Model;
 pub use step_error::StepError;
@@ -41,19 +44,31 @@ pub struct Engine<R> {
     decoder: FrameDecoder,
     encoder: FrameEncoder,
     waiting: Waiting,
+    kept: Kept,
 }
 
 impl<R> Model for Engine<R> {
     ghost use Rattle.std.specs.Coded.{codes};
+    ghost use Rattle.std.specs.FinMap as map;
     ghost use Rattle.amqp_session.specs.Links.{links_code};
     ghost use Rattle.fe2o3_amqp.specs.Channels.{channel_table_code};
     ghost use Rattle.fe2o3_amqp.specs.EngineView.{EngineView, views_of};
+    ghost use Rattle.fe2o3_amqp.specs.Places.{Seated};
 
     ghost Value = { EngineView R };
 
-    ghost coded = { Prim.hlevel (codes, channel_table_code, links_code) };
+    ghost coded = { Prim.hlevel (codes, channel_table_code, links_code, map.code) };
 
-    ghost view = { λ e. record { connection = e.connection; sessions = views_of e.sessions.entries; limit = e.encoder; waiting = e.waiting } };
+    ghost view = { λ e. record {
+      connection = e.connection;
+      sessions = views_of e.sessions.entries;
+      limit = e.encoder;
+      waiting = e.waiting;
+      outcomes = e.kept.outcomes;
+      wishes = e.kept.wishes;
+    } };
+
+    ghost invariant = { λ e. Seated e.sessions.entries e.kept.places };
 }
 
 /// The limit of a piece before the peer's Open.
@@ -76,6 +91,7 @@ impl<R: LinkRelay> Engine<R> {
             connection: Connection::new(alloc, state, local_open),
             sessions: IndexMap::new(alloc),
             waiting: Waiting::none(),
+            kept: Kept::new(alloc),
         }
     }
 
@@ -104,8 +120,9 @@ impl<R: LinkRelay> Engine<R> {
     /// Takes one input: connection and sessions do what it asks, and the frames that this hands out wait to be put out.
     ///
     /// Nothing changes where the refusal is `OutputWaiting` (frames still wait), `Frame` (the received bytes are no frame, or
-    /// memory for its fields is refused), `NoSession`, `SessionInUse`, `AllocSession`, or `OutOfMemory`, which `Begin` alone
-    /// meets: the engine has no room for one more session. Every other refusal is that of the connection or of the session.
+    /// memory for its fields is refused), `NoSession`, `SessionInUse`, `AllocSession`, or `OutOfMemory`. That comes of a `Begin`
+    /// where the engine has no room for one more session, and of a received Close or End with an error, of which the engine
+    /// keeps a copy for handles. Every other refusal is that of the connection or of the session.
     pub fn step(&mut self, input: Input<R>) -> Result<(), StepError>
         ensures { Steps R.gives self.old input (refusal_of result) self.new }
     {

@@ -7,6 +7,7 @@ pub mod connection;
 pub mod definitions;
 pub mod engine;
 pub mod frames;
+pub mod handles;
 pub mod laws;
 pub mod numbers;
 pub mod session;
@@ -31,5 +32,6 @@ pub use connection::{
 };
 pub use definitions::{DEFAULT_CHANNEL_MAX, DEFAULT_MAX_FRAME_SIZE};
 pub use engine::{Answer, Engine, Input, OutputError, StepError, Stopped};
+pub use handles::{ConnectionHandle, HandledEngine, SessionHandle};
 pub use numbers::SessionNo;
 pub use transcript::{ReplayRelay, err_name, hex_bytes, out_line, replay};

@@ -36,8 +36,9 @@ const FAILED: u8 = 3;
 /// of its delivery exactly where it has a tag, and what follows is its payload; behind another performative it is dropped.
 /// N is a decimal number to 4294967295.
 ///
-/// `output` gets `out HEX`, in lower case, for each piece, `err NAME` for each refusal, and `err TooLarge` for a frame
-/// that does not fit the peer's limit. What belongs to a line is written, and flushed, before the next line is read.
+/// `output` gets `out HEX`, in lower case, for each piece, `err NAME` for each refusal that is not for memory, and
+/// `err TooLarge` for a frame that does not fit the peer's limit. What belongs to a line is written, and flushed, before the
+/// next line is read.
 ///
 /// The status is 0 at the end of the input. At any other line `errors` gets `bad line K`, where K counts from 1, and the status
 /// is 2. The status is 3 where reading or writing fails, where a line is not UTF-8, and where memory is refused. The output of
@@ -127,7 +128,7 @@ fn answer<O: Write>(
 fn write_answer<O: Write>(alloc: Global, answer: &Answer, output: &mut O) -> io::Result<()> {
     match answer {
         Answer::Done => Ok(()),
-        Answer::Refused(error) => writeln!(output, "err {}", err_name(error)),
+        Answer::Refused(error) => write_refusal(err_name(error), output),
         Answer::Out(pieces) => {
             for piece in pieces.iter() {
                 writeln!(output, "{}", out_line(alloc, piece)?)?;
@@ -136,4 +137,12 @@ fn write_answer<O: Write>(alloc: Global, answer: &Answer, output: &mut O) -> io:
         }
         Answer::TooLarge(_) => writeln!(output, "err TooLarge"),
     }
+}
+
+/// Where memory was refused nothing is written, and the program ends.
+fn write_refusal<O: Write>(name: &str, output: &mut O) -> io::Result<()> {
+    if name == "OutOfMemory" {
+        return Err(io::Error::from(ErrorKind::OutOfMemory));
+    }
+    writeln!(output, "err {name}")
 }

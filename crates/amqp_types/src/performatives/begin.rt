@@ -119,6 +119,7 @@ impl Begin {
     }
 
     /// The length in bytes of the canonical text. Takes no memory and writes nothing.
+    #[inline(never)]
     pub fn encoded_len(&self) -> u128
         ensures value { result ≡ length (performative_text (performative.Begin self.now)) }
         ensures bound { result < 2 ^ 127 }
@@ -127,6 +128,7 @@ impl Begin {
     }
 
     /// Appends the canonical text, to a buffer that has room for it.
+    #[inline(never)]
     pub fn put(&self, out: &mut BytesMut)
         requires room { length (performative_text (performative.Begin self.now)) ≤ out.old.spare }
         requires fits { length (performative_text (performative.Begin self.now)) < 2 ^ 32 }

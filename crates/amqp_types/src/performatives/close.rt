@@ -65,6 +65,7 @@ impl Close {
     }
 
     /// The length in bytes of the canonical text. Takes no memory and writes nothing.
+    #[inline(never)]
     pub fn encoded_len(&self) -> u128
         ensures value { result ≡ length (performative_text (performative.Close self.now)) }
         ensures bound { result < 2 ^ 127 }
@@ -73,6 +74,7 @@ impl Close {
     }
 
     /// Appends the canonical text, to a buffer that has room for it.
+    #[inline(never)]
     pub fn put(&self, out: &mut BytesMut)
         requires room { length (performative_text (performative.Close self.now)) ≤ out.old.spare }
         requires fits { length (performative_text (performative.Close self.now)) < 2 ^ 32 }

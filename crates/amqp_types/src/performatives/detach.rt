@@ -83,6 +83,7 @@ impl Detach {
     }
 
     /// The length in bytes of the canonical text. Takes no memory and writes nothing.
+    #[inline(never)]
     pub fn encoded_len(&self) -> u128
         ensures value { result ≡ length (performative_text (performative.Detach self.now)) }
         ensures bound { result < 2 ^ 127 }
@@ -91,6 +92,7 @@ impl Detach {
     }
 
     /// Appends the canonical text, to a buffer that has room for it.
+    #[inline(never)]
     pub fn put(&self, out: &mut BytesMut)
         requires room { length (performative_text (performative.Detach self.now)) ≤ out.old.spare }
         requires fits { length (performative_text (performative.Detach self.now)) < 2 ^ 32 }

@@ -65,6 +65,7 @@ impl End {
     }
 
     /// The length in bytes of the canonical text. Takes no memory and writes nothing.
+    #[inline(never)]
     pub fn encoded_len(&self) -> u128
         ensures value { result ≡ length (performative_text (performative.End self.now)) }
         ensures bound { result < 2 ^ 127 }
@@ -73,6 +74,7 @@ impl End {
     }
 
     /// Appends the canonical text, to a buffer that has room for it.
+    #[inline(never)]
     pub fn put(&self, out: &mut BytesMut)
         requires room { length (performative_text (performative.End self.now)) ≤ out.old.spare }
         requires fits { length (performative_text (performative.End self.now)) < 2 ^ 32 }

@@ -155,6 +155,7 @@ impl Flow {
     }
 
     /// The length in bytes of the canonical text. Takes no memory and writes nothing.
+    #[inline(never)]
     pub fn encoded_len(&self) -> u128
         ensures value { result ≡ length (performative_text (performative.Flow self.now)) }
         ensures bound { result < 2 ^ 127 }
@@ -163,6 +164,7 @@ impl Flow {
     }
 
     /// Appends the canonical text, to a buffer that has room for it.
+    #[inline(never)]
     pub fn put(&self, out: &mut BytesMut)
         requires room { length (performative_text (performative.Flow self.now)) ≤ out.old.spare }
         requires fits { length (performative_text (performative.Flow self.now)) < 2 ^ 32 }

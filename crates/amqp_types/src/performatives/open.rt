@@ -167,6 +167,7 @@ impl Open {
     }
 
     /// The length in bytes of the canonical text. Takes no memory and writes nothing.
+    #[inline(never)]
     pub fn encoded_len(&self) -> u128
         ensures value { result ≡ length (performative_text (performative.Open self.now)) }
         ensures bound { result < 2 ^ 127 }
@@ -175,6 +176,7 @@ impl Open {
     }
 
     /// Appends the canonical text, to a buffer that has room for it.
+    #[inline(never)]
     pub fn put(&self, out: &mut BytesMut)
         requires room { length (performative_text (performative.Open self.now)) ≤ out.old.spare }
         requires fits { length (performative_text (performative.Open self.now)) < 2 ^ 32 }

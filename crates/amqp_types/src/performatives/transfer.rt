@@ -150,6 +150,7 @@ impl Composite for Transfer {
 
 impl Transfer {
     /// The fields, borrowed for writing.
+    #[inline(always)]
     pub(crate) fn parts(&self) -> [Leaf<'_>; 11]
         ensures { map leaf_text result ≡ transfer_fields self.now }
     {
@@ -158,6 +159,7 @@ impl Transfer {
 
     /// The fields with this `more`.
     #[tactic(auto, unfolding(crate::specs::Transfer::transfer_fields))]
+    #[inline(always)]
     fn parts_with(&self, more: bool) -> [Leaf<'_>; 11]
         ensures { map leaf_text result ≡ transfer_fields (record self.now { more = more }) }
     {
@@ -227,6 +229,7 @@ impl Transfer {
     }
 
     /// The length in bytes of the canonical text. Takes no memory and writes nothing.
+    #[inline(never)]
     pub fn encoded_len(&self) -> u128
         ensures value { result ≡ length (performative_text (performative.Transfer self.now)) }
         ensures bound { result < 2 ^ 127 }
@@ -235,6 +238,7 @@ impl Transfer {
     }
 
     /// Appends the canonical text, to a buffer that has room for it.
+    #[inline(never)]
     pub fn put(&self, out: &mut BytesMut)
         requires room { length (performative_text (performative.Transfer self.now)) ≤ out.old.spare }
         requires fits { length (performative_text (performative.Transfer self.now)) < 2 ^ 32 }

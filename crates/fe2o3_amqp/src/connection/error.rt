@@ -116,7 +116,7 @@ pub enum Error {
     OutOfMemory,
 }
 
-/// Why a handle cannot tell how the connection closed. No call answers it yet.
+/// Why a handle does not tell how the connection closed.
 #[derive(Clone, Copy, Debug, PartialEq, Eq, thiserror::Error)]
 pub enum TryCloseError {
     /// The outcome was given before.

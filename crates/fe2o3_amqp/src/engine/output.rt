@@ -2,7 +2,7 @@
 
 ghost use Rattle.std.specs.Prelude.{◌≡◌, ◌++◌, [], ◌∷◌, List, OnOk};
 ghost use Rattle.fe2o3_amqp.specs.declared.engine.answer.Answer.{Answer};
-ghost use Rattle.fe2o3_amqp.specs.History.{Taken};
+ghost use Rattle.fe2o3_amqp.specs.History.{OnlyLeft};
 ghost use Rattle.fe2o3_amqp.specs.Output.{NextOutput, NextAnswer, PutOut};
 
 use super::Engine;
@@ -45,9 +45,9 @@ impl<R: LinkRelay> Engine<R> {
     }
 
     /// Puts out what waits.
-    pub(super) fn put_out(&mut self, answers: &mut Vec<Answer>) -> Result<(), AllocError>
+    pub(crate) fn put_out(&mut self, answers: &mut Vec<Answer>) -> Result<(), AllocError>
         ensures said { (out : List Answer) × (answers.new.items ≡ answers.old.items ++ out) × PutOut self.old.limit self.old.waiting self.new.waiting out }
-        ensures taken { Taken self.old self.new }
+        ensures taken { OnlyLeft self.old self.new }
         ensures ok { OnOk result (self.new.waiting ≡ []) }
     {
         while self.has_output() {

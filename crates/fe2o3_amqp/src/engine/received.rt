@@ -12,9 +12,10 @@ ghost use Rattle.amqp_session.specs.History as session;
 ghost use Rattle.fe2o3_amqp.specs.EngineView.{peer_limit};
 ghost use Rattle.std.specs.Fn.{FnOnceReturnsAtMut};
 ghost use Rattle.fe2o3_amqp.specs.Sessions.{AsksAlong};
-ghost use Rattle.fe2o3_amqp.specs.Engine.{ReceivedStep, FieldsStep, ReceivedCloseStep, recorded, remote_reason};
+ghost use Rattle.fe2o3_amqp.specs.Engine.{ReceivedStep, FieldsStep, FieldsKept, ReceivedCloseStep, recorded, remote_reason};
 
 use super::Engine;
+use super::kept::{close_answer, copy_of, end_answer};
 use super::sessions::{
     Outgoing, attach_received, begin_received, detach_received, disposition_received, end_received,
     flow_received, transfer_received,
@@ -96,38 +97,25 @@ fn end_in(frame: SessionFrame) -> End
 }
 
 impl<R: LinkRelay> Engine<R> {
+    /// Takes a received frame: its kind decides who handles its fields. An empty one asks for nothing.
     pub(super) fn receive(&mut self, bytes: Bytes) -> Result<(), StepError>
         requires { self.old.waiting ≡ [] }
         ensures { ReceivedStep R.gives self.old bytes (refusal_of result) self.new }
     {
         let mut fields = bytes;
         let head = self.decoder.head(&mut fields)?;
+        let channel = IncomingChannel(head.channel);
         match head.kind {
-            // An empty frame asks for nothing.
             None => Ok(()),
-            Some(kind) => self.receive_kind(IncomingChannel(head.channel), kind, fields),
-        }
-    }
-
-    fn receive_kind(
-        &mut self,
-        channel: IncomingChannel,
-        kind: Kind,
-        fields: Bytes,
-    ) -> Result<(), StepError>
-        requires { self.old.waiting ≡ [] }
-        ensures { FieldsStep R.gives self.old channel.0 (Some kind) fields (refusal_of result) self.new }
-    {
-        match kind {
-            Kind::Transfer => self.receive_transfer(channel, fields),
-            Kind::Flow => self.receive_flow(channel, fields),
-            Kind::Disposition => self.receive_disposition(channel, fields),
-            Kind::Attach => self.receive_attach(channel, fields),
-            Kind::Detach => self.receive_detach(channel, fields),
-            Kind::Begin => self.receive_begin(channel, fields),
-            Kind::End => self.receive_end(channel, fields),
-            Kind::Open => self.receive_open(channel, fields),
-            Kind::Close => self.receive_close(channel, fields),
+            Some(Kind::Transfer) => self.receive_transfer(channel, fields),
+            Some(Kind::Flow) => self.receive_flow(channel, fields),
+            Some(Kind::Disposition) => self.receive_disposition(channel, fields),
+            Some(Kind::Attach) => self.receive_attach(channel, fields),
+            Some(Kind::Detach) => self.receive_detach(channel, fields),
+            Some(Kind::Begin) => self.receive_begin(channel, fields),
+            Some(Kind::End) => self.receive_end(channel, fields),
+            Some(Kind::Open) => self.receive_open(channel, fields),
+            Some(Kind::Close) => self.receive_close(channel, fields),
         }
     }
 
@@ -215,13 +203,19 @@ impl<R: LinkRelay> Engine<R> {
 
     fn receive_end(&mut self, channel: IncomingChannel, fields: Bytes) -> Result<(), StepError>
         requires { self.old.waiting ≡ [] }
-        ensures { FieldsStep R.gives self.old channel.0 (Some kind.End) fields (refusal_of result) self.new }
+        ensures { FieldsKept R.gives self.old channel.0 (Some kind.End) fields (refusal_of result) self.new }
     {
         let mut rest = fields;
         let end: End = read_list(self.alloc, &mut rest)?;
+        let Ok(copy) = copy_of(&end.error) else {
+            drop(end);
+            return Err(StepError::OutOfMemory);
+        };
         let (number, frame) = self.connection.on_incoming_end(channel, end)?;
         let end = end_in(frame);
-        self.ask_session(number.0, |session| end_received(session, channel, end))
+        let told = self.ask_session(number.0, |session| end_received(session, channel, end));
+        self.kept.keep_end(number.0, end_answer(&told, copy));
+        told
     }
 
     fn receive_open(&mut self, channel: IncomingChannel, fields: Bytes) -> Result<(), StepError>
@@ -238,11 +232,17 @@ impl<R: LinkRelay> Engine<R> {
 
     fn receive_close(&mut self, channel: IncomingChannel, fields: Bytes) -> Result<(), StepError>
         requires { self.old.waiting ≡ [] }
-        ensures { FieldsStep R.gives self.old channel.0 (Some kind.Close) fields (refusal_of result) self.new }
+        ensures { FieldsKept R.gives self.old channel.0 (Some kind.Close) fields (refusal_of result) self.new }
     {
         let mut rest = fields;
         let close: Close = read_list(self.alloc, &mut rest)?;
-        take_close(&mut self.connection, channel, close)?;
+        let Ok(copy) = copy_of(&close.error) else {
+            drop(close);
+            return Err(StepError::OutOfMemory);
+        };
+        let told = take_close(&mut self.connection, channel, close);
+        self.kept.keep_close(close_answer(&told, copy));
+        told?;
         Ok(())
     }
 }

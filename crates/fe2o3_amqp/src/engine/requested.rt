@@ -157,6 +157,10 @@ impl<R: LinkRelay> Engine<R> {
             drop(settings);
             return Err(StepError::OutOfMemory);
         };
+        let Ok(()) = self.kept.reserve() else {
+            drop(settings);
+            return Err(StepError::OutOfMemory);
+        };
         let channel = match self.connection.allocate_session(SessionNo(number)) {
             Ok(channel) => channel,
             Err(error) => {
@@ -168,6 +172,7 @@ impl<R: LinkRelay> Engine<R> {
         match begun(self.alloc, settings, channel, stop) {
             Ok((session, frame)) => {
                 drop(self.sessions.insert(number, session).unwrap());
+                self.kept.add(number);
                 self.waiting.put(Waiting::alone(Some(frame)));
                 Ok(())
             }

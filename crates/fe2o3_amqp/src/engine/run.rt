@@ -1,6 +1,6 @@
 //! Runs: many inputs in a row, with all that is to be sent for them.
 
-ghost use Rattle.std.specs.Prelude.{◌≡◌};
+ghost use Rattle.std.specs.Prelude.{◌≡◌, []};
 ghost use Rattle.fe2o3_amqp.specs.Connection.{refusal_of};
 ghost use Rattle.fe2o3_amqp.specs.Output.{answer_of};
 ghost use Rattle.fe2o3_amqp.specs.Headline.{Ran};
@@ -33,7 +33,8 @@ impl<R: LinkRelay> Engine<R> {
         inputs: &mut VecDeque<Input<R>>,
         answers: &mut Vec<Answer>,
     ) -> Result<(), Stopped>
-        ensures { Ran R.gives self.old inputs.old.items answers.old.items result self.new inputs.new.items answers.new.items }
+        ensures ran { Ran R.gives [] self.old inputs.old.items answers.old.items result self.new inputs.new.items answers.new.items }
+        ensures wishes { self.new.wishes ≡ self.old.wishes }
     {
         law_of_histories::<R>();
         law_of_views::<R>();

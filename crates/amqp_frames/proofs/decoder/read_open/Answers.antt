@@ -1,14 +1,14 @@
-use Rattle.std.proofs.Common.{List, ℕ, sym, subst}
+use Rattle.std.proofs.Common.{List, ℕ, refl, sym, subst}
 use Rattle.std.specs.Prelude.{Result}
 use Rattle.amqp_types.specs.declared.performatives.Performative.TheVariants as performative
 use Rattle.amqp_types.specs.declared.performatives.kind.Kind.TheVariants as kind
 use Rattle.amqp_types.specs.Open.{IsOpenBody, open_body_at}
 use Rattle.std.specs.Prelude.{Some}
-use Rattle.amqp_frames.specs.declared.frame.FrameBody.{FrameBody}
+use Rattle.amqp_frames.specs.declared.frame.Frame.{Frame}
 use Rattle.amqp_frames.specs.declared.error.Error.{Error}
 use Rattle.amqp_frames.specs.Frame.{body_of}
 use Rattle.amqp_frames.specs.FrameError.{error_of}
-use Rattle.amqp_frames.specs.Head.{ReadsBodyOf}
+use Rattle.amqp_frames.specs.Head.{ReadsFrameOf}
 use Rattle.amqp_frames.proofs.Decoded.{failed}
 use Rattle.amqp_frames.proofs.Headed.{body_read, body_not_read}
 use Rattle.amqp_frames.proofs.decoder.read_open.Goals as goal
@@ -16,8 +16,8 @@ use Rattle.amqp_frames.proofs.decoder.read_open.Goals as goal
 pub returns-in_err-p : goal.returns-in_err-p
 returns-in_err-p c =
     let e = failed c.from_residual.result (error_of c.in_err-p.field-0.0) c.from_residual.ensures.1 in
-    subst (λ (r : Result (FrameBody × List ℕ) Error). ReadsBodyOf (Some kind.Open) c.args.fields r) (sym e)
+    subst (λ (r : Result (Frame × List ℕ) Error). ReadsFrameOf c.args.channel (Some kind.Open) c.args.fields r) (sym e)
     (body_not_read IsOpenBody open_body_at c.lists_are_read.ensures.of_open (λ p behind. body_of (performative.Open p) behind) kind.Open (λ b f r x. x) c.args.fields c.read_list.new.bytes c.in_err-p.field-0.0 c.in_err-p.ensures)
 
 pub returns : goal.returns
-returns c = body_read IsOpenBody open_body_at c.lists_are_read.ensures.of_open (λ p behind. body_of (performative.Open p) behind) kind.Open (λ b f r x. x) (λ b f r x. x) c.args.fields c.read_list.new.bytes c.in_ok-p.p c.in_ok-p.ensures
+returns c = (refl, body_read IsOpenBody open_body_at c.lists_are_read.ensures.of_open (λ p behind. body_of (performative.Open p) behind) kind.Open (λ b f r x. x) (λ b f r x. x) c.args.fields c.read_list.new.bytes c.in_ok-p.p c.in_ok-p.ensures)

@@ -3,6 +3,7 @@ use Rattle.amqp_session.specs.History as session
 use Rattle.amqp_session.specs.Headline as single
 use Rattle.fe2o3_amqp.specs.EngineView.{new_engine}
 use Rattle.fe2o3_amqp.specs.ByHistory.{of_session, begun}
+use Rattle.fe2o3_amqp.proofs.Apart.{apart}
 use Rattle.fe2o3_amqp.proofs.Beginning.{some_none}
 use Rattle.fe2o3_amqp.proofs.Histories.{one_each}
 use Rattle.fe2o3_amqp.proofs.Keeping.{once_held}
@@ -14,8 +15,9 @@ use Rattle.fe2o3_amqp.proofs.Telling.{all_asked, frames_are, ran_short}
 use Rattle.fe2o3_amqp.proofs.laws.law_of_histories.Goals as goal
 
 pub returns : goal.returns
-returns g c = λ state o H w l.
+returns g c = λ state o H w whole.
     let gives = g.R.LinkRelay.gives in
+    let l = apart gives H (new_engine state o) w whole in
     let ones = one_each gives state o H w l in
     record {
       each = λ n m b. elim (legal gives H n (new_engine state o) w l refl) [

@@ -14,7 +14,7 @@ returns-in-Some-clause-last c = λ true.
     let some : 0 < deque_len c.self.inside.rows = search rules in
     let less : c.in-Some.last.now.number < c.args.number = grind (arith, nat_tests, common_steps) in
     subst (λ (rows : List Delivery). (i : ℕ) → i < length rows → number_at rows i < c.args.number) items
-    (last_place c.self.inside.rows.items (deque_len c.self.inside.rows) c.args.number c.in-Some.last.now c.self.invariant.0 len some c.in-Some.ensures.lookup less)
+    (last_place c.self.inside.rows.items (deque_len c.self.inside.rows) c.args.number c.in-Some.last.now c.self.invariant.0.0 len some c.in-Some.ensures.lookup less)
 
 pub returns-in-Some-clause-not_last : goal.returns-in-Some-clause-not_last
 returns-in-Some-clause-not_last c = λ false.

@@ -5,6 +5,6 @@ use Rattle.amqp_session.proofs.deliveries.Deliveries.len.Goals as goal
 
 pub returns-clause-few : goal.returns-clause-few
 returns-clause-few c =
-    let few = few_rows (2 ^ 32) c.self.inside.rows.items c.self.invariant.0 c.self.invariant.1 in
+    let few = few_rows (2 ^ 32) c.self.inside.rows.items c.self.invariant.0.0 c.self.invariant.0.1 in
     let len : deque_len c.self.inside.rows ≡ length c.self.inside.rows.items = search rules in
     omega (arith, few, len, c.len.ensures)

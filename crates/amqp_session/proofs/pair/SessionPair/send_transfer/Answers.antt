@@ -1,10 +1,18 @@
 use Rattle.amqp_session.proofs.PairSteps.{transfer_step}
-use Rattle.amqp_session.proofs.PairHolding.{turned}
+use Rattle.amqp_session.proofs.PairHolding.{turned, pair_holds}
 use Rattle.amqp_session.proofs.pair.SessionPair.send_transfer.Goals as goal
 
 pub invariant_of-self : goal.invariant_of-self
-invariant_of-self g c = transfer_step g.R.LinkRelay.gives c.self.inside.a.view c.transfer_at.new.me.view _ _ c.self.inside.to_a.items c.self.inside.to_b.items c.transfer_at.new.going.items _ c.self.invariant c.transfer_at.ensures
+invariant_of-self g c = transfer_step g.R.LinkRelay.gives c.self.inside.a.view c.transfer_at.new.me.view _ _ c.self.inside.to_a.items
+    c.self.inside.to_b.items c.transfer_at.new.going.items _ c.self.invariant c.transfer_at.ensures
 
 pub invariant_of-self-in-B : goal.invariant_of-self-in-B
 invariant_of-self-in-B g c =
-    turned _ _ _ _ (transfer_step g.R.LinkRelay.gives c.self.inside.b.view c.transfer_at-in-B.new.me.view _ _ c.self.inside.to_b.items c.self.inside.to_a.items c.transfer_at-in-B.new.going.items _ (turned _ _ _ _ c.self.invariant) c.transfer_at-in-B.ensures)
+    turned _ _ _ _ (transfer_step g.R.LinkRelay.gives c.self.inside.b.view c.transfer_at-in-B.new.me.view _ _ c.self.inside.to_b.items
+    c.self.inside.to_a.items c.transfer_at-in-B.new.going.items _ (turned _ _ _ _ c.self.invariant) c.transfer_at-in-B.ensures)
+
+pub returns-in-A-clause-holds : goal.returns-in-A-clause-holds
+returns-in-A-clause-holds g c = pair_holds _ (invariant_of-self g c)
+
+pub returns-in-B-clause-holds : goal.returns-in-B-clause-holds
+returns-in-B-clause-holds g c = pair_holds _ (invariant_of-self-in-B g c)

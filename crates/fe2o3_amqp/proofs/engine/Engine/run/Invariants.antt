@@ -1,10 +1,10 @@
 use Rattle.std.proofs.Common.{◌≡◌, [], length}
-use Rattle.fe2o3_amqp.proofs.Running.{Running}
+use Rattle.fe2o3_amqp.proofs.Running.{Taking}
 use Rattle.fe2o3_amqp.proofs.engine.Engine.run.Given as goal
 
 abbrev pub invariant-loop-answers : goal.invariant-loop-answers
 invariant-loop-answers g l =
-    Running g.R.LinkRelay.gives l.fn.self l.fn.inputs.items l.fn.answers.items l.self l.inputs.items l.answers.items
+    Taking g.R.LinkRelay.gives l.fn.self l.fn.inputs.items l.fn.answers.items l.self l.inputs.items l.answers.items
     × (l.self.waiting ≡ [])
     × (l.total ≡ length l.fn.inputs.items)
 

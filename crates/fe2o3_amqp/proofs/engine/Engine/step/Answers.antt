@@ -5,7 +5,23 @@ use Rattle.fe2o3_amqp.proofs.engine.Engine.step.Goals as goal
 pub returns : goal.returns
 returns g c =
     let done = c.carry_out.ensures in
-    (done.0, done.1, done.2, c.carry_out.new.self.waiting, inr (idle _ (sym c.has_output.ensures ∙ c.if-has_output.false), refl, done.3))
+    record {
+      received = done.0;
+      reached = done.1;
+      calls = done.2;
+      frames = done.3.waiting;
+      done = done.3;
+      step = inr (idle _ (sym c.has_output.ensures ∙ c.if-has_output.false), refl, done.4);
+      keeps = done.5;
+    }
 
 pub returns-then-has_output : goal.returns-then-has_output
-returns-then-has_output g c = (None, None, [], [], inl (busy _ (sym c.has_output.ensures ∙ c.if-has_output.true), refl, refl, ((refl, refl), refl), refl))
+returns-then-has_output g c = record {
+  received = None;
+  reached = None;
+  calls = [];
+  frames = [];
+  done = c.args.self.now;
+  step = inl (busy _ (sym c.has_output.ensures ∙ c.if-has_output.true), refl, refl, ((refl, refl), refl), refl);
+  keeps = refl;
+}

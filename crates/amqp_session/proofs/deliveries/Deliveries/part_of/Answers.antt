@@ -1,0 +1,16 @@
+use Rattle.std.proofs.Common.{arith, ◌≡◌, ℕ, ◌+◌, ◌-◌, ◌<◌, ◌≤◌, List, ap, subst}
+use Rattle.amqp_session.specs.declared.deliveries.Delivery.{Delivery}
+use Rattle.amqp_session.specs.Deliveries.{TableView, IsMissing, number_at}
+use Rattle.amqp_session.proofs.Rising.{front_above, front_below}
+use Rattle.amqp_session.proofs.deliveries.Deliveries.part_of.Goals as goal
+
+pub returns-clause-below : goal.returns-clause-below
+returns-clause-below c = λ i h.
+    let items = ap (λ (t : TableView). t.rows) c.self.view_is in
+    let missing = subst (λ (rows : List Delivery). IsMissing c.self.inside.missing rows) items c.self.invariant.1 in
+    let far : c.saturating_sub-far.result ≡ c.args.first - number_at c.args.self.now.rows 0 = omega (arith, c.saturating_sub-far.ensures, c.number.ensures.value) in
+    front_below c.args.self.now.rows c.args.first c.saturating_sub-far.result c.self.inside.missing c.len-len.ensures.rising missing far i (omega (arith, c.min.ensures, c.saturating_sub.ensures, h)) (omega (arith, c.min.ensures, c.len-len.ensures.len, h))
+
+pub returns-clause-above : goal.returns-clause-above
+returns-clause-above c = λ i ge lt.
+    front_above c.args.self.now.rows c.args.first c.saturating_sub-far.result c.len-len.ensures.rising (omega (arith, c.saturating_sub-far.ensures, c.number.ensures.value)) i (omega (arith, c.min-2.ensures, c.len-len.ensures.len, ge, lt)) lt

@@ -1,0 +1,14 @@
+use Rattle.std.proofs.Common.{◌≡◌, sym, ◌∙◌}
+use Rattle.std.specs.List.{insert}
+use Rattle.amqp_session.proofs.Rising.{recorded_on, recorded_before}
+use Rattle.amqp_session.proofs.deliveries.put_at.Goals as goal
+
+pub returns-then-stands_at-clause-items : goal.returns-then-stands_at-clause-items
+returns-then-stands_at-clause-items c =
+    let there = c.stands_at.ensures.there c.if-stands_at.true in
+    c.replace.ensures.items ∙ sym (recorded_on c.args.rows.now.items c.args.place c.args.delivery there.0 c.requires.below there.1)
+
+pub returns-else-stands_at-clause-items : goal.returns-else-stands_at-clause-items
+returns-else-stands_at-clause-items c =
+    let items : c.insert.new.self.items ≡ insert c.args.rows.now.items c.args.place c.args.delivery = rw c.unwrap.ensures at c.insert.ensures.items in
+    items ∙ sym (recorded_before c.args.rows.now.items c.args.place c.args.delivery c.requires.within c.requires.below c.requires.above c.requires.table.0 (c.stands_at.ensures.not_there c.if-stands_at.false))

@@ -1,0 +1,173 @@
+//! The modes. An answer is looked at where it stands, by a function of its own: so nothing can be left out, and it is not moved.
+
+use amqp_frames::{Frame, FrameBody, FrameDecoder, FrameEncoder, Piece};
+use amqp_types::Performative;
+use bytes::Bytes;
+use std::alloc::{AllocError, Global};
+
+/// What was seen of the answers.
+#[derive(Clone, Copy)]
+pub struct Seen {
+    /// How many there were.
+    pub answers: u64,
+    /// A sum over them.
+    pub sum: u64,
+}
+
+impl Seen {
+    pub fn new() -> Seen {
+        Seen { answers: 0, sum: 0 }
+    }
+
+    fn see(&mut self, value: u64) {
+        self.answers = self.answers.wrapping_add(1);
+        self.sum = self.sum.wrapping_add(value);
+    }
+}
+
+/// Does what the mode says, `count` times with each frame. An unknown mode does nothing.
+pub fn run(
+    alloc: Global,
+    mode: &str,
+    frames: &[Bytes],
+    count: u64,
+    limit: u32,
+    seen: &mut Seen,
+) -> anyhow::Result<()> {
+    match mode {
+        "clone" => share(frames, count, seen)?,
+        "decode" => decode(alloc, frames, count, seen)?,
+        "read" => read(alloc, bodies(alloc, frames)?.as_slice(), count, seen)?,
+        "length" => measure(performatives(alloc, frames)?.as_slice(), count, seen),
+        "encode" => encode(
+            alloc,
+            decoded(alloc, frames)?.as_slice(),
+            count,
+            limit,
+            seen,
+        ),
+        _ => {}
+    }
+    Ok(())
+}
+
+#[inline(never)]
+fn of_bytes(bytes: &Bytes) -> u64 {
+    bytes.len() as u64
+}
+
+#[inline(never)]
+fn of_frame(frame: &Frame, rest: &Bytes) -> u64 {
+    match frame.body() {
+        FrameBody::Transfer {
+            performative,
+            payload,
+        } => u64::from(performative.handle.0) ^ payload.len() as u64,
+        FrameBody::Flow(flow) => u64::from(flow.incoming_window),
+        _ => u64::from(frame.channel()) ^ rest.len() as u64,
+    }
+}
+
+#[inline(never)]
+fn of_performative(performative: &Performative, rest: &Bytes) -> u64 {
+    match performative {
+        Performative::Transfer(transfer) => u64::from(transfer.handle.0) ^ rest.len() as u64,
+        Performative::Flow(flow) => u64::from(flow.incoming_window),
+        _ => rest.len() as u64,
+    }
+}
+
+#[inline(never)]
+fn of_piece(piece: &Piece) -> u64 {
+    piece.head().len() as u64 ^ piece.payload().len() as u64
+}
+
+fn share(frames: &[Bytes], count: u64, seen: &mut Seen) -> Result<(), AllocError> {
+    for _ in 0..count {
+        for bytes in frames {
+            let copy = bytes.clone()?;
+            seen.see(of_bytes(&copy));
+        }
+    }
+    Ok(())
+}
+
+fn decode(alloc: Global, frames: &[Bytes], count: u64, seen: &mut Seen) -> Result<(), AllocError> {
+    let decoder = FrameDecoder::new();
+    for _ in 0..count {
+        for bytes in frames {
+            let answer = decoder.decode(alloc, bytes.clone()?);
+            if let Ok(read) = &answer {
+                seen.see(of_frame(&read.0, &read.1));
+            }
+        }
+    }
+    Ok(())
+}
+
+fn read(alloc: Global, bodies: &[Bytes], count: u64, seen: &mut Seen) -> Result<(), AllocError> {
+    for _ in 0..count {
+        for bytes in bodies {
+            let answer = Performative::read(alloc, bytes.clone()?);
+            if let Ok(read) = &answer {
+                seen.see(of_performative(&read.0, &read.1));
+            }
+        }
+    }
+    Ok(())
+}
+
+fn measure(performatives: &[Performative], count: u64, seen: &mut Seen) {
+    for _ in 0..count {
+        for performative in performatives {
+            let len = performative.encoded_len().min(u128::from(u32::MAX));
+            seen.see(len as u64);
+        }
+    }
+}
+
+fn encode(alloc: Global, frames: &[Frame], count: u64, limit: u32, seen: &mut Seen) {
+    let encoder = FrameEncoder::new(limit.max(4));
+    for _ in 0..count {
+        for frame in frames {
+            let answer = encoder.encode(alloc, frame);
+            if let Ok(pieces) = &answer {
+                for piece in pieces.iter() {
+                    seen.see(of_piece(piece));
+                }
+            }
+        }
+    }
+}
+
+/// What stands behind the headers.
+fn bodies(alloc: Global, frames: &[Bytes]) -> Result<Vec<Bytes>, AllocError> {
+    let mut bodies = Vec::new(alloc);
+    for bytes in frames {
+        let mut body = bytes.clone()?;
+        if body.len() >= 4 {
+            body.advance(4);
+        }
+        bodies.push(body)?;
+    }
+    Ok(bodies)
+}
+
+fn performatives(alloc: Global, frames: &[Bytes]) -> anyhow::Result<Vec<Performative>> {
+    let mut performatives = Vec::new(alloc);
+    let bodies = bodies(alloc, frames)?;
+    for body in bodies.iter() {
+        let (performative, _rest) = Performative::read(alloc, body.clone()?)?;
+        performatives.push(performative)?;
+    }
+    Ok(performatives)
+}
+
+fn decoded(alloc: Global, frames: &[Bytes]) -> anyhow::Result<Vec<Frame>> {
+    let mut decoded = Vec::new(alloc);
+    for bytes in frames {
+        let (frame, _rest) = FrameDecoder::new().decode(alloc, bytes.clone()?)?;
+        decoded.push(frame)?;
+    }
+    Ok(decoded)
+}

@@ -1,0 +1,66 @@
+//! A frame of which a byte is another one, or the end is cut off: what the decoder answers, as a letter.
+
+use amqp_frames::{Error, Frame, FrameBody, FrameDecoder};
+use bytes::Bytes;
+use std::alloc::Global;
+
+/// The letter of what the frame holds.
+fn held(frame: &Frame) -> &'static str {
+    match frame.body() {
+        FrameBody::Open(_) => "O",
+        FrameBody::Begin(_) => "B",
+        FrameBody::Attach(_) => "A",
+        FrameBody::Flow(_) => "F",
+        FrameBody::Transfer { .. } => "T",
+        FrameBody::Disposition(_) => "D",
+        FrameBody::Detach(_) => "X",
+        FrameBody::End(_) => "N",
+        FrameBody::Close(_) => "C",
+        FrameBody::Empty => "E",
+    }
+}
+
+/// The letter of what the decoder answers.
+fn letter(alloc: Global, bytes: &[u8]) -> anyhow::Result<&'static str> {
+    let bytes = Bytes::copy_from_slice(alloc, bytes)?;
+    match FrameDecoder::new().decode(alloc, bytes) {
+        Ok((frame, _rest)) => Ok(held(&frame)),
+        Err(Error::DecodeError) => Ok("d"),
+        Err(Error::NotImplemented) => Ok("n"),
+        Err(error) => Err(error.into()),
+    }
+}
+
+/// The letters of the frame with a byte that is 00, ff and its complement.
+fn changed(alloc: Global, bytes: &mut Vec<u8>, at: usize) -> anyhow::Result<String> {
+    let mut said = String::new(alloc);
+    let Some(byte) = bytes.get(at).copied() else {
+        return Ok(said);
+    };
+    for other in [0, 0xff, byte ^ 0xff] {
+        if let Some(place) = bytes.get_mut(at) {
+            *place = other;
+        }
+        said.push_str(letter(alloc, bytes.as_slice())?)?;
+    }
+    if let Some(place) = bytes.get_mut(at) {
+        *place = byte;
+    }
+    Ok(said)
+}
+
+/// The letters of the frame with each byte changed in turn, and then of each of its proper fronts.
+pub fn answers(alloc: Global, digits: &str) -> anyhow::Result<String> {
+    let mut bytes = hex::decode(alloc, digits)?;
+    let mut said = String::new(alloc);
+    for at in 0..bytes.len() {
+        said.push_str(changed(alloc, &mut bytes, at)?.as_str())?;
+    }
+    for length in 0..bytes.len() {
+        let Some(front) = bytes.get(..length) else {
+            anyhow::bail!("no front");
+        };
+        said.push_str(letter(alloc, front)?)?;
+    }
+    Ok(said)
+}

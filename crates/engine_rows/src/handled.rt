@@ -1,0 +1,220 @@
+//! Rows of handles: what they answer, and what the runs of their engine answer.
+
+use crate::reading;
+use fe2o3_amqp::connection::Error as ConnectionError;
+use fe2o3_amqp::session::{Error as SessionError, TryEndError};
+use fe2o3_amqp::{
+    Answer, ConnectionHandle, ConnectionState, Engine, HandledEngine, Input, ReplayRelay,
+    SessionHandle, SessionNo, SessionSettings, TryCloseError, err_name, out_line,
+};
+use std::alloc::Global;
+use std::collections::VecDeque;
+use std::mem;
+
+/// An engine with two handles of its connection, and two of the session that was named last.
+#[derive(Drop)]
+struct Handled {
+    engine: HandledEngine<ReplayRelay>,
+    connection: (ConnectionHandle, ConnectionHandle),
+    session: Option<(SessionHandle, SessionHandle)>,
+}
+
+/// What the lines of a row answer, whose first line is the state of the connection.
+pub fn answer(alloc: Global, text: &str) -> anyhow::Result<String> {
+    let (state, lines) = text.split_once('\n').unwrap_or((text, ""));
+    let engine = new_engine(alloc, reading::state(state)?)?;
+    let connection = (engine.connection_handle(), engine.connection_handle());
+    let mut handled = Handled {
+        engine,
+        connection,
+        session: None,
+    };
+    let answers = answers(alloc, &mut handled, lines);
+    drop(handled);
+    answers
+}
+
+fn new_engine(alloc: Global, state: ConnectionState) -> anyhow::Result<HandledEngine<ReplayRelay>> {
+    let open = reading::open(alloc, "replay")?;
+    Ok(HandledEngine::new(Engine::new(alloc, state, open)))
+}
+
+fn answers(alloc: Global, handled: &mut Handled, lines: &str) -> anyhow::Result<String> {
+    let mut text = String::new(alloc);
+    for line in lines.lines() {
+        text.push_str(call(alloc, handled, line)?.as_str())?;
+    }
+    Ok(text)
+}
+
+/// What one line answers.
+fn call(alloc: Global, handled: &mut Handled, line: &str) -> anyhow::Result<String> {
+    let (word, rest) = line.split_once(' ').unwrap_or((line, ""));
+    match word {
+        "connection" => of_connection(alloc, &mut handled.engine, &mut handled.connection.0, rest),
+        "other" => of_connection(alloc, &mut handled.engine, &mut handled.connection.1, rest),
+        "handle" => handle(alloc, handled, rest),
+        "session" => of_sessions(alloc, handled, true, rest),
+        "twin" => of_sessions(alloc, handled, false, rest),
+        "engine" => another(alloc, handled, rest),
+        _ => run(alloc, &mut handled.engine, word, rest),
+    }
+}
+
+/// From now on the handles are handed another engine, new in this state.
+fn another(alloc: Global, handled: &mut Handled, state: &str) -> anyhow::Result<String> {
+    let engine = new_engine(alloc, reading::state(state)?)?;
+    drop(mem::replace(&mut handled.engine, engine));
+    Ok(String::new(alloc))
+}
+
+/// Two handles of this session are made.
+fn handle(alloc: Global, handled: &mut Handled, text: &str) -> anyhow::Result<String> {
+    let number = SessionNo(reading::number(text)?);
+    let first = handled.engine.session_handle(number);
+    let second = handled.engine.session_handle(number);
+    let (Some(first), Some(second)) = (first, second) else {
+        return Ok(String::from_str(alloc, "none\n")?);
+    };
+    drop(mem::replace(&mut handled.session, Some((first, second))));
+    Ok(String::from_str(alloc, "some\n")?)
+}
+
+/// A call of a handle of the connection.
+fn of_connection(
+    alloc: Global,
+    engine: &mut HandledEngine<ReplayRelay>,
+    handle: &mut ConnectionHandle,
+    text: &str,
+) -> anyhow::Result<String> {
+    let (word, rest) = text.split_once(' ').unwrap_or((text, ""));
+    match word {
+        "is" => said(alloc, handle.is_closed(engine)),
+        "try" => closed(alloc, &handle.try_close(engine)),
+        "close" => match reading::error(alloc, rest)? {
+            None => close_wished(alloc, &handle.close(engine)),
+            Some(error) => close_wished(alloc, &handle.close_with_error(error, engine)),
+        },
+        _ => Err(anyhow::anyhow!("no call of a handle")),
+    }
+}
+
+/// A call of a handle of the session that was named last: of the first, or of the second.
+fn of_sessions(
+    alloc: Global,
+    handled: &mut Handled,
+    is_first: bool,
+    text: &str,
+) -> anyhow::Result<String> {
+    match &mut handled.session {
+        None => Err(anyhow::anyhow!("no session was named")),
+        Some((first, second)) => {
+            if is_first {
+                of_session(alloc, &mut handled.engine, first, text)
+            } else {
+                of_session(alloc, &mut handled.engine, second, text)
+            }
+        }
+    }
+}
+
+fn of_session(
+    alloc: Global,
+    engine: &mut HandledEngine<ReplayRelay>,
+    handle: &mut SessionHandle,
+    text: &str,
+) -> anyhow::Result<String> {
+    let (word, rest) = text.split_once(' ').unwrap_or((text, ""));
+    match word {
+        "is" => said(alloc, handle.is_ended(engine)),
+        "try" => ended(alloc, &handle.try_end(engine)),
+        "close" => end_wished(alloc, &handle.close(engine)),
+        "end" => match reading::error(alloc, rest)? {
+            None => end_wished(alloc, &handle.end(engine)),
+            Some(error) => end_wished(alloc, &handle.end_with_error(error, engine)),
+        },
+        _ => Err(anyhow::anyhow!("no call of a handle")),
+    }
+}
+
+fn said(alloc: Global, answer: bool) -> anyhow::Result<String> {
+    Ok(format!(in alloc; "{answer}\n")?)
+}
+
+fn close_wished(alloc: Global, answer: &Result<(), ConnectionError>) -> anyhow::Result<String> {
+    Ok(format!(in alloc; "{answer:?}\n")?)
+}
+
+fn end_wished(alloc: Global, answer: &Result<(), SessionError>) -> anyhow::Result<String> {
+    Ok(format!(in alloc; "{answer:?}\n")?)
+}
+
+fn closed(
+    alloc: Global,
+    answer: &Result<Result<(), ConnectionError>, TryCloseError>,
+) -> anyhow::Result<String> {
+    Ok(format!(in alloc; "{answer:?}\n")?)
+}
+
+fn ended(
+    alloc: Global,
+    answer: &Result<Result<(), SessionError>, TryEndError>,
+) -> anyhow::Result<String> {
+    Ok(format!(in alloc; "{answer:?}\n")?)
+}
+
+/// A run, of this input; of none, where the word is `run`.
+fn run(
+    alloc: Global,
+    engine: &mut HandledEngine<ReplayRelay>,
+    word: &str,
+    rest: &str,
+) -> anyhow::Result<String> {
+    let mut inputs = VecDeque::new(alloc);
+    if let Some(input) = input(alloc, word, rest)? {
+        inputs.push_back(input)?;
+    }
+    let mut answers = Vec::new(alloc);
+    engine.run(&mut inputs, &mut answers)?;
+    let mut text = String::new(alloc);
+    for answer in answers.iter() {
+        text.push_str(line_of(alloc, answer)?.as_str())?;
+    }
+    Ok(text)
+}
+
+fn input(alloc: Global, word: &str, rest: &str) -> anyhow::Result<Option<Input<ReplayRelay>>> {
+    match word {
+        "run" => Ok(None),
+        "open" => Ok(Some(Input::Open)),
+        "close" => Ok(Some(Input::Close(reading::error(alloc, rest)?))),
+        "begin" => Ok(Some(Input::Begin(number(rest)?, SessionSettings::new()))),
+        "end" => Ok(Some(Input::End(number(rest)?, None))),
+        "recv" => Ok(Some(Input::Received(reading::bytes(alloc, rest)?))),
+        _ => Err(anyhow::anyhow!("no input")),
+    }
+}
+
+fn number(text: &str) -> anyhow::Result<SessionNo> {
+    Ok(SessionNo(reading::number(text)?))
+}
+
+/// The lines of an answer.
+fn line_of(alloc: Global, answer: &Answer) -> anyhow::Result<String> {
+    match answer {
+        Answer::Done => Ok(String::from_str(alloc, "done\n")?),
+        Answer::Refused(error) => {
+            let name = err_name(error);
+            Ok(format!(in alloc; "err {name}\n")?)
+        }
+        Answer::Out(pieces) => {
+            let mut text = String::new(alloc);
+            for piece in pieces.iter() {
+                text.push_str(out_line(alloc, piece)?.as_str())?;
+                text.push_str("\n")?;
+            }
+            Ok(text)
+        }
+        Answer::TooLarge(_) => Ok(String::from_str(alloc, "err TooLarge\n")?),
+    }
+}

@@ -1,0 +1,174 @@
+//! Calls of the codec, each once more where it is refused for memory.
+
+use crate::offer::out;
+use crate::{mark, print, reading, say};
+use bytes::{Bytes, BytesMut};
+use fe2o3_amqp::{Frame, FrameDecoder, FrameEncoder, Piece, frames};
+use std::alloc::Global;
+
+/// What a call came to.
+#[derive(Drop)]
+enum Came {
+    /// It answers so.
+    To(&'static str),
+    /// Memory is refused for what it is given.
+    Unmade,
+    /// It is refused for memory.
+    Refused,
+}
+
+/// Makes the call of a line, and once more where it is refused for memory.
+pub fn called(rt: &HostRuntime, text: &str) -> anyhow::Result<()> {
+    let (name, rest) = reading::word(text);
+    for _ in 0..2 {
+        match once(rt, name, rest)? {
+            Came::To(answer) => return answered(rt, name, answer),
+            Came::Unmade => {}
+            Came::Refused => answered(rt, "~", name)?,
+        }
+    }
+    Err(anyhow::anyhow!("refused twice"))
+}
+
+fn answered(rt: &HostRuntime, name: &str, answer: &str) -> anyhow::Result<()> {
+    say(rt, name)?;
+    say(rt, " ")?;
+    print(rt, answer)
+}
+
+fn once(rt: &HostRuntime, name: &str, rest: &str) -> anyhow::Result<Came> {
+    mark(rt, "@make\n");
+    match name {
+        "read" => Ok(read(rt, rest)),
+        "write" => Ok(write(rt, rest)),
+        "decode" => Ok(decode(rt, rest)),
+        "bytes" => Ok(bytes(rt, rest)),
+        "encode" => encode(rt, rest),
+        _ => Err(anyhow::anyhow!("no call")),
+    }
+}
+
+/// `Performative::read`, of bytes that hold one.
+fn read(rt: &HostRuntime, digits: &str) -> Came {
+    let Ok(bytes) = reading::bytes(rt.alloc(), digits) else {
+        return Came::Unmade;
+    };
+    mark(rt, "@run\n");
+    let read = fe2o3_amqp::Performative::read(rt.alloc(), bytes);
+    mark(rt, "@print\n");
+    match read {
+        Ok((_performative, rest)) if rest.is_empty() => Came::To("whole"),
+        Ok(_) => Came::To("and more"),
+        Err(fe2o3_amqp::ReadError::Malformed) => Came::To("malformed"),
+        Err(fe2o3_amqp::ReadError::OutOfMemory) => Came::Refused,
+    }
+}
+
+/// `Performative::write`, of a performative that is spelled by these digits.
+fn write(rt: &HostRuntime, digits: &str) -> Came {
+    let Ok(Some((performative, _rest))) = reading::performative(rt.alloc(), digits) else {
+        return Came::Unmade;
+    };
+    let Ok(spelled) = reading::bytes(rt.alloc(), digits) else {
+        return Came::Unmade;
+    };
+    mark(rt, "@run\n");
+    let mut text = BytesMut::new(rt.alloc());
+    let written = performative.write(&mut text, u32::MAX);
+    mark(rt, "@print\n");
+    match written {
+        Ok(()) if text.as_slice() == spelled.as_slice() => Came::To("the same"),
+        Ok(()) => Came::To("another"),
+        Err(fe2o3_amqp::WriteError::TooLarge) => Came::To("too large"),
+        Err(fe2o3_amqp::WriteError::OutOfMemory) if text.is_empty() => Came::Refused,
+        Err(fe2o3_amqp::WriteError::OutOfMemory) => Came::To("half"),
+    }
+}
+
+/// `FrameDecoder::decode`, of a frame without its size.
+fn decode(rt: &HostRuntime, digits: &str) -> Came {
+    let Ok(bytes) = reading::bytes(rt.alloc(), digits) else {
+        return Came::Unmade;
+    };
+    mark(rt, "@run\n");
+    let decoded = FrameDecoder::new().decode(rt.alloc(), bytes);
+    mark(rt, "@print\n");
+    match decoded {
+        Ok(_frame) => Came::To("a frame"),
+        Err(error) => refusal(error),
+    }
+}
+
+/// The frame of these digits.
+fn frame(alloc: Global, digits: &str) -> Option<Frame> {
+    let bytes = reading::bytes(alloc, digits).ok()?;
+    let (frame, _rest) = FrameDecoder::new().decode(alloc, bytes).ok()?;
+    Some(frame)
+}
+
+/// A limit of at least 4, and what follows it.
+fn limited(text: &str) -> anyhow::Result<(u32, &str)> {
+    let (limit, digits) = reading::word(text);
+    let limit = limit.parse::<u32>()?;
+    Ok((limit.max(4), digits))
+}
+
+/// `FrameEncoder::encode` with a limit, which goes before the digits of the frame; the pieces are printed.
+fn encode(rt: &HostRuntime, text: &str) -> anyhow::Result<Came> {
+    let (limit, digits) = limited(text)?;
+    match frame(rt.alloc(), digits) {
+        Some(frame) => encode_frame(rt, limit, &frame),
+        None => Ok(Came::Unmade),
+    }
+}
+
+fn encode_frame(rt: &HostRuntime, limit: u32, frame: &Frame) -> anyhow::Result<Came> {
+    mark(rt, "@run\n");
+    let pieces = FrameEncoder::new(limit.max(4)).encode(rt.alloc(), frame);
+    mark(rt, "@print\n");
+    match pieces {
+        Ok(pieces) => {
+            out(rt, &pieces)?;
+            Ok(Came::To("done"))
+        }
+        Err(error) => Ok(refusal(error)),
+    }
+}
+
+fn refusal(error: frames::Error) -> Came {
+    match error {
+        frames::Error::OutOfMemory => Came::Refused,
+        _error => Came::To("no frame"),
+    }
+}
+
+/// The pieces of the frame of these digits.
+fn pieces(alloc: Global, digits: &str) -> Option<Vec<Piece>> {
+    let frame = frame(alloc, digits)?;
+    FrameEncoder::new(u32::MAX).encode(alloc, &frame).ok()
+}
+
+/// `Piece::to_bytes`, of the frame's one piece.
+fn bytes(rt: &HostRuntime, digits: &str) -> Came {
+    let Some(pieces) = pieces(rt.alloc(), digits) else {
+        return Came::Unmade;
+    };
+    let Ok(spelled) = reading::bytes(rt.alloc(), digits) else {
+        return Came::Unmade;
+    };
+    match pieces.first() {
+        Some(piece) => bytes_of(rt, piece, &spelled),
+        None => Came::To("no piece"),
+    }
+}
+
+fn bytes_of(rt: &HostRuntime, piece: &Piece, spelled: &Bytes) -> Came {
+    mark(rt, "@run\n");
+    let bytes = piece.to_bytes(rt.alloc());
+    mark(rt, "@print\n");
+    match bytes {
+        Ok(bytes) if bytes.as_slice() == spelled.as_slice() => Came::To("the same"),
+        Ok(_bytes) => Came::To("others"),
+        Err(error) => refusal(error),
+    }
+}

@@ -1,0 +1,329 @@
+//! Calls that take no memory, made while every request for memory is refused.
+
+use crate::input::of_line;
+use crate::offer::{ScriptEngine, out};
+use crate::{mark, print, reading, say};
+use bytes::Bytes;
+use fe2o3_amqp::{
+    Begin, Close, Connection, ConnectionState, ConnectionStopReason, Detach, Disposition, End,
+    Fields, FrameEncoder, Handle, IncomingChannel, LinkFlow, Open, OutgoingChannel, OutputError,
+    OutputHandle, Performative, Raw, ReplayRelay, Role, Session, SessionSettings, SessionState,
+    SessionStopReason, StepError, Symbol, err_name, is_terminal,
+};
+use std::alloc::{AllocError, Global};
+
+/// The session of the direct calls.
+type ScriptSession = Session<ReplayRelay>;
+
+/// Makes the calls of a line.
+pub fn called(rt: &HostRuntime, engine: &mut ScriptEngine, text: &str) -> anyhow::Result<()> {
+    mark(rt, "@make\n");
+    match reading::word(text) {
+        ("getters", number) => getters(rt, engine, number),
+        ("values", _) => values(rt),
+        ("session", _) => session(rt),
+        ("connection", _) => connection(rt),
+        _ => stepped(rt, engine, text),
+    }
+}
+
+/// Says whether the calls answer as ever.
+fn said(rt: &HostRuntime, name: &str, is_as_ever: bool) -> anyhow::Result<()> {
+    mark(rt, "@grant\n");
+    say(rt, name)?;
+    print(rt, if is_as_ever { " as ever" } else { " otherwise" })
+}
+
+/// The input of a line, by `step`, and then what goes out.
+fn stepped(rt: &HostRuntime, engine: &mut ScriptEngine, line: &str) -> anyhow::Result<()> {
+    let made = match of_line(rt.alloc(), line) {
+        Ok(made) => made,
+        Err(_) => of_line(rt.alloc(), line)?,
+    };
+    let Some(input) = made else {
+        anyhow::bail!("no line of a script");
+    };
+    mark(rt, "@refuse\n");
+    let outcome = engine.step(input);
+    mark(rt, "@grant\n");
+    refusal(rt, outcome)?;
+    for _ in 0..20 {
+        if !puts_out(rt, engine)? {
+            return Ok(());
+        }
+    }
+    Err(anyhow::anyhow!("frames without end"))
+}
+
+/// Prints a refusal, if there is one.
+fn refusal(rt: &HostRuntime, outcome: Result<(), StepError>) -> anyhow::Result<()> {
+    match outcome {
+        Ok(()) => Ok(()),
+        Err(error) => {
+            say(rt, "err ")?;
+            print(rt, err_name(&error))
+        }
+    }
+}
+
+/// Puts out the first frame that waits; whether there was one.
+fn puts_out(rt: &HostRuntime, engine: &mut ScriptEngine) -> anyhow::Result<bool> {
+    mark(rt, "@next_output\n");
+    match engine.next_output() {
+        Ok(None) => return Ok(false),
+        Ok(Some(pieces)) => out(rt, &pieces)?,
+        Err(error) => unsent(rt, error)?,
+    }
+    Ok(true)
+}
+
+fn unsent(rt: &HostRuntime, error: OutputError) -> anyhow::Result<()> {
+    match error {
+        OutputError::Memory => print(rt, "~ next_output"),
+        OutputError::TooLarge(_frame) => print(rt, "err TooLarge"),
+    }
+}
+
+/// What reads an engine and its session.
+fn getters(rt: &HostRuntime, engine: &ScriptEngine, number: &str) -> anyhow::Result<()> {
+    let session = match reading::session(number) {
+        Some(number) => engine.session(number),
+        None => None,
+    };
+    let Some(session) = session else {
+        anyhow::bail!("no session");
+    };
+    mark(rt, "@refuse\n");
+    let is_read = reads_session(session) && reads_connection(engine);
+    said(rt, "getters", is_read)
+}
+
+fn reads_session(session: &ScriptSession) -> bool {
+    let walk = session.last_walk();
+    session.can_send()
+        && *session.local_state() == SessionState::Mapped
+        && session.outgoing_channel() == OutgoingChannel(0)
+        && session.session_stop_reason().is_none()
+        && session.connection_stop_reason().is_none()
+        && session.next_outgoing_id() >= session.next_incoming_id().min(0)
+        && session.remote_incoming_window() >= session.remote_outgoing_window().min(0)
+        && session.held_back() <= session.open_deliveries().max(9)
+        && session.output_handle("no name").is_none()
+        && walk.comparisons <= 64
+}
+
+fn reads_connection(engine: &ScriptEngine) -> bool {
+    let connection = engine.connection();
+    !engine.has_output()
+        && *connection.local_state() == ConnectionState::Opened
+        && connection.local_open().channel_max == 255
+        && connection.connection_stop_reason().is_none()
+        && connection
+            .session_tx_by_incoming_channel(IncomingChannel(9))
+            .is_none()
+}
+
+/// A Begin that answers the one on channel 0.
+fn begin() -> Begin {
+    Begin {
+        remote_channel: Some(0),
+        next_outgoing_id: 0,
+        incoming_window: 8,
+        outgoing_window: 8,
+        handle_max: Handle(u32::MAX),
+        offered_capabilities: None,
+        desired_capabilities: None,
+        properties: None,
+    }
+}
+
+fn open(alloc: Global) -> Result<Open, AllocError> {
+    Ok(Open {
+        container_id: String::from_str(alloc, "a")?,
+        hostname: None,
+        max_frame_size: 512,
+        channel_max: 7,
+        idle_time_out: None,
+        outgoing_locales: None,
+        incoming_locales: None,
+        offered_capabilities: None,
+        desired_capabilities: None,
+        properties: None,
+    })
+}
+
+/// The second attempt passes where the first is refused.
+fn open_again(alloc: Global) -> Result<Open, AllocError> {
+    match open(alloc) {
+        Ok(open) => Ok(open),
+        Err(_) => open(alloc),
+    }
+}
+
+/// Calls of a connection alone.
+fn connection(rt: &HostRuntime) -> anyhow::Result<()> {
+    let (ours, theirs) = (open_again(rt.alloc())?, open_again(rt.alloc())?);
+    let mut connection = Connection::new(rt.alloc(), ConnectionState::OpenSent, ours);
+    mark(rt, "@refuse\n");
+    let is_opened = connection
+        .on_incoming_open(IncomingChannel(0), theirs)
+        .is_ok();
+    let is_as_ever = is_opened && routes_none(&mut connection) && closes(&mut connection);
+    // An explicit call, since the end of its scope takes the prover minutes.
+    drop(connection);
+    said(rt, "connection", is_as_ever)
+}
+
+/// What a connection without sessions is asked.
+fn routes_none(connection: &mut Connection) -> bool {
+    drop(connection.on_outgoing_begin(OutgoingChannel(1), begin()));
+    drop(connection.on_outgoing_end(OutgoingChannel(1), End { error: None }));
+    let was_held = connection.deallocate_session(OutgoingChannel(1));
+    let was_routed = connection
+        .on_incoming_end(IncomingChannel(1), End { error: None })
+        .is_ok();
+    !was_held && !was_routed
+}
+
+fn closes(connection: &mut Connection) -> bool {
+    let is_sent = connection.send_close(None).is_ok();
+    let is_answered = connection
+        .on_incoming_close(IncomingChannel(0), Close { error: None })
+        .is_ok();
+    connection.set_connection_stop_reason(ConnectionStopReason::Closed);
+    is_sent && is_answered && *connection.local_state() == ConnectionState::End
+}
+
+fn flow() -> LinkFlow {
+    LinkFlow {
+        handle: Handle(0),
+        delivery_count: None,
+        link_credit: Some(1),
+        available: None,
+        drain: false,
+        echo: false,
+        properties: None,
+    }
+}
+
+fn detach() -> Detach {
+    Detach {
+        handle: Handle(0),
+        closed: true,
+        error: None,
+    }
+}
+
+fn disposition(last: u32, settled: bool) -> Disposition {
+    Disposition {
+        role: Role::Receiver,
+        first: 1,
+        last: Some(last),
+        settled,
+        state: None,
+        batchable: false,
+    }
+}
+
+/// Calls of a session alone.
+fn session(rt: &HostRuntime) -> anyhow::Result<()> {
+    let settings = SessionSettings::new();
+    let channel = OutgoingChannel(0);
+    let mut session: ScriptSession = Session::new(
+        rt.alloc(),
+        settings,
+        channel,
+        SessionState::BeginSent,
+        None,
+    );
+    mark(rt, "@refuse\n");
+    let is_begun = session
+        .on_incoming_begin(IncomingChannel(0), begin())
+        .is_ok();
+    let is_as_ever = is_begun
+        && works(&mut session)
+        && means_none(&mut session)
+        && ends(&mut session);
+    drop(session);
+    said(rt, "session", is_as_ever)
+}
+
+/// What a mapped session without links is asked.
+fn works(session: &mut ScriptSession) -> bool {
+    drop(session.on_outgoing_flow(flow()));
+    drop(session.on_outgoing_disposition(disposition(3, true)));
+    let is_left = session.on_outgoing_detach(detach(), false).is_ok();
+    let is_ignored = session.on_incoming_detach(detach()).is_ok();
+    let is_quiet = session.maybe_outgoing_session_flow().is_none();
+    is_left && is_ignored && is_quiet && !session.deallocate_link(OutputHandle(0))
+}
+
+/// A settled disposition, and a backward one.
+fn means_none(session: &mut ScriptSession) -> bool {
+    let is_settled = session
+        .on_incoming_disposition(disposition(3, true))
+        .is_ok();
+    let is_backward = session
+        .on_incoming_disposition(disposition(0, false))
+        .is_ok();
+    is_settled && is_backward
+}
+
+fn ends(session: &mut ScriptSession) -> bool {
+    let is_sent = session.send_end(None).is_ok();
+    let is_answered = session
+        .on_incoming_end(IncomingChannel(0), End { error: None })
+        .is_ok();
+    session.set_session_stop_reason(SessionStopReason::Ended);
+    is_sent && is_answered && *session.local_state() == SessionState::Unmapped
+}
+
+/// The performative of these digits; the second attempt passes where the first is refused.
+fn performative(alloc: Global, digits: &str) -> anyhow::Result<Performative> {
+    let read = match reading::performative(alloc, digits) {
+        Ok(read) => read,
+        Err(_) => reading::performative(alloc, digits)?,
+    };
+    match read {
+        Some((performative, _rest)) => Ok(performative),
+        None => Err(anyhow::anyhow!("no performative")),
+    }
+}
+
+/// Calls of values and of performatives.
+fn values(rt: &HostRuntime) -> anyhow::Result<()> {
+    let Performative::Transfer(transfer) = performative(rt.alloc(), "005314c0020143")? else {
+        anyhow::bail!("no transfer");
+    };
+    let text = match String::from_str(rt.alloc(), "x") {
+        Ok(text) => text,
+        Err(_) => String::from_str(rt.alloc(), "x")?,
+    };
+    mark(rt, "@refuse\n");
+    let is_as_ever = views()
+        && Symbol::new(text).is_some()
+        && FrameEncoder::new(512).payload_room(&transfer).is_some()
+        && Performative::Transfer(transfer).encoded_len() > 4;
+    said(rt, "values", is_as_ever)
+}
+
+/// Whether raw values give their parts.
+fn views() -> bool {
+    let Ok((accepted, _rest)) = Raw::read(Bytes::from_static(b"\x00\x53\x24\x45")) else {
+        return false;
+    };
+    let view = accepted.view();
+    let parts = view.descriptor().is_some() && view.inner().is_some() && view.items().is_none();
+    parts && view.code() == 0 && is_terminal(&accepted) && holds_a_map()
+}
+
+fn holds_a_map() -> bool {
+    let Ok((map, _rest)) = Raw::read(Bytes::from_static(b"\xc1\x06\x02\xa3\x01\x78\x52\x05")) else {
+        return false;
+    };
+    let Some(mut items) = map.view().items() else {
+        return false;
+    };
+    let has_two = items.next().is_some() && items.next().is_some() && items.next().is_none();
+    has_two && Fields::new(map).is_some()
+}

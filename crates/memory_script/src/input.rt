@@ -1,0 +1,104 @@
+//! The input that a line says.
+
+use crate::reading;
+use bytes::Bytes;
+use fe2o3_amqp::{
+    Input, InputHandle, LinkFlow, Performative, ReplayRelay, SessionNo, SessionSettings,
+};
+use std::alloc::{AllocError, Global};
+
+/// An input of the script.
+pub type ScriptInput = Input<ReplayRelay>;
+
+/// The input of a line; `None` where it says none. `AllocError` where memory is refused.
+pub fn of_line(alloc: Global, line: &str) -> Result<Option<ScriptInput>, AllocError> {
+    match reading::word(line) {
+        ("open", _) => Ok(Some(Input::Open)),
+        ("close", _) => Ok(Some(Input::Close(None))),
+        ("recv", digits) | ("take", digits) => {
+            Ok(Some(Input::Received(reading::bytes(alloc, digits)?)))
+        }
+        (word, rest) => of_session(alloc, word, rest),
+    }
+}
+
+/// The input of a line whose second word is a session's number.
+fn of_session(alloc: Global, word: &str, rest: &str) -> Result<Option<ScriptInput>, AllocError> {
+    let (number, rest) = reading::word(rest);
+    let Some(number) = reading::session(number) else {
+        return Ok(None);
+    };
+    match word {
+        "begin" => Ok(begin(number, rest)),
+        "end" => Ok(Some(Input::End(number, None))),
+        "release" => Ok(Some(Input::Release(number))),
+        "link" => link(alloc, number, rest),
+        "link-incoming" => incoming_link(alloc, number, rest),
+        "send" => sent(alloc, number, rest, true),
+        "detach" => sent(alloc, number, rest, false),
+        _ => Ok(None),
+    }
+}
+
+/// A session with default settings, or with this incoming window.
+fn begin(number: SessionNo, window: &str) -> Option<ScriptInput> {
+    let mut settings = SessionSettings::new();
+    if !window.is_empty() {
+        settings.incoming_window = window.parse::<u32>().ok()?;
+    }
+    Some(Input::Begin(number, settings))
+}
+
+fn link(alloc: Global, number: SessionNo, name: &str) -> Result<Option<ScriptInput>, AllocError> {
+    let name = String::from_str(alloc, name)?;
+    Ok(Some(Input::AllocateLink(number, name, Some(ReplayRelay))))
+}
+
+fn incoming_link(
+    alloc: Global,
+    number: SessionNo,
+    text: &str,
+) -> Result<Option<ScriptInput>, AllocError> {
+    let (handle, name) = reading::word(text);
+    let Some(handle) = reading::handle(handle) else {
+        return Ok(None);
+    };
+    let name = String::from_str(alloc, name)?;
+    Ok(Some(Input::AllocateIncomingLink(number, name, ReplayRelay, handle)))
+}
+
+/// The request of a performative.
+fn sent(
+    alloc: Global,
+    number: SessionNo,
+    digits: &str,
+    expects_echo: bool,
+) -> Result<Option<ScriptInput>, AllocError> {
+    match reading::performative(alloc, digits)? {
+        Some((performative, rest)) => Ok(asked_of(number, performative, rest, expects_echo)),
+        None => Ok(None),
+    }
+}
+
+fn asked_of(
+    number: SessionNo,
+    performative: Performative,
+    rest: Bytes,
+    expects_echo: bool,
+) -> Option<ScriptInput> {
+    match performative {
+        Performative::Attach(attach) => Some(Input::Attach(number, attach)),
+        Performative::Disposition(said) => Some(Input::Disposition(number, said)),
+        Performative::Detach(detach) => Some(Input::Detach(number, detach, expects_echo)),
+        Performative::Flow(flow) => match LinkFlow::try_from(flow) {
+            Ok(flow) => Some(Input::Flow(number, flow)),
+            Err(()) => None,
+        },
+        Performative::Transfer(transfer) => {
+            let handle = InputHandle::from(transfer.handle);
+            let is_first = transfer.delivery_tag.is_some();
+            Some(Input::Transfer(number, handle, transfer, rest, is_first))
+        }
+        _ => None,
+    }
+}

@@ -1,0 +1,53 @@
+//! A whole exchange, each input given to the engine one at a time, and once more where it is refused for memory.
+//!
+//! | Line | What is done |
+//! |---|---|
+//! | `# TEXT` | a script begins, with a new engine, and the line is repeated |
+//! | `open`, `close`, `begin N`, `end N`, `release N` | the request of that name |
+//! | `begin N WINDOW` | the same, with that incoming window |
+//! | `link N NAME`, `link-incoming N HANDLE NAME` | `AllocateLink`, `AllocateIncomingLink` |
+//! | `send N HEX` | one performative of a link: a detach is one that the peer is to answer |
+//! | `detach N HEX` | a detach that the peer is not to answer |
+//! | `recv HEX` | a received frame, without its size |
+//! | `take HEX` | a received transfer: where its session refuses it for memory it is not offered again |
+//! | `free LINE` | the input of that line, by `step`, while every request for memory is refused; then what goes out |
+//! | `free getters N`, `free values`, `free session`, `free connection` | calls that take none, while every request is refused |
+//! | `call NAME HEX` | a call of the codec: `read`, `write`, `decode`, `encode`, `bytes` |
+//! | `replays` | `replay` of a transcript, with a reader and a writer that fail at each call in turn |
+//! | `show N` | the numbers of a session that received transfers move |
+//!
+//! A line of the output is `out` and a piece, `err` and a refusal, or what a call answers. Behind `~` stands a refusal for memory.
+//! Marks on standard error, `@make`, `@run`, `@print`, say to `tools/refuse_nth.c` what asks for memory from then on, and
+//! `@refuse`, `@grant` that every request is to be refused, or none.
+#![tactic(auto)]
+
+mod codec;
+mod free;
+mod input;
+mod offer;
+mod reading;
+mod replays;
+
+use std::io::Write;
+
+fn main(rt: HostRuntime) -> anyhow::Result<()> {
+    let text = reading::text(&rt)?;
+    offer::script(&rt, std::str::from_utf8(text.as_slice())?)
+}
+
+/// Says what asks for memory from now on. It takes none itself.
+pub fn mark(rt: &HostRuntime, text: &str) {
+    let _ = rt.stderr().write_all(text.as_bytes());
+}
+
+/// Prints a text without an end of its line. Takes no memory.
+pub fn say(rt: &HostRuntime, text: &str) -> anyhow::Result<()> {
+    rt.stdout().write_all(text.as_bytes())?;
+    Ok(())
+}
+
+/// Prints a text and the end of its line. Takes no memory.
+pub fn print(rt: &HostRuntime, text: &str) -> anyhow::Result<()> {
+    say(rt, text)?;
+    say(rt, "\n")
+}

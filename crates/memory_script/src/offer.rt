@@ -1,0 +1,180 @@
+//! Running a script: each input is offered to the engine, and once more where it is refused for memory.
+
+use crate::input::of_line;
+use crate::{codec, free, mark, print, reading, replays, say};
+use fe2o3_amqp::{
+    Answer, ConnectionState, DEFAULT_CHANNEL_MAX, DEFAULT_MAX_FRAME_SIZE, Engine, Open, Piece,
+    ReplayRelay, Session, SessionInnerError, StepError, err_name, out_line,
+};
+use std::alloc::{AllocError, Global};
+use std::collections::VecDeque;
+
+/// The engine of a script.
+pub type ScriptEngine = Engine<ReplayRelay>;
+
+fn engine(alloc: Global) -> Result<ScriptEngine, AllocError> {
+    let open = Open {
+        container_id: String::from_str(alloc, "replay")?,
+        hostname: None,
+        max_frame_size: DEFAULT_MAX_FRAME_SIZE,
+        channel_max: DEFAULT_CHANNEL_MAX,
+        idle_time_out: None,
+        outgoing_locales: None,
+        incoming_locales: None,
+        offered_capabilities: None,
+        desired_capabilities: None,
+        properties: None,
+    };
+    Ok(Engine::new(alloc, ConnectionState::HeaderExchange, open))
+}
+
+/// A new engine; one request alone is refused, and the second attempt passes.
+fn new_engine(alloc: Global) -> Result<ScriptEngine, AllocError> {
+    match engine(alloc) {
+        Ok(engine) => Ok(engine),
+        Err(_) => engine(alloc),
+    }
+}
+
+/// Runs the lines.
+pub fn script(rt: &HostRuntime, text: &str) -> anyhow::Result<()> {
+    mark(rt, "@make\n");
+    let mut engine = new_engine(rt.alloc())?;
+    let outcome = lines(rt, &mut engine, text);
+    // An explicit call, since the end of its scope takes the prover minutes.
+    drop(engine);
+    outcome
+}
+
+fn lines(rt: &HostRuntime, engine: &mut ScriptEngine, text: &str) -> anyhow::Result<()> {
+    for line in text.lines() {
+        mark(rt, "@line\n");
+        match reading::word(line) {
+            ("#", _) => {
+                *engine = new_engine(rt.alloc())?;
+                print(rt, line)?;
+            }
+            ("call", rest) => codec::called(rt, rest)?,
+            ("free", rest) => free::called(rt, engine, rest)?,
+            ("replays", _) => {
+                mark(rt, "@replays\n");
+                replays::called(rt)?;
+            }
+            ("show", number) => show(rt, engine, number)?,
+            _ => offered(rt, engine, line)?,
+        }
+    }
+    Ok(())
+}
+
+/// Offers the input of a line, and once more where it is refused for memory.
+fn offered(rt: &HostRuntime, engine: &mut ScriptEngine, line: &str) -> anyhow::Result<()> {
+    for _ in 0..2 {
+        if is_answered(rt, engine, line)? {
+            return Ok(());
+        }
+    }
+    Err(anyhow::anyhow!("refused twice"))
+}
+
+/// Whether the input of a line is answered otherwise than by a refusal for memory.
+fn is_answered(rt: &HostRuntime, engine: &mut ScriptEngine, line: &str) -> anyhow::Result<bool> {
+    mark(rt, "@make\n");
+    let mut inputs = VecDeque::new(rt.alloc());
+    let Ok(made) = of_line(rt.alloc(), line) else {
+        return Ok(false);
+    };
+    let Some(input) = made else {
+        anyhow::bail!("no line of a script");
+    };
+    if inputs.push_back(input).is_err() {
+        return Ok(false);
+    }
+    mark(rt, "@run\n");
+    let mut answers = Vec::new(rt.alloc());
+    if engine.run(&mut inputs, &mut answers).is_err() {
+        print(rt, "~ Stopped")?;
+        mark(rt, "@again\n");
+        if engine.run(&mut inputs, &mut answers).is_err() {
+            anyhow::bail!("stopped twice");
+        }
+    }
+    mark(rt, "@print\n");
+    printed(rt, &answers, line.starts_with("take "))
+}
+
+/// Prints the answers; whether none of them is a refusal for memory after which the input is to come again.
+fn printed(rt: &HostRuntime, answers: &Vec<Answer>, is_transfer: bool) -> anyhow::Result<bool> {
+    let mut is_done = true;
+    for answer in answers.iter() {
+        match answer {
+            Answer::Done => {}
+            Answer::Refused(error) => is_done = is_done && refused(rt, error, is_transfer)?,
+            Answer::Out(pieces) => out(rt, pieces)?,
+            Answer::TooLarge(_) => print(rt, "err TooLarge")?,
+        }
+    }
+    Ok(is_done)
+}
+
+/// Prints a refusal; whether the input is not to come again.
+fn refused(rt: &HostRuntime, error: &StepError, is_transfer: bool) -> anyhow::Result<bool> {
+    let name = err_name(error);
+    if name != "OutOfMemory" {
+        say(rt, "err ")?;
+        print(rt, name)?;
+        return Ok(true);
+    }
+    match error {
+        StepError::Session(SessionInnerError::OutOfMemory) if is_transfer => {
+            print(rt, "~ the session refuses the transfer")?;
+            Ok(true)
+        }
+        _ => {
+            print(rt, "~ OutOfMemory")?;
+            Ok(false)
+        }
+    }
+}
+
+/// Prints the pieces of a frame.
+pub fn out(rt: &HostRuntime, pieces: &Vec<Piece>) -> anyhow::Result<()> {
+    for piece in pieces.iter() {
+        mark(rt, "@out_line\n");
+        let text = match out_line(rt.alloc(), piece) {
+            Ok(text) => text,
+            Err(_) => {
+                print(rt, "~ out_line")?;
+                out_line(rt.alloc(), piece)?
+            }
+        };
+        mark(rt, "@print\n");
+        print(rt, text.as_str())?;
+    }
+    Ok(())
+}
+
+fn numbers(alloc: Global, session: &Session<ReplayRelay>) -> Result<String, AllocError> {
+    let next = session.next_incoming_id();
+    let window = session.remote_outgoing_window();
+    let open = session.open_deliveries();
+    Ok(format!(in alloc;
+        "next-incoming-id={next} remote-outgoing-window={window} open-deliveries={open}"
+    )?)
+}
+
+fn show(rt: &HostRuntime, engine: &ScriptEngine, number: &str) -> anyhow::Result<()> {
+    mark(rt, "@print\n");
+    let session = match reading::session(number) {
+        Some(number) => engine.session(number),
+        None => None,
+    };
+    let Some(session) = session else {
+        anyhow::bail!("no session");
+    };
+    let text = match numbers(rt.alloc(), session) {
+        Ok(text) => text,
+        Err(_) => numbers(rt.alloc(), session)?,
+    };
+    print(rt, text.as_str())
+}

@@ -1,0 +1,93 @@
+//! Calls of a pair, each a letter, and what they answer, each a letter too.
+
+use crate::made;
+use crate::relay::RowRelay;
+use amqp_session::{
+    AllocLinkError, InputHandle, OutputHandle, SessionInnerError, SessionPair, Side,
+};
+use bytes::Bytes;
+use std::alloc::Global;
+
+/// What a call answers, as a letter.
+fn said(answer: Result<(), SessionInnerError>) -> &'static str {
+    match answer {
+        Ok(()) => ".",
+        Err(SessionInnerError::IllegalState) => "i",
+        Err(SessionInnerError::UnattachedHandle) => "u",
+        Err(SessionInnerError::RemoteAttachingLinkNameNotFound) => "n",
+        Err(SessionInnerError::HandleInUse) => "h",
+        Err(SessionInnerError::OutOfMemory) => "m",
+        Err(_) => "?",
+    }
+}
+
+/// What an allotment answers, as a letter.
+fn allotted(answer: Result<OutputHandle, AllocLinkError>) -> &'static str {
+    match answer {
+        Ok(_) => ".",
+        Err(AllocLinkError::SessionNotMapped) => "s",
+        Err(AllocLinkError::DuplicatedLinkName) => "d",
+        Err(AllocLinkError::OutOfMemory) => "m",
+        Err(_) => "?",
+    }
+}
+
+/// The call of this letter, by the session of this side, and what it answers.
+pub fn answer(
+    alloc: Global,
+    pair: &mut SessionPair<RowRelay>,
+    side: Side,
+    letter: u8,
+) -> anyhow::Result<&'static str> {
+    match letter {
+        b'b' => Ok(said(pair.begin(side))),
+        b'r' => Ok(said(pair.arrive(side))),
+        b'a' => allot(alloc, pair, side, "a"),
+        b'd' => allot(alloc, pair, side, "d"),
+        b'h' => attach(alloc, pair, side, "a", 0),
+        b'j' => attach(alloc, pair, side, "d", 1),
+        b'f' => Ok(said(pair.send_flow(side, made::flow(0, false)))),
+        b'e' => Ok(said(pair.send_flow(side, made::flow(0, true)))),
+        b'w' => Ok(said(pair.send_flow(side, made::flow(7, false)))),
+        _ => transfer(pair, side, letter),
+    }
+}
+
+fn allot(
+    alloc: Global,
+    pair: &mut SessionPair<RowRelay>,
+    side: Side,
+    name: &str,
+) -> anyhow::Result<&'static str> {
+    let name = String::from_str(alloc, name)?;
+    Ok(allotted(pair.allocate_link(side, name, Some(RowRelay {}))))
+}
+
+fn attach(
+    alloc: Global,
+    pair: &mut SessionPair<RowRelay>,
+    side: Side,
+    name: &str,
+    handle: u32,
+) -> anyhow::Result<&'static str> {
+    let name = String::from_str(alloc, name)?;
+    Ok(said(pair.send_attach(side, made::attach(name, handle))))
+}
+
+fn transfer(
+    pair: &mut SessionPair<RowRelay>,
+    side: Side,
+    letter: u8,
+) -> anyhow::Result<&'static str> {
+    let (transfer, is_first) = match letter {
+        b't' => (made::transfer(0, true, None), true),
+        b's' => (made::transfer(0, true, Some(true)), true),
+        b'v' => (made::transfer(7, true, None), true),
+        b'u' => (made::transfer(0, false, None), true),
+        b'c' => (made::transfer(0, false, None), false),
+        _ => anyhow::bail!("no call"),
+    };
+    let handle = InputHandle(transfer.handle.0);
+    let payload = Bytes::from_static(b"p");
+    Ok(said(pair.send_transfer(side, handle, transfer, payload, is_first)))
+}

@@ -1,0 +1,51 @@
+//! Rows of a pair of sessions: each line of the input is calls, and the output is what they answer.
+//!
+//! | Line | Call |
+//! |---|---|
+//! | `# TEXT` | none: a row begins, and the line is repeated |
+//! | `new FIRST WINDOW FIRST WINDOW` | `SessionPair::new`, by the first number and the incoming window of A, and then of B |
+//! | letters | calls, in order: of A where the letter is small, of B where it is a capital one |
+//!
+//! | Letter | Call |
+//! |---|---|
+//! | `a`, `d` | `allocate_link` of that name, with a relay |
+//! | `b`, `r` | `begin`, `arrive` |
+//! | `h`, `j` | `send_attach` of the name `a` under handle 0, of `d` under handle 1 |
+//! | `f`, `e`, `w` | `send_flow` for handle 0, for handle 0 with an echo, for handle 7 |
+//! | `t`, `s`, `v` | `send_transfer`, the first one of a delivery: on handle 0, settled, on handle 7 |
+//! | `u`, `c` | `send_transfer` without a tag on handle 0: a first one, a later one |
+//!
+//! Letters are answered by as many: `.` where all is well, `i` for `IllegalState`, `u` for `UnattachedHandle`, `n` for
+//! `RemoteAttachingLinkNameNotFound`, `h` for `HandleInUse`, `s` for `SessionNotMapped`, `d` for `DuplicatedLinkName`, `m` for
+//! `OutOfMemory`. Behind them stands a sum over the numbers of both sides after each call, then what each side shows: its
+//! state, its numbers and windows, what waits, what is open, and what is on the way to it.
+#![tactic(auto)]
+
+mod call;
+mod made;
+mod relay;
+mod row;
+
+use amqp_session::{SessionPair, SessionSettings};
+use relay::RowRelay;
+use std::io::{self, BufRead, BufReader, BufWriter, Write};
+
+fn main(rt: HostRuntime) -> anyhow::Result<()> {
+    let mut pair = SessionPair::new(rt.alloc(), SessionSettings::new(), SessionSettings::new());
+    let outcome = run(&rt, &mut pair);
+    // An explicit call, since the end of its scope takes the prover minutes.
+    drop(pair);
+    outcome
+}
+
+/// Gives the pair the lines of the input, and prints what it answers.
+fn run(rt: &HostRuntime, pair: &mut SessionPair<RowRelay>) -> anyhow::Result<()> {
+    let alloc = rt.alloc();
+    let mut out = BufWriter::new(alloc, io::writer(rt))?;
+    for line in BufReader::new(alloc, rt.reader())?.lines(alloc) {
+        let text = row::answer(alloc, pair, line?.as_str())?;
+        out.write_all(text.as_bytes())?;
+    }
+    out.flush()?;
+    Ok(())
+}

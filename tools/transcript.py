@@ -1,0 +1,334 @@
+#!/usr/bin/env python3
+"""Turns a recorded connection into lines for amqp_replay, and says which recorded frames it refuses, and by which name.
+
+    tools/transcript.py FILE [A|B]             writes the lines to standard output
+    tools/transcript.py FILE [A|B] --run PROG  runs the program PROG (amqp_replay) on them and prints each refused frame
+
+FILE is what `tshark -q -z follow,tcp,raw,N` prints, or a file of lines `A HEX` and `B HEX`, each a frame without its size; A is the
+client. The second word says whose place the engine takes (A where it is left out): what the other side sent comes as `recv` lines, and
+what this side sent is asked for. The engine gives its own channels, handles and numbers, so those are translated in both directions:
+- the peer's Begin names the channel that the engine has given; a Begin that asks for a session is taken as the answer to one of this side;
+- next-incoming-id of the peer's flows and the numbers in its dispositions count from this side's first ones, which are 0 here;
+- handles are those that the engine gives: the handle that was freed last, else the next one.
+What this side asks for before its session is mapped waits for the peer's Begin. A detach that answers the peer's, a flow of the session
+alone, and empty frames are left out: the engine answers by itself, or has no need of them.
+"""
+
+import re
+import subprocess
+import sys
+from pathlib import Path
+
+from canonical import uint, ushort
+from frames import ATTACH, BEGIN, CLOSE, DETACH, DISPOSITION, END, FLOW, NAMES, NULL, OPEN, TRANSFER, Frame, Malformed, flag, integer, text
+
+MARK, MARKED = "release 4294967295", "err NoSession"
+
+
+# ---- recordings
+
+
+def recorded(path):
+    """The frames of a recording: side and bytes, without their size, in the order in which they were whole."""
+    lines = Path(path).read_text().splitlines()
+    if any(line.startswith("Follow: tcp") for line in lines):
+        return followed(lines)
+    return [(line[0], bytes.fromhex(line[2:])) for line in lines if re.fullmatch(r"[AB] [0-9a-fA-F]*", line)]
+
+
+def followed(lines):
+    """The frames of a followed stream: the second node's chunks are indented."""
+    waiting, found = {"A": b"", "B": b""}, []
+    for line in lines:
+        if re.fullmatch(r"\t?[0-9a-fA-F]+", line):
+            side = "B" if line.startswith("\t") else "A"
+            frames, waiting[side] = split(waiting[side] + bytes.fromhex(line.strip()))
+            found += [(side, it) for it in frames]
+    return found
+
+
+def split(stream):
+    """The whole AMQP frames at the stream's front, and what is left; protocol headers and frames of SASL are passed over."""
+    found = []
+    while len(stream) >= 8:
+        size = 8 if stream.startswith(b"AMQP") else max(int.from_bytes(stream[:4], "big"), 8)
+        if len(stream) < size:
+            break
+        if not stream.startswith(b"AMQP") and stream[5] != 1:
+            found.append(stream[4:size])
+        stream = stream[size:]
+    return found, stream
+
+
+# ---- what the engine gives
+
+
+class Handles:
+    """The output handles of a session: the one that was freed last is given out first."""
+
+    def __init__(self):
+        self.free, self.next = [], 0
+
+    def give(self):
+        if self.free:
+            return self.free.pop()
+        self.next += 1
+        return self.next - 1
+
+
+class Session:
+    """A session of this side: its number, its channel here, and what its recorded numbers count from."""
+
+    def __init__(self, number, channel, first_id, first_delivery):
+        self.number, self.channel = number, channel
+        self.first_id, self.first_delivery = first_id, first_delivery
+        self.is_mapped, self.ended, self.waiting = False, set(), []
+        self.handles, self.links, self.awaited, self.inputs, self.going = Handles(), {}, set(), {}, set()
+        # the recorded handle of a link, and its handle here
+        self.given = {}
+
+
+class Transcript:
+    def __init__(self, frames, side):
+        self.frames, self.side, self.lines = frames, side, []
+        self.read = [self.parsed(of) for _, of in frames]
+        # sessions by this side's recorded channel, and by the peer's
+        self.by_own, self.by_peer, self.begun, self.free, self.is_open = {}, {}, 0, [], False
+
+    def parsed(self, of):
+        try:
+            return Frame(of)
+        except (Malformed, UnicodeDecodeError):
+            return None
+
+    def said(self, at, line):
+        self.lines.append((at, line))
+
+    def later(self, at, sides, code, accepts=lambda frame: True):
+        """The first frame from `at` on of this kind."""
+        for (side, _), frame in list(zip(self.frames, self.read))[at:]:
+            if side == sides and frame is not None and frame.code == code and accepts(frame):
+                return frame
+        return None
+
+    def run(self):
+        for at, ((side, of), frame) in enumerate(zip(self.frames, self.read)):
+            if side != self.side:
+                self.receive(at, of, frame)
+            elif frame is not None and frame.code is not None:
+                self.request(at, frame)
+        return self.lines
+
+    # ---- what the peer sent
+
+    def receive(self, at, of, frame):
+        if frame is not None and frame.code is not None:
+            if frame.code != OPEN:
+                self.open(at)
+            before = frame.bytes()
+            self.translate(at, frame)
+            if frame.bytes() != before:
+                of = frame.bytes()
+        self.said(at, "recv " + of.hex())
+        if frame is not None and frame.channel in self.by_peer:
+            self.after(at, frame, self.by_peer[frame.channel])
+
+    def translate(self, at, frame):
+        """The numbers of the peer's frame, as this side's are here; and what has to be asked for before it comes."""
+        if frame.code == BEGIN:
+            self.by_peer[frame.channel] = self.answered(at, frame)
+            frame[0] = ushort(self.by_peer[frame.channel].channel)
+        session = self.by_peer.get(frame.channel)
+        if session is None:
+            return
+        if frame.code == FLOW and frame[0] != NULL:
+            frame[0] = uint((integer(frame[0]) - session.first_id) % 2**32)
+        elif frame.code == DISPOSITION and flag(frame[0]):
+            for field in (1, 2):
+                if frame[field] != NULL:
+                    frame[field] = uint((integer(frame[field]) - session.first_delivery) % 2**32)
+        elif frame.code == ATTACH and self.is_attached_later(at, frame):
+            self.link(at, session, text(frame[0]))
+
+    def answered(self, at, frame):
+        """The session whose Begin the peer's answers; where it answers none, one that this side begins for it."""
+        if frame[0] != NULL:
+            own = integer(frame[0])
+        else:
+            answer = self.later(at, self.side, BEGIN, lambda it: integer(it[0]) == frame.channel)
+            own = answer.channel if answer else frame.channel
+        if own not in self.by_own or self.by_own[own].is_mapped:
+            self.begin(at, own)
+        return self.by_own[own]
+
+    def is_attached_later(self, at, frame):
+        session, name = self.by_peer[frame.channel], frame[0]
+        own = next(channel for channel, its in self.by_own.items() if its is session)
+        return text(name) not in session.links and self.later(at, self.side, ATTACH, lambda it: (it.channel, it[0]) == (own, name))
+
+    def after(self, at, frame, session):
+        """What follows from a frame of the peer."""
+        if frame.code == BEGIN:
+            session.is_mapped = True
+            for place, waits in session.waiting:
+                self.request(place, waits)
+            session.waiting = []
+        elif frame.code == ATTACH and text(frame[0]) in session.links:
+            session.inputs[integer(frame[1])] = session.links[text(frame[0])]
+        elif frame.code == DETACH:
+            self.detached(session, session.inputs.pop(integer(frame[0]), None))
+        elif frame.code == END:
+            self.end(at, session, "peer")
+
+    def detached(self, session, handle):
+        if handle is None:
+            return
+        if handle not in session.awaited:
+            session.links = {name: its for name, its in session.links.items() if its != handle}
+        session.awaited.discard(handle)
+        session.handles.free.append(handle)
+
+    def end(self, at, session, side):
+        """The channel is given back when both have ended the session."""
+        session.ended.add(side)
+        if len(session.ended) == 2:
+            self.said(at, f"release {session.number}")
+            self.free = sorted([*self.free, session.channel])
+
+    # ---- what this side sent
+
+    def open(self, at):
+        if not self.is_open:
+            self.said(at, "open")
+        self.is_open = True
+
+    def begin(self, at, own):
+        mine = self.later(at, self.side, BEGIN, lambda it: it.channel == own)
+        sent = self.later(at, self.side, TRANSFER, lambda it: it.channel == own and it[1] != NULL)
+        channel = self.free.pop(0) if self.free else self.begun - sum(len(it.ended) == 2 for it in self.by_own.values())
+        self.by_own[own] = Session(self.begun, channel, integer(mine[1]) if mine else 0, integer(sent[1]) if sent else 0)
+        self.said(at, f"begin {self.begun}")
+        self.begun += 1
+
+    def link(self, at, session, name):
+        session.links[name] = session.handles.give()
+        self.said(at, f"link {session.number} {name}")
+
+    def request(self, at, frame):
+        if frame.code == OPEN:
+            return self.open(at)
+        if frame.code == CLOSE:
+            return self.said(at, "close")
+        session = self.by_own.get(frame.channel)
+        if frame.code == BEGIN:
+            # one that answers the peer's was asked for when that came
+            if session is None or session.ended or frame[0] == NULL:
+                self.begin(at, frame.channel)
+        elif session is None:
+            print(f"frame {at + 1}: on a channel without a session, left out", file=sys.stderr)
+        elif not session.is_mapped:
+            session.waiting.append((at, frame))
+        else:
+            self.request_of(at, session, frame)
+
+    def request_of(self, at, session, frame):
+        asks = {ATTACH: self.attach, FLOW: self.flow, TRANSFER: self.transfer, DISPOSITION: self.disposition, DETACH: self.detach}
+        if frame.code == END:
+            self.said(at, f"end {session.number}")
+            self.end(at, session, "own")
+        elif asks[frame.code](at, session, frame):
+            self.said(at, f"send {session.number} {frame.body().hex()}")
+
+    def on_its_handle(self, session, frame, field):
+        frame[field] = uint(session.given.get(integer(frame[field]), integer(frame[field])))
+        return True
+
+    def attach(self, at, session, frame):
+        if text(frame[0]) not in session.links:
+            self.link(at, session, text(frame[0]))
+        session.given[integer(frame[1])] = session.links[text(frame[0])]
+        return self.on_its_handle(session, frame, 1)
+
+    def flow(self, at, session, frame):
+        return frame[4] != NULL and self.on_its_handle(session, frame, 4)
+
+    def transfer(self, at, session, frame):
+        """Number and tag stand on the first frame of a delivery alone."""
+        handle = integer(frame[0])
+        if handle in session.going:
+            frame[1], frame[2] = NULL, NULL
+        session.going.discard(handle)
+        if flag(frame[5]) and not flag(frame[9]):
+            session.going.add(handle)
+        return self.on_its_handle(session, frame, 0)
+
+    def disposition(self, at, session, frame):
+        if not flag(frame[0]):
+            for field in (1, 2):
+                if frame[field] != NULL:
+                    frame[field] = uint((integer(frame[field]) - session.first_delivery) % 2**32)
+        return True
+
+    def detach(self, at, session, frame):
+        handle = session.given.get(integer(frame[0]))
+        if handle not in session.links.values():
+            return False
+        session.links = {name: its for name, its in session.links.items() if its != handle}
+        session.awaited.add(handle)
+        return self.on_its_handle(session, frame, 0)
+
+
+# ---- what the program refuses
+
+
+def answers(lines, program):
+    """What the program answers to each line: names of refusals. A line that it cannot read is left out, and the others are tried anew."""
+    unread = {}
+    while True:
+        left = [(place, line) for place, (_, line) in enumerate(lines) if place not in unread]
+        given = "".join(f"{line}\n{MARK}\n" for _, line in left)
+        ran = subprocess.run([program], input=given, stdout=subprocess.PIPE, stderr=subprocess.PIPE, text=True)
+        bad = re.match(r"bad line (\d+)", ran.stderr)
+        if bad:
+            unread[left[(int(bad[1]) - 1) // 2][0]] = ["bad line"]
+            continue
+        told = ran.stdout.split(MARKED + "\n")
+        if ran.returncode or len(told) != len(left) + 1:
+            sys.exit(f"the program ended with status {ran.returncode}")
+        names = {place: re.findall(r"^err (.*)$", it, re.M) for (place, _), it in zip(left, told)}
+        return [{**names, **unread}[place] for place in range(len(lines))]
+
+
+def refusals(transcript, program):
+    """Each refused frame, as a text: its place among the recorded ones, who sent it, its kind, and the refusal."""
+    lines = transcript.run()
+    named = zip(lines, answers(lines, program))
+    return [shown(transcript, at, line, name) for (at, line), names in named for name in names]
+
+
+def shown(transcript, at, line, name):
+    side, frame = transcript.frames[at][0], transcript.read[at]
+    kind = "no frame" if frame is None else NAMES.get(frame.code, "empty frame")
+    asked = "" if line.startswith(("recv", "send")) else f" ({line.split(' ')[0]})"
+    return f"frame {at + 1}, {side}, {kind}{asked}: {name}{' (the peer ended)' if name.startswith('Remote') and frame and frame.code in (END, CLOSE) else ''}"
+
+
+def main():
+    words = sys.argv[1:]
+    program = words[words.index("--run") + 1] if "--run" in words else None
+    words = words[: words.index("--run")] if program else words
+    side = words[1] if len(words) > 1 else "A"
+    if not words or side not in ("A", "B"):
+        sys.exit(__doc__)
+    transcript = Transcript(recorded(words[0]), side)
+    if program is None:
+        print("\n".join(line for _, line in transcript.run()))
+        return
+    found = refusals(transcript, program)
+    print("".join(f"{it}\n" for it in found), end="")
+    told = sum(it.endswith("(the peer ended)") for it in found)
+    print(f"{len(transcript.frames)} frames, {len(found) - told} refused, {told} by which the peer ended")
+
+
+if __name__ == "__main__":
+    main()

@@ -1,0 +1,66 @@
+#!/usr/bin/env bash
+# Runs amqp_replay against two brokers on loopback, by tools/bridge.py: qpid-proton's example broker and RabbitMQ with its AMQP 1.0 plug-in, both
+# from Debian's packages, which it installs where they are missing (as root). Each is started in a folder of its own and stopped at the end.
+# It is no part of the gate.
+set -euo pipefail
+cd "$(dirname "$0")/.."
+program=crates/amqp_replay/out/amqp_replay
+folder=$(mktemp -d)
+running=()
+trap 'for it in "${running[@]}"; do kill "$it" 2>/dev/null || true; done; wait 2>/dev/null; rm -rf "$folder"' EXIT
+
+install() {
+    dpkg -s "$@" >/dev/null 2>&1 || { apt-get update -q && DEBIAN_FRONTEND=noninteractive apt-get install -q -y --no-install-recommends "$@"; } >"$folder/apt" 2>&1
+}
+
+free_port() {
+    python3 -c 'import socket; s = socket.socket(); s.bind(("127.0.0.1", 0)); print(s.getsockname()[1])'
+}
+
+await_port() {
+    for _ in $(seq 240); do
+        (exec 3<>"/dev/tcp/127.0.0.1/$1") 2>/dev/null && return
+        sleep 0.25
+    done
+    echo "no broker came up on port $1" >&2
+    return 1
+}
+
+proton() {
+    install gcc libc6-dev libqpid-proton11-dev libqpid-proton11-dev-examples
+    local examples=/usr/share/proton/examples/c port
+    port=$(free_port)
+    gcc -I"$examples" "$examples/broker.c" -o "$folder/broker" -l:libqpid-proton-core.so.10 -l:libqpid-proton-proactor.so.1 -lpthread
+    "$folder/broker" 127.0.0.1 "$port" >"$folder/proton.out" 2>&1 &
+    running+=($!)
+    await_port "$port"
+    echo "== qpid-proton $(dpkg-query -f '${Version}' -W libqpid-proton11-dev)"
+    python3 tools/bridge.py "$program" 127.0.0.1 "$port" messages
+}
+
+rabbitmq() {
+    install rabbitmq-server
+    local port home=$folder/rabbitmq
+    port=$(free_port)
+    mkdir -p "$home/log"
+    printf '%s\n' "listeners.tcp.1 = 127.0.0.1:$port" 'default_user = guest' 'default_pass = guest' >"$home/rabbitmq.conf"
+    echo '[rabbitmq_amqp1_0].' >"$home/enabled_plugins"
+    HOME=$home ERL_EPMD_PORT=$(free_port) ERL_EPMD_ADDRESS=127.0.0.1 RABBITMQ_NODENAME=bridge@localhost RABBITMQ_DIST_PORT=$(free_port) \
+        RABBITMQ_MNESIA_BASE=$home/mnesia RABBITMQ_LOG_BASE=$home/log RABBITMQ_CONFIG_FILE=$home/rabbitmq.conf \
+        RABBITMQ_ENABLED_PLUGINS_FILE=$home/enabled_plugins RABBITMQ_CONF_ENV_FILE=/dev/null RABBITMQ_PID_FILE=$home/pid \
+        RABBITMQ_SERVER_ADDITIONAL_ERL_ARGS='-kernel inet_dist_use_interface {127,0,0,1}' \
+        setsid "$(ls /usr/lib/rabbitmq/lib/*/sbin/rabbitmq-server | head -1)" >"$home/out" 2>&1 &
+    running+=($!)
+    await_port "$port"
+    running+=("$(cat "$home/pid")")
+    echo "== RabbitMQ $(dpkg-query -f '${Version}' -W rabbitmq-server)"
+    python3 tools/bridge.py "$program" 127.0.0.1 "$port" /queue/messages --sasl guest:guest
+}
+
+[ -x "$program" ] || (cd crates/amqp_replay && rt run </dev/null >"$folder/build")
+passed=0 failed=0
+for broker in proton rabbitmq; do
+    if "$broker"; then passed=$((passed + 1)); else failed=$((failed + 1)); fi
+done
+echo "$passed passed, $failed failed"
+[ "$failed" = 0 ]
