@@ -88,15 +88,26 @@ class Edit:
 
 
 class Trial:
-    """The edits of one crate, tried over work that is kept in a folder of this run."""
+    """The edits of one crate, tried over what the check of the crate without an edit proved, which is kept in a folder of this run."""
 
-    def __init__(self, crate, edits, kept):
-        self.crate, self.edits, self.kept = crate, edits, kept
+    def __init__(self, crate, edits, room):
+        self.crate, self.edits, self.room = crate, edits, Path(room)
         self.folder, self.lines, self.checks = Path(crate.folder), {}, 0
 
-    def check(self, texts, jobs=1):
+    def prove(self, jobs):
+        """Checks the crate as it stands, from nothing, and keeps what that proves."""
+        return RT.checked(self.crate, {}, ["--jobs", str(jobs)], str(self.room / "kept"))
+
+    def check(self, edits, texts):
+        """Checks the functions of these edits over a copy of what is kept."""
         self.checks += 1
-        return RT.checked(self.crate, texts, ["--jobs", str(jobs)], self.kept)
+        used = self.room / "used"
+        shutil.copytree(self.room / "kept", used)
+        functions = [word for edit in edits for word in ("--only", edit.function)]
+        try:
+            return RT.checked(self.crate, texts, ["--jobs", "1", *functions], str(used))
+        finally:
+            shutil.rmtree(used)
 
     def together(self, edits):
         """As many of the edits as go together, with their texts: one of each function, each where its old texts still stand."""
@@ -127,7 +138,7 @@ class Trial:
         return left
 
     def run(self, jobs):
-        ran = self.check({}, jobs)
+        ran = self.prove(jobs)
         if ran.returncode:
             return [(False, f"{self.crate.name}: NOT PROVED without an edit: {ran.stdout[-300:]}")]
         left, again = [], []
@@ -139,17 +150,17 @@ class Trial:
         while left:
             chosen, texts = self.together(left)
             left = [edit for edit in left if edit not in chosen]
-            again += self.judge(chosen, self.check(texts))
+            again += self.judge(chosen, self.check(chosen, texts))
             if not left:
                 # (what is tried again is tried alone)
                 for edit in again:
-                    self.judge([edit], self.check(self.together([edit])[1]))
+                    self.judge([edit], self.check(*self.together([edit])))
         return [self.lines[edit.name] for edit in self.edits]
 
 
 def tried(crate, edits, jobs):
-    with tempfile.TemporaryDirectory(prefix="rt-together-") as kept:
-        trial = Trial(crate, edits, kept)
+    with tempfile.TemporaryDirectory(prefix="rt-together-") as room:
+        trial = Trial(crate, edits, room)
         lines = trial.run(jobs)
     print("\n".join(text for _, text in lines), f"\n{crate.name}: {len(edits)} edits in {trial.checks} checks", flush=True, sep="")
     return [is_well for is_well, _ in lines]

@@ -8,6 +8,7 @@ use amqp_session::{
 };
 use amqp_types::Handle;
 use bytes::Bytes;
+use std::alloc::{AllocError, Global};
 use std::test::Fail;
 
 #[test]
@@ -55,22 +56,31 @@ fn errors_go_on_under_their_names(rt: HostRuntime) {
 }
 
 #[test]
-fn errors_and_frames_are_printed(rt: HostRuntime) -> Result<(), Fail> {
+fn errors_are_printed(rt: HostRuntime) -> Result<(), Fail> {
     let text = format!(in rt.alloc(); "{}", SessionStateError::IllegalState)?;
     assert_eq!(rt; text.as_str(), "Illegal session state");
-    let text = format!(in rt.alloc();
-        "{}",
-        SessionInnerError::ConnectionStopped(ConnectionStopReason::Closed)
-    )?;
+    let stopped = SessionInnerError::ConnectionStopped(ConnectionStopReason::Closed);
+    let text = format!(in rt.alloc(); "{stopped}")?;
     assert_eq!(rt; text.as_str(), "The connection stopped: Closed");
-    let frame = SessionFrame::new(
+    Ok(())
+}
+
+fn carrier() -> SessionFrame {
+    SessionFrame::new(
         1,
         SessionFrameBody::Transfer {
             performative: crate::made::transfer(None),
             payload: Bytes::from_static(b"12345"),
         },
-    );
-    let text = format!(in rt.alloc(); "{frame:?}")?;
-    assert!(rt; text.as_str().ends_with("payload.len: 5 } }"));
-    Ok(())
+    )
+}
+
+fn printed(alloc: Global, frame: &SessionFrame) -> Result<String, AllocError> {
+    format!(in alloc; "{frame:?}")
+}
+
+#[test]
+fn frames_are_printed(rt: HostRuntime) {
+    let text = printed(rt.alloc(), &carrier());
+    assert!(rt; text.is_ok_and(|it| it.as_str().ends_with("payload.len: 5 } }")));
 }

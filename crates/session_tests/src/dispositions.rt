@@ -72,6 +72,7 @@ impl LinkRelay for Marked {
 
 /// A mapped session with a link under input handle 0; the remote outgoing window is 8.
 fn mapped(alloc: Global) -> Result<Session<Marked>, Fail> {
+    let name = String::from_str(alloc, "a")?;
     let mut session = Session::new(
         alloc,
         SessionSettings::new(),
@@ -80,7 +81,6 @@ fn mapped(alloc: Global) -> Result<Session<Marked>, Fail> {
         None,
     );
     let _begun = session.on_incoming_begin(IncomingChannel(7), begin(100));
-    let name = String::from_str(alloc, "a")?;
     let _handle = session.allocate_incoming_link(name, Marked, InputHandle(0));
     Ok(session)
 }
@@ -192,15 +192,26 @@ fn a_walk_reads_what_is_meant(rt: HostRuntime) -> Result<(), Fail> {
     Ok(())
 }
 
+/// The remote outgoing window after a disposition of three deliveries with a state, where that goes out on channel 3.
+fn window_after(session: &mut Session<Marked>, state: &'static [u8]) -> Option<u32> {
+    let frame = session.on_outgoing_disposition(said(1, Some(3), true, state));
+    match frame.body {
+        SessionFrameBody::Disposition(_) if frame.channel == 3 => {
+            Some(session.remote_outgoing_window())
+        }
+        _ => None,
+    }
+}
+
 #[test]
 fn a_terminal_state_opens_the_window_again(rt: HostRuntime) -> Result<(), Fail> {
     let mut session = mapped(rt.alloc())?;
-    let frame = session.on_outgoing_disposition(said(1, Some(3), true, ACCEPTED));
-    assert!(rt; frame.channel == 3 && matches!(&frame.body, SessionFrameBody::Disposition(_)));
-    assert_eq!(rt; session.remote_outgoing_window(), 11);
-    let _frame = session.on_outgoing_disposition(said(1, Some(3), true, RECEIVED));
-    assert_eq!(rt; session.remote_outgoing_window(), 11);
+    let windows = [
+        window_after(&mut session, ACCEPTED),
+        window_after(&mut session, RECEIVED),
+    ];
     drop(session);
+    assert!(rt; windows == [Some(11), Some(11)]);
     Ok(())
 }
 

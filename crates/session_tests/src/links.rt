@@ -2,7 +2,7 @@
 
 use crate::relays::{Choosing, Quiet};
 use amqp_session::{
-    AllocLinkError, InputHandle, LinkRelay, OutgoingChannel, OutputHandle, Session,
+    AllocLinkError, InputHandle, LinkRelay, OutgoingChannel, OutputHandle, Session, SessionFrame,
     SessionFrameBody, SessionInnerError, SessionSettings,
 };
 use amqp_types::{
@@ -68,14 +68,11 @@ fn allotted(answer: Result<OutputHandle, AllocLinkError>) -> Answer {
     }
 }
 
-fn allot<R: LinkRelay>(
-    alloc: Global,
-    one: &mut Session<R>,
-    name: &str,
-    relay: R,
-) -> Result<Answer, AllocError> {
-    let name = String::from_str(alloc, name)?;
-    Ok(allotted(one.allocate_link(name, Some(relay))))
+fn allot<R: LinkRelay>(alloc: Global, one: &mut Session<R>, name: &str, relay: R) -> Answer {
+    match String::from_str(alloc, name) {
+        Ok(name) => allotted(one.allocate_link(name, Some(relay))),
+        Err(_) => Answer::Other,
+    }
 }
 
 fn allot_incoming<R: LinkRelay>(
@@ -84,9 +81,20 @@ fn allot_incoming<R: LinkRelay>(
     name: &str,
     relay: R,
     input: u32,
-) -> Result<Answer, AllocError> {
-    let name = String::from_str(alloc, name)?;
-    Ok(allotted(one.allocate_incoming_link(name, relay, InputHandle(input))))
+) -> Answer {
+    match String::from_str(alloc, name) {
+        Ok(name) => allotted(one.allocate_incoming_link(name, relay, InputHandle(input))),
+        Err(_) => Answer::Other,
+    }
+}
+
+fn taken(answer: Result<(), SessionInnerError>) -> Answer {
+    match answer {
+        Ok(()) => Answer::Done,
+        Err(SessionInnerError::RemoteAttachingLinkNameNotFound) => Answer::Unknown,
+        Err(SessionInnerError::HandleInUse) => Answer::InUse,
+        Err(_) => Answer::Other,
+    }
 }
 
 fn take_attach<R: LinkRelay>(
@@ -94,14 +102,11 @@ fn take_attach<R: LinkRelay>(
     one: &mut Session<R>,
     name: &str,
     handle: u32,
-) -> Result<Answer, AllocError> {
-    let attach = attach(alloc, name, handle)?;
-    Ok(match one.on_incoming_attach(attach) {
-        Ok(()) => Answer::Done,
-        Err(SessionInnerError::RemoteAttachingLinkNameNotFound) => Answer::Unknown,
-        Err(SessionInnerError::HandleInUse) => Answer::InUse,
+) -> Answer {
+    match attach(alloc, name, handle) {
+        Ok(attach) => taken(one.on_incoming_attach(attach)),
         Err(_) => Answer::Other,
-    })
+    }
 }
 
 fn take_detach<R: LinkRelay>(one: &mut Session<R>, handle: u32) -> Answer {
@@ -112,45 +117,45 @@ fn take_detach<R: LinkRelay>(one: &mut Session<R>, handle: u32) -> Answer {
     }
 }
 
+/// The handle of the link's frame on channel 3.
+fn handed_out(frame: SessionFrame) -> Answer {
+    match frame.body {
+        SessionFrameBody::Attach(attach) if frame.channel == 3 => Answer::Frame(attach.handle.0),
+        SessionFrameBody::Detach(detach) if frame.channel == 3 => Answer::Frame(detach.handle.0),
+        _ => Answer::Other,
+    }
+}
+
 fn send_detach<R: LinkRelay>(one: &mut Session<R>, handle: u32, expects_echo: bool) -> Answer {
     match one.on_outgoing_detach(detach(handle), expects_echo) {
         Ok(None) => Answer::Done,
-        Ok(Some(frame)) => match frame.body {
-            SessionFrameBody::Detach(detach) => Answer::Frame(detach.handle.0),
-            _ => Answer::Other,
-        },
+        Ok(Some(frame)) => handed_out(frame),
         Err(_) => Answer::Other,
     }
 }
 
-fn send_attach<R: LinkRelay>(
-    alloc: Global,
-    one: &Session<R>,
-    name: &str,
-    handle: u32,
-) -> Result<Answer, AllocError> {
-    let frame = one.on_outgoing_attach(attach(alloc, name, handle)?);
-    Ok(match frame.body {
-        SessionFrameBody::Attach(attach) if frame.channel == 3 => Answer::Frame(attach.handle.0),
-        _ => Answer::Other,
-    })
+fn send_attach<R: LinkRelay>(alloc: Global, one: &Session<R>, name: &str, handle: u32) -> Answer {
+    match attach(alloc, name, handle) {
+        Ok(attach) => handed_out(one.on_outgoing_attach(attach)),
+        Err(_) => Answer::Other,
+    }
 }
 
 #[test]
 fn a_link_is_named_attached_and_released(rt: HostRuntime) {
     let alloc = rt.alloc();
     let mut one = session(alloc);
-    assert!(rt; allot(alloc, &mut one, "a", Quiet) == Ok(Answer::Handle(0)));
-    assert!(rt; allot(alloc, &mut one, "a", Quiet) == Ok(Answer::Live));
+    assert!(rt; allot(alloc, &mut one, "a", Quiet) == Answer::Handle(0));
+    assert!(rt; allot(alloc, &mut one, "a", Quiet) == Answer::Live);
     assert!(rt; one.output_handle("a") == Some(OutputHandle(0)));
     assert!(rt; one.output_handle("b").is_none());
-    assert!(rt; take_attach(alloc, &mut one, "b", 5) == Ok(Answer::Unknown));
-    assert!(rt; take_attach(alloc, &mut one, "a", 5) == Ok(Answer::Done));
-    assert!(rt; take_attach(alloc, &mut one, "a", 6) == Ok(Answer::InUse));
-    assert!(rt; send_attach(alloc, &one, "a", 0) == Ok(Answer::Frame(0)));
+    assert!(rt; take_attach(alloc, &mut one, "b", 5) == Answer::Unknown);
+    assert!(rt; take_attach(alloc, &mut one, "a", 5) == Answer::Done);
+    assert!(rt; take_attach(alloc, &mut one, "a", 6) == Answer::InUse);
+    assert!(rt; send_attach(alloc, &one, "a", 0) == Answer::Frame(0));
     assert!(rt; one.deallocate_link(OutputHandle(0)));
     assert!(rt; !one.deallocate_link(OutputHandle(0)));
-    assert!(rt; allot(alloc, &mut one, "a", Quiet) == Ok(Answer::Handle(0)));
+    assert!(rt; allot(alloc, &mut one, "a", Quiet) == Answer::Handle(0));
     drop(one);
 }
 
@@ -158,58 +163,49 @@ fn a_link_is_named_attached_and_released(rt: HostRuntime) {
 fn a_handle_is_free_when_its_detach_is_answered(rt: HostRuntime) {
     let alloc = rt.alloc();
     let mut one = session(alloc);
-    assert!(rt; allot(alloc, &mut one, "a", Quiet) == Ok(Answer::Handle(0)));
-    assert!(rt; take_attach(alloc, &mut one, "a", 5) == Ok(Answer::Done));
+    assert!(rt; allot(alloc, &mut one, "a", Quiet) == Answer::Handle(0));
+    assert!(rt; take_attach(alloc, &mut one, "a", 5) == Answer::Done);
     assert!(rt; send_detach(&mut one, 0, true) == Answer::Frame(0));
     assert!(rt; send_detach(&mut one, 0, true) == Answer::Done);
-    assert!(rt; allot(alloc, &mut one, "a", Quiet) == Ok(Answer::Handle(1)));
+    assert!(rt; allot(alloc, &mut one, "a", Quiet) == Answer::Handle(1));
     assert!(rt; take_detach(&mut one, 9) == Answer::Done);
     assert!(rt; take_detach(&mut one, 5) == Answer::Done);
-    assert!(rt; allot(alloc, &mut one, "b", Quiet) == Ok(Answer::Handle(0)));
+    assert!(rt; allot(alloc, &mut one, "b", Quiet) == Answer::Handle(0));
     drop(one);
 }
 
 /// This side detaches an attached link twice, and the peer twice.
-fn detached_here<R: LinkRelay>(alloc: Global, relay: R) -> Result<[Answer; 6], AllocError> {
-    let mut one = session(alloc);
-    let answers = [
-        allot(alloc, &mut one, "a", relay)?,
-        take_attach(alloc, &mut one, "a", 5)?,
-        send_detach(&mut one, 0, true),
-        send_detach(&mut one, 0, true),
-        take_detach(&mut one, 5),
-        take_detach(&mut one, 5),
-    ];
-    drop(one);
-    Ok(answers)
+fn detached_here<R: LinkRelay>(alloc: Global, one: &mut Session<R>, relay: R) -> [Answer; 6] {
+    [
+        allot(alloc, one, "a", relay),
+        take_attach(alloc, one, "a", 5),
+        send_detach(one, 0, true),
+        send_detach(one, 0, true),
+        take_detach(one, 5),
+        take_detach(one, 5),
+    ]
 }
 
 /// The peer detaches a handle without a link, and an attached link twice.
-fn detached_there<R: LinkRelay>(alloc: Global, relay: R) -> Result<[Answer; 5], AllocError> {
-    let mut one = session(alloc);
-    let answers = [
-        allot(alloc, &mut one, "a", relay)?,
-        take_attach(alloc, &mut one, "a", 5)?,
-        take_detach(&mut one, 9),
-        take_detach(&mut one, 5),
-        take_detach(&mut one, 5),
-    ];
-    drop(one);
-    Ok(answers)
+fn detached_there<R: LinkRelay>(alloc: Global, one: &mut Session<R>, relay: R) -> [Answer; 5] {
+    [
+        allot(alloc, one, "a", relay),
+        take_attach(alloc, one, "a", 5),
+        take_detach(one, 9),
+        take_detach(one, 5),
+        take_detach(one, 5),
+    ]
 }
 
 /// A link of the peer's attach is allotted, attached once more, and detached by the peer twice.
-fn incoming<R: LinkRelay>(alloc: Global, relay: R) -> Result<[Answer; 5], AllocError> {
-    let mut one = session(alloc);
-    let answers = [
-        allot_incoming(alloc, &mut one, "c", relay, 6)?,
-        take_attach(alloc, &mut one, "c", 6)?,
-        take_attach(alloc, &mut one, "c", 7)?,
-        take_detach(&mut one, 6),
-        take_detach(&mut one, 6),
-    ];
-    drop(one);
-    Ok(answers)
+fn incoming<R: LinkRelay>(alloc: Global, one: &mut Session<R>, relay: R) -> [Answer; 5] {
+    [
+        allot_incoming(alloc, one, "c", relay, 6),
+        take_attach(alloc, one, "c", 6),
+        take_attach(alloc, one, "c", 7),
+        take_detach(one, 6),
+        take_detach(one, 6),
+    ]
 }
 
 #[test]
@@ -223,8 +219,12 @@ fn a_relay_is_told_of_the_answer_to_a_detach(rt: HostRuntime) {
         Answer::Done,
         Answer::Done,
     ];
-    assert!(rt; detached_here(alloc, Quiet) == Ok(all));
-    assert!(rt; detached_here(alloc, Choosing { credit: 1 }) == Ok(all));
+    let mut one = session(alloc);
+    assert!(rt; detached_here(alloc, &mut one, Quiet) == all);
+    drop(one);
+    let mut other = session(alloc);
+    assert!(rt; detached_here(alloc, &mut other, Choosing { credit: 1 }) == all);
+    drop(other);
 }
 
 #[test]
@@ -237,9 +237,13 @@ fn a_relay_may_answer_a_detach_of_the_peer(rt: HostRuntime) {
         Answer::Done,
         Answer::Done,
     ];
-    assert!(rt; detached_there(alloc, Quiet) == Ok(all));
+    let mut one = session(alloc);
+    assert!(rt; detached_there(alloc, &mut one, Quiet) == all);
+    drop(one);
     all[3] = Answer::Reply(5);
-    assert!(rt; detached_there(alloc, Choosing { credit: 1 }) == Ok(all));
+    let mut other = session(alloc);
+    assert!(rt; detached_there(alloc, &mut other, Choosing { credit: 1 }) == all);
+    drop(other);
 }
 
 #[test]
@@ -252,7 +256,11 @@ fn an_incoming_link_is_attached_at_once(rt: HostRuntime) {
         Answer::Done,
         Answer::Done,
     ];
-    assert!(rt; incoming(alloc, Quiet) == Ok(all));
+    let mut one = session(alloc);
+    assert!(rt; incoming(alloc, &mut one, Quiet) == all);
+    drop(one);
     all[3] = Answer::Reply(6);
-    assert!(rt; incoming(alloc, Choosing { credit: 1 }) == Ok(all));
+    let mut other = session(alloc);
+    assert!(rt; incoming(alloc, &mut other, Choosing { credit: 1 }) == all);
+    drop(other);
 }

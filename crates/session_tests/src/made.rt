@@ -103,14 +103,20 @@ fn ids(item: &Option<SessionOutgoingItem>) -> [u32; 4] {
     }
 }
 
+fn refused(error: &SessionInnerError) -> Answer {
+    match error {
+        SessionInnerError::IllegalState => Answer::Illegal,
+        SessionInnerError::UnattachedHandle => Answer::Unattached,
+        SessionInnerError::OutOfMemory => Answer::OutOfMemory,
+        _error => Answer::Refused,
+    }
+}
+
 /// What an answer says.
 fn said(answer: Result<Option<SessionOutgoingItem>, SessionInnerError>) -> Answer {
     match answer {
         Ok(item) => Answer::Out(ids(&item)),
-        Err(SessionInnerError::IllegalState) => Answer::Illegal,
-        Err(SessionInnerError::UnattachedHandle) => Answer::Unattached,
-        Err(SessionInnerError::OutOfMemory) => Answer::OutOfMemory,
-        Err(_error) => Answer::Refused,
+        Err(error) => refused(&error),
     }
 }
 

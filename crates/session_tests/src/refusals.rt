@@ -134,17 +134,27 @@ fn sent_alone(one: &mut Session<Quiet>) -> bool {
     is_right
 }
 
+/// The peer's Begin is taken.
+fn begun(one: &mut Session<Quiet>) -> bool {
+    one.on_incoming_begin(IncomingChannel(1), begin(0)).is_ok()
+}
+
 /// It holds at whichever request for memory one is refused, as `rt try --test --fail-alloc N` does, and with none refused.
 #[test]
 fn want_of_memory_changes_nothing(rt: HostRuntime) -> Result<(), Fail> {
     let mut one = unmapped(rt.alloc())?;
-    assert!(rt; begin_twice(&mut one));
-    assert!(rt; one.on_incoming_begin(IncomingChannel(1), begin(0)).is_ok());
-    assert!(rt; drained(&mut one));
-    assert!(rt; sent_behind(&mut one));
-    assert!(rt; sent_alone(&mut one));
-    assert_eq!(rt; one.held_back(), 0);
-    assert_eq!(rt; one.next_outgoing_id(), 14);
-    assert_eq!(rt; one.open_deliveries(), 13);
+    let are_right = [
+        begin_twice(&mut one),
+        begun(&mut one),
+        drained(&mut one),
+        sent_behind(&mut one),
+        sent_alone(&mut one),
+    ];
+    let after = view(&one);
+    drop(one);
+    assert!(rt; are_right == [true; 5]);
+    assert_eq!(rt; after.held_back, 0);
+    assert_eq!(rt; after.numbers.0, 14);
+    assert_eq!(rt; after.open, 13);
     Ok(())
 }
