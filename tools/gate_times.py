@@ -2,7 +2,7 @@
 """Runs the gate, and prints the processor minutes and the minutes of each of its tasks.
 
     tools/gate_times.py                 runs .ci/run
-    tools/gate_times.py COMMAND..       runs another command at the top of the repository, as rt must-fail amqp_frames
+    tools/gate_times.py COMMAND..       runs another command at the top of the repository, as tools/refused_together.py amqp_frames
 
 What the command prints goes to standard error, and its status is this one's. The table on standard output has a line for each task of a
 crate: the misuses that the compiler refuses, the proof, the proof of its tests, the must-fail edits, and the runs of its program and its
