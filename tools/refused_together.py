@@ -8,8 +8,8 @@ must-fail edits: 'file:', 'old:', 'new:'. It counts as refused where a goal of t
 the proof of another one does not count, and neither does a proof that misses a name which the edit took away.
 
 A contract is judged function by function, so edits of different functions are put into one copy of the crate and checked at once: what a
-check reads of the libraries, most of its time, is read once for all of them. An edit that a check does not refuse is tried again with others,
-and at last alone. Edits of definitions (specs/) are tried alone. Before all of them the same check has to prove the crate as it stands.
+check reads of the libraries, most of its time, is read once for all of them. An edit that such a check does not refuse is tried again
+alone. Edits of definitions (specs/) are tried alone. Before all of them the same check has to prove the crate as it stands.
 
 The libraries below a crate are taken as 'rt ci' or 'rt check' built them. The last line is 'N passed, M failed'.
 """
@@ -20,11 +20,15 @@ import re
 import shutil
 import sys
 import tempfile
+import threading
 from concurrent.futures import ThreadPoolExecutor
 from pathlib import Path
 
 ROOT = Path(__file__).resolve().parent.parent
 FOLDER = "must-fail-together"
+ANY_GOAL = re.compile(r"(?:\./)?\S+\.(?:rt|antt):\d+:\d+: error: |\S.*: no proof: .*did not prove ")
+# At most so many edits in one check, so that none takes long.
+MOST = 20
 # What a check says where a proof names what is not there, or cites what was refused.
 MISSES_A_NAME = re.compile(r"has no field|has no `|is not in scope|was not admitted|is no name|no goal|cannot continue")
 
@@ -43,6 +47,8 @@ def toolchain():
 
 
 RT = toolchain()
+# A check for each processor at a time.
+LANES = threading.BoundedSemaphore(RT.processors())
 
 
 class Edit:
@@ -77,7 +83,10 @@ class Edit:
         return None if self.function and self.pairs else "it has no line 'function:', or no pair of texts"
 
     def goal(self, crate, said):
-        """The line that says that a goal of the function is not proved, if there is one."""
+        """The line that says that a goal of the function is not proved, if there is one. An edit of a definition is tried alone: there it may be
+        any goal on the function's way."""
+        if self.is_alone():
+            return next((line for line in said.splitlines() if ANY_GOAL.match(line) and not MISSES_A_NAME.search(line)), None)
         parts = self.function.split("::")
         unanswered = re.compile(rf"fn {crate}::{re.escape(self.function)}: no proof: .*did not prove ")
         own = re.compile(rf"\./proofs/{re.escape('/'.join(parts))}/\w+\.antt:\d+:\d+: error: ")
@@ -91,29 +100,26 @@ class Trial:
     """The edits of one crate, tried over what the check of the crate without an edit proved, which is kept in a folder of this run."""
 
     def __init__(self, crate, edits, room):
-        self.crate, self.edits, self.room = crate, edits, Path(room)
+        self.crate, self.edits, self.kept = crate, edits, f"{room}/kept"
         self.folder, self.lines, self.checks = Path(crate.folder), {}, 0
 
-    def prove(self, jobs):
+    def prove(self):
         """Checks the crate as it stands, from nothing, and keeps what that proves."""
-        return RT.checked(self.crate, {}, ["--jobs", str(jobs)], str(self.room / "kept"))
+        with LANES:
+            return RT.checked(self.crate, {}, ["--jobs", "1"], self.kept)
 
     def check(self, edits, texts):
         """Checks the functions of these edits over a copy of what is kept."""
-        self.checks += 1
-        used = self.room / "used"
-        shutil.copytree(self.room / "kept", used)
         functions = [word for edit in edits for word in ("--only", edit.function)]
-        try:
-            return RT.checked(self.crate, texts, ["--jobs", "1", *functions], str(used))
-        finally:
-            shutil.rmtree(used)
+        with LANES, tempfile.TemporaryDirectory(prefix="rt-together-") as room:
+            shutil.copytree(self.kept, f"{room}/kept")
+            return RT.checked(self.crate, texts, ["--jobs", "1", *functions], f"{room}/kept")
 
-    def together(self, edits):
-        """As many of the edits as go together, with their texts: one of each function, each where its old texts still stand."""
+    def next_of(self, edits):
+        """The next of the edits that go together, with their texts: one of each function, each where its old texts still stand."""
         functions, chosen, texts = set(), [], {}
         for edit in edits:
-            if chosen and (edit.is_alone() or chosen[0].is_alone() or edit.function in functions):
+            if chosen and (edit.is_alone() or chosen[0].is_alone() or edit.function in functions or len(chosen) == MOST):
                 continue
             if edit.put(self.folder, texts) is None:
                 functions.add(edit.function)
@@ -123,46 +129,49 @@ class Trial:
     def tell(self, edit, is_well, text):
         self.lines[edit.name] = is_well, f"{self.crate.name}/{edit.name}: {text}"
 
-    def judge(self, edits, ran):
-        """Notes which of the edits this check refused, and returns the others."""
-        left = []
+    def judge(self, edits, texts):
+        """Notes which of the edits a check refuses, and tries each of the others alone."""
+        ran = self.check(edits, texts)
+        self.checks += 1
         for edit in edits:
             goal = edit.goal(self.crate.name, ran.stdout)
             if goal:
                 self.tell(edit, True, f"refused, as it must be: {goal[:160]}")
             elif len(edits) > 1:
-                left.append(edit)
+                self.judge(*self.next_of([edit]))
             else:
                 last = (ran.stdout.strip().splitlines() or ["nothing"])[-1]
                 self.tell(edit, False, f"NOT REFUSED: no goal of {edit.function} is left unproved; the check ended in: {last[:160]}")
-        return left
 
-    def run(self, jobs):
-        ran = self.prove(jobs)
-        if ran.returncode:
-            return [(False, f"{self.crate.name}: NOT PROVED without an edit: {ran.stdout[-300:]}")]
-        left, again = [], []
+    def batches(self):
+        left, found = [], []
         for edit in self.edits:
             why = edit.put(self.folder, {})
             left += [] if why else [edit]
             if why:
                 self.tell(edit, False, f"BAD EDIT: {why}")
         while left:
-            chosen, texts = self.together(left)
-            left = [edit for edit in left if edit not in chosen]
-            again += self.judge(chosen, self.check(chosen, texts))
-            if not left:
-                # (what is tried again is tried alone)
-                for edit in again:
-                    self.judge([edit], self.check(*self.together([edit])))
+            found.append(self.next_of(left))
+            left = [edit for edit in left if edit not in found[-1][0]]
+        return found
+
+    def run(self):
+        """Whether each edit is refused, and what to say of it."""
+        ran = self.prove()
+        if ran.returncode:
+            return [(False, f"{self.crate.name}: NOT PROVED without an edit: {ran.stdout[-300:]}")]
+        batches = self.batches()
+        with ThreadPoolExecutor(len(batches) or 1) as pool:
+            list(pool.map(lambda it: self.judge(*it), batches))
         return [self.lines[edit.name] for edit in self.edits]
 
 
-def tried(crate, edits, jobs):
+def tried(crate, edits):
     with tempfile.TemporaryDirectory(prefix="rt-together-") as room:
         trial = Trial(crate, edits, room)
-        lines = trial.run(jobs)
-    print("\n".join(text for _, text in lines), f"\n{crate.name}: {len(edits)} edits in {trial.checks} checks", flush=True, sep="")
+        lines = trial.run()
+    said = [text for _, text in lines] + [f"{crate.name}: {len(edits)} edits in {trial.checks} checks"]
+    print("\n".join(said), flush=True)
     return [is_well for is_well, _ in lines]
 
 
@@ -179,9 +188,8 @@ def main(words):
     lacking = [it.name for crate, _ in work for it in crate.below() if not Path(it.rlib).is_dir()]
     if lacking or not work:
         sys.exit(f"not built by rt ci or rt check: {', '.join(lacking)}" if lacking else "no such edit")
-    lanes = RT.processors()
-    with ThreadPoolExecutor(lanes) as pool:
-        results = list(pool.map(lambda it: tried(*it, 2 if lanes >= 4 and it == work[0] else 1), work))
+    with ThreadPoolExecutor(len(work)) as pool:
+        results = list(pool.map(lambda it: tried(*it), work))
     passed = sum(map(sum, results))
     failed = sum(map(len, results)) - passed
     print(f"{passed} passed, {failed} failed")

@@ -44,11 +44,16 @@ fn digits(alloc: Global, performative: &Performative) -> anyhow::Result<String> 
     Ok(hex::encode(alloc, text.as_slice())?)
 }
 
+/// The digits of a performative's text, and no performative any more.
+fn spent(alloc: Global, performative: Performative) -> anyhow::Result<String> {
+    digits(alloc, &performative)
+}
+
 /// The line of a frame.
 pub fn frame(alloc: Global, frame: SessionFrame) -> anyhow::Result<String> {
     let channel = frame.channel;
     let (performative, payload) = parts(frame.body);
-    let text = digits(alloc, &performative)?;
+    let text = spent(alloc, performative)?;
     if payload.is_empty() {
         return Ok(format!(in alloc; "out {channel} {text}\n")?);
     }
@@ -118,7 +123,7 @@ pub fn transfer_taken(
 
 /// The line of a disposition that a relay asks for.
 pub fn disposition(alloc: Global, said: Disposition) -> anyhow::Result<String> {
-    let text = digits(alloc, &Performative::Disposition(said))?;
+    let text = spent(alloc, Performative::Disposition(said))?;
     Ok(format!(in alloc; "disposition {text}\n")?)
 }
 
@@ -155,6 +160,12 @@ pub fn attached(alloc: Global, answer: Result<(), SessionInnerError>) -> anyhow:
     }
 }
 
+/// The line of a detach that a relay answers with.
+fn reply(alloc: Global, detach: Detach) -> anyhow::Result<String> {
+    let text = spent(alloc, Performative::Detach(detach))?;
+    Ok(format!(in alloc; "detach {text}\n")?)
+}
+
 /// The line of a received detach.
 pub fn detached(
     alloc: Global,
@@ -162,10 +173,7 @@ pub fn detached(
 ) -> anyhow::Result<String> {
     match answer {
         Ok(None) => line(alloc, "none"),
-        Ok(Some(detach)) => {
-            let text = digits(alloc, &Performative::Detach(detach))?;
-            Ok(format!(in alloc; "detach {text}\n")?)
-        }
+        Ok(Some(detach)) => reply(alloc, detach),
         Err(error) => refused(alloc, &error),
     }
 }

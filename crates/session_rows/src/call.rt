@@ -1,8 +1,8 @@
 //! Calls of a session that take a performative.
 
 use crate::relay::RowRelay;
-use crate::{answer, disposition, reading};
-use amqp_session::{IncomingChannel, InputHandle, LinkFlow, Session};
+use crate::{answer, disposition, kinds, reading};
+use amqp_session::{IncomingChannel, InputHandle, Session};
 use amqp_types::Performative;
 use std::alloc::Global;
 
@@ -36,14 +36,8 @@ pub fn received(
 
 /// What is handed out for a link's flow.
 pub fn flow(alloc: Global, session: &Session<RowRelay>, digits: &str) -> anyhow::Result<String> {
-    let (performative, _rest) = reading::performative(alloc, digits)?;
-    let Performative::Flow(flow) = performative else {
-        anyhow::bail!("no flow");
-    };
-    match LinkFlow::try_from(flow) {
-        Ok(flow) => answer::frame(alloc, session.on_outgoing_flow(flow)),
-        Err(()) => Err(anyhow::anyhow!("no flow of a link")),
-    }
+    let flow = kinds::link_flow(alloc, digits)?;
+    answer::frame(alloc, session.on_outgoing_flow(flow))
 }
 
 /// What is answered to a transfer for the link of an input handle.
@@ -55,10 +49,7 @@ pub fn transfer(
 ) -> anyhow::Result<String> {
     let (input, digits) = reading::word(text);
     let input = InputHandle(reading::number(input)?);
-    let (performative, payload) = reading::performative(alloc, digits)?;
-    let Performative::Transfer(transfer) = performative else {
-        anyhow::bail!("no transfer");
-    };
+    let (transfer, payload) = kinds::transfer(alloc, digits)?;
     answer::handed_out(
         alloc,
         session.on_outgoing_transfer(input, transfer, payload, is_first),

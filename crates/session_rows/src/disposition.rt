@@ -1,9 +1,9 @@
 //! Calls of a session for dispositions, and their answers.
 
 use crate::relay::RowRelay;
-use crate::{answer, reading};
+use crate::{answer, kinds, reading};
 use amqp_session::{Session, SessionInnerError, num_messages_settled_by_disposition};
-use amqp_types::{Disposition, Performative};
+use amqp_types::Disposition;
 use std::alloc::Global;
 
 /// The lines of the echoes that a received disposition is answered.
@@ -33,10 +33,7 @@ pub fn sent(
     session: &mut Session<RowRelay>,
     digits: &str,
 ) -> anyhow::Result<String> {
-    let (performative, _rest) = reading::performative(alloc, digits)?;
-    let Performative::Disposition(said) = performative else {
-        anyhow::bail!("no disposition");
-    };
+    let said = kinds::disposition(alloc, digits)?;
     answer::frame(alloc, session.on_outgoing_disposition(said))
 }
 

@@ -1,9 +1,8 @@
 //! Calls of a session for its links.
 
 use crate::relay::RowRelay;
-use crate::{answer, reading};
+use crate::{answer, kinds, reading};
 use amqp_session::{InputHandle, OutputHandle, Session};
-use amqp_types::Performative;
 use std::alloc::Global;
 
 /// What a call for links answers.
@@ -77,10 +76,7 @@ fn release(alloc: Global, session: &mut Session<RowRelay>, text: &str) -> anyhow
 }
 
 fn attach(alloc: Global, session: &Session<RowRelay>, digits: &str) -> anyhow::Result<String> {
-    let (performative, _rest) = reading::performative(alloc, digits)?;
-    let Performative::Attach(attach) = performative else {
-        anyhow::bail!("no attach");
-    };
+    let attach = kinds::attach(alloc, digits)?;
     answer::frame(alloc, session.on_outgoing_attach(attach))
 }
 
@@ -90,9 +86,6 @@ fn detach(
     digits: &str,
     expects_echo: bool,
 ) -> anyhow::Result<String> {
-    let (performative, _rest) = reading::performative(alloc, digits)?;
-    let Performative::Detach(detach) = performative else {
-        anyhow::bail!("no detach");
-    };
+    let detach = kinds::detach(alloc, digits)?;
     answer::left(alloc, session.on_outgoing_detach(detach, expects_echo))
 }

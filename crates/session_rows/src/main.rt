@@ -31,6 +31,7 @@
 mod answer;
 mod call;
 mod disposition;
+mod kinds;
 mod link;
 mod made;
 mod reading;

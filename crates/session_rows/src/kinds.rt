@@ -1,0 +1,97 @@
+//! Performatives of one kind, read from hexadecimal digits. Each call ends the life of the performative that it was read as.
+
+use crate::reading;
+use amqp_session::LinkFlow;
+use amqp_types::{Attach, Detach, Disposition, Flow, Performative, Transfer};
+use bytes::Bytes;
+use std::alloc::Global;
+
+/// The performative that the digits say, without what follows it.
+fn alone(alloc: Global, digits: &str) -> anyhow::Result<Performative> {
+    let (performative, _rest) = reading::performative(alloc, digits)?;
+    Ok(performative)
+}
+
+fn as_attach(performative: Performative) -> Option<Attach> {
+    match performative {
+        Performative::Attach(attach) => Some(attach),
+        _ => None,
+    }
+}
+
+fn as_flow(performative: Performative) -> Option<Flow> {
+    match performative {
+        Performative::Flow(flow) => Some(flow),
+        _ => None,
+    }
+}
+
+fn as_transfer(performative: Performative) -> Option<Transfer> {
+    match performative {
+        Performative::Transfer(transfer) => Some(transfer),
+        _ => None,
+    }
+}
+
+fn as_disposition(performative: Performative) -> Option<Disposition> {
+    match performative {
+        Performative::Disposition(said) => Some(said),
+        _ => None,
+    }
+}
+
+fn as_detach(performative: Performative) -> Option<Detach> {
+    match performative {
+        Performative::Detach(detach) => Some(detach),
+        _ => None,
+    }
+}
+
+pub fn attach(alloc: Global, digits: &str) -> anyhow::Result<Attach> {
+    let read = alone(alloc, digits)?;
+    match as_attach(read) {
+        Some(it) => Ok(it),
+        None => Err(anyhow::anyhow!("no attach")),
+    }
+}
+
+fn of_link(flow: Flow) -> anyhow::Result<LinkFlow> {
+    match LinkFlow::try_from(flow) {
+        Ok(flow) => Ok(flow),
+        Err(()) => Err(anyhow::anyhow!("no flow of a link")),
+    }
+}
+
+/// A flow that names a handle.
+pub fn link_flow(alloc: Global, digits: &str) -> anyhow::Result<LinkFlow> {
+    let read = alone(alloc, digits)?;
+    match as_flow(read) {
+        Some(flow) => of_link(flow),
+        None => Err(anyhow::anyhow!("no flow")),
+    }
+}
+
+/// A transfer and its payload.
+pub fn transfer(alloc: Global, digits: &str) -> anyhow::Result<(Transfer, Bytes)> {
+    let (read, payload) = reading::performative(alloc, digits)?;
+    match as_transfer(read) {
+        Some(transfer) => Ok((transfer, payload)),
+        None => Err(anyhow::anyhow!("no transfer")),
+    }
+}
+
+pub fn disposition(alloc: Global, digits: &str) -> anyhow::Result<Disposition> {
+    let read = alone(alloc, digits)?;
+    match as_disposition(read) {
+        Some(it) => Ok(it),
+        None => Err(anyhow::anyhow!("no disposition")),
+    }
+}
+
+pub fn detach(alloc: Global, digits: &str) -> anyhow::Result<Detach> {
+    let read = alone(alloc, digits)?;
+    match as_detach(read) {
+        Some(it) => Ok(it),
+        None => Err(anyhow::anyhow!("no detach")),
+    }
+}
