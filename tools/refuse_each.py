@@ -29,31 +29,51 @@ from expected_frames import TABLES
 
 ROOT = Path(__file__).resolve().parent.parent
 
-# The most requests of a call, as they were counted: docs/CLAIMS.md has the table. They were not worked out from the code, so they tell when a
-# call comes to ask more often, and not that it asks as often as it has to. That of a Begin was raised from 13 to 18 when the engine came to
-# keep a place for handles; what each of the five is was not traced.
+# What asks for memory, as docs/CLAIMS.md has it. A place in a list, a queue, a heap or a slab is one request where there is no room; one in an
+# index map is four: two of its table, one for the keys and one for the values. A buffer is its bytes and the count of its owners.
+ANSWER = PLACE = TEXT = 1
+IN_MAP = 4
+BUFFER = 2
+ONE_PIECE = 1 + BUFFER
+CUT = 1 + 3 * BUFFER
+# What goes out while a flow of the script is answered: the flow that it asks for, and two transfers.
+FRAMES = 3
+
+# The most requests of a call: of `run` with one input of that name, with the answer's place and the encoding of what goes out.
 AT_MOST = {
-    "bytes": 2,
-    "decode": 1,
-    "encode": 3,
-    "encode cut": 7,
-    "next_output": 3,
-    "out_line": 5,
-    "read": 1,
-    "received Attach": 6,
-    "received Begin": 5,
-    "received Disposition": 6,
-    "received Flow": 12,
-    "received Open": 2,
-    "received Transfer": 4,
-    "request AllocateIncomingLink": 11,
-    "request AllocateLink": 7,
-    "request Attach": 4,
-    "request Begin": 18,
-    "request Detach": 4,
-    "request Open": 5,
-    "request Transfer": 6,
-    "write": 1,
+    "bytes": BUFFER,
+    "decode": TEXT,
+    "encode": ONE_PIECE,
+    "encode cut": CUT,
+    "next_output": ONE_PIECE,
+    # the line as it grows, and the digits of head and payload
+    "out_line": 3 * PLACE + 2 * TEXT,
+    "read": TEXT,
+    # the name, and the place among the input handles
+    "received Attach": ANSWER + TEXT + IN_MAP,
+    # the place among the routes
+    "received Begin": ANSWER + IN_MAP,
+    # the lists of the echoes and of their frames
+    "received Disposition": ANSWER + 2 * PLACE + ONE_PIECE,
+    # the list of frames, and the places among the open deliveries
+    "received Flow": ANSWER + 2 * PLACE + FRAMES * ONE_PIECE,
+    # the container's name
+    "received Open": ANSWER + TEXT,
+    # the place among the open deliveries, and a session flow
+    "received Transfer": ANSWER + PLACE + ONE_PIECE,
+    # as a link of this side, and a place among the input handles
+    "request AllocateIncomingLink": ANSWER + TEXT + PLACE + 2 * IN_MAP,
+    # the copy of the name, the place among the output handles, and the one among the names
+    "request AllocateLink": ANSWER + TEXT + PLACE + IN_MAP,
+    "request Attach": ANSWER + ONE_PIECE,
+    # the session, two places of what is kept for handles, and the channel's in a slab and in a map; settings without a copy
+    "request Begin": ANSWER + IN_MAP + IN_MAP + PLACE + PLACE + IN_MAP + ONE_PIECE,
+    "request Detach": ANSWER + ONE_PIECE,
+    # the container's name
+    "request Open": ANSWER + TEXT + ONE_PIECE,
+    # the place among the open deliveries, and two pieces
+    "request Transfer": ANSWER + PLACE + 1 + 2 * BUFFER,
+    "write": TEXT,
 }
 
 
