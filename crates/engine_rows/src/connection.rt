@@ -3,16 +3,16 @@
 use crate::reading;
 use fe2o3_amqp::{
     Connection, ConnectionInnerError, ConnectionStateError, Frame, FrameBody, FrameEncoder,
-    IncomingChannel, OutgoingChannel, Performative, SessionFrame, SessionFrameBody, SessionNo,
-    out_line,
+    IncomingChannel, OutgoingChannel, Performative, Piece, SessionFrame, SessionFrameBody,
+    SessionNo, out_line,
 };
 use std::alloc::Global;
 
 /// What the calls of a row answer, whose first line is the state of the connection.
 pub fn answer(alloc: Global, text: &str) -> anyhow::Result<String> {
     let (state, lines) = text.split_once('\n').unwrap_or((text, ""));
-    let open = reading::open(alloc, "replay")?;
-    let mut connection = Connection::new(alloc, reading::state(state)?, open);
+    let state = reading::state(state)?;
+    let mut connection = Connection::new(alloc, state, reading::open(alloc, "replay")?);
     let answers = answers(alloc, &mut connection, lines);
     drop(connection);
     answers
@@ -62,10 +62,27 @@ fn plain(
 /// The frame as it goes out.
 fn frame(alloc: Global, frame: &Frame) -> anyhow::Result<String> {
     let pieces = FrameEncoder::new(u32::MAX).encode(alloc, frame)?;
-    match pieces.as_slice() {
+    let text = only_line(alloc, pieces.as_slice());
+    drop(pieces);
+    text
+}
+
+fn only_line(alloc: Global, pieces: &[Piece]) -> anyhow::Result<String> {
+    match pieces {
         [piece] => Ok(out_line(alloc, piece)?),
         _ => Err(anyhow::anyhow!("no whole frame")),
     }
+}
+
+/// The same of a frame that nothing else needs.
+fn frame_text(alloc: Global, made: Frame) -> anyhow::Result<String> {
+    let text = frame(alloc, &made);
+    drop(made);
+    text
+}
+
+fn plain_text(alloc: Global, text: &str) -> anyhow::Result<String> {
+    Ok(String::from_str(alloc, text)?)
 }
 
 fn refused(alloc: Global, error: &ConnectionStateError) -> anyhow::Result<String> {
@@ -73,17 +90,21 @@ fn refused(alloc: Global, error: &ConnectionStateError) -> anyhow::Result<String
 }
 
 fn sent(alloc: Global, answer: Result<Frame, ConnectionStateError>) -> anyhow::Result<String> {
-    match answer {
-        Ok(made) => frame(alloc, &made),
-        Err(error) => refused(alloc, &error),
-    }
+    let text = match &answer {
+        Ok(made) => frame(alloc, made),
+        Err(error) => refused(alloc, error),
+    };
+    drop(answer);
+    text
 }
 
 fn taken(alloc: Global, answer: Result<(), ConnectionStateError>) -> anyhow::Result<String> {
-    match answer {
-        Ok(()) => Ok(String::from_str(alloc, "ok")?),
-        Err(error) => refused(alloc, &error),
-    }
+    let text = match &answer {
+        Ok(()) => plain_text(alloc, "ok"),
+        Err(error) => refused(alloc, error),
+    };
+    drop(answer);
+    text
 }
 
 /// The session to which a Begin or an End goes, and the frame that it gets.
@@ -93,13 +114,19 @@ fn routed(
 ) -> anyhow::Result<String> {
     match answer {
         Ok((number, frame)) => session_frame(alloc, number, frame),
-        Err(error) => Ok(format!(in alloc; "err {error:?}")?),
+        Err(error) => not_routed(alloc, error),
     }
 }
 
+fn not_routed(alloc: Global, error: ConnectionInnerError) -> anyhow::Result<String> {
+    let text = format!(in alloc; "err {error:?}");
+    drop(error);
+    Ok(text?)
+}
+
 fn session_frame(alloc: Global, number: SessionNo, sent: SessionFrame) -> anyhow::Result<String> {
+    let text = frame_text(alloc, frame_of(sent))?;
     let number = number.0;
-    let text = frame(alloc, &frame_of(sent))?;
     Ok(format!(in alloc; "session {number}: {text}")?)
 }
 
@@ -109,7 +136,10 @@ fn frame_of(sent: SessionFrame) -> Frame {
     match sent.body {
         SessionFrameBody::Begin(begin) => Frame::new(channel, FrameBody::Begin(begin)),
         SessionFrameBody::End(end) => Frame::new(channel, FrameBody::End(end)),
-        _ => Frame::empty(),
+        other => {
+            drop(other);
+            Frame::empty()
+        }
     }
 }
 
@@ -127,7 +157,10 @@ fn received(alloc: Global, connection: &mut Connection, text: &str) -> anyhow::R
         Performative::Close(close) => taken(alloc, connection.on_incoming_close(channel, close)),
         Performative::Begin(begin) => routed(alloc, connection.on_incoming_begin(channel, begin)),
         Performative::End(end) => routed(alloc, connection.on_incoming_end(channel, end)),
-        _ => Err(anyhow::anyhow!("no call takes it")),
+        other => {
+            drop(other);
+            Err(anyhow::anyhow!("no call takes it"))
+        }
     }
 }
 
@@ -136,9 +169,14 @@ fn send(alloc: Global, connection: &Connection, text: &str) -> anyhow::Result<St
     let (channel, performative) = reading::on_channel(alloc, text)?;
     let channel = OutgoingChannel(channel);
     match performative {
-        Performative::Begin(begin) => frame(alloc, &connection.on_outgoing_begin(channel, begin)),
-        Performative::End(end) => frame(alloc, &connection.on_outgoing_end(channel, end)),
-        _ => Err(anyhow::anyhow!("no Begin and no End")),
+        Performative::Begin(begin) => {
+            frame_text(alloc, connection.on_outgoing_begin(channel, begin))
+        }
+        Performative::End(end) => frame_text(alloc, connection.on_outgoing_end(channel, end)),
+        other => {
+            drop(other);
+            Err(anyhow::anyhow!("no Begin and no End"))
+        }
     }
 }
 

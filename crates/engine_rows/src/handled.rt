@@ -1,14 +1,13 @@
 //! Rows of handles: what they answer, and what the runs of their engine answer.
 
 use crate::reading;
-use fe2o3_amqp::connection::Error as ConnectionError;
-use fe2o3_amqp::session::{Error as SessionError, TryEndError};
 use fe2o3_amqp::{
-    Answer, ConnectionHandle, ConnectionState, Engine, HandledEngine, Input, ReplayRelay,
-    SessionHandle, SessionNo, SessionSettings, TryCloseError, err_name, out_line,
+    Answer, ConnectionHandle, ConnectionState, Engine, HandledEngine, Input, Piece, ReplayRelay,
+    SessionHandle, SessionNo, SessionSettings, err_name, out_line,
 };
-use std::alloc::Global;
+use std::alloc::{AllocError, Global};
 use std::collections::VecDeque;
+use std::fmt::Debug;
 use std::mem;
 
 /// An engine with two handles of its connection, and two of the session that was named last.
@@ -22,16 +21,20 @@ struct Handled {
 /// What the lines of a row answer, whose first line is the state of the connection.
 pub fn answer(alloc: Global, text: &str) -> anyhow::Result<String> {
     let (state, lines) = text.split_once('\n').unwrap_or((text, ""));
-    let engine = new_engine(alloc, reading::state(state)?)?;
-    let connection = (engine.connection_handle(), engine.connection_handle());
-    let mut handled = Handled {
-        engine,
-        connection,
-        session: None,
-    };
+    let mut handled = with_handles(new_engine(alloc, reading::state(state)?)?);
     let answers = answers(alloc, &mut handled, lines);
     drop(handled);
     answers
+}
+
+/// This engine with two handles of its connection.
+fn with_handles(engine: HandledEngine<ReplayRelay>) -> Handled {
+    let connection = (engine.connection_handle(), engine.connection_handle());
+    Handled {
+        engine,
+        connection,
+        session: None,
+    }
 }
 
 fn new_engine(alloc: Global, state: ConnectionState) -> anyhow::Result<HandledEngine<ReplayRelay>> {
@@ -70,14 +73,21 @@ fn another(alloc: Global, handled: &mut Handled, state: &str) -> anyhow::Result<
 
 /// Two handles of this session are made.
 fn handle(alloc: Global, handled: &mut Handled, text: &str) -> anyhow::Result<String> {
-    let number = SessionNo(reading::number(text)?);
-    let first = handled.engine.session_handle(number);
-    let second = handled.engine.session_handle(number);
-    let (Some(first), Some(second)) = (first, second) else {
-        return Ok(String::from_str(alloc, "none\n")?);
+    let is_made = make_handles(handled, SessionNo(reading::number(text)?));
+    let word = if is_made { "some\n" } else { "none\n" };
+    Ok(String::from_str(alloc, word)?)
+}
+
+/// Whether two handles of this session are made; if not, the old ones stay.
+fn make_handles(handled: &mut Handled, number: SessionNo) -> bool {
+    let Some(first) = handled.engine.session_handle(number) else {
+        return false;
+    };
+    let Some(second) = handled.engine.session_handle(number) else {
+        return false;
     };
     drop(mem::replace(&mut handled.session, Some((first, second))));
-    Ok(String::from_str(alloc, "some\n")?)
+    true
 }
 
 /// A call of a handle of the connection.
@@ -90,10 +100,10 @@ fn of_connection(
     let (word, rest) = text.split_once(' ').unwrap_or((text, ""));
     match word {
         "is" => said(alloc, handle.is_closed(engine)),
-        "try" => closed(alloc, &handle.try_close(engine)),
+        "try" => shown(alloc, handle.try_close(engine)),
         "close" => match reading::error(alloc, rest)? {
-            None => close_wished(alloc, &handle.close(engine)),
-            Some(error) => close_wished(alloc, &handle.close_with_error(error, engine)),
+            None => shown(alloc, handle.close(engine)),
+            Some(error) => shown(alloc, handle.close_with_error(error, engine)),
         },
         _ => Err(anyhow::anyhow!("no call of a handle")),
     }
@@ -127,11 +137,11 @@ fn of_session(
     let (word, rest) = text.split_once(' ').unwrap_or((text, ""));
     match word {
         "is" => said(alloc, handle.is_ended(engine)),
-        "try" => ended(alloc, &handle.try_end(engine)),
-        "close" => end_wished(alloc, &handle.close(engine)),
+        "try" => shown(alloc, handle.try_end(engine)),
+        "close" => shown(alloc, handle.close(engine)),
         "end" => match reading::error(alloc, rest)? {
-            None => end_wished(alloc, &handle.end(engine)),
-            Some(error) => end_wished(alloc, &handle.end_with_error(error, engine)),
+            None => shown(alloc, handle.end(engine)),
+            Some(error) => shown(alloc, handle.end_with_error(error, engine)),
         },
         _ => Err(anyhow::anyhow!("no call of a handle")),
     }
@@ -141,25 +151,8 @@ fn said(alloc: Global, answer: bool) -> anyhow::Result<String> {
     Ok(format!(in alloc; "{answer}\n")?)
 }
 
-fn close_wished(alloc: Global, answer: &Result<(), ConnectionError>) -> anyhow::Result<String> {
-    Ok(format!(in alloc; "{answer:?}\n")?)
-}
-
-fn end_wished(alloc: Global, answer: &Result<(), SessionError>) -> anyhow::Result<String> {
-    Ok(format!(in alloc; "{answer:?}\n")?)
-}
-
-fn closed(
-    alloc: Global,
-    answer: &Result<Result<(), ConnectionError>, TryCloseError>,
-) -> anyhow::Result<String> {
-    Ok(format!(in alloc; "{answer:?}\n")?)
-}
-
-fn ended(
-    alloc: Global,
-    answer: &Result<Result<(), SessionError>, TryEndError>,
-) -> anyhow::Result<String> {
+/// An answer as its `Debug` shows it.
+fn shown<T: Debug + Drop>(alloc: Global, answer: T) -> anyhow::Result<String> {
     Ok(format!(in alloc; "{answer:?}\n")?)
 }
 
@@ -170,12 +163,28 @@ fn run(
     word: &str,
     rest: &str,
 ) -> anyhow::Result<String> {
-    let mut inputs = VecDeque::new(alloc);
-    if let Some(input) = input(alloc, word, rest)? {
-        inputs.push_back(input)?;
-    }
+    let mut inputs = queue(alloc, input(alloc, word, rest)?)?;
     let mut answers = Vec::new(alloc);
-    engine.run(&mut inputs, &mut answers)?;
+    let outcome = engine.run(&mut inputs, &mut answers);
+    drop(inputs);
+    let text = match outcome {
+        Ok(()) => lines_of(alloc, &answers),
+        Err(stopped) => Err(stopped.into()),
+    };
+    drop(answers);
+    text
+}
+
+/// What is there, as a queue.
+fn queue<T: Drop>(alloc: Global, item: Option<T>) -> Result<VecDeque<T>, AllocError> {
+    let mut items = VecDeque::new(alloc);
+    if let Some(item) = item {
+        items.push_back(item)?;
+    }
+    Ok(items)
+}
+
+fn lines_of(alloc: Global, answers: &Vec<Answer>) -> anyhow::Result<String> {
     let mut text = String::new(alloc);
     for answer in answers.iter() {
         text.push_str(line_of(alloc, answer)?.as_str())?;
@@ -199,6 +208,16 @@ fn number(text: &str) -> anyhow::Result<SessionNo> {
     Ok(SessionNo(reading::number(text)?))
 }
 
+/// The lines of a frame's pieces.
+fn lines_of_frame(alloc: Global, pieces: &Vec<Piece>) -> Result<String, AllocError> {
+    let mut text = String::new(alloc);
+    for piece in pieces.iter() {
+        text.push_str(out_line(alloc, piece)?.as_str())?;
+        text.push_str("\n")?;
+    }
+    Ok(text)
+}
+
 /// The lines of an answer.
 fn line_of(alloc: Global, answer: &Answer) -> anyhow::Result<String> {
     match answer {
@@ -207,14 +226,7 @@ fn line_of(alloc: Global, answer: &Answer) -> anyhow::Result<String> {
             let name = err_name(error);
             Ok(format!(in alloc; "err {name}\n")?)
         }
-        Answer::Out(pieces) => {
-            let mut text = String::new(alloc);
-            for piece in pieces.iter() {
-                text.push_str(out_line(alloc, piece)?.as_str())?;
-                text.push_str("\n")?;
-            }
-            Ok(text)
-        }
+        Answer::Out(pieces) => Ok(lines_of_frame(alloc, pieces)?),
         Answer::TooLarge(_) => Ok(String::from_str(alloc, "err TooLarge\n")?),
     }
 }

@@ -95,6 +95,8 @@ pub fn on_channel(alloc: Global, text: &str) -> anyhow::Result<(u16, Performativ
     let Some((number, digits)) = text.split_once(' ') else {
         anyhow::bail!("no channel");
     };
-    let (performative, _rest) = Performative::read(alloc, bytes(alloc, digits)?)?;
-    Ok((channel(number)?, performative))
+    let channel = channel(number)?;
+    let (performative, rest) = Performative::read(alloc, bytes(alloc, digits)?)?;
+    drop(rest);
+    Ok((channel, performative))
 }

@@ -4,22 +4,39 @@ use crate::given::{ReplayEngine, pieces_said, unnamed_open};
 use bytes::Bytes;
 use fe2o3_amqp::{
     ConnectionState, DeliveryTag, Engine, Handle, Input, InputHandle, LinkRelay, Piece, SessionNo,
-    SessionSettings, SessionState, SessionStopReason, Transfer, err_name, hex_bytes,
+    SessionSettings, SessionState, SessionStopReason, StepError, Transfer, err_name, hex_bytes,
 };
 use std::alloc::{AllocError, Global};
 
+/// Why an input is refused, if it is.
+pub fn refusal<R: LinkRelay>(engine: &mut Engine<R>, input: Input<R>) -> Option<StepError> {
+    engine.step(input).err()
+}
+
+/// The name of a refusal. The explicit drop is cheaper to prove than one at the end of the scope.
+pub fn refusal_name(error: StepError) -> &'static str {
+    let name = err_name(&error);
+    drop(error);
+    name
+}
+
 /// What an input is answered.
 pub fn answer<R: LinkRelay>(engine: &mut Engine<R>, input: Input<R>) -> &'static str {
-    match engine.step(input) {
-        Ok(()) => "done",
-        Err(error) => err_name(&error),
+    match refusal(engine, input) {
+        None => "done",
+        Some(error) => refusal_name(error),
     }
+}
+
+/// The answer to a received frame.
+pub fn receive<R: LinkRelay>(engine: &mut Engine<R>, frame: Bytes) -> &'static str {
+    answer(engine, Input::Received(frame))
 }
 
 /// The answer to a received frame, given by its hexadecimal digits.
 pub fn hear<R: LinkRelay>(alloc: Global, engine: &mut Engine<R>, digits: &str) -> &'static str {
     match hex_bytes(alloc, digits) {
-        Ok(Some(bytes)) => answer(engine, Input::Received(bytes)),
+        Ok(Some(bytes)) => receive(engine, bytes),
         _ => "no bytes",
     }
 }

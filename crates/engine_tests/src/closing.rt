@@ -1,43 +1,56 @@
 //! A close from the first wish to its outcome, as the README shows it.
 
+use crate::asking::opened;
 use crate::example::closing;
-use crate::given::{peer_close, unnamed_open};
-use fe2o3_amqp::{ConnectionState, Engine, HandledEngine, ReplayRelay};
+use crate::given::peer_close;
+use bytes::Bytes;
+use fe2o3_amqp::connection::Error;
+use fe2o3_amqp::{ConnectionHandle, HandledEngine, ReplayRelay};
 use std::alloc::Global;
-use std::test::Fail;
+use std::io;
 
-/// What `closing` told, and how many bytes went out: at the wish, and when the peer's Close came.
-fn told(alloc: Global) -> Result<(bool, usize, bool, usize), Fail> {
-    let engine: Engine<ReplayRelay> = Engine::new(
-        alloc,
-        ConnectionState::Opened,
-        unnamed_open(alloc),
-    );
-    let mut engine = HandledEngine::new(engine);
-    let mut handle = engine.connection_handle();
-    let mut sent = Vec::new(alloc);
-    let wished = handle.close(&mut engine).is_ok();
-    let before = closing(alloc, &mut engine, &mut handle, None, &mut sent);
-    let first = sent.len();
-    let after = closing(
-        alloc,
-        &mut engine,
-        &mut handle,
-        Some(peer_close()),
-        &mut sent,
-    );
-    let is_awaited = wished && matches!(before, Ok(None));
-    let is_closed = matches!(after, Ok(Some(Ok(()))));
-    drop(engine);
-    Ok((is_awaited, first, is_closed, sent.len()))
+fn handled(alloc: Global) -> HandledEngine<ReplayRelay> {
+    HandledEngine::new(opened(alloc))
+}
+
+fn wishes(engine: &mut HandledEngine<ReplayRelay>, handle: &mut ConnectionHandle) -> bool {
+    handle.close(engine).is_ok()
+}
+
+fn name(told: &io::Result<Option<Result<(), Error>>>) -> &'static str {
+    match told {
+        Ok(None) => "nothing",
+        Ok(Some(Ok(()))) => "closed",
+        _ => "another",
+    }
+}
+
+/// What `closing` tells, and how many bytes went out by then.
+fn turn(
+    alloc: Global,
+    engine: &mut HandledEngine<ReplayRelay>,
+    handle: &mut ConnectionHandle,
+    frame: Option<Bytes>,
+    sent: &mut Vec<u8>,
+) -> (&'static str, usize) {
+    let told = closing(alloc, engine, handle, frame, sent);
+    (name(&told), sent.len())
 }
 
 #[test]
-fn a_close_is_told_once_the_peer_answered(rt: HostRuntime) -> Result<(), Fail> {
-    let (is_awaited, first, is_closed, all) = told(rt.alloc())?;
-    assert!(rt; is_awaited);
-    assert!(rt; is_closed);
-    assert_eq!(rt; first, 8);
-    assert_eq!(rt; all, 8);
-    Ok(())
+fn a_close_is_told_once_the_peer_answered(rt: HostRuntime) {
+    let alloc = rt.alloc();
+    let mut sent = Vec::new(alloc);
+    let mut engine = handled(alloc);
+    let mut handle = engine.connection_handle();
+    let is_wished = wishes(&mut engine, &mut handle);
+    let first = turn(alloc, &mut engine, &mut handle, None, &mut sent);
+    let close = Some(peer_close());
+    let second = turn(alloc, &mut engine, &mut handle, close, &mut sent);
+    drop(engine);
+    drop(handle);
+    drop(sent);
+    assert!(rt; is_wished);
+    assert!(rt; first == ("nothing", 8));
+    assert!(rt; second == ("closed", 8));
 }

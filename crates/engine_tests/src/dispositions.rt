@@ -36,29 +36,39 @@ fn window_of(engine: &ReplayEngine) -> u32 {
     }
 }
 
+/// What a disposition with this state is answered, whether this line alone goes out for it, and the window before and after.
+fn disposes(
+    alloc: Global,
+    engine: &mut ReplayEngine,
+    state: &'static [u8],
+    line: &str,
+) -> (u32, &'static str, bool, u32) {
+    let before = window_of(engine);
+    let answer = answer(engine, given(0, state));
+    let is_out = puts_out_one(alloc, engine, line);
+    (before, answer, is_out, window_of(engine))
+}
+
 #[test]
 fn a_disposition_gives_one_frame_and_moves_the_window(rt: HostRuntime) {
     let mut engine: ReplayEngine = mapped_by(rt.alloc(), BEGIN);
-    assert_eq!(rt; window_of(&engine), 8);
-    let accepted = given(0, b"\x00\x53\x24\x45");
-    assert_eq!(rt; answer(&mut engine, accepted), "done");
-    let want = "out 02000000005315c00b0541520152034100532445\n";
-    assert!(rt; puts_out_one(rt.alloc(), &mut engine, want));
-    assert_eq!(rt; window_of(&engine), 11);
+    let line = "out 02000000005315c00b0541520152034100532445\n";
+    let told = disposes(rt.alloc(), &mut engine, b"\x00\x53\x24\x45", line);
     drop(engine);
+    assert!(rt; told == (8, "done", true, 11));
 }
 
 #[test]
 fn a_state_that_is_not_terminal_leaves_the_window(rt: HostRuntime) {
     let mut engine: ReplayEngine = mapped_by(rt.alloc(), BEGIN);
-    let received = given(0, b"\x00\x53\x23\x45");
-    assert_eq!(rt; answer(&mut engine, received), "done");
-    let want = "out 02000000005315c00b0541520152034100532345\n";
-    assert!(rt; puts_out_one(rt.alloc(), &mut engine, want));
-    assert_eq!(rt; window_of(&engine), 8);
-    assert_eq!(rt; answer(&mut engine, given(1, b"\x45")), "NoSession");
-    assert!(rt; !engine.has_output());
+    let line = "out 02000000005315c00b0541520152034100532345\n";
+    let told = disposes(rt.alloc(), &mut engine, b"\x00\x53\x23\x45", line);
+    let refusal = answer(&mut engine, given(1, b"\x45"));
+    let has_more = engine.has_output();
     drop(engine);
+    assert!(rt; told == (8, "done", true, 8));
+    assert_eq!(rt; refusal, "NoSession");
+    assert!(rt; !has_more);
 }
 
 /// Whether session 0 is mapped, has a link under input handle 0, and was sent a transfer under 1 and one under 3.
@@ -81,7 +91,7 @@ fn disposition_and_end(alloc: Global) -> VecDeque<ReplayInput> {
 #[test]
 fn echoes_come_before_the_next_input(rt: HostRuntime) {
     let mut engine: ReplayEngine = mapped_by(rt.alloc(), BEGIN);
-    assert!(rt; receives(rt.alloc(), &mut engine));
+    let is_ready = receives(rt.alloc(), &mut engine);
     let want = "done
 out 02000000005315c00b0542520152014100532445
 out 02000000005315c00b0542520352034100532445
@@ -89,8 +99,10 @@ done
 out 0200000000531745
 ";
     let inputs = disposition_and_end(rt.alloc());
-    assert!(rt; runs_to(rt.alloc(), &mut engine, inputs, want));
+    let is_right = runs_to(rt.alloc(), &mut engine, inputs, want);
     drop(engine);
+    assert!(rt; is_ready);
+    assert!(rt; is_right);
 }
 
 /// Whether session 0 begins with an incoming window of 2, and the peer maps it.
@@ -106,10 +118,13 @@ fn begins_small(alloc: Global, engine: &mut ReplayEngine) -> bool {
 #[test]
 fn half_of_the_window_is_followed_by_a_flow(rt: HostRuntime) {
     let mut engine = opened(rt.alloc());
-    assert!(rt; begins_small(rt.alloc(), &mut engine));
+    let is_begun = begins_small(rt.alloc(), &mut engine);
     let transfer = "02000005005314c006034343a0010aff";
-    assert_eq!(rt; hear(rt.alloc(), &mut engine, transfer), "done");
-    let want = "out 02000000005313c00b0452015202437000001388\n";
-    assert!(rt; puts_out_one(rt.alloc(), &mut engine, want));
+    let taken = hear(rt.alloc(), &mut engine, transfer);
+    let flow = "out 02000000005313c00b0452015202437000001388\n";
+    let is_out = puts_out_one(rt.alloc(), &mut engine, flow);
     drop(engine);
+    assert!(rt; is_begun);
+    assert_eq!(rt; taken, "done");
+    assert!(rt; is_out);
 }

@@ -61,7 +61,11 @@ fn each_line_is_answered_before_the_next_is_read(rt: HostRuntime) -> Result<(), 
         written: 0,
     };
     let mut errors = Vec::new(rt.alloc());
-    assert_eq!(rt; replay(rt.alloc(), &mut input, &mut output, &mut errors), 0);
+    let status = replay(rt.alloc(), &mut input, &mut output, &mut errors);
+    drop(errors);
+    drop(output);
+    drop(input);
+    assert_eq!(rt; status, 0);
     assert_eq!(rt; flushed.load(Ordering::SeqCst), 68);
     Ok(())
 }

@@ -7,26 +7,29 @@ use fe2o3_amqp::{
     AllocSessionError, BeginError, ConnectionInnerError, ConnectionStateError,
     ConnectionStopReason, NegotiationError, OpenError, TryCloseError,
 };
+use std::alloc::Global;
+use std::fmt::Display;
 use std::test::Fail;
+
+/// Whether both are the same. Where they are dropped, the proof needs none of their variants.
+fn are_same<T: PartialEq + Drop>(told: T, want: T) -> bool {
+    told == want
+}
 
 #[test]
 fn states_are_told_as_inner_errors(rt: HostRuntime) {
     let told = ConnectionInnerError::from(ConnectionStateError::IllegalState);
-    assert!(rt; told == ConnectionInnerError::IllegalState);
-    drop(told);
+    assert!(rt; are_same(told, ConnectionInnerError::IllegalState));
     let told = ConnectionInnerError::from(ConnectionStateError::RemoteClosed);
-    assert!(rt; told == ConnectionInnerError::RemoteClosed);
-    drop(told);
+    assert!(rt; are_same(told, ConnectionInnerError::RemoteClosed));
 }
 
 #[test]
 fn states_are_told_as_errors(rt: HostRuntime) {
     let told = Error::from(ConnectionStateError::RemoteClosed);
-    assert!(rt; told == Error::RemoteClosed);
-    drop(told);
+    assert!(rt; are_same(told, Error::RemoteClosed));
     let told = Error::from(ConnectionStateError::OutOfMemory);
-    assert!(rt; told == Error::OutOfMemory);
-    drop(told);
+    assert!(rt; are_same(told, Error::OutOfMemory));
 }
 
 #[test]
@@ -43,59 +46,59 @@ fn an_error_of_the_peers_is_kept(rt: HostRuntime) -> Result<(), Fail> {
 #[test]
 fn inner_errors_are_told_as_errors(rt: HostRuntime) {
     let told = Error::from(ConnectionInnerError::NotFound(None));
-    assert!(rt; told == Error::NotFound(None));
-    drop(told);
+    assert!(rt; are_same(told, Error::NotFound(None)));
     let told = Error::from(ConnectionInnerError::NotImplemented(None));
-    assert!(rt; told == Error::NotImplemented(None));
-    drop(told);
+    assert!(rt; are_same(told, Error::NotImplemented(None)));
 }
 
 #[test]
 fn negotiation_errors_are_told_as_those_of_an_open(rt: HostRuntime) {
     let header = Bytes::from_static(b"HTTP");
     let told = OpenError::from(NegotiationError::ProtocolHeaderMismatch(header));
-    assert!(rt; told == OpenError::ProtocolHeaderMismatch(Bytes::from_static(b"HTTP")));
-    drop(told);
-    let refused = NegotiationError::SaslError {
+    let want = OpenError::ProtocolHeaderMismatch(Bytes::from_static(b"HTTP"));
+    assert!(rt; are_same(told, want));
+    let told = OpenError::from(NegotiationError::SaslError {
         code: 1,
         additional_data: None,
-    };
-    let told = OpenError::from(refused);
+    });
     let want = OpenError::SaslError {
         code: 1,
         additional_data: None,
     };
-    assert!(rt; told == want);
-    drop(told);
-    drop(want);
+    assert!(rt; are_same(told, want));
 }
 
 #[test]
 fn states_are_told_as_those_of_an_open(rt: HostRuntime) {
     let told = OpenError::from(ConnectionStateError::IllegalState);
-    assert!(rt; told == OpenError::IllegalState);
-    drop(told);
+    assert!(rt; are_same(told, OpenError::IllegalState));
     let told = OpenError::from(ConnectionStateError::RemoteClosed);
-    assert!(rt; told == OpenError::RemoteClosed);
-    drop(told);
+    assert!(rt; are_same(told, OpenError::RemoteClosed));
 }
 
 #[test]
 fn refused_channels_are_told_as_those_of_a_begin(rt: HostRuntime) {
     let told = BeginError::from(AllocSessionError::ChannelMaxReached);
-    assert!(rt; told == BeginError::LocalChannelMaxReached);
-    drop(told);
+    assert!(rt; are_same(told, BeginError::LocalChannelMaxReached));
     let stopped = AllocSessionError::ConnectionStopped(ConnectionStopReason::Closed);
     let told = BeginError::from(stopped);
-    assert!(rt; told == BeginError::ConnectionStopped(ConnectionStopReason::Closed));
-    drop(told);
+    let want = BeginError::ConnectionStopped(ConnectionStopReason::Closed);
+    assert!(rt; are_same(told, want));
+}
+
+/// Whether an error is displayed as this text.
+fn is_displayed<E: Display>(alloc: Global, error: &E, want: &str) -> bool {
+    match format!(in alloc; "{error}") {
+        Ok(text) => text.as_str() == want,
+        Err(_) => false,
+    }
 }
 
 #[test]
-fn errors_are_displayed(rt: HostRuntime) -> Result<(), Fail> {
-    let text = format!(in rt.alloc(); "{}", TryCloseError::AlreadyClosed)?;
-    assert_eq!(rt; text.as_str(), "Illegal local state");
-    let text = format!(in rt.alloc(); "{}", AllocSessionError::ChannelMaxReached)?;
-    assert_eq!(rt; text.as_str(), "Reached connection channel max");
-    Ok(())
+fn errors_are_displayed(rt: HostRuntime) {
+    let closed = TryCloseError::AlreadyClosed;
+    assert!(rt; is_displayed(rt.alloc(), &closed, "Illegal local state"));
+    let refused = AllocSessionError::ChannelMaxReached;
+    let text = "Reached connection channel max";
+    assert!(rt; is_displayed(rt.alloc(), &refused, text));
 }

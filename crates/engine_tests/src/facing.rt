@@ -1,10 +1,10 @@
 //! Two engines face to face: what one puts out, the other receives. The link is attached on both sides before transfers pass.
 
-use crate::asking::{answer, pieces, send};
+use crate::asking::{pieces, receive, send};
 use crate::linking::{allot, mapped_by, send_attach, send_flow};
 use crate::telling::{Telling, Told};
 use bytes::Bytes;
-use fe2o3_amqp::{Engine, Input, LinkRelay, Piece, ReplayRelay};
+use fe2o3_amqp::{Engine, LinkRelay, Piece, ReplayRelay};
 use std::alloc::Global;
 
 /// A Begin on channel 0, which names channel 0 and grants a window of 2.
@@ -14,7 +14,7 @@ const BEGIN: &str = "02000000005311c009046000004352025208";
 fn arrive<R: LinkRelay>(alloc: Global, to: &mut Engine<R>, pieces: &Vec<Piece>) -> &'static str {
     match pieces.as_slice() {
         [piece] => match piece.to_bytes(alloc) {
-            Ok(bytes) => answer(to, Input::Received(bytes)),
+            Ok(bytes) => receive(to, bytes),
             Err(_) => "no bytes",
         },
         _ => "not one piece",
@@ -80,11 +80,15 @@ fn an_attach_that_goes_out_attaches_the_link_that_waits(rt: HostRuntime) {
     };
     let mut from: Engine<ReplayRelay> = mapped_by(rt.alloc(), BEGIN);
     let mut to = mapped_by(rt.alloc(), BEGIN);
-    assert!(rt; attach(rt.alloc(), &mut from, &mut to, relay));
-    assert_eq!(rt; told.counts(), [1, 0, 0, 0]);
-    assert!(rt; attach(rt.alloc(), &mut to, &mut from, ReplayRelay));
-    assert!(rt; two_pass(rt.alloc(), &mut from, &mut to));
-    assert_eq!(rt; told.counts(), [1, 3, 0, 0]);
+    let is_there = attach(rt.alloc(), &mut from, &mut to, relay);
+    let before = told.counts();
+    let is_here = attach(rt.alloc(), &mut to, &mut from, ReplayRelay);
+    let is_passed = two_pass(rt.alloc(), &mut from, &mut to);
     drop(to);
     drop(from);
+    assert!(rt; is_there);
+    assert_eq!(rt; before, [1, 0, 0, 0]);
+    assert!(rt; is_here);
+    assert!(rt; is_passed);
+    assert_eq!(rt; told.counts(), [1, 3, 0, 0]);
 }

@@ -1,6 +1,6 @@
 //! Links in an engine, with two kinds of relay: that of transcripts, whose answers are known, and one that has a choice.
 
-use crate::asking::{answer, begins, hear, opened};
+use crate::asking::{answer, begins, hear, opened, refusal};
 use crate::given::ReplayEngine;
 use crate::linking::{
     allot, allot_incoming, handle_of, mapped, puts_out_one, send_attach, send_detach, send_flow,
@@ -60,11 +60,14 @@ fn is_detached<R: LinkRelay>(alloc: Global, engine: &mut Engine<R>) -> bool {
 fn a_relay_is_told_once_that_its_detach_is_answered(rt: HostRuntime) {
     let told = Told::new();
     let mut engine = mapped(rt.alloc());
-    assert!(rt; attaches(rt.alloc(), &mut engine, telling(&told, 0)));
-    assert_eq!(rt; told.counts(), [1, 0, 0, 0]);
-    assert!(rt; is_detached(rt.alloc(), &mut engine));
-    assert_eq!(rt; told.counts(), [1, 0, 0, 1]);
+    let is_attached = attaches(rt.alloc(), &mut engine, telling(&told, 0));
+    let before = told.counts();
+    let is_free = is_detached(rt.alloc(), &mut engine);
     drop(engine);
+    assert!(rt; is_attached);
+    assert_eq!(rt; before, [1, 0, 0, 0]);
+    assert!(rt; is_free);
+    assert_eq!(rt; told.counts(), [1, 0, 0, 1]);
 }
 
 /// Whether a link of the peer's is live on output handle 0, attached under 6, and its attach and flow go out.
@@ -86,81 +89,108 @@ fn takes_incoming<R: LinkRelay>(alloc: Global, engine: &mut Engine<R>, relay: R)
 #[test]
 fn an_incoming_link_is_attached_at_once(rt: HostRuntime) {
     let mut engine = mapped(rt.alloc());
-    assert!(rt; takes_incoming(rt.alloc(), &mut engine, ReplayRelay));
+    let is_taken = takes_incoming(rt.alloc(), &mut engine, ReplayRelay);
     drop(engine);
+    assert!(rt; is_taken);
 }
 
 #[test]
 fn a_relay_of_an_incoming_link_is_asked_of_no_attach(rt: HostRuntime) {
     let told = Told::new();
     let mut engine = mapped(rt.alloc());
-    assert!(rt; takes_incoming(rt.alloc(), &mut engine, telling(&told, 0)));
-    assert_eq!(rt; told.counts(), [0, 0, 0, 0]);
+    let is_taken = takes_incoming(rt.alloc(), &mut engine, telling(&told, 0));
     drop(engine);
+    assert!(rt; is_taken);
+    assert_eq!(rt; told.counts(), [0, 0, 0, 0]);
 }
 
 #[test]
 fn a_relay_that_refuses_an_attach_is_asked_of_the_next(rt: HostRuntime) {
     let told = Told::new();
     let mut engine = mapped(rt.alloc());
-    let relay = Some(telling(&told, 1));
-    assert_eq!(rt; allot(rt.alloc(), &mut engine, "a", relay), "done");
-    let refused = hear(rt.alloc(), &mut engine, ATTACH_A);
-    assert_eq!(rt; refused, "TransferFrameToSender");
-    assert_eq!(rt; hear(rt.alloc(), &mut engine, ATTACH_A), "done");
-    assert_eq!(rt; hear(rt.alloc(), &mut engine, ATTACH_A), "HandleInUse");
-    assert_eq!(rt; told.counts(), [2, 0, 0, 0]);
+    let answers = [
+        allot(rt.alloc(), &mut engine, "a", Some(telling(&told, 1))),
+        hear(rt.alloc(), &mut engine, ATTACH_A),
+        hear(rt.alloc(), &mut engine, ATTACH_A),
+        hear(rt.alloc(), &mut engine, ATTACH_A),
+    ];
     drop(engine);
+    let want = ["done", "TransferFrameToSender", "done", "HandleInUse"];
+    assert!(rt; answers == want);
+    assert_eq!(rt; told.counts(), [2, 0, 0, 0]);
+}
+
+/// Whether the peer's detach of handle 5 is taken, and the relay's goes out.
+fn answers_detach<R: LinkRelay>(alloc: Global, engine: &mut Engine<R>) -> bool {
+    hear(alloc, engine, DETACH) == "done"
+        && puts_out_one(alloc, engine, "out 02000000005316c003015205\n")
 }
 
 #[test]
 fn a_relay_is_told_of_a_detach_that_the_peer_began(rt: HostRuntime) {
     let told = Told::new();
     let mut engine = mapped(rt.alloc());
-    assert!(rt; attaches(rt.alloc(), &mut engine, telling(&told, 0)));
-    assert_eq!(rt; hear(rt.alloc(), &mut engine, DETACH), "done");
-    let want = "out 02000000005316c003015205\n";
-    assert!(rt; puts_out_one(rt.alloc(), &mut engine, want));
-    assert!(rt; ends_in_silence(rt.alloc(), &mut engine));
-    assert_eq!(rt; told.counts(), [1, 0, 1, 0]);
+    let is_attached = attaches(rt.alloc(), &mut engine, telling(&told, 0));
+    let is_answered = answers_detach(rt.alloc(), &mut engine);
+    let is_silent = ends_in_silence(rt.alloc(), &mut engine);
     drop(engine);
+    assert!(rt; is_attached);
+    assert!(rt; is_answered);
+    assert!(rt; is_silent);
+    assert_eq!(rt; told.counts(), [1, 0, 1, 0]);
 }
 
 /// Why no link is allotted.
-#[derive(Clone, Copy, Debug, PartialEq)]
+#[derive(Clone, Copy, PartialEq)]
 enum Why {
     NotMapped,
     Stopped(SessionStopReason),
     Other,
 }
 
+/// Why no link is allotted, by this error.
+fn read_from(error: StepError) -> Why {
+    let why = match &error {
+        StepError::AllocLink(AllocLinkError::SessionNotMapped) => Why::NotMapped,
+        StepError::AllocLink(AllocLinkError::SessionStopped(reason)) => Why::Stopped(*reason),
+        _ => Why::Other,
+    };
+    drop(error);
+    why
+}
+
 /// Why session 0 allots no link without a name.
 fn unallotted(alloc: Global, engine: &mut ReplayEngine) -> Why {
-    match engine.step(Input::AllocateLink(SessionNo(0), String::new(alloc), None)) {
-        Err(StepError::AllocLink(AllocLinkError::SessionNotMapped)) => Why::NotMapped,
-        Err(StepError::AllocLink(AllocLinkError::SessionStopped(reason))) => Why::Stopped(reason),
-        _ => Why::Other,
+    let link = Input::AllocateLink(SessionNo(0), String::new(alloc), None);
+    match refusal(engine, link) {
+        Some(error) => read_from(error),
+        None => Why::Other,
     }
 }
 
 #[test]
 fn a_link_that_is_not_allotted_is_told_why(rt: HostRuntime) {
     let mut engine = opened(rt.alloc());
-    assert!(rt; begins(&mut engine, 0));
-    assert_eq!(rt; unallotted(rt.alloc(), &mut engine), Why::NotMapped);
+    let is_begun = begins(&mut engine, 0);
+    let first = unallotted(rt.alloc(), &mut engine);
     let stop = Input::Stop(SessionNo(0), SessionStopReason::RemoteEnded);
-    assert_eq!(rt; answer(&mut engine, stop), "done");
-    let want = Why::Stopped(SessionStopReason::RemoteEnded);
-    assert_eq!(rt; unallotted(rt.alloc(), &mut engine), want);
+    let stopped = answer(&mut engine, stop);
+    let second = unallotted(rt.alloc(), &mut engine);
     drop(engine);
+    assert!(rt; is_begun);
+    assert!(rt; first == Why::NotMapped);
+    assert_eq!(rt; stopped, "done");
+    assert!(rt; second == Why::Stopped(SessionStopReason::RemoteEnded));
 }
 
 #[test]
 fn a_link_of_an_ended_session_is_told_so(rt: HostRuntime) {
     let mut engine: ReplayEngine = mapped(rt.alloc());
-    assert_eq!(rt; answer(&mut engine, Input::End(SessionNo(0), None)), "done");
-    assert!(rt; puts_out_one(rt.alloc(), &mut engine, "out 0200000000531745\n"));
-    let want = Why::Stopped(SessionStopReason::Ended);
-    assert_eq!(rt; unallotted(rt.alloc(), &mut engine), want);
+    let ended = answer(&mut engine, Input::End(SessionNo(0), None));
+    let is_out = puts_out_one(rt.alloc(), &mut engine, "out 0200000000531745\n");
+    let why = unallotted(rt.alloc(), &mut engine);
     drop(engine);
+    assert_eq!(rt; ended, "done");
+    assert!(rt; is_out);
+    assert!(rt; why == Why::Stopped(SessionStopReason::Ended));
 }

@@ -1,6 +1,6 @@
 //! Routes of received frames in an engine with two sessions.
 
-use crate::asking::{answer, begins, hear, numbers_of, opened, reason_of, state_of};
+use crate::asking::{answer, begins, hear, numbers_of, opened, reason_of, receive, state_of};
 use crate::given::ReplayEngine;
 use bytes::Bytes;
 use fe2o3_amqp::{IncomingChannel, Input, SessionNo, SessionState, SessionStopReason};
@@ -43,16 +43,25 @@ fn ends_zero(alloc: Global, engine: &mut ReplayEngine) -> bool {
         && hear(alloc, engine, END) == "RemoteEnded"
 }
 
+/// Why sessions 0 and 1 stopped.
+fn reasons_of(engine: &ReplayEngine) -> [Option<SessionStopReason>; 2] {
+    [reason_of(engine, 0), reason_of(engine, 1)]
+}
+
 #[test]
 fn an_end_takes_the_route_away(rt: HostRuntime) {
     let mut engine = opened(rt.alloc());
-    assert!(rt; ends_zero(rt.alloc(), &mut engine));
-    assert_eq!(rt; led(&engine), 1000);
-    assert!(rt; state_of(&engine, 0) == Some(SessionState::EndReceived));
-    assert!(rt; reason_of(&engine, 0) == Some(SessionStopReason::RemoteEnded));
-    assert!(rt; reason_of(&engine, 1).is_none());
-    assert_eq!(rt; hear(rt.alloc(), &mut engine, END), "NotFound");
+    let is_ended = ends_zero(rt.alloc(), &mut engine);
+    let led = led(&engine);
+    let state = state_of(&engine, 0);
+    let reasons = reasons_of(&engine);
+    let refusal = hear(rt.alloc(), &mut engine, END);
     drop(engine);
+    assert!(rt; is_ended);
+    assert_eq!(rt; led, 1000);
+    assert!(rt; state == Some(SessionState::EndReceived));
+    assert!(rt; reasons == [Some(SessionStopReason::RemoteEnded), None]);
+    assert_eq!(rt; refusal, "NotFound");
 }
 
 /// The answer to the request that records, as the reason, that this side ended the session.
@@ -66,13 +75,18 @@ fn stop(engine: &mut ReplayEngine, number: u32) -> &'static str {
 #[test]
 fn the_first_stop_reason_of_a_session_stays(rt: HostRuntime) {
     let mut engine = opened(rt.alloc());
-    assert!(rt; ends_zero(rt.alloc(), &mut engine));
-    assert_eq!(rt; stop(&mut engine, 0), "done");
-    assert_eq!(rt; stop(&mut engine, 1), "done");
-    assert_eq!(rt; stop(&mut engine, 2), "NoSession");
-    assert!(rt; reason_of(&engine, 0) == Some(SessionStopReason::RemoteEnded));
-    assert!(rt; reason_of(&engine, 1) == Some(SessionStopReason::Ended));
+    let is_ended = ends_zero(rt.alloc(), &mut engine);
+    let answers = [
+        stop(&mut engine, 0),
+        stop(&mut engine, 1),
+        stop(&mut engine, 2),
+    ];
+    let reasons = reasons_of(&engine);
     drop(engine);
+    assert!(rt; is_ended);
+    assert!(rt; answers == ["done", "done", "NoSession"]);
+    let ended = Some(SessionStopReason::Ended);
+    assert!(rt; reasons == [Some(SessionStopReason::RemoteEnded), ended]);
 }
 
 /// The answer to the peer's Begin on a channel, which names channel 0 and grants a window of 100.
@@ -82,7 +96,7 @@ fn begun_on(alloc: Global, engine: &mut ReplayEngine, channel: u16) -> &'static 
         0x02, 0, high, low, 0, 0x53, 0x11, 0xc0, 9, 4, 0x60, 0, 0, 0x43, 0x52, 100, 0x52, 8,
     ];
     match Bytes::copy_from_slice(alloc, &frame) {
-        Ok(bytes) => answer(engine, Input::Received(bytes)),
+        Ok(bytes) => receive(engine, bytes),
         Err(_) => "no bytes",
     }
 }
@@ -100,9 +114,13 @@ fn all_refused(alloc: Global, engine: &mut ReplayEngine) -> bool {
 #[test]
 fn begins_on_every_channel_change_no_session(rt: HostRuntime) {
     let mut engine = opened(rt.alloc());
-    assert!(rt; begins(&mut engine, 0));
-    assert_eq!(rt; hear(rt.alloc(), &mut engine, FOR_ZERO), "done");
-    assert!(rt; all_refused(rt.alloc(), &mut engine));
-    assert_eq!(rt; numbers_of(&engine, 0), (0, 8, 0));
+    let is_begun = begins(&mut engine, 0);
+    let answer = hear(rt.alloc(), &mut engine, FOR_ZERO);
+    let are_refused = all_refused(rt.alloc(), &mut engine);
+    let numbers = numbers_of(&engine, 0);
     drop(engine);
+    assert!(rt; is_begun);
+    assert_eq!(rt; answer, "done");
+    assert!(rt; are_refused);
+    assert_eq!(rt; numbers, (0, 8, 0));
 }

@@ -12,7 +12,7 @@ pub fn heard(bytes: &'static [u8]) -> ReplayInput {
 }
 
 /// Puts an input behind the others, if memory is there.
-pub fn push(inputs: &mut VecDeque<ReplayInput>, input: ReplayInput) -> bool {
+pub fn push<T: Drop>(inputs: &mut VecDeque<T>, input: T) -> bool {
     inputs.push_back(input).is_ok()
 }
 

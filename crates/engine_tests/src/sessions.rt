@@ -18,12 +18,14 @@ const FLOW: &str = "02000005005313c0080452015201435208";
 fn a_begin_goes_out(rt: HostRuntime) {
     let mut engine = opened(rt.alloc());
     let begin = Input::Begin(SessionNo(0), SessionSettings::new());
-    assert_eq!(rt; answer(&mut engine, begin), "done");
-    let want = "out 02000000005311c00d04404370000013887000001388\n";
-    assert!(rt; puts_out(rt.alloc(), &mut engine, want));
-    assert!(rt; state_of(&engine, 0) == Some(SessionState::BeginSent));
-    assert!(rt; state_of(&engine, 1).is_none());
+    let answer = answer(&mut engine, begin);
+    let line = "out 02000000005311c00d04404370000013887000001388\n";
+    let is_out = puts_out(rt.alloc(), &mut engine, line);
+    let states = [state_of(&engine, 0), state_of(&engine, 1)];
     drop(engine);
+    assert_eq!(rt; answer, "done");
+    assert!(rt; is_out);
+    assert!(rt; states == [Some(SessionState::BeginSent), None]);
 }
 
 /// Whether session 0 is mapped with a window of 1, which a first transfer uses up, and a second one waits.
@@ -39,23 +41,39 @@ fn fills(alloc: Global, engine: &mut ReplayEngine) -> bool {
 #[test]
 fn a_transfer_waits_for_the_window(rt: HostRuntime) {
     let mut engine = opened(rt.alloc());
-    assert!(rt; fills(rt.alloc(), &mut engine));
-    assert!(rt; state_of(&engine, 0) == Some(SessionState::Mapped));
-    assert_eq!(rt; numbers_of(&engine, 0), (1, 0, 1));
-    assert_eq!(rt; hear(rt.alloc(), &mut engine, FLOW), "done");
-    assert_eq!(rt; numbers_of(&engine, 0), (2, 0, 0));
+    let is_full = fills(rt.alloc(), &mut engine);
+    let state = state_of(&engine, 0);
+    let before = numbers_of(&engine, 0);
+    let answer = hear(rt.alloc(), &mut engine, FLOW);
+    let after = numbers_of(&engine, 0);
     drop(engine);
+    assert!(rt; is_full);
+    assert!(rt; state == Some(SessionState::Mapped));
+    assert_eq!(rt; before, (1, 0, 1));
+    assert_eq!(rt; answer, "done");
+    assert_eq!(rt; after, (2, 0, 0));
+}
+
+/// Whether the End of session 0 is taken and goes out.
+fn ends(alloc: Global, engine: &mut ReplayEngine) -> bool {
+    answer(engine, Input::End(SessionNo(0), None)) == "done"
+        && puts_out(alloc, engine, "out 0200000000531745\n")
 }
 
 #[test]
 fn an_end_is_recorded(rt: HostRuntime) {
     let mut engine = opened(rt.alloc());
-    assert!(rt; fills(rt.alloc(), &mut engine));
-    assert_eq!(rt; answer(&mut engine, Input::End(SessionNo(0), None)), "done");
-    assert!(rt; puts_out(rt.alloc(), &mut engine, "out 0200000000531745\n"));
-    assert!(rt; state_of(&engine, 0) == Some(SessionState::EndSent));
-    assert!(rt; reason_of(&engine, 0) == Some(SessionStopReason::Ended));
-    assert_eq!(rt; hear(rt.alloc(), &mut engine, FLOW), "done");
-    assert_eq!(rt; numbers_of(&engine, 0), (1, 1, 1));
+    let is_full = fills(rt.alloc(), &mut engine);
+    let is_ended = ends(rt.alloc(), &mut engine);
+    let state = state_of(&engine, 0);
+    let reason = reason_of(&engine, 0);
+    let answer = hear(rt.alloc(), &mut engine, FLOW);
+    let numbers = numbers_of(&engine, 0);
     drop(engine);
+    assert!(rt; is_full);
+    assert!(rt; is_ended);
+    assert!(rt; state == Some(SessionState::EndSent));
+    assert!(rt; reason == Some(SessionStopReason::Ended));
+    assert_eq!(rt; answer, "done");
+    assert_eq!(rt; numbers, (1, 1, 1));
 }

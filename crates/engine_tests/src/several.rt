@@ -59,8 +59,9 @@ done
 out 0200000000531845
 ";
     let inputs = with_refusals(rt.alloc());
-    assert!(rt; runs_to(rt.alloc(), &mut engine, inputs, want));
+    let is_right = runs_to(rt.alloc(), &mut engine, inputs, want);
     drop(engine);
+    assert!(rt; is_right);
 }
 
 /// Three Begins and a Close: each hands out a frame.
@@ -88,8 +89,9 @@ out 0200000000531845
 fn each_input_is_answered_before_the_next(rt: HostRuntime) {
     let mut engine = opened(rt.alloc());
     let inputs = all_hand_out(rt.alloc());
-    assert!(rt; runs_to(rt.alloc(), &mut engine, inputs, ALL_HANDED_OUT));
+    let is_right = runs_to(rt.alloc(), &mut engine, inputs, ALL_HANDED_OUT);
     drop(engine);
+    assert!(rt; is_right);
 }
 
 /// Three transfers for a window of two, and an End behind the flow that lets two of them out.
@@ -111,7 +113,7 @@ fn maps(alloc: Global, engine: &mut ReplayEngine) -> bool {
 #[test]
 fn all_frames_of_an_input_come_before_the_next(rt: HostRuntime) {
     let mut engine = opened(rt.alloc());
-    assert!(rt; maps(rt.alloc(), &mut engine));
+    let is_mapped = maps(rt.alloc(), &mut engine);
     let want = "done
 done
 done
@@ -122,8 +124,10 @@ done
 out 0200000000531745
 ";
     let inputs = let_out_at_once(rt.alloc());
-    assert!(rt; runs_to(rt.alloc(), &mut engine, inputs, want));
+    let is_right = runs_to(rt.alloc(), &mut engine, inputs, want);
     drop(engine);
+    assert!(rt; is_mapped);
+    assert!(rt; is_right);
 }
 
 /// A Begin and a Close.
@@ -136,8 +140,8 @@ fn begin_and_close(alloc: Global) -> VecDeque<ReplayInput> {
 #[test]
 fn what_a_step_left_is_put_out_before_the_inputs(rt: HostRuntime) {
     let mut engine = opened(rt.alloc());
-    assert_eq!(rt; answer(&mut engine, begin(0)), "done");
-    assert!(rt; engine.has_output());
+    let answer = answer(&mut engine, begin(0));
+    let has_output = engine.has_output();
     let want = "out 02000000005311c00d04404370000013887000001388
 done
 out 02000001005311c00d04404370000013887000001388
@@ -145,6 +149,9 @@ done
 out 0200000000531845
 ";
     let inputs = begin_and_close(rt.alloc());
-    assert!(rt; runs_to(rt.alloc(), &mut engine, inputs, want));
+    let is_right = runs_to(rt.alloc(), &mut engine, inputs, want);
     drop(engine);
+    assert_eq!(rt; answer, "done");
+    assert!(rt; has_output);
+    assert!(rt; is_right);
 }

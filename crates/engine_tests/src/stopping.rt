@@ -57,6 +57,6 @@ fn a_stopped_run_goes_on(rt: HostRuntime) {
         Ok(text) => is_whole(text.as_str()),
         Err(_) => false,
     };
-    assert!(rt; is_right);
     drop(engine);
+    assert!(rt; is_right);
 }

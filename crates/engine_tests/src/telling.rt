@@ -61,7 +61,8 @@ impl<'a> LinkRelay for Telling<'a> {
       detach_gives = λ old handle detach remote_initiated answer new. (answer ≡ None) ⊎ (answer ≡ Some detach);
     } };
 
-    fn on_incoming_attach(&mut self, _attach: Attach) -> Result<(), LinkRelayError> {
+    fn on_incoming_attach(&mut self, attach: Attach) -> Result<(), LinkRelayError> {
+        drop(attach);
         self.told.attaches.fetch_add(1, Ordering::SeqCst);
         if self.refusals > 0 {
             self.refusals -= 1;

@@ -1,11 +1,11 @@
 //! Transcripts: where a line ends, the digits of bytes, and the names of refusals. The rows of transcripts are those of the
 //! program `engine_rows`.
 
+use crate::asking::refusal_name;
 use crate::replaying::replays;
 use fe2o3_amqp::frames::Error as FrameError;
-use fe2o3_amqp::{ConnectionInnerError, ConnectionStateError, StepError, err_name, hex_bytes};
+use fe2o3_amqp::{ConnectionInnerError, ConnectionStateError, StepError, hex_bytes};
 use std::alloc::Global;
-use std::test::Fail;
 
 /// What a stored row cannot hold: no input at all, a last line without a line feed, a carriage return, a line that is not
 /// UTF-8.
@@ -31,36 +31,37 @@ fn lines_end_at_a_line_feed(rt: HostRuntime) {
 }
 
 /// Whether the text says these bytes.
-fn says(alloc: Global, text: &str, want: &[u8]) -> Result<bool, Fail> {
-    match hex_bytes(alloc, text)? {
-        Some(bytes) => Ok(bytes.as_slice() == want),
-        None => Ok(false),
+fn says(alloc: Global, text: &str, want: &[u8]) -> bool {
+    match hex_bytes(alloc, text) {
+        Ok(Some(bytes)) => bytes.as_slice() == want,
+        _ => false,
+    }
+}
+
+/// Whether the text says no bytes.
+fn says_none(alloc: Global, text: &str) -> bool {
+    match hex_bytes(alloc, text) {
+        Ok(bytes) => bytes.is_none(),
+        Err(_) => false,
     }
 }
 
 #[test]
-fn digits_are_read(rt: HostRuntime) -> Result<(), Fail> {
-    assert!(rt; says(rt.alloc(), "00fFA9", b"\x00\xff\xa9")?);
-    assert!(rt; says(rt.alloc(), "", b"")?);
-    assert!(rt; hex_bytes(rt.alloc(), "0")?.is_none());
-    assert!(rt; hex_bytes(rt.alloc(), "0g")?.is_none());
-    Ok(())
+fn digits_are_read(rt: HostRuntime) {
+    assert!(rt; says(rt.alloc(), "00fFA9", b"\x00\xff\xa9"));
+    assert!(rt; says(rt.alloc(), "", b""));
+    assert!(rt; says_none(rt.alloc(), "0"));
+    assert!(rt; says_none(rt.alloc(), "0g"));
 }
 
 #[test]
-fn names_are_those_of_the_innermost_variant(rt: HostRuntime) -> Result<(), Fail> {
-    assert_eq!(rt; err_name(&StepError::OutputWaiting), "OutputWaiting");
-    assert_eq!(rt; err_name(&StepError::NoSession), "NoSession");
-    assert_eq!(rt;
-        err_name(&StepError::Frame(FrameError::DecodeError)),
-        "DecodeError"
-    );
-    let closed = ConnectionStateError::RemoteClosed;
-    assert_eq!(rt;
-        err_name(&StepError::ConnectionState(closed)),
-        "RemoteClosed"
-    );
-    let none = ConnectionInnerError::NotFound(None);
-    assert_eq!(rt; err_name(&StepError::Connection(none)), "NotFound");
-    Ok(())
+fn names_are_those_of_the_innermost_variant(rt: HostRuntime) {
+    assert_eq!(rt; refusal_name(StepError::OutputWaiting), "OutputWaiting");
+    assert_eq!(rt; refusal_name(StepError::NoSession), "NoSession");
+    let frame = StepError::Frame(FrameError::DecodeError);
+    assert_eq!(rt; refusal_name(frame), "DecodeError");
+    let closed = StepError::ConnectionState(ConnectionStateError::RemoteClosed);
+    assert_eq!(rt; refusal_name(closed), "RemoteClosed");
+    let none = StepError::Connection(ConnectionInnerError::NotFound(None));
+    assert_eq!(rt; refusal_name(none), "NotFound");
 }
