@@ -3,11 +3,13 @@
 use crate::offer::out;
 use crate::{mark, print, reading, say};
 use bytes::{Bytes, BytesMut};
-use fe2o3_amqp::{Frame, FrameDecoder, FrameEncoder, Piece, frames};
+use fe2o3_amqp::{
+    Frame, FrameDecoder, FrameEncoder, Performative, Piece, ReadError, WriteError, frames,
+};
 use std::alloc::Global;
 
 /// What a call came to.
-#[derive(Drop)]
+#[derive(Clone, Copy)]
 enum Came {
     /// It answers so.
     To(&'static str),
@@ -54,13 +56,19 @@ fn read(rt: &HostRuntime, digits: &str) -> Came {
         return Came::Unmade;
     };
     mark(rt, "@run\n");
-    let read = fe2o3_amqp::Performative::read(rt.alloc(), bytes);
+    let read = Performative::read(rt.alloc(), bytes);
     mark(rt, "@print\n");
+    let came = of_read(&read);
+    drop(read);
+    came
+}
+
+fn of_read(read: &Result<(Performative, Bytes), ReadError>) -> Came {
     match read {
         Ok((_performative, rest)) if rest.is_empty() => Came::To("whole"),
         Ok(_) => Came::To("and more"),
-        Err(fe2o3_amqp::ReadError::Malformed) => Came::To("malformed"),
-        Err(fe2o3_amqp::ReadError::OutOfMemory) => Came::Refused,
+        Err(ReadError::Malformed) => Came::To("malformed"),
+        Err(ReadError::OutOfMemory) => Came::Refused,
     }
 }
 
@@ -69,9 +77,15 @@ fn write(rt: &HostRuntime, digits: &str) -> Came {
     let Ok(Some((performative, _rest))) = reading::performative(rt.alloc(), digits) else {
         return Came::Unmade;
     };
-    let Ok(spelled) = reading::bytes(rt.alloc(), digits) else {
-        return Came::Unmade;
+    let came = match reading::bytes(rt.alloc(), digits) {
+        Ok(spelled) => written(rt, &performative, &spelled),
+        Err(_) => Came::Unmade,
     };
+    drop(performative);
+    came
+}
+
+fn written(rt: &HostRuntime, performative: &Performative, spelled: &Bytes) -> Came {
     mark(rt, "@run\n");
     let mut text = BytesMut::new(rt.alloc());
     let written = performative.write(&mut text, u32::MAX);
@@ -79,9 +93,9 @@ fn write(rt: &HostRuntime, digits: &str) -> Came {
     match written {
         Ok(()) if text.as_slice() == spelled.as_slice() => Came::To("the same"),
         Ok(()) => Came::To("another"),
-        Err(fe2o3_amqp::WriteError::TooLarge) => Came::To("too large"),
-        Err(fe2o3_amqp::WriteError::OutOfMemory) if text.is_empty() => Came::Refused,
-        Err(fe2o3_amqp::WriteError::OutOfMemory) => Came::To("half"),
+        Err(WriteError::TooLarge) => Came::To("too large"),
+        Err(WriteError::OutOfMemory) if text.is_empty() => Came::Refused,
+        Err(WriteError::OutOfMemory) => Came::To("half"),
     }
 }
 
@@ -93,8 +107,14 @@ fn decode(rt: &HostRuntime, digits: &str) -> Came {
     mark(rt, "@run\n");
     let decoded = FrameDecoder::new().decode(rt.alloc(), bytes);
     mark(rt, "@print\n");
+    let came = of_decoded(&decoded);
+    drop(decoded);
+    came
+}
+
+fn of_decoded(decoded: &Result<(Frame, Bytes), frames::Error>) -> Came {
     match decoded {
-        Ok(_frame) => Came::To("a frame"),
+        Ok(_) => Came::To("a frame"),
         Err(error) => refusal(error),
     }
 }
@@ -116,43 +136,59 @@ fn limited(text: &str) -> anyhow::Result<(u32, &str)> {
 /// `FrameEncoder::encode` with a limit, which goes before the digits of the frame; the pieces are printed.
 fn encode(rt: &HostRuntime, text: &str) -> anyhow::Result<Came> {
     let (limit, digits) = limited(text)?;
-    match frame(rt.alloc(), digits) {
-        Some(frame) => encode_frame(rt, limit, &frame),
+    let frame = frame(rt.alloc(), digits);
+    let came = match &frame {
+        Some(frame) => encode_frame(rt, limit, frame),
         None => Ok(Came::Unmade),
-    }
+    };
+    drop(frame);
+    came
 }
 
 fn encode_frame(rt: &HostRuntime, limit: u32, frame: &Frame) -> anyhow::Result<Came> {
     mark(rt, "@run\n");
     let pieces = FrameEncoder::new(limit.max(4)).encode(rt.alloc(), frame);
     mark(rt, "@print\n");
-    match pieces {
-        Ok(pieces) => {
-            out(rt, &pieces)?;
-            Ok(Came::To("done"))
-        }
+    let came = match &pieces {
+        Ok(pieces) => printed(rt, pieces),
         Err(error) => Ok(refusal(error)),
-    }
+    };
+    drop(pieces);
+    came
 }
 
-fn refusal(error: frames::Error) -> Came {
+fn printed(rt: &HostRuntime, pieces: &Vec<Piece>) -> anyhow::Result<Came> {
+    out(rt, pieces)?;
+    Ok(Came::To("done"))
+}
+
+fn refusal(error: &frames::Error) -> Came {
     match error {
         frames::Error::OutOfMemory => Came::Refused,
-        _error => Came::To("no frame"),
+        _ => Came::To("no frame"),
     }
 }
 
 /// The pieces of the frame of these digits.
 fn pieces(alloc: Global, digits: &str) -> Option<Vec<Piece>> {
     let frame = frame(alloc, digits)?;
-    FrameEncoder::new(u32::MAX).encode(alloc, &frame).ok()
+    let pieces = FrameEncoder::new(u32::MAX).encode(alloc, &frame);
+    drop(frame);
+    pieces.ok()
 }
 
 /// `Piece::to_bytes`, of the frame's one piece.
 fn bytes(rt: &HostRuntime, digits: &str) -> Came {
-    let Some(pieces) = pieces(rt.alloc(), digits) else {
-        return Came::Unmade;
+    let pieces = pieces(rt.alloc(), digits);
+    let came = match &pieces {
+        Some(pieces) => bytes_of_first(rt, pieces, digits),
+        None => Came::Unmade,
     };
+    drop(pieces);
+    came
+}
+
+fn bytes_of_first(rt: &HostRuntime, pieces: &Vec<Piece>, digits: &str) -> Came {
     let Ok(spelled) = reading::bytes(rt.alloc(), digits) else {
         return Came::Unmade;
     };
@@ -166,9 +202,9 @@ fn bytes_of(rt: &HostRuntime, piece: &Piece, spelled: &Bytes) -> Came {
     mark(rt, "@run\n");
     let bytes = piece.to_bytes(rt.alloc());
     mark(rt, "@print\n");
-    match bytes {
+    match &bytes {
         Ok(bytes) if bytes.as_slice() == spelled.as_slice() => Came::To("the same"),
-        Ok(_bytes) => Came::To("others"),
+        Ok(_) => Came::To("others"),
         Err(error) => refusal(error),
     }
 }

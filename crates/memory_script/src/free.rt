@@ -7,8 +7,8 @@ use bytes::Bytes;
 use fe2o3_amqp::{
     Begin, Close, Connection, ConnectionState, ConnectionStopReason, Detach, Disposition, End,
     Fields, FrameEncoder, Handle, IncomingChannel, LinkFlow, Open, OutgoingChannel, OutputError,
-    OutputHandle, Performative, Raw, ReplayRelay, Role, Session, SessionSettings, SessionState,
-    SessionStopReason, StepError, Symbol, err_name, is_terminal,
+    OutputHandle, Performative, Piece, Raw, ReplayRelay, Role, Session, SessionSettings,
+    SessionState, SessionStopReason, StepError, Symbol, err_name, is_terminal,
 };
 use std::alloc::{AllocError, Global};
 
@@ -46,7 +46,9 @@ fn stepped(rt: &HostRuntime, engine: &mut ScriptEngine, line: &str) -> anyhow::R
     mark(rt, "@refuse\n");
     let outcome = engine.step(input);
     mark(rt, "@grant\n");
-    refusal(rt, outcome)?;
+    let told = refusal(rt, &outcome);
+    drop(outcome);
+    told?;
     for _ in 0..20 {
         if !puts_out(rt, engine)? {
             return Ok(());
@@ -56,12 +58,12 @@ fn stepped(rt: &HostRuntime, engine: &mut ScriptEngine, line: &str) -> anyhow::R
 }
 
 /// Prints a refusal, if there is one.
-fn refusal(rt: &HostRuntime, outcome: Result<(), StepError>) -> anyhow::Result<()> {
+fn refusal(rt: &HostRuntime, outcome: &Result<(), StepError>) -> anyhow::Result<()> {
     match outcome {
         Ok(()) => Ok(()),
         Err(error) => {
             say(rt, "err ")?;
-            print(rt, err_name(&error))
+            print(rt, err_name(error))
         }
     }
 }
@@ -69,18 +71,21 @@ fn refusal(rt: &HostRuntime, outcome: Result<(), StepError>) -> anyhow::Result<(
 /// Puts out the first frame that waits; whether there was one.
 fn puts_out(rt: &HostRuntime, engine: &mut ScriptEngine) -> anyhow::Result<bool> {
     mark(rt, "@next_output\n");
-    match engine.next_output() {
-        Ok(None) => return Ok(false),
-        Ok(Some(pieces)) => out(rt, &pieces)?,
-        Err(error) => unsent(rt, error)?,
-    }
-    Ok(true)
+    let next = engine.next_output();
+    let is_there = !matches!(&next, Ok(None));
+    let outcome = sent(rt, &next);
+    drop(next);
+    outcome?;
+    Ok(is_there)
 }
 
-fn unsent(rt: &HostRuntime, error: OutputError) -> anyhow::Result<()> {
-    match error {
-        OutputError::Memory => print(rt, "~ next_output"),
-        OutputError::TooLarge(_frame) => print(rt, "err TooLarge"),
+/// Prints what goes out, if anything does.
+fn sent(rt: &HostRuntime, next: &Result<Option<Vec<Piece>>, OutputError>) -> anyhow::Result<()> {
+    match next {
+        Ok(None) => Ok(()),
+        Ok(Some(pieces)) => out(rt, pieces),
+        Err(OutputError::Memory) => print(rt, "~ next_output"),
+        Err(OutputError::TooLarge(_)) => print(rt, "err TooLarge"),
     }
 }
 
@@ -160,14 +165,17 @@ fn open_again(alloc: Global) -> Result<Open, AllocError> {
     }
 }
 
+/// Whether a call passes; what it answers is dropped here, and not at each of its callers.
+fn passes<T: Drop, E: Drop>(answer: Result<T, E>) -> bool {
+    answer.is_ok()
+}
+
 /// Calls of a connection alone.
 fn connection(rt: &HostRuntime) -> anyhow::Result<()> {
     let (ours, theirs) = (open_again(rt.alloc())?, open_again(rt.alloc())?);
     let mut connection = Connection::new(rt.alloc(), ConnectionState::OpenSent, ours);
     mark(rt, "@refuse\n");
-    let is_opened = connection
-        .on_incoming_open(IncomingChannel(0), theirs)
-        .is_ok();
+    let is_opened = passes(connection.on_incoming_open(IncomingChannel(0), theirs));
     let is_as_ever = is_opened && routes_none(&mut connection) && closes(&mut connection);
     // An explicit call, since the end of its scope takes the prover minutes.
     drop(connection);
@@ -179,17 +187,14 @@ fn routes_none(connection: &mut Connection) -> bool {
     drop(connection.on_outgoing_begin(OutgoingChannel(1), begin()));
     drop(connection.on_outgoing_end(OutgoingChannel(1), End { error: None }));
     let was_held = connection.deallocate_session(OutgoingChannel(1));
-    let was_routed = connection
-        .on_incoming_end(IncomingChannel(1), End { error: None })
-        .is_ok();
+    let was_routed = passes(connection.on_incoming_end(IncomingChannel(1), End { error: None }));
     !was_held && !was_routed
 }
 
 fn closes(connection: &mut Connection) -> bool {
-    let is_sent = connection.send_close(None).is_ok();
-    let is_answered = connection
-        .on_incoming_close(IncomingChannel(0), Close { error: None })
-        .is_ok();
+    let is_sent = passes(connection.send_close(None));
+    let close = Close { error: None };
+    let is_answered = passes(connection.on_incoming_close(IncomingChannel(0), close));
     connection.set_connection_stop_reason(ConnectionStopReason::Closed);
     is_sent && is_answered && *connection.local_state() == ConnectionState::End
 }
@@ -237,9 +242,7 @@ fn session(rt: &HostRuntime) -> anyhow::Result<()> {
         None,
     );
     mark(rt, "@refuse\n");
-    let is_begun = session
-        .on_incoming_begin(IncomingChannel(0), begin())
-        .is_ok();
+    let is_begun = passes(session.on_incoming_begin(IncomingChannel(0), begin()));
     let is_as_ever = is_begun
         && works(&mut session)
         && means_none(&mut session)
@@ -252,28 +255,24 @@ fn session(rt: &HostRuntime) -> anyhow::Result<()> {
 fn works(session: &mut ScriptSession) -> bool {
     drop(session.on_outgoing_flow(flow()));
     drop(session.on_outgoing_disposition(disposition(3, true)));
-    let is_left = session.on_outgoing_detach(detach(), false).is_ok();
-    let is_ignored = session.on_incoming_detach(detach()).is_ok();
-    let is_quiet = session.maybe_outgoing_session_flow().is_none();
+    let is_left = passes(session.on_outgoing_detach(detach(), false));
+    let is_ignored = passes(session.on_incoming_detach(detach()));
+    let flow = session.maybe_outgoing_session_flow();
+    let is_quiet = flow.is_none();
+    drop(flow);
     is_left && is_ignored && is_quiet && !session.deallocate_link(OutputHandle(0))
 }
 
 /// A settled disposition, and a backward one.
 fn means_none(session: &mut ScriptSession) -> bool {
-    let is_settled = session
-        .on_incoming_disposition(disposition(3, true))
-        .is_ok();
-    let is_backward = session
-        .on_incoming_disposition(disposition(0, false))
-        .is_ok();
+    let is_settled = passes(session.on_incoming_disposition(disposition(3, true)));
+    let is_backward = passes(session.on_incoming_disposition(disposition(0, false)));
     is_settled && is_backward
 }
 
 fn ends(session: &mut ScriptSession) -> bool {
-    let is_sent = session.send_end(None).is_ok();
-    let is_answered = session
-        .on_incoming_end(IncomingChannel(0), End { error: None })
-        .is_ok();
+    let is_sent = passes(session.send_end(None));
+    let is_answered = passes(session.on_incoming_end(IncomingChannel(0), End { error: None }));
     session.set_session_stop_reason(SessionStopReason::Ended);
     is_sent && is_answered && *session.local_state() == SessionState::Unmapped
 }
@@ -292,19 +291,30 @@ fn performative(alloc: Global, digits: &str) -> anyhow::Result<Performative> {
 
 /// Calls of values and of performatives.
 fn values(rt: &HostRuntime) -> anyhow::Result<()> {
-    let Performative::Transfer(transfer) = performative(rt.alloc(), "005314c0020143")? else {
-        anyhow::bail!("no transfer");
-    };
+    let transfer = performative(rt.alloc(), "005314c0020143")?;
+    let outcome = values_beside(rt, &transfer);
+    drop(transfer);
+    said(rt, "values", outcome?)
+}
+
+fn values_beside(rt: &HostRuntime, transfer: &Performative) -> anyhow::Result<bool> {
     let text = match String::from_str(rt.alloc(), "x") {
         Ok(text) => text,
         Err(_) => String::from_str(rt.alloc(), "x")?,
     };
     mark(rt, "@refuse\n");
-    let is_as_ever = views()
-        && Symbol::new(text).is_some()
-        && FrameEncoder::new(512).payload_room(&transfer).is_some()
-        && Performative::Transfer(transfer).encoded_len() > 4;
-    said(rt, "values", is_as_ever)
+    let is_symbol = Symbol::new(text).is_some();
+    Ok(views() && is_symbol && has_room(transfer) && transfer.encoded_len() > 4)
+}
+
+/// Whether a piece has room beside the transfer.
+fn has_room(performative: &Performative) -> bool {
+    match performative {
+        Performative::Transfer(transfer) => {
+            FrameEncoder::new(512).payload_room(transfer).is_some()
+        }
+        _ => false,
+    }
 }
 
 /// Whether raw values give their parts.

@@ -3,7 +3,8 @@
 use crate::reading;
 use bytes::Bytes;
 use fe2o3_amqp::{
-    Input, InputHandle, LinkFlow, Performative, ReplayRelay, SessionNo, SessionSettings,
+    Flow, Input, InputHandle, LinkFlow, Performative, ReplayRelay, SessionNo, SessionSettings,
+    Transfer,
 };
 use std::alloc::{AllocError, Global};
 
@@ -90,15 +91,24 @@ fn asked_of(
         Performative::Attach(attach) => Some(Input::Attach(number, attach)),
         Performative::Disposition(said) => Some(Input::Disposition(number, said)),
         Performative::Detach(detach) => Some(Input::Detach(number, detach, expects_echo)),
-        Performative::Flow(flow) => match LinkFlow::try_from(flow) {
-            Ok(flow) => Some(Input::Flow(number, flow)),
-            Err(()) => None,
-        },
-        Performative::Transfer(transfer) => {
-            let handle = InputHandle::from(transfer.handle);
-            let is_first = transfer.delivery_tag.is_some();
-            Some(Input::Transfer(number, handle, transfer, rest, is_first))
+        Performative::Flow(flow) => flow_asked(number, flow),
+        Performative::Transfer(transfer) => Some(transfer_asked(number, transfer, rest)),
+        other => {
+            drop(other);
+            None
         }
-        _ => None,
     }
+}
+
+fn flow_asked(number: SessionNo, flow: Flow) -> Option<ScriptInput> {
+    match LinkFlow::try_from(flow) {
+        Ok(flow) => Some(Input::Flow(number, flow)),
+        Err(()) => None,
+    }
+}
+
+fn transfer_asked(number: SessionNo, transfer: Transfer, payload: Bytes) -> ScriptInput {
+    let handle = InputHandle::from(transfer.handle);
+    let is_first = transfer.delivery_tag.is_some();
+    Input::Transfer(number, handle, transfer, payload, is_first)
 }

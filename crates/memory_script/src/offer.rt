@@ -1,6 +1,6 @@
 //! Running a script: each input is offered to the engine, and once more where it is refused for memory.
 
-use crate::input::of_line;
+use crate::input::{ScriptInput, of_line};
 use crate::{codec, free, mark, print, reading, replays, say};
 use fe2o3_amqp::{
     Answer, ConnectionState, DEFAULT_CHANNEL_MAX, DEFAULT_MAX_FRAME_SIZE, Engine, Open, Piece,
@@ -47,24 +47,32 @@ pub fn script(rt: &HostRuntime, text: &str) -> anyhow::Result<()> {
 }
 
 fn lines(rt: &HostRuntime, engine: &mut ScriptEngine, text: &str) -> anyhow::Result<()> {
-    for line in text.lines() {
+    for text in text.lines() {
         mark(rt, "@line\n");
-        match reading::word(line) {
-            ("#", _) => {
-                *engine = new_engine(rt.alloc())?;
-                print(rt, line)?;
-            }
-            ("call", rest) => codec::called(rt, rest)?,
-            ("free", rest) => free::called(rt, engine, rest)?,
-            ("replays", _) => {
-                mark(rt, "@replays\n");
-                replays::called(rt)?;
-            }
-            ("show", number) => show(rt, engine, number)?,
-            _ => offered(rt, engine, line)?,
-        }
+        line(rt, engine, text)?;
     }
     Ok(())
+}
+
+fn line(rt: &HostRuntime, engine: &mut ScriptEngine, text: &str) -> anyhow::Result<()> {
+    match reading::word(text) {
+        ("#", _) => begins(rt, engine, text),
+        ("call", rest) => codec::called(rt, rest),
+        ("free", rest) => free::called(rt, engine, rest),
+        ("replays", _) => {
+            mark(rt, "@replays\n");
+            replays::called(rt)
+        }
+        ("show", number) => show(rt, engine, number),
+        _ => offered(rt, engine, text),
+    }
+}
+
+/// A script begins, with a new engine.
+fn begins(rt: &HostRuntime, engine: &mut ScriptEngine, title: &str) -> anyhow::Result<()> {
+    let old = std::mem::replace(engine, new_engine(rt.alloc())?);
+    drop(old);
+    print(rt, title)
 }
 
 /// Offers the input of a line, and once more where it is refused for memory.
@@ -81,26 +89,63 @@ fn offered(rt: &HostRuntime, engine: &mut ScriptEngine, line: &str) -> anyhow::R
 fn is_answered(rt: &HostRuntime, engine: &mut ScriptEngine, line: &str) -> anyhow::Result<bool> {
     mark(rt, "@make\n");
     let mut inputs = VecDeque::new(rt.alloc());
-    let Ok(made) = of_line(rt.alloc(), line) else {
-        return Ok(false);
+    let outcome = match queued(rt.alloc(), &mut inputs, line) {
+        Ok(true) => answers(rt, engine, &mut inputs, line.starts_with("take ")),
+        Ok(false) => Err(anyhow::anyhow!("no line of a script")),
+        Err(_) => Ok(false),
     };
-    let Some(input) = made else {
-        anyhow::bail!("no line of a script");
-    };
-    if inputs.push_back(input).is_err() {
-        return Ok(false);
+    drop(inputs);
+    outcome
+}
+
+/// Puts the input of a line into the queue; whether the line says one. `AllocError` where memory is refused.
+fn queued(
+    alloc: Global,
+    inputs: &mut VecDeque<ScriptInput>,
+    line: &str,
+) -> Result<bool, AllocError> {
+    match of_line(alloc, line)? {
+        Some(input) => {
+            inputs.push_back(input)?;
+            Ok(true)
+        }
+        None => Ok(false),
     }
+}
+
+/// Gives the inputs to the engine, and prints its answers; whether the inputs are not to come again.
+fn answers(
+    rt: &HostRuntime,
+    engine: &mut ScriptEngine,
+    inputs: &mut VecDeque<ScriptInput>,
+    is_transfer: bool,
+) -> anyhow::Result<bool> {
     mark(rt, "@run\n");
     let mut answers = Vec::new(rt.alloc());
-    if engine.run(&mut inputs, &mut answers).is_err() {
+    let outcome = match run(rt, engine, inputs, &mut answers) {
+        Ok(()) => printed(rt, &answers, is_transfer),
+        Err(error) => Err(error),
+    };
+    drop(answers);
+    outcome
+}
+
+/// Runs the engine, and once more where it stops for want of memory.
+fn run(
+    rt: &HostRuntime,
+    engine: &mut ScriptEngine,
+    inputs: &mut VecDeque<ScriptInput>,
+    answers: &mut Vec<Answer>,
+) -> anyhow::Result<()> {
+    if engine.run(inputs, answers).is_err() {
         print(rt, "~ Stopped")?;
         mark(rt, "@again\n");
-        if engine.run(&mut inputs, &mut answers).is_err() {
+        if engine.run(inputs, answers).is_err() {
             anyhow::bail!("stopped twice");
         }
     }
     mark(rt, "@print\n");
-    printed(rt, &answers, line.starts_with("take "))
+    Ok(())
 }
 
 /// Prints the answers; whether none of them is a refusal for memory after which the input is to come again.

@@ -69,11 +69,18 @@ fn put_alone(alloc: Global, performative: &Performative) -> Result<String, Fail>
 
 /// Whether `put` appends the text that was read, of the length that `encoded_len` answers.
 fn is_put(alloc: Global, digits: &str) -> Result<bool, Fail> {
+    let want = dense(alloc, digits)?;
     let performative = read(alloc, digits)?;
-    text_is_read(&performative);
-    let text = put_alone(alloc, &performative)?;
-    let len = len(&performative);
-    Ok(text == dense(alloc, digits)? && len == (text.len() / 2) as u128)
+    let is_put = is_put_as(alloc, &performative, want.as_str());
+    drop(performative);
+    is_put
+}
+
+fn is_put_as(alloc: Global, performative: &Performative, want: &str) -> Result<bool, Fail> {
+    text_is_read(performative);
+    let len = len(performative);
+    let text = put_alone(alloc, performative)?;
+    Ok(text.as_str() == want && len == (text.len() / 2) as u128)
 }
 
 #[test]

@@ -39,10 +39,19 @@ pub fn written(alloc: Global, performative: &Performative) -> Result<String, Fai
 
 /// The digits of what is written for a performative in this spelling; "malformed" where it is none.
 pub fn rewritten(alloc: Global, digits: &str) -> Result<String, Fail> {
-    match Performative::read(alloc, bytes(alloc, digits)?) {
-        Ok((performative, _)) => written(alloc, &performative),
-        Err(ReadError::Malformed) => Ok(String::from_str(alloc, "malformed")?),
-        Err(ReadError::OutOfMemory) => Err("out of memory".into()),
+    let read = Performative::read(alloc, bytes(alloc, digits)?);
+    let text = match &read {
+        Ok((performative, _)) => written(alloc, performative),
+        Err(error) => refused(alloc, error),
+    };
+    drop(read);
+    text
+}
+
+fn refused(alloc: Global, error: &ReadError) -> Result<String, Fail> {
+    match error {
+        ReadError::Malformed => Ok(String::from_str(alloc, "malformed")?),
+        ReadError::OutOfMemory => Err("out of memory".into()),
     }
 }
 

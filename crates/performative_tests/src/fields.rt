@@ -1,6 +1,7 @@
 //! The fields of each performative, and when two are the same.
 
 use crate::digits::{read, written};
+use amqp_types::Performative;
 use std::alloc::Global;
 use std::test::Fail;
 
@@ -29,7 +30,16 @@ const TEXTS: [&'static str; 18] = [
 /// Whether both spell the same performative.
 fn are_same(alloc: Global, left: &str, right: &str) -> Result<bool, Fail> {
     let one = read(alloc, left)?;
-    Ok(one == read(alloc, right)?)
+    let answer = is_spelled(alloc, &one, right);
+    drop(one);
+    answer
+}
+
+fn is_spelled(alloc: Global, one: &Performative, text: &str) -> Result<bool, Fail> {
+    let other = read(alloc, text)?;
+    let is_same = *one == other;
+    drop(other);
+    Ok(is_same)
 }
 
 fn is_its_copy(alloc: Global, text: &str) -> Result<bool, Fail> {
@@ -63,7 +73,9 @@ fn a_copy_is_the_same(rt: HostRuntime) -> Result<(), Fail> {
 /// The fields as they are shown.
 fn shown(alloc: Global, text: &str) -> Result<String, Fail> {
     let performative = read(alloc, text)?;
-    Ok(format!(in alloc; "{performative:?}")?)
+    let shown = format!(in alloc; "{performative:?}");
+    drop(performative);
+    Ok(shown?)
 }
 
 #[test]

@@ -10,9 +10,13 @@ use std::test::Fail;
 fn a_text_above_the_limit_is_not_written(rt: HostRuntime) {
     let close = Performative::Close(Close { error: None });
     let mut out = BytesMut::new(rt.alloc());
-    assert_eq!(rt; close.write(&mut out, 3), Err(WriteError::TooLarge));
-    assert!(rt; out.is_empty());
-    assert_eq!(rt; close.write(&mut out, 4), Ok(()));
+    let below = close.write(&mut out, 3);
+    let is_left = out.is_empty();
+    let at = close.write(&mut out, 4);
+    drop(close);
+    assert_eq!(rt; below, Err(WriteError::TooLarge));
+    assert!(rt; is_left);
+    assert_eq!(rt; at, Ok(()));
     assert_eq!(rt; out.as_slice(), [0x00, 0x53, 0x18, 0x45].as_slice());
 }
 
@@ -63,23 +67,23 @@ fn detach(condition: Symbol) -> Performative {
 }
 
 /// Whether the performative is written as these digits.
-fn is_written(alloc: Global, performative: &Performative, digits: &str) -> Result<bool, Fail> {
-    Ok(written(alloc, performative)? == dense(alloc, digits)?)
+fn is_written(alloc: Global, performative: Performative, digits: &str) -> Result<bool, Fail> {
+    let text = written(alloc, &performative);
+    drop(performative);
+    Ok(text? == dense(alloc, digits)?)
 }
 
 #[test]
 fn an_open_of_three_fields(rt: HostRuntime) -> Result<(), Fail> {
-    let open = open(rt.alloc())?;
     let text = "005310 c00d04 a10161 40 7000040000 6000ff";
-    assert!(rt; is_written(rt.alloc(), &open, text)?);
+    assert!(rt; is_written(rt.alloc(), open(rt.alloc())?, text)?);
     Ok(())
 }
 
 #[test]
 fn a_begin_with_windows_of_5000(rt: HostRuntime) -> Result<(), Fail> {
     let text = "005311 c00d04 40 43 7000001388 7000001388";
-    let begin = begin();
-    assert!(rt; is_written(rt.alloc(), &begin, text)?);
+    assert!(rt; is_written(rt.alloc(), begin(), text)?);
     Ok(())
 }
 
@@ -87,8 +91,7 @@ fn a_begin_with_windows_of_5000(rt: HostRuntime) -> Result<(), Fail> {
 fn a_detach_with_an_error(rt: HostRuntime) -> Result<(), Fail> {
     let condition = symbol(rt.alloc(), "amqp:not-found")?;
     let text = "005316 c01a03 5201 41 00531d c01101 a30e 616d71703a6e6f742d666f756e64";
-    let detach = detach(condition);
-    assert!(rt; is_written(rt.alloc(), &detach, text)?);
+    assert!(rt; is_written(rt.alloc(), detach(condition), text)?);
     Ok(())
 }
 

@@ -1,40 +1,98 @@
 //! The code, the descriptor and the parts of a value.
 
-use amqp_values::Raw;
+use amqp_values::{Raw, ValueRef};
 use bytes::Bytes;
 use std::test::Fail;
 
+/// The value of these bytes.
+fn raw(bytes: &'static [u8]) -> Result<Raw, Fail> {
+    let (raw, _) = Raw::read(Bytes::from_static(bytes))?;
+    Ok(raw)
+}
+
+/// Whether there is a value, and it is these bytes.
+fn is_value(value: Option<ValueRef>, bytes: &[u8]) -> bool {
+    match value {
+        Some(value) => value.bytes() == bytes,
+        None => false,
+    }
+}
+
+/// Whether it has the code of a map, its own bytes, no descriptor and no value inside.
+fn shows_a_map(map: &Raw) -> [bool; 4] {
+    let view = map.view();
+    [
+        view.code() == 0xc1,
+        view.bytes() == map.bytes(),
+        view.descriptor().is_none(),
+        view.inner().is_none(),
+    ]
+}
+
+/// Whether it gives a key, its value, and then nothing, twice.
+fn gives_a_key_and_a_value(map: &Raw) -> [bool; 4] {
+    let Some(mut items) = map.view().items() else {
+        return [false; 4];
+    };
+    [
+        is_value(items.next(), &[0xa3, 1, 0x78]),
+        is_value(items.next(), &[0x52, 5]),
+        items.next().is_none(),
+        items.next().is_none(),
+    ]
+}
+
 #[test]
 fn a_map_gives_its_keys_and_values_in_turn(rt: HostRuntime) -> Result<(), Fail> {
-    let (map, _) = Raw::read(Bytes::from_static(&[0xc1, 6, 2, 0xa3, 1, 0x78, 0x52, 5]))?;
-    let view = map.view();
-    assert_eq!(rt; view.code(), 0xc1);
-    assert_eq!(rt; view.bytes(), map.bytes());
-    assert!(rt; view.descriptor().is_none());
-    assert!(rt; view.inner().is_none());
-    let mut items = view.items().ok_or("a map has items")?;
-    let key = items.next().ok_or("a key")?;
-    assert_eq!(rt; key.bytes(), [0xa3, 1, 0x78].as_slice());
-    let value = items.next().ok_or("a value")?;
-    assert_eq!(rt; value.bytes(), [0x52, 5].as_slice());
-    assert!(rt; items.next().is_none());
-    assert!(rt; items.next().is_none());
+    let map = raw(&[0xc1, 6, 2, 0xa3, 1, 0x78, 0x52, 5])?;
+    let shown = shows_a_map(&map);
+    let given = gives_a_key_and_a_value(&map);
+    drop(map);
+    assert!(rt; shown == [true; 4]);
+    assert!(rt; given == [true; 4]);
     Ok(())
+}
+
+/// Whether it has the code of a described value, and no items.
+fn shows_a_described_value(accepted: &Raw) -> [bool; 2] {
+    let view = accepted.view();
+    [view.code() == 0, view.items().is_none()]
+}
+
+/// Whether its descriptor has these bytes and this code.
+fn has_its_descriptor(accepted: &Raw) -> [bool; 2] {
+    match accepted.view().descriptor() {
+        Some(it) => [it.bytes() == [0x53, 0x24].as_slice(), it.code() == 0x53],
+        None => [false; 2],
+    }
+}
+
+/// Whether the value inside it has these bytes and no items.
+fn has_a_list_inside(accepted: &Raw) -> [bool; 2] {
+    match accepted.view().inner() {
+        Some(it) => [it.bytes() == [0x45].as_slice(), is_without_items(&it)],
+        None => [false; 2],
+    }
+}
+
+/// Whether it is a list or a map, of no parts.
+fn is_without_items(value: &ValueRef) -> bool {
+    match value.items() {
+        Some(mut items) => items.next().is_none(),
+        None => false,
+    }
 }
 
 #[test]
 fn a_described_value_has_a_descriptor_and_a_value_inside(rt: HostRuntime) -> Result<(), Fail> {
-    let (accepted, _) = Raw::read(Bytes::from_static(&[0x00, 0x53, 0x24, 0x45]))?;
-    let view = accepted.view();
-    assert_eq!(rt; view.code(), 0);
-    assert!(rt; view.items().is_none());
-    let descriptor = view.descriptor().ok_or("a descriptor")?;
-    assert_eq!(rt; descriptor.bytes(), [0x53, 0x24].as_slice());
-    assert_eq!(rt; descriptor.code(), 0x53);
-    let inner = view.inner().ok_or("a value inside")?;
-    assert_eq!(rt; inner.bytes(), [0x45].as_slice());
-    let mut items = inner.items().ok_or("a list of no parts")?;
-    assert!(rt; items.next().is_none());
+    let accepted = raw(&[0x00, 0x53, 0x24, 0x45])?;
+    let shown = shows_a_described_value(&accepted);
+    let descriptor = has_its_descriptor(&accepted);
+    let inside = has_a_list_inside(&accepted);
+    drop(accepted);
+    assert!(rt; shown == [true; 2]);
+    assert!(rt; descriptor == [true; 2]);
+    assert!(rt; inside == [true; 2]);
     Ok(())
 }
 

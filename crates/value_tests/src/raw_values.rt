@@ -99,20 +99,42 @@ fn values_are_equal_where_their_bytes_are(rt: HostRuntime) -> Result<(), Fail> {
     Ok(())
 }
 
+/// The value of these bytes.
+fn raw(bytes: &'static [u8]) -> Result<Raw, Fail> {
+    let (raw, _) = Raw::read(Bytes::from_static(bytes))?;
+    Ok(raw)
+}
+
+/// Whether the fields of a map are there, give the map back, and are the same as their copy.
+fn are_the_map(map: Raw) -> Result<[bool; 2], Fail> {
+    let copy = map.clone()?;
+    let fields = Fields::new(map);
+    let answer = match &fields {
+        Some(fields) => [*fields.raw() == copy, are_their_copy(fields)],
+        None => [false; 2],
+    };
+    drop(fields);
+    Ok(answer)
+}
+
+fn are_their_copy(fields: &Fields) -> bool {
+    match fields.clone() {
+        Ok(copy) => *fields == copy,
+        Err(_) => false,
+    }
+}
+
+fn are_fields(raw: Raw) -> bool {
+    Fields::new(raw).is_some()
+}
+
 #[test]
 fn fields_are_maps(rt: HostRuntime) -> Result<(), Fail> {
-    let (map, _) = Raw::read(Bytes::from_static(&[0xc1, 6, 2, 0xa3, 1, 0x78, 0x52, 5]))?;
-    let (wide, _) = Raw::read(Bytes::from_static(&[0xd1, 0, 0, 0, 4, 0, 0, 0, 0]))?;
-    let (list, _) = Raw::read(Bytes::from_static(&[0xc0, 3, 2, 0x40, 0x40]))?;
-    let copy = map.clone()?;
-    match Fields::new(map) {
-        Some(fields) => {
-            assert!(rt; *fields.raw() == copy);
-            assert!(rt; fields == fields.clone()?);
-        }
-        None => assert!(rt; false, "a map"),
-    }
-    assert!(rt; Fields::new(wide).is_some());
-    assert!(rt; Fields::new(list).is_none());
+    let map = are_the_map(raw(&[0xc1, 6, 2, 0xa3, 1, 0x78, 0x52, 5])?)?;
+    let wide = are_fields(raw(&[0xd1, 0, 0, 0, 4, 0, 0, 0, 0])?);
+    let list = are_fields(raw(&[0xc0, 3, 2, 0x40, 0x40])?);
+    assert!(rt; map == [true; 2]);
+    assert!(rt; wide);
+    assert!(rt; !list);
     Ok(())
 }
