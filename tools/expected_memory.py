@@ -140,6 +140,28 @@ def refuses(rows):
     rows.said += received()
 
 
+def wishes(rows):
+    """Wishes for two Ends and a Close, each with an error; the Ends go out by rising number, in one run. The peer ends one session, and
+    closes, with an error."""
+    rows.row("Wishes of handles")
+    rows.ask("wished open", OUR_OPEN)
+    rows.ask("wished " + recv(opening("a", 512, 255)))
+    for number, peers in ((0, 5), (1, 6)):
+        rows.ask(f"wished begin {number}", out(begin(), number))
+        rows.ask("wished " + recv(begin(number, 0, 8, 8), peers))
+    rows.ask("wished end 1 amqp:not-found", "noted")
+    rows.ask("wished end 0 amqp:not-allowed", "noted")
+    rows.ask("wished run", out(end("amqp:not-allowed")), out(end("amqp:not-found"), 1))
+    rows.ask("wished " + recv(end("amqp:resource-deleted"), 5), "err RemoteEndedWithError")
+    rows.ask("wished " + recv(end(), 6))
+    rows.ask("wished ended 0", "ended with amqp:resource-deleted")
+    rows.ask("wished ended 1", "ended")
+    rows.ask("wished close amqp:internal-error", "noted")
+    rows.ask("wished run", out(closing("amqp:internal-error")))
+    rows.ask("wished " + recv(closing("amqp:connection:forced")), "err RemoteClosedWithError")
+    rows.ask("wished closed", "closed with amqp:connection:forced")
+
+
 def codec(rows):
     rows.row(CODEC)
     whole = transfer(0, "a")
@@ -166,7 +188,7 @@ def replays(rows):
 
 def rows():
     of = Rows()
-    for part in (exchange, refuses, codec, replays):
+    for part in (exchange, refuses, codec, wishes, replays):
         part(of)
     return of
 

@@ -57,6 +57,9 @@ AT_MOST = {
     "received Disposition": ANSWER + 2 * PLACE + ONE_PIECE,
     # the list of frames, and the places among the open deliveries
     "received Flow": ANSWER + 2 * PLACE + FRAMES * ONE_PIECE,
+    # the error's condition, and its copy for the handles
+    "received Close": ANSWER + 2 * TEXT,
+    "received End": ANSWER + 2 * TEXT,
     # the container's name
     "received Open": ANSWER + TEXT,
     # the place among the open deliveries, and a session flow
@@ -73,6 +76,8 @@ AT_MOST = {
     "request Open": ANSWER + TEXT + ONE_PIECE,
     # the place among the open deliveries, and two pieces
     "request Transfer": ANSWER + PLACE + 1 + 2 * BUFFER,
+    # two Ends of the script go out in one run
+    "run of wishes": ANSWER + 2 * ONE_PIECE,
     "write": TEXT,
 }
 
@@ -126,7 +131,9 @@ class Sweep:
 
 def name_of(line):
     """What a line of the script calls."""
-    word, _, rest = line.partition(" ")
+    word, _, rest = line.removeprefix("wished ").partition(" ")
+    if word == "run":
+        return "run of wishes"
     if word in ("recv", "take"):
         return "received " + TABLES[int(rest[12:14], 16)][0]
     if word in ("send", "detach"):

@@ -1,16 +1,35 @@
 //! Running a script: each input is offered to the engine, and once more where it is refused for memory.
 
 use crate::input::{ScriptInput, of_line};
-use crate::{codec, free, mark, print, reading, replays, say};
+use crate::wishes::WishedEngine;
+use crate::{codec, free, mark, print, reading, replays, say, wishes};
 use fe2o3_amqp::{
-    Answer, ConnectionState, DEFAULT_CHANNEL_MAX, DEFAULT_MAX_FRAME_SIZE, Engine, Open, Piece,
-    ReplayRelay, Session, SessionInnerError, StepError, err_name, out_line,
+    Answer, ConnectionState, DEFAULT_CHANNEL_MAX, DEFAULT_MAX_FRAME_SIZE, Engine, HandledEngine,
+    Open, Piece, ReplayRelay, Session, SessionInnerError, StepError, err_name, out_line,
 };
 use std::alloc::{AllocError, Global};
 use std::collections::VecDeque;
 
 /// The engine of a script.
 pub type ScriptEngine = Engine<ReplayRelay>;
+
+/// What inputs can be given to.
+pub trait Runs {
+    /// Runs the inputs; whether none was left for want of memory.
+    fn runs(&mut self, inputs: &mut VecDeque<ScriptInput>, answers: &mut Vec<Answer>) -> bool;
+}
+
+impl Runs for ScriptEngine {
+    fn runs(&mut self, inputs: &mut VecDeque<ScriptInput>, answers: &mut Vec<Answer>) -> bool {
+        self.run(inputs, answers).is_ok()
+    }
+}
+
+impl Runs for WishedEngine {
+    fn runs(&mut self, inputs: &mut VecDeque<ScriptInput>, answers: &mut Vec<Answer>) -> bool {
+        self.run(inputs, answers).is_ok()
+    }
+}
 
 fn engine(alloc: Global) -> Result<ScriptEngine, AllocError> {
     let open = Open {
@@ -40,22 +59,35 @@ fn new_engine(alloc: Global) -> Result<ScriptEngine, AllocError> {
 pub fn script(rt: &HostRuntime, text: &str) -> anyhow::Result<()> {
     mark(rt, "@make\n");
     let mut engine = new_engine(rt.alloc())?;
-    let outcome = lines(rt, &mut engine, text);
-    // An explicit call, since the end of its scope takes the prover minutes.
+    let mut wished = HandledEngine::new(new_engine(rt.alloc())?);
+    let outcome = lines(rt, &mut engine, &mut wished, text);
+    // Explicit calls, since the end of their scope takes the prover minutes.
     drop(engine);
+    drop(wished);
     outcome
 }
 
-fn lines(rt: &HostRuntime, engine: &mut ScriptEngine, text: &str) -> anyhow::Result<()> {
+fn lines(
+    rt: &HostRuntime,
+    engine: &mut ScriptEngine,
+    wished: &mut WishedEngine,
+    text: &str,
+) -> anyhow::Result<()> {
     for text in text.lines() {
         mark(rt, "@line\n");
-        line(rt, engine, text)?;
+        line(rt, engine, wished, text)?;
     }
     Ok(())
 }
 
-fn line(rt: &HostRuntime, engine: &mut ScriptEngine, text: &str) -> anyhow::Result<()> {
+fn line(
+    rt: &HostRuntime,
+    engine: &mut ScriptEngine,
+    wished: &mut WishedEngine,
+    text: &str,
+) -> anyhow::Result<()> {
     match reading::word(text) {
+        ("wished", rest) => wishes::called(rt, wished, rest),
         ("#", _) => begins(rt, engine, text),
         ("call", rest) => codec::called(rt, rest),
         ("free", rest) => free::called(rt, engine, rest),
@@ -76,7 +108,7 @@ fn begins(rt: &HostRuntime, engine: &mut ScriptEngine, title: &str) -> anyhow::R
 }
 
 /// Offers the input of a line, and once more where it is refused for memory.
-fn offered(rt: &HostRuntime, engine: &mut ScriptEngine, line: &str) -> anyhow::Result<()> {
+pub fn offered<E: Runs>(rt: &HostRuntime, engine: &mut E, line: &str) -> anyhow::Result<()> {
     for _ in 0..2 {
         if is_answered(rt, engine, line)? {
             return Ok(());
@@ -86,7 +118,7 @@ fn offered(rt: &HostRuntime, engine: &mut ScriptEngine, line: &str) -> anyhow::R
 }
 
 /// Whether the input of a line is answered otherwise than by a refusal for memory.
-fn is_answered(rt: &HostRuntime, engine: &mut ScriptEngine, line: &str) -> anyhow::Result<bool> {
+fn is_answered<E: Runs>(rt: &HostRuntime, engine: &mut E, line: &str) -> anyhow::Result<bool> {
     mark(rt, "@make\n");
     let mut inputs = VecDeque::new(rt.alloc());
     let outcome = match queued(rt.alloc(), &mut inputs, line) {
@@ -98,7 +130,7 @@ fn is_answered(rt: &HostRuntime, engine: &mut ScriptEngine, line: &str) -> anyho
     outcome
 }
 
-/// Puts the input of a line into the queue; whether the line says one. `AllocError` where memory is refused.
+/// Puts the input of a line into the queue; whether the line says one, or is a run of none. `AllocError` where memory is refused.
 fn queued(
     alloc: Global,
     inputs: &mut VecDeque<ScriptInput>,
@@ -109,14 +141,14 @@ fn queued(
             inputs.push_back(input)?;
             Ok(true)
         }
-        None => Ok(false),
+        None => Ok(line == "run"),
     }
 }
 
 /// Gives the inputs to the engine, and prints its answers; whether the inputs are not to come again.
-fn answers(
+fn answers<E: Runs>(
     rt: &HostRuntime,
-    engine: &mut ScriptEngine,
+    engine: &mut E,
     inputs: &mut VecDeque<ScriptInput>,
     is_transfer: bool,
 ) -> anyhow::Result<bool> {
@@ -131,16 +163,16 @@ fn answers(
 }
 
 /// Runs the engine, and once more where it stops for want of memory.
-fn run(
+fn run<E: Runs>(
     rt: &HostRuntime,
-    engine: &mut ScriptEngine,
+    engine: &mut E,
     inputs: &mut VecDeque<ScriptInput>,
     answers: &mut Vec<Answer>,
 ) -> anyhow::Result<()> {
-    if engine.run(inputs, answers).is_err() {
+    if !engine.runs(inputs, answers) {
         print(rt, "~ Stopped")?;
         mark(rt, "@again\n");
-        if engine.run(inputs, answers).is_err() {
+        if !engine.runs(inputs, answers) {
             anyhow::bail!("stopped twice");
         }
     }
