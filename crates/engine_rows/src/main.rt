@@ -33,6 +33,7 @@ mod handled;
 mod reading;
 mod row;
 
+use std::alloc::Global;
 use std::io::{self, BufRead, BufReader, BufWriter, Write};
 
 fn main(rt: HostRuntime) -> anyhow::Result<()> {
@@ -40,10 +41,25 @@ fn main(rt: HostRuntime) -> anyhow::Result<()> {
     let mut out = BufWriter::new(alloc, io::writer(&rt))?;
     let mut lines = String::new(alloc);
     for line in BufReader::new(alloc, rt.reader())?.lines(alloc) {
-        let text = row::next(alloc, &mut lines, line?.as_str())?;
-        out.write_all(text.as_slice())?;
+        take_line(alloc, &mut lines, line?.as_str(), &mut out)?;
     }
-    let text = row::answer(alloc, lines.as_str())?;
+    finish(alloc, lines.as_str(), &mut out)
+}
+
+fn take_line<O: Write>(
+    alloc: Global,
+    lines: &mut String,
+    line: &str,
+    out: &mut O,
+) -> anyhow::Result<()> {
+    let text = row::next(alloc, lines, line)?;
+    out.write_all(text.as_slice())?;
+    Ok(())
+}
+
+/// Writes what the last row prints.
+fn finish<O: Write>(alloc: Global, lines: &str, out: &mut O) -> anyhow::Result<()> {
+    let text = row::answer(alloc, lines)?;
     out.write_all(text.as_slice())?;
     out.flush()?;
     Ok(())

@@ -3,7 +3,7 @@
 use crate::{connection, handled};
 use fe2o3_amqp::replay;
 use std::alloc::Global;
-use std::io::Write;
+use std::io::{self, Write};
 
 /// Takes a line of the row. Where the line is the title of the next one, it prints what the row prints, and that title.
 pub fn next(alloc: Global, lines: &mut String, line: &str) -> anyhow::Result<Vec<u8>> {
@@ -52,15 +52,19 @@ fn counted(alloc: Global, text: &[u8]) -> anyhow::Result<Vec<u8>> {
     for line in std::str::from_utf8(text)?.lines() {
         if line != last.as_str() {
             if count > 0 {
-                writeln!(said, "{count} {last}")?;
+                write_count(&mut said, count, last.as_str())?;
             }
             last = String::from_str(alloc, line)?;
             count = 0;
         }
         count = count.saturating_add(1);
     }
-    writeln!(said, "{count} {last}")?;
+    write_count(&mut said, count, last.as_str())?;
     Ok(said)
+}
+
+fn write_count(said: &mut Vec<u8>, count: u64, line: &str) -> io::Result<()> {
+    writeln!(said, "{count} {line}")
 }
 
 /// What a transcript prints.

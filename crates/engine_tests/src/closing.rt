@@ -34,7 +34,9 @@ fn turn(
     sent: &mut Vec<u8>,
 ) -> (&'static str, usize) {
     let told = closing(alloc, engine, handle, frame, sent);
-    (name(&told), sent.len())
+    let name = name(&told);
+    drop(told);
+    (name, sent.len())
 }
 
 #[test]
@@ -51,6 +53,5 @@ fn a_close_is_told_once_the_peer_answered(rt: HostRuntime) {
     drop(handle);
     drop(sent);
     assert!(rt; is_wished);
-    assert!(rt; first == ("nothing", 8));
-    assert!(rt; second == ("closed", 8));
+    assert!(rt; [first, second] == [("nothing", 8), ("closed", 8)]);
 }

@@ -48,10 +48,8 @@ fn a_transfer_waits_for_the_window(rt: HostRuntime) {
     let after = numbers_of(&engine, 0);
     drop(engine);
     assert!(rt; is_full);
-    assert!(rt; state == Some(SessionState::Mapped));
-    assert_eq!(rt; before, (1, 0, 1));
-    assert_eq!(rt; answer, "done");
-    assert_eq!(rt; after, (2, 0, 0));
+    assert!(rt; (state, answer) == (Some(SessionState::Mapped), "done"));
+    assert!(rt; [before, after] == [(1, 0, 1), (2, 0, 0)]);
 }
 
 /// Whether the End of session 0 is taken and goes out.
@@ -70,10 +68,8 @@ fn an_end_is_recorded(rt: HostRuntime) {
     let answer = hear(rt.alloc(), &mut engine, FLOW);
     let numbers = numbers_of(&engine, 0);
     drop(engine);
-    assert!(rt; is_full);
-    assert!(rt; is_ended);
+    assert!(rt; is_full && is_ended);
     assert!(rt; state == Some(SessionState::EndSent));
     assert!(rt; reason == Some(SessionStopReason::Ended));
-    assert_eq!(rt; answer, "done");
-    assert_eq!(rt; numbers, (1, 1, 1));
+    assert!(rt; (answer, numbers) == ("done", (1, 1, 1)));
 }

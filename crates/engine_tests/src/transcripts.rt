@@ -56,12 +56,19 @@ fn digits_are_read(rt: HostRuntime) {
 
 #[test]
 fn names_are_those_of_the_innermost_variant(rt: HostRuntime) {
-    assert_eq!(rt; refusal_name(StepError::OutputWaiting), "OutputWaiting");
-    assert_eq!(rt; refusal_name(StepError::NoSession), "NoSession");
-    let frame = StepError::Frame(FrameError::DecodeError);
-    assert_eq!(rt; refusal_name(frame), "DecodeError");
-    let closed = StepError::ConnectionState(ConnectionStateError::RemoteClosed);
-    assert_eq!(rt; refusal_name(closed), "RemoteClosed");
-    let none = StepError::Connection(ConnectionInnerError::NotFound(None));
-    assert_eq!(rt; refusal_name(none), "NotFound");
+    let names = [
+        refusal_name(StepError::OutputWaiting),
+        refusal_name(StepError::NoSession),
+        refusal_name(StepError::Frame(FrameError::DecodeError)),
+        refusal_name(StepError::ConnectionState(ConnectionStateError::RemoteClosed)),
+        refusal_name(StepError::Connection(ConnectionInnerError::NotFound(None))),
+    ];
+    let want = [
+        "OutputWaiting",
+        "NoSession",
+        "DecodeError",
+        "RemoteClosed",
+        "NotFound",
+    ];
+    assert!(rt; names == want);
 }

@@ -17,7 +17,7 @@ use fe2o3_amqp::{
 use std::alloc::{AllocError, Global};
 use std::collections::VecDeque;
 use std::io::{self, BufRead, BufReader, BufWriter, ErrorKind, Write};
-use transport::{exchange_headers, next_frame, run, serve};
+use transport::{exchange_headers, next_frame, push, run, serve};
 
 /// The largest frame that this side takes.
 const MAX_FRAME_SIZE: u32 = 65536;
@@ -36,6 +36,10 @@ impl Said {
             log: Vec::new(alloc),
         }
     }
+
+    fn is_same(&self, other: &Said) -> bool {
+        self.sent == other.sent && self.log == other.log
+    }
 }
 
 fn main(rt: HostRuntime) -> anyhow::Result<()> {
@@ -45,7 +49,12 @@ fn main(rt: HostRuntime) -> anyhow::Result<()> {
     for line in BufReader::new(alloc, rt.reader())?.lines(alloc) {
         take_line(alloc, line?.as_str(), &mut frames, &mut out)?;
     }
-    tell(alloc, &mut frames, &mut out)?;
+    finish(alloc, &mut frames, &mut out)
+}
+
+/// Tells what the last frames gave.
+fn finish<O: Write>(alloc: Global, frames: &mut Vec<Bytes>, out: &mut O) -> anyhow::Result<()> {
+    tell(alloc, frames, out)?;
     out.flush()?;
     Ok(())
 }
@@ -57,17 +66,28 @@ fn take_line<O: Write>(
     out: &mut O,
 ) -> anyhow::Result<()> {
     match line.split_once(' ') {
-        None => frames.push(bytes_of(alloc, line)?)?,
+        None => gather(alloc, line, frames),
         Some(("stream", digits)) => {
             tell(alloc, frames, out)?;
-            let end = ended(alloc, bytes_of(alloc, digits)?.as_slice());
-            writeln!(out, "{end}")?;
+            tell_end(alloc, digits, out)
         }
         Some(_) => {
             tell(alloc, frames, out)?;
-            writeln!(out, "{line}")?;
+            Ok(writeln!(out, "{line}")?)
         }
     }
+}
+
+fn gather(alloc: Global, digits: &str, frames: &mut Vec<Bytes>) -> anyhow::Result<()> {
+    frames.push(bytes_of(alloc, digits)?)?;
+    Ok(())
+}
+
+fn tell_end<O: Write>(alloc: Global, digits: &str, out: &mut O) -> anyhow::Result<()> {
+    let stream = bytes_of(alloc, digits)?;
+    let end = ended(alloc, stream.as_slice());
+    drop(stream);
+    writeln!(out, "{end}")?;
     Ok(())
 }
 
@@ -83,20 +103,34 @@ fn tell<O: Write>(alloc: Global, frames: &mut Vec<Bytes>, out: &mut O) -> anyhow
     if frames.is_empty() {
         return Ok(());
     }
-    let alone = one_by_one(alloc, frames.as_slice())?;
-    writeln!(out, "sent {}", hex::encode(alloc, alone.sent.as_slice())?)?;
-    out.write_all(alone.log.as_slice())?;
     let stream = stream_of(alloc, frames.as_slice())?;
+    let alone = one_by_one(alloc, frames.as_slice())?;
+    tell_alone(alloc, &alone, out)?;
     for size in [1, 7, 4096] {
-        let streamed = streamed(alloc, stream.as_slice(), size)?;
-        let is_same = streamed.sent == alone.sent && streamed.log == alone.log;
-        writeln!(
-            out,
-            "chunks of {size}: {}",
-            if is_same { "the same" } else { "other" }
-        )?;
+        tell_streamed(alloc, stream.as_slice(), size, &alone, out)?;
     }
     frames.clear();
+    Ok(())
+}
+
+fn tell_alone<O: Write>(alloc: Global, alone: &Said, out: &mut O) -> anyhow::Result<()> {
+    let digits = hex::encode(alloc, alone.sent.as_slice())?;
+    writeln!(out, "sent {digits}")?;
+    out.write_all(alone.log.as_slice())?;
+    Ok(())
+}
+
+/// Writes whether an engine says the same to the stream in chunks of a size.
+fn tell_streamed<O: Write>(
+    alloc: Global,
+    stream: &[u8],
+    size: usize,
+    alone: &Said,
+    out: &mut O,
+) -> anyhow::Result<()> {
+    let is_same = streamed(alloc, stream, size)?.is_same(alone);
+    let word = if is_same { "the same" } else { "other" };
+    writeln!(out, "chunks of {size}: {word}")?;
     Ok(())
 }
 
@@ -118,59 +152,76 @@ fn engine(alloc: Global) -> Result<Engine<ReplayRelay>, AllocError> {
 }
 
 /// The first inputs: an Open, and a Begin, which goes out at once.
-fn requests(alloc: Global) -> Result<VecDeque<Input<ReplayRelay>>, AllocError> {
-    let mut inputs = VecDeque::new(alloc);
-    inputs.push_back(Input::Open)?;
-    inputs.push_back(Input::Begin(SessionNo(0), SessionSettings::default()))?;
-    Ok(inputs)
+fn push_requests(inputs: &mut VecDeque<Input<ReplayRelay>>) -> Result<(), AllocError> {
+    if push(inputs, Input::Open) && push(inputs, begin()) {
+        Ok(())
+    } else {
+        Err(AllocError)
+    }
+}
+
+fn begin() -> Input<ReplayRelay> {
+    Input::Begin(SessionNo(0), SessionSettings::default())
 }
 
 /// An engine that takes the frames one by one.
 fn one_by_one(alloc: Global, frames: &[Bytes]) -> anyhow::Result<Said> {
-    let mut said = Said::nothing(alloc);
     let mut engine = engine(alloc)?;
-    let outcome = take_each(alloc, &mut engine, frames, &mut said);
+    let mut inputs = VecDeque::new(alloc);
+    let mut said = Said::nothing(alloc);
+    let outcome = take_each(alloc, &mut engine, &mut inputs, frames, &mut said);
+    drop(inputs);
     drop(engine);
-    outcome?;
-    Ok(said)
+    match outcome {
+        Ok(()) => Ok(said),
+        Err(error) => Err(error),
+    }
 }
 
 fn take_each(
     alloc: Global,
     engine: &mut Engine<ReplayRelay>,
+    inputs: &mut VecDeque<Input<ReplayRelay>>,
     frames: &[Bytes],
     said: &mut Said,
 ) -> anyhow::Result<()> {
-    let mut inputs = requests(alloc)?;
-    run(alloc, engine, &mut inputs, &mut said.sent, &mut said.log)?;
+    push_requests(inputs)?;
+    run(alloc, engine, inputs, &mut said.sent, &mut said.log)?;
     for frame in frames.iter() {
-        inputs.push_back(Input::Received(frame.clone()?))?;
-        run(alloc, engine, &mut inputs, &mut said.sent, &mut said.log)?;
+        if !push(inputs, Input::Received(frame.clone()?)) {
+            return Err(AllocError.into());
+        }
+        run(alloc, engine, inputs, &mut said.sent, &mut said.log)?;
     }
     Ok(())
 }
 
 /// An engine that takes the stream in chunks of a size.
 fn streamed(alloc: Global, stream: &[u8], size: usize) -> anyhow::Result<Said> {
-    let mut said = Said::nothing(alloc);
     let mut engine = engine(alloc)?;
-    let outcome = take_stream(alloc, &mut engine, Chunks::new(stream, size), &mut said);
+    let mut inputs = VecDeque::new(alloc);
+    let mut said = Said::nothing(alloc);
+    let mut chunks = Chunks::new(stream, size);
+    let outcome = take_stream(alloc, &mut engine, &mut inputs, &mut chunks, &mut said);
+    drop(inputs);
     drop(engine);
-    outcome?;
-    Ok(said)
+    match outcome {
+        Ok(()) => Ok(said),
+        Err(error) => Err(error),
+    }
 }
 
 fn take_stream(
     alloc: Global,
     engine: &mut Engine<ReplayRelay>,
-    stream: Chunks<'_>,
+    inputs: &mut VecDeque<Input<ReplayRelay>>,
+    stream: &mut Chunks<'_>,
     said: &mut Said,
 ) -> anyhow::Result<()> {
-    let mut input = stream;
-    exchange_headers(&mut input, &mut io::sink())?;
-    let mut inputs = requests(alloc)?;
-    run(alloc, engine, &mut inputs, &mut said.sent, &mut said.log)?;
-    serve(alloc, engine, &mut input, &mut said.sent, &mut said.log)?;
+    exchange_headers(stream, &mut io::sink())?;
+    push_requests(inputs)?;
+    run(alloc, engine, inputs, &mut said.sent, &mut said.log)?;
+    serve(alloc, engine, stream, &mut said.sent, &mut said.log)?;
     Ok(())
 }
 

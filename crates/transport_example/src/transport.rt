@@ -108,16 +108,35 @@ pub fn serve<R: LinkRelay, I: BufRead, O: Write, L: Write>(
     output: &mut O,
     log: &mut L,
 ) -> io::Result<()> {
-    let max_frame_size = engine.connection().local_open().max_frame_size;
     let mut inputs = VecDeque::new(alloc);
+    let outcome = serve_each(alloc, engine, &mut inputs, input, output, log);
+    drop(inputs);
+    outcome
+}
+
+/// The same, by a queue of inputs in which no more than one waits.
+fn serve_each<R: LinkRelay, I: BufRead, O: Write, L: Write>(
+    alloc: Global,
+    engine: &mut Engine<R>,
+    inputs: &mut VecDeque<Input<R>>,
+    input: &mut I,
+    output: &mut O,
+    log: &mut L,
+) -> io::Result<()> {
+    let max_frame_size = engine.connection().local_open().max_frame_size;
     for _ in 0..u64::MAX {
         let Some(frame) = next_frame(alloc, input, max_frame_size)? else {
             return Ok(());
         };
-        let Ok(()) = inputs.push_back(Input::Received(frame)) else {
+        if !push(inputs, Input::Received(frame)) {
             return Err(io::Error::from(ErrorKind::OutOfMemory));
-        };
-        run(alloc, engine, &mut inputs, output, log)?;
+        }
+        run(alloc, engine, inputs, output, log)?;
     }
     Ok(())
+}
+
+/// Puts an input, or whatever it is, behind the others, if memory is there.
+pub fn push<T: Drop>(items: &mut VecDeque<T>, item: T) -> bool {
+    items.push_back(item).is_ok()
 }
