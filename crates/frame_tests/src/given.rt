@@ -55,7 +55,10 @@ pub(crate) fn pieces(
         performative,
         payload,
     };
-    FrameEncoder::new(limit).encode(alloc, &Frame::new(0, body))
+    let frame = Frame::new(0, body);
+    let pieces = FrameEncoder::new(limit).encode(alloc, &frame);
+    drop(frame);
+    pieces
 }
 
 /// As many bytes as are asked for; each differs from the one before.
@@ -74,19 +77,39 @@ pub(crate) fn is_said(
     header: [u8; 4],
     body: &[u8],
 ) -> Result<bool, Fail> {
+    let answer = is_one_piece(alloc, &frame, header, body);
+    drop(frame);
+    answer
+}
+
+fn is_one_piece(alloc: Global, frame: &Frame, header: [u8; 4], body: &[u8]) -> Result<bool, Fail> {
     let mut want = BytesMut::new(alloc);
     want.extend_from_slice(&header)?;
     want.extend_from_slice(body)?;
-    let pieces = FrameEncoder::new(4096).encode(alloc, &frame)?;
+    let pieces = FrameEncoder::new(4096).encode(alloc, frame)?;
     for piece in &pieces {
-        let bytes = piece.to_bytes(alloc)?;
-        if bytes.as_slice() != want.as_slice() {
-            return Ok(false);
-        }
-        let (read, rest) = FrameDecoder::new().decode(alloc, bytes)?;
-        if read != frame || !rest.is_empty() {
+        if !is_piece_of(alloc, piece, want.as_slice(), frame)? {
             return Ok(false);
         }
     }
     Ok(pieces.len() == 1)
+}
+
+fn is_piece_of(alloc: Global, piece: &Piece, want: &[u8], frame: &Frame) -> Result<bool, Fail> {
+    let bytes = piece.to_bytes(alloc)?;
+    if bytes.as_slice() != want {
+        return Ok(false);
+    }
+    Ok(is_read_as(alloc, bytes, frame))
+}
+
+/// Whether the bytes are read as this frame, and nothing is behind it.
+pub(crate) fn is_read_as(alloc: Global, bytes: Bytes, want: &Frame) -> bool {
+    let decoded = FrameDecoder::new().decode(alloc, bytes);
+    let answer = match &decoded {
+        Ok((frame, rest)) => *frame == *want && rest.is_empty(),
+        Err(_) => false,
+    };
+    drop(decoded);
+    answer
 }

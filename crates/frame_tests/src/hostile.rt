@@ -76,7 +76,7 @@ enum Answer {
     Other,
 }
 
-fn refused(error: Error) -> Answer {
+fn refused(error: &Error) -> Answer {
     match error {
         Error::DecodeError => Answer::Malformed,
         Error::NotImplemented => Answer::NotImplemented,
@@ -85,7 +85,7 @@ fn refused(error: Error) -> Answer {
     }
 }
 
-fn said(body: FrameBody, rest: usize) -> Answer {
+fn said(body: &FrameBody, rest: usize) -> Answer {
     match body {
         FrameBody::Empty => Answer::Empty,
         FrameBody::Transfer {
@@ -97,10 +97,13 @@ fn said(body: FrameBody, rest: usize) -> Answer {
 }
 
 fn decoded(alloc: Global, bytes: Bytes) -> Answer {
-    match FrameDecoder::new().decode(alloc, bytes) {
-        Ok((frame, rest)) => said(frame.into_body(), rest.len()),
+    let decoded = FrameDecoder::new().decode(alloc, bytes);
+    let answer = match &decoded {
+        Ok((frame, rest)) => said(frame.body(), rest.len()),
         Err(error) => refused(error),
-    }
+    };
+    drop(decoded);
+    answer
 }
 
 fn answered(alloc: Global, text: &[u8]) -> Result<Answer, Fail> {

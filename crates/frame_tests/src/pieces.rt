@@ -1,8 +1,12 @@
 //! How transfers are cut, piece by piece.
 
+ghost use Rattle.std.specs.Prelude.{◌≤◌};
+
 use crate::given::{continuation, delivery, payload, pieces};
 use amqp_frames::{Error, FrameEncoder, Piece};
+use amqp_types::Transfer;
 use bytes::Bytes;
+use std::alloc::Global;
 use std::test::Fail;
 
 const ALONE: [u8; 16] = [
@@ -41,55 +45,104 @@ fn are(pieces: &Vec<Piece>, want: &[(&[u8], usize)]) -> bool {
     pieces.len() == want.len()
 }
 
+/// Whether the pieces are as long as that.
+fn have_lens(pieces: &Vec<Piece>, want: &[usize]) -> bool {
+    for (piece, want) in pieces.iter().zip(want) {
+        if piece.len() != *want {
+            return false;
+        }
+    }
+    pieces.len() == want.len()
+}
+
+/// Whether a transfer is cut into pieces of these texts and lengths.
+fn is_cut(
+    alloc: Global,
+    limit: u32,
+    payload: Bytes,
+    transfer: Transfer,
+    want: (&[(&[u8], usize)], &[usize]),
+) -> bool
+    requires { 4 ≤ limit }
+{
+    let pieces = pieces(alloc, limit, transfer, payload);
+    let answer = match &pieces {
+        Ok(pieces) => are(pieces, want.0) && have_lens(pieces, want.1),
+        Err(_) => false,
+    };
+    drop(pieces);
+    answer
+}
+
 #[test]
 fn a_transfer_is_whole_or_cut(rt: HostRuntime) -> Result<(), Fail> {
     let alloc = rt.alloc();
-    let whole = pieces(alloc, 24, delivery(0), payload(alloc, 4)?)?;
-    assert!(rt; are(&whole, &[(&ALONE, 4)]));
-    let four = pieces(alloc, 24, delivery(0), payload(alloc, 25)?)?;
+    let whole: &[(&[u8], usize)] = &[(&ALONE, 4)];
+    assert!(rt; is_cut(alloc, 24, payload(alloc, 4)?, delivery(0), (whole, &[24])));
+    let four: &[(&[u8], usize)] = &[(&FIRST, 3), (&MIDDLE, 8), (&MIDDLE, 8), (&LAST, 6)];
+    let lens = &[24, 24, 24, 17];
+    assert!(rt; is_cut(alloc, 24, payload(alloc, 25)?, delivery(0), (four, lens)));
+    let three: &[(&[u8], usize)] = &[(&FIRST, 3), (&MIDDLE, 8), (&LAST, 8)];
     assert!(rt;
-        are(
-            &four,
-            &[(&FIRST, 3), (&MIDDLE, 8), (&MIDDLE, 8), (&LAST, 6)]
+        is_cut(
+            alloc,
+            24,
+            payload(alloc, 19)?,
+            delivery(0),
+            (three, &[24, 24, 19])
         )
     );
-    let three = pieces(alloc, 24, delivery(0), payload(alloc, 19)?)?;
-    assert!(rt; are(&three, &[(&FIRST, 3), (&MIDDLE, 8), (&LAST, 8)]));
-    let lens = three.iter().map(|piece| piece.len());
-    for (len, want) in lens.zip([24usize, 24, 19]) {
-        assert_eq!(rt; len, want);
-    }
-    let bare = pieces(alloc, 21, delivery(0), payload(alloc, 2)?)?;
-    assert!(rt; are(&bare, &[(&FIRST, 0), (&LAST, 2)]));
-    for (len, want) in bare.iter().map(|piece| piece.len()).zip([21usize, 13]) {
-        assert_eq!(rt; len, want);
-    }
+    let bare: &[(&[u8], usize)] = &[(&FIRST, 0), (&LAST, 2)];
+    assert!(rt;
+        is_cut(
+            alloc,
+            21,
+            payload(alloc, 2)?,
+            delivery(0),
+            (bare, &[21, 13])
+        )
+    );
     Ok(())
+}
+
+/// Whether a transfer does not fit the limit, whole or cut.
+fn is_too_large(alloc: Global, limit: u32, payload: Bytes, transfer: Transfer) -> bool
+    requires { 4 ≤ limit }
+{
+    let pieces = pieces(alloc, limit, transfer, payload);
+    let answer = matches!(&pieces, Err(Error::TooLarge));
+    drop(pieces);
+    answer
 }
 
 #[test]
 fn a_cut_that_does_not_fit_is_refused(rt: HostRuntime) -> Result<(), Fail> {
     let alloc = rt.alloc();
-    let fits = pieces(alloc, 16, continuation(true), Bytes::new())?;
-    assert!(rt; are(&fits, &[(&MIDDLE, 0)]));
-    let over = pieces(alloc, 16, continuation(true), payload(alloc, 1)?);
-    assert!(rt; matches!(over, Err(Error::TooLarge)));
-    let fits = pieces(alloc, 20, delivery(0), Bytes::new())?;
-    assert!(rt; are(&fits, &[(&ALONE, 0)]));
-    let over = pieces(alloc, 20, delivery(0), payload(alloc, 1)?);
-    assert!(rt; matches!(over, Err(Error::TooLarge)));
+    let middle: &[(&[u8], usize)] = &[(&MIDDLE, 0)];
+    assert!(rt; is_cut(alloc, 16, Bytes::new(), continuation(true), (middle, &[16])));
+    assert!(rt; is_too_large(alloc, 16, payload(alloc, 1)?, continuation(true)));
+    let whole: &[(&[u8], usize)] = &[(&ALONE, 0)];
+    assert!(rt; is_cut(alloc, 20, Bytes::new(), delivery(0), (whole, &[20])));
+    assert!(rt; is_too_large(alloc, 20, payload(alloc, 1)?, delivery(0)));
     Ok(())
+}
+
+/// The room beside the transfer of that delivery.
+fn room(limit: u32, number: u32) -> Option<u32>
+    requires { 4 ≤ limit }
+{
+    let transfer = delivery(number);
+    let room = FrameEncoder::new(limit).payload_room(&transfer);
+    drop(transfer);
+    room
 }
 
 #[test]
 fn the_room_beside_a_transfer(rt: HostRuntime) {
-    assert_eq!(rt; FrameEncoder::new(24).payload_room(&delivery(0)), Some(4));
-    assert_eq!(rt; FrameEncoder::new(20).payload_room(&delivery(0)), Some(0));
-    assert_eq!(rt; FrameEncoder::new(19).payload_room(&delivery(0)), None);
-    assert_eq!(rt;
-        FrameEncoder::new(24).payload_room(&delivery(4294967295)),
-        Some(0)
-    );
+    assert_eq!(rt; room(24, 0), Some(4));
+    assert_eq!(rt; room(20, 0), Some(0));
+    assert_eq!(rt; room(19, 0), None);
+    assert_eq!(rt; room(24, 4294967295), Some(0));
 }
 
 #[test]
@@ -102,7 +155,8 @@ fn a_copy_of_an_encoder_has_its_limit(rt: HostRuntime) -> Result<(), Fail> {
 #[test]
 fn a_piece_as_one_run_of_bytes(rt: HostRuntime) -> Result<(), Fail> {
     let alloc = rt.alloc();
-    let pieces = pieces(alloc, 24, continuation(false), payload(alloc, 2)?)?;
+    let payload = payload(alloc, 2)?;
+    let pieces = pieces(alloc, 24, continuation(false), payload)?;
     for piece in &pieces {
         assert_eq!(rt; piece.len(), 13);
         let bytes = piece.to_bytes(alloc)?;

@@ -9,10 +9,6 @@ use bytes::BytesMut;
 use std::alloc::Global;
 use std::test::Fail;
 
-fn said(transfer: Transfer) -> Performative {
-    Performative::Transfer(transfer)
-}
-
 /// The heads of a delivery that is whole, and of its pieces.
 #[derive(Drop)]
 struct Texts {
@@ -29,10 +25,10 @@ fn begun() -> Transfer {
 }
 
 fn write_texts(alloc: Global) -> Result<Texts, Fail> {
-    let whole = head(alloc, &said(delivery(0)))?;
-    let first = head(alloc, &said(begun()))?;
-    let middle = head(alloc, &said(continuation(true)))?;
-    let last = head(alloc, &said(continuation(false)))?;
+    let whole = head(alloc, delivery(0))?;
+    let first = head(alloc, begun())?;
+    let middle = head(alloc, continuation(true))?;
+    let last = head(alloc, continuation(false))?;
     Ok(Texts {
         whole,
         first,
@@ -41,8 +37,15 @@ fn write_texts(alloc: Global) -> Result<Texts, Fail> {
     })
 }
 
-/// The header of channel 0, and the performative's text.
-fn head(alloc: Global, performative: &Performative) -> Result<Vec<u8>, Fail> {
+/// The header of channel 0, and the transfer's text.
+fn head(alloc: Global, transfer: Transfer) -> Result<Vec<u8>, Fail> {
+    let performative = Performative::Transfer(transfer);
+    let head = head_of(alloc, &performative);
+    drop(performative);
+    head
+}
+
+fn head_of(alloc: Global, performative: &Performative) -> Result<Vec<u8>, Fail> {
     let mut out = BytesMut::new(alloc);
     out.extend_from_slice(&[2, 0, 0, 0])?;
     performative.write(&mut out, 1000)?;
@@ -106,12 +109,23 @@ fn agree(alloc: Global, limit: u32, texts: &Texts, len: u8) -> Result<bool, Fail
 {
     let payload = payload(alloc, len)?;
     let want = plain(alloc, limit as usize, texts, payload.as_slice())?;
-    match pieces(alloc, limit, delivery(0), payload) {
-        Ok(pieces) => match want {
-            Some(want) => are(alloc, &pieces, &want),
-            None => Ok(false),
-        },
-        Err(error) => Ok(want.is_none() && error == Error::TooLarge),
+    let cut = pieces(alloc, limit, delivery(0), payload);
+    let answer = match &cut {
+        Ok(pieces) => are_wanted(alloc, pieces, &want),
+        Err(error) => Ok(want.is_none() && matches!(error, Error::TooLarge)),
+    };
+    drop(cut);
+    answer
+}
+
+fn are_wanted(
+    alloc: Global,
+    pieces: &Vec<Piece>,
+    want: &Option<Vec<Vec<u8>>>,
+) -> Result<bool, Fail> {
+    match want {
+        Some(want) => are(alloc, pieces, want),
+        None => Ok(false),
     }
 }
 

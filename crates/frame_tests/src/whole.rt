@@ -1,6 +1,6 @@
 //! Frames that are whole: their bytes, and what is read from bytes.
 
-use crate::given::{delivery, is_said};
+use crate::given::{delivery, is_read_as, is_said};
 use amqp_frames::{Error, Frame, FrameBody, FrameDecoder};
 use amqp_types::{Begin, Close, Detach, Error as Reason, Handle, Open, ReadError, Symbol};
 use bytes::Bytes;
@@ -90,67 +90,118 @@ fn decode(rt: &HostRuntime, bytes: &'static [u8]) -> Result<(Frame, Bytes), Erro
     FrameDecoder::new().decode(rt.alloc(), Bytes::from_static(bytes))
 }
 
+/// Whether the bytes are read as this frame, and nothing is behind it.
+fn is_read(rt: &HostRuntime, bytes: &'static [u8], want: Frame) -> bool {
+    let answer = is_read_as(rt.alloc(), Bytes::from_static(bytes), &want);
+    drop(want);
+    answer
+}
+
 #[test]
 fn other_spellings_are_read(rt: HostRuntime) -> Result<(), Fail> {
-    let (frame, rest) = decode(
-        &rt,
-        &[
-            2, 0, 0, 0, 0x00, 0x53, 0x10, 0xd0, 0, 0, 0, 0x13, 0, 0, 0, 4, 0xb1, 0, 0, 0, 1, 0x61,
-            0x40, 0x70, 0, 4, 0, 0, 0x60, 0, 0xff,
-        ],
-    )?;
-    let want = Frame::new(0, FrameBody::Open(open(rt.alloc())?));
-    assert_eq!(rt; frame, want);
-    assert!(rt; rest.is_empty());
-    let (frame, rest) = decode(
-        &rt,
-        b"\x02\x00\x00\x00\x00\xa3\x0famqp:close:list\x45".as_slice(),
-    )?;
-    assert_eq!(rt;
-        frame,
-        Frame::new(0, FrameBody::Close(Close { error: None }))
-    );
-    assert!(rt; rest.is_empty());
+    let open = FrameBody::Open(open(rt.alloc())?);
+    let text = &[
+        2, 0, 0, 0, 0x00, 0x53, 0x10, 0xd0, 0, 0, 0, 0x13, 0, 0, 0, 4, 0xb1, 0, 0, 0, 1, 0x61,
+        0x40, 0x70, 0, 4, 0, 0, 0x60, 0, 0xff,
+    ];
+    assert!(rt; is_read(&rt, text, Frame::new(0, open)));
+    let close = FrameBody::Close(Close { error: None });
+    let text = b"\x02\x00\x00\x00\x00\xa3\x0famqp:close:list\x45".as_slice();
+    assert!(rt; is_read(&rt, text, Frame::new(0, close)));
     Ok(())
+}
+
+/// Whether there is a frame of this channel and this body, with these bytes behind it.
+fn has(
+    read: &Result<(Frame, Bytes), Error>,
+    channel: u16,
+    body: &FrameBody,
+    behind: &[u8],
+) -> [bool; 3] {
+    match read {
+        Ok((frame, rest)) => [
+            frame.channel() == channel,
+            *frame.body() == *body,
+            rest.as_slice() == behind,
+        ],
+        Err(_) => [false; 3],
+    }
+}
+
+/// A Close on channel 7, with three bytes behind it.
+const CLOSE: &'static [u8] = &[2, 0, 0, 7, 0x00, 0x53, 0x18, 0x45, 1, 2, 3];
+
+fn is_close_on_channel_7(rt: &HostRuntime) -> [bool; 3] {
+    let want = FrameBody::Close(Close { error: None });
+    let read = decode(rt, CLOSE);
+    let has = has(&read, 7, &want, &[1, 2, 3]);
+    drop(read);
+    drop(want);
+    has
+}
+
+fn close_body(rt: &HostRuntime) -> Result<FrameBody, Error> {
+    let (frame, _rest) = decode(rt, CLOSE)?;
+    Ok(frame.into_body())
+}
+
+fn is_close_body(rt: &HostRuntime) -> bool {
+    let body = close_body(rt);
+    let is_close = matches!(&body, Ok(FrameBody::Close(Close { error: None })));
+    drop(body);
+    is_close
+}
+
+fn is_transfer_with_a_payload(alloc: Global, bytes: Bytes) -> [bool; 3] {
+    let want = FrameBody::Transfer {
+        performative: delivery(0),
+        payload: Bytes::from_static(&[9, 8, 7]),
+    };
+    let read = FrameDecoder::new().decode(alloc, bytes);
+    let has = has(&read, 0, &want, &[]);
+    drop(read);
+    drop(want);
+    has
 }
 
 #[test]
 fn what_is_behind_a_performative(rt: HostRuntime) -> Result<(), Fail> {
-    let (frame, rest) = decode(&rt, &[2, 0, 0, 7, 0x00, 0x53, 0x18, 0x45, 1, 2, 3])?;
-    assert_eq!(rt; frame.channel(), 7);
-    assert_eq!(rt; frame.into_body(), FrameBody::Close(Close { error: None }));
-    assert_eq!(rt; rest.as_slice(), [1u8, 2, 3].as_slice());
+    assert!(rt; is_close_on_channel_7(&rt) == [true; 3]);
+    assert!(rt; is_close_body(&rt));
     let transfer = [
         2u8, 0, 0, 0, 0x00, 0x53, 0x14, 0xc0, 0x0b, 0x05, 0x43, 0x43, 0xa0, 0x04, 0, 0, 0, 1, 0x43,
         0x42, 9, 8, 7,
     ];
     let bytes = Bytes::copy_from_slice(rt.alloc(), &transfer)?;
-    let (frame, rest) = FrameDecoder::new().decode(rt.alloc(), bytes)?;
-    let want = FrameBody::Transfer {
-        performative: delivery(0),
-        payload: Bytes::from_static(&[9, 8, 7]),
-    };
-    assert!(rt; *frame.body() == want);
-    assert!(rt; rest.is_empty());
+    assert!(rt; is_transfer_with_a_payload(rt.alloc(), bytes) == [true; 3]);
     Ok(())
+}
+
+/// Whether the bytes are refused by this error.
+fn is_refused(rt: &HostRuntime, bytes: &'static [u8], want: &Error) -> bool {
+    let decoded = decode(rt, bytes);
+    let answer = match &decoded {
+        Ok(_) => false,
+        Err(error) => *error == *want,
+    };
+    drop(decoded);
+    answer
 }
 
 #[test]
 fn bytes_that_are_no_frame(rt: HostRuntime) {
-    let rows: [(&'static [u8], Error); 7] = [
-        (&[2, 1, 0, 0], Error::NotImplemented),
-        (&[3, 0, 0, 0, 0, 0, 0, 0], Error::NotImplemented),
-        (&[3, 1, 0, 0], Error::NotImplemented),
-        (&[2, 0, 0], Error::DecodeError),
-        (&[], Error::DecodeError),
-        (&[2, 0, 0, 0, 0x00, 0x53, 0x10, 0x45], Error::DecodeError),
-        (&[2, 0, 0, 0, 0x00], Error::DecodeError),
+    let others: [&'static [u8]; 3] = [&[2, 1, 0, 0], &[3, 0, 0, 0, 0, 0, 0, 0], &[3, 1, 0, 0]];
+    for bytes in others {
+        assert!(rt; is_refused(&rt, bytes, &Error::NotImplemented), "{bytes:?}");
+    }
+    let malformed: [&'static [u8]; 4] = [
+        &[2, 0, 0],
+        &[],
+        &[2, 0, 0, 0, 0x00, 0x53, 0x10, 0x45],
+        &[2, 0, 0, 0, 0x00],
     ];
-    for (bytes, want) in rows {
-        match decode(&rt, bytes) {
-            Ok(_) => assert!(rt; false, "{bytes:?}"),
-            Err(error) => assert_eq!(rt; error, want, "{bytes:?}"),
-        }
+    for bytes in malformed {
+        assert!(rt; is_refused(&rt, bytes, &Error::DecodeError), "{bytes:?}");
     }
 }
 
@@ -161,28 +212,53 @@ fn errors_of_reading_and_of_memory(rt: HostRuntime) {
     assert_eq!(rt; Error::from(AllocError), Error::OutOfMemory);
 }
 
-#[test]
-fn how_frames_and_errors_are_shown(rt: HostRuntime) -> Result<(), Fail> {
-    let alloc = rt.alloc();
+fn shown_transfer(alloc: Global) -> Result<String, Fail> {
+    let transfer = delivery(0);
+    let shown = format!(in alloc; "{transfer:?}");
+    drop(transfer);
+    Ok(shown?)
+}
+
+fn shown_body(alloc: Global) -> Result<String, Fail> {
     let body = FrameBody::Transfer {
         performative: delivery(0),
         payload: Bytes::from_static(&[1, 2, 3]),
     };
-    let shown = format!(in alloc; "{body:?}")?;
-    let performative = format!(in alloc; "{:?}", delivery(0))?;
+    let shown = format!(in alloc; "{body:?}");
+    drop(body);
+    Ok(shown?)
+}
+
+fn shown_frame(alloc: Global) -> Result<String, Fail> {
+    let frame = Frame::empty();
+    let shown = format!(in alloc; "{frame:?}");
+    drop(frame);
+    Ok(shown?)
+}
+
+#[test]
+fn how_frames_are_shown(rt: HostRuntime) -> Result<(), Fail> {
+    let alloc = rt.alloc();
+    let performative = shown_transfer(alloc)?;
     let want = format!(in alloc; "Transfer {{ performative: {performative}, payload.len: 3 }}")?;
-    assert_eq!(rt; shown, want);
-    let empty = format!(in alloc; "{:?}", Frame::empty())?;
-    assert_eq!(rt; empty.as_str(), "Frame { channel: 0, body: Empty }");
-    let rows = [
-        (Error::DecodeError, "Decode Error"),
-        (Error::NotImplemented, "AmqpError: NotImplemented"),
-        (Error::TooLarge, "too large"),
-        (Error::OutOfMemory, "out of memory"),
-    ];
-    for (error, want) in rows {
-        let shown = format!(in alloc; "{error}")?;
-        assert_eq!(rt; shown.as_str(), want);
-    }
+    assert_eq!(rt; shown_body(alloc)?, want);
+    assert_eq!(rt;
+        shown_frame(alloc)?.as_str(),
+        "Frame { channel: 0, body: Empty }"
+    );
+    Ok(())
+}
+
+fn is_shown_as(alloc: Global, error: &Error, want: &str) -> Result<bool, Fail> {
+    Ok(format!(in alloc; "{error}")?.as_str() == want)
+}
+
+#[test]
+fn how_errors_are_shown(rt: HostRuntime) -> Result<(), Fail> {
+    let alloc = rt.alloc();
+    assert!(rt; is_shown_as(alloc, &Error::DecodeError, "Decode Error")?);
+    assert!(rt; is_shown_as(alloc, &Error::NotImplemented, "AmqpError: NotImplemented")?);
+    assert!(rt; is_shown_as(alloc, &Error::TooLarge, "too large")?);
+    assert!(rt; is_shown_as(alloc, &Error::OutOfMemory, "out of memory")?);
     Ok(())
 }
