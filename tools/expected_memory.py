@@ -141,7 +141,7 @@ def refuses(rows):
 
 
 def wishes(rows):
-    """Wishes for two Ends and a Close, each with an error; the Ends go out by rising number, in one run. The peer ends one session, and
+    """Wishes for two Ends and a Close, two of them with an error; the Ends go out by rising number, in one run. The peer ends one session, and
     closes, with an error."""
     rows.row("Wishes of handles")
     rows.ask("wished open", OUR_OPEN)
@@ -149,17 +149,17 @@ def wishes(rows):
     for number, peers in ((0, 5), (1, 6)):
         rows.ask(f"wished begin {number}", out(begin(), number))
         rows.ask("wished " + recv(begin(number, 0, 8, 8), peers))
-    rows.ask("wished end 1 amqp:not-found", "noted")
+    rows.ask("wished end 1", "noted")
     rows.ask("wished end 0 amqp:not-allowed", "noted")
-    rows.ask("wished run", out(end("amqp:not-allowed")), out(end("amqp:not-found"), 1))
+    rows.ask("wished run", out(end("amqp:not-allowed")), out(end(), 1))
     rows.ask("wished " + recv(end("amqp:resource-deleted"), 5), "err RemoteEndedWithError")
     rows.ask("wished " + recv(end(), 6))
-    rows.ask("wished ended 0", "ended with amqp:resource-deleted")
-    rows.ask("wished ended 1", "ended")
+    rows.ask("wished ended 0", "is ended with amqp:resource-deleted")
+    rows.ask("wished ended 1", "is ended")
     rows.ask("wished close amqp:internal-error", "noted")
     rows.ask("wished run", out(closing("amqp:internal-error")))
     rows.ask("wished " + recv(closing("amqp:connection:forced")), "err RemoteClosedWithError")
-    rows.ask("wished closed", "closed with amqp:connection:forced")
+    rows.ask("wished closed", "is closed with amqp:connection:forced")
 
 
 def codec(rows):

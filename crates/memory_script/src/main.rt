@@ -14,7 +14,7 @@
 //! | `free getters N`, `free values`, `free session`, `free connection` | calls that take none, while every request is refused |
 //! | `call NAME HEX` | a call of the codec: `read`, `write`, `decode`, `encode`, `bytes` |
 //! | `wished LINE` | the input of that line, for an engine whose handles are used; of none (`wished run`), where wishes alone are to be heard |
-//! | `wished end N CONDITION`, `wished close CONDITION` | a wish of a handle, noted while every request is refused |
+//! | `wished end N`, `wished end N CONDITION`, `wished close CONDITION` | a wish of a handle, noted while every request is refused |
 //! | `wished ended N`, `wished closed` | what became of it, told while every request is refused |
 //! | `replays` | `replay` of a transcript, with a reader and a writer that fail at each call in turn |
 //! | `show N` | the numbers of a session that received transfers move |

@@ -14,7 +14,7 @@ pub type WishedEngine = HandledEngine<ReplayRelay>;
 /// Does what a line says.
 pub fn called(rt: &HostRuntime, engine: &mut WishedEngine, text: &str) -> anyhow::Result<()> {
     match reading::word(text) {
-        ("end", rest) => noted(rt, engine, rest),
+        ("end", rest) => end(rt, engine, rest),
         ("ended", number) => ended(rt, engine, number),
         ("close", condition) => close(rt, engine, condition),
         ("closed", _) => closed(rt, engine),
@@ -31,10 +31,25 @@ fn handle(engine: &WishedEngine, number: &str) -> anyhow::Result<SessionHandle> 
     }
 }
 
-/// Notes a wish for an End with an error of this condition.
-fn noted(rt: &HostRuntime, engine: &mut WishedEngine, text: &str) -> anyhow::Result<()> {
+/// Notes a wish for an End, with an error where a condition is named.
+fn end(rt: &HostRuntime, engine: &mut WishedEngine, text: &str) -> anyhow::Result<()> {
     let (number, condition) = reading::word(text);
     let handle = handle(engine, number)?;
+    if condition.is_empty() {
+        mark(rt, "@refuse\n");
+        let is_noted = handle.end(engine).is_ok();
+        mark(rt, "@grant\n");
+        return told(rt, is_noted);
+    }
+    end_with_error(rt, engine, &handle, condition)
+}
+
+fn end_with_error(
+    rt: &HostRuntime,
+    engine: &mut WishedEngine,
+    handle: &SessionHandle,
+    condition: &str,
+) -> anyhow::Result<()> {
     let error = error_of(rt, condition)?;
     mark(rt, "@refuse\n");
     let is_noted = handle.end_with_error(error, engine).is_ok();
@@ -80,12 +95,14 @@ fn error(alloc: Global, condition: &str) -> Result<Option<Error>, AllocError> {
     }))
 }
 
-/// Prints how the session of this number ended.
+/// Prints whether the session of this number ended, and how.
 fn ended(rt: &HostRuntime, engine: &mut WishedEngine, number: &str) -> anyhow::Result<()> {
     let mut handle = handle(engine, number)?;
     mark(rt, "@refuse\n");
+    let is_ended = handle.is_ended(engine);
     let outcome = handle.try_end(engine);
     mark(rt, "@grant\n");
+    is_or_is_not(rt, is_ended)?;
     match &outcome {
         Ok(Ok(())) => print(rt, "ended"),
         Ok(Err(SessionError::RemoteEndedWithError(error))) => with_error(rt, "ended", error),
@@ -94,18 +111,24 @@ fn ended(rt: &HostRuntime, engine: &mut WishedEngine, number: &str) -> anyhow::R
     }
 }
 
-/// Prints how the connection was closed.
+/// Prints whether the connection was closed, and how.
 fn closed(rt: &HostRuntime, engine: &mut WishedEngine) -> anyhow::Result<()> {
     let mut handle = engine.connection_handle();
     mark(rt, "@refuse\n");
+    let is_closed = handle.is_closed(engine);
     let outcome = handle.try_close(engine);
     mark(rt, "@grant\n");
+    is_or_is_not(rt, is_closed)?;
     match &outcome {
         Ok(Ok(())) => print(rt, "closed"),
         Ok(Err(ConnectionError::RemoteClosedWithError(error))) => with_error(rt, "closed", error),
         Ok(Err(_)) => print(rt, "closed otherwise"),
         Err(_) => print(rt, "not closed"),
     }
+}
+
+fn is_or_is_not(rt: &HostRuntime, is: bool) -> anyhow::Result<()> {
+    say(rt, if is { "is " } else { "is not " })
 }
 
 fn with_error(rt: &HostRuntime, word: &str, error: &Error) -> anyhow::Result<()> {
