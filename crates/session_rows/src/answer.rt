@@ -46,7 +46,9 @@ fn digits(alloc: Global, performative: &Performative) -> anyhow::Result<String> 
 
 /// The digits of a performative's text, and no performative any more.
 fn spent(alloc: Global, performative: Performative) -> anyhow::Result<String> {
-    digits(alloc, &performative)
+    let text = digits(alloc, &performative);
+    drop(performative);
+    text
 }
 
 /// The line of a frame.

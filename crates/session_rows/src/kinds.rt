@@ -15,35 +15,50 @@ fn alone(alloc: Global, digits: &str) -> anyhow::Result<Performative> {
 fn as_attach(performative: Performative) -> Option<Attach> {
     match performative {
         Performative::Attach(attach) => Some(attach),
-        _ => None,
+        other => {
+            drop(other);
+            None
+        }
     }
 }
 
 fn as_flow(performative: Performative) -> Option<Flow> {
     match performative {
         Performative::Flow(flow) => Some(flow),
-        _ => None,
+        other => {
+            drop(other);
+            None
+        }
     }
 }
 
 fn as_transfer(performative: Performative) -> Option<Transfer> {
     match performative {
         Performative::Transfer(transfer) => Some(transfer),
-        _ => None,
+        other => {
+            drop(other);
+            None
+        }
     }
 }
 
 fn as_disposition(performative: Performative) -> Option<Disposition> {
     match performative {
         Performative::Disposition(said) => Some(said),
-        _ => None,
+        other => {
+            drop(other);
+            None
+        }
     }
 }
 
 fn as_detach(performative: Performative) -> Option<Detach> {
     match performative {
         Performative::Detach(detach) => Some(detach),
-        _ => None,
+        other => {
+            drop(other);
+            None
+        }
     }
 }
 
