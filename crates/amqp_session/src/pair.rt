@@ -5,6 +5,7 @@ ghost use Rattle.std.specs.Prelude.{◌≡◌, ◌<◌, ◌^◌, length, string_
 ghost use Rattle.amqp_session.specs.Pair.{new_pair, session_at, way_to, AllocateLinkStep, BeginStep, AttachStep, FlowStep, TransferStep, ArriveStep, PairHolds};
 
 mod calls;
+mod shown;
 
 use self::calls::{arrive_at, attach_at, begin_at, flow_at, transfer_at};
 use crate::error::{AllocLinkError, SessionInnerError};

@@ -1,10 +1,10 @@
 //! Rows of a connection alone: what its calls answer.
 
 use crate::reading;
+use fe2o3_amqp::connection::Connection;
 use fe2o3_amqp::{
-    Connection, ConnectionInnerError, ConnectionStateError, Frame, FrameBody, FrameEncoder,
-    IncomingChannel, OutgoingChannel, Performative, Piece, SessionFrame, SessionFrameBody,
-    SessionNo, out_line,
+    ConnectionInnerError, ConnectionStateError, Frame, FrameBody, FrameEncoder, IncomingChannel,
+    OutgoingChannel, Performative, Piece, SessionFrame, SessionFrameBody, SessionNo, out_line,
 };
 use std::alloc::Global;
 

@@ -35,6 +35,8 @@ mod sessions;
 #[cfg(test)]
 mod several;
 #[cfg(test)]
+mod shown;
+#[cfg(test)]
 mod steps;
 #[cfg(test)]
 mod stopping;

@@ -6,8 +6,9 @@ use crate::linking::{
     allot, allot_incoming, handle_of, mapped, puts_out_one, send_attach, send_detach, send_flow,
 };
 use crate::telling::{Telling, Told};
-use fe2o3_amqp::session::AllocLinkError;
-use fe2o3_amqp::{Engine, Input, LinkRelay, ReplayRelay, SessionNo, SessionStopReason, StepError};
+use fe2o3_amqp::{
+    AllocLinkError, Engine, Input, LinkRelay, ReplayRelay, SessionNo, SessionStopReason, StepError,
+};
 use std::alloc::Global;
 
 /// The peer's attaches on channel 5: of "a" on handle 5, of "c" on handle 6.

@@ -6,19 +6,20 @@ ghost use Rattle.fe2o3_amqp.specs.Connection.{new_connection, stopped};
 
 mod allocation;
 mod channel_table;
-pub mod error;
+pub(crate) mod error;
 mod open_close;
-pub mod open_error;
+pub(crate) mod open_error;
 mod route_table;
 mod routing;
+mod shown;
 
 use amqp_session::ConnectionStopReason;
 use amqp_types::{ConnectionState, Open};
 use channel_table::ChannelTable;
-pub use error::{
-    AllocSessionError, ConnectionInnerError, ConnectionStateError, Error, TryCloseError,
+pub use error::Error;
+pub(crate) use error::{
+    AllocSessionError, ConnectionInnerError, ConnectionStateError, TryCloseError,
 };
-pub use open_error::{NegotiationError, OpenError};
 use route_table::RouteTable;
 use std::alloc::Global;
 use std::marker::Model;

@@ -16,6 +16,7 @@ mod received;
 mod requested;
 mod run;
 mod sessions;
+mod shown;
 pub mod step_error;
 mod waiting;
 

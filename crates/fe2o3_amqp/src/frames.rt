@@ -1,3 +1,3 @@
-//! Frames, their decoder and their encoder.
+//! Why bytes are no frame, or a frame has no bytes.
 
-pub use amqp_frames::{Error, Frame, FrameBody, FrameDecoder, FrameEncoder, Piece};
+pub use amqp_frames::Error;

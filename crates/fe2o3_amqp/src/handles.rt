@@ -8,6 +8,7 @@ ghost use Rattle.std.specs.Map.{lookup};
 mod connection_handle;
 mod run;
 mod session_handle;
+mod shown;
 
 use crate::engine::Engine;
 use crate::numbers::SessionNo;

@@ -1,7 +1,3 @@
-//! Sessions, by themselves or in an engine.
+//! Why a handle of a session notes no wish.
 
-pub use amqp_session::{
-    AllocLinkError, BeginError, Error, InputHandle, LinkFlow, LinkRelay, LinkRelayError,
-    OutputHandle, Session, SessionFrame, SessionFrameBody, SessionInnerError, SessionOutgoingItem,
-    SessionSettings, SessionStateError, SessionStopReason, TryEndError, WalkCount,
-};
+pub use amqp_session::Error;

@@ -2,10 +2,10 @@
 
 mod line;
 mod names;
-pub mod relay;
+mod relay;
 
-use crate::definitions::{DEFAULT_CHANNEL_MAX, DEFAULT_MAX_FRAME_SIZE};
 use crate::engine::{Answer, Engine, Input};
+use crate::settings::{DEFAULT_CHANNEL_MAX, DEFAULT_MAX_FRAME_SIZE};
 use amqp_types::{ConnectionState, Open};
 pub use line::{hex_bytes, out_line};
 use line::{Asked, asked_by, text_of};

@@ -4,9 +4,10 @@ use crate::input::of_line;
 use crate::offer::{ScriptEngine, out};
 use crate::{mark, print, reading, say};
 use bytes::Bytes;
+use fe2o3_amqp::connection::Connection;
 use fe2o3_amqp::{
-    Begin, Close, Connection, ConnectionState, ConnectionStopReason, Detach, Disposition, End,
-    Fields, FrameEncoder, Handle, IncomingChannel, LinkFlow, Open, OutgoingChannel, OutputError,
+    Begin, Close, ConnectionState, ConnectionStopReason, Detach, Disposition, End, Fields,
+    FrameEncoder, Handle, IncomingChannel, LinkFlow, Open, OutgoingChannel, OutputError,
     OutputHandle, Performative, Piece, Raw, ReplayRelay, Role, Session, SessionSettings,
     SessionState, SessionStopReason, StepError, Symbol, err_name, is_terminal,
 };

@@ -8,8 +8,7 @@ ghost use Rattle.fe2o3_amqp.specs.Handles.{is_unmapped, has_ended, is_ended, end
 use super::HandledEngine;
 use crate::engine::kept::EndOutcome;
 use crate::numbers::SessionNo;
-use crate::session::{Error, TryEndError};
-use amqp_session::{LinkRelay, Session};
+use amqp_session::{Error, LinkRelay, Session, TryEndError};
 use amqp_types::{Error as AmqpError, SessionState};
 use std::marker::Model;
 
