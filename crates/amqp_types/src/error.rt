@@ -72,7 +72,8 @@ impl Composite for Error {
         let condition = parts.required(alloc)?;
         let description = parts.next(alloc)?;
         let info = parts.next(alloc)?;
-        parts.finish(Error {
+        parts.finish()?;
+        Ok(Error {
             condition,
             description,
             info,

@@ -120,6 +120,7 @@ impl Composite for Attach {
     ghost body_at = { attach_body_at };
 
     #[tactic(auto, unfolding(crate::specs::Attach::attach_body_at))]
+    #[inline(always)]
     fn fields(alloc: Global, parts: &mut Parts) -> Result<Attach, ReadError> {
         let name = parts.required(alloc)?;
         let handle = parts.required(alloc)?;
@@ -172,7 +173,8 @@ fn take_rest(alloc: Global, parts: &mut Parts) -> Result<Rest, ReadError>
     let offered_capabilities = parts.next(alloc)?;
     let desired_capabilities = parts.next(alloc)?;
     let properties = parts.next(alloc)?;
-    parts.finish(Rest {
+    parts.finish()?;
+    Ok(Rest {
         initial_delivery_count,
         max_message_size,
         offered_capabilities,

@@ -78,6 +78,7 @@ impl Composite for Begin {
     ghost body_at = { begin_body_at };
 
     #[tactic(auto, unfolding(crate::specs::Begin::begin_body_at))]
+    #[inline(always)]
     fn fields(alloc: Global, parts: &mut Parts) -> Result<Begin, ReadError> {
         let remote_channel = parts.next(alloc)?;
         let next_outgoing_id = parts.required(alloc)?;
@@ -87,7 +88,8 @@ impl Composite for Begin {
         let offered_capabilities = parts.next(alloc)?;
         let desired_capabilities = parts.next(alloc)?;
         let properties = parts.next(alloc)?;
-        parts.finish(Begin {
+        parts.finish()?;
+        Ok(Begin {
             remote_channel,
             next_outgoing_id,
             incoming_window,

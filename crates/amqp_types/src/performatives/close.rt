@@ -49,9 +49,11 @@ impl Composite for Close {
     ghost body_at = { close_body_at };
 
     #[tactic(auto, unfolding(crate::specs::Close::close_body_at))]
+    #[inline(always)]
     fn fields(alloc: Global, parts: &mut Parts) -> Result<Close, ReadError> {
         let error = parts.next(alloc)?;
-        parts.finish(Close { error })
+        parts.finish()?;
+        Ok(Close { error })
     }
 }
 

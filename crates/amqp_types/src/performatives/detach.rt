@@ -57,11 +57,13 @@ impl Composite for Detach {
     ghost body_at = { detach_body_at };
 
     #[tactic(auto, unfolding(crate::specs::Detach::detach_body_at))]
+    #[inline(always)]
     fn fields(alloc: Global, parts: &mut Parts) -> Result<Detach, ReadError> {
         let handle = parts.required(alloc)?;
         let closed = parts.or(alloc, false)?;
         let error = parts.next(alloc)?;
-        parts.finish(Detach {
+        parts.finish()?;
+        Ok(Detach {
             handle,
             closed,
             error,

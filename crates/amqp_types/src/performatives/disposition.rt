@@ -69,6 +69,7 @@ impl Composite for Disposition {
     ghost body_at = { disposition_body_at };
 
     #[tactic(auto, unfolding(crate::specs::Disposition::disposition_body_at))]
+    #[inline(always)]
     fn fields(alloc: Global, parts: &mut Parts) -> Result<Disposition, ReadError> {
         let role = parts.required(alloc)?;
         let first = parts.required(alloc)?;
@@ -76,7 +77,8 @@ impl Composite for Disposition {
         let settled = parts.or(alloc, false)?;
         let state = parts.next(alloc)?;
         let batchable = parts.or(alloc, false)?;
-        parts.finish(Disposition {
+        parts.finish()?;
+        Ok(Disposition {
             role,
             first,
             last,

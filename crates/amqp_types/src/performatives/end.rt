@@ -49,9 +49,11 @@ impl Composite for End {
     ghost body_at = { end_body_at };
 
     #[tactic(auto, unfolding(crate::specs::End::end_body_at))]
+    #[inline(always)]
     fn fields(alloc: Global, parts: &mut Parts) -> Result<End, ReadError> {
         let error = parts.next(alloc)?;
-        parts.finish(End { error })
+        parts.finish()?;
+        Ok(End { error })
     }
 }
 

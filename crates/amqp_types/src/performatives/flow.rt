@@ -105,6 +105,7 @@ impl Composite for Flow {
     ghost body_at = { flow_body_at };
 
     #[tactic(auto, unfolding(crate::specs::Flow::flow_body_at))]
+    #[inline(always)]
     fn fields(alloc: Global, parts: &mut Parts) -> Result<Flow, ReadError> {
         let next_incoming_id = parts.next(alloc)?;
         let incoming_window = parts.required(alloc)?;
@@ -117,7 +118,8 @@ impl Composite for Flow {
         let drain = parts.or(alloc, false)?;
         let echo = parts.or(alloc, false)?;
         let properties = parts.next(alloc)?;
-        parts.finish(Flow {
+        parts.finish()?;
+        Ok(Flow {
             next_incoming_id,
             incoming_window,
             next_outgoing_id,

@@ -120,6 +120,7 @@ impl Composite for Open {
     ghost body_at = { open_body_at };
 
     #[tactic(auto, unfolding(crate::specs::Open::open_body_at))]
+    #[inline(always)]
     fn fields(alloc: Global, parts: &mut Parts) -> Result<Open, ReadError> {
         let container_id = parts.required(alloc)?;
         let hostname = parts.next(alloc)?;
@@ -131,7 +132,8 @@ impl Composite for Open {
         let offered_capabilities = parts.next(alloc)?;
         let desired_capabilities = parts.next(alloc)?;
         let properties = parts.next(alloc)?;
-        parts.finish(Open {
+        parts.finish()?;
+        Ok(Open {
             container_id,
             hostname,
             max_frame_size,

@@ -120,6 +120,7 @@ impl Composite for Transfer {
     ghost body_at = { transfer_body_at };
 
     #[tactic(auto, unfolding(crate::specs::Transfer::transfer_body_at))]
+    #[inline(always)]
     fn fields(alloc: Global, parts: &mut Parts) -> Result<Transfer, ReadError> {
         let handle = parts.required(alloc)?;
         let delivery_id = parts.next(alloc)?;
@@ -132,7 +133,8 @@ impl Composite for Transfer {
         let resume = parts.or(alloc, false)?;
         let aborted = parts.or(alloc, false)?;
         let batchable = parts.or(alloc, false)?;
-        parts.finish(Transfer {
+        parts.finish()?;
+        Ok(Transfer {
             handle,
             delivery_id,
             delivery_tag,
@@ -180,6 +182,7 @@ impl Transfer {
 
     /// The fields of a continuation with this `more`.
     #[tactic(auto, unfolding(crate::specs::Transfer::transfer_fields))]
+    #[inline(always)]
     fn parts_continued(&self, more: bool) -> Row11<Leaf<'_>>
         ensures { result ≡ transfer_fields (record (continuation self.now) { more = more }) }
     {
@@ -199,6 +202,7 @@ impl Transfer {
     }
 
     /// The fields of one of the texts.
+    #[inline(always)]
     fn parts_in(&self, text: TransferText) -> Row11<Leaf<'_>>
         ensures { result ≡ transfer_fields (said_in text self.now) }
     {
