@@ -1,7 +1,5 @@
 -- Cutting a payload: one more piece, and all of them.
 use Rattle.std.proofs.Common.{◌≡◌, ℕ, suc, ◌+◌, ◌-◌, ◌*◌, ◌/◌, ◌<◌, ◌≤◌, List, [], ◌∷◌, ◌++◌, length, take, drop, map, sym, ap, subst, ◌∙◌, arith, append_assoc}
-use Rattle.std.specs.Prelude.{Result, Ok, cond}
-use Rattle.std.specs.Result.{is_ok}
 use Rattle.std.proofs.Math.Nat.{mul-le-mul_left}
 use Rattle.std.proofs.lemmas.List.{length-append, length-take-le, length-drop, append-nil, map_push, take-append-drop}
 use Rattle.std.proofs.lemmas.List.Elements.{All-push}
@@ -77,12 +75,6 @@ in_pieces channel t payload front step first last all done rest after some pos f
           ∙ ap (λ (r : List ℕ). take front payload ++ r) (sym a.parts ∙ rest_is)
           ∙ take-append-drop front payload;
     }
-
-pub pushed : {T E X : Type 0} (r : Result T E) (x : T) (new old : List X) (v : X) → r ≡ Ok x → new ≡ cond (is_ok r) (old ++ v ∷ []) old → new ≡ old ++ v ∷ []
-pushed r x new old v e h = h ∙ ap (λ q. cond (is_ok q) (old ++ v ∷ []) old) e
-
-pub pushed_len : {T E : Type 0} (r : Result T E) (x : T) (new old : ℕ) → r ≡ Ok x → new ≡ cond (is_ok r) (old + 1) old → new ≡ old + 1
-pushed_len r x new old e h = h ∙ ap (λ q. cond (is_ok q) (old + 1) old) e
 
 pub adds_from : (head : List ℕ) (step : ℕ) (start old new : List PieceParts) (before after : List ℕ) (n m : ℕ) → start ≡ old → n ≡ m → Adds head step start new before after n → Adds head step old new before after m
 adds_from head step start old new before after n m s e a =

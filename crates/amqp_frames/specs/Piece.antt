@@ -2,6 +2,8 @@
 use Rattle.std.specs.Prelude.{◌≡◌, ◌<◌, ◌^◌, ℕ, List, ◌++◌, length, Result, Ok, Err}
 use Rattle.amqp_frames.specs.declared.error.Error.{Error}
 use Rattle.amqp_frames.specs.declared.error.Error.TheVariants as no
+use Rattle.amqp_frames.specs.declared.piece.HeadBytes.{HeadBytes}
+use Rattle.amqp_frames.specs.declared.piece.HeadBytes.TheVariants as head
 
 pub record PieceParts : Type 0 where
   pub head : List ℕ
@@ -9,6 +11,11 @@ pub record PieceParts : Type 0 where
 
 abbrev pub piece_bytes : PieceParts → List ℕ
 piece_bytes p = p.head ++ p.payload
+
+-- the bytes of a head, in a buffer of its own or shared
+abbrev pub head_bytes : HeadBytes → List ℕ
+head_bytes (head.Own b) = b.items
+head_bytes (head.Shared b) = b
 
 abbrev pub payload_part : PieceParts → List ℕ
 payload_part p = p.payload

@@ -64,7 +64,7 @@ fn in_pieces(
     let mut rest = payload.clone()?;
     let head = transfer_head(alloc, channel, transfer, TransferText::First)?;
     let part = rest.split_to(front)?;
-    pieces.push(Piece::new(head, part)).unwrap();
+    pieces.push_reserved(Piece::own(head, part));
     put_middle(
         alloc,
         channel,
@@ -75,7 +75,7 @@ fn in_pieces(
         count,
     )?;
     let head = transfer_head(alloc, channel, transfer, TransferText::Last)?;
-    pieces.push(Piece::new(head, rest)).unwrap();
+    pieces.push_reserved(Piece::own(head, rest));
     Ok(pieces)
 }
 
@@ -99,7 +99,7 @@ fn put_middle(
     if count == 0 {
         return Ok(());
     }
-    let head = transfer_head(alloc, channel, transfer, TransferText::Middle)?;
+    let head = transfer_head(alloc, channel, transfer, TransferText::Middle)?.freeze()?;
     put_parts(&head, pieces, rest, step, count)
 }
 
@@ -120,7 +120,7 @@ fn put_parts(
     for i in 0..count {
         let copy = head.clone()?;
         let part = rest.split_to(step)?;
-        pieces.push(Piece::new(copy, part)).unwrap();
+        pieces.push_reserved(Piece::shared(copy, part));
     }
     Ok(())
 }

@@ -89,7 +89,7 @@ fn whole(alloc: Global, frame: &Frame, len: usize) -> Result<Vec<Piece>, AllocEr
     let mut pieces = Vec::with_capacity(alloc, 1)?;
     let payload = frame.body.payload()?;
     let head = whole_head(alloc, frame.channel, &frame.body, len)?;
-    pieces.push(Piece::new(head, payload)).unwrap();
+    pieces.push_reserved(Piece::own(head, payload));
     Ok(pieces)
 }
 

@@ -7,7 +7,7 @@ ghost use Rattle.amqp_frames.specs.Cut.{transfer_text};
 
 use crate::frame::FrameBody;
 use amqp_types::{Transfer, TransferText};
-use bytes::{Bytes, BytesMut};
+use bytes::BytesMut;
 use std::alloc::{AllocError, Global};
 
 /// A buffer with the header, and room for `len` bytes behind it.
@@ -28,14 +28,14 @@ pub(crate) fn whole_head(
     channel: u16,
     body: &FrameBody,
     len: usize,
-) -> Result<Bytes, AllocError>
+) -> Result<BytesMut, AllocError>
     requires text { len ≡ length (text_of body.now) }
     requires fits { length (text_of body.now) < 2 ^ 32 }
-    ensures { IfOk result (λ b. b ≡ header_text channel ++ text_of body.now) }
+    ensures { IfOk result (λ b. b.items ≡ header_text channel ++ text_of body.now) }
 {
     let mut out = header(alloc, channel, len)?;
     body.put_text(&mut out);
-    Ok(out.freeze()?)
+    Ok(out)
 }
 
 /// The head of a piece of a transfer, with one of its texts.
@@ -44,12 +44,12 @@ pub(crate) fn transfer_head(
     channel: u16,
     transfer: &Transfer,
     text: TransferText,
-) -> Result<Bytes, AllocError>
+) -> Result<BytesMut, AllocError>
     requires { length (transfer_text (said_in text transfer.now)) < 2 ^ 32 }
-    ensures { IfOk result (λ b. b ≡ header_text channel ++ transfer_text (said_in text transfer.now)) }
+    ensures { IfOk result (λ b. b.items ≡ header_text channel ++ transfer_text (said_in text transfer.now)) }
 {
     let len = transfer.encoded_len_in(text);
     let mut out = header(alloc, channel, len as usize)?;
     transfer.put_in(text, &mut out);
-    Ok(out.freeze()?)
+    Ok(out)
 }

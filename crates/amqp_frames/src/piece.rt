@@ -8,38 +8,62 @@ use bytes::{Bytes, BytesMut};
 use std::alloc::{AllocError, Global};
 use std::marker::Model;
 
+/// The bytes of a head. A buffer that one piece has needs no count of owners.
+#[derive(Debug, Drop)]
+enum HeadBytes {
+    Own(BytesMut),
+    Shared(Bytes),
+}
+
 /// One physical frame without its four-byte size: a head, of header and performative, and a part of a payload. Only the
 /// encoder makes one. The part shares the bytes of the frame's payload.
 #[derive(Debug, Drop)]
 pub struct Piece {
-    head: Bytes,
+    head: HeadBytes,
     payload: Bytes,
 }
 
 impl Model for Piece {
-    ghost use Rattle.amqp_frames.specs.Piece.{PieceParts, IsPiece};
+    ghost use Rattle.amqp_frames.specs.Piece.{PieceParts, IsPiece, head_bytes};
 
     ghost Value = { PieceParts };
 
-    ghost view = { λ p. record { head = p.head; payload = p.payload } };
+    ghost view = { λ p. record { head = head_bytes p.head; payload = p.payload } };
 
-    ghost invariant = { λ p. IsPiece (record { head = p.head; payload = p.payload }) };
+    ghost invariant = { λ p. IsPiece (record { head = head_bytes p.head; payload = p.payload }) };
 }
 
 impl Piece {
-    /// The piece of this head and this part.
-    pub(crate) fn new(head: Bytes, payload: Bytes) -> Piece
+    /// The piece of this head, which no other piece has, and this part.
+    pub(crate) fn own(head: BytesMut, payload: Bytes) -> Piece
+        requires { length head.items + length payload < 2 ^ 32 }
+        ensures { result ≡ record { head = head.items; payload = payload } }
+    {
+        Piece {
+            head: HeadBytes::Own(head),
+            payload,
+        }
+    }
+
+    /// The piece of this head, which others share, and this part.
+    pub(crate) fn shared(head: Bytes, payload: Bytes) -> Piece
         requires { length head + length payload < 2 ^ 32 }
         ensures { result ≡ record { head = head; payload = payload } }
     {
-        Piece { head, payload }
+        Piece {
+            head: HeadBytes::Shared(head),
+            payload,
+        }
     }
 
     /// Header and performative.
     pub fn head(&self) -> &[u8]
         ensures { result.now ≡ self.now.head }
     {
-        self.head.as_slice()
+        match &self.head {
+            HeadBytes::Own(head) => head.as_slice(),
+            HeadBytes::Shared(head) => head.as_slice(),
+        }
     }
 
     /// The part of the payload, empty where the frame has none.
@@ -53,7 +77,7 @@ impl Piece {
     pub fn len(&self) -> usize
         ensures { result ≡ length (piece_bytes self.now) }
     {
-        self.head.len() + self.payload.len()
+        self.head().len() + self.payload.len()
     }
 
     /// Its bytes in one buffer; `OutOfMemory` where memory is refused. This copies the part of the payload: to send a piece,

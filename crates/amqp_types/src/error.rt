@@ -1,14 +1,14 @@
 //! Error (AMQP 1.0 part 2, section 2.8.14).
 
-ghost use Rattle.std.specs.Prelude.{◌≡◌, map, List, ℕ, Option};
+ghost use Rattle.std.specs.Prelude.{◌≡◌, List, ℕ, Option};
 ghost use Rattle.amqp_values.specs.Reading.{Gives};
-ghost use Rattle.amqp_values.specs.Writing.{leaf_text};
 ghost use Rattle.amqp_types.specs.Error.{error_body_at, error_fields};
 ghost use Rattle.amqp_types.specs.Error.{ErrorSaid, error_at};
 
 use crate::leaf;
 use amqp_values::composite::described;
-use amqp_values::{Composite, Field, Fields, Leaf, Parts, ReadError, Symbol, codes};
+use amqp_values::row::Row3;
+use amqp_values::{Composite, Field, Fields, Leaf, Parts, ReadError, Symbol, codes, row_of};
 use bytes::Bytes;
 use std::alloc::Global;
 use std::fmt::{self, Display, Formatter};
@@ -72,7 +72,8 @@ impl Composite for Error {
         let condition = parts.required(alloc)?;
         let description = parts.next(alloc)?;
         let info = parts.next(alloc)?;
-        parts.finish(Error {
+        parts.finish()?;
+        Ok(Error {
             condition,
             description,
             info,
@@ -96,10 +97,11 @@ impl Field for Error {
 impl Error {
     /// The fields, borrowed for writing.
     #[tactic(auto, unfolding(crate::specs::Error::error_fields))]
-    pub(crate) fn parts(&self) -> [Leaf<'_>; 3]
-        ensures { map leaf_text result ≡ error_fields self.now }
+    #[inline(always)]
+    pub(crate) fn parts(&self) -> Row3<Leaf<'_>>
+        ensures { result ≡ error_fields self.now }
     {
-        [
+        row_of![
             Leaf::Symbol(&self.condition),
             leaf::optional_string(&self.description),
             leaf::optional_fields(&self.info),

@@ -19,6 +19,7 @@ pub(crate) enum Part<'a> {
 
 impl<'a> Part<'a> {
     /// An error, or null where there is none.
+    #[inline(always)]
     pub(crate) fn optional(error: &'a Option<Error>) -> Part<'a>
         ensures { part_text result ≡ optional_text error_text error.now }
     {
@@ -32,8 +33,9 @@ impl<'a> Part<'a> {
 impl Encode for Part<'_> {
     ghost text = { part_text };
 
-    ghost most = { 2 ^ 104 + 12 };
+    ghost most = { 2 ^ 104 };
 
+    #[inline(always)]
     fn is_null(&self) -> bool {
         match self {
             Part::Leaf(leaf) => leaf.is_null(),
@@ -41,6 +43,7 @@ impl Encode for Part<'_> {
         }
     }
 
+    #[inline(always)]
     fn encoded_len(&self) -> u128 {
         match self {
             Part::Leaf(leaf) => leaf.encoded_len(),
@@ -48,6 +51,7 @@ impl Encode for Part<'_> {
         }
     }
 
+    #[inline(always)]
     fn put(&self, out: &mut BytesMut) {
         match self {
             Part::Leaf(leaf) => leaf.put(out),

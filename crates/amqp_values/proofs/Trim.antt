@@ -8,21 +8,6 @@ pub joined-append : (a b : List (List ℕ)) → joined (a ++ b) ≡ joined a ++ 
 joined-append [] b = refl
 joined-append (x ∷ xs) b = ap (λ (r : List ℕ). x ++ r) (joined-append xs b) ∙ sym (append_assoc x (joined xs) (joined b))
 
-keep_null : (p : List ℕ) → is_null p ≡ true → keep p [] ≡ []
-keep_null p e = rw e refl
-
-keep_more : (p : List ℕ) (xs : List (List ℕ)) (q : List ℕ) → keep p (xs ++ q ∷ []) ≡ p ∷ (xs ++ q ∷ [])
-keep_more p [] q = refl
-keep_more p (x ∷ xs) q = refl
-
-pub trim_null : (xs : List (List ℕ)) (p : List ℕ) → is_null p ≡ true → trim (xs ++ p ∷ []) ≡ trim xs
-trim_null [] p e = keep_null p e
-trim_null (x ∷ xs) p e = ap (keep x) (trim_null xs p e)
-
-pub trim_part : (xs : List (List ℕ)) (p : List ℕ) → is_null p ≡ false → trim (xs ++ p ∷ []) ≡ xs ++ p ∷ []
-trim_part [] p e = rw e refl
-trim_part (x ∷ xs) p e = ap (keep x) (trim_part xs p e) ∙ keep_more x xs p
-
 keep_take : (p : List ℕ) (xs ts : List (List ℕ)) → take (length ts) xs ≡ ts → take (length (keep p ts)) (p ∷ xs) ≡ keep p ts
 keep_take p xs [] e = go (is_null p)
   where

@@ -54,10 +54,6 @@ default_at d at p = optional_at at p >>= λ x. Some (defaulted d x.0, x.1)
 unfoldable pub end_at : Parts → Option (Unit {0} × Parts)
 end_at p = if p.left == 0 then (if is_empty p.bytes then Some (tt, p) else None) else None
 
--- a value, if nothing is left
-abbrev pub finished_at : {C : Type 0} → C → Parts → Option (C × Parts)
-finished_at c p = end_at p >>= λ e. Some (c, e.1)
-
 -- one slot and those after it
 abbrev pub then_at : {V W : Type 0} → (Parts → Option (V × Parts)) → (Parts → Option (W × Parts)) → Parts → Option ((V × W) × Parts)
 then_at first others p = first p >>= λ x. others x.1 >>= λ y. Some ((x.0, y.0), y.1)

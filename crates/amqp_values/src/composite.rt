@@ -27,23 +27,20 @@ pub trait Composite: Drop {
 fn list(bytes: &mut Bytes) -> Result<Parts, ReadError>
     ensures { Gives (λ p. p) result bytes.new (list_at bytes.old) }
 {
-    match take_byte(bytes)? {
-        codes::LIST0 => Ok(Parts {
-            left: 0,
-            bytes: Bytes::new(),
-        }),
-        codes::LIST8 => {
-            let mut bytes = take_region(false, bytes)?;
-            let left = take_count(false, &mut bytes)?;
-            Ok(Parts { left, bytes })
+    let wide = match take_byte(bytes)? {
+        codes::LIST0 => {
+            return Ok(Parts {
+                left: 0,
+                bytes: Bytes::new(),
+            });
         }
-        codes::LIST32 => {
-            let mut bytes = take_region(true, bytes)?;
-            let left = take_count(true, &mut bytes)?;
-            Ok(Parts { left, bytes })
-        }
-        _ => Err(ReadError::Malformed),
-    }
+        codes::LIST8 => false,
+        codes::LIST32 => true,
+        _ => return Err(ReadError::Malformed),
+    };
+    let mut bytes = take_region(wide, bytes)?;
+    let left = take_count(wide, &mut bytes)?;
+    Ok(Parts { left, bytes })
 }
 
 /// The composite whose list stands at the front, behind its descriptor.

@@ -70,7 +70,7 @@ fn ulong_len(n: u64) -> u128
     }
 }
 
-#[inline(always)]
+#[inline(never)]
 fn put_ulong(out: &mut BytesMut, n: u64)
     requires { length (ulong_text n) ≤ out.old.spare }
     ensures items { out.new.items ≡ out.old.items ++ ulong_text n }
@@ -107,7 +107,7 @@ fn var_len(s: &[u8], short: u8, long: u8) -> u128
 }
 
 #[tactic(auto, unfolding(crate::specs::Writing::var_text))]
-#[inline(always)]
+#[inline(never)]
 fn put_var(out: &mut BytesMut, s: &[u8], short: u8, long: u8)
     requires room { length (var_text short long s.now) ≤ out.old.spare }
     requires fits { length (var_text short long s.now) < 2 ^ 32 }

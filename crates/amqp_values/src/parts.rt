@@ -3,7 +3,7 @@
 ghost use Rattle.std.specs.Prelude.{◌≡◌};
 ghost use Rattle.std.specs.Option.{option_map};
 ghost use Rattle.amqp_values.specs.Reading.{Gives};
-ghost use Rattle.amqp_values.specs.Slots.{optional_at, required_at, default_at, finished_at};
+ghost use Rattle.amqp_values.specs.Slots.{optional_at, required_at, default_at, end_at};
 
 use crate::codes;
 use crate::error::ReadError;
@@ -55,14 +55,14 @@ impl Parts {
         Ok(self.next(alloc)?.unwrap_or(default))
     }
 
-    /// Answers the composite if neither a part nor a byte is left, else `Malformed`.
+    /// `Malformed` where a part or a byte is left.
     #[tactic(auto, unfolding(crate::specs::Slots::end_at))]
     #[inline(always)]
-    pub fn finish<C: Drop>(&self, composite: C) -> Result<C, ReadError>
-        ensures { Gives (λ x. x) result self.now (finished_at composite self.now) }
+    pub fn finish(&self) -> Result<(), ReadError>
+        ensures { Gives (λ x. x) result self.now (end_at self.now) }
     {
         if self.left == 0 && self.bytes.is_empty() {
-            Ok(composite)
+            Ok(())
         } else {
             Err(ReadError::Malformed)
         }

@@ -19,13 +19,10 @@ pub(crate) fn variable(bytes: &mut Bytes, short: u8, long: u8) -> Result<Bytes, 
     ensures bound { IfOk result (λ b. length b < 2 ^ 32) }
 {
     let code = take_byte(bytes)?;
-    if code == short {
-        take_region(false, bytes)
-    } else if code == long {
-        take_region(true, bytes)
-    } else {
-        Err(ReadError::Malformed)
+    if code != short && code != long {
+        return Err(ReadError::Malformed);
     }
+    take_region(code != short, bytes)
 }
 
 impl Field for Bytes {

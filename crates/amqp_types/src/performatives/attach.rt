@@ -1,18 +1,18 @@
 //! Attach (AMQP 1.0 part 2, section 2.7.3).
 
-ghost use Rattle.std.specs.Prelude.{◌≡◌, ◌<◌, ◌≤◌, ◌+◌, ◌^◌, ◌++◌, length, map, List, ℕ, Option};
+ghost use Rattle.std.specs.Prelude.{◌≡◌, ◌<◌, ◌≤◌, ◌+◌, ◌^◌, ◌++◌, length, List, ℕ, Option};
 ghost use Rattle.std.specs.Option.{option_map};
 ghost use Rattle.amqp_values.specs.Reading.{Gives};
 ghost use Rattle.amqp_values.specs.Slots.{beside};
-ghost use Rattle.amqp_values.specs.Writing.{leaf_text};
 ghost use Rattle.amqp_types.specs.Attach.{attach_rest_at, attach_body_at, attach_fields, attach_first_same, attach_last_same};
 ghost use Rattle.amqp_types.specs.declared.performatives.Performative.TheVariants as performative;
 ghost use Rattle.amqp_types.specs.Performatives.{performative_text};
 
 use crate::definitions::{Handle, ReceiverSettleMode, Role, SenderSettleMode};
 use crate::leaf;
+use amqp_values::row::Row14;
 use amqp_values::writing::{described_len, put_described};
-use amqp_values::{Composite, Fields, Leaf, Parts, Raw, ReadError, Symbol, codes};
+use amqp_values::{Composite, Fields, Leaf, Parts, Raw, ReadError, Symbol, codes, row_of};
 use bytes::BytesMut;
 use std::alloc::Global;
 use std::marker::Model;
@@ -120,6 +120,7 @@ impl Composite for Attach {
     ghost body_at = { attach_body_at };
 
     #[tactic(auto, unfolding(crate::specs::Attach::attach_body_at))]
+    #[inline(always)]
     fn fields(alloc: Global, parts: &mut Parts) -> Result<Attach, ReadError> {
         let name = parts.required(alloc)?;
         let handle = parts.required(alloc)?;
@@ -172,7 +173,8 @@ fn take_rest(alloc: Global, parts: &mut Parts) -> Result<Rest, ReadError>
     let offered_capabilities = parts.next(alloc)?;
     let desired_capabilities = parts.next(alloc)?;
     let properties = parts.next(alloc)?;
-    parts.finish(Rest {
+    parts.finish()?;
+    Ok(Rest {
         initial_delivery_count,
         max_message_size,
         offered_capabilities,
@@ -184,10 +186,11 @@ fn take_rest(alloc: Global, parts: &mut Parts) -> Result<Rest, ReadError>
 impl Attach {
     /// The fields, borrowed for writing.
     #[tactic(auto, unfolding(crate::specs::Attach::attach_fields))]
-    pub(crate) fn parts(&self) -> [Leaf<'_>; 14]
-        ensures { map leaf_text result ≡ attach_fields self.now }
+    #[inline(always)]
+    pub(crate) fn parts(&self) -> Row14<Leaf<'_>>
+        ensures { result ≡ attach_fields self.now }
     {
-        [
+        row_of![
             Leaf::String(self.name.as_str()),
             Leaf::Uint(self.handle.0),
             leaf::role(self.role),

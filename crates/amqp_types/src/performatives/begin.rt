@@ -1,16 +1,16 @@
 //! Begin (AMQP 1.0 part 2, section 2.7.2).
 
-ghost use Rattle.std.specs.Prelude.{◌≡◌, ◌<◌, ◌≤◌, ◌+◌, ◌^◌, ◌++◌, length, map, List, ℕ, Option};
+ghost use Rattle.std.specs.Prelude.{◌≡◌, ◌<◌, ◌≤◌, ◌+◌, ◌^◌, ◌++◌, length, List, ℕ, Option};
 ghost use Rattle.amqp_values.specs.Reading.{Gives};
-ghost use Rattle.amqp_values.specs.Writing.{leaf_text};
 ghost use Rattle.amqp_types.specs.Begin.{begin_body_at, begin_fields};
 ghost use Rattle.amqp_types.specs.declared.performatives.Performative.TheVariants as performative;
 ghost use Rattle.amqp_types.specs.Performatives.{performative_text};
 
 use crate::definitions::Handle;
 use crate::leaf;
+use amqp_values::row::Row8;
 use amqp_values::writing::{described_len, put_described};
-use amqp_values::{Composite, Fields, Leaf, Parts, ReadError, Symbol, codes};
+use amqp_values::{Composite, Fields, Leaf, Parts, ReadError, Symbol, codes, row_of};
 use bytes::BytesMut;
 use std::alloc::Global;
 use std::marker::Model;
@@ -78,6 +78,7 @@ impl Composite for Begin {
     ghost body_at = { begin_body_at };
 
     #[tactic(auto, unfolding(crate::specs::Begin::begin_body_at))]
+    #[inline(always)]
     fn fields(alloc: Global, parts: &mut Parts) -> Result<Begin, ReadError> {
         let remote_channel = parts.next(alloc)?;
         let next_outgoing_id = parts.required(alloc)?;
@@ -87,7 +88,8 @@ impl Composite for Begin {
         let offered_capabilities = parts.next(alloc)?;
         let desired_capabilities = parts.next(alloc)?;
         let properties = parts.next(alloc)?;
-        parts.finish(Begin {
+        parts.finish()?;
+        Ok(Begin {
             remote_channel,
             next_outgoing_id,
             incoming_window,
@@ -103,10 +105,11 @@ impl Composite for Begin {
 impl Begin {
     /// The fields, borrowed for writing.
     #[tactic(auto, unfolding(crate::specs::Begin::begin_fields))]
-    pub(crate) fn parts(&self) -> [Leaf<'_>; 8]
-        ensures { map leaf_text result ≡ begin_fields self.now }
+    #[inline(always)]
+    pub(crate) fn parts(&self) -> Row8<Leaf<'_>>
+        ensures { result ≡ begin_fields self.now }
     {
-        [
+        row_of![
             leaf::optional_ushort(self.remote_channel),
             Leaf::Uint(self.next_outgoing_id),
             Leaf::Uint(self.incoming_window),

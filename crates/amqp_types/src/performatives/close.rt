@@ -1,16 +1,16 @@
 //! Close (AMQP 1.0 part 2, section 2.7.9).
 
-ghost use Rattle.std.specs.Prelude.{◌≡◌, ◌<◌, ◌≤◌, ◌+◌, ◌^◌, ◌++◌, length, map, List, ℕ, Option};
+ghost use Rattle.std.specs.Prelude.{◌≡◌, ◌<◌, ◌≤◌, ◌+◌, ◌^◌, ◌++◌, length, List, ℕ, Option};
 ghost use Rattle.amqp_values.specs.Reading.{Gives};
-ghost use Rattle.amqp_types.specs.Part.{part_text};
 ghost use Rattle.amqp_types.specs.Close.{close_body_at, close_fields};
 ghost use Rattle.amqp_types.specs.declared.performatives.Performative.TheVariants as performative;
 ghost use Rattle.amqp_types.specs.Performatives.{performative_text};
 
 use crate::error::Error;
 use crate::part::Part;
+use amqp_values::row::Row1;
 use amqp_values::writing::{described_len, put_described};
-use amqp_values::{Composite, Parts, ReadError, codes};
+use amqp_values::{Composite, Parts, ReadError, codes, row_of};
 use bytes::BytesMut;
 use std::alloc::Global;
 use std::marker::Model;
@@ -49,19 +49,22 @@ impl Composite for Close {
     ghost body_at = { close_body_at };
 
     #[tactic(auto, unfolding(crate::specs::Close::close_body_at))]
+    #[inline(always)]
     fn fields(alloc: Global, parts: &mut Parts) -> Result<Close, ReadError> {
         let error = parts.next(alloc)?;
-        parts.finish(Close { error })
+        parts.finish()?;
+        Ok(Close { error })
     }
 }
 
 impl Close {
     /// The fields, borrowed for writing.
     #[tactic(auto, unfolding(crate::specs::Close::close_fields))]
-    pub(crate) fn parts(&self) -> [Part<'_>; 1]
-        ensures { map part_text result ≡ close_fields self.now }
+    #[inline(always)]
+    pub(crate) fn parts(&self) -> Row1<Part<'_>>
+        ensures { result ≡ close_fields self.now }
     {
-        [Part::optional(&self.error)]
+        row_of![Part::optional(&self.error)]
     }
 
     /// The length in bytes of the canonical text. Takes no memory and writes nothing.

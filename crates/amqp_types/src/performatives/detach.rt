@@ -1,8 +1,7 @@
 //! Detach (AMQP 1.0 part 2, section 2.7.7).
 
-ghost use Rattle.std.specs.Prelude.{◌≡◌, ◌<◌, ◌≤◌, ◌+◌, ◌^◌, ◌++◌, length, map, List, ℕ, Option};
+ghost use Rattle.std.specs.Prelude.{◌≡◌, ◌<◌, ◌≤◌, ◌+◌, ◌^◌, ◌++◌, length, List, ℕ, Option};
 ghost use Rattle.amqp_values.specs.Reading.{Gives};
-ghost use Rattle.amqp_types.specs.Part.{part_text};
 ghost use Rattle.amqp_types.specs.Detach.{detach_body_at, detach_fields};
 ghost use Rattle.amqp_types.specs.declared.performatives.Performative.TheVariants as performative;
 ghost use Rattle.amqp_types.specs.Performatives.{performative_text};
@@ -11,8 +10,9 @@ use crate::definitions::Handle;
 use crate::error::Error;
 use crate::leaf;
 use crate::part::Part;
+use amqp_values::row::Row3;
 use amqp_values::writing::{described_len, put_described};
-use amqp_values::{Composite, Leaf, Parts, ReadError, codes};
+use amqp_values::{Composite, Leaf, Parts, ReadError, codes, row_of};
 use bytes::BytesMut;
 use std::alloc::Global;
 use std::marker::Model;
@@ -57,11 +57,13 @@ impl Composite for Detach {
     ghost body_at = { detach_body_at };
 
     #[tactic(auto, unfolding(crate::specs::Detach::detach_body_at))]
+    #[inline(always)]
     fn fields(alloc: Global, parts: &mut Parts) -> Result<Detach, ReadError> {
         let handle = parts.required(alloc)?;
         let closed = parts.or(alloc, false)?;
         let error = parts.next(alloc)?;
-        parts.finish(Detach {
+        parts.finish()?;
+        Ok(Detach {
             handle,
             closed,
             error,
@@ -72,10 +74,11 @@ impl Composite for Detach {
 impl Detach {
     /// The fields, borrowed for writing.
     #[tactic(auto, unfolding(crate::specs::Detach::detach_fields))]
-    pub(crate) fn parts(&self) -> [Part<'_>; 3]
-        ensures { map part_text result ≡ detach_fields self.now }
+    #[inline(always)]
+    pub(crate) fn parts(&self) -> Row3<Part<'_>>
+        ensures { result ≡ detach_fields self.now }
     {
-        [
+        row_of![
             Part::Leaf(Leaf::Uint(self.handle.0)),
             Part::Leaf(leaf::flag(self.closed)),
             Part::optional(&self.error),

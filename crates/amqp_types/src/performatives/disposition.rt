@@ -1,16 +1,16 @@
 //! Disposition (AMQP 1.0 part 2, section 2.7.6).
 
-ghost use Rattle.std.specs.Prelude.{◌≡◌, ◌<◌, ◌≤◌, ◌+◌, ◌^◌, ◌++◌, length, map, List, ℕ, Option};
+ghost use Rattle.std.specs.Prelude.{◌≡◌, ◌<◌, ◌≤◌, ◌+◌, ◌^◌, ◌++◌, length, List, ℕ, Option};
 ghost use Rattle.amqp_values.specs.Reading.{Gives};
-ghost use Rattle.amqp_values.specs.Writing.{leaf_text};
 ghost use Rattle.amqp_types.specs.Disposition.{disposition_body_at, disposition_fields};
 ghost use Rattle.amqp_types.specs.declared.performatives.Performative.TheVariants as performative;
 ghost use Rattle.amqp_types.specs.Performatives.{performative_text};
 
 use crate::definitions::Role;
 use crate::leaf;
+use amqp_values::row::Row6;
 use amqp_values::writing::{described_len, put_described};
-use amqp_values::{Composite, Leaf, Parts, Raw, ReadError, codes};
+use amqp_values::{Composite, Leaf, Parts, Raw, ReadError, codes, row_of};
 use bytes::BytesMut;
 use std::alloc::Global;
 use std::marker::Model;
@@ -69,6 +69,7 @@ impl Composite for Disposition {
     ghost body_at = { disposition_body_at };
 
     #[tactic(auto, unfolding(crate::specs::Disposition::disposition_body_at))]
+    #[inline(always)]
     fn fields(alloc: Global, parts: &mut Parts) -> Result<Disposition, ReadError> {
         let role = parts.required(alloc)?;
         let first = parts.required(alloc)?;
@@ -76,7 +77,8 @@ impl Composite for Disposition {
         let settled = parts.or(alloc, false)?;
         let state = parts.next(alloc)?;
         let batchable = parts.or(alloc, false)?;
-        parts.finish(Disposition {
+        parts.finish()?;
+        Ok(Disposition {
             role,
             first,
             last,
@@ -90,10 +92,11 @@ impl Composite for Disposition {
 impl Disposition {
     /// The fields, borrowed for writing.
     #[tactic(auto, unfolding(crate::specs::Disposition::disposition_fields))]
-    pub(crate) fn parts(&self) -> [Leaf<'_>; 6]
-        ensures { map leaf_text result ≡ disposition_fields self.now }
+    #[inline(always)]
+    pub(crate) fn parts(&self) -> Row6<Leaf<'_>>
+        ensures { result ≡ disposition_fields self.now }
     {
-        [
+        row_of![
             leaf::role(self.role),
             Leaf::Uint(self.first),
             leaf::optional_uint(self.last),

@@ -1,16 +1,16 @@
 //! End (AMQP 1.0 part 2, section 2.7.8).
 
-ghost use Rattle.std.specs.Prelude.{◌≡◌, ◌<◌, ◌≤◌, ◌+◌, ◌^◌, ◌++◌, length, map, List, ℕ, Option};
+ghost use Rattle.std.specs.Prelude.{◌≡◌, ◌<◌, ◌≤◌, ◌+◌, ◌^◌, ◌++◌, length, List, ℕ, Option};
 ghost use Rattle.amqp_values.specs.Reading.{Gives};
-ghost use Rattle.amqp_types.specs.Part.{part_text};
 ghost use Rattle.amqp_types.specs.End.{end_body_at, end_fields};
 ghost use Rattle.amqp_types.specs.declared.performatives.Performative.TheVariants as performative;
 ghost use Rattle.amqp_types.specs.Performatives.{performative_text};
 
 use crate::error::Error;
 use crate::part::Part;
+use amqp_values::row::Row1;
 use amqp_values::writing::{described_len, put_described};
-use amqp_values::{Composite, Parts, ReadError, codes};
+use amqp_values::{Composite, Parts, ReadError, codes, row_of};
 use bytes::BytesMut;
 use std::alloc::Global;
 use std::marker::Model;
@@ -49,19 +49,22 @@ impl Composite for End {
     ghost body_at = { end_body_at };
 
     #[tactic(auto, unfolding(crate::specs::End::end_body_at))]
+    #[inline(always)]
     fn fields(alloc: Global, parts: &mut Parts) -> Result<End, ReadError> {
         let error = parts.next(alloc)?;
-        parts.finish(End { error })
+        parts.finish()?;
+        Ok(End { error })
     }
 }
 
 impl End {
     /// The fields, borrowed for writing.
     #[tactic(auto, unfolding(crate::specs::End::end_fields))]
-    pub(crate) fn parts(&self) -> [Part<'_>; 1]
-        ensures { map part_text result ≡ end_fields self.now }
+    #[inline(always)]
+    pub(crate) fn parts(&self) -> Row1<Part<'_>>
+        ensures { result ≡ end_fields self.now }
     {
-        [Part::optional(&self.error)]
+        row_of![Part::optional(&self.error)]
     }
 
     /// The length in bytes of the canonical text. Takes no memory and writes nothing.

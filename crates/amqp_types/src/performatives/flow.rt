@@ -1,16 +1,16 @@
 //! Flow (AMQP 1.0 part 2, section 2.7.4).
 
-ghost use Rattle.std.specs.Prelude.{◌≡◌, ◌<◌, ◌≤◌, ◌+◌, ◌^◌, ◌++◌, length, map, List, ℕ, Option};
+ghost use Rattle.std.specs.Prelude.{◌≡◌, ◌<◌, ◌≤◌, ◌+◌, ◌^◌, ◌++◌, length, List, ℕ, Option};
 ghost use Rattle.amqp_values.specs.Reading.{Gives};
-ghost use Rattle.amqp_values.specs.Writing.{leaf_text};
 ghost use Rattle.amqp_types.specs.Flow.{flow_body_at, flow_fields, flow_first_same, flow_last_same};
 ghost use Rattle.amqp_types.specs.declared.performatives.Performative.TheVariants as performative;
 ghost use Rattle.amqp_types.specs.Performatives.{performative_text};
 
 use crate::definitions::Handle;
 use crate::leaf;
+use amqp_values::row::Row11;
 use amqp_values::writing::{described_len, put_described};
-use amqp_values::{Composite, Fields, Leaf, Parts, ReadError, codes};
+use amqp_values::{Composite, Fields, Leaf, Parts, ReadError, codes, row_of};
 use bytes::BytesMut;
 use std::alloc::Global;
 use std::marker::Model;
@@ -105,6 +105,7 @@ impl Composite for Flow {
     ghost body_at = { flow_body_at };
 
     #[tactic(auto, unfolding(crate::specs::Flow::flow_body_at))]
+    #[inline(always)]
     fn fields(alloc: Global, parts: &mut Parts) -> Result<Flow, ReadError> {
         let next_incoming_id = parts.next(alloc)?;
         let incoming_window = parts.required(alloc)?;
@@ -117,7 +118,8 @@ impl Composite for Flow {
         let drain = parts.or(alloc, false)?;
         let echo = parts.or(alloc, false)?;
         let properties = parts.next(alloc)?;
-        parts.finish(Flow {
+        parts.finish()?;
+        Ok(Flow {
             next_incoming_id,
             incoming_window,
             next_outgoing_id,
@@ -136,10 +138,11 @@ impl Composite for Flow {
 impl Flow {
     /// The fields, borrowed for writing.
     #[tactic(auto, unfolding(crate::specs::Flow::flow_fields))]
-    pub(crate) fn parts(&self) -> [Leaf<'_>; 11]
-        ensures { map leaf_text result ≡ flow_fields self.now }
+    #[inline(always)]
+    pub(crate) fn parts(&self) -> Row11<Leaf<'_>>
+        ensures { result ≡ flow_fields self.now }
     {
-        [
+        row_of![
             leaf::optional_uint(self.next_incoming_id),
             Leaf::Uint(self.incoming_window),
             Leaf::Uint(self.next_outgoing_id),

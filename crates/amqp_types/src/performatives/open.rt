@@ -1,15 +1,15 @@
 //! Open (AMQP 1.0 part 2, section 2.7.1).
 
-ghost use Rattle.std.specs.Prelude.{◌≡◌, ◌<◌, ◌≤◌, ◌+◌, ◌^◌, ◌++◌, length, map, List, ℕ, Option};
+ghost use Rattle.std.specs.Prelude.{◌≡◌, ◌<◌, ◌≤◌, ◌+◌, ◌^◌, ◌++◌, length, List, ℕ, Option};
 ghost use Rattle.amqp_values.specs.Reading.{Gives};
-ghost use Rattle.amqp_values.specs.Writing.{leaf_text};
 ghost use Rattle.amqp_types.specs.Open.{open_body_at, open_fields, open_first_same, open_last_same};
 ghost use Rattle.amqp_types.specs.declared.performatives.Performative.TheVariants as performative;
 ghost use Rattle.amqp_types.specs.Performatives.{performative_text};
 
 use crate::{copies, leaf};
+use amqp_values::row::Row10;
 use amqp_values::writing::{described_len, put_described};
-use amqp_values::{Composite, Fields, Leaf, Parts, ReadError, Symbol, codes};
+use amqp_values::{Composite, Fields, Leaf, Parts, ReadError, Symbol, codes, row_of};
 use bytes::BytesMut;
 use std::alloc::{AllocError, Global};
 use std::marker::Model;
@@ -120,6 +120,7 @@ impl Composite for Open {
     ghost body_at = { open_body_at };
 
     #[tactic(auto, unfolding(crate::specs::Open::open_body_at))]
+    #[inline(always)]
     fn fields(alloc: Global, parts: &mut Parts) -> Result<Open, ReadError> {
         let container_id = parts.required(alloc)?;
         let hostname = parts.next(alloc)?;
@@ -131,7 +132,8 @@ impl Composite for Open {
         let offered_capabilities = parts.next(alloc)?;
         let desired_capabilities = parts.next(alloc)?;
         let properties = parts.next(alloc)?;
-        parts.finish(Open {
+        parts.finish()?;
+        Ok(Open {
             container_id,
             hostname,
             max_frame_size,
@@ -149,10 +151,11 @@ impl Composite for Open {
 impl Open {
     /// The fields, borrowed for writing.
     #[tactic(auto, unfolding(crate::specs::Open::open_fields))]
-    pub(crate) fn parts(&self) -> [Leaf<'_>; 10]
-        ensures { map leaf_text result ≡ open_fields self.now }
+    #[inline(always)]
+    pub(crate) fn parts(&self) -> Row10<Leaf<'_>>
+        ensures { result ≡ open_fields self.now }
     {
-        [
+        row_of![
             Leaf::String(self.container_id.as_str()),
             leaf::optional_string(&self.hostname),
             leaf::uint_or(self.max_frame_size, u32::MAX),

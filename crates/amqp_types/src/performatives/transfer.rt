@@ -1,8 +1,7 @@
 //! Transfer (AMQP 1.0 part 2, section 2.7.5).
 
-ghost use Rattle.std.specs.Prelude.{◌≡◌, ◌<◌, ◌≤◌, ◌+◌, ◌^◌, ◌++◌, length, map, List, ℕ, Option};
+ghost use Rattle.std.specs.Prelude.{◌≡◌, ◌<◌, ◌≤◌, ◌+◌, ◌^◌, ◌++◌, length, List, ℕ, Option};
 ghost use Rattle.amqp_values.specs.Reading.{Gives};
-ghost use Rattle.amqp_values.specs.Writing.{leaf_text};
 ghost use Rattle.amqp_types.specs.Transfer.{continuation, said_in, transfer_body_at};
 ghost use Rattle.amqp_types.specs.Transfer.{transfer_fields, transfer_first_same, transfer_last_same};
 ghost use Rattle.amqp_types.specs.declared.performatives.Performative.TheVariants as performative;
@@ -10,8 +9,9 @@ ghost use Rattle.amqp_types.specs.Performatives.{performative_text};
 
 use crate::definitions::{DeliveryTag, Handle, ReceiverSettleMode};
 use crate::leaf;
+use amqp_values::row::Row11;
 use amqp_values::writing::{described_len, put_described};
-use amqp_values::{Composite, Leaf, Parts, Raw, ReadError, codes};
+use amqp_values::{Composite, Leaf, Parts, Raw, ReadError, codes, row_of};
 use bytes::BytesMut;
 use std::alloc::Global;
 use std::marker::Model;
@@ -120,6 +120,7 @@ impl Composite for Transfer {
     ghost body_at = { transfer_body_at };
 
     #[tactic(auto, unfolding(crate::specs::Transfer::transfer_body_at))]
+    #[inline(always)]
     fn fields(alloc: Global, parts: &mut Parts) -> Result<Transfer, ReadError> {
         let handle = parts.required(alloc)?;
         let delivery_id = parts.next(alloc)?;
@@ -132,7 +133,8 @@ impl Composite for Transfer {
         let resume = parts.or(alloc, false)?;
         let aborted = parts.or(alloc, false)?;
         let batchable = parts.or(alloc, false)?;
-        parts.finish(Transfer {
+        parts.finish()?;
+        Ok(Transfer {
             handle,
             delivery_id,
             delivery_tag,
@@ -151,8 +153,8 @@ impl Composite for Transfer {
 impl Transfer {
     /// The fields, borrowed for writing.
     #[inline(always)]
-    pub(crate) fn parts(&self) -> [Leaf<'_>; 11]
-        ensures { map leaf_text result ≡ transfer_fields self.now }
+    pub(crate) fn parts(&self) -> Row11<Leaf<'_>>
+        ensures { result ≡ transfer_fields self.now }
     {
         self.parts_with(self.more)
     }
@@ -160,10 +162,10 @@ impl Transfer {
     /// The fields with this `more`.
     #[tactic(auto, unfolding(crate::specs::Transfer::transfer_fields))]
     #[inline(always)]
-    fn parts_with(&self, more: bool) -> [Leaf<'_>; 11]
-        ensures { map leaf_text result ≡ transfer_fields (record self.now { more = more }) }
+    fn parts_with(&self, more: bool) -> Row11<Leaf<'_>>
+        ensures { result ≡ transfer_fields (record self.now { more = more }) }
     {
-        [
+        row_of![
             Leaf::Uint(self.handle.0),
             leaf::optional_uint(self.delivery_id),
             leaf::optional_tag(&self.delivery_tag),
@@ -180,10 +182,11 @@ impl Transfer {
 
     /// The fields of a continuation with this `more`.
     #[tactic(auto, unfolding(crate::specs::Transfer::transfer_fields))]
-    fn parts_continued(&self, more: bool) -> [Leaf<'_>; 11]
-        ensures { map leaf_text result ≡ transfer_fields (record (continuation self.now) { more = more }) }
+    #[inline(always)]
+    fn parts_continued(&self, more: bool) -> Row11<Leaf<'_>>
+        ensures { result ≡ transfer_fields (record (continuation self.now) { more = more }) }
     {
-        [
+        row_of![
             Leaf::Uint(self.handle.0),
             Leaf::Null,
             Leaf::Null,
@@ -199,8 +202,9 @@ impl Transfer {
     }
 
     /// The fields of one of the texts.
-    fn parts_in(&self, text: TransferText) -> [Leaf<'_>; 11]
-        ensures { map leaf_text result ≡ transfer_fields (said_in text self.now) }
+    #[inline(always)]
+    fn parts_in(&self, text: TransferText) -> Row11<Leaf<'_>>
+        ensures { result ≡ transfer_fields (said_in text self.now) }
     {
         match text {
             TransferText::Whole => self.parts(),

@@ -1,0 +1,134 @@
+//! Rows: the fields of a list, borrowed for writing, each beside those behind it.
+
+ghost use Rattle.std.specs.Prelude.{◌≡◌, ℕ, ◌+◌, ◌^◌, ◌<◌, ◌≤◌, List, [], ◌∷◌, ◌++◌, length, take};
+ghost use Rattle.amqp_values.specs.Reading.{joined};
+ghost use Rattle.amqp_values.specs.Writing.{trim};
+
+use crate::encode::Encode;
+use bytes::BytesMut;
+use std::marker::Model;
+
+/// How far the fields of a row reach that stand before the nulls at its end.
+#[derive(Clone, Copy, Debug)]
+pub struct Extent {
+    /// How many there are.
+    pub count: usize,
+    /// The length of their texts.
+    pub size: u128,
+}
+
+/// The fields of a list. A row is seen as the texts of its fields. Each row has a type of its own, so that what is done with
+/// it is compiled field by field.
+pub trait Row {
+    ghost texts: { Self → List (List ℕ) };
+
+    // no texts of the fields are longer, so that sums of lengths stay in range
+    ghost most: { ℕ };
+
+    /// How far the fields before the nulls at the end reach.
+    fn extent(&self) -> Extent
+        requires many { length (texts self.now) ≤ 16 }
+        requires long { most < 2 ^ 127 }
+        ensures count { result.count ≡ length (trim (texts self.now)) }
+        ensures size { result.size ≡ length (joined (trim (texts self.now))) }
+        ensures few { result.count ≤ length (texts self.now) }
+        ensures small { result.size ≤ most };
+
+    /// Appends the texts of the first `count` fields, to a buffer that has room for them.
+    fn put(&self, count: usize, out: &mut BytesMut)
+        requires room { length (joined (take count (texts self.now))) ≤ out.old.spare }
+        requires fits { length (joined (take count (texts self.now))) < 2 ^ 32 }
+        ensures items { out.new.items ≡ out.old.items ++ joined (take count (texts self.now)) }
+        ensures spare { out.new.spare + length (joined (take count (texts self.now))) ≡ out.old.spare };
+}
+
+/// No further field.
+#[derive(Drop)]
+pub struct NoMore;
+
+/// A field, and those behind it.
+#[derive(Drop)]
+pub struct Then<T: Encode, R: Row>(pub T, pub R);
+
+impl<T: Encode, R: Row> Model for Then<T, R> {
+    ghost use Rattle.std.specs.Prelude.{ℕ, List, ◌∷◌};
+
+    ghost Value = { List (List ℕ) };
+
+    ghost view = { λ r. T.text r.0 ∷ R.texts r.1 };
+}
+
+impl Row for NoMore {
+    ghost texts = { λ _. [] };
+
+    ghost most = { 0 };
+
+    #[inline(always)]
+    fn extent(&self) -> Extent {
+        Extent { count: 0, size: 0 }
+    }
+
+    #[inline(always)]
+    fn put(&self, _count: usize, _out: &mut BytesMut) {}
+}
+
+impl<T: Encode, R: Row> Row for Then<T, R> {
+    ghost texts = { λ r. r };
+
+    ghost most = { T.most + R.most };
+
+    #[inline(always)]
+    fn extent(&self) -> Extent {
+        let Extent { count, size } = self.1.extent();
+        if count == 0 && self.0.is_null() {
+            return Extent { count, size };
+        }
+        Extent {
+            count: count + 1,
+            size: self.0.encoded_len() + size,
+        }
+    }
+
+    #[inline(always)]
+    fn put(&self, count: usize, out: &mut BytesMut) {
+        if count > 0 {
+            self.0.put(out);
+            self.1.put(count - 1, out);
+        }
+    }
+}
+
+/// The row of these fields.
+#[macro_export]
+macro_rules! row_of {
+    () => { $crate::row::NoMore };
+    ($first:expr $(, $others:expr)* $(,)?) => { $crate::row::Then($first, $crate::row_of!($($others),*)) };
+}
+
+pub type Row1<T> = Then<T, NoMore>;
+
+pub type Row2<T> = Then<T, Row1<T>>;
+
+pub type Row3<T> = Then<T, Row2<T>>;
+
+pub type Row4<T> = Then<T, Row3<T>>;
+
+pub type Row5<T> = Then<T, Row4<T>>;
+
+pub type Row6<T> = Then<T, Row5<T>>;
+
+pub type Row7<T> = Then<T, Row6<T>>;
+
+pub type Row8<T> = Then<T, Row7<T>>;
+
+pub type Row9<T> = Then<T, Row8<T>>;
+
+pub type Row10<T> = Then<T, Row9<T>>;
+
+pub type Row11<T> = Then<T, Row10<T>>;
+
+pub type Row12<T> = Then<T, Row11<T>>;
+
+pub type Row13<T> = Then<T, Row12<T>>;
+
+pub type Row14<T> = Then<T, Row13<T>>;
