@@ -10,6 +10,7 @@ use crate::cut::cut;
 use crate::error::Error;
 use crate::frame::{Frame, FrameBody};
 use crate::head::whole_head;
+use crate::heads::Heads;
 use crate::laws::whole_is_read;
 use crate::piece::Piece;
 use amqp_types::Transfer;
@@ -56,10 +57,23 @@ impl FrameEncoder {
     pub fn encode(&self, alloc: Global, frame: &Frame) -> Result<Vec<Piece>, Error>
         ensures { Encodes (λ v. v.items) frame.now self.now result }
     {
+        let mut heads = Heads::single(alloc);
+        self.encode_from(alloc, &mut heads, frame)
+    }
+
+    /// As [`FrameEncoder::encode`], with the head of a frame that is one piece cut from the room of many.
+    pub fn encode_from(
+        &self,
+        alloc: Global,
+        heads: &mut Heads,
+        frame: &Frame,
+    ) -> Result<Vec<Piece>, Error>
+        ensures { Encodes (λ v. v.items) frame.now self.now result }
+    {
         let limit = self.max_piece_len;
         let len = frame.body.text_len();
         if frame.body.is_within(len, limit - 4) {
-            let pieces = whole(alloc, frame, len as usize)?;
+            let pieces = whole(alloc, heads, frame, len as usize)?;
             return Ok(pieces);
         }
         in_pieces(alloc, frame, limit)
@@ -80,7 +94,12 @@ impl FrameEncoder {
 }
 
 /// The one piece of a frame that is whole, whose text has this length.
-fn whole(alloc: Global, frame: &Frame, len: usize) -> Result<Vec<Piece>, AllocError>
+fn whole(
+    alloc: Global,
+    heads: &mut Heads,
+    frame: &Frame,
+    len: usize,
+) -> Result<Vec<Piece>, AllocError>
     requires text { len ≡ length (text_of frame.now.body) }
     requires fits { length (text_of frame.now.body) + length (payload_of frame.now.body) + 4 < 2 ^ 32 }
     ensures { IfOk result (λ v. (p : _) × (v.items ≡ p ∷ []) × IsWholePiece frame.now p × DecodesTo frame.now (piece_bytes p)) }
@@ -88,7 +107,7 @@ fn whole(alloc: Global, frame: &Frame, len: usize) -> Result<Vec<Piece>, AllocEr
     whole_is_read(frame);
     let mut pieces = Vec::with_capacity(alloc, 1)?;
     let payload = frame.body.payload()?;
-    let head = whole_head(alloc, frame.channel, &frame.body, len)?;
+    let head = whole_head(heads, frame.channel, &frame.body, len)?;
     pieces.push_reserved(Piece::own(head, payload));
     Ok(pieces)
 }

@@ -6,17 +6,18 @@ ghost use Rattle.amqp_frames.specs.Frame.{header_text, text_of};
 ghost use Rattle.amqp_frames.specs.Cut.{transfer_text};
 
 use crate::frame::FrameBody;
+use crate::heads::Heads;
 use amqp_types::{Transfer, TransferText};
 use bytes::BytesMut;
 use std::alloc::{AllocError, Global};
 
 /// A buffer with the header, and room for `len` bytes behind it.
 #[inline(always)]
-fn header(alloc: Global, channel: u16, len: usize) -> Result<BytesMut, AllocError>
+fn header(heads: &mut Heads, channel: u16, len: usize) -> Result<BytesMut, AllocError>
     requires { len < 2 ^ 32 }
     ensures { IfOk result (λ b. (b.items ≡ header_text channel) × (len ≤ b.spare)) }
 {
-    let mut out = BytesMut::with_capacity(alloc, 4 + len)?;
+    let mut out = heads.take(4 + len)?;
     out.extend_reserved(&[2, 0]);
     out.extend_reserved(&channel.to_be_bytes());
     Ok(out)
@@ -24,7 +25,7 @@ fn header(alloc: Global, channel: u16, len: usize) -> Result<BytesMut, AllocErro
 
 /// The head of a frame that is whole, whose text has this length.
 pub(crate) fn whole_head(
-    alloc: Global,
+    heads: &mut Heads,
     channel: u16,
     body: &FrameBody,
     len: usize,
@@ -33,9 +34,9 @@ pub(crate) fn whole_head(
     requires fits { length (text_of body.now) < 2 ^ 32 }
     ensures { IfOk result (λ b. b.items ≡ header_text channel ++ text_of body.now) }
 {
-    let mut out = header(alloc, channel, len)?;
+    let mut out = header(heads, channel, len)?;
     body.put_text(&mut out);
-    Ok(out)
+    heads.cut(out)
 }
 
 /// The head of a piece of a transfer, with one of its texts.
@@ -49,7 +50,7 @@ pub(crate) fn transfer_head(
     ensures { IfOk result (λ b. b.items ≡ header_text channel ++ transfer_text (said_in text transfer.now)) }
 {
     let len = transfer.encoded_len_in(text);
-    let mut out = header(alloc, channel, len as usize)?;
+    let mut out = header(&mut Heads::single(alloc), channel, len as usize)?;
     transfer.put_in(text, &mut out);
     Ok(out)
 }
