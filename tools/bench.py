@@ -26,10 +26,10 @@ FEW, MANY = 100, 300
 PAYLOAD = b"x" * 64
 
 
-def run(program, mode, count, limit, lines, under=()):
+def run(program, mode, count, limit, lines, under=(), more=()):
     """What a run prints, on its two outputs."""
     environment = dict(os.environ, GLIBC_TUNABLES="glibc.cpu.x86_rep_movsb_threshold=1073741824")
-    done = subprocess.run([*under, program, mode, str(count), str(limit)], input="\n".join(lines) + "\n", text=True,
+    done = subprocess.run([*under, program, mode, str(count), str(limit), *more], input="\n".join(lines) + "\n", text=True,
                           capture_output=True, env=environment)
     if done.returncode:
         sys.exit(f"{mode}: {done.stderr[-1000:]}")
@@ -80,4 +80,5 @@ def main():
     row(program, "a piece of 16 kB cut at 508", "encode", [frames[NAMES.index("transfer")] + "78" * 16384], limit=508)
 
 
-main()
+if __name__ == "__main__":
+    main()

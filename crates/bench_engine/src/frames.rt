@@ -1,0 +1,57 @@
+//! The frames of the peer's that carry numbers, without their size (AMQP 1.0 part 2, section 2.7).
+
+use bytes::Bytes;
+use std::alloc::{AllocError, Global};
+
+/// A Begin that answers the channel 0: next-outgoing-id 0, and both windows as wide as can be.
+const BEGIN: [u8; 24] = [
+    2, 0, 0, 0, 0x00, 0x53, 0x11, 0xc0, 15, 4, 0x60, 0, 0, 0x43, 0x70, 0xff, 0xff, 0xff, 0xff,
+    0x70, 0xff, 0xff, 0xff, 0xff,
+];
+
+/// A Flow of the session: next-incoming-id 0, incoming-window 0, next-outgoing-id 0, and an outgoing window as wide as can be.
+const FLOW: [u8; 26] = [
+    2, 0, 0, 0, 0x00, 0x53, 0x13, 0xc0, 17, 4, 0x70, 0, 0, 0, 0, 0x70, 0, 0, 0, 0, 0x43, 0x70,
+    0xff, 0xff, 0xff, 0xff,
+];
+
+/// A Disposition of the receiver's from 0 to 0: settled and accepted.
+const DISPOSITION: [u8; 26] = [
+    2, 0, 0, 0, 0x00, 0x53, 0x15, 0xc0, 17, 5, 0x41, 0x70, 0, 0, 0, 0, 0x70, 0, 0, 0, 0, 0x41,
+    0x00, 0x53, 0x24, 0x45,
+];
+
+/// The peer answers the Begin that was sent on this channel, on the same one.
+pub fn begin(alloc: Global, channel: u16) -> Result<Bytes, AllocError> {
+    let mut frame = BEGIN;
+    frame[2..4].copy_from_slice(&channel.to_be_bytes());
+    frame[11..13].copy_from_slice(&channel.to_be_bytes());
+    Bytes::copy_from_slice(alloc, &frame)
+}
+
+/// From the transfer with the number `next` on, the peer takes as many as the window says.
+pub fn flow(alloc: Global, channel: u16, next: u32, window: u32) -> Result<Bytes, AllocError> {
+    let mut frame = FLOW;
+    frame[2..4].copy_from_slice(&channel.to_be_bytes());
+    frame[11..15].copy_from_slice(&next.to_be_bytes());
+    frame[16..20].copy_from_slice(&window.to_be_bytes());
+    Bytes::copy_from_slice(alloc, &frame)
+}
+
+/// The peer accepts and settles the deliveries from `first` to `last`.
+pub fn settled(alloc: Global, channel: u16, first: u32, last: u32) -> Result<Bytes, AllocError> {
+    let mut frame = DISPOSITION;
+    frame[2..4].copy_from_slice(&channel.to_be_bytes());
+    frame[12..16].copy_from_slice(&first.to_be_bytes());
+    frame[17..21].copy_from_slice(&last.to_be_bytes());
+    Bytes::copy_from_slice(alloc, &frame)
+}
+
+/// The same frame on another channel.
+pub fn on_channel(alloc: Global, frame: &Bytes, channel: u16) -> Result<Bytes, AllocError> {
+    let mut copy = Vec::from_slice(alloc, frame.as_slice())?;
+    if copy.len() >= 4 {
+        copy[2..4].copy_from_slice(&channel.to_be_bytes());
+    }
+    Ok(Bytes::from_vec(copy)?)
+}

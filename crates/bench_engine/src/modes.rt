@@ -1,0 +1,234 @@
+//! The modes: what a session is given, and when.
+
+use crate::bench::{Bench, Plan};
+use crate::frames;
+use crate::relay::Taker;
+use bytes::Bytes;
+use fe2o3_amqp::{
+    DeliveryTag, Disposition, Handle, Input, InputHandle, Raw, Role, SessionNo, SessionSettings,
+    Transfer,
+};
+use std::alloc::{AllocError, Global};
+
+/// The accepted state.
+const ACCEPTED: &[u8] = &[0x00, 0x53, 0x24, 0x45];
+
+/// How far the widest range reaches.
+const WIDEST: u32 = 0x7fff_ffff;
+
+/// How many go out behind the peak.
+const AFTER_PEAK: u32 = 10;
+
+/// A session with one link, and the number of its next transfer.
+#[derive(Drop)]
+struct Link<'a> {
+    alloc: Global,
+    plan: &'a Plan,
+    channel: u16,
+    next: u32,
+}
+
+/// Opens the connection, and does in each session what the mode says. An unknown mode does nothing.
+pub fn run(alloc: Global, bench: &mut Bench, mode: &str, plan: &Plan) -> anyhow::Result<()> {
+    bench.give(Input::Open)?;
+    bench.give(Input::Received(plan.peer_open.clone()?))?;
+    bench.run()?;
+    for channel in 0..plan.sessions {
+        let mut link = Link {
+            alloc,
+            plan,
+            channel,
+            next: 0,
+        };
+        link.begin(bench)?;
+        link.measure(bench, mode)?;
+    }
+    Ok(())
+}
+
+impl<'a> Link<'a> {
+    fn session(&self) -> SessionNo {
+        SessionNo(u32::from(self.channel))
+    }
+
+    fn begin(&self, bench: &mut Bench) -> anyhow::Result<()> {
+        let name = String::from_str(self.alloc, "link")?;
+        let answer = frames::begin(self.alloc, self.channel)?;
+        bench.give(Input::Begin(self.session(), SessionSettings::new()))?;
+        bench.give(Input::Received(answer))?;
+        bench.give(Input::AllocateIncomingLink(self.session(), name, Taker, InputHandle(0)))?;
+        bench.run()
+    }
+
+    fn measure(&mut self, bench: &mut Bench, mode: &str) -> anyhow::Result<()> {
+        match mode {
+            "receive" => self.receive(bench),
+            "send" => self.send(bench),
+            "unsettled" => self.send_unsettled(bench),
+            "held" => self.hold(bench),
+            _ => {
+                self.go_out(bench, self.plan.open)?;
+                self.settle(bench, mode)
+            }
+        }
+    }
+
+    fn settle(&mut self, bench: &mut Bench, mode: &str) -> anyhow::Result<()> {
+        match mode {
+            "forward" => self.settle_forward(bench, 0),
+            "backward" => self.settle_backward(bench),
+            "range" => self.settle_range(bench, self.next.wrapping_sub(1)),
+            "wide" => self.settle_range(bench, WIDEST),
+            "peak" => self.settle_after_peak(bench),
+            _ => Ok(()),
+        }
+    }
+
+    /// Gives an input, and runs where a batch is there.
+    fn pass(&self, bench: &mut Bench, input: Input<Taker>) -> anyhow::Result<()> {
+        bench.give(input)?;
+        if bench.given() >= self.plan.batch as usize {
+            bench.take()?;
+        }
+        Ok(())
+    }
+
+    /// That many transfers go out unsettled.
+    fn go_out(&mut self, bench: &mut Bench, count: u32) -> anyhow::Result<()> {
+        for _ in 0..count {
+            let transfer = self.transfer(false)?;
+            self.pass(bench, transfer)?;
+        }
+        bench.take()
+    }
+
+    fn receive(&self, bench: &mut Bench) -> anyhow::Result<()> {
+        let frame = frames::on_channel(self.alloc, &self.plan.transfer, self.channel)?;
+        for _ in 0..self.plan.count {
+            for _ in 0..self.plan.batch {
+                bench.give(Input::Received(frame.clone()?))?;
+            }
+            bench.give(self.accepted()?)?;
+            bench.take()?;
+        }
+        Ok(())
+    }
+
+    fn send(&mut self, bench: &mut Bench) -> anyhow::Result<()> {
+        for _ in 0..self.plan.count {
+            for _ in 0..self.plan.batch {
+                bench.give(self.transfer(true)?)?;
+            }
+            bench.take()?;
+        }
+        Ok(())
+    }
+
+    fn send_unsettled(&mut self, bench: &mut Bench) -> anyhow::Result<()> {
+        for _ in 0..self.plan.count {
+            let first = self.next;
+            self.go_out(bench, self.plan.batch)?;
+            for i in 0..self.plan.batch {
+                let number = first.wrapping_add(i);
+                bench.give(self.settled(number, number)?)?;
+            }
+            bench.take()?;
+        }
+        Ok(())
+    }
+
+    /// The window is closed first; from then on each flow opens it for what waits.
+    fn hold(&mut self, bench: &mut Bench) -> anyhow::Result<()> {
+        bench.give(self.flow(0, 0)?)?;
+        for _ in 0..self.plan.count {
+            let first = self.next;
+            for _ in 0..self.plan.batch {
+                bench.give(self.transfer(false)?)?;
+            }
+            bench.give(self.flow(first, self.plan.batch)?)?;
+            bench.take()?;
+        }
+        Ok(())
+    }
+
+    fn settle_forward(&self, bench: &mut Bench, first: u32) -> anyhow::Result<()> {
+        for i in 0..self.plan.count {
+            let number = first.wrapping_add(i);
+            let settled = self.settled(number, number)?;
+            self.pass(bench, settled)?;
+        }
+        bench.take()
+    }
+
+    fn settle_backward(&self, bench: &mut Bench) -> anyhow::Result<()> {
+        for i in 0..self.plan.count {
+            let number = self.next.wrapping_sub(1).wrapping_sub(i);
+            let settled = self.settled(number, number)?;
+            self.pass(bench, settled)?;
+        }
+        bench.take()
+    }
+
+    fn settle_range(&self, bench: &mut Bench, last: u32) -> anyhow::Result<()> {
+        for _ in 0..self.plan.count {
+            bench.give(self.settled(0, last)?)?;
+            bench.take()?;
+        }
+        Ok(())
+    }
+
+    fn settle_after_peak(&mut self, bench: &mut Bench) -> anyhow::Result<()> {
+        let first = self.next;
+        bench.give(self.settled(0, first)?)?;
+        bench.take()?;
+        self.go_out(bench, AFTER_PEAK)?;
+        self.settle_forward(bench, first)
+    }
+
+    /// The next transfer that goes out.
+    #[inline(never)]
+    fn transfer(&mut self, settled: bool) -> Result<Input<Taker>, AllocError> {
+        self.next = self.next.wrapping_add(1);
+        let transfer = Transfer {
+            handle: Handle(0),
+            delivery_id: None,
+            delivery_tag: Some(DeliveryTag(self.plan.tag.clone()?)),
+            message_format: Some(0),
+            settled: Some(settled),
+            more: false,
+            rcv_settle_mode: None,
+            state: None,
+            resume: false,
+            aborted: false,
+            batchable: false,
+        };
+        let payload = self.plan.payload.clone()?;
+        Ok(Input::Transfer(self.session(), InputHandle(0), transfer, payload, true))
+    }
+
+    /// This side accepts a received batch.
+    fn accepted(&self) -> anyhow::Result<Input<Taker>> {
+        let (state, _rest) = Raw::read(Bytes::from_static(ACCEPTED))?;
+        let disposition = Disposition {
+            role: Role::Receiver,
+            first: 0,
+            last: Some(self.plan.batch),
+            settled: true,
+            state: Some(state),
+            batchable: false,
+        };
+        Ok(Input::Disposition(self.session(), disposition))
+    }
+
+    /// The peer settles the deliveries from `first` to `last`.
+    fn settled(&self, first: u32, last: u32) -> Result<Input<Taker>, AllocError> {
+        let frame = frames::settled(self.alloc, self.channel, first, last)?;
+        Ok(Input::Received(frame))
+    }
+
+    /// The peer takes that many transfers from `next` on.
+    fn flow(&self, next: u32, window: u32) -> Result<Input<Taker>, AllocError> {
+        let frame = frames::flow(self.alloc, self.channel, next, window)?;
+        Ok(Input::Received(frame))
+    }
+}
