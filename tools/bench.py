@@ -1,12 +1,13 @@
 #!/usr/bin/env python3
-"""What the codec costs, in instructions for a frame and in requests for memory, with the stored figures of qpid-proton beside it.
+"""What the codec costs, in instructions for a frame and in requests for memory, with the figures of qpid-proton beside it.
 
     tools/bench.py [PROGRAM]
 
 PROGRAM is the program of `crates/bench_codec`, as `rt run` builds it. Where none is named it is built first. Callgrind counts
 (Debian's `valgrind`), as a slope between two counts, so that what is done once is out. Glibc is told to copy without `rep movsb`,
 which callgrind counts as one instruction a byte. A row holds the loop too: the row `clone` is that of a shared copy of the bytes
-alone, which each row of `decode` and `read` makes as well.
+alone, which each row of `decode` and `read` makes as well. qpid-proton's figures come from `bench_proton.py`: counted in the same run where its
+packages are installed, and else stored.
 """
 
 import os
@@ -15,13 +16,10 @@ import subprocess
 import sys
 from pathlib import Path
 
+from bench_proton import figures
+
 CRATE = Path(__file__).resolve().parent.parent / "crates" / "bench_codec"
 NAMES = ["open", "begin", "attach", "flow", "transfer", "disposition", "detach", "end", "close"]
-# qpid-proton 0.37.0 decoding the same frames, counted alike on one machine; it has no call that encodes a frame alone
-PROTON = {
-    "open": 5817, "begin": 1974, "attach": 6516, "flow": 3036, "transfer": 2483,
-    "disposition": 2289, "detach": 1332, "end": 848, "close": 2558, "mean": 2689,
-}
 FEW, MANY = 100, 300
 PAYLOAD = b"x" * 64
 
@@ -63,13 +61,13 @@ def built():
 
 def main():
     program = sys.argv[1] if len(sys.argv) > 1 else built()
-    frames = (CRATE / "stdin").read_text().split()
+    frames, proton = (CRATE / "stdin").read_text().split(), figures()
     transfer = frames[NAMES.index("transfer")] + PAYLOAD.hex()
     print(f"{'an answer':34}{'instr.':>10}{'requests':>10}{'proton':>10}")
     row(program, "clone", "clone", [transfer])
     for name, frame in zip(NAMES, frames):
-        row(program, f"decode {name}", "decode", [frame], beside=PROTON[name])
-    row(program, "decode, mean of the nine", "decode", frames, beside=PROTON["mean"])
+        row(program, f"decode {name}", "decode", [frame], beside=proton[name])
+    row(program, "decode, mean of the nine", "decode", frames, beside=proton["mean"])
     row(program, "decode transfer, 64 bytes behind", "decode", [transfer])
     row(program, "read, mean of the nine", "read", frames)
     row(program, "length, mean of the nine", "length", frames)

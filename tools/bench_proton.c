@@ -1,13 +1,13 @@
 /* What qpid-proton does of the work that tools/bench.py and tools/bench_engine.py count of ours.
 
-   bench_proton decode N FILE     decodes the one body that FILE holds, N times
-   bench_proton receive N FILE    takes what the peer says in FILE; each delivery is read, accepted and settled
-   bench_proton send N FILE       the same, and sends N transfers of 64 bytes, settled
-   bench_proton unsettled N FILE  the same, unsettled; each delivery is settled when the peer has
-   bench_proton W N FILE          the same of W transfers, and then N of them are settled, one at a time
+   bench_proton decode N FILE BATCH     decodes the one body that FILE holds, N times
+   bench_proton receive N FILE BATCH    takes N transfers that the peer sends in FILE; each is read, accepted and settled
+   bench_proton send N FILE BATCH       sends N transfers of 64 bytes, settled
+   bench_proton unsettled N FILE BATCH  sends N transfers unsettled; each is settled when the peer has
+   bench_proton open N FILE BATCH       sends N transfers unsettled, and then takes what the peer settles, until FILE ends
 
-   FILE holds pieces, each behind its length in four bytes: what the peer says first, and then what it says for each batch of 100, or
-   each time. The last line of the output is what was done. */
+   FILE holds pieces, each behind its length in four bytes: what the peer says first, and then what it says for each BATCH. The last
+   line of the output is what was done. */
 
 #include <proton/codec.h>
 #include <proton/connection.h>
@@ -20,7 +20,7 @@
 #include <stdlib.h>
 #include <string.h>
 
-enum { BATCH = 100, PAYLOAD = 64 };
+enum { PAYLOAD = 64 };
 
 static char *bytes, *end;
 static long done;
@@ -117,7 +117,7 @@ static void send_from(pn_link_t *link, long first, long count, int is_settled) {
   }
 }
 
-static void exchange(const char *mode, long count) {
+static void exchange(const char *mode, long count, long batch) {
   end_t e = {pn_connection(), pn_transport(), pn_collector()};
   int receives = !strcmp(mode, "receive"), is_settled = !strcmp(mode, "send");
   pn_connection_collect(e.connection, e.collector);
@@ -132,11 +132,11 @@ static void exchange(const char *mode, long count) {
   put_out(&e);
   hear(&e);
   answer(&e);
-  long open = atol(mode), each = open ? 1 : BATCH;
-  if (open) send_from(link, 0, open, 0);
+  int stays_open = !strcmp(mode, "open");
+  if (stays_open) send_from(link, 0, count, 0);
   put_out(&e);
-  for (long i = 0; i < count; i += each) {
-    if (!receives && !open) send_from(link, i, BATCH, is_settled);
+  for (long i = 0; stays_open ? bytes < end : i < count; i += batch) {
+    if (!receives && !stays_open) send_from(link, i, batch, is_settled);
     put_out(&e);
     if (!is_settled) hear(&e);
     answer(&e);
@@ -149,10 +149,10 @@ static void exchange(const char *mode, long count) {
 }
 
 int main(int argc, char **argv) {
-  if (argc != 4) return 2;
+  if (argc != 5) return 2;
   load(argv[3]);
   if (!strcmp(argv[1], "decode")) decode(atol(argv[2]));
-  else exchange(argv[1], atol(argv[2]));
+  else exchange(argv[1], atol(argv[2]), atol(argv[4]));
   printf("done=%ld\n", done);
   return 0;
 }
