@@ -1,37 +1,44 @@
 #!/usr/bin/env python3
 """Tries the must-fail edits of crates/NAME/must-fail-together, many at a time.
 
-    tools/refused_together.py [CRATE | CRATE/EDIT]..
+    tools/refused_together.py [control] [CRATE | CRATE/EDIT]..
 
 An edit is a wrong body. It names the function that it makes wrong (a line 'function: PATH'), and then has the lines of the toolchain's
 must-fail edits: 'file:', 'old:', 'new:'. It counts as refused where a goal of that very function cannot be proved. A function that waits for
 the proof of another one does not count, and neither does a proof that misses a name which the edit took away.
 
 A contract is judged function by function, so edits of different functions are put into one copy of the crate and checked at once: what a
-check reads of the libraries, most of its time, is read once for all of them. An edit that such a check does not refuse is tried again
-alone. Edits of definitions (specs/) are tried alone. Before all of them the same check has to prove the crate as it stands.
+check reads of the libraries is then read once for all of them. In that copy the proof of each function that no edit names is an empty file,
+which is refused at once: what calls the function is judged by its contract all the same. An edit that such a check does not refuse is
+tried again alone. Edits of definitions (specs/) are tried alone.
 
-The libraries below a crate are taken as 'rt ci' or 'rt check' built them. The last line is 'N passed, M failed'.
+That a crate is proved as it stands is for 'rt ci' to say, which the gate calls before; a note names each crate that was changed since its
+rlib was made. Before the edits a check of such a copy with no edit in it, for one in eight of the functions that the edits name, has to
+leave no goal open; with 'control' as the first word it is for all of them. The last line is 'N passed, M failed'.
 """
 
+import copy
 import importlib.machinery
 import importlib.util
+import json
+import os
 import re
 import shutil
 import sys
 import tempfile
 import threading
 from concurrent.futures import ThreadPoolExecutor
-from contextlib import ExitStack
 from pathlib import Path
 
 ROOT = Path(__file__).resolve().parent.parent
 FOLDER = "must-fail-together"
 ANY_GOAL = re.compile(r"(?:\./)?\S+\.(?:rt|antt):\d+:\d+: error: |\S.*: no proof: .*did not prove ")
 # At most so many edits in one check, so that none takes long.
-MOST = 20
+MOST = 30
+# The control is of one in so many functions.
+ONE_IN = 8
 # What a check says where a proof names what is not there, or cites what was refused.
-MISSES_A_NAME = re.compile(r"has no field|has no `|is not in scope|was not admitted|is no name|no goal|cannot continue")
+MISSES_A_NAME = re.compile(r"has no field|has no `|is not in scope|was not admitted|is no name|no goal|cannot continue|exports no")
 
 
 def toolchain():
@@ -50,6 +57,23 @@ def toolchain():
 RT = toolchain()
 # A check for each processor at a time.
 LANES = threading.BoundedSemaphore(RT.processors())
+
+
+def any_goal(said):
+    """The line of a check that says that a goal is not proved, of whatever function or lemma, if there is one."""
+    return next((line for line in said.splitlines() if ANY_GOAL.match(line) and not MISSES_A_NAME.search(line)), None)
+
+
+def open_goal(crate, function, said):
+    """The line of a check that says that a goal of this very function is not proved, if there is one."""
+    *module, name = function.split("::")
+    unanswered = re.compile(rf"fn {crate}::{re.escape(function)}: no proof: .*did not prove ")
+    own = re.compile(rf"\./proofs/{re.escape('/'.join([*module, name]))}/\w+\.antt:\d+:\d+: error: ")
+    # (functions that call one another have one file, whose answers begin with the function's name, and so do their goals)
+    cycle = re.compile(rf"\./proofs/{re.escape('/'.join([*module, '+']))}\w+/\w+\.antt:\d+:\d+: error: `{re.escape(name)}-")
+    noted = re.compile(rf"note: src/{re.escape('/'.join(module))}\.rt:\d+:\d+: it is not proved .*\(`{re.escape(name)}-returns")
+    is_goal = lambda line: any(it.match(line) for it in (unanswered, own, cycle, noted)) and not MISSES_A_NAME.search(line)
+    return next(filter(is_goal, said.splitlines()), None)
 
 
 class Edit:
@@ -86,46 +110,71 @@ class Edit:
     def goal(self, crate, said):
         """The line that says that a goal of the function is not proved, if there is one. An edit of a definition is tried alone: there it may be
         any goal on the function's way."""
-        if self.is_alone():
-            return next((line for line in said.splitlines() if ANY_GOAL.match(line) and not MISSES_A_NAME.search(line)), None)
-        parts = self.function.split("::")
-        unanswered = re.compile(rf"fn {crate}::{re.escape(self.function)}: no proof: .*did not prove ")
-        own = re.compile(rf"\./proofs/{re.escape('/'.join(parts))}/\w+\.antt:\d+:\d+: error: ")
-        # (functions that call one another have one file, whose answers begin with the function's name)
-        cycle = re.compile(rf"\./proofs/{re.escape('/'.join([*parts[:-1], '+']))}\w+/\w+\.antt:\d+:\d+: error: `{re.escape(parts[-1])}-")
-        is_goal = lambda line: any(it.match(line) for it in (unanswered, own, cycle)) and not MISSES_A_NAME.search(line)
-        return next(filter(is_goal, said.splitlines()), None)
+        return any_goal(said) if self.is_alone() else open_goal(crate, self.function, said)
+
+
+def is_proved(crate):
+    """Whether the crate's rlib was made of its files as they are: by the sum of them beside it, or, after rt ci, since it is newer."""
+    built = Path(crate.rlib, "format")
+    if not built.is_file():
+        return False
+    return crate.is_built() or all(os.stat(it).st_mtime < built.stat().st_mtime for it in RT.rtlib.files_of(crate.folder))
+
+
+def functions(crate):
+    """The paths of the crate's functions that have a proof of their own, as its rlib names them."""
+    names = [it[0] for it in json.loads(Path(crate.rlib, "toolchain/mir.json").read_text())]
+    paths = [it.removeprefix(f"{crate.name}::") for it in names if re.fullmatch(rf"{crate.name}(::\w+)+", it)]
+    # (functions that call one another have one proof, in a folder with a plus)
+    return [it for it in paths if not list(proof_of(crate.folder, it).parent.glob("+*"))]
+
+
+def proof_of(folder, function):
+    return Path(folder, "proofs", *function.split("::"))
 
 
 class Trial:
-    """The edits of one crate, tried over what the check of the crate without an edit proved, which is kept in a folder of this run."""
+    """The edits of one crate, tried over what a check of it without an edit proved, which is kept in a folder of this run."""
 
-    def __init__(self, crate, edits, jobs, room):
-        self.crate, self.edits, self.jobs, self.kept = crate, edits, jobs, f"{room}/kept"
+    def __init__(self, crate, edits, room):
+        self.crate, self.edits, self.kept = crate, edits, f"{room}/kept"
         self.folder, self.lines, self.checks = Path(crate.folder), {}, 0
 
-    def prove(self):
-        """Checks the crate as it stands, from nothing, and keeps what that proves."""
-        with ExitStack() as lanes:
-            for _ in range(self.jobs):
-                lanes.enter_context(LANES)
-            return RT.checked(self.crate, {}, ["--jobs", str(self.jobs)], self.kept)
-
-    def check(self, edits, texts):
-        """Checks the functions of these edits over a copy of what is kept."""
-        functions = [word for edit in edits for word in ("--only", edit.function)]
+    def check(self, names, texts, kept):
+        """Checks these functions in a copy of the crate in which no other one has a proof."""
         with LANES, tempfile.TemporaryDirectory(prefix="rt-together-") as room:
+            crate = copy.copy(self.crate)
+            crate.folder = room
+            for part in RT.rtlib.PARTS:
+                shutil.copytree(self.folder / part, f"{room}/{part}", dirs_exist_ok=True)
+            for other in {*functions(self.crate)} - {*names}:
+                proof = proof_of(room, other)
+                shutil.rmtree(proof, ignore_errors=True)
+                proof.mkdir(parents=True)
+                proof.joinpath("Proof.antt").touch()
+            own = [word for name in names for word in ("--only", name)]
+            return RT.checked(crate, texts, ["--jobs", "1", *own], kept)
+
+    def try_edits(self, edits, texts):
+        with tempfile.TemporaryDirectory(prefix="rt-kept-") as room:
             shutil.copytree(self.kept, f"{room}/kept")
-            return RT.checked(self.crate, texts, ["--jobs", "1", *functions], f"{room}/kept")
+            return self.check([it.function for it in edits], texts, f"{room}/kept")
+
+    def control(self, one_in):
+        """Why the edits would show nothing, if so: a goal that is open as the crate stands, or the last words of a check without an end."""
+        names = sorted({it.function for it in self.edits})[::one_in]
+        said = self.check(names, {}, self.kept).stdout
+        came_to_an_end = re.search(r"^only=\d+ proved=\d+$", said, re.M)
+        return any_goal(said) if came_to_an_end else said[-300:] or "nothing"
 
     def next_of(self, edits):
         """The next of the edits that go together, with their texts: one of each function, each where its old texts still stand."""
-        functions, chosen, texts = set(), [], {}
+        names, chosen, texts = set(), [], {}
         for edit in edits:
-            if chosen and (edit.is_alone() or chosen[0].is_alone() or edit.function in functions or len(chosen) == MOST):
+            if chosen and (edit.is_alone() or chosen[0].is_alone() or edit.function in names or len(chosen) == MOST):
                 continue
             if edit.put(self.folder, texts) is None:
-                functions.add(edit.function)
+                names.add(edit.function)
                 chosen.append(edit)
         return chosen, texts
 
@@ -134,7 +183,7 @@ class Trial:
 
     def judge(self, edits, texts):
         """Notes which of the edits a check refuses, and tries each of the others alone."""
-        ran = self.check(edits, texts)
+        ran = self.try_edits(edits, texts)
         self.checks += 1
         for edit in edits:
             goal = edit.goal(self.crate.name, ran.stdout)
@@ -158,21 +207,21 @@ class Trial:
             left = [edit for edit in left if edit not in found[-1][0]]
         return found
 
-    def run(self):
+    def run(self, one_in):
         """Whether each edit is refused, and what to say of it."""
-        ran = self.prove()
-        if ran.returncode:
-            return [(False, f"{self.crate.name}: NOT PROVED without an edit: {ran.stdout[-300:]}")]
+        why = self.control(one_in)
+        if why:
+            return [(False, f"{self.crate.name}: NOT PROVED without an edit: {why}")]
         batches = self.batches()
         with ThreadPoolExecutor(len(batches) or 1) as pool:
             list(pool.map(lambda it: self.judge(*it), batches))
         return [self.lines[edit.name] for edit in self.edits]
 
 
-def tried(crate, edits, jobs):
+def tried(crate, edits, one_in):
     with tempfile.TemporaryDirectory(prefix="rt-together-") as room:
-        trial = Trial(crate, edits, jobs, room)
-        lines = trial.run()
+        trial = Trial(crate, edits, room)
+        lines = trial.run(one_in)
     said = [text for _, text in lines] + [f"{crate.name}: {len(edits)} edits in {trial.checks} checks"]
     print("\n".join(said), flush=True)
     return [is_well for is_well, _ in lines]
@@ -185,14 +234,19 @@ def chosen(crate, words):
 
 
 def main(words):
-    crates = [(it, chosen(it, [word.removesuffix(".edit") for word in words])) for it in RT.rtlib.crates_below(str(ROOT))]
-    # The highest crate takes longest: it comes first, and alone gets two processors for its proof where there are four.
-    work = [it for it in reversed(crates) if it[1]]
-    lacking = [it.name for crate, _ in work for it in crate.below() if not Path(it.rlib).is_dir()]
+    one_in = 1 if words[:1] == ["control"] else ONE_IN
+    words = [word.removesuffix(".edit") for word in words if word != "control"]
+    # The highest crate takes longest: it comes first.
+    work = [it for it in ((crate, chosen(crate, words)) for crate in reversed(RT.rtlib.crates_below(str(ROOT)))) if it[1]]
+    taken = {it.name: it for crate, _ in work for it in (*crate.below(), crate)}
+    lacking = [name for name, it in taken.items() if not Path(it.rlib).is_dir()]
     if lacking or not work:
-        sys.exit(f"not built by rt ci or rt check: {', '.join(lacking)}" if lacking else "no such edit")
+        sys.exit(f"not built by rt ci or rt lib: {', '.join(lacking)}" if lacking else "no such edit")
+    for it in taken.values():
+        if not is_proved(it):
+            print(f"note: {it.name} was changed since its rlib was made: rt ci or rt lib says whether it is proved", flush=True)
     with ThreadPoolExecutor(len(work)) as pool:
-        results = list(pool.map(lambda it: tried(*it, 2 if it == work[0] and RT.processors() > 3 else 1), work))
+        results = list(pool.map(lambda it: tried(*it, one_in), work))
     passed = sum(map(sum, results))
     failed = sum(map(len, results)) - passed
     print(f"{passed} passed, {failed} failed")

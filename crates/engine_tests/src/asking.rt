@@ -22,10 +22,13 @@ pub fn refusal_name(error: StepError) -> &'static str {
 
 /// What an input is answered.
 pub fn answer<R: LinkRelay>(engine: &mut Engine<R>, input: Input<R>) -> &'static str {
-    match refusal(engine, input) {
-        None => "done",
-        Some(error) => refusal_name(error),
-    }
+    let answer = engine.step(input);
+    let name = match &answer {
+        Ok(()) => "done",
+        Err(error) => err_name(error),
+    };
+    drop(answer);
+    name
 }
 
 /// The answer to a received frame.

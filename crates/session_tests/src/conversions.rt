@@ -80,7 +80,11 @@ fn printed(alloc: Global, frame: &SessionFrame) -> Result<String, AllocError> {
 }
 
 #[test]
-fn frames_are_printed(rt: HostRuntime) {
-    let text = printed(rt.alloc(), &carrier());
-    assert!(rt; text.is_ok_and(|it| it.as_str().ends_with("payload.len: 5 } }")));
+fn frames_are_printed(rt: HostRuntime) -> Result<(), Fail> {
+    let frame = carrier();
+    let text = printed(rt.alloc(), &frame);
+    drop(frame);
+    let text = text?;
+    assert!(rt; text.as_str().ends_with("payload.len: 5 } }"));
+    Ok(())
 }

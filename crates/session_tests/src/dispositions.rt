@@ -131,14 +131,25 @@ fn two_echoes(
     one: (u32, u32),
     other: (u32, u32),
 ) -> bool {
-    match session.on_incoming_disposition(said(range.0, Some(range.1), false, ACCEPTED)) {
+    let answer = session.on_incoming_disposition(said(range.0, Some(range.1), false, ACCEPTED));
+    let is_same = match &answer {
         Ok(Some(echoes)) => {
             echoes.len() == 2
                 && is_echo(&echoes[0], one.0, one.1)
                 && is_echo(&echoes[1], other.0, other.1)
         }
-        _answer => false,
-    }
+        _other => false,
+    };
+    drop(answer);
+    is_same
+}
+
+/// Whether a disposition of the peer is taken and has no echo.
+fn is_unanswered(session: &mut Session<Marked>, disposition: Disposition) -> bool {
+    let answer = session.on_incoming_disposition(disposition);
+    let is_none = matches!(&answer, Ok(None));
+    drop(answer);
+    is_none
 }
 
 #[test]
@@ -163,11 +174,9 @@ fn a_range_passes_the_wrap(rt: HostRuntime) -> Result<(), Fail> {
     assert!(rt; receive(&mut session, 4294967295, true));
     let all = (4294967295, 4294967295);
     assert!(rt; two_echoes(&mut session, (4294967294, 1), all, (1, 1)));
-    let settled = said(4294967295, Some(0), true, ACCEPTED);
-    assert!(rt; session.on_incoming_disposition(settled) == Ok(None));
+    assert!(rt; is_unanswered(&mut session, said(4294967295, Some(0), true, ACCEPTED)));
     assert_eq!(rt; session.open_deliveries(), 2);
-    let backward = said(0, Some(2147483648), true, ACCEPTED);
-    assert!(rt; session.on_incoming_disposition(backward) == Ok(None));
+    assert!(rt; is_unanswered(&mut session, said(0, Some(2147483648), true, ACCEPTED)));
     assert_eq!(rt; session.open_deliveries(), 2);
     assert_eq!(rt; session.last_walk().turns, 0);
     drop(session);
@@ -177,14 +186,14 @@ fn a_range_passes_the_wrap(rt: HostRuntime) -> Result<(), Fail> {
 #[test]
 fn a_walk_reads_what_is_meant(rt: HostRuntime) -> Result<(), Fail> {
     let mut session = mapped(rt.alloc())?;
-    let _none = session.on_incoming_disposition(said(7, None, true, ACCEPTED));
+    drop(session.on_incoming_disposition(said(7, None, true, ACCEPTED)));
     assert!(rt; session.last_walk().turns <= 1 && session.last_walk().comparisons <= 1);
     let mut all = true;
     for number in 0..1000 {
         all = receive(&mut session, number, false) && all;
     }
     assert!(rt; all);
-    let _settled = session.on_incoming_disposition(said(10, Some(19), true, ACCEPTED));
+    drop(session.on_incoming_disposition(said(10, Some(19), true, ACCEPTED)));
     assert_eq!(rt; session.open_deliveries(), 990);
     let walk = session.last_walk();
     assert!(rt; walk.turns == 11 && walk.comparisons <= 11);
@@ -195,11 +204,12 @@ fn a_walk_reads_what_is_meant(rt: HostRuntime) -> Result<(), Fail> {
 /// The remote outgoing window after a disposition of three deliveries with a state, where that goes out on channel 3.
 fn window_after(session: &mut Session<Marked>, state: &'static [u8]) -> Option<u32> {
     let frame = session.on_outgoing_disposition(said(1, Some(3), true, state));
-    match frame.body {
-        SessionFrameBody::Disposition(_) if frame.channel == 3 => {
-            Some(session.remote_outgoing_window())
-        }
-        _ => None,
+    let is_disposition = matches!(&frame.body, SessionFrameBody::Disposition(_));
+    let is_out = is_disposition && frame.channel == 3;
+    drop(frame);
+    match is_out {
+        true => Some(session.remote_outgoing_window()),
+        false => None,
     }
 }
 

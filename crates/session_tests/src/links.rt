@@ -89,12 +89,14 @@ fn allot_incoming<R: LinkRelay>(
 }
 
 fn taken(answer: Result<(), SessionInnerError>) -> Answer {
-    match answer {
+    let told = match &answer {
         Ok(()) => Answer::Done,
         Err(SessionInnerError::RemoteAttachingLinkNameNotFound) => Answer::Unknown,
         Err(SessionInnerError::HandleInUse) => Answer::InUse,
         Err(_) => Answer::Other,
-    }
+    };
+    drop(answer);
+    told
 }
 
 fn take_attach<R: LinkRelay>(
@@ -110,18 +112,27 @@ fn take_attach<R: LinkRelay>(
 }
 
 fn take_detach<R: LinkRelay>(one: &mut Session<R>, handle: u32) -> Answer {
-    match one.on_incoming_detach(detach(handle)) {
+    let answer = one.on_incoming_detach(detach(handle));
+    let told = match &answer {
         Ok(None) => Answer::Done,
         Ok(Some(reply)) => Answer::Reply(reply.handle.0),
         Err(_) => Answer::Other,
-    }
+    };
+    drop(answer);
+    told
 }
 
 /// The handle of the link's frame on channel 3.
 fn handed_out(frame: SessionFrame) -> Answer {
-    match frame.body {
-        SessionFrameBody::Attach(attach) if frame.channel == 3 => Answer::Frame(attach.handle.0),
-        SessionFrameBody::Detach(detach) if frame.channel == 3 => Answer::Frame(detach.handle.0),
+    let handle = match &frame.body {
+        SessionFrameBody::Attach(attach) => Some(attach.handle.0),
+        SessionFrameBody::Detach(detach) => Some(detach.handle.0),
+        _ => None,
+    };
+    let is_on_channel_3 = frame.channel == 3;
+    drop(frame);
+    match handle {
+        Some(handle) if is_on_channel_3 => Answer::Frame(handle),
         _ => Answer::Other,
     }
 }

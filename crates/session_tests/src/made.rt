@@ -114,10 +114,12 @@ fn refused(error: &SessionInnerError) -> Answer {
 
 /// What an answer says.
 fn said(answer: Result<Option<SessionOutgoingItem>, SessionInnerError>) -> Answer {
-    match answer {
-        Ok(item) => Answer::Out(ids(&item)),
-        Err(error) => refused(&error),
-    }
+    let told = match &answer {
+        Ok(item) => Answer::Out(ids(item)),
+        Err(error) => refused(error),
+    };
+    drop(answer);
+    told
 }
 
 /// Asks for a transfer on input handle 0.

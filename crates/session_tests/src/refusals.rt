@@ -92,11 +92,14 @@ fn unmapped(alloc: Global) -> Result<Session<Quiet>, AllocError> {
 
 /// How a Begin is answered: whether it goes out, or none where memory is refused.
 fn send_begin(one: &mut Session<Quiet>) -> Option<bool> {
-    match one.send_begin() {
+    let answer = one.send_begin();
+    let is_sent = match &answer {
         Ok(_frame) => Some(true),
         Err(SessionStateError::OutOfMemory) => None,
         Err(_error) => Some(false),
-    }
+    };
+    drop(answer);
+    is_sent
 }
 
 /// Sends a Begin, and sends it again where memory was refused: the session is as it was.
