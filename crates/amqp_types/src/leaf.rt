@@ -2,13 +2,13 @@
 
 ghost use Rattle.std.specs.Prelude.{◌≡◌, string_bytes};
 ghost use Rattle.std.specs.Option.{option_map};
-ghost use Rattle.amqp_values.specs.Writing.{leaf_text, optional_text, uint_or, ushort_or, uint_text};
+ghost use Rattle.amqp_values.specs.Writing.{leaf_text, optional_text, uint_or, ushort_or, uint_text, ubyte_text};
 ghost use Rattle.amqp_values.specs.Writing.{ushort_text, ulong_text, boolean_text, string_text, binary_text, symbols_text};
 ghost use Rattle.amqp_types.specs.Definitions.{flag_text, value_text, role_text};
 ghost use Rattle.amqp_types.specs.Definitions.{receiver_mode_text, sender_mode_or_mixed, receiver_mode_or_first};
 
 use crate::definitions::{DeliveryTag, Handle, ReceiverSettleMode, Role, SenderSettleMode};
-use amqp_values::{Fields, Leaf, Raw, Symbol};
+use amqp_values::{Binary, Fields, Leaf, Raw, Symbol};
 
 #[inline(always)]
 pub(crate) fn uint_or(n: u32, default: u32) -> Leaf<'static>
@@ -39,6 +39,14 @@ pub(crate) fn flag(set: bool) -> Leaf<'static>
     if set { Leaf::Boolean(true) } else { Leaf::Null }
 }
 
+/// A flag by its own type: true, or null.
+#[inline(always)]
+pub(crate) fn true_or_null(set: bool) -> Option<bool>
+    ensures { optional_text boolean_text result ≡ flag_text set }
+{
+    if set { Some(true) } else { None }
+}
+
 #[inline(always)]
 pub(crate) fn optional_uint(n: Option<u32>) -> Leaf<'static>
     ensures { leaf_text result ≡ optional_text uint_text n }
@@ -65,16 +73,6 @@ pub(crate) fn optional_ulong(n: Option<u64>) -> Leaf<'static>
 {
     match n {
         Some(n) => Leaf::Ulong(n),
-        None => Leaf::Null,
-    }
-}
-
-#[inline(always)]
-pub(crate) fn optional_boolean(b: Option<bool>) -> Leaf<'static>
-    ensures { leaf_text result ≡ optional_text boolean_text b }
-{
-    match b {
-        Some(b) => Leaf::Boolean(b),
         None => Leaf::Null,
     }
 }
@@ -120,12 +118,12 @@ pub(crate) fn optional_fields(fields: &Option<Fields>) -> Leaf<'_>
 }
 
 #[inline(always)]
-pub(crate) fn optional_tag(tag: &Option<DeliveryTag>) -> Leaf<'_>
-    ensures { leaf_text result ≡ optional_text binary_text (option_map (λ t. t.0) tag.now) }
+pub(crate) fn optional_tag(tag: &Option<DeliveryTag>) -> Option<Binary<'_>>
+    ensures { optional_text (λ b. binary_text b.0.now) result ≡ optional_text binary_text (option_map (λ t. t.0) tag.now) }
 {
     match tag {
-        Some(tag) => Leaf::Binary(tag.0.as_slice()),
-        None => Leaf::Null,
+        Some(tag) => Some(Binary(tag.0.as_slice())),
+        None => None,
     }
 }
 
@@ -171,12 +169,12 @@ pub(crate) fn receiver_mode(mode: ReceiverSettleMode) -> Leaf<'static>
 }
 
 #[inline(always)]
-pub(crate) fn optional_receiver_mode(mode: Option<ReceiverSettleMode>) -> Leaf<'static>
-    ensures { leaf_text result ≡ optional_text receiver_mode_text mode }
+pub(crate) fn optional_receiver_mode(mode: Option<ReceiverSettleMode>) -> Option<u8>
+    ensures { optional_text ubyte_text result ≡ optional_text receiver_mode_text mode }
 {
     match mode {
-        None => Leaf::Null,
-        Some(ReceiverSettleMode::First) => Leaf::Ubyte(0),
-        Some(ReceiverSettleMode::Second) => Leaf::Ubyte(1),
+        None => None,
+        Some(ReceiverSettleMode::First) => Some(0),
+        Some(ReceiverSettleMode::Second) => Some(1),
     }
 }

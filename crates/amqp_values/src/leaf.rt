@@ -2,7 +2,8 @@
 
 ghost use Rattle.std.specs.Prelude.{◌≡◌, ℕ, ◌+◌, ◌^◌, ◌<◌, ◌≤◌, List, ◌∷◌, [], ◌++◌, length};
 ghost use Rattle.amqp_values.specs.Slots.{is_null};
-ghost use Rattle.amqp_values.specs.Writing.{uint_text, ulong_text, boolean_text, var_text, leaf_text};
+ghost use Rattle.amqp_values.specs.Writing.{ubyte_text, uint_text, ulong_text, boolean_text, var_text};
+ghost use Rattle.amqp_values.specs.Writing.{binary_text, optional_text, leaf_text};
 
 use crate::array::{put_symbols, symbols_len};
 use crate::codes;
@@ -27,6 +28,10 @@ pub enum Leaf<'a> {
     /// The spelling of a value that is kept as it came.
     Value(&'a [u8]),
 }
+
+/// Bytes, borrowed for writing.
+#[derive(Clone, Copy)]
+pub struct Binary<'a>(pub &'a [u8]);
 
 #[inline(always)]
 fn uint_len(n: u32) -> u128
@@ -173,18 +178,135 @@ impl Encode for Leaf<'_> {
     fn put(&self, out: &mut BytesMut) {
         match self {
             Leaf::Null => out.extend_reserved(&[codes::NULL]),
-            Leaf::Boolean(b) => out.extend_reserved(&[boolean_code(*b)]),
-            Leaf::Ubyte(n) => out.extend_reserved(&[codes::UBYTE, *n]),
+            Leaf::Boolean(b) => b.put(out),
+            Leaf::Ubyte(n) => n.put(out),
             Leaf::Ushort(n) => put_ushort(out, *n),
-            Leaf::Uint(n) => put_uint(out, *n),
+            Leaf::Uint(n) => n.put(out),
             Leaf::Ulong(n) => put_ulong(out, *n),
-            Leaf::Binary(s) => put_var(out, s, codes::BINARY8, codes::BINARY32),
+            Leaf::Binary(s) => Binary(s).put(out),
             Leaf::String(s) => put_var(out, s.as_bytes(), codes::STRING8, codes::STRING32),
             Leaf::Symbol(s) => {
                 put_var(out, s.as_str().as_bytes(), codes::SYMBOL8, codes::SYMBOL32)
             }
             Leaf::Symbols(s) => put_symbols(out, s),
             Leaf::Value(s) => out.extend_reserved(s),
+        }
+    }
+}
+
+// The kinds of a transfer's fields, each by a type of its own: what is not of the kind is not compiled.
+
+impl Encode for u8 {
+    ghost text = { ubyte_text };
+
+    ghost most = { 2 };
+
+    #[inline(always)]
+    fn is_null(&self) -> bool {
+        false
+    }
+
+    #[inline(always)]
+    fn encoded_len(&self) -> u128 {
+        2
+    }
+
+    #[inline(always)]
+    fn put(&self, out: &mut BytesMut) {
+        out.extend_reserved(&[codes::UBYTE, *self]);
+    }
+}
+
+impl Encode for u32 {
+    ghost text = { uint_text };
+
+    ghost most = { 5 };
+
+    #[inline(always)]
+    fn is_null(&self) -> bool {
+        false
+    }
+
+    #[inline(always)]
+    fn encoded_len(&self) -> u128 {
+        uint_len(*self)
+    }
+
+    #[inline(always)]
+    fn put(&self, out: &mut BytesMut) {
+        put_uint(out, *self)
+    }
+}
+
+impl Encode for bool {
+    ghost text = { boolean_text };
+
+    ghost most = { 1 };
+
+    #[inline(always)]
+    fn is_null(&self) -> bool {
+        false
+    }
+
+    #[inline(always)]
+    fn encoded_len(&self) -> u128 {
+        1
+    }
+
+    #[inline(always)]
+    fn put(&self, out: &mut BytesMut) {
+        out.extend_reserved(&[boolean_code(*self)]);
+    }
+}
+
+impl Encode for Binary<'_> {
+    ghost text = { λ b. binary_text b.0.now };
+
+    ghost most = { 2 ^ 66 };
+
+    #[tactic(auto, unfolding(crate::specs::Writing::var_text))]
+    #[inline(always)]
+    fn is_null(&self) -> bool {
+        false
+    }
+
+    #[inline(always)]
+    fn encoded_len(&self) -> u128 {
+        var_len(self.0, codes::BINARY8, codes::BINARY32)
+    }
+
+    #[inline(always)]
+    fn put(&self, out: &mut BytesMut) {
+        put_var(out, self.0, codes::BINARY8, codes::BINARY32)
+    }
+}
+
+impl<T: Encode> Encode for Option<T> {
+    ghost text = { optional_text T.text };
+
+    ghost most = { T.most + 1 };
+
+    #[inline(always)]
+    fn is_null(&self) -> bool {
+        match self {
+            Some(value) => value.is_null(),
+            None => true,
+        }
+    }
+
+    #[inline(always)]
+    fn encoded_len(&self) -> u128 {
+        match self {
+            Some(value) => value.encoded_len(),
+            None => 1,
+        }
+    }
+
+    #[inline(always)]
+    fn put(&self, out: &mut BytesMut) {
+        match self {
+            Some(value) => value.put(out),
+            None => out.extend_reserved(&[codes::NULL]),
         }
     }
 }

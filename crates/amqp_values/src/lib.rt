@@ -27,7 +27,7 @@ pub use encode::Encode;
 pub use error::{ReadError, WriteError};
 pub use field::Field;
 pub use fields::Fields;
-pub use leaf::Leaf;
+pub use leaf::{Binary, Leaf};
 pub use outcome::is_terminal;
 pub use parts::Parts;
 pub use raw::Raw;

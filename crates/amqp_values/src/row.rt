@@ -132,3 +132,6 @@ pub type Row12<T> = Then<T, Row11<T>>;
 pub type Row13<T> = Then<T, Row12<T>>;
 
 pub type Row14<T> = Then<T, Row13<T>>;
+
+/// Four fields, and those behind them.
+pub type Then4<A, B, C, D, R> = Then<A, Then<B, Then<C, Then<D, R>>>>;

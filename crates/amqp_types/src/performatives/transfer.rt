@@ -9,9 +9,9 @@ ghost use Rattle.amqp_types.specs.Performatives.{performative_text};
 
 use crate::definitions::{DeliveryTag, Handle, ReceiverSettleMode};
 use crate::leaf;
-use amqp_values::row::Row11;
+use amqp_values::row::{Row3, Then4};
 use amqp_values::writing::{described_len, put_described};
-use amqp_values::{Composite, Leaf, Parts, Raw, ReadError, codes, row_of};
+use amqp_values::{Binary, Composite, Leaf, Parts, Raw, ReadError, codes, row_of};
 use bytes::BytesMut;
 use std::alloc::Global;
 use std::marker::Model;
@@ -150,10 +150,19 @@ impl Composite for Transfer {
     }
 }
 
+/// The fields, borrowed for writing, by types of their own.
+pub(crate) type TransferRow<'a> = Then4<
+    u32,
+    Option<u32>,
+    Option<Binary<'a>>,
+    Option<u32>,
+    Then4<Option<bool>, Option<bool>, Option<u8>, Leaf<'a>, Row3<Option<bool>>>,
+>;
+
 impl Transfer {
     /// The fields, borrowed for writing.
     #[inline(always)]
-    pub(crate) fn parts(&self) -> Row11<Leaf<'_>>
+    pub(crate) fn parts(&self) -> TransferRow<'_>
         ensures { result ≡ transfer_fields self.now }
     {
         self.parts_with(self.more)
@@ -162,48 +171,48 @@ impl Transfer {
     /// The fields with this `more`.
     #[tactic(auto, unfolding(crate::specs::Transfer::transfer_fields))]
     #[inline(always)]
-    fn parts_with(&self, more: bool) -> Row11<Leaf<'_>>
+    fn parts_with(&self, more: bool) -> TransferRow<'_>
         ensures { result ≡ transfer_fields (record self.now { more = more }) }
     {
         row_of![
-            Leaf::Uint(self.handle.0),
-            leaf::optional_uint(self.delivery_id),
+            self.handle.0,
+            self.delivery_id,
             leaf::optional_tag(&self.delivery_tag),
-            leaf::optional_uint(self.message_format),
-            leaf::optional_boolean(self.settled),
-            leaf::flag(more),
+            self.message_format,
+            self.settled,
+            leaf::true_or_null(more),
             leaf::optional_receiver_mode(self.rcv_settle_mode),
             leaf::optional_value(&self.state),
-            leaf::flag(self.resume),
-            leaf::flag(self.aborted),
-            leaf::flag(self.batchable),
+            leaf::true_or_null(self.resume),
+            leaf::true_or_null(self.aborted),
+            leaf::true_or_null(self.batchable),
         ]
     }
 
     /// The fields of a continuation with this `more`.
     #[tactic(auto, unfolding(crate::specs::Transfer::transfer_fields))]
     #[inline(always)]
-    fn parts_continued(&self, more: bool) -> Row11<Leaf<'_>>
+    fn parts_continued(&self, more: bool) -> TransferRow<'_>
         ensures { result ≡ transfer_fields (record (continuation self.now) { more = more }) }
     {
         row_of![
-            Leaf::Uint(self.handle.0),
-            Leaf::Null,
-            Leaf::Null,
-            Leaf::Null,
-            Leaf::Null,
-            leaf::flag(more),
-            Leaf::Null,
+            self.handle.0,
+            None,
+            None,
+            None,
+            None,
+            leaf::true_or_null(more),
+            None,
             leaf::optional_value(&self.state),
-            leaf::flag(self.resume),
-            leaf::flag(self.aborted),
-            leaf::flag(self.batchable),
+            leaf::true_or_null(self.resume),
+            leaf::true_or_null(self.aborted),
+            leaf::true_or_null(self.batchable),
         ]
     }
 
     /// The fields of one of the texts.
     #[inline(always)]
-    fn parts_in(&self, text: TransferText) -> Row11<Leaf<'_>>
+    fn parts_in(&self, text: TransferText) -> TransferRow<'_>
         ensures { result ≡ transfer_fields (said_in text self.now) }
     {
         match text {
