@@ -75,6 +75,7 @@ impl Model for Deliveries {
 }
 
 /// How many numbers are missing between the first and the last of a table.
+#[inline(always)]
 fn missing(rows: &VecDeque<Delivery>) -> usize
     requires table { IsTable rows.now.items }
     ensures missing { IsMissing result rows.now.items }
@@ -148,6 +149,7 @@ impl Deliveries {
     }
 
     /// How many records there are.
+    #[inline(always)]
     pub(crate) fn len(&self) -> usize
         ensures len { result ≡ length self.now.rows }
         ensures rising { IsRising self.now.rows }
@@ -158,6 +160,7 @@ impl Deliveries {
     }
 
     /// The number at a place: one comparison.
+    #[inline(always)]
     pub(crate) fn number(&self, at: usize, walk: &mut WalkCount) -> u32
         requires within { at < length self.now.rows }
         requires few { walk.old.comparisons < 2 ^ 32 - 1 }
@@ -169,6 +172,7 @@ impl Deliveries {
     }
 
     /// The record at a place: one turn.
+    #[inline(always)]
     pub(crate) fn delivery(&self, at: usize, walk: &mut WalkCount) -> &Delivery
         requires within { at < length self.now.rows }
         requires few { walk.old.turns < 2 ^ 64 - 1 }
@@ -180,6 +184,7 @@ impl Deliveries {
     }
 
     /// Reserves room for more records. When memory is refused the table stays as it is.
+    #[inline(always)]
     pub(crate) fn reserve(&mut self, additional: usize) -> Result<(), AllocError>
         ensures room { OnOk result (length self.new.rows + additional ≤ self.new.capacity) }
         ensures rows { self.new ≡ record self.old { capacity = self.new.capacity } }
@@ -188,6 +193,7 @@ impl Deliveries {
     }
 
     /// Puts a record in its place; it takes the place of an older one of its number.
+    #[inline(always)]
     pub(crate) fn record(&mut self, delivery: Delivery)
         requires room { length self.old.rows < self.old.capacity }
         ensures rows { self.new.rows ≡ recorded delivery self.old.rows }
@@ -201,6 +207,7 @@ impl Deliveries {
     }
 
     /// Whether all numbers are below this one.
+    #[inline(always)]
     fn is_last(&self, number: u32) -> bool
         ensures last { IsTrue result → (i : ℕ) → i < length self.now.rows → number_at self.now.rows i < number }
         ensures not_last { result ≡ false → number ≤ number_at self.now.rows (length self.now.rows - 1) }
@@ -212,6 +219,7 @@ impl Deliveries {
     }
 
     /// Puts a record in its place, which the search finds.
+    #[inline(never)]
     fn put(&mut self, delivery: Delivery)
         requires room { length self.old.rows < self.old.capacity }
         ensures rows { self.new.rows ≡ recorded delivery self.old.rows }

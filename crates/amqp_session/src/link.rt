@@ -72,6 +72,7 @@ impl<R: LinkRelay> Links<R> {
     }
 
     /// Whether a link is attached under the input handle.
+    #[inline(always)]
     pub(crate) fn is_attached(&self, input: InputHandle) -> bool
         ensures { result ≡ is_some (attached_at input.0 self.now) }
     {
@@ -91,6 +92,7 @@ impl<R: LinkRelay> Links<R> {
     }
 
     /// Asks the relay under an input handle about a transfer.
+    #[inline(always)]
     pub(crate) fn ask_transfer(
         &mut self,
         input: InputHandle,
@@ -105,6 +107,7 @@ impl<R: LinkRelay> Links<R> {
 
     /// Asks the relay under the input handle of a delivery, if one is attached there, about a disposition of the delivery, and
     /// says whether it answered true.
+    #[inline(always)]
     pub(crate) fn ask_disposition(&mut self, said: &Disposition, delivery: &Delivery) -> bool
         ensures { (asked : Option (DispositionQuestion R)) × AsksAt R.gives.disposition_gives said.now delivery.now asked self.old self.new × (result ≡ has_agreed asked) }
     {

@@ -1,13 +1,13 @@
 -- What the connection passes on, or refuses to.
 use Rattle.std.proofs.Common.{◌≡◌, ℕ, Option, Some, None, Result, Ok, Err, refl, sym, ap, ◌∙◌}
-use Rattle.std.specs.Option.{option_map, ok_or}
+use Rattle.std.specs.Option.{option_map}
 use Rattle.amqp_types.specs.Begin.{BeginSaid}
 use Rattle.amqp_types.specs.End.{EndSaid}
 use Rattle.amqp_session.specs.declared.frame.SessionFrame.{SessionFrame}
 use Rattle.amqp_session.specs.declared.frame.SessionFrameBody.TheVariants as said
 use Rattle.fe2o3_amqp.specs.declared.numbers.SessionNo.{SessionNo}
 use Rattle.fe2o3_amqp.specs.declared.connection.error.ConnectionInnerError.{ConnectionInnerError}
-use Rattle.fe2o3_amqp.specs.Connection.{not_found, passed_on}
+use Rattle.fe2o3_amqp.specs.Connection.{passed_on}
 
 pub passed_number : (fr : SessionFrame) (found : Result ℕ ConnectionInnerError) (x : SessionNo × SessionFrame) → Ok x ≡ passed_on fr found → found ≡ Ok x.0.0
 passed_number fr (Ok n) x e = ap (λ (r : Result (SessionNo × SessionFrame) ConnectionInnerError). number r) (sym e)
@@ -41,22 +41,21 @@ same_end b c e = cc
 
 -- ---- the session of a route
 
--- the session that a channel leads to, or why it leads to none
-abbrev routed : Option ℕ → Result SessionNo ConnectionInnerError
-routed found = ok_or (option_map (λ n. record { 0 = n }) found) not_found
+-- the session that a channel leads to
+abbrev routed : Option ℕ → Option SessionNo
+routed found = option_map (λ n. record { 0 = n }) found
 
-number_found : (found : Option ℕ) (number : SessionNo) → Ok number ≡ routed found → found ≡ Some number.0
+number_found : (found : Option ℕ) (number : SessionNo) → routed found ≡ Some number → found ≡ Some number.0
 number_found None number e = absurd cc
 number_found (Some n) number e = cc
 
-none_found : (found : Option ℕ) (x : ConnectionInnerError) → Err x ≡ routed found → (found ≡ None) × (x ≡ not_found)
-none_found None x e = (refl, cc)
-none_found (Some n) x e = absurd cc
+none_found : (found : Option ℕ) → routed found ≡ None → found ≡ None
+none_found None e = refl
+none_found (Some n) e = absurd cc
 
 pub route_found : (found : Option ℕ) (asked : Option SessionNo) (number : SessionNo) → asked ≡ option_map (λ n. record { 0 = n }) found →
-    Ok number ≡ ok_or asked not_found → found ≡ Some number.0
-route_found found asked number is e = number_found found number (e ∙ ap (λ f. ok_or f not_found) is)
+    asked ≡ Some number → found ≡ Some number.0
+route_found found asked number is e = number_found found number (sym is ∙ e)
 
-pub route_missing : (found : Option ℕ) (asked : Option SessionNo) (x : ConnectionInnerError) → asked ≡ option_map (λ n. record { 0 = n }) found →
-    Err x ≡ ok_or asked not_found → (found ≡ None) × (x ≡ not_found)
-route_missing found asked x is e = none_found found x (e ∙ ap (λ f. ok_or f not_found) is)
+pub route_missing : (found : Option ℕ) (asked : Option SessionNo) → asked ≡ option_map (λ n. record { 0 = n }) found → asked ≡ None → found ≡ None
+route_missing found asked is e = none_found found (sym is ∙ e)

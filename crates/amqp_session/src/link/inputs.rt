@@ -55,6 +55,7 @@ pub(super) fn ask_flow<R: LinkRelay>(
 }
 
 /// Asks the relay under a handle about a transfer.
+#[inline(always)]
 pub(super) fn ask_transfer<R: LinkRelay>(
     inputs: &mut IndexMap<u32, Attached<R>>,
     input: InputHandle,
@@ -69,6 +70,7 @@ pub(super) fn ask_transfer<R: LinkRelay>(
 }
 
 /// Asks the relay under the input handle of a delivery about a disposition of it.
+#[inline(always)]
 pub(super) fn ask_disposition<R: LinkRelay>(
     inputs: &mut IndexMap<u32, Attached<R>>,
     said: &Disposition,

@@ -31,6 +31,7 @@ pub fn num_messages_settled_by_disposition(first: u32, last: Option<u32>) -> u32
 }
 
 /// How far the last number of a range is behind its first, where the range is forward.
+#[inline(always)]
 fn forward_span(first: u32, last: Option<u32>) -> Option<u32>
     ensures { result ≡ if is_forward first last then Some (span first last) else None }
 {
@@ -49,6 +50,7 @@ impl<R: LinkRelay> Session<R> {
     ///
     /// `OutOfMemory` where an unsettled one over a forward range is refused memory: before any relay is asked, or after all were,
     /// where a state cannot be shared. The deliveries stay open then.
+    #[inline(always)]
     pub fn on_incoming_disposition(
         &mut self,
         disposition: Disposition,
@@ -89,6 +91,7 @@ impl<R: LinkRelay> Session<R> {
     }
 
     /// The answer to a disposition that means no delivery.
+    #[inline(always)]
     fn nothing_meant(&self, settled: bool) -> Option<Vec<Disposition>>
         ensures { option_map (λ v. v.items) result ≡ (if settled then None else Some []) }
     {
@@ -115,6 +118,7 @@ impl<R: LinkRelay> Session<R> {
     }
 
     /// Asks the relays of an unsettled disposition over a forward range about the deliveries of its role.
+    #[inline(never)]
     fn ask(&mut self, said: &Disposition) -> Result<Vec<Disposition>, AllocError>
         requires settled { said.now.settled ≡ false }
         requires forward { span said.now.first said.now.last < 2 ^ 31 }

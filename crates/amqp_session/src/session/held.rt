@@ -53,6 +53,7 @@ pub(crate) struct Numbered {
 }
 
 /// The tag under which a delivery is recorded: that of its first transfer, unless it is settled already.
+#[inline(always)]
 fn tag_to_keep(transfer: &Transfer, is_first: bool) -> Result<Option<DeliveryTag>, AllocError>
     ensures { IfOk result (λ tag. option_map (λ t. t.0) tag ≡ kept_tag is_first transfer.now) }
 {
@@ -64,6 +65,7 @@ fn tag_to_keep(transfer: &Transfer, is_first: bool) -> Result<Option<DeliveryTag
 
 impl HeldTransfer {
     /// The transfer, ready to wait. Its payload and tag are moved or shared, never copied.
+    #[inline(always)]
     pub(crate) fn new(
         input_handle: InputHandle,
         transfer: Transfer,
@@ -83,6 +85,7 @@ impl HeldTransfer {
     }
 
     /// The frame, where `delivery` is the number of the next delivery: the first frame of a delivery gets it, and any other none.
+    #[inline(always)]
     pub(crate) fn numbered(self, channel: OutgoingChannel, delivery: u32) -> Numbered
         ensures frame { result.frame ≡ frame_of channel.0 delivery self }
         ensures delivery { result.delivery ≡ record_of delivery self }

@@ -113,6 +113,7 @@ impl<R: LinkRelay> Session<R> {
     ///
     /// `UnattachedHandle` where no link is attached under the handle. `OutOfMemory` where memory is refused: for the record
     /// of a delivery it is taken before the relay is asked. An error of the relay is passed on. Nothing is recorded then.
+    #[inline(always)]
     pub fn on_incoming_transfer(
         &mut self,
         transfer: Transfer,
@@ -244,6 +245,7 @@ impl<R: LinkRelay> Session<R> {
 }
 
 /// Records the delivery that a relay named, if any.
+#[inline(always)]
 fn record_named(
     deliveries: &mut Deliveries,
     input: InputHandle,

@@ -42,6 +42,7 @@ impl<R: LinkRelay> Session<R> {
     ///
     /// `IllegalState` outside `Mapped`, and where the first transfer of a delivery has no tag. `OutOfMemory` where memory is
     /// refused. Nothing changes then.
+    #[inline(always)]
     pub fn on_outgoing_transfer(
         &mut self,
         input_handle: InputHandle,
@@ -67,6 +68,7 @@ impl<R: LinkRelay> Session<R> {
 
     /// A flow of the session alone, in `Mapped`, where the transfers that came since the last one are at least half of the
     /// incoming window, rounded down: it opens the peer's window again. Takes no memory.
+    #[inline(always)]
     pub fn maybe_outgoing_session_flow(&mut self) -> Option<SessionOutgoingItem>
         ensures step { SessionFlowStep self.old.view result self.new.view }
         ensures walk { self.new.last_walk ≡ self.old.last_walk }
@@ -83,6 +85,7 @@ impl<R: LinkRelay> Session<R> {
     }
 
     /// Whether a session flow is due.
+    #[inline(always)]
     fn is_flow_due(&self) -> bool
         ensures { result ≡ is_due self.now.view }
     {
@@ -90,6 +93,7 @@ impl<R: LinkRelay> Session<R> {
     }
 
     /// What a flow of the session alone says.
+    #[inline(always)]
     pub(super) fn session_flow(&self) -> Flow
         ensures { result ≡ session_flow self.now.view }
     {

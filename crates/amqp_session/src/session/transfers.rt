@@ -42,6 +42,7 @@ impl Model for Sending {
 }
 
 /// Records the delivery, if any.
+#[inline(always)]
 fn record_opened(deliveries: &mut Deliveries, delivery: Option<Delivery>)
     requires room { length deliveries.old.rows < deliveries.old.capacity }
     ensures rows { deliveries.new.rows ≡ with_record delivery deliveries.old.rows }
@@ -168,6 +169,7 @@ impl Sending {
     }
 
     /// The transfer waits, since the window is used up. When memory is refused nothing changes.
+    #[inline(never)]
     fn hold_back(&mut self, held: HeldTransfer) -> Result<(), AllocError>
         requires { self.old.remote_incoming_window ≡ 0 }
         ensures ok { OnOk result (self.new ≡ drained (joined self.old held)) }
@@ -180,6 +182,7 @@ impl Sending {
     }
 
     /// The transfer goes out alone: none waits, and the window is not used up.
+    #[inline(always)]
     fn send_alone(
         &mut self,
         channel: OutgoingChannel,
@@ -202,6 +205,7 @@ impl Sending {
     }
 
     /// The transfer goes behind those that wait, and the window lets out what it can. When memory is refused nothing changes.
+    #[inline(never)]
     fn send_behind(
         &mut self,
         alloc: Global,
@@ -226,6 +230,7 @@ impl Sending {
 
     /// Takes a transfer: it waits while the window is used up; else those that wait go out first, and then it, while the
     /// window lasts. On a refusal nothing changes.
+    #[inline(always)]
     pub(crate) fn send(
         &mut self,
         alloc: Global,

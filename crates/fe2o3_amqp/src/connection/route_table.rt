@@ -38,6 +38,7 @@ impl RouteTable {
     }
 
     /// The session to which frames on the channel go.
+    #[inline(always)]
     pub(crate) fn of(&self, channel: IncomingChannel) -> Option<u32>
         ensures { result ≡ map.get self.now channel.0 }
     {

@@ -61,6 +61,7 @@ impl Connection {
     }
 
     /// The number of the session to which frames on this channel of the peer's go, if they go to one.
+    #[inline(always)]
     pub fn session_tx_by_incoming_channel(&self, channel: IncomingChannel) -> Option<SessionNo>
         ensures { result ≡ option_map (λ n. record { 0 = n }) (map.get self.now.session_by_incoming_channel channel.0) }
     {

@@ -120,6 +120,7 @@ impl<R: LinkRelay> Engine<R> {
     }
 
     /// Calls the session to which the channel's route leads, and lets what it hands out wait.
+    #[inline(always)]
     fn ask_along<F>(&mut self, channel: IncomingChannel, call: F) -> Result<(), StepError>
     where
         F: FnOnce(&mut Session<R>) -> Outgoing + Drop,
@@ -127,13 +128,13 @@ impl<R: LinkRelay> Engine<R> {
         requires callable { F.IsAlwaysCallable call }
         ensures { AsksAlong (FnOnceReturnsAtMut F.FnOnce call) self.old channel.0 (refusal_of result) self.new }
     {
-        let number = self
-            .connection
-            .session_tx_by_incoming_channel(channel)
-            .ok_or(ConnectionInnerError::NotFound(None))?;
+        let Some(number) = self.connection.session_tx_by_incoming_channel(channel) else {
+            return Err(StepError::Connection(ConnectionInnerError::NotFound(None)));
+        };
         self.ask_session(number.0, call)
     }
 
+    #[inline(never)]
     fn receive_transfer(&mut self, channel: IncomingChannel, fields: Bytes) -> Result<(), StepError>
         requires { self.old.waiting ≡ [] }
         ensures { FieldsStep R.gives self.old channel.0 (Some kind.Transfer) fields (refusal_of result) self.new }
@@ -146,6 +147,7 @@ impl<R: LinkRelay> Engine<R> {
         )
     }
 
+    #[inline(never)]
     fn receive_flow(&mut self, channel: IncomingChannel, fields: Bytes) -> Result<(), StepError>
         requires { self.old.waiting ≡ [] }
         ensures { FieldsStep R.gives self.old channel.0 (Some kind.Flow) fields (refusal_of result) self.new }
@@ -155,6 +157,7 @@ impl<R: LinkRelay> Engine<R> {
         self.ask_along(channel, |session| flow_received(session, flow))
     }
 
+    #[inline(never)]
     fn receive_disposition(
         &mut self,
         channel: IncomingChannel,
@@ -171,6 +174,7 @@ impl<R: LinkRelay> Engine<R> {
         )
     }
 
+    #[inline(never)]
     fn receive_attach(&mut self, channel: IncomingChannel, fields: Bytes) -> Result<(), StepError>
         requires { self.old.waiting ≡ [] }
         ensures { FieldsStep R.gives self.old channel.0 (Some kind.Attach) fields (refusal_of result) self.new }
@@ -180,6 +184,7 @@ impl<R: LinkRelay> Engine<R> {
         self.ask_along(channel, |session| attach_received(session, attach))
     }
 
+    #[inline(never)]
     fn receive_detach(&mut self, channel: IncomingChannel, fields: Bytes) -> Result<(), StepError>
         requires { self.old.waiting ≡ [] }
         ensures { FieldsStep R.gives self.old channel.0 (Some kind.Detach) fields (refusal_of result) self.new }
@@ -190,6 +195,7 @@ impl<R: LinkRelay> Engine<R> {
     }
 
     /// The connection's acceptance decides the route, also where the session then refuses.
+    #[inline(never)]
     fn receive_begin(&mut self, channel: IncomingChannel, fields: Bytes) -> Result<(), StepError>
         requires { self.old.waiting ≡ [] }
         ensures { FieldsStep R.gives self.old channel.0 (Some kind.Begin) fields (refusal_of result) self.new }
@@ -201,6 +207,7 @@ impl<R: LinkRelay> Engine<R> {
         self.ask_session(number.0, |session| begin_received(session, channel, begin))
     }
 
+    #[inline(never)]
     fn receive_end(&mut self, channel: IncomingChannel, fields: Bytes) -> Result<(), StepError>
         requires { self.old.waiting ≡ [] }
         ensures { FieldsKept R.gives self.old channel.0 (Some kind.End) fields (refusal_of result) self.new }
@@ -218,6 +225,7 @@ impl<R: LinkRelay> Engine<R> {
         told
     }
 
+    #[inline(never)]
     fn receive_open(&mut self, channel: IncomingChannel, fields: Bytes) -> Result<(), StepError>
         requires { self.old.waiting ≡ [] }
         ensures { FieldsStep R.gives self.old channel.0 (Some kind.Open) fields (refusal_of result) self.new }
@@ -230,6 +238,7 @@ impl<R: LinkRelay> Engine<R> {
         Ok(())
     }
 
+    #[inline(never)]
     fn receive_close(&mut self, channel: IncomingChannel, fields: Bytes) -> Result<(), StepError>
         requires { self.old.waiting ≡ [] }
         ensures { FieldsKept R.gives self.old channel.0 (Some kind.Close) fields (refusal_of result) self.new }

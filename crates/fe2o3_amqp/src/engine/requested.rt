@@ -6,6 +6,7 @@ ghost use Rattle.amqp_session.specs.Session.{new_session};
 ghost use Rattle.amqp_frames.specs.declared.frame.Frame.{Frame};
 ghost use Rattle.amqp_session.specs.declared.stop.ConnectionStopReason.{ConnectionStopReason};
 ghost use Rattle.amqp_session.specs.History as session;
+ghost use Rattle.fe2o3_amqp.specs.declared.engine.input.Input.TheVariants as given;
 ghost use Rattle.fe2o3_amqp.specs.Connection.{refusal_of};
 ghost use Rattle.fe2o3_amqp.specs.Sessions.{Asks, BeginRequest, BegunStep, ReleaseRequest};
 ghost use Rattle.std.specs.Fn.{FnOnceReturnsAtMut};
@@ -22,10 +23,11 @@ use super::waiting::Waiting;
 use crate::connection::ConnectionInnerError;
 use crate::numbers::SessionNo;
 use amqp_session::{
-    ConnectionStopReason, LinkRelay, OutgoingChannel, Session, SessionFrame, SessionSettings,
-    SessionStateError,
+    ConnectionStopReason, InputHandle, LinkFlow, LinkRelay, OutgoingChannel, Session, SessionFrame,
+    SessionSettings, SessionStateError, SessionStopReason,
 };
-use amqp_types::{Error, SessionState};
+use amqp_types::{Attach, Detach, Disposition, Error, SessionState, Transfer};
+use bytes::Bytes;
 use std::alloc::Global;
 
 /// Why the connection stops with a Close of this side.
@@ -68,46 +70,144 @@ impl<R: LinkRelay> Engine<R> {
             Input::Open => self.request_open(),
             Input::Close(error) => self.request_close(error),
             Input::Begin(number, settings) => self.request_begin(number.0, settings),
-            Input::End(number, error) => self.ask_session(number.0, |session| end(session, error)),
-            Input::AllocateLink(number, name, relay) => {
-                self.ask_session(number.0, |session| allocate_link(session, name, relay))
-            }
+            Input::End(number, error) => self.request_end(number, error),
+            Input::AllocateLink(number, name, relay) => self.request_link(number, name, relay),
             Input::AllocateIncomingLink(number, name, relay, input) => {
-                self.ask_session(
-                    number.0,
-                    |session| allocate_incoming_link(session, name, relay, input),
-                )
+                self.request_incoming_link(number, name, relay, input)
             }
-            Input::Attach(number, attach) => {
-                self.ask_session(number.0, |session| send_attach(session, attach))
-            }
+            Input::Attach(number, attach) => self.request_attach(number, attach),
             Input::Detach(number, detach, expects_echo) => {
-                self.ask_session(
-                    number.0,
-                    |session| send_detach(session, detach, expects_echo),
-                )
+                self.request_detach(number, detach, expects_echo)
             }
-            Input::Flow(number, flow) => self.ask_session(
-                number.0,
-                |session| send_flow(session, flow),
-            ),
+            Input::Flow(number, flow) => self.request_flow(number, flow),
             Input::Transfer(number, input, transfer, payload, is_first) => {
-                self.ask_session(
-                    number.0,
-                    |session| send_transfer(session, input, transfer, payload, is_first),
-                )
+                self.request_transfer(number, input, transfer, payload, is_first)
             }
-            Input::Disposition(number, disposition) => {
-                self.ask_session(number.0, |session| send_disposition(session, disposition))
-            }
-            Input::Release(number) => self.request_release(number.0),
-            Input::Stop(number, reason) => self.ask_session(
-                number.0,
-                |session| stop(session, reason),
+            Input::Disposition(number, disposition) => self.request_disposition(
+                number,
+                disposition,
             ),
+            Input::Release(number) => self.request_release(number.0),
+            Input::Stop(number, reason) => self.request_stop(number, reason),
         }
     }
 
+    // Each request is carried out by a function of its own: a function pays at its entry for the size of its locals, those of the
+    // arms that are not taken too.
+
+    #[inline(never)]
+    fn request_end(&mut self, number: SessionNo, error: Option<Error>) -> Result<(), StepError>
+        requires { self.old.waiting ≡ [] }
+        ensures { CarriedStep R.gives self.old (given.End number error) (refusal_of result) self.new }
+    {
+        self.ask_session(number.0, |session| end(session, error))
+    }
+
+    #[inline(never)]
+    fn request_link(
+        &mut self,
+        number: SessionNo,
+        name: String,
+        relay: Option<R>,
+    ) -> Result<(), StepError>
+        requires { self.old.waiting ≡ [] }
+        ensures { CarriedStep R.gives self.old (given.AllocateLink number name relay) (refusal_of result) self.new }
+    {
+        self.ask_session(number.0, |session| allocate_link(session, name, relay))
+    }
+
+    #[inline(never)]
+    fn request_incoming_link(
+        &mut self,
+        number: SessionNo,
+        name: String,
+        relay: R,
+        input: InputHandle,
+    ) -> Result<(), StepError>
+        requires { self.old.waiting ≡ [] }
+        ensures { CarriedStep R.gives self.old (given.AllocateIncomingLink number name relay input) (refusal_of result) self.new }
+    {
+        self.ask_session(
+            number.0,
+            |session| allocate_incoming_link(session, name, relay, input),
+        )
+    }
+
+    #[inline(never)]
+    fn request_attach(&mut self, number: SessionNo, attach: Attach) -> Result<(), StepError>
+        requires { self.old.waiting ≡ [] }
+        ensures { CarriedStep R.gives self.old (given.Attach number attach) (refusal_of result) self.new }
+    {
+        self.ask_session(number.0, |session| send_attach(session, attach))
+    }
+
+    #[inline(never)]
+    fn request_detach(
+        &mut self,
+        number: SessionNo,
+        detach: Detach,
+        expects_echo: bool,
+    ) -> Result<(), StepError>
+        requires { self.old.waiting ≡ [] }
+        ensures { CarriedStep R.gives self.old (given.Detach number detach expects_echo) (refusal_of result) self.new }
+    {
+        self.ask_session(
+            number.0,
+            |session| send_detach(session, detach, expects_echo),
+        )
+    }
+
+    #[inline(never)]
+    fn request_flow(&mut self, number: SessionNo, flow: LinkFlow) -> Result<(), StepError>
+        requires { self.old.waiting ≡ [] }
+        ensures { CarriedStep R.gives self.old (given.Flow number flow) (refusal_of result) self.new }
+    {
+        self.ask_session(number.0, |session| send_flow(session, flow))
+    }
+
+    #[inline(never)]
+    fn request_transfer(
+        &mut self,
+        number: SessionNo,
+        input: InputHandle,
+        transfer: Transfer,
+        payload: Bytes,
+        is_first: bool,
+    ) -> Result<(), StepError>
+        requires { self.old.waiting ≡ [] }
+        ensures { CarriedStep R.gives self.old (given.Transfer number input transfer payload is_first) (refusal_of result) self.new }
+    {
+        self.ask_session(
+            number.0,
+            |session| send_transfer(session, input, transfer, payload, is_first),
+        )
+    }
+
+    #[inline(never)]
+    fn request_disposition(
+        &mut self,
+        number: SessionNo,
+        disposition: Disposition,
+    ) -> Result<(), StepError>
+        requires { self.old.waiting ≡ [] }
+        ensures { CarriedStep R.gives self.old (given.Disposition number disposition) (refusal_of result) self.new }
+    {
+        self.ask_session(number.0, |session| send_disposition(session, disposition))
+    }
+
+    #[inline(never)]
+    fn request_stop(
+        &mut self,
+        number: SessionNo,
+        reason: SessionStopReason,
+    ) -> Result<(), StepError>
+        requires { self.old.waiting ≡ [] }
+        ensures { CarriedStep R.gives self.old (given.Stop number reason) (refusal_of result) self.new }
+    {
+        self.ask_session(number.0, |session| stop(session, reason))
+    }
+
+    #[inline(never)]
     fn request_open(&mut self) -> Result<(), StepError>
         requires { self.old.waiting ≡ [] }
         ensures { OpenRequest self.old (refusal_of result) self.new }
@@ -117,6 +217,7 @@ impl<R: LinkRelay> Engine<R> {
         Ok(())
     }
 
+    #[inline(never)]
     fn request_close(&mut self, error: Option<Error>) -> Result<(), StepError>
         requires { self.old.waiting ≡ [] }
         ensures { CloseRequest self.old error (refusal_of result) self.new }
@@ -129,6 +230,7 @@ impl<R: LinkRelay> Engine<R> {
     }
 
     /// Calls the session with this number, and lets what it hands out wait.
+    #[inline(always)]
     pub(super) fn ask_session<F>(&mut self, number: u32, call: F) -> Result<(), StepError>
     where
         F: FnOnce(&mut Session<R>) -> Outgoing + Drop,
@@ -145,6 +247,7 @@ impl<R: LinkRelay> Engine<R> {
     }
 
     /// Makes a session on the lowest free channel, and sends its Begin. When memory is refused nothing changes.
+    #[inline(never)]
     fn request_begin(&mut self, number: u32, settings: SessionSettings) -> Result<(), StepError>
         requires { self.old.waiting ≡ [] }
         ensures { (reached : Option ℕ) × (calls : List (session.Entry R)) × BeginRequest R.gives self.old number settings reached calls (refusal_of result) self.new }
@@ -184,6 +287,7 @@ impl<R: LinkRelay> Engine<R> {
     }
 
     /// Gives the session's channel back, where it still holds it.
+    #[inline(never)]
     fn request_release(&mut self, number: u32) -> Result<(), StepError>
         ensures { (reached : Option ℕ) × (calls : List (session.Entry R)) × ReleaseRequest self.old number reached calls (refusal_of result) self.new }
     {

@@ -104,6 +104,7 @@ pub(crate) fn send_flow<R: LinkRelay>(session: &mut Session<R>, flow: LinkFlow) 
     Ok(Waiting::alone(Some(session.on_outgoing_flow(flow))))
 }
 
+#[inline(always)]
 pub(crate) fn send_transfer<R: LinkRelay>(
     session: &mut Session<R>,
     input: InputHandle,
@@ -192,6 +193,7 @@ pub(crate) fn flow_received<R: LinkRelay>(session: &mut Session<R>, flow: Flow) 
 }
 
 /// Sends each disposition, in order. As frames they are on the session's channel, and wait as they are: that takes no memory.
+#[inline(never)]
 fn send_each<R: LinkRelay>(
     session: &mut Session<R>,
     dispositions: Vec<Disposition>,
@@ -220,6 +222,7 @@ fn disposition_in(frame: SessionFrame) -> Disposition
 }
 
 /// The peer's disposition. What the relays answer goes out, one disposition for each run of deliveries.
+#[inline(always)]
 pub(crate) fn disposition_received<R: LinkRelay>(
     session: &mut Session<R>,
     disposition: Disposition,
@@ -236,6 +239,7 @@ pub(crate) fn disposition_received<R: LinkRelay>(
 }
 
 /// The peer's transfer; after one that is accepted a session flow may be due.
+#[inline(always)]
 pub(crate) fn transfer_received<R: LinkRelay>(
     session: &mut Session<R>,
     transfer: Transfer,

@@ -39,6 +39,7 @@ impl Model for Waiting {
 }
 
 /// What a session's frame says, as the connection sends it.
+#[inline(always)]
 fn body_of(body: SessionFrameBody) -> FrameBody
     ensures { result ≡ body_of body }
 {
@@ -60,6 +61,7 @@ fn body_of(body: SessionFrameBody) -> FrameBody
 }
 
 /// A session's frame, as the connection sends it.
+#[inline(always)]
 fn frame_of(frame: SessionFrame) -> Frame
     ensures { result ≡ frame_of frame }
 {
@@ -83,6 +85,7 @@ fn next_of(behind: &mut Behind) -> Option<Frame>
 
 impl Waiting {
     /// No frame waits.
+    #[inline(always)]
     pub(crate) fn none() -> Waiting
         ensures { result ≡ [] }
     {
@@ -93,6 +96,7 @@ impl Waiting {
     }
 
     /// One frame waits.
+    #[inline(always)]
     pub(crate) fn one(frame: Frame) -> Waiting
         ensures { result ≡ frame ∷ [] }
     {
@@ -103,6 +107,7 @@ impl Waiting {
     }
 
     /// The frame waits that a session hands out, if any.
+    #[inline(always)]
     pub(crate) fn alone(frame: Option<SessionFrame>) -> Waiting
         ensures { result ≡ sent (first_frame frame) }
     {
@@ -113,6 +118,7 @@ impl Waiting {
     }
 
     /// The frames wait that a session hands out.
+    #[inline(always)]
     pub(crate) fn of(item: Option<SessionOutgoingItem>) -> Waiting
         ensures { result ≡ sent (item_frames item) }
     {
@@ -136,6 +142,7 @@ impl Waiting {
     }
 
     /// These frames wait.
+    #[inline(never)]
     fn from_first(frames: Behind) -> Waiting
         ensures { result ≡ sent (behind_frames frames) }
     {
@@ -145,13 +152,15 @@ impl Waiting {
     }
 
     /// From now on these frames wait, and no others.
+    #[inline(always)]
     pub(crate) fn put(&mut self, frames: Waiting)
         ensures { self.new ≡ frames }
     {
-        drop(mem::replace(self, frames));
+        *self = frames;
     }
 
     /// Whether frames wait.
+    #[inline(always)]
     pub(crate) fn has_frames(&self) -> bool
         ensures { result ≡ has_frames self.now }
     {
@@ -159,6 +168,7 @@ impl Waiting {
     }
 
     /// The first frame.
+    #[inline(always)]
     pub(crate) fn first(&self) -> Option<&Frame>
         ensures some { is_some result ≡ has_frames self.now }
         ensures first { IfSome result (λ f. FirstIs f.now self.now) }
