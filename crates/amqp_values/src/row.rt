@@ -105,6 +105,7 @@ macro_rules! row_of {
     ($first:expr $(, $others:expr)* $(,)?) => { $crate::row::Then($first, $crate::row_of!($($others),*)) };
 }
 
+// Rows of one type of field, by the number of their fields.
 pub type Row1<T> = Then<T, NoMore>;
 
 pub type Row2<T> = Then<T, Row1<T>>;
