@@ -22,7 +22,7 @@ mod waiting;
 
 use crate::connection::Connection;
 use crate::numbers::SessionNo;
-use amqp_frames::{FrameDecoder, FrameEncoder};
+use amqp_frames::{FrameDecoder, FrameEncoder, Heads};
 use amqp_session::{LinkRelay, Session};
 use amqp_types::{ConnectionState, Open};
 pub use answer::{Answer, OutputError, Stopped};
@@ -44,6 +44,7 @@ pub struct Engine<R> {
     sessions: IndexMap<u32, Session<R>>,
     decoder: FrameDecoder,
     encoder: FrameEncoder,
+    heads: Heads,
     waiting: Waiting,
     kept: Kept,
 }
@@ -88,6 +89,7 @@ impl<R: LinkRelay> Engine<R> {
         Engine {
             alloc,
             encoder: FrameEncoder::new(first_limit(&local_open)),
+            heads: Heads::new(alloc),
             decoder: FrameDecoder::new(),
             connection: Connection::new(alloc, state, local_open),
             sessions: IndexMap::new(alloc),

@@ -15,7 +15,7 @@ pub mod session;
 mod settings;
 mod transcript;
 
-pub use amqp_frames::{Frame, FrameBody, FrameDecoder, FrameEncoder, FrameHead, Piece};
+pub use amqp_frames::{Frame, FrameBody, FrameDecoder, FrameEncoder, FrameHead, Heads, Piece};
 pub use amqp_session::{
     AllocLinkError, BeginError, ConnectionStopReason, DEFAULT_WINDOW, IncomingChannel, InputHandle,
     LinkFlow, LinkRelay, LinkRelayError, OutgoingChannel, OutputHandle, Session, SessionFrame,

@@ -22,7 +22,7 @@ impl<R: LinkRelay> Engine<R> {
         let Some(frame) = self.waiting.first() else {
             return Ok(None);
         };
-        match self.encoder.encode(self.alloc, frame) {
+        match self.encoder.encode_from(self.alloc, &mut self.heads, frame) {
             Ok(pieces) => {
                 drop(self.waiting.take().unwrap());
                 Ok(Some(pieces))
