@@ -34,8 +34,16 @@ ROOT = Path(__file__).resolve().parent.parent
 ANSWER = PLACE = TEXT = 1
 IN_MAP = 4
 BUFFER = 2
-ONE_PIECE = 1 + BUFFER
-CUT = 1 + 3 * BUFFER
+# A frame alone: the list of pieces, and the bytes of the head. A cut one: the list, the first head, the one that all in the middle share, the last.
+ONE_PIECE = 1 + 1
+CUT = 1 + 1 + BUFFER + 1
+
+
+def sent(frames):
+    """So many frames of an engine: a list of pieces for each, and the room for their heads."""
+    return frames + BUFFER
+
+
 # What goes out while a flow of the script is answered: the flow that it asks for, and two transfers.
 FRAMES = 3
 
@@ -45,7 +53,7 @@ AT_MOST = {
     "decode": TEXT,
     "encode": ONE_PIECE,
     "encode cut": CUT,
-    "next_output": ONE_PIECE,
+    "next_output": sent(1),
     # the line as it grows, and the digits of head and payload
     "out_line": 3 * PLACE + 2 * TEXT,
     "read": TEXT,
@@ -54,30 +62,30 @@ AT_MOST = {
     # the place among the routes
     "received Begin": ANSWER + IN_MAP,
     # the lists of the echoes and of their frames
-    "received Disposition": ANSWER + 2 * PLACE + ONE_PIECE,
+    "received Disposition": ANSWER + 2 * PLACE + sent(1),
     # the list of frames, and the places among the open deliveries
-    "received Flow": ANSWER + 2 * PLACE + FRAMES * ONE_PIECE,
+    "received Flow": ANSWER + 2 * PLACE + sent(FRAMES),
     # the error's condition, and its copy for the handles
     "received Close": ANSWER + 2 * TEXT,
     "received End": ANSWER + 2 * TEXT,
     # the container's name
     "received Open": ANSWER + TEXT,
     # the place among the open deliveries, and a session flow
-    "received Transfer": ANSWER + PLACE + ONE_PIECE,
+    "received Transfer": ANSWER + PLACE + sent(1),
     # as a link of this side, and a place among the input handles
     "request AllocateIncomingLink": ANSWER + TEXT + PLACE + 2 * IN_MAP,
     # the copy of the name, the place among the output handles, and the one among the names
     "request AllocateLink": ANSWER + TEXT + PLACE + IN_MAP,
-    "request Attach": ANSWER + ONE_PIECE,
+    "request Attach": ANSWER + sent(1),
     # the session, two places of what is kept for handles, and the channel's in a slab and in a map; settings without a copy
-    "request Begin": ANSWER + IN_MAP + IN_MAP + PLACE + PLACE + IN_MAP + ONE_PIECE,
-    "request Detach": ANSWER + ONE_PIECE,
+    "request Begin": ANSWER + IN_MAP + IN_MAP + PLACE + PLACE + IN_MAP + sent(1),
+    "request Detach": ANSWER + sent(1),
     # the container's name
-    "request Open": ANSWER + TEXT + ONE_PIECE,
+    "request Open": ANSWER + TEXT + sent(1),
     # the place among the open deliveries, and two pieces
-    "request Transfer": ANSWER + PLACE + 1 + 2 * BUFFER,
+    "request Transfer": ANSWER + PLACE + max(sent(1), 1 + 2),
     # two Ends of the script go out in one run
-    "run of wishes": ANSWER + 2 * ONE_PIECE,
+    "run of wishes": ANSWER + sent(2),
     "write": TEXT,
 }
 
