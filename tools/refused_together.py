@@ -34,7 +34,7 @@ ROOT = Path(__file__).resolve().parent.parent
 FOLDER = "must-fail-together"
 ANY_GOAL = re.compile(r"(?:\./)?\S+\.(?:rt|antt):\d+:\d+: error: |\S.*: no proof: .*did not prove ")
 # At most so many edits in one check, so that none takes long.
-MOST = 30
+MOST = 15
 # The control is of one in so many functions.
 ONE_IN = 8
 # What a check says where a proof names what is not there, or cites what was refused.
