@@ -10,7 +10,7 @@ the proof of another one does not count, and neither does a proof that misses a 
 A contract is judged function by function, so edits of different functions are put into one copy of the crate and checked at once: what a
 check reads of the libraries is then read once for all of them. In that copy the proof of each function that no edit names is an empty file,
 which is refused at once: what calls the function is judged by its contract all the same. An edit that such a check does not refuse is
-tried again alone. Edits of definitions (specs/) are tried alone.
+tried again alone, and then in a copy with all proofs. Edits of definitions (specs/) are tried alone.
 
 That a crate is proved as it stands is for 'rt ci' to say, which the gate calls before; a note names each crate that was changed since its
 rlib was made. Before the edits a check of such a copy with no edit in it, for one in eight of the functions that the edits name, has to
@@ -140,14 +140,14 @@ class Trial:
         self.crate, self.edits, self.kept = crate, edits, f"{room}/kept"
         self.folder, self.lines, self.checks = Path(crate.folder), {}, 0
 
-    def check(self, names, texts, kept):
-        """Checks these functions in a copy of the crate in which no other one has a proof."""
+    def check(self, names, texts, kept, is_bare=True):
+        """Checks these functions in a copy of the crate: a bare one, in which no other function has a proof, or a whole one."""
         with LANES, tempfile.TemporaryDirectory(prefix="rt-together-") as room:
             crate = copy.copy(self.crate)
             crate.folder = room
             for part in RT.rtlib.PARTS:
                 shutil.copytree(self.folder / part, f"{room}/{part}", dirs_exist_ok=True)
-            for other in {*functions(self.crate)} - {*names}:
+            for other in {*functions(self.crate)} - {*names} if is_bare else ():
                 proof = proof_of(room, other)
                 shutil.rmtree(proof, ignore_errors=True)
                 proof.mkdir(parents=True)
@@ -155,10 +155,10 @@ class Trial:
             own = [word for name in names for word in ("--only", name)]
             return RT.checked(crate, texts, ["--jobs", "1", *own], kept)
 
-    def try_edits(self, edits, texts):
+    def try_edits(self, edits, texts, is_bare):
         with tempfile.TemporaryDirectory(prefix="rt-kept-") as room:
             shutil.copytree(self.kept, f"{room}/kept")
-            return self.check([it.function for it in edits], texts, f"{room}/kept")
+            return self.check([it.function for it in edits], texts, f"{room}/kept", is_bare)
 
     def control(self, one_in):
         """Why the edits would show nothing, if so: a goal that is open as the crate stands, or the last words of a check without an end."""
@@ -181,9 +181,9 @@ class Trial:
     def tell(self, edit, is_well, text):
         self.lines[edit.name] = is_well, f"{self.crate.name}/{edit.name}: {text}"
 
-    def judge(self, edits, texts):
-        """Notes which of the edits a check refuses, and tries each of the others alone."""
-        ran = self.try_edits(edits, texts)
+    def judge(self, edits, texts, is_bare=True):
+        """Notes which of the edits a check refuses, and tries each of the others alone, and at last in a whole copy."""
+        ran = self.try_edits(edits, texts, is_bare)
         self.checks += 1
         for edit in edits:
             goal = edit.goal(self.crate.name, ran.stdout)
@@ -191,6 +191,8 @@ class Trial:
                 self.tell(edit, True, f"refused, as it must be: {goal[:160]}")
             elif len(edits) > 1:
                 self.judge(*self.next_of([edit]))
+            elif is_bare:
+                self.judge(edits, texts, is_bare=False)
             else:
                 last = (ran.stdout.strip().splitlines() or ["nothing"])[-1]
                 self.tell(edit, False, f"NOT REFUSED: no goal of {edit.function} is left unproved; the check ended in: {last[:160]}")
