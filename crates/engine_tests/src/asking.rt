@@ -3,8 +3,9 @@
 use crate::given::{ReplayEngine, pieces_said, unnamed_open};
 use bytes::Bytes;
 use fe2o3_amqp::{
-    ConnectionState, DeliveryTag, Engine, Handle, Input, InputHandle, LinkRelay, Piece, SessionNo,
-    SessionSettings, SessionState, SessionStopReason, StepError, Transfer, err_name, hex_bytes,
+    ConnectionState, ConnectionStopReason, DeliveryTag, Engine, Handle, IncomingChannel, Input,
+    InputHandle, LinkRelay, Piece, SessionNo, SessionSettings, SessionState, SessionStopReason,
+    StepError, Transfer, err_name, hex_bytes,
 };
 use std::alloc::{AllocError, Global};
 
@@ -121,7 +122,7 @@ pub fn send<R: LinkRelay>(
 }
 
 /// The state of a session, if it was begun.
-pub fn state_of(engine: &ReplayEngine, number: u32) -> Option<SessionState> {
+pub fn state_of<R: LinkRelay>(engine: &Engine<R>, number: u32) -> Option<SessionState> {
     match engine.session(SessionNo(number)) {
         Some(session) => Some(*session.local_state()),
         None => None,
@@ -129,7 +130,7 @@ pub fn state_of(engine: &ReplayEngine, number: u32) -> Option<SessionState> {
 }
 
 /// Why a session stopped, where a reason is recorded.
-pub fn reason_of(engine: &ReplayEngine, number: u32) -> Option<SessionStopReason> {
+pub fn reason_of<R: LinkRelay>(engine: &Engine<R>, number: u32) -> Option<SessionStopReason> {
     match engine.session(SessionNo(number)) {
         Some(session) => session.session_stop_reason(),
         None => None,
@@ -137,7 +138,7 @@ pub fn reason_of(engine: &ReplayEngine, number: u32) -> Option<SessionStopReason
 }
 
 /// The next number of a session, how many transfers its peer still takes, and how many wait; all 9 where there is none.
-pub fn numbers_of(engine: &ReplayEngine, number: u32) -> (u32, u32, usize) {
+pub fn numbers_of<R: LinkRelay>(engine: &Engine<R>, number: u32) -> (u32, u32, usize) {
     match engine.session(SessionNo(number)) {
         Some(session) => (
             session.next_outgoing_id(),
@@ -146,4 +147,34 @@ pub fn numbers_of(engine: &ReplayEngine, number: u32) -> (u32, u32, usize) {
         ),
         None => (9, 9, 9),
     }
+}
+
+/// How many transfers the peer may still send in session 0; 1000 where there is none.
+pub fn window_of<R: LinkRelay>(engine: &Engine<R>) -> u32 {
+    match engine.session(SessionNo(0)) {
+        Some(session) => session.remote_outgoing_window(),
+        None => 1000,
+    }
+}
+
+/// The session to which channel 7 of the peer's leads; 1000 where it leads to none.
+pub fn led<R: LinkRelay>(engine: &Engine<R>) -> u32 {
+    match engine
+        .connection()
+        .session_tx_by_incoming_channel(IncomingChannel(7))
+    {
+        Some(number) => number.0,
+        None => 1000,
+    }
+}
+
+/// The state of the connection, and why it stopped, where a reason is recorded.
+pub fn stopped<R: LinkRelay>(
+    engine: &Engine<R>,
+) -> (ConnectionState, Option<ConnectionStopReason>) {
+    let connection = engine.connection();
+    (
+        *connection.local_state(),
+        connection.connection_stop_reason(),
+    )
 }

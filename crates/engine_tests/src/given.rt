@@ -2,9 +2,7 @@
 
 use bytes::Bytes;
 use fe2o3_amqp::definitions::Error as AmqpError;
-use fe2o3_amqp::{
-    Answer, ConnectionState, Engine, Input, Open, Piece, ReplayRelay, Symbol, err_name, out_line,
-};
+use fe2o3_amqp::{Answer, Engine, Input, Open, Piece, ReplayRelay, Symbol, err_name, out_line};
 use std::alloc::{AllocError, Global};
 use std::test::Fail;
 
@@ -42,22 +40,9 @@ pub fn error(alloc: Global, condition: &str) -> Result<AmqpError, Fail> {
     }
 }
 
-/// An Open of the peer's: container-id `p`, max-frame-size 512, channel-max 3.
-pub fn peer_open() -> Bytes {
-    Bytes::from_static(&[
-        0x02, 0, 0, 0, 0x00, 0x53, 0x10, 0xc0, 0x0d, 4, 0xa1, 1, b'p', 0x40, 0x70, 0, 0, 2, 0,
-        0x60, 0, 3,
-    ])
-}
-
 /// A Close without an error.
 pub fn peer_close() -> Bytes {
     Bytes::from_static(&[0x02, 0, 0, 0, 0x00, 0x53, 0x18, 0x45])
-}
-
-/// A frame without a body.
-pub fn empty() -> Bytes {
-    Bytes::from_static(&[0x02, 0, 0, 0])
 }
 
 fn push_line(text: &mut String, line: &str) -> Result<(), AllocError> {
@@ -97,9 +82,4 @@ pub fn said(alloc: Global, answers: &Vec<Answer>) -> Result<String, AllocError> 
         push_answer(alloc, &mut text, answer)?;
     }
     Ok(text)
-}
-
-/// The state of an engine's connection.
-pub fn connection_state(engine: &ReplayEngine) -> ConnectionState {
-    *engine.connection().local_state()
 }

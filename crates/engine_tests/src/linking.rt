@@ -1,10 +1,12 @@
 //! Asking an engine for links, with whatever relay.
 
-use crate::asking::{answer, begins, hear, puts_out};
+use crate::asking::{answer, begins, hear, puts_out, refusal};
 use crate::given::unnamed_open;
+use bytes::Bytes;
 use fe2o3_amqp::{
-    Attach, ConnectionState, Detach, Engine, Handle, Input, InputHandle, LinkFlow, LinkRelay,
-    ReceiverSettleMode, Role, SenderSettleMode, SessionNo,
+    AllocLinkError, Attach, ConnectionState, Detach, Disposition, Engine, Handle, Input,
+    InputHandle, LinkFlow, LinkRelay, Raw, ReceiverSettleMode, Role, SenderSettleMode, SessionNo,
+    SessionStopReason, StepError,
 };
 use std::alloc::{AllocError, Global};
 
@@ -125,6 +127,60 @@ pub fn send_detach<R: LinkRelay>(
         error: None,
     };
     answer(engine, Input::Detach(SessionNo(0), detach, expects_echo))
+}
+
+/// What the request of a disposition is answered, of what came under 1 to 3: settled, with a state.
+pub fn dispose<R: LinkRelay>(
+    engine: &mut Engine<R>,
+    number: u32,
+    state: &'static [u8],
+) -> &'static str {
+    answer(
+        engine,
+        Input::Disposition(SessionNo(number), settled(state)),
+    )
+}
+
+fn settled(state: &'static [u8]) -> Disposition {
+    Disposition {
+        role: Role::Receiver,
+        first: 1,
+        last: Some(3),
+        settled: true,
+        state: match Raw::read(Bytes::from_static(state)) {
+            Ok((state, _rest)) => Some(state),
+            Err(_error) => None,
+        },
+        batchable: false,
+    }
+}
+
+/// Why no link is allotted.
+#[derive(Clone, Copy, PartialEq)]
+pub enum Why {
+    NotMapped,
+    Stopped(SessionStopReason),
+    Other,
+}
+
+/// Why no link is allotted, by this error.
+fn read_from(error: StepError) -> Why {
+    let why = match &error {
+        StepError::AllocLink(AllocLinkError::SessionNotMapped) => Why::NotMapped,
+        StepError::AllocLink(AllocLinkError::SessionStopped(reason)) => Why::Stopped(*reason),
+        _ => Why::Other,
+    };
+    drop(error);
+    why
+}
+
+/// Why session 0 allots no link without a name.
+pub fn unallotted<R: LinkRelay>(alloc: Global, engine: &mut Engine<R>) -> Why {
+    let link = Input::AllocateLink(SessionNo(0), String::new(alloc), None);
+    match refusal(engine, link) {
+        Some(error) => read_from(error),
+        None => Why::Other,
+    }
 }
 
 /// Whether one frame waits, whose only piece is this line.

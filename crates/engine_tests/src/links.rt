@@ -1,15 +1,13 @@
 //! Links in an engine, with two kinds of relay: that of transcripts, whose answers are known, and one that has a choice.
 
-use crate::asking::{answer, begins, hear, opened, refusal};
-use crate::given::ReplayEngine;
-use crate::linking::{
-    allot, allot_incoming, handle_of, mapped, puts_out_one, send_attach, send_detach, send_flow,
-};
+use crate::linking::{Why, allot, allot_incoming, mapped};
+use crate::rows::{Ask, Row, first_wrong, first_wrong_opened, first_wrong_part};
 use crate::telling::{Telling, Told};
-use fe2o3_amqp::{
-    AllocLinkError, Engine, Input, LinkRelay, ReplayRelay, SessionNo, SessionStopReason, StepError,
-};
+use fe2o3_amqp::{LinkRelay, ReplayRelay, SessionStopReason};
 use std::alloc::Global;
+
+/// The peer's Begin on channel 5, which names channel 0 and grants a window of 1.
+const BEGIN: &str = "02000005005311c009046000004352015208";
 
 /// The peer's attaches on channel 5: of "a" on handle 5, of "c" on handle 6.
 const ATTACH_A: &str = "02000005005312c00703a10161520541";
@@ -19,179 +17,140 @@ const ATTACH_C: &str = "02000005005312c00703a10163520641";
 /// The peer's detach of handle 5 on channel 5.
 const DETACH: &str = "02000005005316c003015205";
 
-/// A relay that refuses so many attaches.
-fn telling(told: &Told, refusals: u32) -> Telling {
-    Telling { told, refusals }
-}
+/// "a" is live on output handle 0 and attached under 5.
+const ATTACHED: &[Row] = &[
+    Row::Live("a", 0),
+    Row::Asked(Ask::Hear(ATTACH_A), "done"),
+    Row::Silence,
+];
 
-/// Whether "a" is live on output handle 0 and attached under 5.
-fn attaches<R: LinkRelay>(alloc: Global, engine: &mut Engine<R>, relay: R) -> bool {
-    allot(alloc, engine, "a", Some(relay)) == "done"
-        && handle_of(engine, "a") == 0
-        && hear(alloc, engine, ATTACH_A) == "done"
-        && !engine.has_output()
-}
+/// A detach that the peer is to answer goes out once; the link leaves its handle to a new one only once the peer has answered.
+const DETACHED: &[Row] = &[
+    Row::Asked(Ask::Detach(0), "done"),
+    Row::Out("out 02000000005316c003024341\n"),
+    Row::Live("a", 1000),
+    Row::Asked(Ask::Detach(0), "done"),
+    Row::Silence,
+    Row::Asked(Ask::Allot("b"), "done"),
+    Row::Live("b", 1),
+    Row::Asked(Ask::Hear(DETACH), "done"),
+    Row::Silence,
+    Row::Asked(Ask::Hear(DETACH), "done"),
+    Row::Silence,
+    Row::Asked(Ask::Allot("a"), "done"),
+    Row::Live("a", 0),
+];
 
-/// Whether a detach that the peer is to answer goes out once.
-fn detaches_once<R: LinkRelay>(alloc: Global, engine: &mut Engine<R>) -> bool {
-    send_detach(engine, 0, true) == "done"
-        && puts_out_one(alloc, engine, "out 02000000005316c003024341\n")
-        && handle_of(engine, "a") == 1000
-        && send_detach(engine, 0, true) == "done"
-        && !engine.has_output()
-}
+/// The peer detaches the link, the relay answers, and a second detach is not answered.
+const DETACHED_BY_THE_PEER: &[Row] = &[
+    Row::Asked(Ask::Hear(DETACH), "done"),
+    Row::Out("out 02000000005316c003015205\n"),
+    Row::Asked(Ask::Hear(DETACH), "done"),
+    Row::Silence,
+];
 
-/// Whether the peer's detach of handle 5 is taken, and nothing goes out.
-fn ends_in_silence<R: LinkRelay>(alloc: Global, engine: &mut Engine<R>) -> bool {
-    hear(alloc, engine, DETACH) == "done" && !engine.has_output()
-}
+const REFUSED_ONCE: &[Row] = &[
+    Row::Asked(Ask::Hear(ATTACH_A), "TransferFrameToSender"),
+    Row::Asked(Ask::Hear(ATTACH_A), "done"),
+    Row::Asked(Ask::Hear(ATTACH_A), "HandleInUse"),
+];
 
-/// Whether a link that is detached leaves its handle to a new one only once the peer has answered.
-fn is_detached<R: LinkRelay>(alloc: Global, engine: &mut Engine<R>) -> bool {
-    detaches_once(alloc, engine)
-        && allot(alloc, engine, "b", None) == "done"
-        && handle_of(engine, "b") == 1
-        && ends_in_silence(alloc, engine)
-        && ends_in_silence(alloc, engine)
-        && allot(alloc, engine, "a", None) == "done"
-        && handle_of(engine, "a") == 0
+/// A link of the peer's is live on output handle 0, attached under 6, and its attach and flow go out.
+const INCOMING: &[Row] = &[
+    Row::Live("c", 0),
+    Row::Asked(Ask::Hear(ATTACH_C), "HandleInUse"),
+    Row::Silence,
+    Row::Asked(Ask::Attach("c", 0), "done"),
+    Row::Out("out 02000000005312c00603a101634341\n"),
+    Row::Asked(Ask::Flow(0), "done"),
+    Row::Out("out 02000000005313c0110743700000138843700000138843405214\n"),
+];
+
+const STOPPED: &[Row] = &[
+    Row::Begins(0),
+    Row::Unallotted(Why::NotMapped),
+    Row::Asked(Ask::Stop(0, SessionStopReason::RemoteEnded), "done"),
+    Row::Unallotted(Why::Stopped(SessionStopReason::RemoteEnded)),
+];
+
+const ENDED: &[Row] = &[
+    Row::Begins(0),
+    Row::Asked(Ask::Hear(BEGIN), "done"),
+    Row::Asked(Ask::End(0), "done"),
+    Row::Out("out 0200000000531745\n"),
+    Row::Unallotted(Why::Stopped(SessionStopReason::Ended)),
+];
+
+/// What the request of "a" is answered, whose relay refuses so many attaches first; where the rows of an engine are wrong; and what
+/// the relay was told.
+fn told_by(
+    alloc: Global,
+    refusals: u32,
+    parts: &[&[Row]],
+) -> (&'static str, Option<(usize, usize)>, [usize; 4]) {
+    let told = Told::new();
+    let mut engine = mapped(alloc);
+    let relay = Telling {
+        told: &told,
+        refusals,
+    };
+    let allotted = allot(alloc, &mut engine, "a", Some(relay));
+    let wrong = first_wrong_part(alloc, &mut engine, parts);
+    drop(engine);
+    (allotted, wrong, told.counts())
 }
 
 #[test]
 fn a_relay_is_told_once_that_its_detach_is_answered(rt: HostRuntime) {
-    let told = Told::new();
-    let mut engine = mapped(rt.alloc());
-    let is_attached = attaches(rt.alloc(), &mut engine, telling(&told, 0));
-    let before = told.counts();
-    let is_free = is_detached(rt.alloc(), &mut engine);
-    drop(engine);
-    assert!(rt; is_attached);
-    assert_eq!(rt; before, [1, 0, 0, 0]);
-    assert!(rt; is_free);
-    assert_eq!(rt; told.counts(), [1, 0, 0, 1]);
+    let before = told_by(rt.alloc(), 0, &[ATTACHED]);
+    assert!(rt; before == ("done", None, [1, 0, 0, 0]));
+    let after = told_by(rt.alloc(), 0, &[ATTACHED, DETACHED]);
+    assert!(rt; after == ("done", None, [1, 0, 0, 1]));
 }
 
-/// Whether a link of the peer's is live on output handle 0, attached under 6, and its attach and flow go out.
-fn takes_incoming<R: LinkRelay>(alloc: Global, engine: &mut Engine<R>, relay: R) -> bool {
-    allot_incoming(alloc, engine, "c", relay, 6) == "done"
-        && handle_of(engine, "c") == 0
-        && hear(alloc, engine, ATTACH_C) == "HandleInUse"
-        && !engine.has_output()
-        && send_attach(alloc, engine, "c", 0) == "done"
-        && puts_out_one(alloc, engine, "out 02000000005312c00603a101634341\n")
-        && send_flow(engine, 0) == "done"
-        && puts_out_one(
-            alloc,
-            engine,
-            "out 02000000005313c0110743700000138843700000138843405214\n",
-        )
+#[test]
+fn a_relay_that_refuses_an_attach_is_asked_of_the_next(rt: HostRuntime) {
+    let told = told_by(rt.alloc(), 1, &[REFUSED_ONCE]);
+    assert!(rt; told == ("done", None, [2, 0, 0, 0]));
+}
+
+#[test]
+fn a_relay_is_told_of_a_detach_that_the_peer_began(rt: HostRuntime) {
+    let told = told_by(rt.alloc(), 0, &[ATTACHED, DETACHED_BY_THE_PEER]);
+    assert!(rt; told == ("done", None, [1, 0, 1, 0]));
+}
+
+/// What the request of "c" is answered, whose attach came on handle 6, and the place of the first row that is wrong then.
+fn takes_incoming<R: LinkRelay>(alloc: Global, relay: R) -> (&'static str, Option<usize>) {
+    let mut engine = mapped(alloc);
+    let allotted = allot_incoming(alloc, &mut engine, "c", relay, 6);
+    let wrong = first_wrong(alloc, &mut engine, INCOMING);
+    drop(engine);
+    (allotted, wrong)
 }
 
 #[test]
 fn an_incoming_link_is_attached_at_once(rt: HostRuntime) {
-    let mut engine = mapped(rt.alloc());
-    let is_taken = takes_incoming(rt.alloc(), &mut engine, ReplayRelay);
-    drop(engine);
-    assert!(rt; is_taken);
+    assert!(rt; takes_incoming(rt.alloc(), ReplayRelay) == ("done", None));
 }
 
 #[test]
 fn a_relay_of_an_incoming_link_is_asked_of_no_attach(rt: HostRuntime) {
     let told = Told::new();
-    let mut engine = mapped(rt.alloc());
-    let is_taken = takes_incoming(rt.alloc(), &mut engine, telling(&told, 0));
-    drop(engine);
-    assert!(rt; is_taken);
+    let relay = Telling {
+        told: &told,
+        refusals: 0,
+    };
+    assert!(rt; takes_incoming(rt.alloc(), relay) == ("done", None));
     assert_eq!(rt; told.counts(), [0, 0, 0, 0]);
 }
 
 #[test]
-fn a_relay_that_refuses_an_attach_is_asked_of_the_next(rt: HostRuntime) {
-    let told = Told::new();
-    let mut engine = mapped(rt.alloc());
-    let answers = [
-        allot(rt.alloc(), &mut engine, "a", Some(telling(&told, 1))),
-        hear(rt.alloc(), &mut engine, ATTACH_A),
-        hear(rt.alloc(), &mut engine, ATTACH_A),
-        hear(rt.alloc(), &mut engine, ATTACH_A),
-    ];
-    drop(engine);
-    let want = ["done", "TransferFrameToSender", "done", "HandleInUse"];
-    assert!(rt; answers == want);
-    assert_eq!(rt; told.counts(), [2, 0, 0, 0]);
-}
-
-/// Whether the peer's detach of handle 5 is taken, and the relay's goes out.
-fn answers_detach<R: LinkRelay>(alloc: Global, engine: &mut Engine<R>) -> bool {
-    hear(alloc, engine, DETACH) == "done"
-        && puts_out_one(alloc, engine, "out 02000000005316c003015205\n")
-}
-
-#[test]
-fn a_relay_is_told_of_a_detach_that_the_peer_began(rt: HostRuntime) {
-    let told = Told::new();
-    let mut engine = mapped(rt.alloc());
-    let is_attached = attaches(rt.alloc(), &mut engine, telling(&told, 0));
-    let is_answered = answers_detach(rt.alloc(), &mut engine);
-    let is_silent = ends_in_silence(rt.alloc(), &mut engine);
-    drop(engine);
-    assert!(rt; is_attached);
-    assert!(rt; is_answered);
-    assert!(rt; is_silent);
-    assert_eq!(rt; told.counts(), [1, 0, 1, 0]);
-}
-
-/// Why no link is allotted.
-#[derive(Clone, Copy, PartialEq)]
-enum Why {
-    NotMapped,
-    Stopped(SessionStopReason),
-    Other,
-}
-
-/// Why no link is allotted, by this error.
-fn read_from(error: StepError) -> Why {
-    let why = match &error {
-        StepError::AllocLink(AllocLinkError::SessionNotMapped) => Why::NotMapped,
-        StepError::AllocLink(AllocLinkError::SessionStopped(reason)) => Why::Stopped(*reason),
-        _ => Why::Other,
-    };
-    drop(error);
-    why
-}
-
-/// Why session 0 allots no link without a name.
-fn unallotted(alloc: Global, engine: &mut ReplayEngine) -> Why {
-    let link = Input::AllocateLink(SessionNo(0), String::new(alloc), None);
-    match refusal(engine, link) {
-        Some(error) => read_from(error),
-        None => Why::Other,
-    }
-}
-
-#[test]
 fn a_link_that_is_not_allotted_is_told_why(rt: HostRuntime) {
-    let mut engine = opened(rt.alloc());
-    let is_begun = begins(&mut engine, 0);
-    let first = unallotted(rt.alloc(), &mut engine);
-    let stop = Input::Stop(SessionNo(0), SessionStopReason::RemoteEnded);
-    let stopped = answer(&mut engine, stop);
-    let second = unallotted(rt.alloc(), &mut engine);
-    drop(engine);
-    assert!(rt; is_begun);
-    assert!(rt; first == Why::NotMapped);
-    assert_eq!(rt; stopped, "done");
-    assert!(rt; second == Why::Stopped(SessionStopReason::RemoteEnded));
+    assert_eq!(rt; first_wrong_opened(rt.alloc(), &[STOPPED]), None);
 }
 
 #[test]
 fn a_link_of_an_ended_session_is_told_so(rt: HostRuntime) {
-    let mut engine: ReplayEngine = mapped(rt.alloc());
-    let ended = answer(&mut engine, Input::End(SessionNo(0), None));
-    let is_out = puts_out_one(rt.alloc(), &mut engine, "out 0200000000531745\n");
-    let why = unallotted(rt.alloc(), &mut engine);
-    drop(engine);
-    assert_eq!(rt; ended, "done");
-    assert!(rt; is_out);
-    assert!(rt; why == Why::Stopped(SessionStopReason::Ended));
+    assert_eq!(rt; first_wrong_opened(rt.alloc(), &[ENDED]), None);
 }

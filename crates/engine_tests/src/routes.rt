@@ -1,9 +1,10 @@
 //! Routes of received frames in an engine with two sessions.
 
-use crate::asking::{answer, begins, hear, numbers_of, opened, reason_of, receive, state_of};
+use crate::asking::{numbers_of, opened, receive};
 use crate::given::ReplayEngine;
+use crate::rows::{Ask, Row, first_wrong, first_wrong_opened};
 use bytes::Bytes;
-use fe2o3_amqp::{IncomingChannel, Input, SessionNo, SessionState, SessionStopReason};
+use fe2o3_amqp::{SessionState, SessionStopReason};
 use std::alloc::Global;
 
 /// The peer's Begin on channel 7, which names channel 0 and grants a window of 8.
@@ -15,78 +16,48 @@ const FOR_ONE: &str = "02000007005311c009046000014352085208";
 /// The peer's End on channel 7.
 const END: &str = "0200000700531745";
 
-/// The session to which channel 7 of the peer's leads; 1000 where it leads to none.
-fn led(engine: &ReplayEngine) -> u32 {
-    match engine
-        .connection()
-        .session_tx_by_incoming_channel(IncomingChannel(7))
-    {
-        Some(number) => number.0,
-        None => 1000,
-    }
-}
+/// Sessions 0 and 1 begin, a Begin of the peer's on channel 7 answers each in turn, a third one leads the channel back to session
+/// 0, and the peer ends that.
+const ZERO_ENDED: &[Row] = &[
+    Row::Begins(0),
+    Row::Begins(1),
+    Row::Asked(Ask::Hear(FOR_ZERO), "done"),
+    Row::Led(0),
+    Row::Asked(Ask::Hear(FOR_ONE), "done"),
+    Row::Asked(Ask::Hear(FOR_ZERO), "IllegalState"),
+    Row::Led(0),
+    Row::Asked(Ask::Hear(END), "RemoteEnded"),
+];
 
-/// Whether sessions 0 and 1 begin, and a Begin of the peer's on channel 7 answers each in turn.
-fn maps_both(alloc: Global, engine: &mut ReplayEngine) -> bool {
-    begins(engine, 0)
-        && begins(engine, 1)
-        && hear(alloc, engine, FOR_ZERO) == "done"
-        && led(engine) == 0
-        && hear(alloc, engine, FOR_ONE) == "done"
-}
+const WITHOUT_A_ROUTE: &[Row] = &[
+    Row::Led(1000),
+    Row::State(0, Some(SessionState::EndReceived)),
+    Row::Reason(0, Some(SessionStopReason::RemoteEnded)),
+    Row::Reason(1, None),
+    Row::Asked(Ask::Hear(END), "NotFound"),
+];
 
-/// Whether a third Begin then leads the channel back to session 0, and the peer ends that.
-fn ends_zero(alloc: Global, engine: &mut ReplayEngine) -> bool {
-    maps_both(alloc, engine)
-        && hear(alloc, engine, FOR_ZERO) == "IllegalState"
-        && led(engine) == 0
-        && hear(alloc, engine, END) == "RemoteEnded"
-}
+/// This side says of each session that it ended it.
+const STOPPED: &[Row] = &[
+    Row::Asked(Ask::Stop(0, SessionStopReason::Ended), "done"),
+    Row::Asked(Ask::Stop(1, SessionStopReason::Ended), "done"),
+    Row::Asked(Ask::Stop(2, SessionStopReason::Ended), "NoSession"),
+    Row::Reason(0, Some(SessionStopReason::RemoteEnded)),
+    Row::Reason(1, Some(SessionStopReason::Ended)),
+];
 
-/// Why sessions 0 and 1 stopped.
-fn reasons_of(engine: &ReplayEngine) -> [Option<SessionStopReason>; 2] {
-    [reason_of(engine, 0), reason_of(engine, 1)]
-}
+const BEGUN: &[Row] = &[Row::Begins(0), Row::Asked(Ask::Hear(FOR_ZERO), "done")];
 
 #[test]
 fn an_end_takes_the_route_away(rt: HostRuntime) {
-    let mut engine = opened(rt.alloc());
-    let is_ended = ends_zero(rt.alloc(), &mut engine);
-    let led = led(&engine);
-    let state = state_of(&engine, 0);
-    let reasons = reasons_of(&engine);
-    let refusal = hear(rt.alloc(), &mut engine, END);
-    drop(engine);
-    assert!(rt; is_ended);
-    assert_eq!(rt; led, 1000);
-    assert!(rt; state == Some(SessionState::EndReceived));
-    assert!(rt; reasons == [Some(SessionStopReason::RemoteEnded), None]);
-    assert_eq!(rt; refusal, "NotFound");
-}
-
-/// The answer to the request that records, as the reason, that this side ended the session.
-fn stop(engine: &mut ReplayEngine, number: u32) -> &'static str {
-    answer(
-        engine,
-        Input::Stop(SessionNo(number), SessionStopReason::Ended),
-    )
+    let wrong = first_wrong_opened(rt.alloc(), &[ZERO_ENDED, WITHOUT_A_ROUTE]);
+    assert_eq!(rt; wrong, None);
 }
 
 #[test]
 fn the_first_stop_reason_of_a_session_stays(rt: HostRuntime) {
-    let mut engine = opened(rt.alloc());
-    let is_ended = ends_zero(rt.alloc(), &mut engine);
-    let answers = [
-        stop(&mut engine, 0),
-        stop(&mut engine, 1),
-        stop(&mut engine, 2),
-    ];
-    let reasons = reasons_of(&engine);
-    drop(engine);
-    assert!(rt; is_ended);
-    assert!(rt; answers == ["done", "done", "NoSession"]);
-    let ended = Some(SessionStopReason::Ended);
-    assert!(rt; reasons == [Some(SessionStopReason::RemoteEnded), ended]);
+    let wrong = first_wrong_opened(rt.alloc(), &[ZERO_ENDED, STOPPED]);
+    assert_eq!(rt; wrong, None);
 }
 
 /// The answer to the peer's Begin on a channel, which names channel 0 and grants a window of 100.
@@ -114,13 +85,11 @@ fn all_refused(alloc: Global, engine: &mut ReplayEngine) -> bool {
 #[test]
 fn begins_on_every_channel_change_no_session(rt: HostRuntime) {
     let mut engine = opened(rt.alloc());
-    let is_begun = begins(&mut engine, 0);
-    let answer = hear(rt.alloc(), &mut engine, FOR_ZERO);
+    let wrong = first_wrong(rt.alloc(), &mut engine, BEGUN);
     let are_refused = all_refused(rt.alloc(), &mut engine);
     let numbers = numbers_of(&engine, 0);
     drop(engine);
-    assert!(rt; is_begun);
-    assert_eq!(rt; answer, "done");
+    assert_eq!(rt; wrong, None);
     assert!(rt; are_refused);
     assert_eq!(rt; numbers, (0, 8, 0));
 }

@@ -1,7 +1,8 @@
 //! Runs of several inputs, of which some stand behind others that hand out frames.
 
-use crate::asking::{answer, begins, first_transfer, hear, opened};
-use crate::given::{ReplayEngine, ReplayInput};
+use crate::asking::{first_transfer, opened};
+use crate::given::ReplayInput;
+use crate::rows::{Ask, Row, first_wrong};
 use crate::running::{heard, push, runs_to};
 use bytes::Bytes;
 use fe2o3_amqp::{Input, InputHandle, SessionNo, SessionSettings};
@@ -10,6 +11,29 @@ use std::collections::VecDeque;
 
 /// The peer's Flow on channel 5, which expects transfer 0 and grants a window of 2.
 const FLOW: &'static [u8] = b"\x02\0\0\x05\0\x53\x13\xc0\x07\x04\x43\x52\x02\x43\x52\x08";
+
+/// Session 0 is mapped, with a window of 0.
+const MAPPED: &[Row] = &[
+    Row::Begins(0),
+    Row::Asked(Ask::Hear("02000005005311c0080460000043435208"), "done"),
+];
+
+/// A session begins, and its Begin waits.
+const BEGUN: &[Row] = &[Row::Asked(Ask::Begin(0), "done"), Row::Waits];
+
+/// The place of the first row that is wrong, and whether a run takes these inputs then and gives these answers.
+fn runs_behind(
+    alloc: Global,
+    rows: &[Row],
+    inputs: VecDeque<ReplayInput>,
+    want: &str,
+) -> (Option<usize>, bool) {
+    let mut engine = opened(alloc);
+    let wrong = first_wrong(alloc, &mut engine, rows);
+    let is_right = runs_to(alloc, &mut engine, inputs, want);
+    drop(engine);
+    (wrong, is_right)
+}
 
 /// The request of a session's Begin, of default settings.
 fn begin(number: u32) -> ReplayInput {
@@ -44,7 +68,6 @@ fn with_refusals(alloc: Global) -> VecDeque<ReplayInput> {
 
 #[test]
 fn a_refused_input_leaves_the_others_in_place(rt: HostRuntime) {
-    let mut engine = opened(rt.alloc());
     let want = "done
 out 02000000005311c00d04404370000013887000001388
 SessionInUse
@@ -58,10 +81,8 @@ NotFound
 done
 out 0200000000531845
 ";
-    let inputs = with_refusals(rt.alloc());
-    let is_right = runs_to(rt.alloc(), &mut engine, inputs, want);
-    drop(engine);
-    assert!(rt; is_right);
+    let ran = runs_behind(rt.alloc(), &[], with_refusals(rt.alloc()), want);
+    assert!(rt; ran == (None, true));
 }
 
 /// Three Begins and a Close: each hands out a frame.
@@ -87,11 +108,9 @@ out 0200000000531845
 
 #[test]
 fn each_input_is_answered_before_the_next(rt: HostRuntime) {
-    let mut engine = opened(rt.alloc());
     let inputs = all_hand_out(rt.alloc());
-    let is_right = runs_to(rt.alloc(), &mut engine, inputs, ALL_HANDED_OUT);
-    drop(engine);
-    assert!(rt; is_right);
+    let ran = runs_behind(rt.alloc(), &[], inputs, ALL_HANDED_OUT);
+    assert!(rt; ran == (None, true));
 }
 
 /// Three transfers for a window of two, and an End behind the flow that lets two of them out.
@@ -105,15 +124,8 @@ fn let_out_at_once(alloc: Global) -> VecDeque<ReplayInput> {
     inputs
 }
 
-/// Whether session 0 is mapped, with a window of 0.
-fn maps(alloc: Global, engine: &mut ReplayEngine) -> bool {
-    begins(engine, 0) && hear(alloc, engine, "02000005005311c0080460000043435208") == "done"
-}
-
 #[test]
 fn all_frames_of_an_input_come_before_the_next(rt: HostRuntime) {
-    let mut engine = opened(rt.alloc());
-    let is_mapped = maps(rt.alloc(), &mut engine);
     let want = "done
 done
 done
@@ -123,11 +135,8 @@ out 02000000005314c00703435201a0010bfe
 done
 out 0200000000531745
 ";
-    let inputs = let_out_at_once(rt.alloc());
-    let is_right = runs_to(rt.alloc(), &mut engine, inputs, want);
-    drop(engine);
-    assert!(rt; is_mapped);
-    assert!(rt; is_right);
+    let ran = runs_behind(rt.alloc(), MAPPED, let_out_at_once(rt.alloc()), want);
+    assert!(rt; ran == (None, true));
 }
 
 /// A Begin and a Close.
@@ -139,19 +148,12 @@ fn begin_and_close(alloc: Global) -> VecDeque<ReplayInput> {
 
 #[test]
 fn what_a_step_left_is_put_out_before_the_inputs(rt: HostRuntime) {
-    let mut engine = opened(rt.alloc());
-    let answer = answer(&mut engine, begin(0));
-    let has_output = engine.has_output();
     let want = "out 02000000005311c00d04404370000013887000001388
 done
 out 02000001005311c00d04404370000013887000001388
 done
 out 0200000000531845
 ";
-    let inputs = begin_and_close(rt.alloc());
-    let is_right = runs_to(rt.alloc(), &mut engine, inputs, want);
-    drop(engine);
-    assert_eq!(rt; answer, "done");
-    assert!(rt; has_output);
-    assert!(rt; is_right);
+    let ran = runs_behind(rt.alloc(), BEGUN, begin_and_close(rt.alloc()), want);
+    assert!(rt; ran == (None, true));
 }

@@ -1,71 +1,60 @@
 //! Single inputs of an engine.
 
-use crate::asking::{answer, engine_in, hear, puts_out, receive};
-use crate::given::{ReplayEngine, connection_state, empty, peer_close, peer_open};
-use crate::linking::puts_out_one;
-use fe2o3_amqp::{ConnectionState, ConnectionStopReason, Input};
+use crate::rows::{Ask, Row, first_wrong_in};
+use fe2o3_amqp::{ConnectionState, ConnectionStopReason};
+
+/// An Open of the peer's: container-id `p`, max-frame-size 512, channel-max 3.
+const PEER_OPEN: &str = "02000000005310c00d04a10170407000000200600003";
+
+/// A Close of the peer's.
+const PEER_CLOSE: &str = "0200000000531845";
+
+/// A Close of the peer's with an error.
+const PEER_CLOSE_WITH_ERROR: &str = "02000000005318c00c0100531dc00601a303613a62";
+
+const OPENING: &[Row] = &[
+    Row::Silence,
+    Row::Asked(Ask::Open, "done"),
+    Row::Connection(ConnectionState::OpenSent, None),
+    Row::Asked(Ask::Open, "OutputWaiting"),
+    Row::Out("out 02000000005310c00c04a1004070000400006000ff\n"),
+    Row::Silence,
+];
+
+const RECEIVED: &[Row] = &[
+    Row::Asked(Ask::Hear("02000000"), "done"),
+    Row::Asked(Ask::Hear(PEER_OPEN), "done"),
+    Row::Connection(ConnectionState::Opened, None),
+    Row::Asked(Ask::Hear(PEER_OPEN), "IllegalState"),
+    Row::Asked(Ask::Hear(PEER_CLOSE), "RemoteClosed"),
+    Row::Connection(
+        ConnectionState::CloseReceived,
+        Some(ConnectionStopReason::RemoteClosed),
+    ),
+];
+
+const CLOSED: &[Row] = &[
+    Row::Asked(Ask::Close, "done"),
+    Row::Out("out 0200000000531845\n"),
+    Row::Asked(Ask::Hear(PEER_CLOSE_WITH_ERROR), "RemoteClosedWithError"),
+    Row::Connection(ConnectionState::End, Some(ConnectionStopReason::Closed)),
+];
 
 #[test]
 fn an_open_goes_out(rt: HostRuntime) {
-    let mut engine = engine_in(rt.alloc(), ConnectionState::HeaderExchange);
-    let has_before = engine.has_output();
-    let first = answer(&mut engine, Input::Open);
-    let state = connection_state(&engine);
-    let second = answer(&mut engine, Input::Open);
-    let line = "out 02000000005310c00c04a1004070000400006000ff\n";
-    let is_out = puts_out_one(rt.alloc(), &mut engine, line);
-    let is_all = puts_out(rt.alloc(), &mut engine, "");
-    drop(engine);
-    assert!(rt; !has_before);
-    assert_eq!(rt; first, "done");
-    assert_eq!(rt; state, ConnectionState::OpenSent);
-    assert_eq!(rt; second, "OutputWaiting");
-    assert!(rt; is_out);
-    assert!(rt; is_all);
-}
-
-/// The state of the connection, and why it stopped, where a reason is recorded.
-fn stopped(engine: &ReplayEngine) -> (ConnectionState, Option<ConnectionStopReason>) {
-    (
-        connection_state(engine),
-        engine.connection().connection_stop_reason(),
-    )
+    let wrong = first_wrong_in(rt.alloc(), ConnectionState::HeaderExchange, &[OPENING]);
+    assert_eq!(rt; wrong, None);
 }
 
 #[test]
 fn received_frames_move_the_state(rt: HostRuntime) {
-    let mut engine = engine_in(rt.alloc(), ConnectionState::OpenSent);
-    let accepted = [
-        receive(&mut engine, empty()),
-        receive(&mut engine, peer_open()),
-    ];
-    let opened = connection_state(&engine);
-    let refused = [
-        receive(&mut engine, peer_open()),
-        receive(&mut engine, peer_close()),
-    ];
-    let closed = stopped(&engine);
-    drop(engine);
-    assert!(rt; accepted == ["done", "done"]);
-    assert_eq!(rt; opened, ConnectionState::Opened);
-    assert!(rt; refused == ["IllegalState", "RemoteClosed"]);
-    let reason = Some(ConnectionStopReason::RemoteClosed);
-    assert!(rt; closed == (ConnectionState::CloseReceived, reason));
+    let wrong = first_wrong_in(rt.alloc(), ConnectionState::OpenSent, &[RECEIVED]);
+    assert_eq!(rt; wrong, None);
 }
 
 /// The peer's Close has an error; it answers one of this side.
 #[test]
 fn the_reason_of_the_first_close_stays(rt: HostRuntime) {
-    let close = "02000000005318c00c0100531dc00601a303613a62";
-    let mut engine = engine_in(rt.alloc(), ConnectionState::Opened);
-    let first = answer(&mut engine, Input::Close(None));
-    let is_out = puts_out(rt.alloc(), &mut engine, "out 0200000000531845\n");
-    let second = hear(rt.alloc(), &mut engine, close);
-    let ended = stopped(&engine);
-    drop(engine);
-    assert_eq!(rt; first, "done");
-    assert!(rt; is_out);
-    assert_eq!(rt; second, "RemoteClosedWithError");
-    let reason = Some(ConnectionStopReason::Closed);
-    assert!(rt; ended == (ConnectionState::End, reason));
+    let wrong = first_wrong_in(rt.alloc(), ConnectionState::Opened, &[CLOSED]);
+    assert_eq!(rt; wrong, None);
 }

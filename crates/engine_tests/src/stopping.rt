@@ -7,6 +7,18 @@ use fe2o3_amqp::Answer;
 use std::alloc::{AllocError, Global};
 use std::collections::VecDeque;
 
+/// How many inputs a run that stops takes; none where it takes all.
+fn stopped_at(
+    engine: &mut ReplayEngine,
+    inputs: &mut VecDeque<ReplayInput>,
+    answers: &mut Vec<Answer>,
+) -> Option<usize> {
+    match engine.run(inputs, answers) {
+        Ok(()) => None,
+        Err(stopped) => Some(stopped.done),
+    }
+}
+
 /// Whether a run takes all inputs: where it stops, a second one goes on, and as many are left as the first did not take.
 fn goes_on(
     engine: &mut ReplayEngine,
@@ -14,11 +26,11 @@ fn goes_on(
     answers: &mut Vec<Answer>,
 ) -> bool {
     let total = inputs.len();
-    match engine.run(inputs, answers) {
-        Ok(()) => inputs.is_empty(),
-        Err(stopped) => {
-            stopped.done.checked_add(inputs.len()) == Some(total)
-                && engine.run(inputs, answers).is_ok()
+    match stopped_at(engine, inputs, answers) {
+        None => inputs.is_empty(),
+        Some(done) => {
+            done.checked_add(inputs.len()) == Some(total)
+                && stopped_at(engine, inputs, answers).is_none()
                 && inputs.is_empty()
         }
     }
