@@ -36,23 +36,36 @@ fn a_link_flow_needs_a_handle(rt: HostRuntime) -> Result<(), Fail> {
     Ok(())
 }
 
+/// Whether both are the same. Where they are dropped, the proof needs none of their variants.
+fn are_same<T: PartialEq + Drop>(told: T, want: T) -> bool {
+    told == want
+}
+
 #[test]
 fn errors_go_on_under_their_names(rt: HostRuntime) {
-    assert!(rt;
-        SessionInnerError::from(SessionStateError::RemoteEnded) == SessionInnerError::RemoteEnded
-    );
-    assert!(rt;
-        SessionInnerError::from(LinkRelayError::TransferFrameToSender)
-            == SessionInnerError::TransferFrameToSender
-    );
-    assert!(rt; Error::from(LinkRelayError::UnattachedHandle) == Error::UnattachedHandle);
-    assert!(rt; Error::from(SessionInnerError::HandleInUse) == Error::HandleInUse);
-    assert!(rt; Error::from(SessionStateError::OutOfMemory) == Error::OutOfMemory);
-    assert!(rt; BeginError::from(SessionStateError::IllegalState) == BeginError::IllegalState);
-    assert!(rt;
-        SessionStopReason::from(ConnectionStopReason::Closed)
-            == SessionStopReason::ConnectionStopped(ConnectionStopReason::Closed)
-    );
+    let told = SessionInnerError::from(SessionStateError::RemoteEnded);
+    assert!(rt; are_same(told, SessionInnerError::RemoteEnded));
+    let told = SessionInnerError::from(LinkRelayError::TransferFrameToSender);
+    assert!(rt; are_same(told, SessionInnerError::TransferFrameToSender));
+}
+
+#[test]
+fn errors_are_told_as_those_of_a_session(rt: HostRuntime) {
+    let told = Error::from(LinkRelayError::UnattachedHandle);
+    assert!(rt; are_same(told, Error::UnattachedHandle));
+    let told = Error::from(SessionInnerError::HandleInUse);
+    assert!(rt; are_same(told, Error::HandleInUse));
+    let told = Error::from(SessionStateError::OutOfMemory);
+    assert!(rt; are_same(told, Error::OutOfMemory));
+}
+
+#[test]
+fn a_begin_is_refused_and_a_session_stops_under_the_same_names(rt: HostRuntime) {
+    let told = BeginError::from(SessionStateError::IllegalState);
+    assert!(rt; are_same(told, BeginError::IllegalState));
+    let stopped = SessionStopReason::from(ConnectionStopReason::Closed);
+    let want = SessionStopReason::ConnectionStopped(ConnectionStopReason::Closed);
+    assert!(rt; stopped == want);
 }
 
 #[test]

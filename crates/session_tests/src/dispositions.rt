@@ -165,21 +165,36 @@ fn echoes_are_maximal_runs(rt: HostRuntime) -> Result<(), Fail> {
     Ok(())
 }
 
+/// Whether two transfers come on each side of the wrap, and an echo is asked for of the last one there.
+fn receives_around_the_wrap(session: &mut Session<Marked>) -> bool {
+    receive(session, 0, false)
+        && receive(session, 1, true)
+        && receive(session, 4294967294, false)
+        && receive(session, 4294967295, true)
+}
+
+/// Whether a settled disposition of the peer has no echo, and how many deliveries are open behind it.
+fn open_behind(session: &mut Session<Marked>, first: u32, last: u32) -> (bool, usize) {
+    let is_silent = is_unanswered(session, said(first, Some(last), true, ACCEPTED));
+    (is_silent, session.open_deliveries())
+}
+
 #[test]
 fn a_range_passes_the_wrap(rt: HostRuntime) -> Result<(), Fail> {
     let mut session = mapped(rt.alloc())?;
-    assert!(rt; receive(&mut session, 0, false));
-    assert!(rt; receive(&mut session, 1, true));
-    assert!(rt; receive(&mut session, 4294967294, false));
-    assert!(rt; receive(&mut session, 4294967295, true));
+    let are_taken = receives_around_the_wrap(&mut session);
     let all = (4294967295, 4294967295);
-    assert!(rt; two_echoes(&mut session, (4294967294, 1), all, (1, 1)));
-    assert!(rt; is_unanswered(&mut session, said(4294967295, Some(0), true, ACCEPTED)));
-    assert_eq!(rt; session.open_deliveries(), 2);
-    assert!(rt; is_unanswered(&mut session, said(0, Some(2147483648), true, ACCEPTED)));
-    assert_eq!(rt; session.open_deliveries(), 2);
-    assert_eq!(rt; session.last_walk().turns, 0);
+    let are_echoed = two_echoes(&mut session, (4294967294, 1), all, (1, 1));
+    let behind = [
+        open_behind(&mut session, 4294967295, 0),
+        open_behind(&mut session, 0, 2147483648),
+    ];
+    let turns = session.last_walk().turns;
     drop(session);
+    assert!(rt; are_taken);
+    assert!(rt; are_echoed);
+    assert!(rt; behind == [(true, 2), (true, 2)]);
+    assert_eq!(rt; turns, 0);
     Ok(())
 }
 
