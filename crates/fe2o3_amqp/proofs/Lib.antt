@@ -23,6 +23,7 @@ pub mod Telling
 pub mod OnChannel
 pub mod Standing
 pub mod Outputs
+pub mod Putting
 pub mod Staying
 pub mod KeptOutcomes
 pub mod Running

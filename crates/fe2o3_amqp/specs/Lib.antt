@@ -13,6 +13,7 @@ pub mod History
 pub mod Event
 pub mod ByHistory
 pub mod Output
+pub mod Putting
 pub mod Headline
 pub mod Handles
 pub mod HandledRun

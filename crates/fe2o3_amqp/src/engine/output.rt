@@ -1,9 +1,11 @@
 //! Output: waiting frames become pieces.
 
-ghost use Rattle.std.specs.Prelude.{◌≡◌, ◌++◌, [], ◌∷◌, List, OnOk};
+ghost use Rattle.std.specs.Prelude.{◌≡◌, ◌++◌, ◌<◌, [], List, true, OnOk, OnErr, vec_len, vec_capacity};
 ghost use Rattle.fe2o3_amqp.specs.declared.engine.answer.Answer.{Answer};
 ghost use Rattle.fe2o3_amqp.specs.History.{OnlyLeft};
-ghost use Rattle.fe2o3_amqp.specs.Output.{NextOutput, NextAnswer, PutOut};
+ghost use Rattle.fe2o3_amqp.specs.Waits.{has_frames};
+ghost use Rattle.fe2o3_amqp.specs.Output.{NextOutput, PutOut};
+ghost use Rattle.fe2o3_amqp.specs.Putting.{EncodesFirst, FirstUnfit, PutsFirst};
 
 use super::Engine;
 use super::answer::{Answer, OutputError};
@@ -19,12 +21,12 @@ impl<R: LinkRelay> Engine<R> {
     pub fn next_output(&mut self) -> Result<Option<Vec<Piece>>, OutputError>
         ensures { NextOutput (λ v. v.items) self.old result self.new }
     {
-        let Some(frame) = self.waiting.first() else {
+        if !self.has_output() {
             return Ok(None);
-        };
-        match self.encoder.encode_from(self.alloc, &mut self.heads, frame) {
+        }
+        match self.encode_first() {
             Ok(pieces) => {
-                drop(self.waiting.take().unwrap());
+                self.waiting.discard();
                 Ok(Some(pieces))
             }
             Err(Error::TooLarge) => { Err(OutputError::TooLarge(self.waiting.take().unwrap())) }
@@ -32,16 +34,49 @@ impl<R: LinkRelay> Engine<R> {
         }
     }
 
-    /// The answer of the first frame that waits; `None` where memory is refused.
-    fn next_answer(&mut self) -> Option<Answer>
-        requires { ¬ (self.old.waiting ≡ []) }
-        ensures { NextAnswer self.old result self.new }
+    /// The pieces of the first frame that waits. The frame still waits.
+    #[inline(always)]
+    fn encode_first(&mut self) -> Result<Vec<Piece>, Error>
+        requires { has_frames self.old.waiting ≡ true }
+        ensures { EncodesFirst (λ v. v.items) self.old result self.new }
     {
-        match self.next_output() {
-            Ok(Some(pieces)) => Some(Answer::Out(pieces)),
-            Err(OutputError::TooLarge(frame)) => Some(Answer::TooLarge(frame)),
-            Ok(None) | Err(OutputError::Memory) => None,
+        let frame = self.waiting.first().unwrap();
+        self.encoder.encode_from(self.alloc, &mut self.heads, frame)
+    }
+
+    /// Puts out the first frame that waits. Where memory is refused it still waits.
+    #[inline(always)]
+    fn put_first(&mut self, answers: &mut Vec<Answer>) -> Result<(), AllocError>
+        requires { has_frames self.old.waiting ≡ true }
+        ensures ok { OnOk result (PutsFirst self.old answers.old.items self.new answers.new.items) }
+        ensures err { OnErr result (self.new ≡ self.old) }
+        ensures err_answers { OnErr result (answers.new.items ≡ answers.old.items) }
+    {
+        answers.reserve(1)?;
+        match self.encode_first() {
+            Ok(out) => {
+                self.waiting.discard();
+                answers.push_reserved(Answer::Out(out));
+                Ok(())
+            }
+            Err(Error::TooLarge) => {
+                self.hand_back(answers);
+                Ok(())
+            }
+            Err(_) => Err(AllocError),
         }
+    }
+
+    /// The first frame that waits is its own answer, since it does not fit.
+    // No part of `put_first`, which would pay at its entry for the size of these locals.
+    #[inline(never)]
+    fn hand_back(&mut self, answers: &mut Vec<Answer>)
+        requires unfit { FirstUnfit self.old }
+        requires room { vec_len answers.old < vec_capacity answers.old }
+        ensures { PutsFirst self.old answers.old.items self.new answers.new.items }
+    {
+        let frame = self.waiting.take().unwrap();
+        answers.push_reserved(Answer::TooLarge(frame));
     }
 
     /// Puts out what waits.
@@ -51,13 +86,9 @@ impl<R: LinkRelay> Engine<R> {
         ensures ok { OnOk result (self.new.waiting ≡ []) }
     {
         while self.has_output() {
-            let Ok(()) = answers.reserve(1) else {
+            let Ok(()) = self.put_first(answers) else {
                 return Err(AllocError);
             };
-            let Some(answer) = self.next_answer() else {
-                return Err(AllocError);
-            };
-            answers.push(answer).unwrap();
         }
         Ok(())
     }

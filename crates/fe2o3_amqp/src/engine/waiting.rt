@@ -3,6 +3,7 @@
 ghost use Rattle.std.specs.Prelude.{◌≡◌, [], ◌∷◌, List, map, IfSome, is_some};
 ghost use Rattle.amqp_session.specs.Items.{first_frame, item_frames};
 ghost use Rattle.fe2o3_amqp.specs.Waits.{body_of, frame_of, sent, disposition_frame, behind_frames, waits, has_frames, InFront, FirstIs, TakesFirst};
+ghost use Rattle.fe2o3_amqp.specs.Putting.{DropsFirst};
 
 use amqp_frames::{Frame, FrameBody};
 use amqp_session::{OutgoingChannel, SessionFrame, SessionFrameBody, SessionOutgoingItem};
@@ -81,6 +82,14 @@ fn next_of(behind: &mut Behind) -> Option<Frame>
             Some(Frame::new(channel.0, FrameBody::Disposition(disposition)))
         }
     }
+}
+
+/// This stands in front. What stood there is dropped in place.
+#[inline(always)]
+fn set(front: &mut Option<Frame>, next: Option<Frame>)
+    ensures { front.new ≡ next }
+{
+    *front = next;
 }
 
 impl Waiting {
@@ -182,5 +191,24 @@ impl Waiting {
     {
         let next = next_of(&mut self.behind);
         mem::replace(&mut self.front, next)
+    }
+
+    /// Drops the first frame where it stands.
+    #[inline(always)]
+    pub(crate) fn discard(&mut self)
+        ensures { DropsFirst self.old self.new }
+    {
+        match self.behind {
+            Behind::Nothing => set(&mut self.front, None),
+            _ => self.advance(),
+        }
+    }
+
+    /// The next of those behind stands where the first frame stood.
+    #[inline(never)]
+    fn advance(&mut self)
+        ensures { DropsFirst self.old self.new }
+    {
+        set(&mut self.front, next_of(&mut self.behind));
     }
 }
