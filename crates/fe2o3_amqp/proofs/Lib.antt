@@ -5,6 +5,7 @@ pub mod Queue
 pub mod Placed
 pub mod Asked
 pub mod Asking
+pub mod Handing
 pub mod Passing
 pub mod Beginning
 pub mod Engines

@@ -8,6 +8,7 @@ pub mod EngineView
 pub mod Places
 pub mod Calls
 pub mod Sessions
+pub mod Handed
 pub mod Engine
 pub mod History
 pub mod Event

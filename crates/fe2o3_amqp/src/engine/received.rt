@@ -141,10 +141,17 @@ impl<R: LinkRelay> Engine<R> {
     {
         let mut rest = fields;
         let transfer: Transfer = read_list(self.alloc, &mut rest)?;
-        self.ask_along(
-            channel,
-            |session| transfer_received(session, transfer, rest),
-        )
+        let Some(number) = self.connection.session_tx_by_incoming_channel(channel) else {
+            drop(transfer);
+            drop(rest);
+            return Err(StepError::Connection(ConnectionInnerError::NotFound(None)));
+        };
+        let Some(session) = self.sessions.get_mut(&number.0) else {
+            drop(transfer);
+            drop(rest);
+            return Err(StepError::NoSession);
+        };
+        transfer_received(session, &mut self.waiting, transfer, rest)
     }
 
     #[inline(never)]
@@ -168,10 +175,15 @@ impl<R: LinkRelay> Engine<R> {
     {
         let mut rest = fields;
         let disposition: Disposition = read_list(self.alloc, &mut rest)?;
-        self.ask_along(
-            channel,
-            |session| disposition_received(session, disposition),
-        )
+        let Some(number) = self.connection.session_tx_by_incoming_channel(channel) else {
+            drop(disposition);
+            return Err(StepError::Connection(ConnectionInnerError::NotFound(None)));
+        };
+        let Some(session) = self.sessions.get_mut(&number.0) else {
+            drop(disposition);
+            return Err(StepError::NoSession);
+        };
+        disposition_received(session, &mut self.waiting, disposition)
     }
 
     #[inline(never)]

@@ -177,9 +177,18 @@ impl<R: LinkRelay> Engine<R> {
         requires { self.old.waiting ≡ [] }
         ensures { CarriedStep R.gives self.old (given.Transfer number input transfer payload is_first) (refusal_of result) self.new }
     {
-        self.ask_session(
-            number.0,
-            |session| send_transfer(session, input, transfer, payload, is_first),
+        let Some(session) = self.sessions.get_mut(&number.0) else {
+            drop(transfer);
+            drop(payload);
+            return Err(StepError::NoSession);
+        };
+        send_transfer(
+            session,
+            &mut self.waiting,
+            input,
+            transfer,
+            payload,
+            is_first,
         )
     }
 

@@ -1,11 +1,12 @@
 //! What is asked of one session: by a request, or by a frame that reached it.
 
-ghost use Rattle.std.specs.Prelude.{◌≡◌, string_bytes};
+ghost use Rattle.std.specs.Prelude.{◌≡◌, [], string_bytes};
 ghost use Rattle.amqp_session.specs.States.{takes_end};
 ghost use Rattle.fe2o3_amqp.specs.Calls.{is_end_received, end_reason, remote_end_reason, EndCalls, AllocateLinkCalls, AllocateIncomingCalls, AttachCalls, DetachCalls, ReceivedAttachCalls, ReceivedDetachCalls, FlowCalls, TransferCalls, StopCalls, ReceivedBeginCalls, ReceivedEndCalls, ReceivedFlowCalls, ReceivedTransferCalls, DispositionCalls, ReceivedDispositionCalls};
 ghost use Rattle.amqp_types.specs.Disposition.{DispositionSaid};
 ghost use Rattle.amqp_session.specs.declared.frame.SessionFrameBody.TheVariants as said;
 ghost use Rattle.fe2o3_amqp.specs.Sessions.{Answered, SendsAll, RecordedEnd};
+ghost use Rattle.fe2o3_amqp.specs.Handed.{AnsweredThere};
 
 use super::step_error::StepError;
 use super::waiting::Waiting;
@@ -107,14 +108,22 @@ pub(crate) fn send_flow<R: LinkRelay>(session: &mut Session<R>, flow: LinkFlow) 
 #[inline(always)]
 pub(crate) fn send_transfer<R: LinkRelay>(
     session: &mut Session<R>,
+    waiting: &mut Waiting,
     input: InputHandle,
     transfer: Transfer,
     payload: Bytes,
     is_first: bool,
-) -> Outgoing
-    ensures { Answered R.gives session.old.view (TransferCalls (record { input_handle = input.0; transfer = transfer; payload = payload; is_first = is_first })) result session.new.view }
+) -> Result<(), StepError>
+    requires { waiting.old ≡ [] }
+    ensures { AnsweredThere R.gives session.old.view (TransferCalls (record { input_handle = input.0; transfer = transfer; payload = payload; is_first = is_first })) result waiting.new session.new.view }
 {
-    Ok(Waiting::of(session.on_outgoing_transfer(input, transfer, payload, is_first)?))
+    match session.on_outgoing_transfer(input, transfer, payload, is_first) {
+        Ok(item) => {
+            waiting.put_item(item);
+            Ok(())
+        }
+        Err(error) => Err(StepError::from(error)),
+    }
 }
 
 pub(crate) fn send_disposition<R: LinkRelay>(
@@ -225,16 +234,20 @@ fn disposition_in(frame: SessionFrame) -> Disposition
 #[inline(always)]
 pub(crate) fn disposition_received<R: LinkRelay>(
     session: &mut Session<R>,
+    waiting: &mut Waiting,
     disposition: Disposition,
-) -> Outgoing
-    ensures { Answered R.gives session.old.view (ReceivedDispositionCalls disposition) result session.new.view }
+) -> Result<(), StepError>
+    requires { waiting.old ≡ [] }
+    ensures { AnsweredThere R.gives session.old.view (ReceivedDispositionCalls disposition) result waiting.new session.new.view }
 {
-    match session.on_incoming_disposition(disposition)? {
-        None => Ok(Waiting::none()),
-        Some(echoes) => {
+    match session.on_incoming_disposition(disposition) {
+        Ok(None) => Ok(()),
+        Ok(Some(echoes)) => {
             let channel = session.outgoing_channel();
-            Ok(Waiting::dispositions(channel, send_each(session, echoes)))
+            waiting.put_dispositions(channel, send_each(session, echoes));
+            Ok(())
         }
+        Err(error) => Err(StepError::from(error)),
     }
 }
 
@@ -242,11 +255,18 @@ pub(crate) fn disposition_received<R: LinkRelay>(
 #[inline(always)]
 pub(crate) fn transfer_received<R: LinkRelay>(
     session: &mut Session<R>,
+    waiting: &mut Waiting,
     transfer: Transfer,
     payload: Bytes,
-) -> Outgoing
-    ensures { Answered R.gives session.old.view (ReceivedTransferCalls transfer payload) result session.new.view }
+) -> Result<(), StepError>
+    requires { waiting.old ≡ [] }
+    ensures { AnsweredThere R.gives session.old.view (ReceivedTransferCalls transfer payload) result waiting.new session.new.view }
 {
-    let _none = session.on_incoming_transfer(transfer, payload)?;
-    Ok(Waiting::of(session.maybe_outgoing_session_flow()))
+    match session.on_incoming_transfer(transfer, payload) {
+        Ok(_none) => {
+            waiting.put_item(session.maybe_outgoing_session_flow());
+            Ok(())
+        }
+        Err(error) => Err(StepError::from(error)),
+    }
 }

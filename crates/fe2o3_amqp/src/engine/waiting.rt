@@ -1,6 +1,6 @@
 //! Frames that wait to be put out. They come from one call, and waiting takes no memory of its own.
 
-ghost use Rattle.std.specs.Prelude.{◌≡◌, [], ◌∷◌, List, map, IfSome, is_some};
+ghost use Rattle.std.specs.Prelude.{◌≡◌, [], ◌∷◌, List, Some, map, IfSome, is_some};
 ghost use Rattle.amqp_session.specs.Items.{first_frame, item_frames};
 ghost use Rattle.fe2o3_amqp.specs.Waits.{body_of, frame_of, sent, disposition_frame, behind_frames, waits, has_frames, InFront, FirstIs, TakesFirst};
 ghost use Rattle.fe2o3_amqp.specs.Putting.{DropsFirst};
@@ -92,6 +92,46 @@ fn set(front: &mut Option<Frame>, next: Option<Frame>)
     *front = next;
 }
 
+/// This frame of a session stands in front.
+#[inline(always)]
+fn place(front: &mut Option<Frame>, frame: SessionFrame)
+    ensures { front.new ≡ Some (frame_of frame) }
+{
+    let channel = frame.channel;
+    match frame.body {
+        SessionFrameBody::Transfer {
+            performative,
+            payload,
+        } => set(
+            front,
+            Some(Frame::new(
+                channel,
+                FrameBody::Transfer {
+                    performative,
+                    payload,
+                },
+            )),
+        ),
+        body => place_other(front, channel, body),
+    }
+}
+
+// No part of `place`, which would pay at its entry for the size of these locals, as a transfer does not need.
+#[inline(never)]
+fn place_other(front: &mut Option<Frame>, channel: u16, body: SessionFrameBody)
+    ensures { front.new ≡ Some (frame_of (record { channel = channel; body = body })) }
+{
+    set(front, Some(Frame::new(channel, body_of(body))));
+}
+
+/// These stand behind. Those that stood there are dropped in place.
+#[inline(always)]
+fn set_behind(behind: &mut Behind, next: Behind)
+    ensures { behind.new ≡ next }
+{
+    *behind = next;
+}
+
 impl Waiting {
     /// No frame waits.
     #[inline(always)]
@@ -138,16 +178,6 @@ impl Waiting {
                 Waiting::from_first(Behind::Frames(VecDeque::from(frames)))
             }
         }
-    }
-
-    /// These dispositions wait, each as a frame on this channel.
-    pub(crate) fn dispositions(
-        channel: OutgoingChannel,
-        dispositions: VecDeque<Disposition>,
-    ) -> Waiting
-        ensures { result ≡ sent (map (disposition_frame channel.0) dispositions.items) }
-    {
-        Waiting::from_first(Behind::Dispositions(channel, dispositions))
     }
 
     /// These frames wait.
@@ -210,5 +240,45 @@ impl Waiting {
         ensures { DropsFirst self.old self.new }
     {
         set(&mut self.front, next_of(&mut self.behind));
+    }
+
+    /// Where none waits, the frames wait that a session hands out.
+    #[inline(always)]
+    pub(crate) fn put_item(&mut self, item: Option<SessionOutgoingItem>)
+        requires { self.old ≡ [] }
+        ensures { self.new ≡ sent (item_frames item) }
+    {
+        match item {
+            None => {},
+            Some(SessionOutgoingItem::SingleFrame(frame)) => self.put_frame(frame),
+            Some(SessionOutgoingItem::MultipleFrames(frames)) => self.put_frames(frames),
+        }
+    }
+
+    #[inline(always)]
+    fn put_frame(&mut self, frame: SessionFrame)
+        ensures { self.new ≡ frame_of frame ∷ [] }
+    {
+        place(&mut self.front, frame);
+        set_behind(&mut self.behind, Behind::Nothing);
+    }
+
+    #[inline(never)]
+    fn put_frames(&mut self, frames: Vec<SessionFrame>)
+        ensures { self.new ≡ sent frames.items }
+    {
+        self.put(Waiting::from_first(Behind::Frames(VecDeque::from(frames))));
+    }
+
+    /// From now on these dispositions wait, each as a frame on this channel.
+    #[inline(never)]
+    pub(crate) fn put_dispositions(
+        &mut self,
+        channel: OutgoingChannel,
+        dispositions: VecDeque<Disposition>,
+    )
+        ensures { self.new ≡ sent (map (disposition_frame channel.0) dispositions.items) }
+    {
+        self.put(Waiting::from_first(Behind::Dispositions(channel, dispositions)));
     }
 }
