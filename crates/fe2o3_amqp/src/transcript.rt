@@ -109,20 +109,37 @@ fn answer<O: Write>(
     input: Input<ReplayRelay>,
     output: &mut O,
 ) -> io::Result<()> {
-    let mut inputs = VecDeque::new(alloc);
-    let Ok(()) = inputs.push_back(input) else {
-        return Err(io::Error::from(ErrorKind::OutOfMemory));
-    };
     let mut answers = Vec::new(alloc);
-    let outcome = engine.run(&mut inputs, &mut answers);
+    let is_whole = run_one(alloc, engine, input, &mut answers);
+    let written = write_answers(alloc, &answers, output);
+    drop(answers);
+    written?;
+    if is_whole {
+        Ok(())
+    } else {
+        Err(io::Error::from(ErrorKind::OutOfMemory))
+    }
+}
+
+/// Whether the engine took the input and put out all that it answers: not where memory is refused.
+fn run_one(
+    alloc: Global,
+    engine: &mut Engine<ReplayRelay>,
+    input: Input<ReplayRelay>,
+    answers: &mut Vec<Answer>,
+) -> bool {
+    let mut inputs = VecDeque::new(alloc);
+    let pushed = inputs.push_back(input);
+    let is_pushed = pushed.is_ok();
+    drop(pushed);
+    is_pushed && engine.run(&mut inputs, answers).is_ok()
+}
+
+fn write_answers<O: Write>(alloc: Global, answers: &Vec<Answer>, output: &mut O) -> io::Result<()> {
     for answer in answers.iter() {
         write_answer(alloc, answer, output)?;
     }
-    output.flush()?;
-    match outcome {
-        Ok(()) => Ok(()),
-        Err(_) => Err(io::Error::from(ErrorKind::OutOfMemory)),
-    }
+    output.flush()
 }
 
 fn write_answer<O: Write>(alloc: Global, answer: &Answer, output: &mut O) -> io::Result<()> {

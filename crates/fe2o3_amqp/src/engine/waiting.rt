@@ -195,7 +195,9 @@ impl Waiting {
     pub(crate) fn put(&mut self, frames: Waiting)
         ensures { self.new ≡ frames }
     {
-        *self = frames;
+        let Waiting { front, behind } = frames;
+        set(&mut self.front, front);
+        set_behind(&mut self.behind, behind);
     }
 
     /// Whether frames wait.

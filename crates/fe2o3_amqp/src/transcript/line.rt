@@ -141,7 +141,10 @@ fn asked_of(number: SessionNo, performative: Performative, rest: Bytes) -> Asked
             let is_first = transfer.delivery_tag.is_some();
             Asked::Input(Input::Transfer(number, input, transfer, rest, is_first))
         }
-        _ => Asked::Unreadable,
+        other => {
+            drop(other);
+            Asked::Unreadable
+        }
     }
 }
 
