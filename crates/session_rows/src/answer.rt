@@ -7,18 +7,19 @@ use amqp_session::{
 use amqp_types::{Detach, Disposition, Performative};
 use bytes::{Bytes, BytesMut};
 use std::alloc::Global;
+use std::fmt;
+use std::vec::IntoIter;
 
 /// One line.
 pub fn line(alloc: Global, text: &str) -> anyhow::Result<String> {
     Ok(format!(in alloc; "{text}\n")?)
 }
 
-fn state_refused(alloc: Global, error: &SessionStateError) -> anyhow::Result<String> {
-    Ok(format!(in alloc; "err {error:?}\n")?)
-}
-
-fn refused(alloc: Global, error: &SessionInnerError) -> anyhow::Result<String> {
-    Ok(format!(in alloc; "err {error:?}\n")?)
+/// The line of a refusal. It ends the error here, since the end of a scope takes the prover long.
+pub fn refused<E: fmt::Debug + Drop>(alloc: Global, error: E) -> anyhow::Result<String> {
+    let text = format!(in alloc; "err {error:?}\n");
+    drop(error);
+    Ok(text?)
 }
 
 /// What a frame says, and the payload of a transfer.
@@ -40,33 +41,56 @@ fn parts(body: SessionFrameBody) -> (Performative, Bytes) {
 /// The digits of a performative's text.
 fn digits(alloc: Global, performative: &Performative) -> anyhow::Result<String> {
     let mut text = BytesMut::new(alloc);
-    performative.write(&mut text, u32::MAX)?;
-    Ok(hex::encode(alloc, text.as_slice())?)
+    let digits = written(alloc, performative, &mut text);
+    drop(text);
+    digits
 }
 
-/// The digits of a performative's text, and no performative any more.
-fn spent(alloc: Global, performative: Performative) -> anyhow::Result<String> {
-    let text = digits(alloc, &performative);
-    drop(performative);
-    text
+/// The digits of a performative's text, which is written first.
+fn written(
+    alloc: Global,
+    performative: &Performative,
+    text: &mut BytesMut,
+) -> anyhow::Result<String> {
+    performative.write(text, u32::MAX)?;
+    Ok(hex::encode(alloc, text.as_slice())?)
 }
 
 /// The line of a frame.
 pub fn frame(alloc: Global, frame: SessionFrame) -> anyhow::Result<String> {
     let channel = frame.channel;
     let (performative, payload) = parts(frame.body);
-    let text = spent(alloc, performative)?;
-    if payload.is_empty() {
-        return Ok(format!(in alloc; "out {channel} {text}\n")?);
-    }
-    let rest = hex::encode(alloc, payload.as_slice())?;
-    Ok(format!(in alloc; "out {channel} {text} {rest}\n")?)
+    let text = of_parts(alloc, channel, &performative, payload.as_slice());
+    drop(performative);
+    drop(payload);
+    text
+}
+
+/// The line of a frame of these parts.
+fn of_parts(
+    alloc: Global,
+    channel: u16,
+    performative: &Performative,
+    payload: &[u8],
+) -> anyhow::Result<String> {
+    let text = digits(alloc, performative)?;
+    let space = if payload.is_empty() { "" } else { " " };
+    let rest = hex::encode(alloc, payload)?;
+    Ok(format!(in alloc; "out {channel} {text}{space}{rest}\n")?)
 }
 
 /// The lines of several frames.
 fn frames(alloc: Global, frames: Vec<SessionFrame>) -> anyhow::Result<String> {
+    let mut rest = frames.into_iter();
+    let text = all(alloc, &mut rest);
+    drop(rest);
+    text
+}
+
+/// The lines of the frames that are left.
+fn all(alloc: Global, rest: &mut IntoIter<SessionFrame>) -> anyhow::Result<String> {
     let mut text = line(alloc, "list")?;
-    for each in frames {
+    for each in rest {
         text.push_str(frame(alloc, each)?.as_str())?;
     }
     Ok(text)
@@ -88,7 +112,7 @@ pub fn handed_out(
 ) -> anyhow::Result<String> {
     match answer {
         Ok(handed) => item(alloc, handed),
-        Err(error) => refused(alloc, &error),
+        Err(error) => refused(alloc, error),
     }
 }
 
@@ -99,7 +123,7 @@ pub fn sent(
 ) -> anyhow::Result<String> {
     match answer {
         Ok(one) => frame(alloc, one),
-        Err(error) => state_refused(alloc, &error),
+        Err(error) => refused(alloc, error),
     }
 }
 
@@ -107,7 +131,7 @@ pub fn sent(
 pub fn taken(alloc: Global, answer: Result<(), SessionStateError>) -> anyhow::Result<String> {
     match answer {
         Ok(()) => line(alloc, "ok"),
-        Err(error) => state_refused(alloc, &error),
+        Err(error) => refused(alloc, error),
     }
 }
 
@@ -119,14 +143,26 @@ pub fn transfer_taken(
     match answer {
         Ok(None) => line(alloc, "none"),
         Ok(Some(said)) => disposition(alloc, said),
-        Err(error) => refused(alloc, &error),
+        Err(error) => refused(alloc, error),
     }
 }
 
 /// The line of a disposition that a relay asks for.
 pub fn disposition(alloc: Global, said: Disposition) -> anyhow::Result<String> {
-    let text = spent(alloc, Performative::Disposition(said))?;
-    Ok(format!(in alloc; "disposition {text}\n")?)
+    asked(alloc, "disposition", Performative::Disposition(said))
+}
+
+/// The line of a performative that a relay asks for.
+fn asked(alloc: Global, name: &str, performative: Performative) -> anyhow::Result<String> {
+    let text = named(alloc, name, &performative);
+    drop(performative);
+    text
+}
+
+/// The name, and the digits of the performative's text.
+fn named(alloc: Global, name: &str, performative: &Performative) -> anyhow::Result<String> {
+    let text = digits(alloc, performative)?;
+    Ok(format!(in alloc; "{name} {text}\n")?)
 }
 
 /// The line of an allotment.
@@ -136,7 +172,7 @@ pub fn allotted(
 ) -> anyhow::Result<String> {
     match answer {
         Ok(handle) => output(alloc, handle),
-        Err(error) => Ok(format!(in alloc; "err {error:?}\n")?),
+        Err(error) => refused(alloc, error),
     }
 }
 
@@ -158,14 +194,8 @@ pub fn live(alloc: Global, handle: Option<OutputHandle>) -> anyhow::Result<Strin
 pub fn attached(alloc: Global, answer: Result<(), SessionInnerError>) -> anyhow::Result<String> {
     match answer {
         Ok(()) => line(alloc, "ok"),
-        Err(error) => refused(alloc, &error),
+        Err(error) => refused(alloc, error),
     }
-}
-
-/// The line of a detach that a relay answers with.
-fn reply(alloc: Global, detach: Detach) -> anyhow::Result<String> {
-    let text = spent(alloc, Performative::Detach(detach))?;
-    Ok(format!(in alloc; "detach {text}\n")?)
 }
 
 /// The line of a received detach.
@@ -175,8 +205,8 @@ pub fn detached(
 ) -> anyhow::Result<String> {
     match answer {
         Ok(None) => line(alloc, "none"),
-        Ok(Some(detach)) => reply(alloc, detach),
-        Err(error) => refused(alloc, &error),
+        Ok(Some(detach)) => asked(alloc, "detach", Performative::Detach(detach)),
+        Err(error) => refused(alloc, error),
     }
 }
 
@@ -188,6 +218,6 @@ pub fn left(
     match answer {
         Ok(None) => line(alloc, "none"),
         Ok(Some(one)) => frame(alloc, one),
-        Err(error) => refused(alloc, &error),
+        Err(error) => refused(alloc, error),
     }
 }

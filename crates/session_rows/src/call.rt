@@ -16,21 +16,49 @@ pub fn received(
     let channel = IncomingChannel(reading::channel(channel)?);
     let (performative, payload) = reading::performative(alloc, digits)?;
     match performative {
+        Performative::Transfer(transfer) => {
+            answer::transfer_taken(alloc, session.on_incoming_transfer(transfer, payload))
+        }
+        other => {
+            drop(payload);
+            of_session(alloc, session, channel, other)
+        }
+    }
+}
+
+/// What is answered to a Begin or an End, or to what a link is told.
+fn of_session(
+    alloc: Global,
+    session: &mut Session<RowRelay>,
+    channel: IncomingChannel,
+    performative: Performative,
+) -> anyhow::Result<String> {
+    match performative {
         Performative::Begin(begin) => answer::taken(
             alloc,
             session.on_incoming_begin(channel, begin),
         ),
         Performative::End(end) => answer::taken(alloc, session.on_incoming_end(channel, end)),
+        other => of_link(alloc, session, other),
+    }
+}
+
+fn of_link(
+    alloc: Global,
+    session: &mut Session<RowRelay>,
+    performative: Performative,
+) -> anyhow::Result<String> {
+    match performative {
         Performative::Attach(attach) => answer::attached(alloc, session.on_incoming_attach(attach)),
         Performative::Flow(flow) => answer::handed_out(alloc, session.on_incoming_flow(flow)),
-        Performative::Transfer(transfer) => {
-            answer::transfer_taken(alloc, session.on_incoming_transfer(transfer, payload))
-        }
         Performative::Disposition(said) => {
             disposition::echoed(alloc, session.on_incoming_disposition(said))
         }
         Performative::Detach(detach) => answer::detached(alloc, session.on_incoming_detach(detach)),
-        _ => Err(anyhow::anyhow!("no call takes it")),
+        other => {
+            drop(other);
+            Err(anyhow::anyhow!("no call takes it"))
+        }
     }
 }
 

@@ -5,6 +5,7 @@ use crate::{answer, kinds, reading};
 use amqp_session::{Session, SessionInnerError, num_messages_settled_by_disposition};
 use amqp_types::Disposition;
 use std::alloc::Global;
+use std::vec::IntoIter;
 
 /// The lines of the echoes that a received disposition is answered.
 pub fn echoed(
@@ -14,14 +15,22 @@ pub fn echoed(
     match answer {
         Ok(None) => answer::line(alloc, "none"),
         Ok(Some(echoes)) => all(alloc, echoes),
-        Err(error) => Ok(format!(in alloc; "err {error:?}\n")?),
+        Err(error) => answer::refused(alloc, error),
     }
 }
 
 /// The lines of several dispositions.
 fn all(alloc: Global, echoes: Vec<Disposition>) -> anyhow::Result<String> {
+    let mut rest = echoes.into_iter();
+    let text = left(alloc, &mut rest);
+    drop(rest);
+    text
+}
+
+/// The lines of the dispositions that are left.
+fn left(alloc: Global, rest: &mut IntoIter<Disposition>) -> anyhow::Result<String> {
     let mut text = answer::line(alloc, "list")?;
-    for echo in echoes {
+    for echo in rest {
         text.push_str(answer::disposition(alloc, echo)?.as_str())?;
     }
     Ok(text)

@@ -8,8 +8,17 @@ use std::alloc::Global;
 
 /// The performative that the digits say, without what follows it.
 fn alone(alloc: Global, digits: &str) -> anyhow::Result<Performative> {
-    let (performative, _rest) = reading::performative(alloc, digits)?;
+    let (performative, rest) = reading::performative(alloc, digits)?;
+    drop(rest);
     Ok(performative)
+}
+
+/// What was found, or an error that says what there is none of.
+fn wanted<T: Drop>(found: Option<T>, kind: &str) -> anyhow::Result<T> {
+    match found {
+        Some(found) => Ok(found),
+        None => Err(anyhow::anyhow!("no {kind}")),
+    }
 }
 
 fn as_attach(performative: Performative) -> Option<Attach> {
@@ -64,10 +73,7 @@ fn as_detach(performative: Performative) -> Option<Detach> {
 
 pub fn attach(alloc: Global, digits: &str) -> anyhow::Result<Attach> {
     let read = alone(alloc, digits)?;
-    match as_attach(read) {
-        Some(it) => Ok(it),
-        None => Err(anyhow::anyhow!("no attach")),
-    }
+    wanted(as_attach(read), "attach")
 }
 
 fn of_link(flow: Flow) -> anyhow::Result<LinkFlow> {
@@ -80,10 +86,7 @@ fn of_link(flow: Flow) -> anyhow::Result<LinkFlow> {
 /// A flow that names a handle.
 pub fn link_flow(alloc: Global, digits: &str) -> anyhow::Result<LinkFlow> {
     let read = alone(alloc, digits)?;
-    match as_flow(read) {
-        Some(flow) => of_link(flow),
-        None => Err(anyhow::anyhow!("no flow")),
-    }
+    of_link(wanted(as_flow(read), "flow")?)
 }
 
 /// A transfer and its payload.
@@ -91,22 +94,19 @@ pub fn transfer(alloc: Global, digits: &str) -> anyhow::Result<(Transfer, Bytes)
     let (read, payload) = reading::performative(alloc, digits)?;
     match as_transfer(read) {
         Some(transfer) => Ok((transfer, payload)),
-        None => Err(anyhow::anyhow!("no transfer")),
+        None => {
+            drop(payload);
+            Err(anyhow::anyhow!("no transfer"))
+        }
     }
 }
 
 pub fn disposition(alloc: Global, digits: &str) -> anyhow::Result<Disposition> {
     let read = alone(alloc, digits)?;
-    match as_disposition(read) {
-        Some(it) => Ok(it),
-        None => Err(anyhow::anyhow!("no disposition")),
-    }
+    wanted(as_disposition(read), "disposition")
 }
 
 pub fn detach(alloc: Global, digits: &str) -> anyhow::Result<Detach> {
     let read = alone(alloc, digits)?;
-    match as_detach(read) {
-        Some(it) => Ok(it),
-        None => Err(anyhow::anyhow!("no detach")),
-    }
+    wanted(as_detach(read), "detach")
 }

@@ -5,6 +5,7 @@ use crate::relay::RowRelay;
 use amqp_session::{ConnectionStopReason, OutgoingChannel, Session, SessionSettings};
 use amqp_types::Symbol;
 use std::alloc::Global;
+use std::mem;
 
 /// What a session is made of, but for its state.
 #[derive(Drop)]
@@ -25,9 +26,15 @@ fn plain() -> Parts {
 
 /// A list of this symbol alone.
 fn one_symbol(alloc: Global, text: &str) -> anyhow::Result<Vec<Symbol>> {
-    let mut symbols = Vec::new(alloc);
-    symbols.push(reading::symbol(alloc, text)?)?;
-    Ok(symbols)
+    let symbol = reading::symbol(alloc, text)?;
+    Ok(vec![in alloc; symbol]?)
+}
+
+/// Puts a list of this symbol alone there.
+fn put_symbol(alloc: Global, there: &mut Option<Vec<Symbol>>, text: &str) -> anyhow::Result<()> {
+    let symbols = one_symbol(alloc, text)?;
+    drop(mem::replace(there, Some(symbols)));
+    Ok(())
 }
 
 /// A number of the settings, where the name is one of them.
@@ -53,8 +60,8 @@ fn set_number(settings: &mut SessionSettings, name: &str, value: &str) -> anyhow
 /// Sets the part of this name.
 fn set(alloc: Global, parts: &mut Parts, name: &str, value: &str) -> anyhow::Result<()> {
     match name {
-        "offered" => parts.settings.offered_capabilities = Some(one_symbol(alloc, value)?),
-        "desired" => parts.settings.desired_capabilities = Some(one_symbol(alloc, value)?),
+        "offered" => put_symbol(alloc, &mut parts.settings.offered_capabilities, value)?,
+        "desired" => put_symbol(alloc, &mut parts.settings.desired_capabilities, value)?,
         "channel" => parts.channel = reading::channel(value)?,
         "stopped" => parts.connection_stop = Some(reading::connection_stop(value)?),
         _ => set_number(&mut parts.settings, name, value)?,
@@ -62,17 +69,30 @@ fn set(alloc: Global, parts: &mut Parts, name: &str, value: &str) -> anyhow::Res
     Ok(())
 }
 
-/// The session that a line says: its state, and then names with their values.
-pub fn session(alloc: Global, line: &str) -> anyhow::Result<Session<RowRelay>> {
-    let mut words = line.split(' ');
-    let state = reading::state(words.next().unwrap_or(""))?;
-    let mut parts = plain();
-    for word in words {
+/// Sets the parts that a line names behind its first word.
+fn set_all(alloc: Global, parts: &mut Parts, line: &str) -> anyhow::Result<()> {
+    for word in line.split(' ').skip(1) {
         match word.split_once('=') {
-            Some((name, value)) => set(alloc, &mut parts, name, value)?,
+            Some((name, value)) => set(alloc, parts, name, value)?,
             None => anyhow::bail!("a name without a value"),
         }
     }
-    let channel = OutgoingChannel(parts.channel);
-    Ok(Session::new(alloc, parts.settings, channel, state, parts.connection_stop))
+    Ok(())
+}
+
+/// The session that a line says: its state, and then names with their values.
+pub fn session(alloc: Global, line: &str) -> anyhow::Result<Session<RowRelay>> {
+    let (state, _) = reading::word(line);
+    let state = reading::state(state)?;
+    let mut parts = plain();
+    match set_all(alloc, &mut parts, line) {
+        Ok(()) => {
+            let channel = OutgoingChannel(parts.channel);
+            Ok(Session::new(alloc, parts.settings, channel, state, parts.connection_stop))
+        }
+        Err(error) => {
+            drop(parts);
+            Err(error)
+        }
+    }
 }

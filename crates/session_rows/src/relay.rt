@@ -37,7 +37,8 @@ impl LinkRelay for RowRelay {
       detach_gives = λ old handle detach remote_initiated result new. ⊤;
     } };
 
-    fn on_incoming_attach(&mut self, _attach: Attach) -> Result<(), LinkRelayError> {
+    fn on_incoming_attach(&mut self, attach: Attach) -> Result<(), LinkRelayError> {
+        drop(attach);
         if self.refusals > 0 {
             self.refusals -= 1;
             return Err(LinkRelayError::TransferFrameToSender);
@@ -51,6 +52,7 @@ impl LinkRelay for RowRelay {
         flow: LinkFlow,
     ) -> Result<Option<LinkFlow>, LinkRelayError> {
         if !flow.echo {
+            drop(flow);
             return Ok(None);
         }
         Ok(Some(LinkFlow {
@@ -62,15 +64,20 @@ impl LinkRelay for RowRelay {
 
     fn on_incoming_transfer(
         &mut self,
-        transfer: Transfer,
-        _payload: Bytes,
+        mut transfer: Transfer,
+        payload: Bytes,
     ) -> Result<Option<(DeliveryNumber, DeliveryTag)>, LinkRelayError> {
-        if transfer.settled == Some(true) {
-            return Ok(None);
-        }
-        match (transfer.delivery_id, transfer.delivery_tag) {
-            (Some(number), Some(tag)) => Ok(Some((number, tag))),
-            _ => Ok(None),
+        drop(payload);
+        let is_settled = transfer.settled == Some(true);
+        let number = transfer.delivery_id;
+        let tag = transfer.delivery_tag.take();
+        drop(transfer);
+        match (number, tag) {
+            (Some(number), Some(tag)) if !is_settled => Ok(Some((number, tag))),
+            (_, tag) => {
+                drop(tag);
+                Ok(None)
+            }
         }
     }
 
@@ -90,12 +97,14 @@ impl LinkRelay for RowRelay {
         detach: Detach,
         remote_initiated: bool,
     ) -> Option<Detach> {
+        let closed = detach.closed;
+        drop(detach);
         if !remote_initiated {
             return None;
         }
         Some(Detach {
             handle: handle.into(),
-            closed: detach.closed,
+            closed,
             error: None,
         })
     }
