@@ -1,41 +1,98 @@
 //! One frame: decoded, shown, encoded and decoded again.
 
 use amqp_frames::{Error, Frame, FrameBody, FrameDecoder, FrameEncoder, Piece};
-use amqp_types::Performative;
+use amqp_types::{Performative, ReadError};
 use bytes::{Bytes, BytesMut};
 use std::alloc::Global;
+
+// A frame or a performative is looked at by reference and ended by `drop(..)`: at the end of a scope it takes the prover minutes.
+
+/// The decoder's refusal.
+pub fn refused(error: &Error) -> anyhow::Error {
+    anyhow::anyhow!("{error}")
+}
+
+/// Whether what was read is the frame, with nothing left.
+fn is_frame(read: &Result<(Frame, Bytes), Error>, frame: &Frame) -> anyhow::Result<bool> {
+    match read {
+        Ok((again, rest)) => Ok(*again == *frame && rest.is_empty()),
+        Err(error) => Err(refused(error)),
+    }
+}
 
 /// Whether the piece is read as the frame, with nothing left.
 fn is_read_back(alloc: Global, frame: &Frame, piece: &Piece) -> anyhow::Result<bool> {
     let bytes = piece.to_bytes(alloc)?;
-    let (again, rest) = FrameDecoder::new().decode(alloc, bytes)?;
-    Ok(again == *frame && rest.is_empty())
+    let read = FrameDecoder::new().decode(alloc, bytes);
+    let is_same = is_frame(&read, frame);
+    drop(read);
+    is_same
+}
+
+/// Whether there is one piece, and that is read as the frame.
+fn is_whole(alloc: Global, frame: &Frame, pieces: &[Piece]) -> anyhow::Result<bool> {
+    match pieces {
+        [piece] => is_read_back(alloc, frame, piece),
+        _ => Ok(false),
+    }
 }
 
 /// Whether the frame is one piece where the limit is above it, and that is read as the frame.
 fn is_encoded(alloc: Global, frame: &Frame) -> anyhow::Result<bool> {
     let pieces = FrameEncoder::new(u32::MAX).encode(alloc, frame)?;
-    let mut is_whole = pieces.len() == 1;
-    for piece in &pieces {
-        is_whole = is_whole && is_read_back(alloc, frame, piece)?;
+    let is_whole = is_whole(alloc, frame, pieces.as_slice());
+    drop(pieces);
+    is_whole
+}
+
+/// Whether what was read is the performative, with nothing left.
+fn is_performative(
+    read: &Result<(Performative, Bytes), ReadError>,
+    performative: &Performative,
+) -> Result<bool, ReadError> {
+    match read {
+        Ok((again, rest)) => Ok(*again == *performative && rest.is_empty()),
+        Err(error) => Err(*error),
     }
-    Ok(is_whole)
+}
+
+/// Whether the bytes read as the performative with nothing left.
+fn is_read(alloc: Global, performative: &Performative, bytes: &[u8]) -> anyhow::Result<bool> {
+    let text = Bytes::copy_from_slice(alloc, bytes)?;
+    let read = Performative::read(alloc, text);
+    let is_same = is_performative(&read, performative);
+    drop(read);
+    Ok(is_same?)
+}
+
+/// Whether the text that is written here has the length that was said, and reads as the same performative.
+fn is_written_to(
+    alloc: Global,
+    performative: &Performative,
+    out: &mut BytesMut,
+) -> anyhow::Result<bool> {
+    performative.write(out, u32::MAX)?;
+    let is_same = is_read(alloc, performative, out.as_slice())?;
+    Ok(is_same && performative.encoded_len() == out.len() as u128)
 }
 
 /// Whether the text that is written has the length that was said, and reads as the same performative with nothing left.
 fn is_written(alloc: Global, performative: &Performative) -> anyhow::Result<bool> {
     let mut out = BytesMut::new(alloc);
-    performative.write(&mut out, u32::MAX)?;
-    let len = out.len() as u128;
-    let text = Bytes::copy_from_slice(alloc, out.as_slice())?;
-    let (again, rest) = Performative::read(alloc, text)?;
-    Ok(again == *performative && rest.is_empty() && performative.encoded_len() == len)
+    let is_same = is_written_to(alloc, performative, &mut out);
+    drop(out);
+    is_same
 }
 
 /// Whether the performative in these bytes is written and read again as the same.
 fn is_rewritten(alloc: Global, body: Bytes) -> anyhow::Result<bool> {
-    let (performative, _) = Performative::read(alloc, body)?;
-    is_written(alloc, &performative)
+    let read = Performative::read(alloc, body);
+    let is_same = match &read {
+        Ok((performative, _)) => is_written(alloc, performative),
+        Err(error) => Err((*error).into()),
+    };
+    drop(read);
+    is_same
 }
 
 /// The channel, the performative, and how many bytes follow it.
@@ -55,13 +112,14 @@ fn show(alloc: Global, frame: &Frame, rest: usize) -> anyhow::Result<String> {
 }
 
 /// Whether frame and performative are written and read again as the same.
-fn is_same_again(alloc: Global, frame: &Frame, bytes: Bytes) -> anyhow::Result<bool> {
-    let mut body = bytes;
-    if body.len() <= 4 {
-        return is_encoded(alloc, frame);
+fn is_same_again(alloc: Global, frame: &Frame, bytes: &Bytes) -> anyhow::Result<bool> {
+    let is_same = is_encoded(alloc, frame)?;
+    if !is_same || bytes.len() <= 4 {
+        return Ok(is_same);
     }
+    let mut body = bytes.clone()?;
     body.advance(4);
-    Ok(is_encoded(alloc, frame)? && is_rewritten(alloc, body)?)
+    is_rewritten(alloc, body)
 }
 
 /// What the frame is shown as, with a mark where it is not read back.
@@ -69,7 +127,7 @@ fn describe_frame(
     alloc: Global,
     frame: &Frame,
     rest: usize,
-    bytes: Bytes,
+    bytes: &Bytes,
 ) -> anyhow::Result<String> {
     let text = show(alloc, frame, rest)?;
     if is_same_again(alloc, frame, bytes)? {
@@ -78,18 +136,30 @@ fn describe_frame(
     Ok(format!(in alloc; "{text} is not read back")?)
 }
 
-fn describe_bytes(alloc: Global, bytes: Bytes) -> anyhow::Result<String> {
-    let copy = bytes.clone()?;
-    match FrameDecoder::new().decode(alloc, bytes) {
+/// What was read is shown as.
+fn describe_read(
+    alloc: Global,
+    read: &Result<(Frame, Bytes), Error>,
+    bytes: &Bytes,
+) -> anyhow::Result<String> {
+    match read {
+        Ok((frame, rest)) => describe_frame(alloc, frame, rest.len(), bytes),
         Err(Error::DecodeError) => Ok(String::from_str(alloc, "malformed")?),
-        Err(error) => Err(error.into()),
-        Ok((frame, rest)) => describe_frame(alloc, &frame, rest.len(), copy),
+        Err(error) => Err(refused(error)),
     }
+}
+
+fn describe_bytes(alloc: Global, bytes: &Bytes) -> anyhow::Result<String> {
+    let read = FrameDecoder::new().decode(alloc, bytes.clone()?);
+    let text = describe_read(alloc, &read, bytes);
+    drop(read);
+    text
 }
 
 /// What the frame in these hexadecimal digits says: its channel, its performative and how many bytes of payload follow.
 pub fn describe(alloc: Global, line: &str) -> anyhow::Result<String> {
-    let bytes = hex::decode(alloc, line)?;
-    let frame = Bytes::copy_from_slice(alloc, bytes.as_slice())?;
-    describe_bytes(alloc, frame)
+    let bytes = Bytes::from_vec(hex::decode(alloc, line)?)?;
+    let text = describe_bytes(alloc, &bytes);
+    drop(bytes);
+    text
 }

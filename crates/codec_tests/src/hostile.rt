@@ -1,5 +1,6 @@
 //! A frame of which a byte is another one, or the end is cut off: what the decoder answers, as a letter.
 
+use crate::frame::refused;
 use amqp_frames::{Error, Frame, FrameBody, FrameDecoder};
 use bytes::Bytes;
 use std::alloc::Global;
@@ -20,22 +21,29 @@ fn held(frame: &Frame) -> &'static str {
     }
 }
 
-/// The letter of what the decoder answers.
-fn letter(alloc: Global, bytes: &[u8]) -> anyhow::Result<&'static str> {
-    let bytes = Bytes::copy_from_slice(alloc, bytes)?;
-    match FrameDecoder::new().decode(alloc, bytes) {
-        Ok((frame, _rest)) => Ok(held(&frame)),
+/// The letter of this answer.
+fn letter_of(read: &Result<(Frame, Bytes), Error>) -> anyhow::Result<&'static str> {
+    match read {
+        Ok((frame, _)) => Ok(held(frame)),
         Err(Error::DecodeError) => Ok("d"),
         Err(Error::NotImplemented) => Ok("n"),
-        Err(error) => Err(error.into()),
+        Err(error) => Err(refused(error)),
     }
 }
 
+/// The letter of what the decoder answers.
+fn letter(alloc: Global, bytes: &[u8]) -> anyhow::Result<&'static str> {
+    let bytes = Bytes::copy_from_slice(alloc, bytes)?;
+    let read = FrameDecoder::new().decode(alloc, bytes);
+    let letter = letter_of(&read);
+    drop(read);
+    letter
+}
+
 /// The letters of the frame with a byte that is 00, ff and its complement.
-fn changed(alloc: Global, bytes: &mut Vec<u8>, at: usize) -> anyhow::Result<String> {
-    let mut said = String::new(alloc);
+fn changed(alloc: Global, bytes: &mut Vec<u8>, at: usize, said: &mut String) -> anyhow::Result<()> {
     let Some(byte) = bytes.get(at).copied() else {
-        return Ok(said);
+        return Ok(());
     };
     for other in [0, 0xff, byte ^ 0xff] {
         if let Some(place) = bytes.get_mut(at) {
@@ -46,21 +54,38 @@ fn changed(alloc: Global, bytes: &mut Vec<u8>, at: usize) -> anyhow::Result<Stri
     if let Some(place) = bytes.get_mut(at) {
         *place = byte;
     }
-    Ok(said)
+    Ok(())
 }
 
-/// The letters of the frame with each byte changed in turn, and then of each of its proper fronts.
-pub fn answers(alloc: Global, digits: &str) -> anyhow::Result<String> {
-    let mut bytes = hex::decode(alloc, digits)?;
-    let mut said = String::new(alloc);
-    for at in 0..bytes.len() {
-        said.push_str(changed(alloc, &mut bytes, at)?.as_str())?;
-    }
+/// The letters of each of the frame's proper fronts.
+fn fronts(alloc: Global, bytes: &[u8], said: &mut String) -> anyhow::Result<()> {
     for length in 0..bytes.len() {
         let Some(front) = bytes.get(..length) else {
             anyhow::bail!("no front");
         };
         said.push_str(letter(alloc, front)?)?;
     }
-    Ok(said)
+    Ok(())
+}
+
+fn letters(alloc: Global, bytes: &mut Vec<u8>, said: &mut String) -> anyhow::Result<()> {
+    for at in 0..bytes.len() {
+        changed(alloc, bytes, at, said)?;
+    }
+    fronts(alloc, bytes.as_slice(), said)
+}
+
+/// The letters of the frame with each byte changed in turn, and then of each of its proper fronts.
+pub fn answers(alloc: Global, digits: &str) -> anyhow::Result<String> {
+    let mut bytes = hex::decode(alloc, digits)?;
+    let mut said = String::new(alloc);
+    let outcome = letters(alloc, &mut bytes, &mut said);
+    drop(bytes);
+    match outcome {
+        Ok(()) => Ok(said),
+        Err(error) => {
+            drop(said);
+            Err(error)
+        }
+    }
 }

@@ -37,5 +37,7 @@ fn answer(alloc: Global, line: &str) -> anyhow::Result<String> {
 fn of_message(alloc: Global, limit: &str, frames: &str) -> anyhow::Result<String> {
     let limit = limit.parse::<u32>()?;
     let frame = message::joined(alloc, frames)?;
-    pieces::describe(alloc, limit, &frame)
+    let text = pieces::describe(alloc, limit, &frame);
+    drop(frame);
+    text
 }

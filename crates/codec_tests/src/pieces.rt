@@ -1,6 +1,6 @@
 //! The pieces of a message, as they are shown and as they are read.
 
-use crate::message::read_part;
+use crate::message::{append, read_part};
 use amqp_frames::{Frame, FrameBody, FrameEncoder, Piece};
 use bytes::{Bytes, BytesMut};
 use sha2::{Digest, Sha256};
@@ -18,13 +18,11 @@ fn show(alloc: Global, text: &mut String, pieces: &[Piece]) -> anyhow::Result<()
 }
 
 /// The payload of the transfers that the pieces are read as, in order.
-fn read(alloc: Global, pieces: &[Piece]) -> anyhow::Result<BytesMut> {
-    let mut all = BytesMut::new(alloc);
+fn read(alloc: Global, pieces: &[Piece], all: &mut BytesMut) -> anyhow::Result<()> {
     for piece in pieces {
-        let part = read_part(alloc, piece.to_bytes(alloc)?)?;
-        all.extend_from_slice(part.payload.as_slice())?;
+        append(all, read_part(alloc, piece.to_bytes(alloc)?)?)?;
     }
-    Ok(all)
+    Ok(())
 }
 
 /// The payload's length and digest, which is taken of what was read back.
@@ -45,7 +43,13 @@ pub fn describe(alloc: Global, limit: u32, frame: &Frame) -> anyhow::Result<Stri
         anyhow::bail!("a limit below a header");
     }
     let pieces = FrameEncoder::new(limit).encode(alloc, frame)?;
-    let again = read(alloc, pieces.as_slice())?;
+    let text = describe_pieces(alloc, frame, pieces.as_slice());
+    drop(pieces);
+    text
+}
+
+/// The pieces of the frame, and what they are read as.
+fn describe_pieces(alloc: Global, frame: &Frame, pieces: &[Piece]) -> anyhow::Result<String> {
     let FrameBody::Transfer {
         performative: _,
         payload,
@@ -53,7 +57,21 @@ pub fn describe(alloc: Global, limit: u32, frame: &Frame) -> anyhow::Result<Stri
     else {
         anyhow::bail!("no transfer");
     };
+    let mut again = BytesMut::new(alloc);
+    let text = compare(alloc, pieces, payload, &mut again);
+    drop(again);
+    text
+}
+
+/// The pieces of this payload, and what they are read as, which is put there.
+fn compare(
+    alloc: Global,
+    pieces: &[Piece],
+    payload: &Bytes,
+    again: &mut BytesMut,
+) -> anyhow::Result<String> {
+    read(alloc, pieces, again)?;
     let mut text = heading(alloc, pieces.len(), payload, again.as_slice())?;
-    show(alloc, &mut text, pieces.as_slice())?;
+    show(alloc, &mut text, pieces)?;
     Ok(text)
 }
