@@ -10,6 +10,12 @@ use std::alloc::Global;
 
 /// What a call answers, as a letter.
 fn said(answer: Result<(), SessionInnerError>) -> &'static str {
+    let letter = letter(&answer);
+    drop(answer);
+    letter
+}
+
+fn letter(answer: &Result<(), SessionInnerError>) -> &'static str {
     match answer {
         Ok(()) => ".",
         Err(SessionInnerError::IllegalState) => "i",
@@ -46,11 +52,15 @@ pub fn answer(
         b'd' => allot(alloc, pair, side, "d"),
         b'h' => attach(alloc, pair, side, "a", 0),
         b'j' => attach(alloc, pair, side, "d", 1),
-        b'f' => Ok(said(pair.send_flow(side, made::flow(0, false)))),
-        b'e' => Ok(said(pair.send_flow(side, made::flow(0, true)))),
-        b'w' => Ok(said(pair.send_flow(side, made::flow(7, false)))),
+        b'f' => Ok(flow(pair, side, 0, false)),
+        b'e' => Ok(flow(pair, side, 0, true)),
+        b'w' => Ok(flow(pair, side, 7, false)),
         _ => transfer(pair, side, letter),
     }
+}
+
+fn flow(pair: &mut SessionPair<RowRelay>, side: Side, handle: u32, echo: bool) -> &'static str {
+    said(pair.send_flow(side, made::flow(handle, echo)))
 }
 
 fn allot(
@@ -79,15 +89,15 @@ fn transfer(
     side: Side,
     letter: u8,
 ) -> anyhow::Result<&'static str> {
-    let (transfer, is_first) = match letter {
-        b't' => (made::transfer(0, true, None), true),
-        b's' => (made::transfer(0, true, Some(true)), true),
-        b'v' => (made::transfer(7, true, None), true),
-        b'u' => (made::transfer(0, false, None), true),
-        b'c' => (made::transfer(0, false, None), false),
+    let (handle, has_tag, settled, is_first) = match letter {
+        b't' => (0, true, None, true),
+        b's' => (0, true, Some(true), true),
+        b'v' => (7, true, None, true),
+        b'u' => (0, false, None, true),
+        b'c' => (0, false, None, false),
         _ => anyhow::bail!("no call"),
     };
-    let handle = InputHandle(transfer.handle.0);
+    let transfer = made::transfer(handle, has_tag, settled);
     let payload = Bytes::from_static(b"p");
-    Ok(said(pair.send_transfer(side, handle, transfer, payload, is_first)))
+    Ok(said(pair.send_transfer(side, InputHandle(handle), transfer, payload, is_first)))
 }

@@ -28,6 +28,7 @@ mod row;
 
 use amqp_session::{SessionPair, SessionSettings};
 use relay::RowRelay;
+use std::alloc::Global;
 use std::io::{self, BufRead, BufReader, BufWriter, Write};
 
 fn main(rt: HostRuntime) -> anyhow::Result<()> {
@@ -43,9 +44,20 @@ fn run(rt: &HostRuntime, pair: &mut SessionPair<RowRelay>) -> anyhow::Result<()>
     let alloc = rt.alloc();
     let mut out = BufWriter::new(alloc, io::writer(rt))?;
     for line in BufReader::new(alloc, rt.reader())?.lines(alloc) {
-        let text = row::answer(alloc, pair, line?.as_str())?;
-        out.write_all(text.as_bytes())?;
+        take_line(alloc, pair, line?.as_str(), &mut out)?;
     }
     out.flush()?;
     Ok(())
+}
+
+fn take_line<O: Write>(
+    alloc: Global,
+    pair: &mut SessionPair<RowRelay>,
+    line: &str,
+    out: &mut O,
+) -> anyhow::Result<()> {
+    let text = row::answer(alloc, pair, line)?;
+    let written = out.write_all(text.as_bytes());
+    drop(text);
+    Ok(written?)
 }

@@ -20,7 +20,8 @@ impl LinkRelay for RowRelay {
       detach_gives = λ old handle detach remote_initiated result new. ⊤;
     } };
 
-    fn on_incoming_attach(&mut self, _attach: Attach) -> Result<(), LinkRelayError> {
+    fn on_incoming_attach(&mut self, attach: Attach) -> Result<(), LinkRelayError> {
+        drop(attach);
         Ok(())
     }
 
@@ -30,6 +31,7 @@ impl LinkRelay for RowRelay {
         flow: LinkFlow,
     ) -> Result<Option<LinkFlow>, LinkRelayError> {
         if !flow.echo {
+            drop(flow);
             return Ok(None);
         }
         Ok(Some(LinkFlow {
@@ -41,15 +43,20 @@ impl LinkRelay for RowRelay {
 
     fn on_incoming_transfer(
         &mut self,
-        transfer: Transfer,
-        _payload: Bytes,
+        mut transfer: Transfer,
+        payload: Bytes,
     ) -> Result<Option<(DeliveryNumber, DeliveryTag)>, LinkRelayError> {
-        if transfer.settled == Some(true) {
-            return Ok(None);
-        }
-        match (transfer.delivery_id, transfer.delivery_tag) {
-            (Some(number), Some(tag)) => Ok(Some((number, tag))),
-            _ => Ok(None),
+        drop(payload);
+        let is_settled = transfer.settled == Some(true);
+        let number = transfer.delivery_id;
+        let tag = transfer.delivery_tag.take();
+        drop(transfer);
+        match (number, tag) {
+            (Some(number), Some(tag)) if !is_settled => Ok(Some((number, tag))),
+            (_, tag) => {
+                drop(tag);
+                Ok(None)
+            }
         }
     }
 
@@ -66,9 +73,10 @@ impl LinkRelay for RowRelay {
     fn on_incoming_detach(
         &mut self,
         _handle: OutputHandle,
-        _detach: Detach,
+        detach: Detach,
         _remote_initiated: bool,
     ) -> Option<Detach> {
+        drop(detach);
         None
     }
 }

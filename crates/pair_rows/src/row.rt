@@ -4,6 +4,7 @@ use crate::call;
 use crate::relay::RowRelay;
 use amqp_session::{SessionPair, SessionSettings, Side};
 use std::alloc::Global;
+use std::mem;
 
 /// What a line prints.
 pub fn answer(
@@ -23,9 +24,11 @@ pub fn answer(
 fn settings(text: &str) -> anyhow::Result<(SessionSettings, &str)> {
     let (first, rest) = text.split_once(' ').unwrap_or((text, ""));
     let (window, rest) = rest.split_once(' ').unwrap_or((rest, ""));
+    let first = first.parse::<u32>()?;
+    let window = window.parse::<u32>()?;
     let mut settings = SessionSettings::new();
-    settings.next_outgoing_id = first.parse::<u32>()?;
-    settings.incoming_window = window.parse::<u32>()?;
+    settings.next_outgoing_id = first;
+    settings.incoming_window = window;
     Ok((settings, rest))
 }
 
@@ -35,20 +38,54 @@ fn made_anew(
     text: &str,
 ) -> anyhow::Result<String> {
     let (a, rest) = settings(text)?;
-    let (b, _rest) = settings(rest)?;
-    *pair = SessionPair::new(alloc, a, b);
-    Ok(String::new(alloc))
+    match settings(rest) {
+        Ok((b, _)) => {
+            // An explicit call, since an assignment's own end of the old pair takes the prover minutes.
+            drop(mem::replace(pair, SessionPair::new(alloc, a, b)));
+            Ok(String::new(alloc))
+        }
+        Err(error) => {
+            drop(a);
+            Err(error)
+        }
+    }
 }
 
 /// The answers of several calls, a sum over the numbers of both sides after each of them, and what both show in the end.
 fn calls(alloc: Global, pair: &mut SessionPair<RowRelay>, letters: &str) -> anyhow::Result<String> {
     let mut said = String::new(alloc);
+    let sum = each(alloc, pair, letters, &mut said);
+    let text = match sum {
+        Ok(sum) => told(alloc, pair, said.as_str(), sum),
+        Err(error) => Err(error),
+    };
+    drop(said);
+    text
+}
+
+/// Appends the answers, and gives the sum.
+fn each(
+    alloc: Global,
+    pair: &mut SessionPair<RowRelay>,
+    letters: &str,
+    said: &mut String,
+) -> anyhow::Result<u64> {
     let mut sum = 0;
     for letter in letters.as_bytes() {
         said.push_str(one(alloc, pair, *letter)?)?;
         sum = over(over(sum, pair, Side::A), pair, Side::B);
     }
-    let (a, b) = (shown(alloc, pair, Side::A)?, shown(alloc, pair, Side::B)?);
+    Ok(sum)
+}
+
+fn told(
+    alloc: Global,
+    pair: &SessionPair<RowRelay>,
+    said: &str,
+    sum: u64,
+) -> anyhow::Result<String> {
+    let a = shown(alloc, pair, Side::A)?;
+    let b = shown(alloc, pair, Side::B)?;
     Ok(format!(in alloc; "{said} {sum}\nA {a}\nB {b}\n")?)
 }
 
