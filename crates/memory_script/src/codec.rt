@@ -74,15 +74,24 @@ fn of_read(read: &Result<(Performative, Bytes), ReadError>) -> Came {
 
 /// `Performative::write`, of a performative that is spelled by these digits.
 fn write(rt: &HostRuntime, digits: &str) -> Came {
-    let Ok(Some((performative, _rest))) = reading::performative(rt.alloc(), digits) else {
-        return Came::Unmade;
+    let read = reading::performative(rt.alloc(), digits);
+    let came = match &read {
+        Ok(Some((performative, _rest))) => written_as(rt, performative, digits),
+        _ => Came::Unmade,
     };
-    let came = match reading::bytes(rt.alloc(), digits) {
-        Ok(spelled) => written(rt, &performative, &spelled),
-        Err(_) => Came::Unmade,
-    };
-    drop(performative);
+    drop(read);
     came
+}
+
+fn written_as(rt: &HostRuntime, performative: &Performative, digits: &str) -> Came {
+    match reading::bytes(rt.alloc(), digits) {
+        Ok(spelled) => {
+            let came = written(rt, performative, &spelled);
+            drop(spelled);
+            came
+        }
+        Err(_) => Came::Unmade,
+    }
 }
 
 fn written(rt: &HostRuntime, performative: &Performative, spelled: &Bytes) -> Came {
@@ -90,13 +99,15 @@ fn written(rt: &HostRuntime, performative: &Performative, spelled: &Bytes) -> Ca
     let mut text = BytesMut::new(rt.alloc());
     let written = performative.write(&mut text, u32::MAX);
     mark(rt, "@print\n");
-    match written {
+    let came = match written {
         Ok(()) if text.as_slice() == spelled.as_slice() => Came::To("the same"),
         Ok(()) => Came::To("another"),
         Err(WriteError::TooLarge) => Came::To("too large"),
         Err(WriteError::OutOfMemory) if text.is_empty() => Came::Refused,
         Err(WriteError::OutOfMemory) => Came::To("half"),
-    }
+    };
+    drop(text);
+    came
 }
 
 /// `FrameDecoder::decode`, of a frame without its size.
@@ -122,8 +133,16 @@ fn of_decoded(decoded: &Result<(Frame, Bytes), frames::Error>) -> Came {
 /// The frame of these digits.
 fn frame(alloc: Global, digits: &str) -> Option<Frame> {
     let bytes = reading::bytes(alloc, digits).ok()?;
-    let (frame, _rest) = FrameDecoder::new().decode(alloc, bytes).ok()?;
-    Some(frame)
+    match FrameDecoder::new().decode(alloc, bytes) {
+        Ok((frame, rest)) => {
+            drop(rest);
+            Some(frame)
+        }
+        Err(error) => {
+            drop(error);
+            None
+        }
+    }
 }
 
 /// A limit of at least 4, and what follows it.
@@ -192,17 +211,25 @@ fn bytes_of_first(rt: &HostRuntime, pieces: &Vec<Piece>, digits: &str) -> Came {
     let Ok(spelled) = reading::bytes(rt.alloc(), digits) else {
         return Came::Unmade;
     };
-    match pieces.first() {
+    let came = match pieces.first() {
         Some(piece) => bytes_of(rt, piece, &spelled),
         None => Came::To("no piece"),
-    }
+    };
+    drop(spelled);
+    came
 }
 
 fn bytes_of(rt: &HostRuntime, piece: &Piece, spelled: &Bytes) -> Came {
     mark(rt, "@run\n");
     let bytes = piece.to_bytes(rt.alloc());
     mark(rt, "@print\n");
-    match &bytes {
+    let came = of_bytes(&bytes, spelled);
+    drop(bytes);
+    came
+}
+
+fn of_bytes(bytes: &Result<Bytes, frames::Error>, spelled: &Bytes) -> Came {
+    match bytes {
         Ok(bytes) if bytes.as_slice() == spelled.as_slice() => Came::To("the same"),
         Ok(_) => Came::To("others"),
         Err(error) => refusal(error),

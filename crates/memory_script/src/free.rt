@@ -1,6 +1,6 @@
 //! Calls that take no memory, made while every request for memory is refused.
 
-use crate::input::of_line;
+use crate::input::{ScriptInput, of_line};
 use crate::offer::{ScriptEngine, out};
 use crate::{mark, print, reading, say};
 use bytes::Bytes;
@@ -37,25 +37,35 @@ fn said(rt: &HostRuntime, name: &str, is_as_ever: bool) -> anyhow::Result<()> {
 
 /// The input of a line, by `step`, and then what goes out.
 fn stepped(rt: &HostRuntime, engine: &mut ScriptEngine, line: &str) -> anyhow::Result<()> {
-    let made = match of_line(rt.alloc(), line) {
-        Ok(made) => made,
-        Err(_) => of_line(rt.alloc(), line)?,
-    };
-    let Some(input) = made else {
-        anyhow::bail!("no line of a script");
-    };
-    mark(rt, "@refuse\n");
-    let outcome = engine.step(input);
-    mark(rt, "@grant\n");
-    let told = refusal(rt, &outcome);
-    drop(outcome);
-    told?;
+    let input = input(rt.alloc(), line)?;
+    step(rt, engine, input)?;
     for _ in 0..20 {
         if !puts_out(rt, engine)? {
             return Ok(());
         }
     }
     Err(anyhow::anyhow!("frames without end"))
+}
+
+/// The input of a line; the second attempt passes where the first is refused.
+fn input(alloc: Global, line: &str) -> anyhow::Result<ScriptInput> {
+    let made = match of_line(alloc, line) {
+        Ok(made) => made,
+        Err(_) => of_line(alloc, line)?,
+    };
+    match made {
+        Some(input) => Ok(input),
+        None => Err(anyhow::anyhow!("no line of a script")),
+    }
+}
+
+fn step(rt: &HostRuntime, engine: &mut ScriptEngine, input: ScriptInput) -> anyhow::Result<()> {
+    mark(rt, "@refuse\n");
+    let outcome = engine.step(input);
+    mark(rt, "@grant\n");
+    let told = refusal(rt, &outcome);
+    drop(outcome);
+    told
 }
 
 /// Prints a refusal, if there is one.
@@ -167,20 +177,26 @@ fn open_again(alloc: Global) -> Result<Open, AllocError> {
 }
 
 /// Whether a call passes; what it answers is dropped here, and not at each of its callers.
-fn passes<T: Drop, E: Drop>(answer: Result<T, E>) -> bool {
+pub fn passes<T: Drop, E: Drop>(answer: Result<T, E>) -> bool {
     answer.is_ok()
 }
 
 /// Calls of a connection alone.
 fn connection(rt: &HostRuntime) -> anyhow::Result<()> {
-    let (ours, theirs) = (open_again(rt.alloc())?, open_again(rt.alloc())?);
+    let ours = open_again(rt.alloc())?;
     let mut connection = Connection::new(rt.alloc(), ConnectionState::OpenSent, ours);
-    mark(rt, "@refuse\n");
-    let is_opened = passes(connection.on_incoming_open(IncomingChannel(0), theirs));
-    let is_as_ever = is_opened && routes_none(&mut connection) && closes(&mut connection);
+    let outcome = opened(rt, &mut connection);
     // An explicit call, since the end of its scope takes the prover minutes.
     drop(connection);
-    said(rt, "connection", is_as_ever)
+    said(rt, "connection", outcome?)
+}
+
+/// Whether a connection that the peer opens answers as ever.
+fn opened(rt: &HostRuntime, connection: &mut Connection) -> anyhow::Result<bool> {
+    let theirs = open_again(rt.alloc())?;
+    mark(rt, "@refuse\n");
+    let is_opened = passes(connection.on_incoming_open(IncomingChannel(0), theirs));
+    Ok(is_opened && routes_none(connection) && closes(connection))
 }
 
 /// What a connection without sessions is asked.
@@ -285,7 +301,10 @@ fn performative(alloc: Global, digits: &str) -> anyhow::Result<Performative> {
         Err(_) => reading::performative(alloc, digits)?,
     };
     match read {
-        Some((performative, _rest)) => Ok(performative),
+        Some((performative, rest)) => {
+            drop(rest);
+            Ok(performative)
+        }
         None => Err(anyhow::anyhow!("no performative")),
     }
 }
@@ -304,7 +323,9 @@ fn values_beside(rt: &HostRuntime, transfer: &Performative) -> anyhow::Result<bo
         Err(_) => String::from_str(rt.alloc(), "x")?,
     };
     mark(rt, "@refuse\n");
-    let is_symbol = Symbol::new(text).is_some();
+    let symbol = Symbol::new(text);
+    let is_symbol = symbol.is_some();
+    drop(symbol);
     Ok(views() && is_symbol && has_room(transfer) && transfer.encoded_len() > 4)
 }
 
@@ -320,21 +341,42 @@ fn has_room(performative: &Performative) -> bool {
 
 /// Whether raw values give their parts.
 fn views() -> bool {
-    let Ok((accepted, _rest)) = Raw::read(Bytes::from_static(b"\x00\x53\x24\x45")) else {
-        return false;
+    let accepted = Raw::read(Bytes::from_static(b"\x00\x53\x24\x45"));
+    let has_parts = match &accepted {
+        Ok((accepted, _rest)) => has_parts(accepted),
+        Err(_) => false,
     };
+    drop(accepted);
+    has_parts && holds_a_map()
+}
+
+fn has_parts(accepted: &Raw) -> bool {
     let view = accepted.view();
     let parts = view.descriptor().is_some() && view.inner().is_some() && view.items().is_none();
-    parts && view.code() == 0 && is_terminal(&accepted) && holds_a_map()
+    parts && view.code() == 0 && is_terminal(accepted)
 }
 
 fn holds_a_map() -> bool {
-    let Ok((map, _rest)) = Raw::read(Bytes::from_static(b"\xc1\x06\x02\xa3\x01\x78\x52\x05")) else {
-        return false;
-    };
+    match Raw::read(Bytes::from_static(b"\xc1\x06\x02\xa3\x01\x78\x52\x05")) {
+        Ok((map, rest)) => {
+            drop(rest);
+            let has_two = has_two(&map);
+            is_of_fields(map) && has_two
+        }
+        Err(_) => false,
+    }
+}
+
+fn has_two(map: &Raw) -> bool {
     let Some(mut items) = map.view().items() else {
         return false;
     };
-    let has_two = items.next().is_some() && items.next().is_some() && items.next().is_none();
-    has_two && Fields::new(map).is_some()
+    items.next().is_some() && items.next().is_some() && items.next().is_none()
+}
+
+fn is_of_fields(map: Raw) -> bool {
+    let fields = Fields::new(map);
+    let is_there = fields.is_some();
+    drop(fields);
+    is_there
 }

@@ -43,10 +43,12 @@ fn of_session(alloc: Global, word: &str, rest: &str) -> Result<Option<ScriptInpu
 
 /// A session with default settings, or with this incoming window.
 fn begin(number: SessionNo, window: &str) -> Option<ScriptInput> {
-    let mut settings = SessionSettings::new();
-    if !window.is_empty() {
-        settings.incoming_window = window.parse::<u32>().ok()?;
+    if window.is_empty() {
+        return Some(Input::Begin(number, SessionSettings::new()));
     }
+    let incoming_window = window.parse::<u32>().ok()?;
+    let mut settings = SessionSettings::new();
+    settings.incoming_window = incoming_window;
     Some(Input::Begin(number, settings))
 }
 

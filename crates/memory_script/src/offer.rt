@@ -31,8 +31,8 @@ impl Runs for WishedEngine {
     }
 }
 
-fn engine(alloc: Global) -> Result<ScriptEngine, AllocError> {
-    let open = Open {
+fn open(alloc: Global) -> Result<Open, AllocError> {
+    Ok(Open {
         container_id: String::from_str(alloc, "replay")?,
         hostname: None,
         max_frame_size: DEFAULT_MAX_FRAME_SIZE,
@@ -43,26 +43,35 @@ fn engine(alloc: Global) -> Result<ScriptEngine, AllocError> {
         offered_capabilities: None,
         desired_capabilities: None,
         properties: None,
-    };
-    Ok(Engine::new(alloc, ConnectionState::HeaderExchange, open))
+    })
 }
 
-/// A new engine; one request alone is refused, and the second attempt passes.
-fn new_engine(alloc: Global) -> Result<ScriptEngine, AllocError> {
-    match engine(alloc) {
-        Ok(engine) => Ok(engine),
-        Err(_) => engine(alloc),
+/// The Open of a new engine; one request alone is refused, and the second attempt passes.
+fn open_again(alloc: Global) -> Result<Open, AllocError> {
+    match open(alloc) {
+        Ok(open) => Ok(open),
+        Err(_) => open(alloc),
     }
+}
+
+fn engine_of(alloc: Global, open: Open) -> ScriptEngine {
+    Engine::new(alloc, ConnectionState::HeaderExchange, open)
 }
 
 /// Runs the lines.
 pub fn script(rt: &HostRuntime, text: &str) -> anyhow::Result<()> {
     mark(rt, "@make\n");
-    let mut engine = new_engine(rt.alloc())?;
-    let mut wished = HandledEngine::new(new_engine(rt.alloc())?);
-    let outcome = lines(rt, &mut engine, &mut wished, text);
-    // Explicit calls, since the end of their scope takes the prover minutes.
+    let mut engine = engine_of(rt.alloc(), open_again(rt.alloc())?);
+    let outcome = beside(rt, &mut engine, text);
+    // An explicit call, since the end of its scope takes the prover minutes.
     drop(engine);
+    outcome
+}
+
+/// Runs the lines with a second engine, whose handles are used.
+fn beside(rt: &HostRuntime, scripted: &mut ScriptEngine, text: &str) -> anyhow::Result<()> {
+    let mut wished = HandledEngine::new(engine_of(rt.alloc(), open_again(rt.alloc())?));
+    let outcome = lines(rt, scripted, &mut wished, text);
     drop(wished);
     outcome
 }
@@ -102,8 +111,8 @@ fn line(
 
 /// A script begins, with a new engine.
 fn begins(rt: &HostRuntime, engine: &mut ScriptEngine, title: &str) -> anyhow::Result<()> {
-    let old = std::mem::replace(engine, new_engine(rt.alloc())?);
-    drop(old);
+    let new = engine_of(rt.alloc(), open_again(rt.alloc())?);
+    drop(std::mem::replace(engine, new));
     print(rt, title)
 }
 
@@ -218,17 +227,22 @@ fn refused(rt: &HostRuntime, error: &StepError, is_transfer: bool) -> anyhow::Re
 pub fn out(rt: &HostRuntime, pieces: &Vec<Piece>) -> anyhow::Result<()> {
     for piece in pieces.iter() {
         mark(rt, "@out_line\n");
-        let text = match out_line(rt.alloc(), piece) {
-            Ok(text) => text,
-            Err(_) => {
-                print(rt, "~ out_line")?;
-                out_line(rt.alloc(), piece)?
-            }
-        };
+        let text = line_out(rt, piece)?;
         mark(rt, "@print\n");
         print(rt, text.as_str())?;
     }
     Ok(())
+}
+
+/// The line of a piece; the second attempt passes where the first is refused.
+fn line_out(rt: &HostRuntime, piece: &Piece) -> anyhow::Result<String> {
+    match out_line(rt.alloc(), piece) {
+        Ok(text) => Ok(text),
+        Err(_) => {
+            print(rt, "~ out_line")?;
+            Ok(out_line(rt.alloc(), piece)?)
+        }
+    }
 }
 
 fn numbers(alloc: Global, session: &Session<ReplayRelay>) -> Result<String, AllocError> {

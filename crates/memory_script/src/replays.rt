@@ -75,6 +75,8 @@ fn ran(alloc: Global, reads: u32, writes: u32) -> anyhow::Result<(u8, Vec<u8>)> 
     };
     let mut errors = Vec::new(alloc);
     let status = replay(alloc, &mut input, &mut output, &mut errors);
+    drop(errors);
+    drop(input);
     Ok((status, output.text))
 }
 
@@ -88,10 +90,13 @@ fn all_fail(alloc: Global, whole: &Vec<u8>, of_reader: bool) -> anyhow::Result<b
             (CALLS, call)
         };
         let (status, written) = ran(alloc, reads, writes)?;
+        let is_whole = written.as_slice() == whole.as_slice();
+        let is_beginning = whole.as_slice().starts_with(written.as_slice());
+        drop(written);
         if status == 0 {
-            return Ok(call > 10 && written.as_slice() == whole.as_slice());
+            return Ok(call > 10 && is_whole);
         }
-        if status != 3 || !whole.as_slice().starts_with(written.as_slice()) {
+        if status != 3 || !is_beginning {
             return Ok(false);
         }
     }
@@ -109,12 +114,18 @@ fn said(is_well: bool) -> &'static str {
 /// Prints what comes of a reader that fails, and of a writer.
 pub fn called(rt: &HostRuntime) -> anyhow::Result<()> {
     let (status, whole) = ran(rt.alloc(), CALLS, CALLS)?;
+    let outcome = tried(rt, status, &whole);
+    drop(whole);
+    outcome
+}
+
+fn tried(rt: &HostRuntime, status: u8, whole: &Vec<u8>) -> anyhow::Result<()> {
     if status != 0 {
         anyhow::bail!("the whole transcript is not replayed");
     }
     print(rt, std::str::from_utf8(whole.as_slice())?.trim_end())?;
     say(rt, "reader: ")?;
-    print(rt, said(all_fail(rt.alloc(), &whole, true)?))?;
+    print(rt, said(all_fail(rt.alloc(), whole, true)?))?;
     say(rt, "writer: ")?;
-    print(rt, said(all_fail(rt.alloc(), &whole, false)?))
+    print(rt, said(all_fail(rt.alloc(), whole, false)?))
 }

@@ -1,11 +1,14 @@
 //! Wishes of handles, and what became of them, by an engine of its own.
 
+use crate::free::passes;
 use crate::offer::offered;
 use crate::{mark, print, reading, say};
 use fe2o3_amqp::connection::Error as ConnectionError;
 use fe2o3_amqp::definitions::Error;
 use fe2o3_amqp::session::Error as SessionError;
-use fe2o3_amqp::{HandledEngine, ReplayRelay, SessionHandle, SessionNo, Symbol};
+use fe2o3_amqp::{
+    HandledEngine, ReplayRelay, SessionHandle, SessionNo, Symbol, TryCloseError, TryEndError,
+};
 use std::alloc::{AllocError, Global};
 
 /// The engine whose handles are used.
@@ -37,7 +40,7 @@ fn end(rt: &HostRuntime, engine: &mut WishedEngine, text: &str) -> anyhow::Resul
     let handle = handle(engine, number)?;
     if condition.is_empty() {
         mark(rt, "@refuse\n");
-        let is_noted = handle.end(engine).is_ok();
+        let is_noted = passes(handle.end(engine));
         mark(rt, "@grant\n");
         return told(rt, is_noted);
     }
@@ -52,7 +55,7 @@ fn end_with_error(
 ) -> anyhow::Result<()> {
     let error = error_of(rt, condition)?;
     mark(rt, "@refuse\n");
-    let is_noted = handle.end_with_error(error, engine).is_ok();
+    let is_noted = passes(handle.end_with_error(error, engine));
     mark(rt, "@grant\n");
     told(rt, is_noted)
 }
@@ -61,10 +64,7 @@ fn end_with_error(
 fn close(rt: &HostRuntime, engine: &mut WishedEngine, condition: &str) -> anyhow::Result<()> {
     let error = error_of(rt, condition)?;
     mark(rt, "@refuse\n");
-    let is_noted = engine
-        .connection_handle()
-        .close_with_error(error, engine)
-        .is_ok();
+    let is_noted = passes(engine.connection_handle().close_with_error(error, engine));
     mark(rt, "@grant\n");
     told(rt, is_noted)
 }
@@ -102,8 +102,18 @@ fn ended(rt: &HostRuntime, engine: &mut WishedEngine, number: &str) -> anyhow::R
     let is_ended = handle.is_ended(engine);
     let outcome = handle.try_end(engine);
     mark(rt, "@grant\n");
+    let told = tell_ended(rt, is_ended, &outcome);
+    drop(outcome);
+    told
+}
+
+fn tell_ended(
+    rt: &HostRuntime,
+    is_ended: bool,
+    outcome: &Result<Result<(), SessionError>, TryEndError>,
+) -> anyhow::Result<()> {
     is_or_is_not(rt, is_ended)?;
-    match &outcome {
+    match outcome {
         Ok(Ok(())) => print(rt, "ended"),
         Ok(Err(SessionError::RemoteEndedWithError(error))) => with_error(rt, "ended", error),
         Ok(Err(_)) => print(rt, "ended otherwise"),
@@ -118,8 +128,18 @@ fn closed(rt: &HostRuntime, engine: &mut WishedEngine) -> anyhow::Result<()> {
     let is_closed = handle.is_closed(engine);
     let outcome = handle.try_close(engine);
     mark(rt, "@grant\n");
+    let told = tell_closed(rt, is_closed, &outcome);
+    drop(outcome);
+    told
+}
+
+fn tell_closed(
+    rt: &HostRuntime,
+    is_closed: bool,
+    outcome: &Result<Result<(), ConnectionError>, TryCloseError>,
+) -> anyhow::Result<()> {
     is_or_is_not(rt, is_closed)?;
-    match &outcome {
+    match outcome {
         Ok(Ok(())) => print(rt, "closed"),
         Ok(Err(ConnectionError::RemoteClosedWithError(error))) => with_error(rt, "closed", error),
         Ok(Err(_)) => print(rt, "closed otherwise"),
