@@ -17,6 +17,7 @@ rlib was made. Before the edits a check of such a copy with no edit in it, for o
 leave no goal open; with 'control' as the first word it is for all of them. The last line is 'N passed, M failed'.
 """
 
+import contextlib
 import copy
 import importlib.machinery
 import importlib.util
@@ -27,6 +28,7 @@ import shutil
 import sys
 import tempfile
 import threading
+from collections import Counter
 from concurrent.futures import ThreadPoolExecutor
 from pathlib import Path
 
@@ -34,7 +36,7 @@ ROOT = Path(__file__).resolve().parent.parent
 FOLDER = "must-fail-together"
 ANY_GOAL = re.compile(r"(?:\./)?\S+\.(?:rt|antt):\d+:\d+: error: |\S.*: no proof: .*did not prove ")
 # At most so many edits in one check, so that none takes long.
-MOST = 15
+MOST = 25
 # The control is of one in so many functions.
 ONE_IN = 8
 # What a check says where a proof names what is not there, or cites what was refused.
@@ -107,6 +109,12 @@ class Edit:
         texts.update(put)
         return None if self.function and self.pairs else "it has no line 'function:', or no pair of texts"
 
+    def texts(self, folder):
+        """The texts of the crate with this edit alone, by their paths."""
+        texts = {}
+        self.put(folder, texts)
+        return texts
+
     def goal(self, crate, said):
         """The line that says that a goal of the function is not proved, if there is one. An edit of a definition is tried alone: there it may be
         any goal on the function's way."""
@@ -134,15 +142,15 @@ def proof_of(folder, function):
 
 
 class Trial:
-    """The edits of one crate, tried over what a check of it without an edit proved, which is kept in a folder of this run."""
+    """The edits of one crate, each check of them over what those before it proved, which is kept in folders of this run."""
 
     def __init__(self, crate, edits, room):
-        self.crate, self.edits, self.kept = crate, edits, f"{room}/kept"
+        self.crate, self.edits, self.room, self.free = crate, edits, room, []
         self.folder, self.lines, self.checks = Path(crate.folder), {}, 0
 
-    def check(self, names, texts, kept, is_bare=True):
+    def check(self, names, texts, is_bare=True):
         """Checks these functions in a copy of the crate: a bare one, in which no other function has a proof, or a whole one."""
-        with LANES, tempfile.TemporaryDirectory(prefix="rt-together-") as room:
+        with LANES, self.borrowed() as kept, tempfile.TemporaryDirectory(prefix="rt-together-") as room:
             crate = copy.copy(self.crate)
             crate.folder = room
             for part in RT.rtlib.PARTS:
@@ -155,42 +163,40 @@ class Trial:
             own = [word for name in names for word in ("--only", name)]
             return RT.checked(crate, texts, ["--jobs", "1", *own], kept)
 
-    def try_edits(self, edits, texts, is_bare):
-        with tempfile.TemporaryDirectory(prefix="rt-kept-") as room:
-            shutil.copytree(self.kept, f"{room}/kept")
-            return self.check([it.function for it in edits], texts, f"{room}/kept", is_bare)
+    @contextlib.contextmanager
+    def borrowed(self):
+        """A folder of what checks of this crate have proved, for one check at a time, which adds to it."""
+        kept = self.free.pop() if self.free else tempfile.mkdtemp(dir=self.room)
+        yield kept
+        self.free.append(kept)
+
+    def spread(self, number):
+        """Gives so many checks at a time what the control proved."""
+        [first] = self.free
+        for _ in range(1, number):
+            self.free.append(tempfile.mkdtemp(dir=self.room))
+            shutil.copytree(first, self.free[-1], dirs_exist_ok=True)
 
     def control(self, one_in):
         """Why the edits would show nothing, if so: a goal that is open as the crate stands, or the last words of a check without an end."""
         names = sorted({it.function for it in self.edits})[::one_in]
-        said = self.check(names, {}, self.kept).stdout
+        said = self.check(names, {}).stdout
         came_to_an_end = re.search(r"^only=\d+ proved=\d+$", said, re.M)
         return any_goal(said) if came_to_an_end else said[-300:] or "nothing"
-
-    def next_of(self, edits):
-        """The next of the edits that go together, with their texts: one of each function, each where its old texts still stand."""
-        names, chosen, texts = set(), [], {}
-        for edit in edits:
-            if chosen and (edit.is_alone() or chosen[0].is_alone() or edit.function in names or len(chosen) == MOST):
-                continue
-            if edit.put(self.folder, texts) is None:
-                names.add(edit.function)
-                chosen.append(edit)
-        return chosen, texts
 
     def tell(self, edit, is_well, text):
         self.lines[edit.name] = is_well, f"{self.crate.name}/{edit.name}: {text}"
 
     def judge(self, edits, texts, is_bare=True):
         """Notes which of the edits a check refuses, and tries each of the others alone, and at last in a whole copy."""
-        ran = self.try_edits(edits, texts, is_bare)
+        ran = self.check([it.function for it in edits], texts, is_bare)
         self.checks += 1
         for edit in edits:
             goal = edit.goal(self.crate.name, ran.stdout)
             if goal:
                 self.tell(edit, True, f"refused, as it must be: {goal[:160]}")
             elif len(edits) > 1:
-                self.judge(*self.next_of([edit]))
+                self.judge([edit], edit.texts(self.folder))
             elif is_bare:
                 self.judge(edits, texts, is_bare=False)
             else:
@@ -198,16 +204,24 @@ class Trial:
                 self.tell(edit, False, f"NOT REFUSED: no goal of {edit.function} is left unproved; the check ended in: {last[:160]}")
 
     def batches(self):
-        left, found = [], []
-        for edit in self.edits:
+        """The edits that go together, with their texts, in as few checks as edits of one function take, and of like size."""
+        times = Counter(it.function for it in self.edits)
+        found = []
+        for edit in sorted(self.edits, key=lambda it: -times[it.function]):
             why = edit.put(self.folder, {})
-            left += [] if why else [edit]
             if why:
                 self.tell(edit, False, f"BAD EDIT: {why}")
-        while left:
-            found.append(self.next_of(left))
-            left = [edit for edit in left if edit not in found[-1][0]]
+            elif not any(self.joins(edit, *it) for it in sorted(found, key=lambda it: len(it[0]))):
+                found.append(([edit], edit.texts(self.folder)))
         return found
+
+    def joins(self, edit, edits, texts):
+        """Puts the edit to those of a check, where none of them is of the same function and its old texts still stand."""
+        is_alone = edit.is_alone() or edits[0].is_alone() or len(edits) == MOST
+        if is_alone or edit.function in [it.function for it in edits] or edit.put(self.folder, texts):
+            return False
+        edits.append(edit)
+        return True
 
     def run(self, one_in):
         """Whether each edit is refused, and what to say of it."""
@@ -215,6 +229,7 @@ class Trial:
         if why:
             return [(False, f"{self.crate.name}: NOT PROVED without an edit: {why}")]
         batches = self.batches()
+        self.spread(min(len(batches), RT.processors()))
         with ThreadPoolExecutor(len(batches) or 1) as pool:
             list(pool.map(lambda it: self.judge(*it), batches))
         return [self.lines[edit.name] for edit in self.edits]
