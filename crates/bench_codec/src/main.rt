@@ -18,6 +18,7 @@ mod modes;
 
 use bytes::Bytes;
 use modes::Seen;
+use std::alloc::Global;
 use std::env;
 use std::io::{self, BufRead, BufReader, Write};
 
@@ -28,10 +29,14 @@ fn frames(rt: &HostRuntime) -> anyhow::Result<Vec<Bytes>> {
     let alloc = rt.alloc();
     let mut frames = Vec::new(alloc);
     for line in BufReader::new(alloc, rt.reader())?.lines(alloc) {
-        let bytes = hex::decode(alloc, line?.as_str())?;
-        frames.push(Bytes::from_vec(bytes)?)?;
+        frames.push(frame(alloc, line?.as_str())?)?;
     }
     Ok(frames)
+}
+
+/// The bytes that hexadecimal digits say.
+fn frame(alloc: Global, digits: &str) -> anyhow::Result<Bytes> {
+    Ok(Bytes::from_vec(hex::decode(alloc, digits)?)?)
 }
 
 /// The argument at a place, or nothing.
@@ -58,19 +63,44 @@ fn measure(
 }
 
 fn main(rt: HostRuntime) -> anyhow::Result<()> {
+    let words = words(&rt)?;
+    let outcome = run(&rt, words.as_slice());
+    drop(words);
+    outcome
+}
+
+/// The program's name, and its arguments.
+fn words(rt: &HostRuntime) -> anyhow::Result<Vec<String>> {
     let mut words = Vec::new(rt.alloc());
-    for word in env::args(&rt)? {
+    for word in env::args(rt)? {
         words.push(word)?;
     }
-    let mode = word(words.as_slice(), 1);
-    let count = word(words.as_slice(), 2).parse::<u64>()?;
-    let limit = word(words.as_slice(), 3).parse::<u32>()?;
-    let frames = frames(&rt)?;
+    Ok(words)
+}
+
+fn run(rt: &HostRuntime, words: &[String]) -> anyhow::Result<()> {
+    let mode = word(words, 1);
+    let count = word(words, 2).parse::<u64>()?;
+    let limit = word(words, 3).parse::<u32>()?;
+    let frames = frames(rt)?;
+    let outcome = measure_each(rt, mode, frames.as_slice(), count, limit);
+    drop(frames);
+    outcome
+}
+
+/// Runs the mode; each of them, where it is `all`.
+fn measure_each(
+    rt: &HostRuntime,
+    mode: &str,
+    frames: &[Bytes],
+    count: u64,
+    limit: u32,
+) -> anyhow::Result<()> {
     if mode != "all" {
-        return measure(&rt, mode, frames.as_slice(), count, limit);
+        return measure(rt, mode, frames, count, limit);
     }
     for mode in &MODES {
-        measure(&rt, mode, frames.as_slice(), count, limit)?;
+        measure(rt, mode, frames, count, limit)?;
     }
     Ok(())
 }

@@ -37,17 +37,45 @@ pub fn run(
     match mode {
         "clone" => share(frames, count, seen)?,
         "decode" => decode(alloc, frames, count, seen)?,
-        "read" => read(alloc, bodies(alloc, frames)?.as_slice(), count, seen)?,
-        "length" => measure(performatives(alloc, frames)?.as_slice(), count, seen),
-        "encode" => encode(
-            alloc,
-            decoded(alloc, frames)?.as_slice(),
-            count,
-            limit,
-            seen,
-        ),
+        "read" => read_bodies(alloc, frames, count, seen)?,
+        "length" => measure_all(alloc, frames, count, seen)?,
+        "encode" => encode_all(alloc, frames, count, limit, seen)?,
         _ => {}
     }
+    Ok(())
+}
+
+// What the loops of these modes go over ends by an explicit call, since the end of a scope takes the prover long.
+
+fn read_bodies(
+    alloc: Global,
+    frames: &[Bytes],
+    count: u64,
+    seen: &mut Seen,
+) -> Result<(), AllocError> {
+    let bodies = bodies(alloc, frames)?;
+    let outcome = read(alloc, bodies.as_slice(), count, seen);
+    drop(bodies);
+    outcome
+}
+
+fn measure_all(alloc: Global, frames: &[Bytes], count: u64, seen: &mut Seen) -> anyhow::Result<()> {
+    let performatives = performatives(alloc, frames)?;
+    measure(performatives.as_slice(), count, seen);
+    drop(performatives);
+    Ok(())
+}
+
+fn encode_all(
+    alloc: Global,
+    frames: &[Bytes],
+    count: u64,
+    limit: u32,
+    seen: &mut Seen,
+) -> anyhow::Result<()> {
+    let decoded = decoded(alloc, frames)?;
+    encode(alloc, decoded.as_slice(), count, limit, seen);
+    drop(decoded);
     Ok(())
 }
 
@@ -140,34 +168,78 @@ fn encode(alloc: Global, frames: &[Frame], count: u64, limit: u32, seen: &mut Se
     }
 }
 
+/// What stands behind the header.
+fn body(bytes: &Bytes) -> Result<Bytes, AllocError> {
+    let mut body = bytes.clone()?;
+    if body.len() >= 4 {
+        body.advance(4);
+    }
+    Ok(body)
+}
+
 /// What stands behind the headers.
 fn bodies(alloc: Global, frames: &[Bytes]) -> Result<Vec<Bytes>, AllocError> {
     let mut bodies = Vec::new(alloc);
     for bytes in frames {
-        let mut body = bytes.clone()?;
-        if body.len() >= 4 {
-            body.advance(4);
-        }
-        bodies.push(body)?;
+        bodies.push(body(bytes)?)?;
     }
     Ok(bodies)
 }
 
+/// Generic, since the prover then meets the end of what is not taken once, and not for each type's own parts.
+fn add<T: Drop>(all: &mut Vec<T>, value: T) -> Result<(), AllocError> {
+    all.push(value)?;
+    Ok(())
+}
+
 fn performatives(alloc: Global, frames: &[Bytes]) -> anyhow::Result<Vec<Performative>> {
     let mut performatives = Vec::new(alloc);
-    let bodies = bodies(alloc, frames)?;
-    for body in bodies.iter() {
-        let (performative, _rest) = Performative::read(alloc, body.clone()?)?;
-        performatives.push(performative)?;
+    match add_performatives(alloc, frames, &mut performatives) {
+        Ok(()) => Ok(performatives),
+        Err(error) => {
+            drop(performatives);
+            Err(error)
+        }
     }
-    Ok(performatives)
+}
+
+fn add_performatives(
+    alloc: Global,
+    frames: &[Bytes],
+    all: &mut Vec<Performative>,
+) -> anyhow::Result<()> {
+    for bytes in frames {
+        match Performative::read(alloc, body(bytes)?) {
+            Ok((performative, rest)) => {
+                drop(rest);
+                add(all, performative)?;
+            }
+            Err(error) => return Err(error.into()),
+        }
+    }
+    Ok(())
 }
 
 fn decoded(alloc: Global, frames: &[Bytes]) -> anyhow::Result<Vec<Frame>> {
     let mut decoded = Vec::new(alloc);
-    for bytes in frames {
-        let (frame, _rest) = FrameDecoder::new().decode(alloc, bytes.clone()?)?;
-        decoded.push(frame)?;
+    match add_decoded(alloc, frames, &mut decoded) {
+        Ok(()) => Ok(decoded),
+        Err(error) => {
+            drop(decoded);
+            Err(error)
+        }
     }
-    Ok(decoded)
+}
+
+fn add_decoded(alloc: Global, frames: &[Bytes], all: &mut Vec<Frame>) -> anyhow::Result<()> {
+    for bytes in frames {
+        match FrameDecoder::new().decode(alloc, bytes.clone()?) {
+            Ok((frame, rest)) => {
+                drop(rest);
+                add(all, frame)?;
+            }
+            Err(error) => return Err(error.into()),
+        }
+    }
+    Ok(())
 }

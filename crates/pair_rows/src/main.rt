@@ -28,7 +28,6 @@ mod row;
 
 use amqp_session::{SessionPair, SessionSettings};
 use relay::RowRelay;
-use std::alloc::Global;
 use std::io::{self, BufRead, BufReader, BufWriter, Write};
 
 fn main(rt: HostRuntime) -> anyhow::Result<()> {
@@ -44,20 +43,9 @@ fn run(rt: &HostRuntime, pair: &mut SessionPair<RowRelay>) -> anyhow::Result<()>
     let alloc = rt.alloc();
     let mut out = BufWriter::new(alloc, io::writer(rt))?;
     for line in BufReader::new(alloc, rt.reader())?.lines(alloc) {
-        take_line(alloc, pair, line?.as_str(), &mut out)?;
+        let text = row::answer(alloc, pair, line?.as_str())?;
+        out.write_all(text.as_bytes())?;
     }
     out.flush()?;
     Ok(())
-}
-
-fn take_line<O: Write>(
-    alloc: Global,
-    pair: &mut SessionPair<RowRelay>,
-    line: &str,
-    out: &mut O,
-) -> anyhow::Result<()> {
-    let text = row::answer(alloc, pair, line)?;
-    let written = out.write_all(text.as_bytes());
-    drop(text);
-    Ok(written?)
 }
