@@ -27,7 +27,7 @@ mod frames;
 mod modes;
 mod relay;
 
-use bench::{Bench, Plan};
+use bench::{Bench, Plan, Seen};
 use bytes::Bytes;
 use std::alloc::Global;
 use std::env;
@@ -45,15 +45,19 @@ const MODES: [&str; 9] = [
     "peak",
 ];
 
-/// The lines of the input.
-fn lines(rt: &HostRuntime) -> anyhow::Result<Vec<Bytes>> {
+/// Reads the lines of the input.
+fn read_lines(rt: &HostRuntime, lines: &mut Vec<Bytes>) -> anyhow::Result<()> {
     let alloc = rt.alloc();
-    let mut lines = Vec::new(alloc);
     for line in BufReader::new(alloc, rt.reader())?.lines(alloc) {
-        let bytes = hex::decode(alloc, line?.as_str())?;
-        lines.push(Bytes::from_vec(bytes)?)?;
+        take_line(alloc, lines, line?.as_str())?;
     }
-    Ok(lines)
+    Ok(())
+}
+
+fn take_line(alloc: Global, lines: &mut Vec<Bytes>, line: &str) -> anyhow::Result<()> {
+    let bytes = hex::decode(alloc, line)?;
+    lines.push(Bytes::from_vec(bytes)?)?;
+    Ok(())
 }
 
 /// The line at a place, or no bytes.
@@ -72,10 +76,16 @@ fn word(words: &[String], at: usize) -> &str {
     }
 }
 
-fn plan(alloc: Global, words: &[String], lines: &[Bytes]) -> anyhow::Result<Plan> {
+/// COUNT, BATCH and OPEN.
+fn counts(words: &[String]) -> anyhow::Result<(u32, u32, u32)> {
     let count = word(words, 2).parse::<u32>()?;
     let batch = word(words, 3).parse::<u32>()?;
     let open = word(words, 4).parse::<u32>()?;
+    Ok((count, batch, open))
+}
+
+fn plan(alloc: Global, words: &[String], lines: &[Bytes]) -> anyhow::Result<Plan> {
+    let (count, batch, open) = counts(words)?;
     let sessions = word(words, 5).parse::<u16>()?;
     Ok(Plan {
         count,
@@ -97,6 +107,10 @@ fn measure(rt: &HostRuntime, mode: &str, plan: &Plan) -> anyhow::Result<()> {
     let (seen, open) = (bench.seen(), bench.open());
     drop(bench);
     outcome?;
+    print(rt, mode, seen, open)
+}
+
+fn print(rt: &HostRuntime, mode: &str, seen: Seen, open: usize) -> anyhow::Result<()> {
     let (done, refused, frames, sum) = (seen.done, seen.refused, seen.frames, seen.sum);
     writeln!(
         io::writer(rt),
@@ -107,17 +121,44 @@ fn measure(rt: &HostRuntime, mode: &str, plan: &Plan) -> anyhow::Result<()> {
 
 fn main(rt: HostRuntime) -> anyhow::Result<()> {
     let mut words = Vec::new(rt.alloc());
-    for word in env::args(&rt)? {
+    let outcome = match read_words(&rt, &mut words) {
+        Ok(()) => by_words(&rt, words.as_slice()),
+        Err(error) => Err(error),
+    };
+    drop(words);
+    outcome
+}
+
+fn read_words(rt: &HostRuntime, words: &mut Vec<String>) -> anyhow::Result<()> {
+    for word in env::args(rt)? {
         words.push(word)?;
     }
-    let lines = lines(&rt)?;
-    let plan = plan(rt.alloc(), words.as_slice(), lines.as_slice())?;
-    let mode = word(words.as_slice(), 1);
+    Ok(())
+}
+
+fn by_words(rt: &HostRuntime, words: &[String]) -> anyhow::Result<()> {
+    let mut lines = Vec::new(rt.alloc());
+    let outcome = match read_lines(rt, &mut lines) {
+        Ok(()) => by_plan(rt, words, lines.as_slice()),
+        Err(error) => Err(error),
+    };
+    drop(lines);
+    outcome
+}
+
+fn by_plan(rt: &HostRuntime, words: &[String], lines: &[Bytes]) -> anyhow::Result<()> {
+    let plan = plan(rt.alloc(), words, lines)?;
+    let outcome = measure_all(rt, word(words, 1), &plan);
+    drop(plan);
+    outcome
+}
+
+fn measure_all(rt: &HostRuntime, mode: &str, plan: &Plan) -> anyhow::Result<()> {
     if mode != "all" {
-        return measure(&rt, mode, &plan);
+        return measure(rt, mode, plan);
     }
     for mode in &MODES {
-        measure(&rt, mode, &plan)?;
+        measure(rt, mode, plan)?;
     }
     Ok(())
 }

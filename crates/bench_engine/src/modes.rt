@@ -30,9 +30,7 @@ struct Link<'a> {
 
 /// Opens the connection, and does in each session what the mode says. An unknown mode does nothing.
 pub fn run(alloc: Global, bench: &mut Bench, mode: &str, plan: &Plan) -> anyhow::Result<()> {
-    bench.give(Input::Open)?;
-    bench.give(Input::Received(plan.peer_open.clone()?))?;
-    bench.run()?;
+    open(bench, plan)?;
     for channel in 0..plan.sessions {
         let mut link = Link {
             alloc,
@@ -46,18 +44,33 @@ pub fn run(alloc: Global, bench: &mut Bench, mode: &str, plan: &Plan) -> anyhow:
     Ok(())
 }
 
+fn open(bench: &mut Bench, plan: &Plan) -> anyhow::Result<()> {
+    bench.give(Input::Open)?;
+    bench.give(Input::Received(plan.peer_open.clone()?))?;
+    bench.run()
+}
+
 impl<'a> Link<'a> {
     fn session(&self) -> SessionNo {
         SessionNo(u32::from(self.channel))
     }
 
     fn begin(&self, bench: &mut Bench) -> anyhow::Result<()> {
-        let name = String::from_str(self.alloc, "link")?;
-        let answer = frames::begin(self.alloc, self.channel)?;
         bench.give(Input::Begin(self.session(), SessionSettings::new()))?;
-        bench.give(Input::Received(answer))?;
-        bench.give(Input::AllocateIncomingLink(self.session(), name, Taker, InputHandle(0)))?;
+        self.give_begun(bench)?;
+        self.give_link(bench)?;
         bench.run()
+    }
+
+    /// The peer answers the Begin.
+    fn give_begun(&self, bench: &mut Bench) -> Result<(), AllocError> {
+        let answer = frames::begin(self.alloc, self.channel)?;
+        bench.give(Input::Received(answer))
+    }
+
+    fn give_link(&self, bench: &mut Bench) -> Result<(), AllocError> {
+        let name = String::from_str(self.alloc, "link")?;
+        bench.give(Input::AllocateIncomingLink(self.session(), name, Taker, InputHandle(0)))
     }
 
     fn measure(&mut self, bench: &mut Bench, mode: &str) -> anyhow::Result<()> {
