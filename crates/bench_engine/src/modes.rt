@@ -97,9 +97,8 @@ impl<'a> Link<'a> {
         }
     }
 
-    /// Gives an input, and runs where a batch is there.
-    fn pass(&self, bench: &mut Bench, input: Input<Taker>) -> anyhow::Result<()> {
-        bench.give(input)?;
+    /// Runs where a batch is there.
+    fn pass(&self, bench: &mut Bench) -> anyhow::Result<()> {
         if bench.given() >= self.plan.batch as usize {
             bench.take()?;
         }
@@ -109,19 +108,25 @@ impl<'a> Link<'a> {
     /// That many transfers go out unsettled.
     fn go_out(&mut self, bench: &mut Bench, count: u32) -> anyhow::Result<()> {
         for _ in 0..count {
-            let transfer = self.transfer(false)?;
-            self.pass(bench, transfer)?;
+            self.give_transfer(bench, false)?;
+            self.pass(bench)?;
         }
         bench.take()
     }
 
     fn receive(&self, bench: &mut Bench) -> anyhow::Result<()> {
         let frame = frames::on_channel(self.alloc, &self.plan.transfer, self.channel)?;
+        let outcome = self.receive_each(bench, &frame);
+        drop(frame);
+        outcome
+    }
+
+    fn receive_each(&self, bench: &mut Bench, frame: &Bytes) -> anyhow::Result<()> {
         for _ in 0..self.plan.count {
             for _ in 0..self.plan.batch {
                 bench.give(Input::Received(frame.clone()?))?;
             }
-            bench.give(self.accepted()?)?;
+            self.give_accepted(bench)?;
             bench.take()?;
         }
         Ok(())
@@ -130,7 +135,7 @@ impl<'a> Link<'a> {
     fn send(&mut self, bench: &mut Bench) -> anyhow::Result<()> {
         for _ in 0..self.plan.count {
             for _ in 0..self.plan.batch {
-                bench.give(self.transfer(true)?)?;
+                self.give_transfer(bench, true)?;
             }
             bench.take()?;
         }
@@ -143,7 +148,7 @@ impl<'a> Link<'a> {
             self.go_out(bench, self.plan.batch)?;
             for i in 0..self.plan.batch {
                 let number = first.wrapping_add(i);
-                bench.give(self.settled(number, number)?)?;
+                self.give_settled(bench, number, number)?;
             }
             bench.take()?;
         }
@@ -152,13 +157,13 @@ impl<'a> Link<'a> {
 
     /// The window is closed first; from then on each flow opens it for what waits.
     fn hold(&mut self, bench: &mut Bench) -> anyhow::Result<()> {
-        bench.give(self.flow(0, 0)?)?;
+        self.give_flow(bench, 0, 0)?;
         for _ in 0..self.plan.count {
             let first = self.next;
             for _ in 0..self.plan.batch {
-                bench.give(self.transfer(false)?)?;
+                self.give_transfer(bench, false)?;
             }
-            bench.give(self.flow(first, self.plan.batch)?)?;
+            self.give_flow(bench, first, self.plan.batch)?;
             bench.take()?;
         }
         Ok(())
@@ -167,8 +172,8 @@ impl<'a> Link<'a> {
     fn settle_forward(&self, bench: &mut Bench, first: u32) -> anyhow::Result<()> {
         for i in 0..self.plan.count {
             let number = first.wrapping_add(i);
-            let settled = self.settled(number, number)?;
-            self.pass(bench, settled)?;
+            self.give_settled(bench, number, number)?;
+            self.pass(bench)?;
         }
         bench.take()
     }
@@ -176,15 +181,15 @@ impl<'a> Link<'a> {
     fn settle_backward(&self, bench: &mut Bench) -> anyhow::Result<()> {
         for i in 0..self.plan.count {
             let number = self.next.wrapping_sub(1).wrapping_sub(i);
-            let settled = self.settled(number, number)?;
-            self.pass(bench, settled)?;
+            self.give_settled(bench, number, number)?;
+            self.pass(bench)?;
         }
         bench.take()
     }
 
     fn settle_range(&self, bench: &mut Bench, last: u32) -> anyhow::Result<()> {
         for _ in 0..self.plan.count {
-            bench.give(self.settled(0, last)?)?;
+            self.give_settled(bench, 0, last)?;
             bench.take()?;
         }
         Ok(())
@@ -192,20 +197,22 @@ impl<'a> Link<'a> {
 
     fn settle_after_peak(&mut self, bench: &mut Bench) -> anyhow::Result<()> {
         let first = self.next;
-        bench.give(self.settled(0, first)?)?;
+        self.give_settled(bench, 0, first)?;
         bench.take()?;
         self.go_out(bench, AFTER_PEAK)?;
         self.settle_forward(bench, first)
     }
 
-    /// The next transfer that goes out.
+    /// The next transfer goes out.
     #[inline(never)]
-    fn transfer(&mut self, settled: bool) -> Result<Input<Taker>, AllocError> {
+    fn give_transfer(&mut self, bench: &mut Bench, settled: bool) -> Result<(), AllocError> {
         self.next = self.next.wrapping_add(1);
+        let tag = self.plan.tag.clone()?;
+        let payload = self.plan.payload.clone()?;
         let transfer = Transfer {
             handle: Handle(0),
             delivery_id: None,
-            delivery_tag: Some(DeliveryTag(self.plan.tag.clone()?)),
+            delivery_tag: Some(DeliveryTag(tag)),
             message_format: Some(0),
             settled: Some(settled),
             more: false,
@@ -215,13 +222,13 @@ impl<'a> Link<'a> {
             aborted: false,
             batchable: false,
         };
-        let payload = self.plan.payload.clone()?;
-        Ok(Input::Transfer(self.session(), InputHandle(0), transfer, payload, true))
+        bench.give(Input::Transfer(self.session(), InputHandle(0), transfer, payload, true))
     }
 
     /// This side accepts a received batch.
-    fn accepted(&self) -> anyhow::Result<Input<Taker>> {
-        let (state, _rest) = Raw::read(Bytes::from_static(ACCEPTED))?;
+    fn give_accepted(&self, bench: &mut Bench) -> anyhow::Result<()> {
+        let (state, rest) = Raw::read(Bytes::from_static(ACCEPTED))?;
+        drop(rest);
         let disposition = Disposition {
             role: Role::Receiver,
             first: 0,
@@ -230,18 +237,19 @@ impl<'a> Link<'a> {
             state: Some(state),
             batchable: false,
         };
-        Ok(Input::Disposition(self.session(), disposition))
+        bench.give(Input::Disposition(self.session(), disposition))?;
+        Ok(())
     }
 
     /// The peer settles the deliveries from `first` to `last`.
-    fn settled(&self, first: u32, last: u32) -> Result<Input<Taker>, AllocError> {
+    fn give_settled(&self, bench: &mut Bench, first: u32, last: u32) -> Result<(), AllocError> {
         let frame = frames::settled(self.alloc, self.channel, first, last)?;
-        Ok(Input::Received(frame))
+        bench.give(Input::Received(frame))
     }
 
     /// The peer takes that many transfers from `next` on.
-    fn flow(&self, next: u32, window: u32) -> Result<Input<Taker>, AllocError> {
+    fn give_flow(&self, bench: &mut Bench, next: u32, window: u32) -> Result<(), AllocError> {
         let frame = frames::flow(self.alloc, self.channel, next, window)?;
-        Ok(Input::Received(frame))
+        bench.give(Input::Received(frame))
     }
 }
