@@ -128,6 +128,11 @@ fn cut_out(rows: &mut VecDeque<Delivery>, from: usize, count: usize)
     requires count { count ≤ length rows.old.items }
     ensures items { rows.new.items ≡ cut from count rows.old.items }
 {
+    // The oldest alone: a drain would pay for its own record.
+    if from == 0 && count == 1 {
+        drop(rows.pop_front());
+        return;
+    }
     let rest = rows.len() - from;
     if count <= rest {
         rows.drain(from..from + count);

@@ -1,6 +1,6 @@
 //! Transfers that wait for the window, and the frames that they go out as.
 
-ghost use Rattle.std.specs.Prelude.{◌≡◌, ℕ, ◌+◌, ◌%◌, ◌^◌, IfOk};
+ghost use Rattle.std.specs.Prelude.{◌≡◌, ℕ, ◌+◌, ◌%◌, ◌^◌, IfOk, if◌then◌else◌};
 ghost use Rattle.std.specs.Option.{option_map};
 ghost use Rattle.amqp_session.specs.Transfers.{frame_of, record_of, first_of, kept_tag};
 
@@ -54,13 +54,70 @@ pub(crate) struct Numbered {
 
 /// The tag under which a delivery is recorded: that of its first transfer, unless it is settled already.
 #[inline(always)]
-fn tag_to_keep(transfer: &Transfer, is_first: bool) -> Result<Option<DeliveryTag>, AllocError>
+pub(crate) fn tag_to_keep(
+    transfer: &Transfer,
+    is_first: bool,
+) -> Result<Option<DeliveryTag>, AllocError>
     ensures { IfOk result (λ tag. option_map (λ t. t.0) tag ≡ kept_tag is_first transfer.now) }
 {
     if !is_first || transfer.settled.unwrap_or(false) {
         return Ok(None);
     }
     transfer.delivery_tag.clone()
+}
+
+/// The frame of a transfer, where `delivery` is the number of the next delivery: the first frame of a delivery gets it, and any
+/// other none.
+#[inline(always)]
+pub(crate) fn frame_of(
+    channel: OutgoingChannel,
+    delivery: u32,
+    transfer: Transfer,
+    payload: Bytes,
+    is_first: bool,
+) -> SessionFrame
+    ensures { result ≡ frame_of channel.0 delivery (record { input_handle = 0; transfer = transfer; payload = payload; is_first = is_first }) }
+{
+    let mut performative = transfer;
+    performative.delivery_id = if is_first { Some(delivery) } else { None };
+    SessionFrame::new(
+        channel.0,
+        SessionFrameBody::Transfer {
+            performative,
+            payload,
+        },
+    )
+}
+
+/// The delivery under the tag that is kept of its first transfer, if any.
+#[inline(always)]
+pub(crate) fn record_of(
+    delivery: u32,
+    input_handle: InputHandle,
+    tag: Option<DeliveryTag>,
+) -> Option<Delivery>
+    ensures { result ≡ option_map (λ tag. record { number = delivery; input_handle = input_handle; tag = tag }) tag }
+{
+    match tag {
+        None => None,
+        Some(tag) => Some(Delivery {
+            number: delivery,
+            input_handle,
+            tag,
+        }),
+    }
+}
+
+/// The number of the next delivery, behind this transfer.
+#[inline(always)]
+pub(crate) fn next_delivery(delivery: u32, is_first: bool) -> u32
+    ensures { result ≡ (delivery + (if is_first then 1 else 0)) % 2 ^ 32 }
+{
+    if is_first {
+        delivery.wrapping_add(1)
+    } else {
+        delivery
+    }
 }
 
 impl HeldTransfer {
@@ -93,30 +150,15 @@ impl HeldTransfer {
     {
         let HeldTransfer {
             input_handle,
-            mut transfer,
+            transfer,
             payload,
             is_first,
             tag,
         } = self;
-        transfer.delivery_id = if is_first { Some(delivery) } else { None };
         Numbered {
-            frame: SessionFrame::new(
-                channel.0,
-                SessionFrameBody::Transfer {
-                    performative: transfer,
-                    payload,
-                },
-            ),
-            delivery: tag.map(|tag| Delivery {
-                number: delivery,
-                input_handle,
-                tag,
-            }),
-            next: if is_first {
-                delivery.wrapping_add(1)
-            } else {
-                delivery
-            },
+            frame: frame_of(channel, delivery, transfer, payload, is_first),
+            delivery: record_of(delivery, input_handle, tag),
+            next: next_delivery(delivery, is_first),
         }
     }
 }

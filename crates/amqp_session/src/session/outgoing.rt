@@ -1,11 +1,12 @@
 //! What a session sends for its links, and its own flows (AMQP 1.0 part 2, section 2.5.6).
 
-ghost use Rattle.std.specs.Prelude.{◌≡◌, ◌/◌};
+ghost use Rattle.std.specs.Prelude.{◌≡◌, ◌/◌, [], true};
 ghost use Rattle.amqp_session.specs.Session.{session_flow, flow_frame, is_due};
-ghost use Rattle.amqp_session.specs.Step.{SendFlowStep, SendTransferStep, SessionFlowStep};
+ghost use Rattle.amqp_session.specs.States.{is_mapped};
+ghost use Rattle.amqp_session.specs.Step.{IsUntagged, SendFlowStep, SendTransferStep, SessionFlowStep};
 
 use super::Session;
-use super::held::HeldTransfer;
+use super::held::tag_to_keep;
 use crate::error::SessionInnerError;
 use crate::flow::LinkFlow;
 use crate::frame::{SessionFrame, SessionFrameBody, SessionOutgoingItem};
@@ -56,11 +57,54 @@ impl<R: LinkRelay> Session<R> {
         if !self.can_send() || (is_first && transfer.delivery_tag.is_none()) {
             return Err(SessionInnerError::IllegalState);
         }
-        let Ok(held) = HeldTransfer::new(input_handle, transfer, payload, is_first) else {
+        if !self.sending.has_way() {
+            return self.send_later(input_handle, transfer, payload, is_first);
+        }
+        let Ok(()) = self.sent.reserve(1) else {
             return Err(SessionInnerError::OutOfMemory);
         };
+        let Ok(tag) = tag_to_keep(&transfer, is_first) else {
+            return Err(SessionInnerError::OutOfMemory);
+        };
+        Ok(Some(SessionOutgoingItem::SingleFrame(
+            self.sending.send_alone(
+                self.outgoing_channel,
+                input_handle,
+                transfer,
+                payload,
+                is_first,
+                tag,
+                &mut self.sent,
+            ),
+        )))
+    }
+
+    /// Takes a transfer that does not go out alone.
+    // No part of `on_outgoing_transfer`, which would pay at its entry for the size of these locals.
+    #[inline(never)]
+    fn send_later(
+        &mut self,
+        input_handle: InputHandle,
+        transfer: Transfer,
+        payload: Bytes,
+        is_first: bool,
+    ) -> Result<Option<SessionOutgoingItem>, SessionInnerError>
+        requires mapped { is_mapped self.old.view.state ≡ true }
+        requires tagged { ¬ (IsUntagged (record { input_handle = input_handle.0; transfer = transfer; payload = payload; is_first = is_first })) }
+        requires waits { self.old.view.sending.held ≡ [] → self.old.view.sending.remote_incoming_window ≡ 0 }
+        ensures step { SendTransferStep self.old.view (record { input_handle = input_handle.0; transfer = transfer; payload = payload; is_first = is_first }) result self.new.view }
+        ensures walk { self.new.last_walk ≡ self.old.last_walk }
+    {
         let channel = self.outgoing_channel;
-        match self.sending.send(self.alloc, channel, held, &mut self.sent) {
+        match self.sending.send_later(
+            self.alloc,
+            channel,
+            input_handle,
+            transfer,
+            payload,
+            is_first,
+            &mut self.sent,
+        ) {
             Ok(item) => Ok(item),
             Err(_) => Err(SessionInnerError::OutOfMemory),
         }

@@ -1,17 +1,20 @@
 //! The sending half of a session: the one place that numbers a transfer and lowers the window.
 
-ghost use Rattle.std.specs.Prelude.{◌≡◌, ℕ, ◌+◌, ◌-◌, ◌^◌, ◌%◌, ◌<◌, ◌≤◌, ◌++◌, [], ◌∷◌, length, take, drop, vec_len, vec_capacity, unwrap_or, OnOk, OnErr, IfOk};
+ghost use Rattle.std.specs.Prelude.{◌≡◌, ℕ, ◌+◌, ◌-◌, ◌^◌, ◌%◌, ◌<◌, ◌≤◌, ◌++◌, [], ◌∷◌, length, take, drop, vec_len, vec_capacity, unwrap_or, OnOk, OnErr, IfOk, IsTrue, false};
+ghost use Rattle.std.specs.Option.{option_map};
 ghost use Rattle.std.specs.VecDeque.{deque_len, deque_capacity};
-ghost use Rattle.amqp_session.specs.Transfers.{numbered, firsts, opened};
+ghost use Rattle.amqp_session.specs.Transfers.{numbered, firsts, opened, kept_tag};
 ghost use Rattle.amqp_session.specs.Deliveries.{with_record};
 ghost use Rattle.amqp_session.specs.Items.{HandsOut};
 ghost use Rattle.amqp_session.specs.Step.{is_some_held};
 ghost use Rattle.amqp_session.specs.Sending.{new_sending, joined, begun, moved, ready_count, let_out, opened_by, drained};
 
-use super::held::HeldTransfer;
+use super::held::{HeldTransfer, frame_of, next_delivery, record_of};
 use crate::deliveries::{Deliveries, Delivery};
 use crate::frame::{SessionFrame, SessionOutgoingItem};
-use crate::numbers::OutgoingChannel;
+use crate::numbers::{InputHandle, OutgoingChannel};
+use amqp_types::{DeliveryTag, Transfer};
+use bytes::Bytes;
 use std::alloc::{AllocError, Global};
 use std::collections::VecDeque;
 use std::marker::Model;
@@ -181,27 +184,41 @@ impl Sending {
         Ok(())
     }
 
-    /// The transfer goes out alone: none waits, and the window is not used up.
+    /// Whether a transfer goes out alone: none waits, and the window is not used up.
     #[inline(always)]
-    fn send_alone(
+    pub(crate) fn has_way(&self) -> bool
+        ensures way { IsTrue result → (self.now.held ≡ []) × (0 < self.now.remote_incoming_window) }
+        ensures no_way { result ≡ false → self.now.held ≡ [] → self.now.remote_incoming_window ≡ 0 }
+    {
+        self.remote_incoming_window != 0 && self.held.is_empty()
+    }
+
+    /// The transfer goes out alone, with the tag of its record: none waits, and the window is not used up.
+    #[inline(always)]
+    pub(crate) fn send_alone(
         &mut self,
         channel: OutgoingChannel,
-        held: HeldTransfer,
+        input_handle: InputHandle,
+        transfer: Transfer,
+        payload: Bytes,
+        is_first: bool,
+        tag: Option<DeliveryTag>,
         deliveries: &mut Deliveries,
     ) -> SessionFrame
         requires alone { self.old.held ≡ [] }
         requires open_window { 0 < self.old.remote_incoming_window }
         requires records { length deliveries.old.rows < deliveries.old.capacity }
-        ensures frame { let_out channel.0 (joined self.old held) ≡ result ∷ [] }
-        ensures drained { self.new ≡ drained (joined self.old held) }
-        ensures opened { deliveries.new.rows ≡ opened_by (joined self.old held) deliveries.old.rows }
+        requires tag { option_map (λ t. t.0) tag ≡ kept_tag is_first transfer }
+        ensures frame { let_out channel.0 (joined self.old (record { input_handle = input_handle.0; transfer = transfer; payload = payload; is_first = is_first })) ≡ result ∷ [] }
+        ensures drained { self.new ≡ drained (joined self.old (record { input_handle = input_handle.0; transfer = transfer; payload = payload; is_first = is_first })) }
+        ensures opened { deliveries.new.rows ≡ opened_by (joined self.old (record { input_handle = input_handle.0; transfer = transfer; payload = payload; is_first = is_first })) deliveries.old.rows }
     {
-        let out = held.numbered(channel, self.next_delivery);
-        record_opened(deliveries, out.delivery);
-        self.next_delivery = out.next;
+        let delivery = self.next_delivery;
+        record_opened(deliveries, record_of(delivery, input_handle, tag));
+        self.next_delivery = next_delivery(delivery, is_first);
         self.next_outgoing_id = self.next_outgoing_id.wrapping_add(1);
         self.remote_incoming_window -= 1;
-        out.frame
+        frame_of(channel, delivery, transfer, payload, is_first)
     }
 
     /// The transfer goes behind those that wait, and the window lets out what it can. When memory is refused nothing changes.
@@ -228,31 +245,30 @@ impl Sending {
         Ok(frames)
     }
 
-    /// Takes a transfer: it waits while the window is used up; else those that wait go out first, and then it, while the
-    /// window lasts. On a refusal nothing changes.
+    /// Takes a transfer that does not go out alone: it waits while the window is used up; else those that wait go out first, and
+    /// then it, while the window lasts. On a refusal nothing changes.
     #[inline(always)]
-    pub(crate) fn send(
+    pub(crate) fn send_later(
         &mut self,
         alloc: Global,
         channel: OutgoingChannel,
-        held: HeldTransfer,
+        input_handle: InputHandle,
+        transfer: Transfer,
+        payload: Bytes,
+        is_first: bool,
         deliveries: &mut Deliveries,
     ) -> Result<Option<SessionOutgoingItem>, AllocError>
-        ensures item { IfOk result (λ item. HandsOut (is_some_held self.old.held) (let_out channel.0 (joined self.old held)) item) }
-        ensures drained { OnOk result (self.new ≡ drained (joined self.old held)) }
-        ensures opened { OnOk result (deliveries.new.rows ≡ opened_by (joined self.old held) deliveries.old.rows) }
+        requires waits { self.old.held ≡ [] → self.old.remote_incoming_window ≡ 0 }
+        ensures item { IfOk result (λ item. HandsOut (is_some_held self.old.held) (let_out channel.0 (joined self.old (record { input_handle = input_handle.0; transfer = transfer; payload = payload; is_first = is_first }))) item) }
+        ensures drained { OnOk result (self.new ≡ drained (joined self.old (record { input_handle = input_handle.0; transfer = transfer; payload = payload; is_first = is_first }))) }
+        ensures opened { OnOk result (deliveries.new.rows ≡ opened_by (joined self.old (record { input_handle = input_handle.0; transfer = transfer; payload = payload; is_first = is_first })) deliveries.old.rows) }
         ensures err { OnErr result (self.new ≡ self.old) }
         ensures err_rows { OnErr result (deliveries.new.rows ≡ deliveries.old.rows) }
     {
+        let held = HeldTransfer::new(input_handle, transfer, payload, is_first)?;
         if self.remote_incoming_window == 0 {
             self.hold_back(held)?;
             return Ok(None);
-        }
-        if self.held.is_empty() {
-            deliveries.reserve(1)?;
-            return Ok(Some(SessionOutgoingItem::SingleFrame(self.send_alone(
-                channel, held, deliveries,
-            ))));
         }
         Ok(Some(SessionOutgoingItem::MultipleFrames(self.send_behind(
             alloc, channel, held, deliveries,
