@@ -9,9 +9,6 @@ use Rattle.amqp_types.specs.declared.states.SessionState.TheVariants.{Unmapped}
 use Rattle.amqp_types.specs.Error.{ErrorSaid}
 use Rattle.amqp_types.specs.Open.{OpenSaid}
 use Rattle.amqp_types.specs.Begin.{BeginSaid}
-use Rattle.amqp_types.specs.Attach.{AttachSaid}
-use Rattle.amqp_types.specs.Disposition.{DispositionSaid}
-use Rattle.amqp_types.specs.Detach.{DetachSaid}
 use Rattle.amqp_types.specs.End.{EndSaid}
 use Rattle.amqp_types.specs.Close.{CloseSaid}
 use Rattle.amqp_session.specs.declared.stop.ConnectionStopReason.{ConnectionStopReason}

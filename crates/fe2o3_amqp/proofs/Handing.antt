@@ -1,5 +1,5 @@
 -- What a session hands out waits where the engine keeps it.
-use Rattle.std.proofs.Common.{◌≡◌, ℕ, List, Option, Some, None, Result, Ok, Err, refl, ap, sym, subst, ◌∙◌, inl, inr, nat_eq}
+use Rattle.std.proofs.Common.{◌≡◌, ℕ, List, Some, None, Result, Ok, Err, refl, sym, subst, inl, inr, nat_eq}
 use Rattle.std.specs.Map.{lookup, set_value}
 use Rattle.amqp_frames.specs.declared.frame.Frame.{Frame}
 use Rattle.amqp_session.specs.Relay.{Relays}

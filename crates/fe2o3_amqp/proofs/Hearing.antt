@@ -1,11 +1,9 @@
 -- The wishes that a run has heard so far, and the run of the inputs behind them.
-use Rattle.std.proofs.Common.{◌≡◌, ◌⊎◌, ◌+◌, ℕ, List, All, [], ◌∷◌, ◌++◌, length, refl, ap, sym, subst, ◌∙◌, arith, append_assoc, Option, Some, None, Result, Ok, Err, MatchResult, OnOk, inl, inr, false, map as each}
+use Rattle.std.proofs.Common.{◌≡◌, ℕ, List, All, [], ◌∷◌, ◌++◌, refl, ap, sym, subst, ◌∙◌, append_assoc, Option, Some, None, Result, Ok, Err, OnOk, inl, inr, false, map as each}
 use Rattle.std.proofs.lemmas.List.{append-nil}
 use Rattle.std.proofs.lemmas.List.Elements.{All-nil, All-push, All-append}
 use Rattle.std.specs.FinMap as finite
 use Rattle.amqp_types.specs.Error.{ErrorSaid}
-use Rattle.amqp_types.specs.declared.states.ConnectionState.{ConnectionState}
-use Rattle.amqp_types.specs.Open.{OpenSaid}
 use Rattle.amqp_frames.specs.declared.frame.Frame.{Frame}
 use Rattle.amqp_session.specs.Relay.{Relays}
 use Rattle.fe2o3_amqp.specs.declared.engine.input.Input.{Input}
@@ -23,7 +21,7 @@ use Rattle.fe2o3_amqp.specs.Event.{event}
 use Rattle.fe2o3_amqp.specs.ByHistory.{limit_by, limit_after}
 use Rattle.fe2o3_amqp.specs.Output.{IsOuts, PutOut, Speaks, answer_of}
 use Rattle.fe2o3_amqp.specs.Headline.{IsTaken, inputs_of, outcomes_from, Runs, Ran}
-use Rattle.fe2o3_amqp.specs.HandledRun.{end_request, close_requests, accepted, if_accepted, NoWishes, ClosesLast, Hears, HandledRan, AskedSo, Asked, Hearing, IsWish}
+use Rattle.fe2o3_amqp.specs.HandledRun.{end_request, accepted, if_accepted, NoWishes, Hears, HandledRan, AskedSo, Asked, Hearing, IsWish}
 use Rattle.fe2o3_amqp.proofs.Outputs.{Taken-none, Taken-more}
 use Rattle.fe2o3_amqp.proofs.Passages.{taken}
 use Rattle.fe2o3_amqp.proofs.Staying.{step_wishes}

@@ -1,5 +1,5 @@
 -- The outcomes that are kept of a Close and of an End.
-use Rattle.std.proofs.Common.{◌≡◌, ◌⊎◌, ℕ, List, [], ◌∷◌, Option, Some, None, IsSome, is_some, Result, Ok, Err, refl, ap, sym, subst, ◌∙◌, inl, inr, nat_eq, Bool, true, false, cond}
+use Rattle.std.proofs.Common.{◌≡◌, ◌⊎◌, ℕ, List, Option, Some, None, IsSome, is_some, Result, Ok, Err, refl, ap, sym, subst, ◌∙◌, inl, inr, nat_eq, Bool, true, false, cond}
 use Rattle.std.specs.Map.{lookup, set_value}
 use Rattle.std.specs.Ordering.{nat_cmp}
 use Rattle.std.specs.Cmp.{nat_cmp_total, eq_by_cmp_equiv}
@@ -26,7 +26,7 @@ use Rattle.fe2o3_amqp.specs.Connection.{ConnectionView, IncomingCloseStep, told}
 use Rattle.fe2o3_amqp.specs.Kept.{Outcomes, Wishes, CloseOutcome, EndOutcome, close_answer, end_answer, close_kept, end_kept}
 use Rattle.fe2o3_amqp.specs.Places.{IsCloseCopy, IsEndCopy, Seated}
 use Rattle.fe2o3_amqp.specs.EngineView.{EngineView, views_of}
-use Rattle.fe2o3_amqp.specs.Calls.{ReceivedEndCalls, state_refusal, recorded_remote_end, is_end_received}
+use Rattle.fe2o3_amqp.specs.Calls.{ReceivedEndCalls, state_refusal}
 use Rattle.fe2o3_amqp.specs.Sessions.{Called, Unknown, Reaches, Acts, Asks}
 use Rattle.fe2o3_amqp.specs.Engine.{ReceivedCloseStep, kept}
 use Rattle.amqp_session.proofs.AsMap.{same_test}

@@ -6,6 +6,7 @@ pub mod Placed
 pub mod Asked
 pub mod Asking
 pub mod Handing
+pub mod HandedAlong
 pub mod Passing
 pub mod Beginning
 pub mod Engines

@@ -1,5 +1,5 @@
 -- A place that is written, and what the places give then.
-use Rattle.std.proofs.Common.{◌≡◌, ℕ, ◌+◌, ◌<◌, ◌≤◌, cond, length, length-append, List, [], ◌∷◌, ◌++◌, Option, Some, None, IsSome, is_some, refl, ap, sym, subst, ◌∙◌, nat_eq, Bool, true, false, arith, inl, inr}
+use Rattle.std.proofs.Common.{◌≡◌, ℕ, ◌+◌, ◌<◌, ◌≤◌, length, length-append, List, [], ◌∷◌, ◌++◌, Option, Some, None, IsSome, is_some, refl, ap, sym, subst, ◌∙◌, nat_eq, true, false, arith, inl, inr}
 use Rattle.std.specs.Ordering.{nat_cmp}
 use Rattle.std.specs.Map.{lookup, set_value}
 use Rattle.std.specs.FinMap as map

@@ -132,11 +132,15 @@ begin_found : {R : Type 0} (g : Relays R) (v w : EngineView R) (c : ℕ) (b : Be
 begin_found g v w c b n reached calls r is (inl s) = absurd (some_none (sym is ∙ s.3))
 begin_found g v w c b n reached calls r is (inr s) = (s.2.1.0, s.2.1.1, s.2.1.2 ∙ ap (λ x. Some x) (same_value s.0 n (sym s.3 ∙ is)))
 
+found_then : (d n : ℕ) (held : Option ℕ) (k k' : ConnectionView) → held ≡ map.get k.session_by_outgoing_channel d → k' ≡ k
+    → map.get k'.session_by_outgoing_channel d ≡ Some n → held ≡ Some n
+found_then d n held k k' is same found = is ∙ ap (λ (y : ConnectionView). map.get y.session_by_outgoing_channel d) (sym same) ∙ found
+
 pub routes_follow : {R : Type 0} (g : Relays R) (made : ConnectionState) (o : OpenSaid) (H : List (Entry R)) (w : EngineView R) → LeadsTo g made o H w → RoutesFollow H
 routes_follow g made o H w l before after e is c b received n reached =
     let r = chain_split g before (e ∷ after) (new_engine made o) w (subst (λ (es : List (Entry _)). Chain g (new_engine made o) es w) is l) in
     let x = begin_found g r.2.0 r.2.1 c b n e.reached e.calls e.refusal reached (received_frame g r.2.0 r.2.1 e _ received r.2.3) in
-    (x.0, x.1, sym (holds g x.0 made o before r.0 r.1) ∙ ap (λ (y : ConnectionView). map.get y.session_by_outgoing_channel x.0) (sym r.2.2.connection_is) ∙ x.2)
+    (x.0, x.1, found_then x.0 n _ r.0.connection r.2.0.connection (sym (holds g x.0 made o before r.0 r.1)) r.2.2.connection_is x.2)
 
 -- ---- what a frame reaches is there
 

@@ -2,7 +2,6 @@
 use Rattle.std.proofs.Common.{◌≡◌, ◌⊎◌, ℕ, List, Option, Some, None, Result, ap, inl, inr}
 use Rattle.amqp_types.specs.Error.{ErrorSaid}
 use Rattle.amqp_types.specs.Open.{OpenSaid}
-use Rattle.amqp_types.specs.Close.{CloseSaid}
 use Rattle.amqp_session.specs.Settings.{SettingsSaid}
 use Rattle.amqp_session.specs.declared.error.SessionStateError.TheVariants as unbegun
 use Rattle.amqp_session.specs.Relay.{Relays}
@@ -19,7 +18,7 @@ use Rattle.fe2o3_amqp.specs.Connection.{ConnectionView}
 use Rattle.fe2o3_amqp.specs.EngineView.{EngineView}
 use Rattle.fe2o3_amqp.specs.Calls.{Calls}
 use Rattle.fe2o3_amqp.specs.Sessions.{Called, Unknown, Does, Reaches, BeginRequest, ReleaseRequest}
-use Rattle.fe2o3_amqp.specs.Engine.{Entry, Step, Carries, Received, ReceivedFrame, ReceivedOpen, ReceivedClose, OpenRequest, CloseRequest, Finds}
+use Rattle.fe2o3_amqp.specs.Engine.{Entry, Step, Carries, ReceivedFrame, ReceivedOpen, OpenRequest, CloseRequest, Finds}
 
 abbrev Same : {R : Type 0} → EngineView R → EngineView R → Type 0
 Same v w = (w.outcomes ≡ v.outcomes) × (w.wishes ≡ v.wishes)

@@ -1,8 +1,8 @@
 -- The sessions of an engine, without the counts of their walks.
-use Rattle.std.proofs.Common.{◌≡◌, ℕ, List, [], ◌∷◌, ◌++◌, Bool, true, false, Option, Some, None, IfSome, IsSome, is_some, cond, refl, ap, sym, subst, ◌∙◌, nat_eq, Bor}
+use Rattle.std.proofs.Common.{◌≡◌, ℕ, List, [], ◌∷◌, ◌++◌, Bool, true, false, Option, Some, None, IfSome, IsSome, is_some, refl, ap, sym, subst, ◌∙◌, nat_eq, Bor}
 use Rattle.std.specs.Option.{option_map, option_copied}
 use Rattle.std.specs.Map.{lookup, set_value}
-use Rattle.amqp_session.specs.Session.{SessionView, Observed}
+use Rattle.amqp_session.specs.Session.{Observed}
 use Rattle.fe2o3_amqp.specs.EngineView.{views_of}
 
 pub viewed : {R : Type 0} (n : ℕ) (es : List (ℕ × Observed R)) → lookup (nat_eq n) (views_of es) ≡ option_map (λ o. o.view) (lookup (nat_eq n) es)

@@ -11,7 +11,6 @@ use Rattle.amqp_session.specs.declared.stop.ConnectionStopReason.{ConnectionStop
 use Rattle.amqp_session.specs.declared.stop.ConnectionStopReason.TheVariants as stop
 use Rattle.amqp_session.specs.Relay.{Relays}
 use Rattle.amqp_session.specs.History as session
-use Rattle.amqp_frames.specs.declared.error.Error.{Error}
 use Rattle.amqp_frames.specs.declared.frame.Frame.{Frame}
 use Rattle.amqp_frames.specs.declared.frame.FrameBody.{FrameBody}
 use Rattle.amqp_frames.specs.declared.frame.FrameBody.TheVariants as body

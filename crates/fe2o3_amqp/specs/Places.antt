@@ -12,7 +12,7 @@ use Rattle.fe2o3_amqp.specs.declared.connection.error.ConnectionStateError.TheVa
 use Rattle.fe2o3_amqp.specs.declared.engine.step_error.StepError.{StepError}
 use Rattle.fe2o3_amqp.specs.declared.engine.step_error.StepError.TheVariants as no
 use Rattle.fe2o3_amqp.specs.Channels.{mark}
-use Rattle.fe2o3_amqp.specs.Kept.{Outcomes, Wishes, CloseOutcome, EndOutcome}
+use Rattle.fe2o3_amqp.specs.Kept.{Outcomes, Wishes, CloseOutcome}
 
 -- ---- what stands in the places
 

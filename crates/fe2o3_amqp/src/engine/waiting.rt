@@ -84,12 +84,12 @@ fn next_of(behind: &mut Behind) -> Option<Frame>
     }
 }
 
-/// This stands in front. What stood there is dropped in place.
+/// This stands in the place. What stood there is dropped where it stands.
 #[inline(always)]
-fn set(front: &mut Option<Frame>, next: Option<Frame>)
-    ensures { front.new ≡ next }
+fn set<T: Drop>(place: &mut T, next: T)
+    ensures { place.new ≡ next }
 {
-    *front = next;
+    *place = next;
 }
 
 /// This frame of a session stands in front.
@@ -122,14 +122,6 @@ fn place_other(front: &mut Option<Frame>, channel: u16, body: SessionFrameBody)
     ensures { front.new ≡ Some (frame_of (record { channel = channel; body = body })) }
 {
     set(front, Some(Frame::new(channel, body_of(body))));
-}
-
-/// These stand behind. Those that stood there are dropped in place.
-#[inline(always)]
-fn set_behind(behind: &mut Behind, next: Behind)
-    ensures { behind.new ≡ next }
-{
-    *behind = next;
 }
 
 impl Waiting {
@@ -197,7 +189,7 @@ impl Waiting {
     {
         let Waiting { front, behind } = frames;
         set(&mut self.front, front);
-        set_behind(&mut self.behind, behind);
+        set(&mut self.behind, behind);
     }
 
     /// Whether frames wait.
@@ -262,7 +254,7 @@ impl Waiting {
         ensures { self.new ≡ frame_of frame ∷ [] }
     {
         place(&mut self.front, frame);
-        set_behind(&mut self.behind, Behind::Nothing);
+        set(&mut self.behind, Behind::Nothing);
     }
 
     #[inline(never)]

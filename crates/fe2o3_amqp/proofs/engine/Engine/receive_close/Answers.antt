@@ -1,4 +1,4 @@
-use Rattle.std.proofs.Common.{rules, ◌≡◌, None, Some, IsSome, [], refl, ap, subst, sym, ◌∙◌}
+use Rattle.std.proofs.Common.{rules, ◌≡◌, None, Some, IsSome, [], refl, ap, subst, ◌∙◌}
 use Rattle.fe2o3_amqp.specs.declared.engine.step_error.StepError.TheVariants as no
 use Rattle.fe2o3_amqp.specs.Connection.{refusal_of}
 use Rattle.fe2o3_amqp.specs.EngineView.{EngineView}

@@ -1,9 +1,7 @@
-use Rattle.std.proofs.Common.{rules, ◌≡◌, ℕ, List, [], inl, Option, Some, None, IsSome, Result, Ok, Err, refl, ap, sym, subst, ◌∙◌, is_some, nat_eq}
+use Rattle.std.proofs.Common.{rules, ◌≡◌, ℕ, [], inl, Some, None, IsSome, Result, Ok, Err, refl, ap, sym, subst, ◌∙◌, nat_eq}
 use Rattle.std.specs.Map.{lookup}
-use Rattle.std.specs.FinMap as map
 use Rattle.amqp_session.specs.declared.frame.SessionFrame.{SessionFrame}
 use Rattle.amqp_session.specs.declared.frame.SessionFrameBody.TheVariants as said
-use Rattle.amqp_session.specs.History as session
 use Rattle.fe2o3_amqp.specs.declared.connection.error.ConnectionInnerError.{ConnectionInnerError}
 use Rattle.fe2o3_amqp.specs.EngineView.{EngineView}
 use Rattle.fe2o3_amqp.specs.Sessions.{Reaches}

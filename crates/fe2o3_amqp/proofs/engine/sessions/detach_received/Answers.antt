@@ -1,4 +1,4 @@
-use Rattle.std.proofs.Common.{ap, rules, Some, None, false, Ok, Err, refl, sym, subst, ◌∙◌, [], ◌∷◌}
+use Rattle.std.proofs.Common.{ap, Some, None, false, Ok, refl, sym, subst, ◌∙◌, [], ◌∷◌}
 use Rattle.std.proofs.lemmas.List.{append-nil}
 use Rattle.amqp_session.specs.History as session
 use Rattle.amqp_session.specs.Items.{first_frame}

@@ -1,4 +1,4 @@
-use Rattle.std.proofs.Common.{ap, rules, Ok, Err, refl, sym, ◌∙◌, [], ◌∷◌}
+use Rattle.std.proofs.Common.{ap, Ok, refl, sym, ◌∙◌, [], ◌∷◌}
 use Rattle.std.proofs.lemmas.List.{append-nil}
 use Rattle.amqp_session.specs.History as session
 use Rattle.amqp_session.specs.Items.{first_frame}

@@ -1,8 +1,6 @@
-use Rattle.std.proofs.Common.{rules, ◌≡◌, ◌≤◌, length, refl, ap, sym, ◌∙◌, arith}
-use Rattle.amqp_types.specs.Disposition.{DispositionSaid}
+use Rattle.std.proofs.Common.{ap, sym, ◌∙◌, arith}
 use Rattle.amqp_session.specs.declared.frame.SessionFrame.{SessionFrame}
-use Rattle.amqp_session.specs.declared.frame.SessionFrameBody.TheVariants as said
-use Rattle.fe2o3_amqp.proofs.Echoing.{turning_start, turning_more, turning_end, same_disposition}
+use Rattle.fe2o3_amqp.proofs.Echoing.{turning_more, same_disposition}
 use Rattle.fe2o3_amqp.proofs.engine.sessions.send_each.Goals as goal
 
 pub loop-turn-preserved : goal.loop-turn-preserved

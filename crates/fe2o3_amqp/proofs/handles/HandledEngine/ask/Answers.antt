@@ -1,4 +1,4 @@
-use Rattle.std.proofs.Common.{◌≡◌, ◌++◌, List, None, Some, refl, ap, subst, ◌∙◌}
+use Rattle.std.proofs.Common.{◌++◌, List, None, Some, refl, ap, subst, ◌∙◌}
 use Rattle.fe2o3_amqp.specs.declared.engine.answer.Answer.{Answer}
 use Rattle.fe2o3_amqp.specs.EngineView.{EngineView}
 use Rattle.fe2o3_amqp.specs.Engine.{Steps}

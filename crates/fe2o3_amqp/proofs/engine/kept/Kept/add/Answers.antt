@@ -1,6 +1,5 @@
-use Rattle.std.proofs.Common.{rules, refl, ap, sym, subst, ◌≡◌, ◌<◌, ◌∙◌, None, List, Some, true, ℕ, length, nat_eq}
+use Rattle.std.proofs.Common.{rules, refl, ap, ◌<◌, ◌∙◌, None, true, length}
 use Rattle.std.specs.FinMap as map
-use Rattle.std.specs.Map.{lookup}
 use Rattle.std.specs.BinaryHeap.{heap_capacity}
 use Rattle.fe2o3_amqp.specs.declared.engine.kept.Place.{Place}
 use Rattle.fe2o3_amqp.proofs.Beginning.{appended}

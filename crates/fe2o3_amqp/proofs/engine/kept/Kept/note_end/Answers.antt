@@ -1,4 +1,4 @@
-use Rattle.std.proofs.Common.{rules, ◌≡◌, ◌+◌, ◌-◌, refl, ap, sym, subst, ◌∙◌, Some, true, false, arith, inl, inr, IsSome}
+use Rattle.std.proofs.Common.{rules, ◌≡◌, ◌+◌, ◌-◌, refl, ap, sym, subst, ◌∙◌, Some, true, arith, IsSome}
 use Rattle.std.specs.FinMap as map
 use Rattle.std.specs.BinaryHeap.{heap_items}
 use Rattle.fe2o3_amqp.specs.Kept.{end_wished}

@@ -1,8 +1,8 @@
-use Rattle.std.proofs.Common.{rules, ◌≡◌, ◌+◌, ◌-◌, refl, ap, sym, subst, ◌∙◌, Some, None, true, false, arith, inl, inr, IsSome}
+use Rattle.std.proofs.Common.{rules, ◌≡◌, ◌+◌, ◌-◌, refl, ap, sym, subst, ◌∙◌, Some, None, true}
 use Rattle.std.specs.FinMap as map
 use Rattle.std.specs.BinaryHeap.{heap_items, heap_len}
 use Rattle.fe2o3_amqp.specs.Places.{TakesEnd, Swaps, Queued, pick}
-use Rattle.fe2o3_amqp.proofs.Queue.{no_entry, none_noted, popped_noted}
+use Rattle.fe2o3_amqp.proofs.Queue.{no_entry, none_noted}
 use Rattle.fe2o3_amqp.proofs.Lowest.{empty}
 use Rattle.fe2o3_amqp.proofs.Placed.{same_pick, queued_taken, took_first}
 use Rattle.fe2o3_amqp.proofs.engine.kept.Kept.take_end.Goals as goal

@@ -1,4 +1,4 @@
-use Rattle.std.proofs.Common.{rules, refl, ap, sym, ◌∙◌, Some, true}
+use Rattle.std.proofs.Common.{refl, ap, ◌∙◌, Some, true}
 use Rattle.std.specs.FinMap as map
 use Rattle.fe2o3_amqp.proofs.Placed.{same_pick, cleared_pick, given_is, queued_still}
 use Rattle.fe2o3_amqp.proofs.engine.kept.Kept.take_end_outcome.Goals as goal
