@@ -17,13 +17,12 @@ use Rattle.amqp_types.specs.Kinds.{IsKind, KindsAreRead, code_of, kind_at}
 use Rattle.amqp_types.specs.Performatives.{IsPerformative}
 use Rattle.amqp_frames.specs.declared.frame.Frame.{Frame}
 use Rattle.amqp_frames.specs.declared.frame.FrameBody.{FrameBody}
-use Rattle.amqp_frames.specs.declared.frame.FrameBody.TheVariants as body
 use Rattle.amqp_frames.specs.declared.decoder.FrameHead.{FrameHead}
 use Rattle.amqp_frames.specs.declared.error.Error.{Error}
 use Rattle.amqp_frames.specs.declared.error.Error.TheVariants as no
 use Rattle.amqp_frames.specs.Frame.{IsBody, IsFrame, IsSaid, Decodes, body_of}
 use Rattle.amqp_frames.specs.Decoding.{IsHeader, Names}
-use Rattle.amqp_frames.specs.Head.{IsFields, IsBodyOf, IsLongEnough, MayAskForMemory, NoBodyOf, Opens, ReadsBodyOf, ReadsFrameOf}
+use Rattle.amqp_frames.specs.Head.{head_told, IsFields, IsBodyOf, IsLongEnough, MayAskForMemory, NoBodyOf, Opens, ReadsBodyOf, ReadsFrameOf}
 use Rattle.amqp_frames.specs.FrameError.{error_of}
 use Rattle.amqp_frames.proofs.Decoded.{same_header, has_header, same_frame, framed}
 
@@ -232,16 +231,7 @@ decodes_frame bytes left h o (Ok x) b =
     subst (λ (n : ℕ). Decodes bytes (Ok (record { channel = n; body = x.0.body }, x.1))) (sym b.0) (decodes bytes left h o (Ok (x.0.body, x.1)) b.1)
 decodes_frame bytes left h o (Err e) b = not_decoded bytes left h e o b
 
-frame_of_kind : (n : ℕ) (k j : Option Kind) (fields : List ℕ) (r : Result (Frame × List ℕ) Error) → k ≡ j → ReadsFrameOf n j fields r → ReadsFrameOf n k fields r
-frame_of_kind n k j fields r is h = subst (λ (x : Option Kind). ReadsFrameOf n x fields r) (sym is) h
-
-pub no_body : (fields rest : List ℕ) → rest ≡ [] → ReadsBodyOf None fields (Ok (body.Empty, rest))
-no_body fields left e = ((refl, e), λ b rest t. ap (λ (x : FrameBody). let r : FrameBody × List ℕ = (x, rest) in r) t.0 ∙ ap (λ (x : List ℕ). let r : FrameBody × List ℕ = (body.Empty, x) in r) (t.1 ∙ sym e))
-
-pub decodes_empty : (bytes left rest : List ℕ) (h : FrameHead) (f : Frame) → Opens bytes left (Ok h) → h.kind ≡ None → f ≡ record { channel = h.channel; body = body.Empty } → rest ≡ [] → Decodes bytes (Ok (f, rest))
-decodes_empty bytes left rest h f o is made e =
-    decodes_frame bytes left h o (Ok (f, rest))
-    (frame_of_kind h.channel h.kind None left (Ok (f, rest)) is (subst (λ (g : Frame). ReadsFrameOf h.channel None left (Ok (g, rest))) (sym made) (refl, no_body left rest e)))
-
-pub decodes_kind : (bytes left : List ℕ) (h : FrameHead) (k : Option Kind) → Opens bytes left (Ok h) → h.kind ≡ k → (r : Result (Frame × List ℕ) Error) → ReadsFrameOf h.channel k left r → Decodes bytes r
-decodes_kind bytes left h k o is r b = decodes_frame bytes left h o r (frame_of_kind h.channel h.kind k left r is b)
+-- the same, as a head tells them
+pub decodes_told : (bytes left : List ℕ) (head : Result FrameHead Error) (n : ℕ) (k : Option Kind) → Opens bytes left head → head ≡ head_told (Ok (n, k))
+    → (r : Result (Frame × List ℕ) Error) → ReadsFrameOf n k left r → Decodes bytes r
+decodes_told bytes left head n k o is r b = decodes_frame bytes left (record { channel = n; kind = k }) (subst (λ (h : Result FrameHead Error). Opens bytes left h) is o) r b

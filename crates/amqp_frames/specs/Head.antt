@@ -70,6 +70,11 @@ Opens bytes left (Ok h) =
     × ((f : Frame) (rest : List ℕ) → IsFrame f bytes rest ↔ ((f.channel ≡ h.channel) × IsBodyOf h.kind f.body left rest))
 Opens bytes left (Err e) = Decodes bytes (Err e)
 
+-- a head, from its channel and its kind
+abbrev pub head_told : Result (ℕ × Option Kind) Error → Result FrameHead Error
+head_told (Ok x) = Ok (record { channel = x.0; kind = x.1 })
+head_told (Err e) = Err e
+
 -- the one body of this kind, and what is behind it
 abbrev pub ReadsBodyOf : Option Kind → List ℕ → Result (FrameBody × List ℕ) Error → Type 0
 ReadsBodyOf k fields (Ok x) =

@@ -1,10 +1,10 @@
 //! The decoder: the frame that stands in received bytes.
 
-ghost use Rattle.std.specs.Prelude.{◌≡◌, ◌<◌, ◌≤◌, length, Some};
+ghost use Rattle.std.specs.Prelude.{◌≡◌, ◌<◌, ◌≤◌, length, None, Some, Err};
 ghost use Rattle.amqp_types.specs.declared.performatives.kind.Kind.TheVariants as kind;
 ghost use Rattle.amqp_frames.specs.Decoding.{Names, ReadsHeader};
 ghost use Rattle.amqp_frames.specs.Frame.{Decodes};
-ghost use Rattle.amqp_frames.specs.Head.{Opens, ReadsFrameOf};
+ghost use Rattle.amqp_frames.specs.Head.{Opens, ReadsFrameOf, head_told};
 
 use crate::error::Error;
 use crate::frame::{Frame, FrameBody};
@@ -54,28 +54,47 @@ impl FrameDecoder {
     /// `DecodeError` for fewer than four bytes, and where the body is no performative; `NotImplemented` for another frame
     /// type or an extended header (AMQP 1.0 part 2, section 2.3.1); `OutOfMemory` where memory is refused, which an empty
     /// frame never asks for.
+    #[tactic(auto, using(crate::proofs::Headed::decodes_told))]
     pub fn decode(&self, alloc: Global, bytes: Bytes) -> Result<(Frame, Bytes), Error>
         ensures { Decodes bytes result }
     {
         let mut fields = bytes;
-        let head = self.head(&mut fields)?;
-        let Some(kind) = head.kind else {
-            return Ok((Frame::new(head.channel, FrameBody::Empty), Bytes::new()));
-        };
-        // Each kind's fields are read by a function of its own, which gives the whole frame: a function pays at its entry for the
-        // size of its locals, those of the arms that are not taken too, and a call for the size of what it hands on.
-        match kind {
-            Kind::Open => read_open(alloc, head.channel, fields),
-            Kind::Begin => read_begin(alloc, head.channel, fields),
-            Kind::Attach => read_attach(alloc, head.channel, fields),
-            Kind::Flow => read_flow(alloc, head.channel, fields),
-            Kind::Transfer => read_transfer(alloc, head.channel, fields),
-            Kind::Disposition => read_disposition(alloc, head.channel, fields),
-            Kind::Detach => read_detach(alloc, head.channel, fields),
-            Kind::End => read_end(alloc, head.channel, fields),
-            Kind::Close => read_close(alloc, head.channel, fields),
+        // Each kind's fields are read by a function of its own, which gives the whole answer, and one `match` calls them: a function
+        // pays at its entry for the size of its locals, those of the arms that are not taken too, and for each `?` and each
+        // `match` inside another one with the size of what it hands on.
+        match told(self.head(&mut fields)) {
+            Ok((channel, None)) => read_empty(channel, fields),
+            Ok((channel, Some(Kind::Open))) => read_open(alloc, channel, fields),
+            Ok((channel, Some(Kind::Begin))) => read_begin(alloc, channel, fields),
+            Ok((channel, Some(Kind::Attach))) => read_attach(alloc, channel, fields),
+            Ok((channel, Some(Kind::Flow))) => read_flow(alloc, channel, fields),
+            Ok((channel, Some(Kind::Transfer))) => read_transfer(alloc, channel, fields),
+            Ok((channel, Some(Kind::Disposition))) => read_disposition(alloc, channel, fields),
+            Ok((channel, Some(Kind::Detach))) => read_detach(alloc, channel, fields),
+            Ok((channel, Some(Kind::End))) => read_end(alloc, channel, fields),
+            Ok((channel, Some(Kind::Close))) => read_close(alloc, channel, fields),
+            Err(error) => refused(error),
         }
     }
+}
+
+/// What a head tells.
+#[inline(always)]
+fn told(head: Result<FrameHead, Error>) -> Result<(u16, Option<Kind>), Error>
+    ensures { head ≡ head_told result }
+{
+    match head {
+        Ok(FrameHead { channel, kind }) => Ok((channel, kind)),
+        Err(error) => Err(error),
+    }
+}
+
+/// No frame, for this reason.
+#[inline(never)]
+fn refused(error: Error) -> Result<(Frame, Bytes), Error>
+    ensures { result ≡ Err error }
+{
+    Err(error)
 }
 
 /// The header's channel. The frame's type, in the second byte, is tested first.
@@ -105,16 +124,23 @@ fn kind(bytes: &mut Bytes) -> Result<Option<Kind>, Error>
 }
 
 #[inline(never)]
+fn read_empty(channel: u16, fields: Bytes) -> Result<(Frame, Bytes), Error>
+    ensures { ReadsFrameOf channel None fields result }
+{
+    drop(fields);
+    Ok((Frame::new(channel, FrameBody::Empty), Bytes::new()))
+}
+
+#[inline(never)]
 fn read_open(alloc: Global, channel: u16, fields: Bytes) -> Result<(Frame, Bytes), Error>
     ensures { ReadsFrameOf channel (Some kind.Open) fields result }
 {
     lists_are_read();
     let mut rest = fields;
-    let p = read_list(alloc, &mut rest)?;
     Ok((
         Frame {
             channel,
-            body: FrameBody::Open(p),
+            body: FrameBody::Open(read_list(alloc, &mut rest)?),
         },
         rest,
     ))
@@ -126,11 +152,10 @@ fn read_begin(alloc: Global, channel: u16, fields: Bytes) -> Result<(Frame, Byte
 {
     lists_are_read();
     let mut rest = fields;
-    let p = read_list(alloc, &mut rest)?;
     Ok((
         Frame {
             channel,
-            body: FrameBody::Begin(p),
+            body: FrameBody::Begin(read_list(alloc, &mut rest)?),
         },
         rest,
     ))
@@ -142,11 +167,10 @@ fn read_attach(alloc: Global, channel: u16, fields: Bytes) -> Result<(Frame, Byt
 {
     lists_are_read();
     let mut rest = fields;
-    let p = read_list(alloc, &mut rest)?;
     Ok((
         Frame {
             channel,
-            body: FrameBody::Attach(p),
+            body: FrameBody::Attach(read_list(alloc, &mut rest)?),
         },
         rest,
     ))
@@ -158,11 +182,10 @@ fn read_flow(alloc: Global, channel: u16, fields: Bytes) -> Result<(Frame, Bytes
 {
     lists_are_read();
     let mut rest = fields;
-    let p = read_list(alloc, &mut rest)?;
     Ok((
         Frame {
             channel,
-            body: FrameBody::Flow(p),
+            body: FrameBody::Flow(read_list(alloc, &mut rest)?),
         },
         rest,
     ))
@@ -174,12 +197,15 @@ fn read_transfer(alloc: Global, channel: u16, fields: Bytes) -> Result<(Frame, B
 {
     lists_are_read();
     let mut rest = fields;
-    let p = read_list(alloc, &mut rest)?;
+    let performative = match read_list(alloc, &mut rest) {
+        Ok(performative) => performative,
+        Err(error) => return Err(Error::from(error)),
+    };
     Ok((
         Frame {
             channel,
             body: FrameBody::Transfer {
-                performative: p,
+                performative,
                 payload: rest,
             },
         },
@@ -193,11 +219,10 @@ fn read_disposition(alloc: Global, channel: u16, fields: Bytes) -> Result<(Frame
 {
     lists_are_read();
     let mut rest = fields;
-    let p = read_list(alloc, &mut rest)?;
     Ok((
         Frame {
             channel,
-            body: FrameBody::Disposition(p),
+            body: FrameBody::Disposition(read_list(alloc, &mut rest)?),
         },
         rest,
     ))
@@ -209,11 +234,10 @@ fn read_detach(alloc: Global, channel: u16, fields: Bytes) -> Result<(Frame, Byt
 {
     lists_are_read();
     let mut rest = fields;
-    let p = read_list(alloc, &mut rest)?;
     Ok((
         Frame {
             channel,
-            body: FrameBody::Detach(p),
+            body: FrameBody::Detach(read_list(alloc, &mut rest)?),
         },
         rest,
     ))
@@ -225,11 +249,10 @@ fn read_end(alloc: Global, channel: u16, fields: Bytes) -> Result<(Frame, Bytes)
 {
     lists_are_read();
     let mut rest = fields;
-    let p = read_list(alloc, &mut rest)?;
     Ok((
         Frame {
             channel,
-            body: FrameBody::End(p),
+            body: FrameBody::End(read_list(alloc, &mut rest)?),
         },
         rest,
     ))
@@ -241,11 +264,10 @@ fn read_close(alloc: Global, channel: u16, fields: Bytes) -> Result<(Frame, Byte
 {
     lists_are_read();
     let mut rest = fields;
-    let p = read_list(alloc, &mut rest)?;
     Ok((
         Frame {
             channel,
-            body: FrameBody::Close(p),
+            body: FrameBody::Close(read_list(alloc, &mut rest)?),
         },
         rest,
     ))

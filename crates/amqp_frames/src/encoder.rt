@@ -10,7 +10,7 @@ use crate::cut::cut;
 use crate::error::Error;
 use crate::frame::{Frame, FrameBody};
 use crate::head::whole_head;
-use crate::heads::Heads;
+use crate::heads::{HeadRoom, Heads, OwnRoom};
 use crate::laws::whole_is_read;
 use crate::piece::Piece;
 use amqp_types::Transfer;
@@ -57,8 +57,7 @@ impl FrameEncoder {
     pub fn encode(&self, alloc: Global, frame: &Frame) -> Result<Vec<Piece>, Error>
         ensures { Encodes (λ v. v.items) frame.now self.now result }
     {
-        let mut heads = Heads::single(alloc);
-        self.encode_from(alloc, &mut heads, frame)
+        self.encode_in(alloc, &mut OwnRoom(alloc), frame)
     }
 
     /// As [`FrameEncoder::encode`], with the head of a frame that is one piece cut from the room of many.
@@ -70,13 +69,7 @@ impl FrameEncoder {
     ) -> Result<Vec<Piece>, Error>
         ensures { Encodes (λ v. v.items) frame.now self.now result }
     {
-        let limit = self.max_piece_len;
-        let len = frame.body.text_len();
-        if frame.body.is_within(len, limit - 4) {
-            let pieces = whole(alloc, heads, frame, len as usize)?;
-            return Ok(pieces);
-        }
-        in_pieces(alloc, frame, limit)
+        self.encode_in(alloc, heads, frame)
     }
 
     /// How many bytes of payload fit beside this transfer in one piece; `None` where its own text does not fit.
@@ -91,12 +84,31 @@ impl FrameEncoder {
         }
         Some(room - len as u32)
     }
+
+    /// The pieces of the frame, the head of one that is whole in this room.
+    #[inline(always)]
+    fn encode_in<H: HeadRoom>(
+        &self,
+        alloc: Global,
+        heads: &mut H,
+        frame: &Frame,
+    ) -> Result<Vec<Piece>, Error>
+        ensures { Encodes (λ v. v.items) frame.now self.now result }
+    {
+        let limit = self.max_piece_len;
+        let len = frame.body.text_len();
+        if frame.body.is_within(len, limit - 4) {
+            let pieces = whole(alloc, heads, frame, len as usize)?;
+            return Ok(pieces);
+        }
+        in_pieces(alloc, frame, limit)
+    }
 }
 
 /// The one piece of a frame that is whole, whose text has this length.
-fn whole(
+fn whole<H: HeadRoom>(
     alloc: Global,
-    heads: &mut Heads,
+    heads: &mut H,
     frame: &Frame,
     len: usize,
 ) -> Result<Vec<Piece>, AllocError>

@@ -6,14 +6,14 @@ ghost use Rattle.amqp_frames.specs.Frame.{header_text, text_of};
 ghost use Rattle.amqp_frames.specs.Cut.{transfer_text};
 
 use crate::frame::FrameBody;
-use crate::heads::Heads;
+use crate::heads::{HeadRoom, OwnRoom};
 use amqp_types::{Transfer, TransferText};
 use bytes::BytesMut;
 use std::alloc::{AllocError, Global};
 
 /// A buffer with the header, and room for `len` bytes behind it.
 #[inline(always)]
-fn header(heads: &mut Heads, channel: u16, len: usize) -> Result<BytesMut, AllocError>
+fn header<H: HeadRoom>(heads: &mut H, channel: u16, len: usize) -> Result<BytesMut, AllocError>
     requires { len < 2 ^ 32 }
     ensures { IfOk result (λ b. (b.items ≡ header_text channel) × (len ≤ b.spare)) }
 {
@@ -24,8 +24,8 @@ fn header(heads: &mut Heads, channel: u16, len: usize) -> Result<BytesMut, Alloc
 }
 
 /// The head of a frame that is whole, whose text has this length.
-pub(crate) fn whole_head(
-    heads: &mut Heads,
+pub(crate) fn whole_head<H: HeadRoom>(
+    heads: &mut H,
     channel: u16,
     body: &FrameBody,
     len: usize,
@@ -35,7 +35,7 @@ pub(crate) fn whole_head(
     ensures { IfOk result (λ b. b.items ≡ header_text channel ++ text_of body.now) }
 {
     let mut out = header(heads, channel, len)?;
-    body.put_text(&mut out);
+    body.put_text(len, &mut out);
     heads.cut(out)
 }
 
@@ -49,8 +49,8 @@ pub(crate) fn transfer_head(
     requires { length (transfer_text (said_in text transfer.now)) < 2 ^ 32 }
     ensures { IfOk result (λ b. b.items ≡ header_text channel ++ transfer_text (said_in text transfer.now)) }
 {
-    let len = transfer.encoded_len_in(text);
-    let mut out = header(&mut Heads::single(alloc), channel, len as usize)?;
-    transfer.put_in(text, &mut out);
+    let len = transfer.encoded_len_in(text) as usize;
+    let mut out = header(&mut OwnRoom(alloc), channel, len)?;
+    transfer.put_in(text, len, &mut out);
     Ok(out)
 }

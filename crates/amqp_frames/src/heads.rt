@@ -7,29 +7,60 @@ use std::alloc::{AllocError, Global};
 use std::marker::Model;
 use std::mem;
 
-/// How many bytes are asked for at once: about a hundred heads of transfers.
-const BLOCK: usize = 4096;
+/// How many bytes the first block has: about a hundred heads of transfers.
+const FIRST: usize = 4096;
 
-/// Room that is left and is smaller than this goes with the last head.
-const LEAST: usize = 16;
+/// How many bytes a block has at most, but for a longer head. Each block that is asked for is twice as long as the one before.
+const MOST: usize = 32768;
 
-/// Room from which an encoder cuts the heads of many frames. So it asks for memory once for about a hundred of them; a head keeps
-/// its whole block, of 4096 bytes or of one head, until no head of it is left.
+/// Where an encoder writes the head of a frame.
+pub(crate) trait HeadRoom {
+    /// An empty buffer with room for `len` bytes.
+    fn take(&mut self, len: usize) -> Result<BytesMut, AllocError>
+        ensures { IfOk result (λ b. (b.items ≡ []) × (len ≤ b.spare)) };
+
+    /// The head that stands in the buffer.
+    fn cut(&mut self, written: BytesMut) -> Result<BytesMut, AllocError>
+        ensures { IfOk result (λ b. b.items ≡ written.items) };
+}
+
+/// Each head has a buffer of its own.
+#[derive(Drop)]
+pub(crate) struct OwnRoom(pub(crate) Global);
+
+impl HeadRoom for OwnRoom {
+    #[inline(always)]
+    fn take(&mut self, len: usize) -> Result<BytesMut, AllocError> {
+        BytesMut::with_capacity(self.0, len)
+    }
+
+    #[inline(always)]
+    fn cut(&mut self, written: BytesMut) -> Result<BytesMut, AllocError> {
+        Ok(written)
+    }
+}
+
+/// Room from which an encoder cuts the heads of many frames. It asks for memory once for hundreds of them: for a block of 4096
+/// bytes first, then for longer ones, up to 32768 bytes, and takes the block before once more where all of its heads are dropped. It
+/// keeps up to two blocks; a head keeps its whole block.
 #[derive(Drop)]
 pub struct Heads {
     alloc: Global,
-    block: usize,
+    /// How long the next block is to be.
+    next: usize,
     room: BytesMut,
+    /// What is left of the block before.
+    before: BytesMut,
 }
 
 impl Model for Heads {
-    ghost use Rattle.std.specs.Prelude.{◌≡◌, ℕ, []};
+    ghost use Rattle.std.specs.Prelude.{◌≡◌, ◌≤◌, ℕ, []};
 
     ghost Value = { ℕ };
 
     ghost view = { λ h. h.room.spare };
 
-    ghost invariant = { λ h. h.room.items ≡ [] };
+    ghost invariant = { λ h. (h.next ≤ 32768) × (h.room.items ≡ []) × (h.before.items ≡ []) };
 }
 
 impl Heads {
@@ -37,44 +68,45 @@ impl Heads {
     pub fn new(alloc: Global) -> Heads
         ensures { result ≡ 0 }
     {
-        Heads::by(alloc, BLOCK)
-    }
-
-    /// Room for a head at a time, which it shares with no other.
-    pub(crate) fn single(alloc: Global) -> Heads {
-        Heads::by(alloc, 0)
-    }
-
-    fn by(alloc: Global, block: usize) -> Heads
-        ensures { result ≡ 0 }
-    {
         Heads {
             alloc,
-            block,
+            next: FIRST,
             room: BytesMut::new(alloc),
+            before: BytesMut::new(alloc),
         }
     }
 
-    /// An empty buffer with room for `len` bytes.
-    pub(crate) fn take(&mut self, len: usize) -> Result<BytesMut, AllocError>
+    /// Another block, with room for `len` bytes: the one before, where none of its heads is left.
+    #[inline(never)]
+    fn next_block(&mut self, used: BytesMut, len: usize) -> Result<BytesMut, AllocError>
+        requires { used.items ≡ [] }
         ensures { IfOk result (λ b. (b.items ≡ []) × (len ≤ b.spare)) }
     {
+        let size = len.max(self.next);
+        self.next = (2 * self.next).min(MOST);
+        let mut block = mem::replace(&mut self.before, used);
+        if block.try_reclaim(size) {
+            return Ok(block);
+        }
+        drop(block);
+        BytesMut::with_capacity(self.alloc, size)
+    }
+}
+
+impl HeadRoom for Heads {
+    #[inline(always)]
+    fn take(&mut self, len: usize) -> Result<BytesMut, AllocError> {
         let room = mem::replace(&mut self.room, BytesMut::new(self.alloc));
         if len <= room.capacity() {
             return Ok(room);
         }
-        drop(room);
-        BytesMut::with_capacity(self.alloc, len.max(self.block))
+        self.next_block(room, len)
     }
 
-    /// The head that stands in the buffer. The room behind it is that of the next one.
-    pub(crate) fn cut(&mut self, written: BytesMut) -> Result<BytesMut, AllocError>
-        ensures { IfOk result (λ b. b.items ≡ written.items) }
-    {
+    /// The room behind the head is that of the next one.
+    #[inline(always)]
+    fn cut(&mut self, written: BytesMut) -> Result<BytesMut, AllocError> {
         let mut rest = written;
-        if rest.capacity() - rest.len() < LEAST {
-            return Ok(rest);
-        }
         let head = rest.split()?;
         self.room = rest;
         Ok(head)

@@ -30,25 +30,26 @@ impl FrameBody {
         }
     }
 
-    /// Appends the performative's text, to a buffer that has room for it.
-    pub(crate) fn put_text(&self, out: &mut BytesMut)
+    /// Appends the performative's text, whose length is `len`, to a buffer that has room for it.
+    pub(crate) fn put_text(&self, len: usize, out: &mut BytesMut)
+        requires len_is { len ≡ length (text_of self.now) }
         requires room { length (text_of self.now) ≤ out.old.spare }
         requires fits { length (text_of self.now) < 2 ^ 32 }
         ensures { out.new.items ≡ out.old.items ++ text_of self.now }
     {
         match self {
-            FrameBody::Attach(p) => p.put(out),
-            FrameBody::Flow(p) => p.put(out),
+            FrameBody::Attach(p) => p.put(len, out),
+            FrameBody::Flow(p) => p.put(len, out),
             FrameBody::Transfer {
                 performative,
                 payload: _,
-            } => performative.put(out),
-            FrameBody::Disposition(p) => p.put(out),
-            FrameBody::Detach(p) => p.put(out),
-            FrameBody::Begin(p) => p.put(out),
-            FrameBody::End(p) => p.put(out),
-            FrameBody::Open(p) => p.put(out),
-            FrameBody::Close(p) => p.put(out),
+            } => performative.put(len, out),
+            FrameBody::Disposition(p) => p.put(len, out),
+            FrameBody::Detach(p) => p.put(len, out),
+            FrameBody::Begin(p) => p.put(len, out),
+            FrameBody::End(p) => p.put(len, out),
+            FrameBody::Open(p) => p.put(len, out),
+            FrameBody::Close(p) => p.put(len, out),
             FrameBody::Empty => {}
         }
     }

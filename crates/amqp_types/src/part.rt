@@ -55,7 +55,10 @@ impl Encode for Part<'_> {
     fn put(&self, out: &mut BytesMut) {
         match self {
             Part::Leaf(leaf) => leaf.put(out),
-            Part::Error(error) => put_described(codes::ERROR, &error.parts(), out),
+            Part::Error(error) => {
+                let parts = error.parts();
+                put_described(codes::ERROR, &parts, described_len(&parts) as usize, out)
+            }
         }
     }
 }

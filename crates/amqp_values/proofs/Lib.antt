@@ -11,6 +11,7 @@ pub mod Trim
 pub mod Loops
 pub mod ArrayItems
 pub mod Under
+pub mod Bare
 pub mod Compounds
 pub mod Found
 pub mod Again

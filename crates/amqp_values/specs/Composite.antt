@@ -82,14 +82,18 @@ code_of name =
 abbrev pub meaning_at : List ℕ × List ℕ → Option (ℕ × List ℕ)
 meaning_at x = code_of x.0 >>= λ code. Some (code, x.1)
 
+-- the code that the name at the front means
+abbrev pub name_at : Bool → List ℕ → Option (ℕ × List ℕ)
+name_at wide bytes = region_at wide bytes >>= meaning_at
+
 abbrev pub code_at : List ℕ → Option (ℕ × List ℕ)
 code_at bytes =
     byte_at bytes >>= λ code.
     if code.0 == 0x44 then Some (0, code.1)
     else if code.0 == 0x53 then byte_at code.1
     else if code.0 == 0x80 then number_at w64 code.1
-    else if code.0 == 0xa3 then (region_at false code.1 >>= meaning_at)
-    else if code.0 == 0xb3 then (region_at true code.1 >>= meaning_at)
+    else if code.0 == 0xa3 then name_at false code.1
+    else if code.0 == 0xb3 then name_at true code.1
     else None
 
 unfoldable pub descriptor_at : List ℕ → Option (ℕ × List ℕ)

@@ -3,7 +3,7 @@
 ghost use Rattle.std.specs.Prelude.{◌≡◌, ℕ, List, Option};
 ghost use Rattle.amqp_values.specs.declared.parts.Parts.{Parts};
 ghost use Rattle.amqp_values.specs.Reading.{Gives};
-ghost use Rattle.amqp_values.specs.Composite.{list_at, composite_at, code_of, meaning_at, descriptor_at, described_at};
+ghost use Rattle.amqp_values.specs.Composite.{list_at, composite_at, code_of, meaning_at, name_at, descriptor_at, described_at};
 
 use crate::codes;
 use crate::cursor::{take_byte, take_count, take_region, take_u64};
@@ -38,8 +38,14 @@ fn list(bytes: &mut Bytes) -> Result<Parts, ReadError>
         codes::LIST32 => true,
         _ => return Err(ReadError::Malformed),
     };
-    let mut bytes = take_region(wide, bytes)?;
-    let left = take_count(wide, &mut bytes)?;
+    let mut bytes = match take_region(wide, bytes) {
+        Ok(region) => region,
+        Err(error) => return Err(error),
+    };
+    let left = match take_count(wide, &mut bytes) {
+        Ok(left) => left,
+        Err(error) => return Err(error),
+    };
     Ok(Parts { left, bytes })
 }
 
@@ -49,7 +55,10 @@ fn list(bytes: &mut Bytes) -> Result<Parts, ReadError>
 pub fn read_list<C: Composite>(alloc: Global, bytes: &mut Bytes) -> Result<C, ReadError>
     ensures { Gives (λ x. x) result bytes.new (composite_at C.body_at bytes.old) }
 {
-    let mut parts = list(bytes)?;
+    let mut parts = match list(bytes) {
+        Ok(parts) => parts,
+        Err(error) => return Err(error),
+    };
     C::fields(alloc, &mut parts)
 }
 
@@ -92,8 +101,18 @@ fn meaning(name: &[u8]) -> Result<u64, ReadError>
     }
 }
 
+/// What the name at the front means.
+#[inline(never)]
+fn named(wide: bool, bytes: &mut Bytes) -> Result<u64, ReadError>
+    ensures { Gives (λ x. x) result bytes.new (name_at wide bytes.old) }
+{
+    let name = take_region(wide, bytes)?;
+    meaning(name.as_slice())
+}
+
 /// The code of the descriptor at the front, in every spelling: a number, or one of the standard's names.
 #[tactic(auto, unfolding(crate::specs::Composite::descriptor_at))]
+#[inline(always)]
 pub fn descriptor(bytes: &mut Bytes) -> Result<u64, ReadError>
     ensures { Gives (λ x. x) result bytes.new (descriptor_at bytes.old) }
 {
@@ -104,14 +123,8 @@ pub fn descriptor(bytes: &mut Bytes) -> Result<u64, ReadError>
         codes::ULONG0 => Ok(0),
         codes::SMALL_ULONG => Ok(u64::from(take_byte(bytes)?)),
         codes::ULONG => take_u64(bytes),
-        codes::SYMBOL8 => {
-            let name = take_region(false, bytes)?;
-            meaning(name.as_slice())
-        }
-        codes::SYMBOL32 => {
-            let name = take_region(true, bytes)?;
-            meaning(name.as_slice())
-        }
+        codes::SYMBOL8 => named(false, bytes),
+        codes::SYMBOL32 => named(true, bytes),
         _ => Err(ReadError::Malformed),
     }
 }

@@ -7,6 +7,7 @@ ghost use Rattle.amqp_values.specs.Walk.{compound_of, constructor_of, data_of, e
 ghost use Rattle.amqp_values.specs.Walk.{is_dataless, level, may_hold, repeat, run_of, under};
 ghost use Rattle.amqp_values.specs.Walk.{value_at, value_of};
 
+use crate::codes;
 use crate::kind::{Kind, kind_at};
 
 /// A length or a count of one byte, or of four, and the rest.
@@ -219,11 +220,16 @@ fn may_hold(kind: Kind, depth: u8) -> bool
 
 /// The bytes behind the first value, if its depth is at most `depth`. `None` where no front of the bytes is such a
 /// value.
-#[tactic(auto, unfolding(crate::specs::Walk::value_at))]
+#[tactic(auto, using(crate::proofs::Bare::bare_is_read), unfolding(crate::specs::Walk::value_at))]
+#[inline(always)]
 pub(crate) fn value_rest(bytes: &[u8], depth: u8) -> Option<&[u8]>
     ensures { option_map (λ r. r.now) result ≡ value_at depth bytes.now }
 {
-    value(bytes, depth)
+    match bytes {
+        // an outcome without fields, as `accepted`: what most values are that come here
+        [0, codes::SMALL_ULONG, _, codes::LIST0, rest @ ..] if depth > 1 => Some(rest),
+        _ => value(bytes, depth),
+    }
 }
 
 /// Whether the data of this kind have no bytes.

@@ -28,22 +28,34 @@ fn put_head(out: &mut BytesMut, count: usize, size: usize)
     }
 }
 
-/// Appends the list of these fields, of which `count` stand before the nulls at the end.
+/// The size of the parts of a list that has some, whose text has this length.
+#[tactic(auto, unfolding(crate::specs::Writing::list_text))]
+#[inline(always)]
+fn size_in(len: usize) -> usize
+    requires { 3 ≤ len }
+    ensures { (parts : List (List ℕ)) → 0 < length parts → len ≡ length (list_text parts) → result ≡ length (joined parts) }
+{
+    if len < 258 { len - 3 } else { len - 9 }
+}
+
+/// Appends the list of these fields, whose text has this length.
 #[tactic(auto, unfolding(crate::specs::Writing::list_text), using(crate::proofs::Trim::trim_take))]
 #[inline(always)]
-fn put_list<R: Row>(fields: &R, count: usize, size: usize, out: &mut BytesMut)
+fn put_list<R: Row>(fields: &R, len: usize, out: &mut BytesMut)
     requires few { length (R.texts fields.now) ≤ 16 }
-    requires count_is { count ≡ length (trim (R.texts fields.now)) }
-    requires size_is { size ≡ length (joined (trim (R.texts fields.now))) }
+    requires long { R.most < 2 ^ 126 }
+    requires len_is { len ≡ length (list_text (trim (R.texts fields.now))) }
     requires room { length (list_text (trim (R.texts fields.now))) ≤ out.old.spare }
     requires fits { length (list_text (trim (R.texts fields.now))) < 2 ^ 32 }
     ensures items { out.new.items ≡ out.old.items ++ list_text (trim (R.texts fields.now)) }
     ensures spare { out.new.spare + length (list_text (trim (R.texts fields.now))) ≡ out.old.spare }
 {
+    // only the count: what would measure the texts is dead code
+    let Extent { count, size: _ } = fields.extent();
     if count == 0 {
         out.extend_reserved(&[codes::LIST0]);
     } else {
-        put_head(out, count, size);
+        put_head(out, count, size_in(len));
         fields.put(count, out);
     }
 }
@@ -67,19 +79,19 @@ pub fn described_len<R: Row>(fields: &R) -> u128
     }
 }
 
-/// Appends the described list of these fields, to a buffer that has room for it.
+/// Appends the described list of these fields, whose text has this length, to a buffer that has room for it.
 #[inline(always)]
-pub fn put_described<R: Row>(code: u8, fields: &R, out: &mut BytesMut)
+pub fn put_described<R: Row>(code: u8, fields: &R, len: usize, out: &mut BytesMut)
     requires few { length (R.texts fields.now) ≤ 16 }
     requires long { R.most < 2 ^ 126 }
+    requires len_is { len ≡ length (described_text code (R.texts fields.now)) }
     requires room { length (described_text code (R.texts fields.now)) ≤ out.old.spare }
     requires fits { length (described_text code (R.texts fields.now)) < 2 ^ 32 }
     ensures items { out.new.items ≡ out.old.items ++ described_text code (R.texts fields.now) }
     ensures spare { out.new.spare + length (described_text code (R.texts fields.now)) ≡ out.old.spare }
 {
-    let Extent { count, size } = fields.extent();
     out.extend_reserved(&[codes::DESCRIBED, codes::SMALL_ULONG, code]);
-    put_list(fields, count, size as usize, out);
+    put_list(fields, len - 3, out);
 }
 
 /// Appends the described list of these fields, or nothing: `TooLarge` exactly where its text is longer than `limit`
@@ -103,6 +115,6 @@ pub fn write_described<R: Row>(
     if out.reserve(len as usize).is_err() {
         return Err(WriteError::OutOfMemory);
     }
-    put_described(code, fields, out);
+    put_described(code, fields, len as usize, out);
     Ok(())
 }

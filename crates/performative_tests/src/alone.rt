@@ -1,6 +1,6 @@
 //! Each performative by itself: the length of its text, and its text put into a buffer with room for it.
 
-ghost use Rattle.std.specs.Prelude.{◌≤◌, ◌<◌, ◌^◌, length};
+ghost use Rattle.std.specs.Prelude.{◌≡◌, ◌≤◌, ◌<◌, ◌^◌, length};
 ghost use Rattle.amqp_types.specs.Performatives.{performative_text};
 
 use crate::digits::{dense, read};
@@ -39,20 +39,21 @@ fn len(performative: &Performative) -> u128 {
 }
 
 /// Puts the text, as the performative of that kind does.
-fn put(performative: &Performative, out: &mut BytesMut)
+fn put(performative: &Performative, len: usize, out: &mut BytesMut)
+    requires len_is { len ≡ length (performative_text performative.now) }
     requires room { length (performative_text performative.now) ≤ out.old.spare }
     requires fits { length (performative_text performative.now) < 2 ^ 32 }
 {
     match performative {
-        Performative::Open(p) => p.put(out),
-        Performative::Begin(p) => p.put(out),
-        Performative::Attach(p) => p.put(out),
-        Performative::Flow(p) => p.put(out),
-        Performative::Transfer(p) => p.put(out),
-        Performative::Disposition(p) => p.put(out),
-        Performative::Detach(p) => p.put(out),
-        Performative::End(p) => p.put(out),
-        Performative::Close(p) => p.put(out),
+        Performative::Open(p) => p.put(len, out),
+        Performative::Begin(p) => p.put(len, out),
+        Performative::Attach(p) => p.put(len, out),
+        Performative::Flow(p) => p.put(len, out),
+        Performative::Transfer(p) => p.put(len, out),
+        Performative::Disposition(p) => p.put(len, out),
+        Performative::Detach(p) => p.put(len, out),
+        Performative::End(p) => p.put(len, out),
+        Performative::Close(p) => p.put(len, out),
     }
 }
 
@@ -63,7 +64,7 @@ fn put_alone(alloc: Global, performative: &Performative) -> Result<String, Fail>
         return Err("a long text".into());
     }
     let mut out = BytesMut::with_capacity(alloc, len as usize)?;
-    put(performative, &mut out);
+    put(performative, len as usize, &mut out);
     Ok(hex::encode(alloc, out.as_slice())?)
 }
 
@@ -114,7 +115,7 @@ fn put_in(alloc: Global, transfer: &Transfer, text: TransferText) -> Result<Stri
         return Err("a long text".into());
     }
     let mut out = BytesMut::with_capacity(alloc, len as usize)?;
-    transfer.put_in(text, &mut out);
+    transfer.put_in(text, len as usize, &mut out);
     Ok(hex::encode(alloc, out.as_slice())?)
 }
 

@@ -76,14 +76,15 @@ impl Close {
         described_len(&self.parts())
     }
 
-    /// Appends the canonical text, to a buffer that has room for it.
+    /// Appends the canonical text, whose length is `len`, to a buffer that has room for it.
     #[inline(never)]
-    pub fn put(&self, out: &mut BytesMut)
+    pub fn put(&self, len: usize, out: &mut BytesMut)
+        requires len_is { len ≡ length (performative_text (performative.Close self.now)) }
         requires room { length (performative_text (performative.Close self.now)) ≤ out.old.spare }
         requires fits { length (performative_text (performative.Close self.now)) < 2 ^ 32 }
         ensures items { out.new.items ≡ out.old.items ++ performative_text (performative.Close self.now) }
         ensures spare { out.new.spare + length (performative_text (performative.Close self.now)) ≡ out.old.spare }
     {
-        put_described(codes::CLOSE, &self.parts(), out)
+        put_described(codes::CLOSE, &self.parts(), len, out)
     }
 }

@@ -231,14 +231,15 @@ impl Transfer {
         described_len(&self.parts_in(text))
     }
 
-    /// Appends one of the texts, to a buffer that has room for it.
-    pub fn put_in(&self, text: TransferText, out: &mut BytesMut)
+    /// Appends one of the texts, whose length is `len`, to a buffer that has room for it.
+    pub fn put_in(&self, text: TransferText, len: usize, out: &mut BytesMut)
+        requires len_is { len ≡ length (performative_text (performative.Transfer (said_in text self.now))) }
         requires room { length (performative_text (performative.Transfer (said_in text self.now))) ≤ out.old.spare }
         requires fits { length (performative_text (performative.Transfer (said_in text self.now))) < 2 ^ 32 }
         ensures items { out.new.items ≡ out.old.items ++ performative_text (performative.Transfer (said_in text self.now)) }
         ensures spare { out.new.spare + length (performative_text (performative.Transfer (said_in text self.now))) ≡ out.old.spare }
     {
-        put_described(codes::TRANSFER, &self.parts_in(text), out)
+        put_described(codes::TRANSFER, &self.parts_in(text), len, out)
     }
 
     /// The length in bytes of the canonical text. Takes no memory and writes nothing.
@@ -250,14 +251,15 @@ impl Transfer {
         described_len(&self.parts())
     }
 
-    /// Appends the canonical text, to a buffer that has room for it.
+    /// Appends the canonical text, whose length is `len`, to a buffer that has room for it.
     #[inline(never)]
-    pub fn put(&self, out: &mut BytesMut)
+    pub fn put(&self, len: usize, out: &mut BytesMut)
+        requires len_is { len ≡ length (performative_text (performative.Transfer self.now)) }
         requires room { length (performative_text (performative.Transfer self.now)) ≤ out.old.spare }
         requires fits { length (performative_text (performative.Transfer self.now)) < 2 ^ 32 }
         ensures items { out.new.items ≡ out.old.items ++ performative_text (performative.Transfer self.now) }
         ensures spare { out.new.spare + length (performative_text (performative.Transfer self.now)) ≡ out.old.spare }
     {
-        put_described(codes::TRANSFER, &self.parts(), out)
+        put_described(codes::TRANSFER, &self.parts(), len, out)
     }
 }
