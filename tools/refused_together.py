@@ -2,6 +2,7 @@
 """Tries the must-fail edits of crates/NAME/must-fail-together, many at a time.
 
     tools/refused_together.py [control] [CRATE | CRATE/EDIT]..
+    tools/refused_together.py fit
 
 An edit is a wrong body. It names the function that it makes wrong (a line 'function: PATH'), and then has the lines of the toolchain's
 must-fail edits: 'file:', 'old:', 'new:'. It counts as refused where a goal of that very function cannot be proved. A function that waits for
@@ -15,6 +16,8 @@ tried again alone, and then in a copy with all proofs. Edits of definitions (spe
 That a crate is proved as it stands is for 'rt ci' to say, which the gate calls before; a note names each crate that was changed since its
 rlib was made. Before the edits a check of such a copy with no edit in it, for one in eight of the functions that the edits name, has to
 leave no goal open; with 'control' as the first word it is for all of them. The last line is 'N passed, M failed'.
+
+'fit' checks nothing: it only says which edits do not find their old text in the code.
 """
 
 import contextlib
@@ -250,7 +253,18 @@ def chosen(crate, words):
     return [it for it in edits if not words or {crate.name, f"{crate.name}/{it.name}"} & {*words}]
 
 
+def fit():
+    """Ends with 1 where an edit does not find its text."""
+    of = lambda crate: ((crate, edit, edit.put(Path(crate.folder), {})) for edit in chosen(crate, []))
+    bad = [it for crate in RT.rtlib.crates_below(str(ROOT)) for it in of(crate) if it[2]]
+    for crate, edit, why in bad:
+        print(f"{crate.name}/{edit.name}: BAD EDIT: {why}")
+    sys.exit(bool(bad))
+
+
 def main(words):
+    if words == ["fit"]:
+        fit()
     one_in = 1 if words[:1] == ["control"] else ONE_IN
     words = [word.removesuffix(".edit") for word in words if word != "control"]
     # The highest crate takes longest: it comes first.
