@@ -116,15 +116,28 @@ fn named(wide: bool, bytes: &mut Bytes) -> Result<u64, ReadError>
 pub fn descriptor(bytes: &mut Bytes) -> Result<u64, ReadError>
     ensures { Gives (λ x. x) result bytes.new (descriptor_at bytes.old) }
 {
-    if take_byte(bytes)? != codes::DESCRIBED {
-        return Err(ReadError::Malformed);
-    }
-    match take_byte(bytes)? {
-        codes::ULONG0 => Ok(0),
-        codes::SMALL_ULONG => Ok(u64::from(take_byte(bytes)?)),
-        codes::ULONG => take_u64(bytes),
-        codes::SYMBOL8 => named(false, bytes),
-        codes::SYMBOL32 => named(true, bytes),
+    match bytes.as_slice() {
+        [codes::DESCRIBED, codes::ULONG0, ..] => {
+            bytes.advance(2);
+            Ok(0)
+        }
+        [codes::DESCRIBED, codes::SMALL_ULONG, code, ..] => {
+            let code = *code;
+            bytes.advance(3);
+            Ok(u64::from(code))
+        }
+        [codes::DESCRIBED, codes::ULONG, ..] => {
+            bytes.advance(2);
+            take_u64(bytes)
+        }
+        [codes::DESCRIBED, codes::SYMBOL8, ..] => {
+            bytes.advance(2);
+            named(false, bytes)
+        }
+        [codes::DESCRIBED, codes::SYMBOL32, ..] => {
+            bytes.advance(2);
+            named(true, bytes)
+        }
         _ => Err(ReadError::Malformed),
     }
 }

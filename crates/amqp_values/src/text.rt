@@ -13,7 +13,7 @@ use std::alloc::Global;
 
 /// A length and that many bytes, behind the short code or the long one.
 #[tactic(auto, unfolding(crate::specs::Text::var_at))]
-#[inline(always)]
+#[inline]
 pub(crate) fn variable(bytes: &mut Bytes, short: u8, long: u8) -> Result<Bytes, ReadError>
     ensures value { Gives (λ x. x) result bytes.new (var_at short long bytes.old) }
     ensures bound { IfOk result (λ b. length b < 2 ^ 32) }

@@ -48,6 +48,7 @@ impl Kind {
     /// Reads the descriptor at the front of the bytes, a number or a name, and answers the kind that it names.
     /// `Malformed` exactly where no front of the bytes is a descriptor of one of the nine.
     #[tactic(auto, unfolding(crate::specs::Kinds::kind_at))]
+    #[inline(always)]
     pub fn read(bytes: &mut Bytes) -> Result<Kind, ReadError>
         ensures { Gives (λ k. k) result bytes.new (kind_at bytes.old) }
     {
