@@ -122,9 +122,11 @@ impl<R: LinkRelay> Links<R> {
         ensures { (asked : Option (AttachQuestion R)) × Attaches R.gives.attach_gives self.old attach asked result self.new }
     {
         if let Some(error) = names::refusal(&self.names, attach.name.as_str()) {
+            drop(attach);
             return Err(error);
         }
         let Ok(()) = self.inputs.reserve(1) else {
+            drop(attach);
             return Err(SessionInnerError::OutOfMemory);
         };
         let input = InputHandle::from(attach.handle);

@@ -71,9 +71,11 @@ pub(super) fn attach_at<R: LinkRelay>(
     ensures { FrameAt R.gives (SendsAttach attach (attach_frame me.now.view attach)) me.now.view going.old.items result me.now.view going.new.items }
 {
     if !me.can_send() {
+        drop(attach);
         return Err(SessionInnerError::IllegalState);
     }
     let Ok(()) = going.reserve(1) else {
+        drop(attach);
         return Err(SessionInnerError::OutOfMemory);
     };
     going.push_back_reserved(me.on_outgoing_attach(attach));
@@ -110,9 +112,11 @@ pub(super) fn transfer_at<R: LinkRelay>(
     ensures { TransferAt R.gives (record { input_handle = input_handle.0; transfer = transfer; payload = payload; is_first = is_first }) me.old.view going.old.items result me.new.view going.new.items }
 {
     if !me.can_send() {
+        drop(transfer);
         return Err(SessionInnerError::IllegalState);
     }
     if !makes_room(me, going) {
+        drop(transfer);
         return Err(SessionInnerError::OutOfMemory);
     }
     match me.on_outgoing_transfer(input_handle, transfer, payload, is_first) {

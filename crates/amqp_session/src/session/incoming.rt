@@ -125,9 +125,11 @@ impl<R: LinkRelay> Session<R> {
         self.receiving.count_transfer();
         let input = InputHandle(transfer.handle.0);
         if !self.links.is_attached(input) {
+            drop(transfer);
             return Err(SessionInnerError::UnattachedHandle);
         }
         let Ok(()) = self.received.reserve(1) else {
+            drop(transfer);
             return Err(SessionInnerError::OutOfMemory);
         };
         match self.links.ask_transfer(input, transfer, payload) {

@@ -55,15 +55,18 @@ impl<R: LinkRelay> Session<R> {
         ensures walk { self.new.last_walk ≡ self.old.last_walk }
     {
         if !self.can_send() || (is_first && transfer.delivery_tag.is_none()) {
+            drop(transfer);
             return Err(SessionInnerError::IllegalState);
         }
         if !self.sending.has_way() {
             return self.send_later(input_handle, transfer, payload, is_first);
         }
         let Ok(()) = self.sent.reserve(1) else {
+            drop(transfer);
             return Err(SessionInnerError::OutOfMemory);
         };
         let Ok(tag) = tag_to_keep(&transfer, is_first) else {
+            drop(transfer);
             return Err(SessionInnerError::OutOfMemory);
         };
         Ok(Some(SessionOutgoingItem::SingleFrame(
