@@ -69,57 +69,48 @@ Each es items = (n : ℕ) → times n items ≡ mark (has_wish (lookup (nat_eq n
 wrote : (old new : List (ℕ × Place)) (n : ℕ) (p : Place) → Writes old new n p → (q : ℕ) (b : Bool) → nat_eq n q ≡ b → lookup (nat_eq q) new ≡ cond b (Some p) (lookup (nat_eq q) old)
 wrote old new n p w q b t = w q ∙ ap (λ c. cond c (Some p) (lookup (nat_eq q) old)) t
 
+-- the items of one number are as its place is written, and those of the others stay
+each_moved : (old new : List (ℕ × Place)) (items items' : List ℕ) (n : ℕ) (p : Place) → Writes old new n p → times n items' ≡ mark (has_wish (Some p)) →
+    ((q : ℕ) → nat_eq n q ≡ false → times q items' ≡ times q items) → Each old items → Each new items'
+each_moved old new items items' n p w here others each q = by (nat_eq n q) refl
+  where
+    by : (b : Bool) → nat_eq n q ≡ b → times q items' ≡ mark (has_wish (lookup (nat_eq q) new))
+    by true t = ap (λ k. times k items') (sym (same_number n q t)) ∙ here ∙ ap (λ o. mark (has_wish o)) (sym (wrote old new n p w q true t))
+    by false t = others q t ∙ each q ∙ ap (λ o. mark (has_wish o)) (sym (wrote old new n p w q false t))
+
 -- a place without a wish comes, or stays without one
 pub each_same : (old new : List (ℕ × Place)) (items : List ℕ) (n : ℕ) (p : Place) → Writes old new n p → has_wish (Some p) ≡ has_wish (lookup (nat_eq n) old) → Each old items → Each new items
-each_same old new items n p w same each q = by (nat_eq n q) refl
-  where
-    by : (b : Bool) → nat_eq n q ≡ b → times q items ≡ mark (has_wish (lookup (nat_eq q) new))
-    by true t =
-        each q ∙ ap (λ k. mark (has_wish (lookup (nat_eq k) old))) (sym (same_number n q t)) ∙ ap (λ b. mark b) (sym same)
-        ∙ ap (λ o. mark (has_wish o)) (sym (wrote old new n p w q true t))
-    by false t = each q ∙ ap (λ o. mark (has_wish o)) (sym (wrote old new n p w q false t))
+each_same old new items n p w same each = each_moved old new items items n p w (each n ∙ ap (λ b. mark b) (sym same)) (λ q t. refl) each
+
+-- an item stands for one number and no other
+stands_for : (x n q : ℕ) → x + n ≡ 4294967295 → nat_eq n q ≡ false → mark (nat_eq (x + q) 4294967295) ≡ 0
+stands_for x n q sum t = let other = other_number n q t in ap (λ b. mark b) (untested (x + q) 4294967295 (λ e. other (omega arith)))
 
 -- a wish is noted
 pub each_noted : (old new : List (ℕ × Place)) (items items' : List ℕ) (x n : ℕ) (p : Place) → x + n ≡ 4294967295 → IsPermutation (x ∷ items) items' → Writes old new n p →
     has_wish (lookup (nat_eq n) old) ≡ false → is_some p.wish ≡ true → Each old items → Each new items'
-each_noted old new items items' x n p sum perm w was is each q = by (nat_eq n q) refl
+each_noted old new items items' x n p sum perm w was is each =
+    each_moved old new items items' n p w (omega (arith, pushed n, one, ap (λ b. mark b) was, ap (λ b. mark b) is, each n))
+    (λ q t. omega (arith, pushed q, stands_for x n q sum t)) each
   where
-    pushed : times q items' ≡ mark (nat_eq (x + q) 4294967295) + times q items
-    pushed = sum_by_pushed (λ y. mark (nat_eq (y + q) 4294967295)) x items items' perm
+    pushed : (q : ℕ) → times q items' ≡ mark (nat_eq (x + q) 4294967295) + times q items
+    pushed q = sum_by_pushed (λ y. mark (nat_eq (y + q) 4294967295)) x items items' perm
 
-    by : (b : Bool) → nat_eq n q ≡ b → times q items' ≡ mark (has_wish (lookup (nat_eq q) new))
-    by true t =
-        let same = same_number n q t in
-        let one = ap (λ b. mark b) (tested (x + q) 4294967295 (omega arith)) in
-        let before : mark (has_wish (lookup (nat_eq q) old)) ≡ 0 = ap (λ k. mark (has_wish (lookup (nat_eq k) old))) (sym same) ∙ ap (λ b. mark b) was in
-        let now : mark (has_wish (lookup (nat_eq q) new)) ≡ 1 = ap (λ o. mark (has_wish o)) (wrote old new n p w q true t) ∙ ap (λ b. mark b) is in
-        omega (arith, pushed, one, before, now, each q)
-    by false t =
-        let other = other_number n q t in
-        let none = ap (λ b. mark b) (untested (x + q) 4294967295 (λ e. other (omega arith))) in
-        let now : mark (has_wish (lookup (nat_eq q) new)) ≡ mark (has_wish (lookup (nat_eq q) old)) = ap (λ o. mark (has_wish o)) (wrote old new n p w q false t) in
-        omega (arith, pushed, none, now, each q)
+    one : mark (nat_eq (x + n) 4294967295) ≡ 1
+    one = ap (λ b. mark b) (tested (x + n) 4294967295 sum)
 
 -- a wish is taken
 pub each_taken : (old new : List (ℕ × Place)) (items items' : List ℕ) (x n : ℕ) (p : Place) → x + n ≡ 4294967295 → IsPermutation items (x ∷ items') → Writes old new n p →
     has_wish (lookup (nat_eq n) old) ≡ true → is_some p.wish ≡ false → Each old items → Each new items'
-each_taken old new items items' x n p sum perm w was is each q = by (nat_eq n q) refl
+each_taken old new items items' x n p sum perm w was is each =
+    each_moved old new items items' n p w (omega (arith, popped n, one, ap (λ b. mark b) was, ap (λ b. mark b) is, each n))
+    (λ q t. omega (arith, popped q, stands_for x n q sum t)) each
   where
-    popped : times q items' + mark (nat_eq (x + q) 4294967295) ≡ times q items
-    popped = sum_by_popped (λ y. mark (nat_eq (y + q) 4294967295)) x items items' perm
+    popped : (q : ℕ) → times q items' + mark (nat_eq (x + q) 4294967295) ≡ times q items
+    popped q = sum_by_popped (λ y. mark (nat_eq (y + q) 4294967295)) x items items' perm
 
-    by : (b : Bool) → nat_eq n q ≡ b → times q items' ≡ mark (has_wish (lookup (nat_eq q) new))
-    by true t =
-        let same = same_number n q t in
-        let one = ap (λ b. mark b) (tested (x + q) 4294967295 (omega arith)) in
-        let before : mark (has_wish (lookup (nat_eq q) old)) ≡ 1 = ap (λ k. mark (has_wish (lookup (nat_eq k) old))) (sym same) ∙ ap (λ b. mark b) was in
-        let now : mark (has_wish (lookup (nat_eq q) new)) ≡ 0 = ap (λ o. mark (has_wish o)) (wrote old new n p w q true t) ∙ ap (λ b. mark b) is in
-        omega (arith, popped, one, before, now, each q)
-    by false t =
-        let other = other_number n q t in
-        let none = ap (λ b. mark b) (untested (x + q) 4294967295 (λ e. other (omega arith))) in
-        let now : mark (has_wish (lookup (nat_eq q) new)) ≡ mark (has_wish (lookup (nat_eq q) old)) = ap (λ o. mark (has_wish o)) (wrote old new n p w q false t) in
-        omega (arith, popped, none, now, each q)
+    one : mark (nat_eq (x + n) 4294967295) ≡ 1
+    one = ap (λ b. mark b) (tested (x + n) 4294967295 sum)
 
 -- ---- the greatest item is the lowest number
 
