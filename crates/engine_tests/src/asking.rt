@@ -38,7 +38,11 @@ pub fn receive<R: LinkRelay>(engine: &mut Engine<R>, frame: Bytes) -> &'static s
 }
 
 /// The answer to a received frame, given by its hexadecimal digits.
-pub fn hear<R: LinkRelay>(alloc: Global, engine: &mut Engine<R>, digits: &str) -> &'static str {
+pub fn receive_digits<R: LinkRelay>(
+    alloc: Global,
+    engine: &mut Engine<R>,
+    digits: &str,
+) -> &'static str {
     match hex_bytes(alloc, digits) {
         Ok(Some(bytes)) => receive(engine, bytes),
         _ => "no bytes",

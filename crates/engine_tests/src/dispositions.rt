@@ -4,7 +4,7 @@ use crate::asking::opened;
 use crate::given::{ReplayEngine, ReplayInput};
 use crate::linking::allot_incoming;
 use crate::rows::{Ask, Row, first_wrong, first_wrong_opened};
-use crate::running::{heard, push, runs_to};
+use crate::running::{push, received_frame, runs_to};
 use fe2o3_amqp::{Input, ReplayRelay, SessionNo};
 use std::alloc::Global;
 use std::collections::VecDeque;
@@ -12,7 +12,7 @@ use std::collections::VecDeque;
 /// The peer's Begin on channel 5, which names channel 0; its outgoing window is 8.
 const BEGIN: &str = "02000005005311c009046000004352085208";
 
-const MAPPED: &[Row] = &[Row::Begins(0), Row::Asked(Ask::Hear(BEGIN), "done")];
+const MAPPED: &[Row] = &[Row::Begins(0), Row::Asked(Ask::Receive(BEGIN), "done")];
 
 /// An accepted state opens the window.
 const ACCEPTED: &[Row] = &[
@@ -33,8 +33,8 @@ const RECEIVED: &[Row] = &[
 
 /// A transfer under 1 and one under 3.
 const TRANSFERS: &[Row] = &[
-    Row::Asked(Ask::Hear("02000005005314c00703435201a0010aff"), "done"),
-    Row::Asked(Ask::Hear("02000005005314c00703435203a0010aff"), "done"),
+    Row::Asked(Ask::Receive("02000005005314c00703435201a0010aff"), "done"),
+    Row::Asked(Ask::Receive("02000005005314c00703435203a0010aff"), "done"),
     Row::Silence,
 ];
 
@@ -42,12 +42,12 @@ const TRANSFERS: &[Row] = &[
 const SMALL: &[Row] = &[
     Row::Asked(Ask::BeginWith(2), "done"),
     Row::Taken,
-    Row::Asked(Ask::Hear(BEGIN), "done"),
+    Row::Asked(Ask::Receive(BEGIN), "done"),
 ];
 
 /// A transfer that takes half of the window.
 const HALF: &[Row] = &[
-    Row::Asked(Ask::Hear("02000005005314c006034343a0010aff"), "done"),
+    Row::Asked(Ask::Receive("02000005005314c006034343a0010aff"), "done"),
     Row::Out("out 02000000005313c00b0452015202437000001388\n"),
 ];
 
@@ -77,7 +77,7 @@ fn linked(
 fn disposition_and_end(alloc: Global) -> VecDeque<ReplayInput> {
     let said = b"\x02\0\0\x05\0\x53\x15\xc0\x0a\x05\x42\x43\x52\x03\x42\0\x53\x24\x45";
     let mut inputs = VecDeque::new(alloc);
-    let _are_there = push(&mut inputs, heard(said))
+    let _are_there = push(&mut inputs, received_frame(said))
         && push(&mut inputs, Input::End(SessionNo(0), None));
     inputs
 }

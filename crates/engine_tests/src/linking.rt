@@ -1,6 +1,6 @@
 //! Asking an engine for links, with whatever relay.
 
-use crate::asking::{answer, begins, hear, puts_out, refusal};
+use crate::asking::{answer, begins, puts_out, receive_digits, refusal};
 use crate::given::unnamed_open;
 use bytes::Bytes;
 use fe2o3_amqp::{
@@ -21,7 +21,7 @@ pub fn mapped<R: LinkRelay>(alloc: Global) -> Engine<R> {
 /// The same, where this Begin of the peer's maps the session.
 pub fn mapped_by<R: LinkRelay>(alloc: Global, begin: &str) -> Engine<R> {
     let mut engine = Engine::new(alloc, ConnectionState::Opened, unnamed_open(alloc));
-    let _is_mapped = begins(&mut engine, 0) && hear(alloc, &mut engine, begin) == "done";
+    let _is_mapped = begins(&mut engine, 0) && receive_digits(alloc, &mut engine, begin) == "done";
     engine
 }
 

@@ -20,7 +20,7 @@ const DETACH: &str = "02000005005316c003015205";
 /// "a" is live on output handle 0 and attached under 5.
 const ATTACHED: &[Row] = &[
     Row::Live("a", 0),
-    Row::Asked(Ask::Hear(ATTACH_A), "done"),
+    Row::Asked(Ask::Receive(ATTACH_A), "done"),
     Row::Silence,
 ];
 
@@ -33,9 +33,9 @@ const DETACHED: &[Row] = &[
     Row::Silence,
     Row::Asked(Ask::Allot("b"), "done"),
     Row::Live("b", 1),
-    Row::Asked(Ask::Hear(DETACH), "done"),
+    Row::Asked(Ask::Receive(DETACH), "done"),
     Row::Silence,
-    Row::Asked(Ask::Hear(DETACH), "done"),
+    Row::Asked(Ask::Receive(DETACH), "done"),
     Row::Silence,
     Row::Asked(Ask::Allot("a"), "done"),
     Row::Live("a", 0),
@@ -43,22 +43,22 @@ const DETACHED: &[Row] = &[
 
 /// The peer detaches the link, the relay answers, and a second detach is not answered.
 const DETACHED_BY_THE_PEER: &[Row] = &[
-    Row::Asked(Ask::Hear(DETACH), "done"),
+    Row::Asked(Ask::Receive(DETACH), "done"),
     Row::Out("out 02000000005316c003015205\n"),
-    Row::Asked(Ask::Hear(DETACH), "done"),
+    Row::Asked(Ask::Receive(DETACH), "done"),
     Row::Silence,
 ];
 
 const REFUSED_ONCE: &[Row] = &[
-    Row::Asked(Ask::Hear(ATTACH_A), "TransferFrameToSender"),
-    Row::Asked(Ask::Hear(ATTACH_A), "done"),
-    Row::Asked(Ask::Hear(ATTACH_A), "HandleInUse"),
+    Row::Asked(Ask::Receive(ATTACH_A), "TransferFrameToSender"),
+    Row::Asked(Ask::Receive(ATTACH_A), "done"),
+    Row::Asked(Ask::Receive(ATTACH_A), "HandleInUse"),
 ];
 
 /// A link of the peer's is live on output handle 0, attached under 6, and its attach and flow go out.
 const INCOMING: &[Row] = &[
     Row::Live("c", 0),
-    Row::Asked(Ask::Hear(ATTACH_C), "HandleInUse"),
+    Row::Asked(Ask::Receive(ATTACH_C), "HandleInUse"),
     Row::Silence,
     Row::Asked(Ask::Attach("c", 0), "done"),
     Row::Out("out 02000000005312c00603a101634341\n"),
@@ -75,7 +75,7 @@ const STOPPED: &[Row] = &[
 
 const ENDED: &[Row] = &[
     Row::Begins(0),
-    Row::Asked(Ask::Hear(BEGIN), "done"),
+    Row::Asked(Ask::Receive(BEGIN), "done"),
     Row::Asked(Ask::End(0), "done"),
     Row::Out("out 0200000000531745\n"),
     Row::Unallotted(Why::Stopped(SessionStopReason::Ended)),

@@ -21,12 +21,12 @@ const END: &str = "0200000700531745";
 const ZERO_ENDED: &[Row] = &[
     Row::Begins(0),
     Row::Begins(1),
-    Row::Asked(Ask::Hear(FOR_ZERO), "done"),
+    Row::Asked(Ask::Receive(FOR_ZERO), "done"),
     Row::Led(0),
-    Row::Asked(Ask::Hear(FOR_ONE), "done"),
-    Row::Asked(Ask::Hear(FOR_ZERO), "IllegalState"),
+    Row::Asked(Ask::Receive(FOR_ONE), "done"),
+    Row::Asked(Ask::Receive(FOR_ZERO), "IllegalState"),
     Row::Led(0),
-    Row::Asked(Ask::Hear(END), "RemoteEnded"),
+    Row::Asked(Ask::Receive(END), "RemoteEnded"),
 ];
 
 const WITHOUT_A_ROUTE: &[Row] = &[
@@ -34,7 +34,7 @@ const WITHOUT_A_ROUTE: &[Row] = &[
     Row::State(0, Some(SessionState::EndReceived)),
     Row::Reason(0, Some(SessionStopReason::RemoteEnded)),
     Row::Reason(1, None),
-    Row::Asked(Ask::Hear(END), "NotFound"),
+    Row::Asked(Ask::Receive(END), "NotFound"),
 ];
 
 /// This side says of each session that it ended it.
@@ -46,7 +46,7 @@ const STOPPED: &[Row] = &[
     Row::Reason(1, Some(SessionStopReason::Ended)),
 ];
 
-const BEGUN: &[Row] = &[Row::Begins(0), Row::Asked(Ask::Hear(FOR_ZERO), "done")];
+const BEGUN: &[Row] = &[Row::Begins(0), Row::Asked(Ask::Receive(FOR_ZERO), "done")];
 
 #[test]
 fn an_end_takes_the_route_away(rt: HostRuntime) {

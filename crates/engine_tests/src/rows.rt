@@ -2,8 +2,8 @@
 //! proof several seconds.
 
 use crate::asking::{
-    answer, begins, engine_in, hear, led, numbers_of, pieces, puts_out, reason_of, send, state_of,
-    stopped, window_of,
+    answer, begins, engine_in, led, numbers_of, pieces, puts_out, reason_of, receive_digits, send,
+    state_of, stopped, window_of,
 };
 use crate::linking::{
     Why, allot, dispose, handle_of, puts_out_one, send_attach, send_detach, send_flow, unallotted,
@@ -23,7 +23,7 @@ pub enum Ask {
     /// That of its Close, without an error.
     Close,
     /// A frame that came, by its hexadecimal digits.
-    Hear(&'static str),
+    Receive(&'static str),
     /// The request of a session's Begin, of default settings.
     Begin(u32),
     /// The same of session 0, with this incoming window.
@@ -155,7 +155,7 @@ fn shows<R: LinkRelay>(engine: &Engine<R>, row: Row) -> bool {
 /// What an engine answers.
 fn asked<R: LinkRelay>(alloc: Global, engine: &mut Engine<R>, ask: Ask) -> &'static str {
     match ask {
-        Ask::Hear(digits) => hear(alloc, engine, digits),
+        Ask::Receive(digits) => receive_digits(alloc, engine, digits),
         Ask::Send(tag, payload) => send(engine, 0, tag, Bytes::from_static(payload)),
         Ask::Allot(name) => allot(alloc, engine, name, None),
         Ask::Attach(name, handle) => send_attach(alloc, engine, name, handle),

@@ -7,7 +7,7 @@ use std::alloc::{AllocError, Global};
 use std::collections::VecDeque;
 
 /// Received bytes, without the frame's size.
-pub fn heard(bytes: &'static [u8]) -> ReplayInput {
+pub fn received_frame(bytes: &'static [u8]) -> ReplayInput {
     Input::Received(Bytes::from_static(bytes))
 }
 

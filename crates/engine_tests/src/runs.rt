@@ -2,7 +2,7 @@
 
 use crate::asking::answer;
 use crate::given::{ReplayEngine, ReplayInput, unnamed_open};
-use crate::running::{heard, push, runs_to};
+use crate::running::{push, received_frame, runs_to};
 use bytes::Bytes;
 use fe2o3_amqp::{ConnectionState, Engine, Input};
 use std::alloc::{AllocError, Global};
@@ -11,7 +11,8 @@ use std::collections::VecDeque;
 /// Received bytes and then a Close.
 fn inputs(alloc: Global, bytes: &'static [u8]) -> VecDeque<ReplayInput> {
     let mut inputs = VecDeque::new(alloc);
-    let _are_there = push(&mut inputs, heard(bytes)) && push(&mut inputs, Input::Close(None));
+    let _are_there = push(&mut inputs, received_frame(bytes))
+        && push(&mut inputs, Input::Close(None));
     inputs
 }
 

@@ -19,7 +19,7 @@ const BEGUN: &[Row] = &[
 /// Session 0 is mapped with a window of 1, which a first transfer uses up, and a second one waits.
 const FULL: &[Row] = &[
     Row::Begins(0),
-    Row::Asked(Ask::Hear(BEGIN), "done"),
+    Row::Asked(Ask::Receive(BEGIN), "done"),
     Row::Asked(Ask::Send(b"\x0a", b"\xff"), "done"),
     Row::Out("out 02000000005314c006034343a0010aff\n"),
     Row::Asked(Ask::Send(b"\x0b", b"\xfe"), "done"),
@@ -30,7 +30,7 @@ const FULL: &[Row] = &[
 const LET_OUT: &[Row] = &[
     Row::State(0, Some(SessionState::Mapped)),
     Row::Numbers(0, (1, 0, 1)),
-    Row::Asked(Ask::Hear(FLOW), "done"),
+    Row::Asked(Ask::Receive(FLOW), "done"),
     Row::Numbers(0, (2, 0, 0)),
 ];
 
@@ -40,7 +40,7 @@ const ENDED: &[Row] = &[
     Row::Out("out 0200000000531745\n"),
     Row::State(0, Some(SessionState::EndSent)),
     Row::Reason(0, Some(SessionStopReason::Ended)),
-    Row::Asked(Ask::Hear(FLOW), "done"),
+    Row::Asked(Ask::Receive(FLOW), "done"),
     Row::Numbers(0, (1, 1, 1)),
 ];
 

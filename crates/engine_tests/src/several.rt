@@ -3,7 +3,7 @@
 use crate::asking::{first_transfer, opened};
 use crate::given::ReplayInput;
 use crate::rows::{Ask, Row, first_wrong};
-use crate::running::{heard, push, runs_to};
+use crate::running::{push, received_frame, runs_to};
 use bytes::Bytes;
 use fe2o3_amqp::{Input, InputHandle, SessionNo, SessionSettings};
 use std::alloc::Global;
@@ -15,7 +15,7 @@ const FLOW: &'static [u8] = b"\x02\0\0\x05\0\x53\x13\xc0\x07\x04\x43\x52\x02\x43
 /// Session 0 is mapped, with a window of 0.
 const MAPPED: &[Row] = &[
     Row::Begins(0),
-    Row::Asked(Ask::Hear("02000005005311c0080460000043435208"), "done"),
+    Row::Asked(Ask::Receive("02000005005311c0080460000043435208"), "done"),
 ];
 
 /// A session begins, and its Begin waits.
@@ -60,8 +60,8 @@ fn with_refusals(alloc: Global) -> VecDeque<ReplayInput> {
         && push(&mut inputs, begin(1))
         && push(&mut inputs, Input::Open)
         && push(&mut inputs, Input::End(SessionNo(9), None))
-        && push(&mut inputs, heard(b"\x02\0\0"))
-        && push(&mut inputs, heard(FLOW))
+        && push(&mut inputs, received_frame(b"\x02\0\0"))
+        && push(&mut inputs, received_frame(FLOW))
         && push(&mut inputs, Input::Close(None));
     inputs
 }
@@ -119,7 +119,7 @@ fn let_out_at_once(alloc: Global) -> VecDeque<ReplayInput> {
     let _are_there = push(&mut inputs, transfer(b"\x0a", b"\xff"))
         && push(&mut inputs, transfer(b"\x0b", b"\xfe"))
         && push(&mut inputs, transfer(b"\x0c", b"\xfd"))
-        && push(&mut inputs, heard(FLOW))
+        && push(&mut inputs, received_frame(FLOW))
         && push(&mut inputs, Input::End(SessionNo(0), None));
     inputs
 }

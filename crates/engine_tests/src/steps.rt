@@ -22,11 +22,11 @@ const OPENING: &[Row] = &[
 ];
 
 const RECEIVED: &[Row] = &[
-    Row::Asked(Ask::Hear("02000000"), "done"),
-    Row::Asked(Ask::Hear(PEER_OPEN), "done"),
+    Row::Asked(Ask::Receive("02000000"), "done"),
+    Row::Asked(Ask::Receive(PEER_OPEN), "done"),
     Row::Connection(ConnectionState::Opened, None),
-    Row::Asked(Ask::Hear(PEER_OPEN), "IllegalState"),
-    Row::Asked(Ask::Hear(PEER_CLOSE), "RemoteClosed"),
+    Row::Asked(Ask::Receive(PEER_OPEN), "IllegalState"),
+    Row::Asked(Ask::Receive(PEER_CLOSE), "RemoteClosed"),
     Row::Connection(
         ConnectionState::CloseReceived,
         Some(ConnectionStopReason::RemoteClosed),
@@ -36,7 +36,7 @@ const RECEIVED: &[Row] = &[
 const CLOSED: &[Row] = &[
     Row::Asked(Ask::Close, "done"),
     Row::Out("out 0200000000531845\n"),
-    Row::Asked(Ask::Hear(PEER_CLOSE_WITH_ERROR), "RemoteClosedWithError"),
+    Row::Asked(Ask::Receive(PEER_CLOSE_WITH_ERROR), "RemoteClosedWithError"),
     Row::Connection(ConnectionState::End, Some(ConnectionStopReason::Closed)),
 ];
 
