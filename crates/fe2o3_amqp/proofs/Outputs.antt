@@ -82,7 +82,7 @@ put_none v answers = record {
   taken = record { taken = Taken-none v; outcomes_stay = refl; wishes_stay = refl };
 }
 
-pub put_more : {R : Type 0} (v u w : EngineView R) (answers answers1 answers2 : List Answer) (a : Answer) → PutSoFar v answers u answers1 → NextAnswer u (Some a) w → answers2 ≡ answers1 ++ a ∷ [] → PutSoFar v answers w answers2
+pub put_more : {R : Type 0} (v u w : EngineView R) (answers answers1 answers2 : List Answer) (a : Answer) → PutSoFar v answers u answers1 → NextAnswer u a w → answers2 ≡ answers1 ++ a ∷ [] → PutSoFar v answers w answers2
 put_more v u w answers answers1 answers2 a p n pushed =
     let f : Frame = n.0 in
     let same : w.waiting ≡ n.1 = ap (λ (x : EngineView _). x.waiting) n.4 in

@@ -59,6 +59,5 @@ NextOutput view v (Ok (Some x)) w =
 NextOutput view v (Err (no.TooLarge g)) w = (fs : List Frame) × (v.waiting ≡ g ∷ fs) × (¬ Fits g v.limit) × (w ≡ record v { waiting = fs })
 NextOutput view v (Err no.Memory) w = FirstFits v.limit v.waiting × (w ≡ v)
 
-abbrev pub NextAnswer : {R : Type 0} → EngineView R → Option Answer → EngineView R → Type 0
-NextAnswer v (Some a) w = (f : Frame) × (fs : List Frame) × (v.waiting ≡ f ∷ fs) × IsOut v.limit f a × (w ≡ record v { waiting = fs })
-NextAnswer v None w = w ≡ v
+abbrev pub NextAnswer : {R : Type 0} → EngineView R → Answer → EngineView R → Type 0
+NextAnswer v a w = (f : Frame) × (fs : List Frame) × (v.waiting ≡ f ∷ fs) × IsOut v.limit f a × (w ≡ record v { waiting = fs })

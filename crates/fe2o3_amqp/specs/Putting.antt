@@ -1,5 +1,5 @@
 -- The first of the frames that wait: encoded where it stands, and dropped or handed back there.
-use Rattle.std.specs.Prelude.{◌≡◌, List, [], ◌∷◌, ◌++◌, Option, Some, Result}
+use Rattle.std.specs.Prelude.{◌≡◌, List, [], ◌∷◌, ◌++◌, Option, Result}
 use Rattle.amqp_frames.specs.declared.error.Error.{Error}
 use Rattle.amqp_frames.specs.declared.frame.Frame.{Frame}
 use Rattle.amqp_frames.specs.Piece.{PieceParts}
@@ -23,4 +23,4 @@ FirstUnfit v = (f : Frame) × FirstIs f v.waiting × (¬ Fits f v.limit)
 
 -- the first one waits no longer, and its answer is appended
 abbrev pub PutsFirst : {R : Type 0} → EngineView R → List Answer → EngineView R → List Answer → Type 0
-PutsFirst v answers w answers' = (a : Answer) × NextAnswer v (Some a) w × (answers' ≡ answers ++ a ∷ [])
+PutsFirst v answers w answers' = (a : Answer) × NextAnswer v a w × (answers' ≡ answers ++ a ∷ [])
