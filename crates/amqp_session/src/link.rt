@@ -86,7 +86,8 @@ impl<R: LinkRelay> Links<R> {
         flow: LinkFlow,
     ) -> Result<Option<LinkFlow>, LinkRelayError>
         requires { IsSome (attached_at input.0 self.old) }
-        ensures { Asked (of_flow R.gives.flow_gives) (attached_at input.0 self.old) flow result (λ link. self.new ≡ put_at input.0 link self.old) }
+        ensures { Asked (of_flow R.gives.flow_gives) (attached_at input.0 self.old) flow result
+            (λ link. self.new ≡ put_at input.0 link self.old) }
     {
         inputs::ask_flow(&mut self.inputs, input, flow)
     }
@@ -100,7 +101,8 @@ impl<R: LinkRelay> Links<R> {
         payload: Bytes,
     ) -> Result<Option<(DeliveryNumber, DeliveryTag)>, LinkRelayError>
         requires { IsSome (attached_at input.0 self.old) }
-        ensures { Asked (of_transfer R.gives.transfer_gives) (attached_at input.0 self.old) (transfer, payload) result (λ link. self.new ≡ put_at input.0 link self.old) }
+        ensures { Asked (of_transfer R.gives.transfer_gives) (attached_at input.0 self.old) (transfer, payload) result
+            (λ link. self.new ≡ put_at input.0 link self.old) }
     {
         inputs::ask_transfer(&mut self.inputs, input, transfer, payload)
     }
@@ -109,7 +111,8 @@ impl<R: LinkRelay> Links<R> {
     /// says whether it answered true.
     #[inline(always)]
     pub(crate) fn ask_disposition(&mut self, said: &Disposition, delivery: &Delivery) -> bool
-        ensures { (asked : Option (DispositionQuestion R)) × AsksAt R.gives.disposition_gives said.now delivery.now asked self.old self.new × (result ≡ has_agreed asked) }
+        ensures { (asked : Option (DispositionQuestion R))
+            × AsksAt R.gives.disposition_gives said.now delivery.now asked self.old self.new × (result ≡ has_agreed asked) }
     {
         if !self.is_attached(delivery.input_handle) {
             return false;

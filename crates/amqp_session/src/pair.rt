@@ -164,7 +164,9 @@ impl<R: LinkRelay> SessionPair<R> {
         payload: Bytes,
         is_first: bool,
     ) -> Result<(), SessionInnerError>
-        ensures step { TransferStep R.gives side (record { input_handle = input_handle.0; transfer = transfer; payload = payload; is_first = is_first }) result self.old self.new }
+        ensures step { TransferStep R.gives side
+            (record { input_handle = input_handle.0; transfer = transfer; payload = payload; is_first = is_first })
+            result self.old self.new }
         ensures holds { PairHolds self.new }
     {
         match side {

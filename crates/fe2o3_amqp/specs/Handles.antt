@@ -122,7 +122,8 @@ abbrev pub AsksEnd : {R : Type 0} → ℕ → Option (SessionView R) → EngineV
 AsksEnd n None v answer told w = (answer ≡ Ok (Err unended.IllegalState)) × (told ≡ true) × (w ≡ v)
 AsksEnd n (Some s) v answer told w = TriesEnd n (end_told s.state (map.get v.outcomes.sessions n)) (end_noted n None v) answer told w
 
-abbrev pub TryEndCall : {R : Type 0} → SessionHandleView → EngineView R → Result EndAnswer TryEndError → SessionHandleView → EngineView R → Type 0
+abbrev pub TryEndCall : {R : Type 0} →
+    SessionHandleView → EngineView R → Result EndAnswer TryEndError → SessionHandleView → EngineView R → Type 0
 TryEndCall h v answer h' w =
     (h'.number ≡ h.number) × (h.told ≡ true → (answer ≡ Err not_ended.AlreadyEnded) × (h'.told ≡ true) × (w ≡ v))
     × (h.told ≡ false → AsksEnd h.number (lookup (nat_eq h.number) v.sessions) v answer h'.told w)

@@ -14,7 +14,8 @@ use amqp_session::{LinkRelay, laws as session};
 /// connection the state, the stop reason, the Open, the channel maximum, the channels that are held and the routes of received
 /// frames; the limit of a piece; and the frames that wait.
 pub fn law_of_views<R: LinkRelay>()
-    ensures { (state : ConnectionState) (o : OpenSaid) (H : List (Entry R)) (w : EngineView R) → LeadsTo R.gives state o H w → Stands state o H w }
+    ensures { (state : ConnectionState) (o : OpenSaid) (H : List (Entry R)) (w : EngineView R)
+        → LeadsTo R.gives state o H w → Stands state o H w }
 {
     session::law_of_views::<R>();
 }
@@ -22,7 +23,8 @@ pub fn law_of_views<R: LinkRelay>()
 /// Every legal history has the properties of `Headline`. One of them: an engine made in `HeaderExchange` hands out at most one
 /// Open and one Close (AMQP 1.0 part 2, section 2.4).
 pub fn law_of_histories<R: LinkRelay>()
-    ensures { (state : ConnectionState) (o : OpenSaid) (H : List (Entry R)) (w : EngineView R) → LeadsTo R.gives state o H w → Headline state o H }
+    ensures { (state : ConnectionState) (o : OpenSaid) (H : List (Entry R)) (w : EngineView R)
+        → LeadsTo R.gives state o H w → Headline state o H }
 {
     session::law_of_views::<R>();
     session::law_of_channels::<R>();

@@ -48,7 +48,8 @@ pub(super) fn ask_flow<R: LinkRelay>(
     flow: LinkFlow,
 ) -> Result<Option<LinkFlow>, LinkRelayError>
     requires { IsSome (lookup (nat_eq input.0) inputs.old.entries) }
-    ensures { Asked (of_flow R.gives.flow_gives) (lookup (nat_eq input.0) inputs.old.entries) flow result (λ link. inputs.new.entries ≡ set_value (nat_eq input.0) inputs.old.entries link) }
+    ensures { Asked (of_flow R.gives.flow_gives) (lookup (nat_eq input.0) inputs.old.entries) flow result
+        (λ link. inputs.new.entries ≡ set_value (nat_eq input.0) inputs.old.entries link) }
 {
     let link = inputs.get_mut(&input.0).unwrap();
     link.relay.on_incoming_flow(link.handle, flow)
@@ -63,7 +64,8 @@ pub(super) fn ask_transfer<R: LinkRelay>(
     payload: Bytes,
 ) -> Result<Option<(DeliveryNumber, DeliveryTag)>, LinkRelayError>
     requires { IsSome (lookup (nat_eq input.0) inputs.old.entries) }
-    ensures { Asked (of_transfer R.gives.transfer_gives) (lookup (nat_eq input.0) inputs.old.entries) (transfer, payload) result (λ link. inputs.new.entries ≡ set_value (nat_eq input.0) inputs.old.entries link) }
+    ensures { Asked (of_transfer R.gives.transfer_gives) (lookup (nat_eq input.0) inputs.old.entries) (transfer, payload) result
+        (λ link. inputs.new.entries ≡ set_value (nat_eq input.0) inputs.old.entries link) }
 {
     let link = inputs.get_mut(&input.0).unwrap();
     link.relay.on_incoming_transfer(transfer, payload)
@@ -77,7 +79,9 @@ pub(super) fn ask_disposition<R: LinkRelay>(
     delivery: &Delivery,
 ) -> bool
     requires { IsSome (lookup (nat_eq delivery.now.input_handle.0) inputs.old.entries) }
-    ensures { Asked (of_disposition R.gives.disposition_gives) (lookup (nat_eq delivery.now.input_handle.0) inputs.old.entries) (question_of said.now delivery.now) result (λ link. inputs.new.entries ≡ set_value (nat_eq delivery.now.input_handle.0) inputs.old.entries link) }
+    ensures { Asked (of_disposition R.gives.disposition_gives) (lookup (nat_eq delivery.now.input_handle.0) inputs.old.entries)
+        (question_of said.now delivery.now) result
+        (λ link. inputs.new.entries ≡ set_value (nat_eq delivery.now.input_handle.0) inputs.old.entries link) }
 {
     let link = inputs.get_mut(&delivery.input_handle.0).unwrap();
     let (role, settled, state) = (said.role, said.settled, said.state.as_ref());

@@ -88,7 +88,8 @@ impl<R: LinkRelay> Links<R> {
     ) -> Result<OutputHandle, AllocLinkError>
         ensures free { IfOk result (λ h. map.get self.old.handles h.0 ≡ None) }
         ensures fits { IfOk result (λ h. h.0 < 2 ^ 32) }
-        ensures ok { IfOk result (λ h. self.new ≡ put_at input.0 (record { handle = h; relay = relay }) (linked (string_bytes name) h None self.old)) }
+        ensures ok { IfOk result (λ h. self.new ≡ put_at input.0
+            (record { handle = h; relay = relay }) (linked (string_bytes name) h None self.old)) }
         ensures full { IfErr result (λ e. IsFull e) }
         ensures err { IfErr result (λ e. self.new ≡ self.old) }
     {
@@ -155,7 +156,10 @@ impl<R: LinkRelay> Links<R> {
     /// Whether the peer's answer was awaited for a handle, which is then free.
     fn answer(&mut self, handle: OutputHandle) -> bool
         ensures answer { result ≡ awaits handle.0 self.old }
-        ensures freed { self.new ≡ record self.old { handles = if awaits handle.0 self.old then map.remove self.old.handles handle.0 else self.old.handles } }
+        ensures freed { self.new ≡ record self.old {
+          handles =
+              if awaits handle.0 self.old then map.remove self.old.handles handle.0 else self.old.handles;
+        } }
     {
         let awaited = handles::awaits(&self.handles, handle.0);
         if awaited {

@@ -68,7 +68,8 @@ pub(super) fn attach_at<R: LinkRelay>(
     attach: Attach,
     going: &mut VecDeque<SessionFrame>,
 ) -> Result<(), SessionInnerError>
-    ensures { FrameAt R.gives (SendsAttach attach (attach_frame me.now.view attach)) me.now.view going.old.items result me.now.view going.new.items }
+    ensures { FrameAt R.gives (SendsAttach attach (attach_frame me.now.view attach)) me.now.view going.old.items result
+        me.now.view going.new.items }
 {
     if !me.can_send() {
         drop(attach);
@@ -88,7 +89,8 @@ pub(super) fn flow_at<R: LinkRelay>(
     flow: LinkFlow,
     going: &mut VecDeque<SessionFrame>,
 ) -> Result<(), SessionInnerError>
-    ensures { FrameAt R.gives (SendsFlow flow (flow_frame me.now.view flow)) me.now.view going.old.items result me.now.view going.new.items }
+    ensures { FrameAt R.gives (SendsFlow flow (flow_frame me.now.view flow)) me.now.view going.old.items result
+        me.now.view going.new.items }
 {
     if !me.can_send() {
         return Err(SessionInnerError::IllegalState);
@@ -109,7 +111,9 @@ pub(super) fn transfer_at<R: LinkRelay>(
     is_first: bool,
     going: &mut VecDeque<SessionFrame>,
 ) -> Result<(), SessionInnerError>
-    ensures { TransferAt R.gives (record { input_handle = input_handle.0; transfer = transfer; payload = payload; is_first = is_first }) me.old.view going.old.items result me.new.view going.new.items }
+    ensures { TransferAt R.gives
+        (record { input_handle = input_handle.0; transfer = transfer; payload = payload; is_first = is_first })
+        me.old.view going.old.items result me.new.view going.new.items }
 {
     if !me.can_send() {
         drop(transfer);

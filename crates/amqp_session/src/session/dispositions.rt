@@ -55,7 +55,9 @@ impl<R: LinkRelay> Session<R> {
         &mut self,
         disposition: Disposition,
     ) -> Result<Option<Vec<Disposition>>, SessionInnerError>
-        ensures step { (asked : List (DispositionQuestion R)) × TakeDispositionStep R.gives.disposition_gives self.old.view disposition asked (result_map_both (option_map (λ v. v.items)) (λ e. e) result) self.new.view }
+        ensures step { (asked : List (DispositionQuestion R))
+            × TakeDispositionStep R.gives.disposition_gives self.old.view disposition asked
+            (result_map_both (option_map (λ v. v.items)) (λ e. e) result) self.new.view }
         ensures bound { IsBounded disposition (rows_of disposition self.old.view) result self.new.last_walk }
     {
         self.last_walk = WalkCount::new();
@@ -106,8 +108,13 @@ impl<R: LinkRelay> Session<R> {
         requires settled { said.now.settled ≡ true }
         requires forward { span said.now.first said.now.last < 2 ^ 31 }
         requires unread { self.old.last_walk ≡ nothing_read }
-        ensures asked { (asked : List (DispositionQuestion R)) × AsksEach R.gives.disposition_gives said.now (meant said.now (rows_of said.now self.old.view)) asked self.old.view.links self.new.view.links }
-        ensures view { self.new.view ≡ record self.old.view { links = self.new.view.links; deliveries = with_role said.now.role (not_meant said.now (rows_of said.now self.old.view)) self.old.view.deliveries } }
+        ensures asked { (asked : List (DispositionQuestion R))
+            × AsksEach R.gives.disposition_gives said.now
+            (meant said.now (rows_of said.now self.old.view)) asked self.old.view.links self.new.view.links }
+        ensures view { self.new.view ≡ record self.old.view {
+          links = self.new.view.links;
+          deliveries = with_role said.now.role (not_meant said.now (rows_of said.now self.old.view)) self.old.view.deliveries;
+        } }
         ensures walk { IsWalked said.now (rows_of said.now self.old.view) true self.new.last_walk }
     {
         let (links, walk) = (&mut self.links, &mut self.last_walk);
@@ -123,10 +130,17 @@ impl<R: LinkRelay> Session<R> {
         requires settled { said.now.settled ≡ false }
         requires forward { span said.now.first said.now.last < 2 ^ 31 }
         requires unread { self.old.last_walk ≡ nothing_read }
-        ensures asked { IfOk result (λ echoes. (asked : List (DispositionQuestion R)) × AsksEach R.gives.disposition_gives said.now (meant said.now (rows_of said.now self.old.view)) asked self.old.view.links self.new.view.links × Echoes said.now (agreed asked) echoes.items) }
-        ensures refused { OnErr result ((self.new.view.links ≡ self.old.view.links) ⊎ ((asked : List (DispositionQuestion R)) × AsksEach R.gives.disposition_gives said.now (meant said.now (rows_of said.now self.old.view)) asked self.old.view.links self.new.view.links)) }
+        ensures asked { IfOk result (λ echoes. (asked : List (DispositionQuestion R))
+            × AsksEach R.gives.disposition_gives said.now
+            (meant said.now (rows_of said.now self.old.view)) asked self.old.view.links self.new.view.links
+            × Echoes said.now (agreed asked) echoes.items) }
+        ensures refused { OnErr result ((self.new.view.links ≡ self.old.view.links)
+            ⊎ ((asked : List (DispositionQuestion R))
+            × AsksEach R.gives.disposition_gives said.now
+            (meant said.now (rows_of said.now self.old.view)) asked self.old.view.links self.new.view.links)) }
         ensures view { self.new.view ≡ record self.old.view { links = self.new.view.links } }
-        ensures walk { (went : Bool) × (OnOk result (went ≡ true)) × IsWalked said.now (rows_of said.now self.old.view) went self.new.last_walk }
+        ensures walk { (went : Bool) × (OnOk result (went ≡ true))
+            × IsWalked said.now (rows_of said.now self.old.view) went self.new.last_walk }
     {
         let (links, walk) = (&mut self.links, &mut self.last_walk);
         match said.role {
@@ -158,7 +172,8 @@ fn settle<R: LinkRelay>(
     requires forward { span said.now.first said.now.last < 2 ^ 31 }
     requires unread { walk.old ≡ nothing_read }
     ensures rows { rows.new.rows ≡ not_meant said.now rows.old.rows }
-    ensures asked { (asked : List (DispositionQuestion R)) × AsksEach R.gives.disposition_gives said.now (meant said.now rows.old.rows) asked links.old links.new }
+    ensures asked { (asked : List (DispositionQuestion R))
+        × AsksEach R.gives.disposition_gives said.now (meant said.now rows.old.rows) asked links.old links.new }
     ensures walk { IsWalked said.now rows.old.rows true walk.new }
 {
     let mut runs = Vec::new(alloc);
@@ -178,8 +193,12 @@ fn ask<R: LinkRelay>(
     requires settled { said.now.settled ≡ false }
     requires forward { span said.now.first said.now.last < 2 ^ 31 }
     requires unread { walk.old ≡ nothing_read }
-    ensures asked { IfOk result (λ echoes. (asked : List (DispositionQuestion R)) × AsksEach R.gives.disposition_gives said.now (meant said.now rows.now.rows) asked links.old links.new × Echoes said.now (agreed asked) echoes.items) }
-    ensures refused { OnErr result ((links.new ≡ links.old) ⊎ ((asked : List (DispositionQuestion R)) × AsksEach R.gives.disposition_gives said.now (meant said.now rows.now.rows) asked links.old links.new)) }
+    ensures asked { IfOk result (λ echoes. (asked : List (DispositionQuestion R))
+        × AsksEach R.gives.disposition_gives said.now (meant said.now rows.now.rows) asked links.old links.new
+        × Echoes said.now (agreed asked) echoes.items) }
+    ensures refused { OnErr result ((links.new ≡ links.old)
+        ⊎ ((asked : List (DispositionQuestion R))
+        × AsksEach R.gives.disposition_gives said.now (meant said.now rows.now.rows) asked links.old links.new)) }
     ensures walk { (went : Bool) × (OnOk result (went ≡ true)) × IsWalked said.now rows.now.rows went walk.new }
 {
     let span = said.last.unwrap_or(said.first).wrapping_sub(said.first);

@@ -76,7 +76,8 @@ pub(crate) fn frame_of(
     payload: Bytes,
     is_first: bool,
 ) -> SessionFrame
-    ensures { result ≡ frame_of channel.0 delivery (record { input_handle = 0; transfer = transfer; payload = payload; is_first = is_first }) }
+    ensures { result ≡ frame_of channel.0 delivery
+        (record { input_handle = 0; transfer = transfer; payload = payload; is_first = is_first }) }
 {
     let mut performative = transfer;
     performative.delivery_id = if is_first { Some(delivery) } else { None };
@@ -129,7 +130,8 @@ impl HeldTransfer {
         payload: Bytes,
         is_first: bool,
     ) -> Result<HeldTransfer, AllocError>
-        ensures { IfOk result (λ held. held ≡ record { input_handle = input_handle.0; transfer = transfer; payload = payload; is_first = is_first }) }
+        ensures { IfOk result (λ held. held
+            ≡ record { input_handle = input_handle.0; transfer = transfer; payload = payload; is_first = is_first }) }
     {
         let tag = tag_to_keep(&transfer, is_first)?;
         Ok(HeldTransfer {

@@ -119,7 +119,8 @@ impl<R: LinkRelay> Session<R> {
         transfer: Transfer,
         payload: Bytes,
     ) -> Result<Option<Disposition>, SessionInnerError>
-        ensures step { (asked : Option (TransferQuestion R)) × TakeTransferStep R.gives.transfer_gives self.old.view transfer payload asked result self.new.view }
+        ensures step { (asked : Option (TransferQuestion R))
+            × TakeTransferStep R.gives.transfer_gives self.old.view transfer payload asked result self.new.view }
         ensures walk { self.new.last_walk ≡ self.old.last_walk }
     {
         self.receiving.count_transfer();
@@ -176,7 +177,8 @@ impl<R: LinkRelay> Session<R> {
         input: InputHandle,
         flow: LinkFlow,
     ) -> Result<Option<SessionOutgoingItem>, SessionInnerError>
-        ensures step { (asked : Option (FlowQuestion R)) × LinkFlowStep R.gives.flow_gives self.old.view input.0 flow asked result self.new.view }
+        ensures step { (asked : Option (FlowQuestion R))
+            × LinkFlowStep R.gives.flow_gives self.old.view input.0 flow asked result self.new.view }
         ensures walk { self.new.last_walk ≡ self.old.last_walk }
     {
         if !self.links.is_attached(input) {
@@ -197,7 +199,8 @@ impl<R: LinkRelay> Session<R> {
     ) -> Result<Option<SessionOutgoingItem>, SessionInnerError>
         requires mapped { is_mapped self.old.view.state ≡ true }
         requires attached { IsSome (attached_at input.0 self.old.view.links) }
-        ensures step { (asked : Option (FlowQuestion R)) × LinkFlowStep R.gives.flow_gives self.old.view input.0 flow asked result self.new.view }
+        ensures step { (asked : Option (FlowQuestion R))
+            × LinkFlowStep R.gives.flow_gives self.old.view input.0 flow asked result self.new.view }
         ensures walk { self.new.last_walk ≡ self.old.last_walk }
     {
         let Ok(room) = take_room(self.alloc, self.sending.ready(), &mut self.sent) else {
@@ -226,7 +229,8 @@ impl<R: LinkRelay> Session<R> {
     ) -> Result<Option<SessionOutgoingItem>, SessionInnerError>
         requires mapped { is_mapped self.old.view.state ≡ false }
         requires attached { IsSome (attached_at input.0 self.old.view.links) }
-        ensures step { (asked : Option (FlowQuestion R)) × LinkFlowStep R.gives.flow_gives self.old.view input.0 flow asked result self.new.view }
+        ensures step { (asked : Option (FlowQuestion R))
+            × LinkFlowStep R.gives.flow_gives self.old.view input.0 flow asked result self.new.view }
         ensures walk { self.new.last_walk ≡ self.old.last_walk }
     {
         match self.links.ask_flow(input, flow) {

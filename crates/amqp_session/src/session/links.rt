@@ -81,7 +81,8 @@ impl<R: LinkRelay> Session<R> {
     /// `OutOfMemory` where memory is refused: it is taken before the relay is asked. An error of the relay is passed on, and
     /// the relay goes on to wait.
     pub fn on_incoming_attach(&mut self, attach: Attach) -> Result<(), SessionInnerError>
-        ensures step { (asked : Option (AttachQuestion R)) × TakeAttachStep R.gives.attach_gives self.old.view attach asked result self.new.view }
+        ensures step { (asked : Option (AttachQuestion R))
+            × TakeAttachStep R.gives.attach_gives self.old.view attach asked result self.new.view }
         ensures walk { self.new.last_walk ≡ self.old.last_walk }
     {
         self.links.attach(attach)
@@ -94,7 +95,8 @@ impl<R: LinkRelay> Session<R> {
         &mut self,
         detach: Detach,
     ) -> Result<Option<Detach>, SessionInnerError>
-        ensures step { (asked : Option (DetachQuestion R)) × TakeDetachStep R.gives.detach_gives self.old.view detach asked result self.new.view }
+        ensures step { (asked : Option (DetachQuestion R))
+            × TakeDetachStep R.gives.detach_gives self.old.view detach asked result self.new.view }
         ensures walk { self.new.last_walk ≡ self.old.last_walk }
     {
         Ok(self.links.detach(detach))

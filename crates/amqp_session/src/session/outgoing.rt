@@ -51,7 +51,9 @@ impl<R: LinkRelay> Session<R> {
         payload: Bytes,
         is_first: bool,
     ) -> Result<Option<SessionOutgoingItem>, SessionInnerError>
-        ensures step { SendTransferStep self.old.view (record { input_handle = input_handle.0; transfer = transfer; payload = payload; is_first = is_first }) result self.new.view }
+        ensures step { SendTransferStep self.old.view
+            (record { input_handle = input_handle.0; transfer = transfer; payload = payload; is_first = is_first })
+            result self.new.view }
         ensures walk { self.new.last_walk ≡ self.old.last_walk }
     {
         if !self.can_send() || (is_first && transfer.delivery_tag.is_none()) {
@@ -93,9 +95,12 @@ impl<R: LinkRelay> Session<R> {
         is_first: bool,
     ) -> Result<Option<SessionOutgoingItem>, SessionInnerError>
         requires mapped { is_mapped self.old.view.state ≡ true }
-        requires tagged { ¬ (IsUntagged (record { input_handle = input_handle.0; transfer = transfer; payload = payload; is_first = is_first })) }
+        requires tagged { ¬ (IsUntagged
+            (record { input_handle = input_handle.0; transfer = transfer; payload = payload; is_first = is_first })) }
         requires waits { self.old.view.sending.held ≡ [] → self.old.view.sending.remote_incoming_window ≡ 0 }
-        ensures step { SendTransferStep self.old.view (record { input_handle = input_handle.0; transfer = transfer; payload = payload; is_first = is_first }) result self.new.view }
+        ensures step { SendTransferStep self.old.view
+            (record { input_handle = input_handle.0; transfer = transfer; payload = payload; is_first = is_first })
+            result self.new.view }
         ensures walk { self.new.last_walk ≡ self.old.last_walk }
     {
         let channel = self.outgoing_channel;

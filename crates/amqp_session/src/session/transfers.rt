@@ -209,9 +209,14 @@ impl Sending {
         requires open_window { 0 < self.old.remote_incoming_window }
         requires records { length deliveries.old.rows < deliveries.old.capacity }
         requires tag { option_map (λ t. t.0) tag ≡ kept_tag is_first transfer }
-        ensures frame { let_out channel.0 (joined self.old (record { input_handle = input_handle.0; transfer = transfer; payload = payload; is_first = is_first })) ≡ result ∷ [] }
-        ensures drained { self.new ≡ drained (joined self.old (record { input_handle = input_handle.0; transfer = transfer; payload = payload; is_first = is_first })) }
-        ensures opened { deliveries.new.rows ≡ opened_by (joined self.old (record { input_handle = input_handle.0; transfer = transfer; payload = payload; is_first = is_first })) deliveries.old.rows }
+        ensures frame { let_out channel.0 (joined self.old
+            (record { input_handle = input_handle.0; transfer = transfer; payload = payload; is_first = is_first }))
+            ≡ result ∷ [] }
+        ensures drained { self.new ≡ drained (joined self.old
+            (record { input_handle = input_handle.0; transfer = transfer; payload = payload; is_first = is_first })) }
+        ensures opened { deliveries.new.rows ≡ opened_by (joined self.old
+            (record { input_handle = input_handle.0; transfer = transfer; payload = payload; is_first = is_first }))
+            deliveries.old.rows }
     {
         let delivery = self.next_delivery;
         record_opened(deliveries, record_of(delivery, input_handle, tag));
@@ -259,9 +264,13 @@ impl Sending {
         deliveries: &mut Deliveries,
     ) -> Result<Option<SessionOutgoingItem>, AllocError>
         requires waits { self.old.held ≡ [] → self.old.remote_incoming_window ≡ 0 }
-        ensures item { IfOk result (λ item. HandsOut (is_some_held self.old.held) (let_out channel.0 (joined self.old (record { input_handle = input_handle.0; transfer = transfer; payload = payload; is_first = is_first }))) item) }
-        ensures drained { OnOk result (self.new ≡ drained (joined self.old (record { input_handle = input_handle.0; transfer = transfer; payload = payload; is_first = is_first }))) }
-        ensures opened { OnOk result (deliveries.new.rows ≡ opened_by (joined self.old (record { input_handle = input_handle.0; transfer = transfer; payload = payload; is_first = is_first })) deliveries.old.rows) }
+        ensures item { IfOk result (λ item. HandsOut (is_some_held self.old.held) (let_out channel.0 (joined self.old
+            (record { input_handle = input_handle.0; transfer = transfer; payload = payload; is_first = is_first }))) item) }
+        ensures drained { OnOk result (self.new ≡ drained (joined self.old
+            (record { input_handle = input_handle.0; transfer = transfer; payload = payload; is_first = is_first }))) }
+        ensures opened { OnOk result (deliveries.new.rows ≡ opened_by (joined self.old
+            (record { input_handle = input_handle.0; transfer = transfer; payload = payload; is_first = is_first }))
+            deliveries.old.rows) }
         ensures err { OnErr result (self.new ≡ self.old) }
         ensures err_rows { OnErr result (deliveries.new.rows ≡ deliveries.old.rows) }
     {

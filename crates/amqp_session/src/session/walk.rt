@@ -57,7 +57,9 @@ pub(super) fn ask_each<R: LinkRelay>(
     requires room { said.now.settled ≡ false → min (length rows.now.rows) (span said.now.first said.now.last + 1) ≤ vec_capacity runs.old }
     ensures within { result ≤ length rows.now.rows }
     ensures split { IsSplit said.now (turned from rows.now.rows) result }
-    ensures asked { (asked : List (DispositionQuestion R)) × AsksEach R.gives.disposition_gives said.now (take result (turned from rows.now.rows)) asked links.old links.new × AreRuns said.now.first (noted said.now.settled asked) runs.new.items }
+    ensures asked { (asked : List (DispositionQuestion R))
+        × AsksEach R.gives.disposition_gives said.now (take result (turned from rows.now.rows)) asked links.old links.new
+        × AreRuns said.now.first (noted said.now.settled asked) runs.new.items }
     ensures most { walk.new.turns ≤ result + 1 }
     ensures least { result ≤ walk.new.turns }
     ensures search { walk.new.comparisons ≡ walk.old.comparisons }

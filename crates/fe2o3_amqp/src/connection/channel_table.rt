@@ -45,7 +45,8 @@ impl Model for ChannelTable {
 
     ghost view = { λ t. map.from_entries t.held.entries };
 
-    ghost invariant = { λ t. Channelled t.held.entries (index_map_len t.held) (heap_items t.free) (heap_len t.free) (heap_capacity t.free) t.next };
+    ghost invariant = { λ t. Channelled t.held.entries (index_map_len t.held) (heap_items t.free) (heap_len t.free)
+        (heap_capacity t.free) t.next };
 }
 
 impl ChannelTable {

@@ -119,7 +119,8 @@ impl Model for Kept {
 
     ghost coded = { Prim.hlevel (codes, map.code) };
 
-    ghost view = { λ t. kept_view t.outcome t.close t.places.entries (min (spare t.places) (heap_capacity t.queue - index_map_len t.places)) };
+    ghost view = { λ t. kept_view t.outcome t.close t.places.entries
+        (min (spare t.places) (heap_capacity t.queue - index_map_len t.places)) };
 
     ghost invariant = { λ t. Queued t.places.entries (heap_items t.queue) (heap_len t.queue) (heap_capacity t.queue) };
 }

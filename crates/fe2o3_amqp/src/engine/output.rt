@@ -81,7 +81,8 @@ impl<R: LinkRelay> Engine<R> {
 
     /// Puts out what waits.
     pub(crate) fn put_out(&mut self, answers: &mut Vec<Answer>) -> Result<(), AllocError>
-        ensures said { (out : List Answer) × (answers.new.items ≡ answers.old.items ++ out) × PutOut self.old.limit self.old.waiting self.new.waiting out }
+        ensures said { (out : List Answer) × (answers.new.items ≡ answers.old.items ++ out)
+            × PutOut self.old.limit self.old.waiting self.new.waiting out }
         ensures taken { OnlyLeft self.old self.new }
         ensures ok { OnOk result (self.new.waiting ≡ []) }
     {

@@ -259,7 +259,8 @@ impl<R: LinkRelay> Engine<R> {
     #[inline(never)]
     fn request_begin(&mut self, number: u32, settings: SessionSettings) -> Result<(), StepError>
         requires { self.old.waiting ≡ [] }
-        ensures { (reached : Option ℕ) × (calls : List (session.Entry R)) × BeginRequest R.gives self.old number settings reached calls (refusal_of result) self.new }
+        ensures { (reached : Option ℕ) × (calls : List (session.Entry R))
+            × BeginRequest R.gives self.old number settings reached calls (refusal_of result) self.new }
     {
         if self.sessions.contains_key(&number) {
             drop(settings);
@@ -298,7 +299,8 @@ impl<R: LinkRelay> Engine<R> {
     /// Gives the session's channel back, where it still holds it.
     #[inline(never)]
     fn request_release(&mut self, number: u32) -> Result<(), StepError>
-        ensures { (reached : Option ℕ) × (calls : List (session.Entry R)) × ReleaseRequest self.old number reached calls (refusal_of result) self.new }
+        ensures { (reached : Option ℕ) × (calls : List (session.Entry R))
+            × ReleaseRequest self.old number reached calls (refusal_of result) self.new }
     {
         let Some(session) = self.sessions.get(&number) else {
             return Err(StepError::NoSession);

@@ -115,7 +115,9 @@ pub(crate) fn send_transfer<R: LinkRelay>(
     is_first: bool,
 ) -> Result<(), StepError>
     requires { waiting.old ≡ [] }
-    ensures { AnsweredThere R.gives session.old.view (TransferCalls (record { input_handle = input.0; transfer = transfer; payload = payload; is_first = is_first })) result waiting.new session.new.view }
+    ensures { AnsweredThere R.gives session.old.view
+        (TransferCalls (record { input_handle = input.0; transfer = transfer; payload = payload; is_first = is_first }))
+        result waiting.new session.new.view }
 {
     match session.on_outgoing_transfer(input, transfer, payload, is_first) {
         Ok(item) => {
