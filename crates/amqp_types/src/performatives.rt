@@ -1,6 +1,6 @@
 //! The nine performatives, which are the bodies of frames (AMQP 1.0 part 2, section 2.7).
 
-ghost use Rattle.std.specs.Prelude.{◌≡◌, ◌<◌, ◌++◌, ◌↔◌, length, OnOk, OnErr};
+ghost use Rattle.std.specs.Prelude.{◌≡◌, ◌<◌, ◌≤◌, ◌^◌, ◌++◌, ◌↔◌, length, OnOk, OnErr};
 ghost use Rattle.amqp_values.specs.Composite.{composite_at};
 ghost use Rattle.amqp_values.specs.Reading.{Answers, Gives, ReadsFront};
 ghost use Rattle.amqp_values.specs.Writing.{IsTooLarge};
@@ -18,8 +18,7 @@ pub mod open;
 pub mod transfer;
 
 use amqp_values::composite::read_list;
-use amqp_values::writing::write_described;
-use amqp_values::{Composite, ReadError, WriteError, codes};
+use amqp_values::{Composite, ReadError, WriteError};
 pub use attach::Attach;
 pub use begin::Begin;
 use bytes::{Bytes, BytesMut};
@@ -122,21 +121,34 @@ impl Performative {
         ensures nothing { OnErr result (out.new.items ≡ out.old.items) }
         ensures too_large { IsTooLarge result ↔ (limit < length (performative_text self.now)) }
     {
+        let len = self.encoded_len();
+        if len > u128::from(limit) {
+            return Err(WriteError::TooLarge);
+        }
+        if out.reserve(len as usize).is_err() {
+            return Err(WriteError::OutOfMemory);
+        }
+        self.put(len as usize, out);
+        Ok(())
+    }
+
+    /// Appends the canonical text, whose length is `len`, to a buffer that has room for it.
+    fn put(&self, len: usize, out: &mut BytesMut)
+        requires len_is { len ≡ length (performative_text self.now) }
+        requires room { length (performative_text self.now) ≤ out.old.spare }
+        requires fits { length (performative_text self.now) < 2 ^ 32 }
+        ensures items { out.new.items ≡ out.old.items ++ performative_text self.now }
+    {
         match self {
-            Performative::Open(p) => write_described(codes::OPEN, &p.parts(), out, limit),
-            Performative::Begin(p) => write_described(codes::BEGIN, &p.parts(), out, limit),
-            Performative::Attach(p) => write_described(codes::ATTACH, &p.parts(), out, limit),
-            Performative::Flow(p) => write_described(codes::FLOW, &p.parts(), out, limit),
-            Performative::Transfer(p) => write_described(codes::TRANSFER, &p.parts(), out, limit),
-            Performative::Disposition(p) => write_described(
-                codes::DISPOSITION,
-                &p.parts(),
-                out,
-                limit,
-            ),
-            Performative::Detach(p) => write_described(codes::DETACH, &p.parts(), out, limit),
-            Performative::End(p) => write_described(codes::END, &p.parts(), out, limit),
-            Performative::Close(p) => write_described(codes::CLOSE, &p.parts(), out, limit),
+            Performative::Open(p) => p.put(len, out),
+            Performative::Begin(p) => p.put(len, out),
+            Performative::Attach(p) => p.put(len, out),
+            Performative::Flow(p) => p.put(len, out),
+            Performative::Transfer(p) => p.put(len, out),
+            Performative::Disposition(p) => p.put(len, out),
+            Performative::Detach(p) => p.put(len, out),
+            Performative::End(p) => p.put(len, out),
+            Performative::Close(p) => p.put(len, out),
         }
     }
 }

@@ -1,11 +1,10 @@
 //! Described lists, written: the canonical text of a composite from the table of its fields.
 
-ghost use Rattle.std.specs.Prelude.{◌≡◌, ℕ, ◌+◌, ◌^◌, ◌<◌, ◌≤◌, List, ◌++◌, ◌↔◌, length, take, OnOk, OnErr};
+ghost use Rattle.std.specs.Prelude.{◌≡◌, ℕ, ◌+◌, ◌^◌, ◌<◌, ◌≤◌, List, ◌++◌, length, take};
 ghost use Rattle.amqp_values.specs.Reading.{joined};
-ghost use Rattle.amqp_values.specs.Writing.{trim, list_head, list_text, described_text, IsTooLarge};
+ghost use Rattle.amqp_values.specs.Writing.{trim, list_head, list_text, described_text};
 
 use crate::codes;
-use crate::error::WriteError;
 use crate::row::{Extent, Row};
 use bytes::BytesMut;
 
@@ -92,29 +91,4 @@ pub fn put_described<R: Row>(code: u8, fields: &R, len: usize, out: &mut BytesMu
 {
     out.extend_reserved(&[codes::DESCRIBED, codes::SMALL_ULONG, code]);
     put_list(fields, len - 3, out);
-}
-
-/// Appends the described list of these fields, or nothing: `TooLarge` exactly where its text is longer than `limit`
-/// bytes, `OutOfMemory` where the one reservation that this takes is refused.
-pub fn write_described<R: Row>(
-    code: u8,
-    fields: &R,
-    out: &mut BytesMut,
-    limit: u32,
-) -> Result<(), WriteError>
-    requires few { length (R.texts fields.now) ≤ 16 }
-    requires long { R.most < 2 ^ 126 }
-    ensures written { OnOk result (out.new.items ≡ out.old.items ++ described_text code (R.texts fields.now)) }
-    ensures nothing { OnErr result (out.new.items ≡ out.old.items) }
-    ensures too_large { IsTooLarge result ↔ (limit < length (described_text code (R.texts fields.now))) }
-{
-    let len = described_len(fields);
-    if len > u128::from(limit) {
-        return Err(WriteError::TooLarge);
-    }
-    if out.reserve(len as usize).is_err() {
-        return Err(WriteError::OutOfMemory);
-    }
-    put_described(code, fields, len as usize, out);
-    Ok(())
 }
