@@ -1,6 +1,6 @@
 //! Rows: the fields of a list, borrowed for writing, each beside those behind it.
 
-ghost use Rattle.std.specs.Prelude.{◌≡◌, ℕ, ◌+◌, ◌^◌, ◌<◌, ◌≤◌, List, [], ◌∷◌, ◌++◌, length, take};
+ghost use Rattle.std.specs.Prelude.{◌≡◌, ℕ, ◌+◌, ◌^◌, ◌<◌, ◌≤◌, List, [], ◌∷◌, ◌++◌, length, take, drop};
 ghost use Rattle.amqp_values.specs.Reading.{joined};
 ghost use Rattle.amqp_values.specs.Writing.{trim};
 
@@ -50,12 +50,45 @@ pub struct NoMore;
 #[derive(Drop)]
 pub struct Then<T: Encode, R: Row>(pub T, pub R);
 
+/// Two fields, and those behind them. What is proved of a row takes twice as long for each level of its type, so rows of many
+/// fields have two at a level.
+#[derive(Drop)]
+pub struct Two<A: Encode, B: Encode, R: Row>(pub A, pub B, pub R);
+
 impl<T: Encode, R: Row> Model for Then<T, R> {
     ghost use Rattle.std.specs.Prelude.{ℕ, List, ◌∷◌};
 
     ghost Value = { List (List ℕ) };
 
     ghost view = { λ r. T.text r.0 ∷ R.texts r.1 };
+}
+
+impl<A: Encode, B: Encode, R: Row> Model for Two<A, B, R> {
+    ghost use Rattle.std.specs.Prelude.{ℕ, List, ◌∷◌};
+
+    ghost Value = { List (List ℕ) };
+
+    ghost view = { λ r. A.text r.0 ∷ B.text r.1 ∷ R.texts r.2 };
+}
+
+/// How far a field reaches with those behind it, which reach so far.
+#[inline(always)]
+fn before<T: Encode>(field: &T, behind: Extent) -> Extent
+    requires many { behind.count < 2 ^ 32 }
+    requires long { T.most + behind.size < 2 ^ 127 }
+    ensures reach { (texts : List (List ℕ)) → behind.count ≡ length (trim texts) → behind.size ≡ length (joined (trim texts)) →
+        (result.count ≡ length (trim (T.text field.now ∷ texts))) × (result.size ≡ length (joined (trim (T.text field.now ∷ texts)))) }
+    ensures few { result.count ≤ behind.count + 1 }
+    ensures small { result.size ≤ T.most + behind.size }
+{
+    let Extent { count, size } = behind;
+    if count == 0 && field.is_null() {
+        return Extent { count, size };
+    }
+    Extent {
+        count: count + 1,
+        size: field.encoded_len() + size,
+    }
 }
 
 impl Row for NoMore {
@@ -79,14 +112,7 @@ impl<T: Encode, R: Row> Row for Then<T, R> {
 
     #[inline(always)]
     fn extent(&self) -> Extent {
-        let Extent { count, size } = self.1.extent();
-        if count == 0 && self.0.is_null() {
-            return Extent { count, size };
-        }
-        Extent {
-            count: count + 1,
-            size: self.0.encoded_len() + size,
-        }
+        before(&self.0, self.1.extent())
     }
 
     #[inline(always)]
@@ -98,41 +124,76 @@ impl<T: Encode, R: Row> Row for Then<T, R> {
     }
 }
 
+impl<A: Encode, B: Encode, R: Row> Row for Two<A, B, R> {
+    ghost texts = { λ r. r };
+
+    ghost most = { A.most + (B.most + R.most) };
+
+    #[inline(always)]
+    fn extent(&self) -> Extent {
+        let behind = before(&self.1, self.2.extent());
+        before(&self.0, behind)
+    }
+
+    #[inline(always)]
+    fn put(&self, count: usize, out: &mut BytesMut) {
+        if count > 0 {
+            self.0.put(out);
+            self.put_behind(count - 1, out);
+        }
+    }
+}
+
+impl<A: Encode, B: Encode, R: Row> Two<A, B, R> {
+    /// Appends the texts of the first `count` fields behind the first one, to a buffer that has room for them.
+    #[inline(always)]
+    fn put_behind(&self, count: usize, out: &mut BytesMut)
+        requires room { length (joined (take count (drop 1 self.now))) ≤ out.old.spare }
+        requires fits { length (joined (take count (drop 1 self.now))) < 2 ^ 32 }
+        ensures items { out.new.items ≡ out.old.items ++ joined (take count (drop 1 self.now)) }
+        ensures spare { out.new.spare + length (joined (take count (drop 1 self.now))) ≡ out.old.spare }
+    {
+        if count > 0 {
+            self.1.put(out);
+            self.2.put(count - 1, out);
+        }
+    }
+}
+
 /// The row of these fields.
 #[macro_export]
 macro_rules! row_of {
     () => { $crate::row::NoMore };
-    ($first:expr $(, $others:expr)* $(,)?) => { $crate::row::Then($first, $crate::row_of!($($others),*)) };
+    ($only:expr $(,)?) => { $crate::row::Then($only, $crate::row::NoMore) };
+    ($first:expr, $second:expr $(, $others:expr)* $(,)?) => { $crate::row::Two($first, $second, $crate::row_of!($($others),*)) };
 }
 
 // Rows of one type of field, by the number of their fields.
 pub type Row1<T> = Then<T, NoMore>;
 
-pub type Row2<T> = Then<T, Row1<T>>;
+pub type Row2<T> = Two<T, T, NoMore>;
 
-pub type Row3<T> = Then<T, Row2<T>>;
+pub type Row3<T> = Two<T, T, Row1<T>>;
 
-pub type Row4<T> = Then<T, Row3<T>>;
+pub type Row4<T> = Two<T, T, Row2<T>>;
 
-pub type Row5<T> = Then<T, Row4<T>>;
+pub type Row5<T> = Two<T, T, Row3<T>>;
 
-pub type Row6<T> = Then<T, Row5<T>>;
+pub type Row6<T> = Two<T, T, Row4<T>>;
 
-pub type Row7<T> = Then<T, Row6<T>>;
+pub type Row7<T> = Two<T, T, Row5<T>>;
 
-pub type Row8<T> = Then<T, Row7<T>>;
+pub type Row8<T> = Two<T, T, Row6<T>>;
 
-pub type Row9<T> = Then<T, Row8<T>>;
+pub type Row9<T> = Two<T, T, Row7<T>>;
 
-pub type Row10<T> = Then<T, Row9<T>>;
+pub type Row10<T> = Two<T, T, Row8<T>>;
 
-pub type Row11<T> = Then<T, Row10<T>>;
+pub type Row11<T> = Two<T, T, Row9<T>>;
 
-pub type Row12<T> = Then<T, Row11<T>>;
+pub type Row12<T> = Two<T, T, Row10<T>>;
 
-pub type Row13<T> = Then<T, Row12<T>>;
-
-pub type Row14<T> = Then<T, Row13<T>>;
+pub type Row14<T> = Two<T, T, Row12<T>>;
 
 /// Four fields, and those behind them.
-pub type Then4<A, B, C, D, R> = Then<A, Then<B, Then<C, Then<D, R>>>>;
+pub type Then4<A, B, C, D, R> = Two<A, B, Two<C, D, R>>;
