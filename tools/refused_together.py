@@ -10,8 +10,9 @@ the proof of another one does not count, and neither does a proof that misses a 
 
 A contract is judged function by function, so edits of different functions are put into one copy of the crate and checked at once: what a
 check reads of the libraries is then read once for all of them. In that copy the proof of each function that no edit names is an empty file,
-which is refused at once: what calls the function is judged by its contract all the same. An edit that such a check does not refuse is
-tried again alone, and then in a copy with all proofs. Edits of definitions (specs/) are tried alone.
+which is refused at once, and its body an endless loop, of which little is to be read: what calls the function is judged by its contract all
+the same. An edit that such a check does not refuse is tried again alone, and then in a copy with all proofs and bodies. Edits of definitions
+(specs/) are tried alone, in a copy with all bodies.
 
 That a crate is proved as it stands is for 'rt ci' to say, which the gate calls before; a note names each crate that was changed since its
 rlib was made. Before the edits a check of such a copy with no edit in it, for one in eight of the functions that the edits name, has to
@@ -42,6 +43,9 @@ ANY_GOAL = re.compile(r"(?:\./)?\S+\.(?:rt|antt):\d+:\d+: error: |\S.*: no proof
 MOST = 25
 # The control is of one in so many functions.
 ONE_IN = 8
+# How a function begins, as 'rt fmt' sets it, and the other lines of its head that stand as far out.
+BEGINS = re.compile(r"( *)(?:pub(?:\([\w:]+\))? )?(?:const )?fn (\w+)")
+GOES_ON = re.compile(r"\)|where$|\{$")
 # What a check says where a proof names what is not there, or cites what was refused.
 MISSES_A_NAME = re.compile(r"has no field|has no `|is not in scope|was not admitted|is no name|no goal|cannot continue|exports no")
 
@@ -133,15 +137,58 @@ def is_proved(crate):
 
 
 def functions(crate):
-    """The paths of the crate's functions that have a proof of their own, as its rlib names them."""
+    """The paths of the crate's functions, as its rlib names them."""
     names = [it[0] for it in json.loads(Path(crate.rlib, "toolchain/mir.json").read_text())]
-    paths = [it.removeprefix(f"{crate.name}::") for it in names if re.fullmatch(rf"{crate.name}(::\w+)+", it)]
-    # (functions that call one another have one proof, in a folder with a plus)
-    return [it for it in paths if not list(proof_of(crate.folder, it).parent.glob("+*"))]
+    return {it.removeprefix(f"{crate.name}::") for it in names if re.fullmatch(rf"{crate.name}(::\w+)+", it)}
+
+
+def has_own_proof(folder, function):
+    """Whether a function has a proof of its own: those that call one another have one, in a folder with a plus."""
+    return not list(proof_of(folder, function).parent.glob("+*"))
 
 
 def proof_of(folder, function):
     return Path(folder, "proofs", *function.split("::"))
+
+
+def bodies(lines):
+    """The functions of a text, as 'rt fmt' sets it, whose bodies have lines of their own: each one's name, the place of its first line, and the
+    places of its braces."""
+    for first, line in enumerate(lines):
+        begins = BEGINS.match(line)
+        opens = opening(lines, first, begins[1]) if begins else None
+        if opens is not None:
+            yield begins[2], first, opens, lines.index(begins[1] + "}", opens)
+
+
+def opening(lines, first, indent):
+    """The place of the brace that opens the body of a function, if it has one: no line before it but some of its head stands as far out."""
+    for at in range(first, len(lines)):
+        line = lines[at].removeprefix(indent)
+        if line[:1].strip():
+            if at > first and not GOES_ON.match(line):
+                return None
+            if line.endswith("{"):
+                return at
+    return None
+
+
+def without_bodies(text, whole, names):
+    """A text in which the functions of these names that stand in the whole text too, so that no edit is in them, have an endless loop for a body."""
+    lines = text.split("\n")
+    for name, first, opens, closes in reversed([*bodies(lines)]):
+        if name in names and "\n".join(lines[first : closes + 1]) in whole:
+            lines[opens + 1 : closes] = [lines[closes].replace("}", "    loop {}")]
+    return "\n".join(lines)
+
+
+def module_of(function):
+    """The module of a function's path: what stands before its type, if it has one, and its name."""
+    return tuple(it for it in function.split("::")[:-1] if it[0].islower())
+
+
+def file_of(module):
+    return "/".join(["src", *module]) + ".rt" if module else "src/lib.rt"
 
 
 class Trial:
@@ -158,13 +205,25 @@ class Trial:
             crate.folder = room
             for part in RT.rtlib.PARTS:
                 shutil.copytree(self.folder / part, f"{room}/{part}", dirs_exist_ok=True)
-            for other in {*functions(self.crate)} - {*names} if is_bare else ():
-                proof = proof_of(room, other)
+            others = {it for it in functions(self.crate) - {*names} if is_bare and has_own_proof(room, it)}
+            for proof in (proof_of(room, other) for other in others):
                 shutil.rmtree(proof, ignore_errors=True)
                 proof.mkdir(parents=True)
                 proof.joinpath("Proof.antt").touch()
             own = [word for name in names for word in ("--only", name)]
-            return RT.checked(crate, texts, ["--jobs", "1", *own], kept)
+            return RT.checked(crate, {**texts, **self.bare(others, texts)}, ["--jobs", "1", *own], kept)
+
+    def bare(self, others, texts):
+        """The texts of the crate's files in which the other functions have no bodies."""
+        is_alone = any(not path.startswith("src/") for path in texts)
+        kept, bare = functions(self.crate) - others, {}
+        for module in set() if is_alone else {*map(module_of, others)}:
+            names = lambda paths: {path.split("::")[-1] for path in paths if module_of(path) == module}
+            file = self.folder / file_of(module)
+            if file.is_file():
+                whole, path = file.read_text(), file_of(module)
+                bare[path] = without_bodies(texts.get(path, whole), whole, names(others) - names(kept))
+        return bare
 
     @contextlib.contextmanager
     def borrowed(self):
