@@ -32,10 +32,9 @@ use std::hash::{Hash, Hasher};
 /// Whatever calls a session has seen, what it shows is what its history gives: the numbers and windows of both directions,
 /// what waits, the state, the peer's channel, the stop reason, the open deliveries of both roles, which a settled disposition takes
 /// away, and the links: how each output handle is taken, which link is live by each name and which relay stands under each input
-/// handle. And the transfers handed
-/// out, and then those held back, are all requested ones but untagged, unmapped and memory refusals, in order, each delivery
-/// numbered once, on its first frame alone, each inside the peer's latest window; after an accepted transfer or mapped Flow one
-/// waits only while it is used up (AMQP 1.0 part 2, sections 2.5.6 and 2.6).
+/// handle. And the transfers handed out, and then those held back, are all requested ones but untagged, unmapped and memory
+/// refusals, in order, each delivery numbered once, on its first frame alone, each inside the peer's latest window; after an
+/// accepted transfer or mapped Flow one waits only while it is used up (AMQP 1.0 part 2, sections 2.5.6 and 2.6).
 pub fn law_of_views<R: LinkRelay>()
     ensures stands { let g = R.gives in
         (m : Made) (h : List (Entry R)) (v : SessionView R) → LeadsTo g m h v → Stands m h v }

@@ -18,12 +18,30 @@ pub fn closing<R: LinkRelay, P: Write>(
 ) -> io::Result<Option<Result<(), Error>>> {
     let mut inputs = VecDeque::new(alloc);
     if let Some(frame) = frame {
-        let Ok(()) = inputs.push_back(Input::Received(frame)) else {
+        if let Err(input) = inputs.push_back(Input::Received(frame)) {
+            drop(input);
+            drop(inputs);
             return Err(io::Error::from(ErrorKind::OutOfMemory));
-        };
+        }
     }
     let mut answers = Vec::new(alloc);
     let outcome = engine.run(&mut inputs, &mut answers);
+    let sent = send(&answers, peer);
+    // By name: where a return drops them, the prover reads once more all that they drop.
+    drop(answers);
+    drop(inputs);
+    sent?;
+    if outcome.is_err() {
+        return Err(io::Error::from(ErrorKind::OutOfMemory));
+    }
+    match handle.try_close(engine) {
+        Ok(answer) => Ok(Some(answer)),
+        Err(_) => Ok(None),
+    }
+}
+
+/// Sends the pieces of the frames among the answers.
+fn send<P: Write>(answers: &Vec<Answer>, peer: &mut P) -> io::Result<()> {
     for answer in answers.iter() {
         if let Answer::Out(pieces) = answer {
             for piece in pieces.iter() {
@@ -32,11 +50,5 @@ pub fn closing<R: LinkRelay, P: Write>(
             }
         }
     }
-    if outcome.is_err() {
-        return Err(io::Error::from(ErrorKind::OutOfMemory));
-    }
-    match handle.try_close(engine) {
-        Ok(answer) => Ok(Some(answer)),
-        Err(_) => Ok(None),
-    }
+    Ok(())
 }

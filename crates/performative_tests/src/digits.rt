@@ -21,10 +21,10 @@ pub fn bytes(alloc: Global, digits: &str) -> Result<Bytes, Fail> {
 pub fn read(alloc: Global, digits: &str) -> Result<Performative, Fail> {
     let (performative, rest) = Performative::read(alloc, bytes(alloc, digits)?)?;
     if rest.is_empty() {
-        Ok(performative)
-    } else {
-        Err("bytes are left".into())
+        return Ok(performative);
     }
+    drop(performative);
+    Err("bytes are left".into())
 }
 
 /// The digits of the text that is written; its length has to be the one that `encoded_len` answers.

@@ -44,8 +44,17 @@ fn is_spelled(alloc: Global, one: &Performative, text: &str) -> Result<bool, Fai
 
 fn is_its_copy(alloc: Global, text: &str) -> Result<bool, Fail> {
     let one = read(alloc, text)?;
+    let answer = has_this_copy(alloc, &one);
+    drop(one);
+    answer
+}
+
+fn has_this_copy(alloc: Global, one: &Performative) -> Result<bool, Fail> {
     let copy = one.clone()?;
-    Ok(copy == one && written(alloc, &copy)? == written(alloc, &one)?)
+    let is_same = copy == *one;
+    let text = written(alloc, &copy);
+    drop(copy);
+    Ok(text? == written(alloc, one)? && is_same)
 }
 
 #[test]
