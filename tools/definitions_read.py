@@ -17,7 +17,7 @@ from pathlib import Path
 
 ROOT = Path(__file__).resolve().parent.parent
 PAGE = ROOT / "docs/READING.md"
-START = ROOT / "crates/fe2o3_amqp/src/engine/run.rt", "run"
+START = ROOT / "crates/amqp_engine/src/engine/run.rt", "run"
 MISSING = "(a sentence is missing)"
 
 USE = re.compile(r"^\s*(?:ghost |pub )*use Rattle\.(\w+)\.specs\.([\w.]+?)(?:\.\{(.*?)\}| as (\w+));?\s*$")

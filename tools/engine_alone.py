@@ -20,7 +20,8 @@ STATES = UNOPENED + ["OpenPipe", "OpenClosePipe", "OpenReceived", "OpenSent", "C
 
 
 def show(rows, state, reason="None"):
-    rows.ask("show", f"{state} reason={reason} open=replay")
+    closed = f"Some({TAKES_CLOSE[state]})" if state in TAKES_CLOSE else "None"
+    rows.ask("show", f"{state} reason={reason} open=replay closed={closed}")
 
 
 def state_calls(rows, state):
@@ -48,6 +49,7 @@ def session_calls(rows, state):
     rows.row(f"A connection alone in {state}: a channel, and the peer's Begin and End")
     rows.ask("connection " + state)
     rows.ask("allocate 5", channel_answer(state))
+    rows.ask("holder 0", "session 5" if channel_answer(state) == "channel 0" else "none")
     is_opened = state == "Opened"
     rows.ask("recv 7 " + begin(0), "session 5: " + out(begin(0), 7) if is_opened else ILLEGAL)
     rows.ask("route 7", "session 5" if is_opened else "none")
@@ -71,8 +73,10 @@ def channels(rows):
     for number in range(4):
         rows.ask(f"allocate {number}", f"channel {number}")
     rows.ask("recv 0 " + opening("p", None, 1), "ok")
+    rows.ask("holder 3", "session 3")
     rows.ask("deallocate 0", "true")
     rows.ask("deallocate 3", "true")
+    rows.ask("holder 3", "none")
     rows.ask("deallocate 3", "false")
     rows.ask("deallocate 9", "false")
     rows.ask("allocate 4", "channel 0")

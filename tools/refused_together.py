@@ -326,8 +326,9 @@ def main(words):
         fit()
     one_in = 1 if words[:1] == ["control"] else ONE_IN
     words = [word.removesuffix(".edit") for word in words if word != "control"]
-    # The highest crate takes longest: it comes first.
-    work = [it for it in ((crate, chosen(crate, words)) for crate in reversed(RT.rtlib.crates_below(str(ROOT)))) if it[1]]
+    # The crate with the most edits takes longest: it comes first.
+    work = sorted(((crate, chosen(crate, words)) for crate in RT.rtlib.crates_below(str(ROOT))), key=lambda it: -len(it[1]))
+    work = [it for it in work if it[1]]
     taken = {it.name: it for crate, _ in work for it in (*crate.below(), crate)}
     lacking = [name for name, it in taken.items() if not Path(it.rlib).is_dir()]
     if lacking or not work:

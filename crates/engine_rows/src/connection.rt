@@ -54,6 +54,7 @@ fn plain(
             Ok(format!(in alloc; "{is_given}")?)
         }
         "route" => route(alloc, connection, rest),
+        "holder" => holder(alloc, connection, rest),
         "show" => show(alloc, connection),
         _ => Err(anyhow::anyhow!("no call")),
     }
@@ -196,19 +197,27 @@ fn stop(alloc: Global, connection: &mut Connection, text: &str) -> anyhow::Resul
 }
 
 fn route(alloc: Global, connection: &Connection, text: &str) -> anyhow::Result<String> {
-    match connection.session_tx_by_incoming_channel(IncomingChannel(reading::channel(text)?)) {
-        Some(number) => {
-            let number = number.0;
-            Ok(format!(in alloc; "session {number}")?)
-        }
+    let channel = IncomingChannel(reading::channel(text)?);
+    session(alloc, connection.session_tx_by_incoming_channel(channel))
+}
+
+fn holder(alloc: Global, connection: &Connection, text: &str) -> anyhow::Result<String> {
+    let channel = OutgoingChannel(reading::channel(text)?);
+    session(alloc, connection.session_tx_by_outgoing_channel(channel))
+}
+
+fn session(alloc: Global, number: Option<SessionNo>) -> anyhow::Result<String> {
+    match number {
+        Some(SessionNo(number)) => Ok(format!(in alloc; "session {number}")?),
         None => Ok(String::from_str(alloc, "none")?),
     }
 }
 
-/// The state, why the connection stopped, and the name of its Open.
+/// The state, why the connection stopped, the name of its Open, and the state to which the peer's Close would move.
 fn show(alloc: Global, connection: &Connection) -> anyhow::Result<String> {
     let state = connection.local_state();
     let reason = connection.connection_stop_reason();
     let name = connection.local_open().container_id.as_str();
-    Ok(format!(in alloc; "{state:?} reason={reason:?} open={name}")?)
+    let closed = connection.state_after_incoming_close();
+    Ok(format!(in alloc; "{state:?} reason={reason:?} open={name} closed={closed:?}")?)
 }

@@ -14,7 +14,7 @@
 //! | `send CHANNEL HEX` | `on_outgoing_begin`, `on_outgoing_end` |
 //! | `allocate N`, `deallocate CHANNEL` | `allocate_session`, `deallocate_session` |
 //! | `stop REASON` | `set_connection_stop_reason` |
-//! | `route CHANNEL`, `show` | the calls that read |
+//! | `route CHANNEL`, `holder CHANNEL`, `show` | the calls that read |
 //!
 //! Behind `handled STATE` the lines are runs of a handled engine, whose connection is in that state, and calls of its handles:
 //!

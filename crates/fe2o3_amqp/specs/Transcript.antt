@@ -4,20 +4,20 @@ use Rattle.amqp_frames.specs.declared.error.Error.{Error}
 use Rattle.amqp_frames.specs.declared.error.Error.TheVariants as frame
 use Rattle.hex.specs.Hex.{decode_of}
 use Rattle.hex.specs.declared.error.FromHexError.{FromHexError}
-use Rattle.fe2o3_amqp.specs.declared.connection.error.ConnectionStateError.{ConnectionStateError}
-use Rattle.fe2o3_amqp.specs.declared.connection.error.ConnectionStateError.TheVariants as state
-use Rattle.fe2o3_amqp.specs.declared.connection.error.ConnectionInnerError.{ConnectionInnerError}
-use Rattle.fe2o3_amqp.specs.declared.connection.error.ConnectionInnerError.TheVariants as inner
-use Rattle.fe2o3_amqp.specs.declared.connection.error.AllocSessionError.{AllocSessionError}
-use Rattle.fe2o3_amqp.specs.declared.connection.error.AllocSessionError.TheVariants as full
+use Rattle.amqp_connection.specs.declared.error.ConnectionStateError.{ConnectionStateError}
+use Rattle.amqp_connection.specs.declared.error.ConnectionStateError.TheVariants as state
+use Rattle.amqp_connection.specs.declared.error.ConnectionInnerError.{ConnectionInnerError}
+use Rattle.amqp_connection.specs.declared.error.ConnectionInnerError.TheVariants as inner
+use Rattle.amqp_connection.specs.declared.error.AllocSessionError.{AllocSessionError}
+use Rattle.amqp_connection.specs.declared.error.AllocSessionError.TheVariants as full
 use Rattle.amqp_session.specs.declared.error.AllocLinkError.{AllocLinkError}
 use Rattle.amqp_session.specs.declared.error.AllocLinkError.TheVariants as unallotted
 use Rattle.amqp_session.specs.declared.error.SessionStateError.{SessionStateError}
 use Rattle.amqp_session.specs.declared.error.SessionStateError.TheVariants as begun
 use Rattle.amqp_session.specs.declared.error.SessionInnerError.{SessionInnerError}
 use Rattle.amqp_session.specs.declared.error.SessionInnerError.TheVariants as session
-use Rattle.fe2o3_amqp.specs.declared.engine.step_error.StepError.{StepError}
-use Rattle.fe2o3_amqp.specs.declared.engine.step_error.StepError.TheVariants as no
+use Rattle.amqp_engine.specs.declared.engine.step_error.StepError.{StepError}
+use Rattle.amqp_engine.specs.declared.engine.step_error.StepError.TheVariants as no
 
 abbrev pub read_value : Result (List ℕ) FromHexError → Option (List ℕ)
 read_value (Ok bytes) = Some bytes

@@ -1,31 +1,3 @@
-//! Laws: what holds of every history of an engine, as contracts of functions that do nothing.
+//! What holds of every history of an engine.
 
-ghost use Rattle.std.specs.Prelude.{List};
-ghost use Rattle.amqp_types.specs.declared.states.ConnectionState.{ConnectionState};
-ghost use Rattle.amqp_types.specs.Open.{OpenSaid};
-ghost use Rattle.fe2o3_amqp.specs.EngineView.{EngineView};
-ghost use Rattle.fe2o3_amqp.specs.Engine.{Entry};
-ghost use Rattle.fe2o3_amqp.specs.History.{LeadsTo};
-ghost use Rattle.fe2o3_amqp.specs.Headline.{Headline, Stands};
-
-use amqp_session::{LinkRelay, laws as session};
-
-/// Whatever an engine has been given, what contracts see of it is what its history gives: its sessions; of its
-/// connection the state, the stop reason, the Open, the channel maximum, the channels that are held and the routes of received
-/// frames; the limit of a piece; and the frames that wait.
-pub fn law_of_views<R: LinkRelay>()
-    ensures { (state : ConnectionState) (o : OpenSaid) (H : List (Entry R)) (w : EngineView R)
-        → LeadsTo R.gives state o H w → Stands state o H w }
-{
-    session::law_of_views::<R>();
-}
-
-/// Every legal history has the properties of `Headline`. One of them: an engine made in `HeaderExchange` hands out at most one
-/// Open and one Close (AMQP 1.0 part 2, section 2.4).
-pub fn law_of_histories<R: LinkRelay>()
-    ensures { (state : ConnectionState) (o : OpenSaid) (H : List (Entry R)) (w : EngineView R)
-        → LeadsTo R.gives state o H w → Headline state o H }
-{
-    session::law_of_views::<R>();
-    session::law_of_channels::<R>();
-}
+pub use amqp_engine::laws::{law_of_histories, law_of_views};

@@ -4,8 +4,8 @@ mod line;
 mod names;
 mod relay;
 
-use crate::engine::{Answer, Engine, Input};
 use crate::settings::{DEFAULT_CHANNEL_MAX, DEFAULT_MAX_FRAME_SIZE};
+use amqp_engine::{Answer, Engine, Input};
 use amqp_types::{ConnectionState, Open};
 pub use line::{hex_bytes, out_line};
 use line::{Asked, asked_by, text_of};

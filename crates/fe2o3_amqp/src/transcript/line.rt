@@ -6,8 +6,8 @@ ghost use Rattle.hex.specs.Hex.{encode_lower};
 ghost use Rattle.fe2o3_amqp.specs.Transcript.{bytes_of};
 
 use super::relay::ReplayRelay;
-use crate::engine::Input;
-use crate::numbers::SessionNo;
+use amqp_connection::SessionNo;
+use amqp_engine::Input;
 use amqp_frames::Piece;
 use amqp_session::{InputHandle, LinkFlow, SessionSettings};
 use amqp_types::{Performative, ReadError};

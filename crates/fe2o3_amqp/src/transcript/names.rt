@@ -3,8 +3,8 @@
 ghost use Rattle.std.specs.Prelude.{◌≡◌};
 ghost use Rattle.fe2o3_amqp.specs.Transcript.{name_of, frame_name, state_name, inner_name, alloc_name, session_state_name, session_name, link_name};
 
-use crate::connection::{AllocSessionError, ConnectionInnerError, ConnectionStateError};
-use crate::engine::StepError;
+use amqp_connection::{AllocSessionError, ConnectionInnerError, ConnectionStateError};
+use amqp_engine::StepError;
 use amqp_frames::Error as FrameError;
 use amqp_session::{AllocLinkError, SessionInnerError, SessionStateError};
 

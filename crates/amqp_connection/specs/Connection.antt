@@ -1,0 +1,196 @@
+-- What contracts see of a connection, and what each of its calls does.
+use Rattle.std.specs.Prelude.{◌≡◌, ◌≤◌, ℕ, Bool, true, false, Option, Some, None, IsSome, unwrap_or, Result, Ok, Err, min}
+use Rattle.std.specs.FinMap as map
+use Rattle.amqp_types.specs.declared.states.ConnectionState.{ConnectionState}
+use Rattle.amqp_types.specs.declared.states.ConnectionState.TheVariants.{Opened, CloseReceived}
+use Rattle.amqp_types.specs.declared.states.ConnectionState.TheVariants as at
+use Rattle.amqp_types.specs.Error.{ErrorSaid}
+use Rattle.amqp_types.specs.Open.{OpenSaid}
+use Rattle.amqp_types.specs.Close.{CloseSaid}
+use Rattle.amqp_session.specs.declared.stop.ConnectionStopReason.{ConnectionStopReason}
+use Rattle.amqp_session.specs.declared.stop.ConnectionStopReason.TheVariants.{Closed}
+use Rattle.amqp_session.specs.declared.frame.SessionFrame.{SessionFrame}
+use Rattle.amqp_frames.specs.declared.frame.Frame.{Frame}
+use Rattle.amqp_frames.specs.declared.frame.FrameBody.TheVariants as body
+use Rattle.amqp_connection.specs.declared.error.ConnectionStateError.{ConnectionStateError}
+use Rattle.amqp_connection.specs.declared.error.ConnectionStateError.TheVariants as state
+use Rattle.amqp_connection.specs.declared.error.ConnectionInnerError.{ConnectionInnerError}
+use Rattle.amqp_connection.specs.declared.error.ConnectionInnerError.TheVariants as inner
+use Rattle.amqp_connection.specs.declared.error.AllocSessionError.{AllocSessionError}
+use Rattle.amqp_connection.specs.declared.error.AllocSessionError.TheVariants as full
+use Rattle.amqp_connection.specs.declared.numbers.SessionNo.{SessionNo}
+use Rattle.amqp_connection.specs.Channels.{ChannelTable, IsLowestFree}
+use Rattle.amqp_connection.specs.States.{sends_open, takes_open, sends_close, sends_close_with_error, takes_close}
+
+pub record ConnectionView : Type 0 where
+  pub state : ConnectionState
+  -- why it stopped: the first reason that was recorded
+  pub stop_reason : Option ConnectionStopReason
+  -- the Open of this side
+  pub local_open : OpenSaid
+  -- the highest channel that both sides allow; that of this side until the peer's Open is accepted
+  pub agreed_channel_max : ℕ
+  -- the session of each channel that is held
+  pub session_by_outgoing_channel : ChannelTable
+  -- the session of each channel on which the peer began one
+  pub session_by_incoming_channel : ChannelTable
+
+abbrev pub new_connection : ConnectionState → OpenSaid → ConnectionView
+new_connection s o = record {
+  state = s;
+  stop_reason = None;
+  local_open = o;
+  agreed_channel_max = o.channel_max;
+  session_by_outgoing_channel = map.empty;
+  session_by_incoming_channel = map.empty;
+}
+
+-- ---- stop reasons: the first one stays
+
+abbrev pub first_reason : Option ConnectionStopReason → ConnectionStopReason → Option ConnectionStopReason
+first_reason None r = Some r
+first_reason (Some old) r = Some old
+
+abbrev pub stopped : ConnectionView → ConnectionStopReason → ConnectionView
+stopped v r = record v { stop_reason = first_reason v.stop_reason r }
+
+-- ---- Open
+
+abbrev pub open_frame : OpenSaid → Frame
+open_frame o = record { channel = 0; body = body.Open o }
+
+abbrev pub SendOpenStep : ConnectionView → Result Frame ConnectionStateError → ConnectionView → Type 0
+SendOpenStep v (Ok f) w =
+    (s : ConnectionState) × (sends_open v.state ≡ Some s) × (f ≡ open_frame v.local_open) × (w ≡ record v { state = s })
+SendOpenStep v (Err state.IllegalState) w = (sends_open v.state ≡ None) × (w ≡ v)
+SendOpenStep v (Err state.OutOfMemory) w = IsSome (sends_open v.state) × (w ≡ v)
+SendOpenStep v (Err e) w = ⊥
+
+abbrev pub IncomingOpenStep : ConnectionView → OpenSaid → Option ConnectionStateError → ConnectionView → Type 0
+IncomingOpenStep v o None w =
+    (s : ConnectionState) × (takes_open v.state ≡ Some s)
+    × (w ≡ record v { state = s; agreed_channel_max = min v.local_open.channel_max o.channel_max })
+IncomingOpenStep v o (Some state.IllegalState) w = (takes_open v.state ≡ None) × (w ≡ v)
+IncomingOpenStep v o (Some e) w = ⊥
+
+-- ---- Close
+
+abbrev pub close_frame : Option ErrorSaid → Frame
+close_frame error = record { channel = 0; body = body.Close (record { error = error }) }
+
+abbrev pub closes_by : Option ErrorSaid → ConnectionState → Option ConnectionState
+closes_by None s = sends_close s
+closes_by (Some e) s = sends_close_with_error s
+
+abbrev pub SendCloseStep : ConnectionView → Option ErrorSaid → Result Frame ConnectionStateError → ConnectionView → Type 0
+SendCloseStep v error (Ok f) w =
+    (s : ConnectionState) × (closes_by error v.state ≡ Some s) × (f ≡ close_frame error) × (w ≡ record v { state = s })
+SendCloseStep v error (Err state.IllegalState) w = (closes_by error v.state ≡ None) × (w ≡ v)
+SendCloseStep v error (Err e) w = ⊥
+
+-- how the peer's Close is told: as an error, unless it answers a Close of this side and has none
+abbrev pub told : ConnectionState → Option ErrorSaid → Option ConnectionStateError
+told s (Some e) = Some (state.RemoteClosedWithError e)
+told CloseReceived None = Some state.RemoteClosed
+told s None = None
+
+abbrev pub IncomingCloseStep : ConnectionView → CloseSaid → Option ConnectionStateError → ConnectionView → Type 0
+IncomingCloseStep v c (Some state.IllegalState) w = (takes_close v.state ≡ None) × (w ≡ v)
+IncomingCloseStep v c refusal w =
+    (s : ConnectionState) × (takes_close v.state ≡ Some s) × (refusal ≡ told s c.error) × (w ≡ record v { state = s })
+
+-- ---- channels: the lowest one that is not held goes to a session
+
+-- the states before an Open may go out or come
+abbrev pub is_unopened : ConnectionState → Bool
+is_unopened at.Start = true
+is_unopened at.HeaderSent = true
+is_unopened at.HeaderReceived = true
+is_unopened at.HeaderExchange = true
+is_unopened s = false
+
+-- the states after a Close went out
+abbrev pub has_stopped : ConnectionState → Bool
+has_stopped at.CloseSent = true
+has_stopped at.Discarding = true
+has_stopped at.End = true
+has_stopped s = false
+
+abbrev pub Allots : ConnectionState → Type 0
+Allots s = (is_unopened s ≡ false) × (has_stopped s ≡ false)
+
+abbrev pub AllocateStep : ConnectionView → ℕ → Result ℕ AllocSessionError → ConnectionView → Type 0
+AllocateStep v number (Ok channel) w =
+    Allots v.state × IsLowestFree v.session_by_outgoing_channel channel × (channel ≤ v.agreed_channel_max)
+    × (w ≡ record v { session_by_outgoing_channel = map.insert v.session_by_outgoing_channel channel number })
+AllocateStep v number (Err full.ConnectionNotOpened) w = (is_unopened v.state ≡ true) × (w ≡ v)
+AllocateStep v number (Err (full.ConnectionStopped reason)) w =
+    (has_stopped v.state ≡ true) × (reason ≡ unwrap_or v.stop_reason Closed) × (w ≡ v)
+AllocateStep v number (Err full.ChannelMaxReached) w =
+    Allots v.state × ((d : ℕ) → d ≤ v.agreed_channel_max → IsSome (map.get v.session_by_outgoing_channel d)) × (w ≡ v)
+AllocateStep v number (Err full.OutOfMemory) w =
+    Allots v.state × ((d : ℕ) × IsLowestFree v.session_by_outgoing_channel d × (d ≤ v.agreed_channel_max)) × (w ≡ v)
+
+-- the session holds the channel
+abbrev pub Holds : ConnectionView → ℕ → ℕ → Type 0
+Holds v channel number = map.get v.session_by_outgoing_channel channel ≡ Some number
+
+abbrev pub given_back : ConnectionView → ℕ → ConnectionView
+given_back v channel = record v { session_by_outgoing_channel = map.remove v.session_by_outgoing_channel channel }
+
+abbrev pub DeallocateStep : ConnectionView → ℕ → Bool → ConnectionView → Type 0
+DeallocateStep v channel true w = IsSome (map.get v.session_by_outgoing_channel channel) × (w ≡ given_back v channel)
+DeallocateStep v channel false w = (map.get v.session_by_outgoing_channel channel ≡ None) × (w ≡ v)
+
+abbrev pub not_found : ConnectionInnerError
+not_found = inner.NotFound None
+
+abbrev pub not_implemented : ConnectionInnerError
+not_implemented = inner.NotImplemented None
+
+-- ---- routes: the session to which a frame on a channel of the peer's goes
+
+-- the connection accepts a Begin, and makes the route
+abbrev pub BeginRouteStep : ConnectionView → ℕ → Option ℕ → Result ℕ ConnectionInnerError → ConnectionView → Type 0
+BeginRouteStep v channel remote (Ok number) w =
+    (v.state ≡ Opened) × ((c : ℕ) × (remote ≡ Some c) × (map.get v.session_by_outgoing_channel c ≡ Some number))
+    × (w ≡ record v { session_by_incoming_channel = map.insert v.session_by_incoming_channel channel number })
+BeginRouteStep v channel remote (Err inner.IllegalState) w = ¬ (v.state ≡ Opened) × (w ≡ v)
+BeginRouteStep v channel remote (Err (inner.NotImplemented text)) w = (v.state ≡ Opened) × (remote ≡ None) × (text ≡ None) × (w ≡ v)
+BeginRouteStep v channel remote (Err (inner.NotFound text)) w =
+    (v.state ≡ Opened) × ((c : ℕ) × (remote ≡ Some c) × (map.get v.session_by_outgoing_channel c ≡ None)) × (text ≡ None)
+    × (w ≡ v)
+BeginRouteStep v channel remote (Err inner.OutOfMemory) w =
+    (v.state ≡ Opened) × ((c : ℕ) × (remote ≡ Some c) × IsSome (map.get v.session_by_outgoing_channel c)) × (w ≡ v)
+BeginRouteStep v channel remote (Err e) w = ⊥
+
+-- the connection accepts an End, and takes the route away
+abbrev pub EndRouteStep : ConnectionView → ℕ → Result ℕ ConnectionInnerError → ConnectionView → Type 0
+EndRouteStep v channel (Ok number) w =
+    (v.state ≡ Opened) × (map.get v.session_by_incoming_channel channel ≡ Some number)
+    × (w ≡ record v { session_by_incoming_channel = map.remove v.session_by_incoming_channel channel })
+EndRouteStep v channel (Err inner.IllegalState) w = ¬ (v.state ≡ Opened) × (w ≡ v)
+EndRouteStep v channel (Err (inner.NotFound text)) w =
+    (v.state ≡ Opened) × (map.get v.session_by_incoming_channel channel ≡ None) × (text ≡ None) × (w ≡ v)
+EndRouteStep v channel (Err e) w = ⊥
+
+-- other frames go along the route, in every state
+abbrev pub RouteStep : ConnectionView → ℕ → Result ℕ ConnectionInnerError → ConnectionView → Type 0
+RouteStep v channel (Ok number) w = (map.get v.session_by_incoming_channel channel ≡ Some number) × (w ≡ v)
+RouteStep v channel (Err (inner.NotFound text)) w = (map.get v.session_by_incoming_channel channel ≡ None) × (text ≡ None) × (w ≡ v)
+RouteStep v channel (Err e) w = ⊥
+
+-- ---- what a call answered
+
+abbrev pub refusal_of : {X E : Type 0} → Result X E → Option E
+refusal_of (Ok x) = None
+refusal_of (Err e) = Some e
+
+-- what a call that makes or takes a route answers: the number of the session, with the frame for it
+abbrev pub passed_on : SessionFrame → Result ℕ ConnectionInnerError → Result (SessionNo × SessionFrame) ConnectionInnerError
+passed_on frame (Ok number) = Ok (record { 0 = number }, frame)
+passed_on frame (Err e) = Err e
+
+abbrev pub result_map : {X Y E : Type 0} → (X → Y) → Result X E → Result Y E
+result_map f (Ok x) = Ok (f x)
+result_map f (Err e) = Err e

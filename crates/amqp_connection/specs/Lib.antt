@@ -1,0 +1,4 @@
+pub mod States
+pub mod Channels
+pub mod ConnectionErrors
+pub mod Connection

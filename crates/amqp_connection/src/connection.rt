@@ -1,0 +1,96 @@
+//! The connection: its state, its Opens, its channels and the routes of received frames.
+
+ghost use Rattle.std.specs.Prelude.{◌≡◌};
+ghost use Rattle.amqp_session.specs.declared.stop.ConnectionStopReason.{ConnectionStopReason};
+ghost use Rattle.amqp_connection.specs.Connection.{new_connection, stopped};
+
+mod allocation;
+mod channel_table;
+mod open_close;
+mod route_table;
+mod routing;
+mod shown;
+
+use amqp_session::ConnectionStopReason;
+use amqp_types::{ConnectionState, Open};
+use channel_table::ChannelTable;
+use route_table::RouteTable;
+use std::alloc::Global;
+use std::marker::Model;
+
+/// One side of a connection (AMQP 1.0 part 2, section 2.4). It has no input and no output: received performatives are
+/// given to `on_incoming_` calls, and `send_` calls give the frame that is to be sent.
+#[derive(Drop)]
+pub struct Connection {
+    state: ConnectionState,
+    stop_reason: Option<ConnectionStopReason>,
+    local_open: Open,
+    agreed_channel_max: u16,
+    session_by_outgoing_channel: ChannelTable,
+    session_by_incoming_channel: RouteTable,
+}
+
+impl Model for Connection {
+    ghost use Rattle.std.specs.Coded.{codes};
+    ghost use Rattle.amqp_connection.specs.Channels.{channel_table_code};
+    ghost use Rattle.amqp_connection.specs.Connection.{ConnectionView};
+
+    ghost Value = { ConnectionView };
+
+    ghost coded = { Prim.hlevel (codes, channel_table_code) };
+
+    ghost view = { λ c. record {
+      state = c.state;
+      stop_reason = c.stop_reason;
+      local_open = c.local_open;
+      agreed_channel_max = c.agreed_channel_max;
+      session_by_outgoing_channel = c.session_by_outgoing_channel;
+      session_by_incoming_channel = c.session_by_incoming_channel;
+    } };
+}
+
+impl Connection {
+    /// A connection in this state, which is to send this Open. Nothing is held, and no stop reason is recorded.
+    pub fn new(alloc: Global, state: ConnectionState, local_open: Open) -> Connection
+        ensures { result ≡ new_connection state local_open }
+    {
+        Connection {
+            state,
+            stop_reason: None,
+            agreed_channel_max: local_open.channel_max,
+            local_open,
+            session_by_outgoing_channel: ChannelTable::new(alloc),
+            session_by_incoming_channel: RouteTable::new(alloc),
+        }
+    }
+
+    /// The state.
+    pub fn local_state(&self) -> &ConnectionState
+        ensures { result.now ≡ self.now.state }
+    {
+        &self.state
+    }
+
+    /// The Open that was handed to [`Connection::new`].
+    pub fn local_open(&self) -> &Open
+        ensures { result.now ≡ self.now.local_open }
+    {
+        &self.local_open
+    }
+
+    /// Why the connection stopped, where a reason is recorded.
+    pub fn connection_stop_reason(&self) -> Option<ConnectionStopReason>
+        ensures { result ≡ self.now.stop_reason }
+    {
+        self.stop_reason
+    }
+
+    /// Records why the connection stopped. The first reason stays.
+    pub fn set_connection_stop_reason(&mut self, reason: ConnectionStopReason)
+        ensures { self.new ≡ stopped self.old reason }
+    {
+        if self.stop_reason.is_none() {
+            self.stop_reason = Some(reason);
+        }
+    }
+}

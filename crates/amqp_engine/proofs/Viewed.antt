@@ -1,0 +1,48 @@
+-- The sessions of an engine, without the counts of their walks.
+use Rattle.std.proofs.Common.{◌≡◌, ℕ, List, [], ◌∷◌, ◌++◌, Bool, true, false, Option, Some, None, IfSome, IsSome, is_some, refl, ap, sym, subst, ◌∙◌, nat_eq, Bor}
+use Rattle.std.specs.Option.{option_map, option_copied}
+use Rattle.std.specs.Map.{lookup, set_value}
+use Rattle.amqp_session.specs.Session.{Observed}
+use Rattle.amqp_engine.specs.EngineView.{views_of}
+
+pub viewed : {R : Type 0} (n : ℕ) (es : List (ℕ × Observed R)) → lookup (nat_eq n) (views_of es) ≡ option_map (λ o. o.view) (lookup (nat_eq n) es)
+viewed n [] = refl
+viewed n (e ∷ es) = by (viewed n es) (nat_eq n e.0) refl
+  where
+    by : lookup (nat_eq n) (views_of es) ≡ option_map (λ o. o.view) (lookup (nat_eq n) es) → (b : Bool) → nat_eq n e.0 ≡ b → lookup (nat_eq n) (views_of (e ∷ es)) ≡ option_map (λ o. o.view) (lookup (nat_eq n) (e ∷ es))
+    by rest true p = rw p refl
+    by rest false p = rw p rest
+
+-- the session that stands under a number
+pub viewed_some : {R : Type 0} (n : ℕ) (es : List (ℕ × Observed R)) (o : Observed R) → lookup (nat_eq n) es ≡ Some o → lookup (nat_eq n) (views_of es) ≡ Some o.view
+viewed_some n es o is = viewed n es ∙ ap (option_map (λ x. x.view)) is
+
+pub viewed_none : {R : Type 0} (n : ℕ) (es : List (ℕ × Observed R)) → lookup (nat_eq n) es ≡ None → lookup (nat_eq n) (views_of es) ≡ None
+viewed_none n es is = viewed n es ∙ ap (option_map (λ x. x.view)) is
+
+-- one session goes on
+pub viewed_set : {R : Type 0} (n : ℕ) (es : List (ℕ × Observed R)) (o : Observed R) → views_of (set_value (nat_eq n) es o) ≡ set_value (nat_eq n) (views_of es) o.view
+viewed_set n [] o = refl
+viewed_set n (e ∷ es) o = by (viewed_set n es o) (nat_eq n e.0) refl
+  where
+    by : views_of (set_value (nat_eq n) es o) ≡ set_value (nat_eq n) (views_of es) o.view → (b : Bool) → nat_eq n e.0 ≡ b → views_of (set_value (nat_eq n) (e ∷ es) o) ≡ set_value (nat_eq n) (views_of (e ∷ es)) o.view
+    by rest true p = rw p refl
+    by rest false p = rw p (ap (λ xs. (e.0, e.1.view) ∷ xs) rest)
+
+-- one more session comes
+pub viewed_push : {R : Type 0} (es : List (ℕ × Observed R)) (n : ℕ) (o : Observed R) → views_of (es ++ (n, o) ∷ []) ≡ views_of es ++ (n, o.view) ∷ []
+viewed_push [] n o = refl
+viewed_push (e ∷ es) n o = ap (λ xs. (e.0, e.1.view) ∷ xs) (viewed_push es n o)
+
+-- a session that was found, or none
+pub found_in : {R : Type 0} (r : Option (Bor (Observed R))) (n : ℕ) (es : List (ℕ × Observed R)) → option_copied r ≡ lookup (nat_eq n) es → IfSome r (λ s. lookup (nat_eq n) (views_of es) ≡ Some s.now.view)
+found_in None n es e = tt
+found_in (Some s) n es e = viewed_some n es s.now (sym e)
+
+pub known_in : {R : Type 0} (r : Option (Bor (Observed R))) (n : ℕ) (es : List (ℕ × Observed R)) → option_copied r ≡ lookup (nat_eq n) es → is_some r ≡ is_some (lookup (nat_eq n) (views_of es))
+known_in None n es e = ap is_some (sym (viewed_none n es (sym e)))
+known_in (Some s) n es e = ap is_some (sym (viewed_some n es s.now (sym e)))
+
+pub viewed_there : {R : Type 0} (n : ℕ) (es : List (ℕ × Observed R)) (o : Option (Observed R)) (b : Bool) → lookup (nat_eq n) es ≡ o → b ≡ is_some o → b ≡ true → IsSome (lookup (nat_eq n) (views_of es))
+viewed_there n es None b is e t = absurd cc
+viewed_there n es (Some o) b is e t = subst IsSome (sym (viewed_some n es o is)) refl

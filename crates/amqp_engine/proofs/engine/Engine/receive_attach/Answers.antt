@@ -1,0 +1,16 @@
+use Rattle.std.proofs.Common.{rules}
+use Rattle.amqp_engine.specs.Calls.{ReceivedAttachCalls}
+use Rattle.amqp_engine.proofs.KindFields.{attach_fields}
+use Rattle.amqp_engine.proofs.FieldsReceived.{unread, was_passed}
+use Rattle.amqp_engine.proofs.engine.Engine.receive_attach.Goals as goal
+
+pub returns-in_err-attach : goal.returns-in_err-attach
+returns-in_err-attach g c =
+    unread g.R.LinkRelay.gives attach_fields c.args.self.now c.args.channel.0 c.args.fields c.read_list.new.bytes c.in_err-attach.field-0.0
+    c.from_residual.result c.in_err-attach.ensures c.from_residual.ensures.1
+
+pub returns : goal.returns
+returns g c =
+    was_passed g.R.LinkRelay.gives attach_fields (ReceivedAttachCalls c.in_ok-attach.attach) _ c.args.self.now _ c.args.channel.0
+    c.args.fields c.read_list.new.bytes c.in_ok-attach.attach _ c.in_ok-attach.ensures (λ reached calls h. h) (λ s t a h. search rules)
+    c.ask_along.ensures

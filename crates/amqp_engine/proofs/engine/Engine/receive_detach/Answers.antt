@@ -1,0 +1,16 @@
+use Rattle.std.proofs.Common.{rules}
+use Rattle.amqp_engine.specs.Calls.{ReceivedDetachCalls}
+use Rattle.amqp_engine.proofs.KindFields.{detach_fields}
+use Rattle.amqp_engine.proofs.FieldsReceived.{unread, was_passed}
+use Rattle.amqp_engine.proofs.engine.Engine.receive_detach.Goals as goal
+
+pub returns-in_err-detach : goal.returns-in_err-detach
+returns-in_err-detach g c =
+    unread g.R.LinkRelay.gives detach_fields c.args.self.now c.args.channel.0 c.args.fields c.read_list.new.bytes c.in_err-detach.field-0.0
+    c.from_residual.result c.in_err-detach.ensures c.from_residual.ensures.1
+
+pub returns : goal.returns
+returns g c =
+    was_passed g.R.LinkRelay.gives detach_fields (ReceivedDetachCalls c.in_ok-detach.detach) _ c.args.self.now _ c.args.channel.0
+    c.args.fields c.read_list.new.bytes c.in_ok-detach.detach _ c.in_ok-detach.ensures (λ reached calls h. h) (λ s t a h. search rules)
+    c.ask_along.ensures

@@ -1,0 +1,15 @@
+use Rattle.std.proofs.Common.{rules, ◌≡◌, Some, subst, refl, ◌∙◌}
+use Rattle.amqp_engine.specs.declared.engine.step_error.StepError.TheVariants.{ConnectionState}
+use Rattle.amqp_connection.specs.Connection.{refusal_of}
+use Rattle.amqp_engine.specs.EngineView.{EngineView, views_of}
+use Rattle.amqp_engine.specs.Engine.{OpenRequest}
+use Rattle.amqp_engine.proofs.Engines.{same_engine}
+use Rattle.amqp_engine.proofs.engine.Engine.request_open.Goals as goal
+
+pub returns : goal.returns
+returns g c = rw (← c.self.view_is) (c.in_ok-frame.frame, c.send_open.new.self, c.in_ok-frame.ensures, same_engine _ _ _ _ _ _ _ refl refl (c.put.ensures ∙ c.one.ensures))
+
+pub returns-in_err-frame : goal.returns-in_err-frame
+returns-in_err-frame g c =
+    let told : refusal_of c.from_residual.result ≡ Some (ConnectionState c.in_err-frame.field-0.0) = search rules in
+    rw told (subst (λ (v : EngineView _). OpenRequest v (Some (ConnectionState c.in_err-frame.field-0.0)) (record { connection = c.send_open.new.self; sessions = views_of c.self.inside.sessions.entries; limit = c.self.inside.encoder; waiting = c.self.inside.waiting; outcomes = c.self.inside.kept.outcomes; wishes = c.self.inside.kept.wishes })) c.self.view_is (c.send_open.new.self, c.in_err-frame.ensures, refl))

@@ -1,0 +1,27 @@
+use Rattle.std.proofs.Common.{None, [], refl, sym, ◌∙◌, inl, inr}
+use Rattle.amqp_engine.proofs.Engines.{idle, busy}
+use Rattle.amqp_engine.proofs.engine.Engine.step.Goals as goal
+
+pub returns : goal.returns
+returns g c =
+    let done = c.carry_out.ensures in
+    record {
+      received = done.0;
+      reached = done.1;
+      calls = done.2;
+      frames = done.3.waiting;
+      done = done.3;
+      step = inr (idle _ (sym c.has_output.ensures ∙ c.if-has_output.false), refl, done.4);
+      keeps = done.5;
+    }
+
+pub returns-then-has_output : goal.returns-then-has_output
+returns-then-has_output g c = record {
+  received = None;
+  reached = None;
+  calls = [];
+  frames = [];
+  done = c.args.self.now;
+  step = inl (busy _ (sym c.has_output.ensures ∙ c.if-has_output.true), refl, refl, ((refl, refl), refl), refl);
+  keeps = refl;
+}

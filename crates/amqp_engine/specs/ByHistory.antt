@@ -1,0 +1,145 @@
+-- What a history gives of the connection, its channels, its routes and its sessions: by its entries alone, the oldest first.
+use Rattle.std.specs.Prelude.{ℕ, List, [], ◌∷◌, ◌++◌, Option, Some, None, cond, nat_eq, unwrap_or, min}
+use Rattle.amqp_types.specs.declared.states.ConnectionState.{ConnectionState}
+use Rattle.amqp_types.specs.declared.states.ConnectionState.TheVariants.{CloseReceived}
+use Rattle.amqp_types.specs.declared.states.SessionState.{SessionState}
+use Rattle.amqp_types.specs.declared.states.SessionState.TheVariants.{Unmapped}
+use Rattle.amqp_types.specs.Error.{ErrorSaid}
+use Rattle.amqp_types.specs.Open.{OpenSaid}
+use Rattle.amqp_session.specs.declared.stop.ConnectionStopReason.{ConnectionStopReason}
+use Rattle.amqp_session.specs.History as session
+use Rattle.amqp_session.specs.Headline as single
+use Rattle.amqp_frames.specs.declared.frame.Frame.{Frame}
+use Rattle.amqp_engine.specs.declared.engine.step_error.StepError.{StepError}
+use Rattle.amqp_engine.specs.declared.engine.step_error.StepError.TheVariants as no
+use Rattle.amqp_connection.specs.States.{sends_open, takes_open, takes_close}
+use Rattle.amqp_connection.specs.Connection.{closes_by, first_reason}
+use Rattle.amqp_engine.specs.EngineView.{peer_limit}
+use Rattle.amqp_engine.specs.Engine.{Entry, close_reason, remote_reason}
+use Rattle.amqp_engine.specs.Event.{Event, SentOpen, SentClose, AcceptedOpen, CameClose, Began, Released, Routed, Unrouted, event, is_number}
+
+-- ---- the connection's state, by its tables
+
+abbrev pub state_by : ConnectionState → Event → ConnectionState
+state_by s SentOpen = unwrap_or (sends_open s) s
+state_by s (SentClose error) = unwrap_or (closes_by error s) s
+state_by s (AcceptedOpen o) = unwrap_or (takes_open s) s
+state_by s (CameClose c) = unwrap_or (takes_close s) s
+state_by s ev = s
+
+abbrev pub state_from : {R : Type 0} → ConnectionState → List (Entry R) → ConnectionState
+state_from s [] = s
+state_from s (e ∷ es) = state_from (state_by s (event e)) es
+
+-- ---- why it stopped: the first reason of a Close that was sent, or of one that came and moved it to CloseReceived
+
+abbrev pub remote_close_reason : Option ConnectionState → Option ErrorSaid → Option ConnectionStopReason → Option ConnectionStopReason
+remote_close_reason (Some CloseReceived) error old = first_reason old (remote_reason error)
+remote_close_reason next error old = old
+
+abbrev pub reason_by : ConnectionState → Event → Option ConnectionStopReason → Option ConnectionStopReason
+reason_by s (SentClose error) old = first_reason old (close_reason error)
+reason_by s (CameClose c) old = remote_close_reason (takes_close s) c.error old
+reason_by s ev old = old
+
+abbrev pub reason_from : {R : Type 0} → ConnectionState → Option ConnectionStopReason → List (Entry R) → Option ConnectionStopReason
+reason_from s old [] = old
+reason_from s old (e ∷ es) = reason_from (state_by s (event e)) (reason_by s (event e) old) es
+
+-- that of a connection that began in this state
+abbrev pub stop_reason : {R : Type 0} → ConnectionState → List (Entry R) → Option ConnectionStopReason
+stop_reason s H = reason_from s None H
+
+-- ---- the highest channel that both sides allow: that of this side's Open, until the peer's is accepted
+
+abbrev pub channel_max_by : OpenSaid → Event → ℕ → ℕ
+channel_max_by own (AcceptedOpen o) old = min own.channel_max o.channel_max
+channel_max_by own ev old = old
+
+abbrev pub channel_max_from : {R : Type 0} → OpenSaid → ℕ → List (Entry R) → ℕ
+channel_max_from own old [] = old
+channel_max_from own old (e ∷ es) = channel_max_from own (channel_max_by own (event e) old) es
+
+abbrev pub channel_max : {R : Type 0} → OpenSaid → List (Entry R) → ℕ
+channel_max own H = channel_max_from own own.channel_max H
+
+-- ---- the limit of a piece: that of the peer's Open that was accepted last
+
+abbrev pub limit_by : ℕ → Event → ℕ
+limit_by old (AcceptedOpen o) = peer_limit o
+limit_by old ev = old
+
+abbrev pub limit_after : {R : Type 0} → ℕ → List (Entry R) → ℕ
+limit_after limit [] = limit
+limit_after limit (e ∷ es) = limit_after (limit_by limit (event e)) es
+
+-- ---- channels of this side: that of a Begin that goes out is held by its session, until that is released
+
+abbrev pub held_by : ℕ → Event → Option ℕ → Option ℕ
+held_by c (Began n settings channel) old = cond (nat_eq c channel) (Some n) old
+held_by c (Released n) old = cond (is_number n old) None old
+held_by c ev old = old
+
+abbrev pub held_from : {R : Type 0} → ℕ → Option ℕ → List (Entry R) → Option ℕ
+held_from c old [] = old
+held_from c old (e ∷ es) = held_from c (held_by c (event e) old) es
+
+-- the session that holds this side's channel c
+abbrev pub held : {R : Type 0} → ℕ → List (Entry R) → Option ℕ
+held c H = held_from c None H
+
+-- ---- routes: channels of the peer's
+
+abbrev pub route_by : ℕ → Event → Option ℕ → Option ℕ
+route_by c (Routed channel n) old = cond (nat_eq c channel) (Some n) old
+route_by c (Unrouted channel) old = cond (nat_eq c channel) None old
+route_by c ev old = old
+
+abbrev pub route_from : {R : Type 0} → ℕ → Option ℕ → List (Entry R) → Option ℕ
+route_from c old [] = old
+route_from c old (e ∷ es) = route_from c (route_by c (event e) old) es
+
+-- the session of the last Begin on the peer's channel c that reached one, if no End on it reached one since
+abbrev pub route : {R : Type 0} → ℕ → List (Entry R) → Option ℕ
+route c H = route_from c None H
+
+-- ---- sessions
+
+abbrev pub calls_at : {R : Type 0} → ℕ → Entry R → List (session.Entry R)
+calls_at n e = cond (is_number n e.reached) e.calls []
+
+-- the history of session n: the calls of it, in order
+abbrev pub of_session : {R : Type 0} → ℕ → List (Entry R) → List (session.Entry R)
+of_session n [] = []
+of_session n (e ∷ es) = calls_at n e ++ of_session n es
+
+-- how session n was made: with the settings of its Begin, on its channel, and with the reason why the connection had stopped
+abbrev pub begun_by : ℕ → Option ConnectionStopReason → Event → Option session.Made → Option session.Made
+begun_by n stop (Began k settings channel) later =
+    cond (nat_eq n k) (Some (record { settings = settings; channel = channel; state = Unmapped; stop = stop })) later
+begun_by n stop ev later = later
+
+abbrev pub begun_from : {R : Type 0} → ℕ → ConnectionState → Option ConnectionStopReason → List (Entry R) → Option session.Made
+begun_from n s stop [] = None
+begun_from n s stop (e ∷ es) = begun_by n stop (event e) (begun_from n (state_by s (event e)) (reason_by s (event e) stop) es)
+
+-- of an engine whose connection began in this state
+abbrev pub begun : {R : Type 0} → ConnectionState → ℕ → List (Entry R) → Option session.Made
+begun s n H = begun_from n s None H
+
+-- the state of session n
+abbrev pub session_state : {R : Type 0} → ℕ → List (Entry R) → SessionState
+session_state n H = single.state_from Unmapped (of_session n H)
+
+-- ---- the frames that wait: those of the last entry, but for entries refused since they waited
+
+abbrev pub waiting_by : {R : Type 0} → Option StepError → Entry R → List Frame → List Frame
+waiting_by (Some no.OutputWaiting) e old = old
+waiting_by refusal e old = e.frames
+
+abbrev pub last_frames_from : {R : Type 0} → List Frame → List (Entry R) → List Frame
+last_frames_from old [] = old
+last_frames_from old (e ∷ es) = last_frames_from (waiting_by e.refusal e old) es
+
+abbrev pub last_frames : {R : Type 0} → List (Entry R) → List Frame
+last_frames H = last_frames_from [] H

@@ -1,0 +1,42 @@
+-- What contracts see of an engine.
+use Rattle.std.specs.Prelude.{◌-◌, ℕ, List, [], map, max}
+use Rattle.amqp_types.specs.declared.states.ConnectionState.{ConnectionState}
+use Rattle.amqp_types.specs.Open.{OpenSaid}
+use Rattle.amqp_session.specs.Session.{SessionView, Observed}
+use Rattle.amqp_frames.specs.declared.frame.Frame.{Frame}
+use Rattle.amqp_connection.specs.Connection.{ConnectionView, new_connection}
+use Rattle.amqp_engine.specs.Kept.{Outcomes, Wishes, no_outcomes, no_wishes}
+
+pub record EngineView (R : Type 0) : Type 0 where
+  pub connection : ConnectionView
+  -- in the order in which they were begun; none is ever removed
+  pub sessions : List (ℕ × SessionView R)
+  -- how many bytes a piece may have
+  pub limit : ℕ
+  -- frames that are not yet put out, oldest first
+  pub waiting : List Frame
+  -- kept for handles
+  pub outcomes : Outcomes
+  pub wishes : Wishes
+
+-- the sessions without the counts of their walks
+abbrev pub views_of : {R : Type 0} → List (ℕ × Observed R) → List (ℕ × SessionView R)
+views_of es = map (λ e. (e.0, e.1.view)) es
+
+-- ---- the limit of a piece: the size that a side allows, without the size field; no peer may ask for less than 512 bytes
+
+abbrev pub own_limit : OpenSaid → ℕ
+own_limit o = max (o.max_frame_size - 4) 4
+
+abbrev pub peer_limit : OpenSaid → ℕ
+peer_limit o = max o.max_frame_size 512 - 4
+
+abbrev pub new_engine : {R : Type 0} → ConnectionState → OpenSaid → EngineView R
+new_engine s o = record {
+  connection = new_connection s o;
+  sessions = [];
+  limit = own_limit o;
+  waiting = [];
+  outcomes = no_outcomes;
+  wishes = no_wishes;
+}

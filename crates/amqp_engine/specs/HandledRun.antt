@@ -1,0 +1,95 @@
+-- What a run of a handled engine does: it hears the wishes, and then runs the inputs.
+use Rattle.std.specs.Prelude.{◌≡◌, ◌⊎◌, ℕ, List, [], ◌∷◌, ◌++◌, map, All, Option, Some, None, Result, OnOk}
+use Rattle.std.specs.FinMap as finite
+use Rattle.amqp_types.specs.Error.{ErrorSaid}
+use Rattle.amqp_session.specs.Relay.{Relays}
+use Rattle.amqp_engine.specs.declared.engine.input.Input.{Input}
+use Rattle.amqp_engine.specs.declared.engine.input.Input.TheVariants as input
+use Rattle.amqp_engine.specs.declared.engine.answer.Answer.{Answer}
+use Rattle.amqp_engine.specs.declared.engine.answer.Answer.TheVariants.{Done}
+use Rattle.amqp_engine.specs.declared.engine.answer.Stopped.{Stopped}
+use Rattle.amqp_engine.specs.declared.engine.step_error.StepError.{StepError}
+use Rattle.amqp_engine.specs.Kept.{Wishes}
+use Rattle.amqp_engine.specs.EngineView.{EngineView}
+use Rattle.amqp_engine.specs.Engine.{Entry, Steps}
+use Rattle.amqp_engine.specs.History.{OnlyLeft, Chain}
+use Rattle.amqp_engine.specs.ByHistory.{limit_after}
+use Rattle.amqp_engine.specs.Output.{PutOut}
+use Rattle.amqp_engine.specs.Headline.{inputs_of, IsTaken, Runs, Ran}
+
+-- what a wish asks for, as a request
+abbrev pub end_request : {R : Type 0} → ℕ × Option ErrorSaid → Input R
+end_request e = input.End (record { 0 = e.0 }) e.1
+
+abbrev pub close_requests : {R : Type 0} → Option (Option ErrorSaid) → List (Input R)
+close_requests None = []
+close_requests (Some error) = input.Close error ∷ []
+
+-- the entries that were accepted
+abbrev pub if_accepted : {R : Type 0} → Option StepError → Entry R → List (Entry R) → List (Entry R)
+if_accepted None e es = e ∷ es
+if_accepted (Some r) e es = es
+
+abbrev pub accepted : {R : Type 0} → List (Entry R) → List (Entry R)
+accepted [] = []
+accepted (e ∷ es) = if_accepted e.refusal e (accepted es)
+
+abbrev pub NoWishes : Wishes → Type 0
+NoWishes w = (finite.entries w.ends ≡ []) × (w.close ≡ None)
+
+-- The Close is heard when no End is left.
+abbrev pub ClosesLast : Wishes → Option (Option ErrorSaid) → Wishes → Type 0
+ClosesLast w None w' = w'.close ≡ w.close
+ClosesLast w (Some error) w' = (w.close ≡ Some error) × NoWishes w'
+
+-- Wishes are heard, each as its request: the Ends by rising number, and then the Close. Those not yet come to stay.
+pub record Hears {R : Type 0} (w : Wishes) (heard : List (Entry R)) (w' : Wishes) : Type 0 where
+  pub ends : List (ℕ × Option ErrorSaid)
+  pub close : Option (Option ErrorSaid)
+  pub ends_first : finite.entries w.ends ≡ ends ++ finite.entries w'.ends
+  pub close_last : ClosesLast w close w'
+  pub are : inputs_of heard ≡ map end_request ends ++ close_requests close
+
+-- A run of a handled engine is a run of the wishes that are accepted, and of the inputs.
+pub record HandledRan {R : Type 0} (g : Relays R) (v : EngineView R) (inputs : List (Input R)) (answers : List Answer)
+    (result : Result (Unit {0}) Stopped) (v' : EngineView R) (inputs' : List (Input R)) (answers' : List Answer) : Type 0 where
+  pub heard : List (Entry R)
+  pub hears : Hears v.wishes heard v'.wishes
+  pub ran : Ran g (accepted heard) v inputs answers result v' inputs' answers'
+  -- what is heard is asked for when nothing waits, also what is refused: that changes nothing, and leaves no answer
+  pub all_taken : All IsTaken heard
+  pub asked : Chain g v (heard ++ ran.entries) v'
+  -- no input is taken before all wishes were heard, and the run does not end before
+  pub wishes_first : (ran.entries ≡ []) ⊎ NoWishes v'.wishes
+  pub all_heard : OnOk result (NoWishes v'.wishes)
+
+-- ---- parts of a run
+
+-- A wish is asked for. Where it is accepted it is answered, and its frame is put out, or waits.
+abbrev pub AskedSo : {R : Type 0} → Option StepError → EngineView R → List Answer → EngineView R → List Answer → Type 0
+AskedSo None u answers v' answers' =
+    (out : List Answer) × (answers' ≡ (answers ++ Done ∷ []) ++ out) × OnlyLeft u v' × PutOut u.limit u.waiting v'.waiting out
+AskedSo (Some r) u answers v' answers' = (v' ≡ u) × (answers' ≡ answers)
+
+pub record Asked {R : Type 0} (g : Relays R) (v : EngineView R) (i : Input R) (answers : List Answer) (v' : EngineView R)
+    (answers' : List Answer) : Type 0 where
+  pub refusal : Option StepError
+  pub told : EngineView R
+  pub step : Steps g v i refusal told
+  pub so : AskedSo refusal told answers v' answers'
+
+-- the wishes that have been heard so far
+pub record Hearing {R : Type 0} (g : Relays R) (v : EngineView R) (answers : List Answer) (v' : EngineView R) (answers' : List Answer) :
+    Type 0 where
+  pub heard : List (Entry R)
+  pub hears : Hears v.wishes heard v'.wishes
+  pub all_taken : All IsTaken heard
+  pub asked : Chain g v heard v'
+  pub runs : Runs g (accepted heard) v answers v' answers'
+  pub limit_is : v'.limit ≡ limit_after v.limit (accepted heard)
+
+-- an End or a Close is asked for
+abbrev pub IsWish : {R : Type 0} → Input R → Type 0
+IsWish (input.End n error) = Unit {0}
+IsWish (input.Close error) = Unit {0}
+IsWish i = ⊥

@@ -1,0 +1,267 @@
+-- The headline: what holds of every history of an engine, said of the history alone.
+use Rattle.std.specs.Prelude.{ℕ, ◌≡◌, ◌≤◌, ◌+◌, List, [], ◌∷◌, ◌++◌, length, All, Option, Some, None, Result, Err, MatchResult, nat_eq}
+use Rattle.std.specs.Map.{lookup}
+use Rattle.std.specs.FinMap as map
+use Rattle.amqp_types.specs.declared.states.ConnectionState.{ConnectionState}
+use Rattle.amqp_types.specs.declared.states.ConnectionState.TheVariants.{HeaderExchange, Opened}
+use Rattle.amqp_types.specs.Open.{OpenSaid}
+use Rattle.amqp_types.specs.Begin.{BeginSaid}
+use Rattle.amqp_frames.specs.declared.frame.Frame.{Frame}
+use Rattle.amqp_frames.specs.declared.frame.FrameBody.{FrameBody}
+use Rattle.amqp_frames.specs.declared.frame.FrameBody.TheVariants as body
+use Rattle.amqp_frames.specs.Frame.{IsFrame, Decodes}
+use Rattle.amqp_engine.specs.declared.engine.input.Input.{Input}
+use Rattle.amqp_engine.specs.declared.engine.answer.Answer.{Answer}
+use Rattle.amqp_engine.specs.declared.engine.answer.Stopped.{Stopped}
+use Rattle.amqp_engine.specs.declared.engine.input.Input.TheVariants as input
+use Rattle.amqp_engine.specs.declared.engine.step_error.StepError.{StepError}
+use Rattle.amqp_engine.specs.declared.engine.step_error.StepError.TheVariants as no
+use Rattle.amqp_connection.specs.declared.error.ConnectionInnerError.TheVariants as inner
+use Rattle.amqp_session.specs.Session.{SessionView}
+use Rattle.amqp_session.specs.History as session
+use Rattle.amqp_session.specs.Headline as single
+use Rattle.amqp_session.specs.Relay.{Relays}
+use Rattle.amqp_session.specs.OutgoingFrames.{calls_frames}
+use Rattle.amqp_engine.specs.Kept.{Outcomes, outcomes_by}
+use Rattle.amqp_engine.specs.EngineView.{EngineView, own_limit}
+use Rattle.amqp_connection.specs.Connection.{not_found, open_frame, close_frame}
+use Rattle.amqp_engine.specs.Waits.{sent}
+use Rattle.amqp_engine.specs.Calls.{NoCalls, Calls, request_calls, received_calls}
+use Rattle.amqp_engine.specs.Engine.{Entry}
+use Rattle.amqp_engine.specs.Event.{Event, SentOpen, SentClose, event}
+use Rattle.amqp_engine.specs.ByHistory.{of_session, begun, session_state, state_from, stop_reason, channel_max, limit_after, route, held}
+use Rattle.amqp_engine.specs.ByHistory.{last_frames}
+use Rattle.amqp_engine.specs.History.{Chain, LeadsTo}
+use Rattle.amqp_engine.specs.Output.{Speaks}
+
+-- of each entry, with those before it
+abbrev pub Each : {R : Type 0} → List (Entry R) → (List (Entry R) → Entry R → Type 0) → Type 0
+Each H P = (before after : List (Entry _)) (e : Entry _) → H ≡ before ++ e ∷ after → P before e
+
+-- ---- what was received
+
+-- What was received is the frame that the bytes hold. Nothing was received where they hold none, or memory was refused
+-- before: for the frame's fields, or for the engine's own room; or where output waited.
+abbrev pub HasReceived : List ℕ → Option Frame → Option StepError → Type 0
+HasReceived bytes (Some f) refusal = (rest : List ℕ) × IsFrame f bytes rest
+HasReceived bytes None (Some (no.Frame e)) = Decodes bytes (Err e)
+HasReceived bytes None (Some no.OutputWaiting) = Unit {0}
+HasReceived bytes None (Some no.OutOfMemory) = Unit {0}
+HasReceived bytes None refusal = ⊥
+
+abbrev pub Receives : {R : Type 0} → Input R → Entry R → Type 0
+Receives (input.Received bytes) e = HasReceived bytes e.received e.refusal
+Receives i e = e.received ≡ None
+
+abbrev pub AllReceived : {R : Type 0} → List (Entry R) → Type 0
+AllReceived H = Each H (λ before e. Receives e.input e)
+
+-- ---- requests and frames reach their session
+
+-- the session that a request on a session names
+abbrev pub names : {R : Type 0} → Input R → Option ℕ
+names (input.End n error) = Some n.0
+names (input.AllocateLink n name relay) = Some n.0
+names (input.AllocateIncomingLink n name relay h) = Some n.0
+names (input.Attach n a) = Some n.0
+names (input.Detach n d expects_echo) = Some n.0
+names (input.Flow n l) = Some n.0
+names (input.Transfer n h t payload first) = Some n.0
+names (input.Disposition n d) = Some n.0
+names (input.Stop n reason) = Some n.0
+names i = None
+
+-- A request reaches the session that it names, where that was begun; else it is NoSession.
+abbrev pub ReachesNamed : {R : Type 0} → Option session.Made → ℕ → Entry R → Type 0
+ReachesNamed None n e = (e.reached ≡ None) × (e.refusal ≡ Some no.NoSession)
+ReachesNamed (Some m) n e = (e.reached ≡ Some n) × ¬ (e.refusal ≡ Some no.NoSession)
+
+-- so it is in every state of the connection, unless output waits, or memory is refused before
+abbrev pub RequestsReach : {R : Type 0} → ConnectionState → List (Entry R) → Type 0
+RequestsReach s H =
+    Each H (λ before e. (n : ℕ) → names e.input ≡ Some n → ¬ (e.refusal ≡ Some no.OutputWaiting) → ¬ (e.refusal ≡ Some no.OutOfMemory) →
+    ReachesNamed (begun s n before) n e)
+
+-- A frame goes along the route of its channel, and to no other session; without a route it is NotFound.
+abbrev pub GoesAlong : {R : Type 0} → Option ℕ → Entry R → Type 0
+GoesAlong None e = (e.reached ≡ None) × (e.refusal ≡ Some (no.Connection not_found))
+GoesAlong (Some n) e = (e.reached ≡ Some n) × ¬ (e.refusal ≡ Some (no.Connection not_found))
+
+-- an Attach, a Flow, a Transfer, a Disposition and a Detach go along in every state of the connection; an End in Opened alone
+abbrev pub Passes : {R : Type 0} → FrameBody → ConnectionState → Option ℕ → Entry R → Type 0
+Passes (body.Attach p) s route e = GoesAlong route e
+Passes (body.Disposition p) s route e = GoesAlong route e
+Passes (body.Detach p) s route e = GoesAlong route e
+Passes (body.Flow p) s route e = GoesAlong route e
+Passes (body.Transfer p payload) s route e = GoesAlong route e
+Passes (body.End p) s route e =
+    (s ≡ Opened → GoesAlong route e)
+    × (¬ (s ≡ Opened) → (e.reached ≡ None) × (e.refusal ≡ Some (no.Connection inner.IllegalState)))
+Passes b s route e = Unit {0}
+
+-- so it is, unless memory is refused before
+abbrev pub FramesReach : {R : Type 0} → ConnectionState → List (Entry R) → Type 0
+FramesReach s H = Each H (λ before e. (f : Frame) → e.received ≡ Some f → ¬ (e.refusal ≡ Some no.OutOfMemory) →
+    Passes f.body (state_from s before) (route f.channel before) e)
+
+-- a Begin of the peer's reaches the session that holds the channel that it answers
+abbrev pub RoutesFollow : {R : Type 0} → List (Entry R) → Type 0
+RoutesFollow H =
+    Each H (λ before e. (c : ℕ) (b : BeginSaid) → e.received ≡ Some (record { channel = c; body = body.Begin b }) →
+    (n : ℕ) → e.reached ≡ Some n →
+    (d : ℕ) × (b.remote_channel ≡ Some d) × (held d before ≡ Some n))
+
+-- the session that a received frame reaches is there
+abbrev pub AllKnown : {R : Type 0} → List (Entry R) → Type 0
+AllKnown H = Each H (λ before e. (f : Frame) → e.received ≡ Some f → ¬ (e.refusal ≡ Some no.NoSession))
+
+-- where memory was refused before, no session is reached, and nothing goes out
+abbrev pub RanShort : {R : Type 0} → List (Entry R) → Type 0
+RanShort H = Each H (λ before e. e.refusal ≡ Some no.OutOfMemory → (e.reached ≡ None) × (e.frames ≡ []))
+
+-- no session holds two channels
+abbrev pub HeldOnce : {R : Type 0} → List (Entry R) → Type 0
+HeldOnce H = (c d n : ℕ) → held c H ≡ Some n → held d H ≡ Some n → c ≡ d
+
+-- ---- an entry's calls are what its input asks, and its frames are theirs
+
+abbrev pub asked_calls : {R : Type 0} → Input R → Option Frame → Calls R
+asked_calls (input.Received bytes) (Some f) = received_calls f.channel f.body
+asked_calls (input.Received bytes) None = NoCalls
+asked_calls i received = request_calls i
+
+-- An entry that reached a session made the calls of it that its input asks of the session in its state, and was refused as
+-- they were. One that reached none made no call.
+abbrev pub Asked : {R : Type 0} → List (Entry R) → Option ℕ → Entry R → Type 0
+Asked before (Some n) e = ¬ (e.refusal ≡ Some no.NoSession) → asked_calls e.input e.received (session_state n before) e.calls e.refusal
+Asked before None e = e.calls ≡ []
+
+abbrev pub AllAsked : {R : Type 0} → List (Entry R) → Type 0
+AllAsked H = Each H (λ before e. Asked before e.reached e)
+
+-- the frame of the connection itself
+abbrev pub own_frames : OpenSaid → Event → List Frame
+own_frames o SentOpen = open_frame o ∷ []
+own_frames o (SentClose error) = close_frame error ∷ []
+own_frames o ev = []
+
+-- an entry hands out the connection's own frame, or those of its calls, and no others
+abbrev pub FramesAre : {R : Type 0} → OpenSaid → List (Entry R) → Type 0
+FramesAre o H = Each H (λ before e. e.frames ≡ own_frames o (event e) ++ sent (calls_frames e.calls))
+
+-- each frame of a session is on its channel
+abbrev pub AllOn : ℕ → List Frame → Type 0
+AllOn channel [] = Unit {0}
+AllOn channel (f ∷ fs) = (f.channel ≡ channel) × AllOn channel fs
+
+abbrev pub OnItsChannel : {R : Type 0} → ConnectionState → List (Entry R) → Type 0
+OnItsChannel s H = Each H (λ before e. (n : ℕ) (m : session.Made) → begun s n H ≡ Some m → e.reached ≡ Some n → AllOn m.channel e.frames)
+
+-- ---- how many Opens and Closes were handed out
+
+abbrev pub is_open : FrameBody → ℕ
+is_open (body.Open o) = 1
+is_open b = 0
+
+abbrev pub is_close : FrameBody → ℕ
+is_close (body.Close c) = 1
+is_close b = 0
+
+abbrev pub opens : List Frame → ℕ
+opens [] = 0
+opens (f ∷ fs) = is_open f.body + opens fs
+
+abbrev pub closes : List Frame → ℕ
+closes [] = 0
+closes (f ∷ fs) = is_close f.body + closes fs
+
+-- all frames that were handed out
+abbrev pub handed : {R : Type 0} → List (Entry R) → List Frame
+handed [] = []
+handed (e ∷ es) = e.frames ++ handed es
+
+-- ---- the headline: of an engine whose connection began in state s, and is to send the Open o
+
+pub record Headline {R : Type 0} (s : ConnectionState) (o : OpenSaid) (H : List (Entry R)) : Type 0 where
+  -- each session that was begun keeps its own headline: order, one number for each delivery, inside the window, waits only
+  -- while it is used up
+  pub each : (n : ℕ) (m : session.Made) → begun s n H ≡ Some m → single.Headline m (of_session n H)
+  -- and no other session has any call
+  pub unknown : (n : ℕ) → begun s n H ≡ None → of_session n H ≡ []
+  -- what was received is what the bytes hold
+  pub all_received : AllReceived H
+  -- requests reach the session that they name
+  pub requests_reach : RequestsReach s H
+  -- frames reach the last begun session of their channel
+  pub frames_reach : FramesReach s H
+  pub routes_follow : RoutesFollow H
+  pub all_known : AllKnown H
+  pub ran_short : RanShort H
+  pub held_once : HeldOnce H
+  -- what reaches a session is what is asked of it, and what goes out is what it hands out
+  pub all_asked : AllAsked H
+  pub frames_are : FramesAre o H
+  pub on_its_channel : OnItsChannel s H
+  -- where the headers were exchanged, at most one Open and one Close go out
+  pub one_open : s ≡ HeaderExchange → opens (handed H) ≤ 1
+  pub one_close : s ≡ HeaderExchange → closes (handed H) ≤ 1
+
+-- ---- the law of views: what contracts see of an engine is what its history gives
+
+pub record Stands {R : Type 0} (s : ConnectionState) (o : OpenSaid) (H : List (Entry R)) (v : EngineView R) : Type 0 where
+  -- each session that was begun, and no other
+  pub sessions_are : (n : ℕ) (m : session.Made) → begun s n H ≡ Some m →
+      (t : SessionView R) × (lookup (nat_eq n) v.sessions ≡ Some t) × single.Stands m (of_session n H) t
+  pub no_other : (n : ℕ) → begun s n H ≡ None → lookup (nat_eq n) v.sessions ≡ None
+  -- the connection
+  pub state_is : v.connection.state ≡ state_from s H
+  pub stop_reason_is : v.connection.stop_reason ≡ stop_reason s H
+  pub local_open_is : v.connection.local_open ≡ o
+  pub channel_max_is : v.connection.agreed_channel_max ≡ channel_max o H
+  pub held_is : (c : ℕ) → map.get v.connection.session_by_outgoing_channel c ≡ held c H
+  pub routes_are : (c : ℕ) → map.get v.connection.session_by_incoming_channel c ≡ route c H
+  -- the limit of a piece
+  pub limit_is : v.limit ≡ limit_after (own_limit o) H
+  -- what waits is the end of the last entry's frames: others left from the front
+  pub waiting_is : (gone : List Frame) × (last_frames H ≡ gone ++ v.waiting)
+
+-- ---- what a run does
+
+abbrev pub inputs_of : {R : Type 0} → List (Entry R) → List (Input R)
+inputs_of [] = []
+inputs_of (e ∷ es) = e.input ∷ inputs_of es
+
+-- what waits is put out before the next input is taken
+abbrev pub IsTaken : {R : Type 0} → Entry R → Type 0
+IsTaken e = ¬ (e.refusal ≡ Some no.OutputWaiting)
+
+-- the outcomes that entries leave
+abbrev pub outcomes_from : {R : Type 0} → Outcomes → List (Entry R) → Outcomes
+outcomes_from o [] = o
+outcomes_from o (e ∷ es) = outcomes_from (outcomes_by e.received e.reached e.refusal o) es
+
+-- these entries were run, from the view and answers before to those after
+pub record Runs {R : Type 0} (g : Relays R) (es : List (Entry R)) (v : EngineView R) (answers : List Answer) (v' : EngineView R)
+    (answers' : List Answer) : Type 0 where
+  -- none is refused because output waits
+  pub all_taken : All IsTaken es
+  -- they are steps from the one view to the other
+  pub steps : Chain g v es v'
+  -- whatever legal history came before, it goes on by these entries; all of it keeps the headline, and gives the view
+  pub goes_on : (s : ConnectionState) (o : OpenSaid) (H : List (Entry R)) → LeadsTo g s o H v →
+      LeadsTo g s o (H ++ es) v' × Headline s o (H ++ es) × Stands s o (H ++ es) v'
+  -- their outcomes are kept, and no handle takes one meanwhile
+  pub outcomes_are : v'.outcomes ≡ outcomes_from v.outcomes es
+  -- what is appended is what waited and the output of the entries, but for the frames that wait now
+  pub out : List Answer
+  pub appended : answers' ≡ answers ++ out
+  pub said : Speaks v.limit v.waiting es v'.waiting out
+
+-- A run takes inputs from the front, behind wishes that were accepted, if any. It takes all inputs and puts out all frames, or it
+-- stops and says how many inputs it took.
+pub record Ran {R : Type 0} (g : Relays R) (wished : List (Entry R)) (v : EngineView R) (inputs : List (Input R)) (answers : List Answer)
+    (result : Result (Unit {0}) Stopped) (v' : EngineView R) (inputs' : List (Input R)) (answers' : List Answer) : Type 0 where
+  pub entries : List (Entry R)
+  pub taken : inputs ≡ inputs_of entries ++ inputs'
+  pub runs : Runs g (wished ++ entries) v answers v' answers'
+  pub result_is : MatchResult result (λ _. (inputs' ≡ []) × (v'.waiting ≡ [])) (λ stopped. stopped.done ≡ length entries)

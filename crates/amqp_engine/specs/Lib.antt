@@ -1,0 +1,16 @@
+pub mod Waits
+pub mod Kept
+pub mod EngineView
+pub mod Places
+pub mod Calls
+pub mod Sessions
+pub mod Handed
+pub mod Engine
+pub mod History
+pub mod Event
+pub mod ByHistory
+pub mod Output
+pub mod Putting
+pub mod Headline
+pub mod Handles
+pub mod HandledRun

@@ -1,0 +1,159 @@
+-- What requests and received frames do with the session that they reach: its calls, what is answered, and the frames that
+-- wait then.
+use Rattle.std.specs.Prelude.{◌≡◌, ◌⊎◌, ◌<◌, ◌^◌, ℕ, List, [], ◌∷◌, ◌++◌, map, Option, Some, None, Result, Ok, Err, IsSome, nat_eq, Bool}
+use Rattle.std.specs.Prelude.{true, false}
+use Rattle.std.specs.Map.{lookup, set_value}
+use Rattle.std.specs.FinMap.{get}
+use Rattle.amqp_types.specs.declared.states.SessionState.TheVariants as at
+use Rattle.amqp_session.specs.declared.frame.SessionFrame.{SessionFrame}
+use Rattle.amqp_session.specs.declared.error.SessionStateError.{SessionStateError}
+use Rattle.amqp_session.specs.declared.error.SessionStateError.TheVariants as unbegun
+use Rattle.amqp_session.specs.declared.stop.SessionStopReason.{SessionStopReason}
+use Rattle.amqp_frames.specs.declared.frame.Frame.{Frame}
+use Rattle.amqp_session.specs.Relay.{Relays}
+use Rattle.amqp_session.specs.Settings.{SettingsSaid}
+use Rattle.amqp_session.specs.Session.{SessionView, Observed, new_session}
+use Rattle.amqp_session.specs.Step.{StopStep, SendBeginStep}
+use Rattle.amqp_session.specs.OutgoingFrames.{calls_frames}
+use Rattle.amqp_session.specs.History as session
+use Rattle.amqp_connection.specs.declared.error.ConnectionInnerError.{ConnectionInnerError}
+use Rattle.amqp_engine.specs.declared.engine.step_error.StepError.{StepError}
+use Rattle.amqp_engine.specs.declared.engine.step_error.StepError.TheVariants as no
+use Rattle.amqp_connection.specs.Connection.{ConnectionView, AllocateStep, Holds, given_back, not_found, refusal_of}
+use Rattle.amqp_engine.specs.EngineView.{EngineView}
+use Rattle.amqp_engine.specs.Waits.{sent, disposition_frame}
+use Rattle.amqp_engine.specs.Calls.{Calls, BeginCalls, SentEach}
+use Rattle.amqp_types.specs.Disposition.{DispositionSaid}
+
+-- ---- one session
+
+abbrev pub RecordedEnd : {R : Type 0} → SessionView R → SessionStopReason → Bool → SessionView R → Type 0
+RecordedEnd v reason true w = StopStep v reason w
+RecordedEnd v reason false w = w ≡ v
+
+-- the frames that wait with an answer
+abbrev pub frames_with : Result (List Frame) StepError → List Frame
+frames_with (Ok frames) = frames
+frames_with (Err e) = []
+
+-- the session was asked, made these calls, and answered
+pub record Answered {R : Type 0} (g : Relays R) (v : SessionView R) (asks : Calls R) (result : Result (List Frame) StepError)
+    (w : SessionView R) : Type 0 where
+  pub calls : List (session.Entry R)
+  pub asked : asks v.state calls (refusal_of result)
+  pub steps : session.Chain g v calls w
+  pub frames : sent (calls_frames calls) ≡ frames_with result
+
+-- Each disposition goes out, in order; the session's channel stays, and each frame is on it.
+abbrev pub SendsAll : {R : Type 0} → Relays R → SessionView R → List DispositionSaid → SessionView R → Type 0
+SendsAll {R} g v ds w = (calls : List (session.Entry R)) × SentEach ds calls × session.Chain g v calls w
+    × (calls_frames calls ≡ map (disposition_frame v.outgoing_channel) ds) × (w.outgoing_channel ≡ v.outgoing_channel)
+
+-- ---- one session, among those of an engine
+
+-- what a call does: the session as it stands, what it answers, and the session then
+abbrev pub Acts : Type 0 → Type 1
+Acts R = Observed R → Result (List Frame) StepError → Observed R → Type 0
+
+-- Session n took the call, and all else stayed. What it handed out waits.
+pub record Took {R : Type 0} (acts : Acts R) (v : EngineView R) (n : ℕ) (refusal : Option StepError) (w : EngineView R) : Type 0 where
+  pub before : Observed R
+  pub after : Observed R
+  pub answer : Result (List Frame) StepError
+  pub known : lookup (nat_eq n) v.sessions ≡ Some before.view
+  pub acted : acts before answer after
+  pub refused : refusal ≡ refusal_of answer
+  pub put : w ≡ record v { sessions = set_value (nat_eq n) v.sessions after.view; waiting = frames_with answer }
+
+-- the call goes to session n, if there is one
+abbrev pub Asks : {R : Type 0} → Acts R → EngineView R → ℕ → Option StepError → EngineView R → Type 0
+Asks acts v n refusal w = Took acts v n refusal w ⊎ ((lookup (nat_eq n) v.sessions ≡ None) × (refusal ≡ Some no.NoSession) × (w ≡ v))
+
+-- the call goes to the session that the channel's route leads to, if there is a route
+abbrev pub AsksAlong : {R : Type 0} → Acts R → EngineView R → ℕ → Option StepError → EngineView R → Type 0
+AsksAlong acts v channel refusal w =
+    ((n : ℕ) × (get v.connection.session_by_incoming_channel channel ≡ Some n) × Asks acts v n refusal w)
+    ⊎ ((get v.connection.session_by_incoming_channel channel ≡ None) × (refusal ≡ Some (no.Connection not_found)) × (w ≡ v))
+
+-- Session n made these calls, and went on to another view; all else stayed. What it handed out waits.
+pub record Called {R : Type 0} (g : Relays R) (v : EngineView R) (n : ℕ) (asks : Calls R) (calls : List (session.Entry R))
+    (refusal : Option StepError) (w : EngineView R) : Type 0 where
+  pub before : SessionView R
+  pub after : SessionView R
+  pub known : lookup (nat_eq n) v.sessions ≡ Some before
+  pub asked : asks before.state calls refusal
+  pub steps : session.Chain g before calls after
+  pub put : w ≡ record v { sessions = set_value (nat_eq n) v.sessions after; waiting = sent (calls_frames calls) }
+
+-- no session has the number
+pub record Unknown {R : Type 0} (v : EngineView R) (n : ℕ) (calls : List (session.Entry R)) (refusal : Option StepError)
+    (w : EngineView R) : Type 0 where
+  pub unknown : lookup (nat_eq n) v.sessions ≡ None
+  pub no_calls : calls ≡ []
+  pub refused : refusal ≡ Some no.NoSession
+  pub same : w ≡ v
+
+-- A request names session n: it reaches it, if there is one.
+abbrev pub Does : {R : Type 0} → Relays R → EngineView R → ℕ → Calls R → Option ℕ → List (session.Entry R) → Option StepError →
+    EngineView R → Type 0
+Does g v n asks reached calls refusal w =
+    ((reached ≡ Some n) × Called g v n asks calls refusal w) ⊎ ((reached ≡ None) × Unknown v n calls refusal w)
+
+-- A frame reaches the session that the connection finds, or the connection says why there is none.
+abbrev pub Reaches : {R : Type 0} → Relays R → (Result ℕ ConnectionInnerError → ConnectionView → Type 0) → EngineView R →
+    Calls R → Option ℕ → List (session.Entry R) → Option StepError → EngineView R → Type 0
+Reaches g finds v asks reached calls refusal w =
+    ((e : ConnectionInnerError) × (k : ConnectionView) × finds (Err e) k × (reached ≡ None) × (calls ≡ [])
+    × (refusal ≡ Some (no.Connection e)) × (w ≡ record v { connection = k }))
+    ⊎ ((n : ℕ) × (k : ConnectionView) × finds (Ok n) k × (reached ≡ Some n)
+    × (Called g (record v { connection = k }) n asks calls refusal w ⊎ Unknown (record v { connection = k }) n calls refusal w))
+
+-- ---- a session comes, and gives its channel back
+
+-- A session that was not there is made on the channel that the connection gave, and sends its Begin.
+pub record Begun {R : Type 0} (g : Relays R) (v : EngineView R) (n : ℕ) (settings : SettingsSaid) (calls : List (session.Entry R))
+    (w : EngineView R) : Type 0 where
+  pub channel : ℕ
+  pub connection : ConnectionView
+  pub after : SessionView R
+  pub unknown : lookup (nat_eq n) v.sessions ≡ None
+  pub fits : settings.next_outgoing_id < 2 ^ 32
+  pub allocated : AllocateStep v.connection n (Ok channel) connection
+  pub asked : BeginCalls at.Unmapped calls None
+  pub steps : session.Chain g (new_session settings channel at.Unmapped v.connection.stop_reason) calls after
+  pub put : w ≡ record v { connection = connection; sessions = v.sessions ++ (n, after) ∷ []; waiting = sent (calls_frames calls) }
+
+-- a new session sends its Begin; memory may be refused
+abbrev pub BegunStep : {R : Type 0} → SessionView R → Result (Observed R × SessionFrame) SessionStateError → Type 0
+BegunStep new (Ok p) = SendBeginStep new (Ok p.1) p.0.view
+BegunStep new (Err e) = e ≡ unbegun.OutOfMemory
+
+-- no session is reached, and none is called
+abbrev pub Untouched : {R : Type 0} → Option ℕ → List (session.Entry R) → Type 0
+Untouched reached calls = (reached ≡ None) × (calls ≡ [])
+
+-- A refusal: no session is reached, and nothing changes.
+abbrev pub Nothing : {R : Type 0} → EngineView R → Option ℕ → List (session.Entry R) → EngineView R → Type 0
+Nothing v reached calls w = Untouched reached calls × (w ≡ v)
+
+abbrev pub BeginRequest : {R : Type 0} → Relays R → EngineView R → ℕ → SettingsSaid → Option ℕ → List (session.Entry R) →
+    Option StepError → EngineView R → Type 0
+BeginRequest g v n settings reached calls None w = (reached ≡ Some n) × Begun g v n settings calls w
+BeginRequest g v n settings reached calls (Some no.SessionInUse) w = Nothing v reached calls w × IsSome (lookup (nat_eq n) v.sessions)
+BeginRequest g v n settings reached calls (Some (no.AllocSession e)) w =
+    Nothing v reached calls w × (lookup (nat_eq n) v.sessions ≡ None) × AllocateStep v.connection n (Err e) v.connection
+BeginRequest g v n settings reached calls (Some (no.SessionState unbegun.OutOfMemory)) w =
+    Nothing v reached calls w × (lookup (nat_eq n) v.sessions ≡ None)
+    × ((c : ℕ) × (k : ConnectionView) × AllocateStep v.connection n (Ok c) k)
+BeginRequest g v n settings reached calls (Some no.OutOfMemory) w = Nothing v reached calls w × (lookup (nat_eq n) v.sessions ≡ None)
+BeginRequest g v n settings reached calls (Some e) w = ⊥
+
+-- The channel of session n is given back, where it still holds it. Its route stays, and so does the session.
+abbrev pub ReleaseRequest : {R : Type 0} → EngineView R → ℕ → Option ℕ → List (session.Entry R) → Option StepError → EngineView R → Type 0
+ReleaseRequest v n reached calls None w = Untouched reached calls
+    × ((s : SessionView _) × (lookup (nat_eq n) v.sessions ≡ Some s) × Holds v.connection s.outgoing_channel n
+    × (w ≡ record v { connection = given_back v.connection s.outgoing_channel }))
+ReleaseRequest v n reached calls (Some no.NoSession) w = Nothing v reached calls w × (lookup (nat_eq n) v.sessions ≡ None)
+ReleaseRequest v n reached calls (Some (no.Connection e)) w = Nothing v reached calls w × (e ≡ not_found)
+    × ((s : SessionView _) × (lookup (nat_eq n) v.sessions ≡ Some s) × ¬ (Holds v.connection s.outgoing_channel n))
+ReleaseRequest v n reached calls (Some e) w = ⊥

@@ -1,0 +1,137 @@
+//! The engine: received frames and local requests go in, the bytes of frames come out.
+
+ghost use Rattle.std.specs.Prelude.{◌≡◌, Some, IfSome, is_some, nat_eq};
+ghost use Rattle.std.specs.Map.{lookup};
+ghost use Rattle.amqp_engine.specs.Waits.{has_frames};
+ghost use Rattle.amqp_engine.specs.EngineView.{new_engine, own_limit};
+ghost use Rattle.amqp_engine.specs.Engine.{Steps};
+ghost use Rattle.amqp_connection.specs.Connection.{refusal_of};
+
+pub mod answer;
+mod handling;
+pub mod input;
+pub(crate) mod kept;
+mod output;
+mod received;
+mod requested;
+mod run;
+mod sessions;
+mod shown;
+pub mod step_error;
+mod waiting;
+
+use amqp_connection::{Connection, SessionNo};
+use amqp_frames::{FrameDecoder, FrameEncoder, Heads};
+use amqp_session::{LinkRelay, Session};
+use amqp_types::{ConnectionState, Open};
+pub use answer::{Answer, OutputError, Stopped};
+use indexmap::IndexMap;
+pub use input::Input;
+use kept::Kept;
+use std::alloc::Global;
+use std::marker::Model;
+pub use step_error::StepError;
+use waiting::Waiting;
+
+/// A connection with its sessions and its frames. Received frames and local requests go in; the frames that are to be sent, or
+/// refusals, come out (AMQP 1.0 part 2, sections 2.3 to 2.5). It does no input or output itself. Each link of a session has a
+/// relay of the type `R`.
+#[derive(Drop)]
+pub struct Engine<R> {
+    alloc: Global,
+    connection: Connection,
+    sessions: IndexMap<u32, Session<R>>,
+    decoder: FrameDecoder,
+    encoder: FrameEncoder,
+    heads: Heads,
+    waiting: Waiting,
+    kept: Kept,
+}
+
+impl<R> Model for Engine<R> {
+    ghost use Rattle.std.specs.Coded.{codes};
+    ghost use Rattle.std.specs.FinMap as map;
+    ghost use Rattle.amqp_session.specs.Links.{links_code};
+    ghost use Rattle.amqp_connection.specs.Channels.{channel_table_code};
+    ghost use Rattle.amqp_engine.specs.EngineView.{EngineView, views_of};
+    ghost use Rattle.amqp_engine.specs.Places.{Seated};
+
+    ghost Value = { EngineView R };
+
+    ghost coded = { Prim.hlevel (codes, channel_table_code, links_code, map.code) };
+
+    ghost view = { λ e. record {
+      connection = e.connection;
+      sessions = views_of e.sessions.entries;
+      limit = e.encoder;
+      waiting = e.waiting;
+      outcomes = e.kept.outcomes;
+      wishes = e.kept.wishes;
+    } };
+
+    ghost invariant = { λ e. Seated e.sessions.entries e.kept.places };
+}
+
+/// The limit of a piece before the peer's Open.
+fn first_limit(local_open: &Open) -> u32
+    ensures { result ≡ own_limit local_open.now }
+{
+    local_open.max_frame_size.saturating_sub(4).max(4)
+}
+
+impl<R: LinkRelay> Engine<R> {
+    /// An engine whose connection is in this state and is to send this Open, with no session. Until the peer's Open is
+    /// accepted, a piece has at most the `max_frame_size` of `local_open` less four bytes, and never less than four.
+    pub fn new(alloc: Global, state: ConnectionState, local_open: Open) -> Engine<R>
+        ensures { result ≡ new_engine state local_open }
+    {
+        Engine {
+            alloc,
+            encoder: FrameEncoder::new(first_limit(&local_open)),
+            heads: Heads::new(alloc),
+            decoder: FrameDecoder::new(),
+            connection: Connection::new(alloc, state, local_open),
+            sessions: IndexMap::new(alloc),
+            waiting: Waiting::none(),
+            kept: Kept::new(alloc),
+        }
+    }
+
+    /// The connection.
+    pub fn connection(&self) -> &Connection
+        ensures { result.now ≡ self.now.connection }
+    {
+        &self.connection
+    }
+
+    /// The session with this number, if it was begun. It stays, also when it has ended.
+    pub fn session(&self, number: SessionNo) -> Option<&Session<R>>
+        ensures found { IfSome result (λ s. lookup (nat_eq number.0) self.now.sessions ≡ Some s.now.view) }
+        ensures known { is_some result ≡ is_some (lookup (nat_eq number.0) self.now.sessions) }
+    {
+        self.sessions.get(&number.0)
+    }
+
+    /// Whether frames wait to be put out.
+    pub fn has_output(&self) -> bool
+        ensures { result ≡ has_frames self.now.waiting }
+    {
+        self.waiting.has_frames()
+    }
+
+    /// Takes one input: connection and sessions do what it asks, and the frames that this hands out wait to be put out.
+    ///
+    /// Nothing changes where the refusal is `OutputWaiting` (frames still wait), `Frame` (the received bytes are no frame, or
+    /// memory for its fields is refused), `NoSession`, `SessionInUse`, `AllocSession`, or `OutOfMemory`. That comes of a `Begin`
+    /// where the engine has no room for one more session, and of a received Close or End with an error, of which the engine
+    /// keeps a copy for handles. Every other refusal is that of the connection or of the session.
+    pub fn step(&mut self, input: Input<R>) -> Result<(), StepError>
+        ensures { Steps R.gives self.old input (refusal_of result) self.new }
+    {
+        if self.has_output() {
+            drop(input);
+            return Err(StepError::OutputWaiting);
+        }
+        self.carry_out(input)
+    }
+}

@@ -1,0 +1,75 @@
+//! What handles ask of an engine: they note wishes, and take outcomes; a run takes the wishes.
+
+ghost use Rattle.std.specs.Prelude.{◌≡◌, IsSome, None, is_some, nat_eq};
+ghost use Rattle.std.specs.Map.{lookup};
+ghost use Rattle.std.specs.FinMap as map;
+ghost use Rattle.amqp_engine.specs.Handles.{close_noted, close_taken, end_noted, end_taken};
+ghost use Rattle.amqp_engine.specs.Places.{has_entries, TakesEnd};
+
+use super::Engine;
+use super::kept::{CloseOutcome, EndOutcome};
+use amqp_session::LinkRelay;
+use amqp_types::Error;
+
+impl<R: LinkRelay> Engine<R> {
+    /// Notes that a Close is wished. The first wish stays.
+    pub(crate) fn note_close(&mut self, error: Option<Error>)
+        ensures { self.new ≡ close_noted error self.old }
+    {
+        self.kept.note_close(error);
+    }
+
+    /// Notes that an End of this session is wished. The first wish stays.
+    pub(crate) fn note_end(&mut self, number: u32, error: Option<Error>)
+        requires { IsSome (lookup (nat_eq number) self.old.sessions) }
+        ensures { self.new ≡ end_noted number error self.old }
+    {
+        self.kept.note_end(number, error);
+    }
+
+    /// Gives out how the peer's Close was answered.
+    pub(crate) fn take_close_outcome(&mut self) -> Option<CloseOutcome>
+        ensures value { result ≡ self.old.outcomes.connection }
+        ensures taken { self.new ≡ close_taken self.old }
+    {
+        self.kept.take_close_outcome()
+    }
+
+    /// Gives out how the peer's End for this session was answered.
+    pub(crate) fn take_end_outcome(&mut self, number: u32) -> Option<EndOutcome>
+        ensures value { result ≡ map.get self.old.outcomes.sessions number }
+        ensures taken { self.new ≡ end_taken number self.old }
+    {
+        self.kept.take_end_outcome(number)
+    }
+
+    /// Whether a Close is noted.
+    pub(crate) fn has_noted_close(&self) -> bool
+        ensures { result ≡ is_some self.now.wishes.close }
+    {
+        self.kept.has_close()
+    }
+
+    /// Takes the Close that is noted.
+    pub(crate) fn take_noted_close(&mut self) -> Option<Option<Error>>
+        ensures value { result ≡ self.old.wishes.close }
+        ensures taken { self.new ≡ record self.old { wishes = record self.old.wishes { close = None } } }
+    {
+        self.kept.take_close()
+    }
+
+    /// Whether an End is noted.
+    pub(crate) fn has_noted_end(&self) -> bool
+        ensures { result ≡ has_entries (map.entries self.now.wishes.ends) }
+    {
+        self.kept.lowest_end().is_some()
+    }
+
+    /// Takes the End that is noted of the lowest session.
+    pub(crate) fn take_noted_end(&mut self) -> Option<(u32, Option<Error>)>
+        ensures taken { TakesEnd self.old.wishes result self.new.wishes }
+        ensures same { self.new ≡ record self.old { wishes = self.new.wishes } }
+    {
+        self.kept.take_end()
+    }
+}

@@ -1,0 +1,43 @@
+//! What an engine is given.
+
+use amqp_connection::SessionNo;
+use amqp_session::{InputHandle, LinkFlow, SessionSettings, SessionStopReason};
+use amqp_types::{Attach, Detach, Disposition, Error, Transfer};
+use bytes::Bytes;
+
+/// A received frame, or a local request. `R` relays what comes for the links of a session.
+#[derive(Debug, Drop)]
+pub enum Input<R> {
+    /// One received frame, without its four-byte size.
+    Received(Bytes),
+    /// This side's Open is to be sent.
+    Open,
+    /// This side's Close is to be sent, with an error or without.
+    Close(Option<Error>),
+    /// A session is begun, under a number that no session of the engine had, on the lowest channel that is free.
+    Begin(SessionNo, SessionSettings),
+    /// The session is ended, with an error or without, or the peer's End is answered.
+    End(SessionNo, Option<Error>),
+    /// An output handle is allotted for a link of this name; the relay, if any, waits under the name for the peer's attach.
+    AllocateLink(SessionNo, String, Option<R>),
+    /// An output handle is allotted for a link of this name, whose attach came on this input handle: its relay is attached
+    /// there at once.
+    AllocateIncomingLink(SessionNo, String, R, InputHandle),
+    /// An attach of a link of the session is to be sent.
+    Attach(SessionNo, Attach),
+    /// A detach of a link of the session is to be sent, and the link's output handle is released. Where the peer is to
+    /// answer it (`true`), a handle without a live link sends nothing.
+    Detach(SessionNo, Detach, bool),
+    /// A flow of a link of the session is to be sent.
+    Flow(SessionNo, LinkFlow),
+    /// A transfer of the link of the input handle is to be sent, with its payload: the first of its delivery, or a later
+    /// one.
+    Transfer(SessionNo, InputHandle, Transfer, Bytes, bool),
+    /// A disposition of deliveries of the session is to be sent.
+    Disposition(SessionNo, Disposition),
+    /// The session's channel is given back, for another session. Callers do so after the exchange of End: frames of the
+    /// session would still carry the channel.
+    Release(SessionNo),
+    /// Why the session stopped is recorded, where no reason is recorded yet.
+    Stop(SessionNo, SessionStopReason),
+}

@@ -1,0 +1,269 @@
+//! Received frames: who handles what. Nothing happens for an empty frame; the connection takes Open and Close; all others go
+//! along their channel's route to a session.
+
+ghost use Rattle.std.specs.Prelude.{◌≡◌, ℕ, Option, Some, None, List, []};
+ghost use Rattle.std.specs.Option.{option_map};
+ghost use Rattle.amqp_types.specs.declared.performatives.kind.Kind.TheVariants as kind;
+ghost use Rattle.amqp_types.specs.Begin.{BeginSaid};
+ghost use Rattle.amqp_types.specs.End.{EndSaid};
+ghost use Rattle.amqp_session.specs.declared.frame.SessionFrameBody.TheVariants as said;
+ghost use Rattle.amqp_connection.specs.Connection.{refusal_of};
+ghost use Rattle.amqp_session.specs.History as session;
+ghost use Rattle.amqp_engine.specs.EngineView.{peer_limit};
+ghost use Rattle.std.specs.Fn.{FnOnceReturnsAtMut};
+ghost use Rattle.amqp_engine.specs.Sessions.{AsksAlong};
+ghost use Rattle.amqp_engine.specs.Engine.{ReceivedStep, FieldsStep, FieldsKept, ReceivedCloseStep, recorded, remote_reason};
+
+use super::Engine;
+use super::kept::{close_answer, copy_of, end_answer};
+use super::sessions::{
+    Outgoing, attach_received, begin_received, detach_received, disposition_received, end_received,
+    flow_received, transfer_received,
+};
+use super::step_error::StepError;
+use amqp_connection::{Connection, ConnectionInnerError, ConnectionStateError};
+use amqp_frames::FrameEncoder;
+use amqp_session::{
+    ConnectionStopReason, IncomingChannel, LinkRelay, Session, SessionFrame, SessionFrameBody,
+};
+use amqp_types::{
+    Attach, Begin, Close, ConnectionState, Detach, Disposition, End, Error, Flow, Kind, Open,
+    Transfer,
+};
+use amqp_values::composite::read_list;
+use bytes::Bytes;
+
+/// Why the connection stops with a Close of the peer.
+fn reason_of(error: &Option<Error>) -> ConnectionStopReason
+    ensures { result ≡ remote_reason error.now }
+{
+    match error {
+        Some(_) => ConnectionStopReason::RemoteClosedWithError,
+        None => ConnectionStopReason::RemoteClosed,
+    }
+}
+
+/// The limit of a piece from the peer's Open on.
+fn limit_of(open: &Open) -> u32
+    ensures { result ≡ peer_limit «open».now }
+{
+    open.max_frame_size.max(512) - 4
+}
+
+/// Records how the peer closed, where its Close moves the state to `CloseReceived`.
+fn record(connection: &mut Connection, next: Option<ConnectionState>, reason: ConnectionStopReason)
+    ensures { connection.new ≡ recorded next reason connection.old }
+{
+    if let Some(ConnectionState::CloseReceived) = next {
+        connection.set_connection_stop_reason(reason);
+    }
+}
+
+/// Takes the peer's Close.
+fn take_close(
+    connection: &mut Connection,
+    channel: IncomingChannel,
+    close: Close,
+) -> Result<(), ConnectionStateError>
+    ensures { ReceivedCloseStep connection.old close (refusal_of result) connection.new }
+{
+    let reason = reason_of(&close.error);
+    let next = connection.state_after_incoming_close();
+    let told = connection.on_incoming_close(channel, close);
+    record(connection, next, reason);
+    told
+}
+
+/// The Begin that the connection passes on.
+fn begin_in(frame: SessionFrame) -> Begin
+    requires { (b : BeginSaid) × (frame.body ≡ said.Begin b) }
+    ensures { frame.body ≡ said.Begin result }
+{
+    match frame.body {
+        SessionFrameBody::Begin(begin) => begin,
+        _ => unreachable!(),
+    }
+}
+
+/// The End that the connection passes on.
+fn end_in(frame: SessionFrame) -> End
+    requires { (e : EndSaid) × (frame.body ≡ said.End e) }
+    ensures { frame.body ≡ said.End result }
+{
+    match frame.body {
+        SessionFrameBody::End(end) => end,
+        _ => unreachable!(),
+    }
+}
+
+impl<R: LinkRelay> Engine<R> {
+    /// Takes a received frame: its kind decides who handles its fields. An empty one asks for nothing.
+    pub(super) fn receive(&mut self, bytes: Bytes) -> Result<(), StepError>
+        requires { self.old.waiting ≡ [] }
+        ensures { ReceivedStep R.gives self.old bytes (refusal_of result) self.new }
+    {
+        let mut fields = bytes;
+        let head = self.decoder.head(&mut fields)?;
+        let channel = IncomingChannel(head.channel);
+        match head.kind {
+            None => Ok(()),
+            Some(Kind::Transfer) => self.receive_transfer(channel, fields),
+            Some(Kind::Flow) => self.receive_flow(channel, fields),
+            Some(Kind::Disposition) => self.receive_disposition(channel, fields),
+            Some(Kind::Attach) => self.receive_attach(channel, fields),
+            Some(Kind::Detach) => self.receive_detach(channel, fields),
+            Some(Kind::Begin) => self.receive_begin(channel, fields),
+            Some(Kind::End) => self.receive_end(channel, fields),
+            Some(Kind::Open) => self.receive_open(channel, fields),
+            Some(Kind::Close) => self.receive_close(channel, fields),
+        }
+    }
+
+    /// Calls the session to which the channel's route leads, and lets what it hands out wait.
+    #[inline(always)]
+    fn ask_along<F>(&mut self, channel: IncomingChannel, call: F) -> Result<(), StepError>
+    where
+        F: FnOnce(&mut Session<R>) -> Outgoing + Drop,
+        requires idle { self.old.waiting ≡ [] }
+        requires callable { F.IsAlwaysCallable call }
+        ensures { AsksAlong (FnOnceReturnsAtMut F.FnOnce call) self.old channel.0 (refusal_of result) self.new }
+    {
+        let Some(number) = self.connection.session_tx_by_incoming_channel(channel) else {
+            return Err(StepError::Connection(ConnectionInnerError::NotFound(None)));
+        };
+        self.ask_session(number.0, call)
+    }
+
+    #[inline(never)]
+    fn receive_transfer(&mut self, channel: IncomingChannel, fields: Bytes) -> Result<(), StepError>
+        requires { self.old.waiting ≡ [] }
+        ensures { FieldsStep R.gives self.old channel.0 (Some kind.Transfer) fields (refusal_of result) self.new }
+    {
+        let mut rest = fields;
+        let transfer: Transfer = read_list(self.alloc, &mut rest)?;
+        let Some(number) = self.connection.session_tx_by_incoming_channel(channel) else {
+            drop(transfer);
+            drop(rest);
+            return Err(StepError::Connection(ConnectionInnerError::NotFound(None)));
+        };
+        let Some(session) = self.sessions.get_mut(&number.0) else {
+            drop(transfer);
+            drop(rest);
+            return Err(StepError::NoSession);
+        };
+        transfer_received(session, &mut self.waiting, transfer, rest)
+    }
+
+    #[inline(never)]
+    fn receive_flow(&mut self, channel: IncomingChannel, fields: Bytes) -> Result<(), StepError>
+        requires { self.old.waiting ≡ [] }
+        ensures { FieldsStep R.gives self.old channel.0 (Some kind.Flow) fields (refusal_of result) self.new }
+    {
+        let mut rest = fields;
+        let flow: Flow = read_list(self.alloc, &mut rest)?;
+        self.ask_along(channel, |session| flow_received(session, flow))
+    }
+
+    #[inline(never)]
+    fn receive_disposition(
+        &mut self,
+        channel: IncomingChannel,
+        fields: Bytes,
+    ) -> Result<(), StepError>
+        requires { self.old.waiting ≡ [] }
+        ensures { FieldsStep R.gives self.old channel.0 (Some kind.Disposition) fields (refusal_of result) self.new }
+    {
+        let mut rest = fields;
+        let disposition: Disposition = read_list(self.alloc, &mut rest)?;
+        let Some(number) = self.connection.session_tx_by_incoming_channel(channel) else {
+            drop(disposition);
+            return Err(StepError::Connection(ConnectionInnerError::NotFound(None)));
+        };
+        let Some(session) = self.sessions.get_mut(&number.0) else {
+            drop(disposition);
+            return Err(StepError::NoSession);
+        };
+        disposition_received(session, &mut self.waiting, disposition)
+    }
+
+    #[inline(never)]
+    fn receive_attach(&mut self, channel: IncomingChannel, fields: Bytes) -> Result<(), StepError>
+        requires { self.old.waiting ≡ [] }
+        ensures { FieldsStep R.gives self.old channel.0 (Some kind.Attach) fields (refusal_of result) self.new }
+    {
+        let mut rest = fields;
+        let attach: Attach = read_list(self.alloc, &mut rest)?;
+        self.ask_along(channel, |session| attach_received(session, attach))
+    }
+
+    #[inline(never)]
+    fn receive_detach(&mut self, channel: IncomingChannel, fields: Bytes) -> Result<(), StepError>
+        requires { self.old.waiting ≡ [] }
+        ensures { FieldsStep R.gives self.old channel.0 (Some kind.Detach) fields (refusal_of result) self.new }
+    {
+        let mut rest = fields;
+        let detach: Detach = read_list(self.alloc, &mut rest)?;
+        self.ask_along(channel, |session| detach_received(session, detach))
+    }
+
+    /// The connection's acceptance decides the route, also where the session then refuses.
+    #[inline(never)]
+    fn receive_begin(&mut self, channel: IncomingChannel, fields: Bytes) -> Result<(), StepError>
+        requires { self.old.waiting ≡ [] }
+        ensures { FieldsStep R.gives self.old channel.0 (Some kind.Begin) fields (refusal_of result) self.new }
+    {
+        let mut rest = fields;
+        let begin: Begin = read_list(self.alloc, &mut rest)?;
+        let (number, frame) = self.connection.on_incoming_begin(channel, begin)?;
+        let begin = begin_in(frame);
+        self.ask_session(number.0, |session| begin_received(session, channel, begin))
+    }
+
+    #[inline(never)]
+    fn receive_end(&mut self, channel: IncomingChannel, fields: Bytes) -> Result<(), StepError>
+        requires { self.old.waiting ≡ [] }
+        ensures { FieldsKept R.gives self.old channel.0 (Some kind.End) fields (refusal_of result) self.new }
+    {
+        let mut rest = fields;
+        let end: End = read_list(self.alloc, &mut rest)?;
+        let Ok(copy) = copy_of(&end.error) else {
+            drop(end);
+            return Err(StepError::OutOfMemory);
+        };
+        let (number, frame) = self.connection.on_incoming_end(channel, end)?;
+        let end = end_in(frame);
+        let told = self.ask_session(number.0, |session| end_received(session, channel, end));
+        self.kept.keep_end(number.0, end_answer(&told, copy));
+        told
+    }
+
+    #[inline(never)]
+    fn receive_open(&mut self, channel: IncomingChannel, fields: Bytes) -> Result<(), StepError>
+        requires { self.old.waiting ≡ [] }
+        ensures { FieldsStep R.gives self.old channel.0 (Some kind.Open) fields (refusal_of result) self.new }
+    {
+        let mut rest = fields;
+        let open: Open = read_list(self.alloc, &mut rest)?;
+        let limit = limit_of(&open);
+        self.connection.on_incoming_open(channel, open)?;
+        self.encoder = FrameEncoder::new(limit);
+        Ok(())
+    }
+
+    #[inline(never)]
+    fn receive_close(&mut self, channel: IncomingChannel, fields: Bytes) -> Result<(), StepError>
+        requires { self.old.waiting ≡ [] }
+        ensures { FieldsKept R.gives self.old channel.0 (Some kind.Close) fields (refusal_of result) self.new }
+    {
+        let mut rest = fields;
+        let close: Close = read_list(self.alloc, &mut rest)?;
+        let Ok(copy) = copy_of(&close.error) else {
+            drop(close);
+            return Err(StepError::OutOfMemory);
+        };
+        let told = take_close(&mut self.connection, channel, close);
+        self.kept.keep_close(close_answer(&told, copy));
+        told?;
+        Ok(())
+    }
+}

@@ -1,0 +1,314 @@
+//! Local requests: what this side wants to be sent.
+
+ghost use Rattle.std.specs.Prelude.{◌≡◌, ℕ, Option, Some, None, List, [], ◌<◌, ◌^◌};
+ghost use Rattle.amqp_types.specs.declared.states.SessionState.TheVariants.{Unmapped};
+ghost use Rattle.amqp_session.specs.Session.{new_session};
+ghost use Rattle.amqp_frames.specs.declared.frame.Frame.{Frame};
+ghost use Rattle.amqp_session.specs.declared.stop.ConnectionStopReason.{ConnectionStopReason};
+ghost use Rattle.amqp_session.specs.History as session;
+ghost use Rattle.amqp_engine.specs.declared.engine.input.Input.TheVariants as given;
+ghost use Rattle.amqp_connection.specs.Connection.{refusal_of};
+ghost use Rattle.amqp_engine.specs.Sessions.{Asks, BeginRequest, BegunStep, ReleaseRequest};
+ghost use Rattle.std.specs.Fn.{FnOnceReturnsAtMut};
+ghost use Rattle.amqp_engine.specs.Engine.{OpenRequest, CloseRequest, CarriedStep, close_reason};
+
+use super::Engine;
+use super::input::Input;
+use super::sessions::{
+    Outgoing, allocate_incoming_link, allocate_link, end, send_attach, send_detach,
+    send_disposition, send_flow, send_transfer, stop,
+};
+use super::step_error::StepError;
+use super::waiting::Waiting;
+use amqp_connection::{ConnectionInnerError, SessionNo};
+use amqp_session::{
+    ConnectionStopReason, InputHandle, LinkFlow, LinkRelay, OutgoingChannel, Session, SessionFrame,
+    SessionSettings, SessionStateError, SessionStopReason,
+};
+use amqp_types::{Attach, Detach, Disposition, Error, SessionState, Transfer};
+use bytes::Bytes;
+use std::alloc::Global;
+
+/// Why the connection stops with a Close of this side.
+fn reason_of(error: &Option<Error>) -> ConnectionStopReason
+    ensures { result ≡ close_reason error.now }
+{
+    match error {
+        Some(_) => ConnectionStopReason::ClosedWithError,
+        None => ConnectionStopReason::Closed,
+    }
+}
+
+/// A new session that has sent its Begin, and the frame.
+fn begun<R: LinkRelay>(
+    alloc: Global,
+    settings: SessionSettings,
+    channel: OutgoingChannel,
+    stop: Option<ConnectionStopReason>,
+) -> Result<(Session<R>, SessionFrame), SessionStateError>
+    ensures begun { BegunStep (new_session settings channel.0 Unmapped stop) result }
+    ensures fits { settings.next_outgoing_id < 2 ^ 32 }
+{
+    let mut session = Session::new(alloc, settings, channel, SessionState::Unmapped, stop);
+    match session.send_begin() {
+        Ok(frame) => Ok((session, frame)),
+        Err(error) => {
+            drop(session);
+            Err(error)
+        }
+    }
+}
+
+impl<R: LinkRelay> Engine<R> {
+    pub(super) fn carry_out(&mut self, input: Input<R>) -> Result<(), StepError>
+        requires { self.old.waiting ≡ [] }
+        ensures { CarriedStep R.gives self.old input (refusal_of result) self.new }
+    {
+        match input {
+            Input::Received(bytes) => self.receive(bytes),
+            Input::Open => self.request_open(),
+            Input::Close(error) => self.request_close(error),
+            Input::Begin(number, settings) => self.request_begin(number.0, settings),
+            Input::End(number, error) => self.request_end(number, error),
+            Input::AllocateLink(number, name, relay) => self.request_link(number, name, relay),
+            Input::AllocateIncomingLink(number, name, relay, input) => {
+                self.request_incoming_link(number, name, relay, input)
+            }
+            Input::Attach(number, attach) => self.request_attach(number, attach),
+            Input::Detach(number, detach, expects_echo) => {
+                self.request_detach(number, detach, expects_echo)
+            }
+            Input::Flow(number, flow) => self.request_flow(number, flow),
+            Input::Transfer(number, input, transfer, payload, is_first) => {
+                self.request_transfer(number, input, transfer, payload, is_first)
+            }
+            Input::Disposition(number, disposition) => self.request_disposition(
+                number,
+                disposition,
+            ),
+            Input::Release(number) => self.request_release(number.0),
+            Input::Stop(number, reason) => self.request_stop(number, reason),
+        }
+    }
+
+    // Each request is carried out by a function of its own: a function pays at its entry for the size of its locals, those of the
+    // arms that are not taken too.
+
+    #[inline(never)]
+    fn request_end(&mut self, number: SessionNo, error: Option<Error>) -> Result<(), StepError>
+        requires { self.old.waiting ≡ [] }
+        ensures { CarriedStep R.gives self.old (given.End number error) (refusal_of result) self.new }
+    {
+        self.ask_session(number.0, |session| end(session, error))
+    }
+
+    #[inline(never)]
+    fn request_link(
+        &mut self,
+        number: SessionNo,
+        name: String,
+        relay: Option<R>,
+    ) -> Result<(), StepError>
+        requires { self.old.waiting ≡ [] }
+        ensures { CarriedStep R.gives self.old (given.AllocateLink number name relay) (refusal_of result) self.new }
+    {
+        self.ask_session(number.0, |session| allocate_link(session, name, relay))
+    }
+
+    #[inline(never)]
+    fn request_incoming_link(
+        &mut self,
+        number: SessionNo,
+        name: String,
+        relay: R,
+        input: InputHandle,
+    ) -> Result<(), StepError>
+        requires { self.old.waiting ≡ [] }
+        ensures { CarriedStep R.gives self.old (given.AllocateIncomingLink number name relay input) (refusal_of result) self.new }
+    {
+        self.ask_session(
+            number.0,
+            |session| allocate_incoming_link(session, name, relay, input),
+        )
+    }
+
+    #[inline(never)]
+    fn request_attach(&mut self, number: SessionNo, attach: Attach) -> Result<(), StepError>
+        requires { self.old.waiting ≡ [] }
+        ensures { CarriedStep R.gives self.old (given.Attach number attach) (refusal_of result) self.new }
+    {
+        self.ask_session(number.0, |session| send_attach(session, attach))
+    }
+
+    #[inline(never)]
+    fn request_detach(
+        &mut self,
+        number: SessionNo,
+        detach: Detach,
+        expects_echo: bool,
+    ) -> Result<(), StepError>
+        requires { self.old.waiting ≡ [] }
+        ensures { CarriedStep R.gives self.old (given.Detach number detach expects_echo) (refusal_of result) self.new }
+    {
+        self.ask_session(
+            number.0,
+            |session| send_detach(session, detach, expects_echo),
+        )
+    }
+
+    #[inline(never)]
+    fn request_flow(&mut self, number: SessionNo, flow: LinkFlow) -> Result<(), StepError>
+        requires { self.old.waiting ≡ [] }
+        ensures { CarriedStep R.gives self.old (given.Flow number flow) (refusal_of result) self.new }
+    {
+        self.ask_session(number.0, |session| send_flow(session, flow))
+    }
+
+    #[inline(never)]
+    fn request_transfer(
+        &mut self,
+        number: SessionNo,
+        input: InputHandle,
+        transfer: Transfer,
+        payload: Bytes,
+        is_first: bool,
+    ) -> Result<(), StepError>
+        requires { self.old.waiting ≡ [] }
+        ensures { CarriedStep R.gives self.old (given.Transfer number input transfer payload is_first) (refusal_of result) self.new }
+    {
+        let Some(session) = self.sessions.get_mut(&number.0) else {
+            drop(transfer);
+            drop(payload);
+            return Err(StepError::NoSession);
+        };
+        send_transfer(
+            session,
+            &mut self.waiting,
+            input,
+            transfer,
+            payload,
+            is_first,
+        )
+    }
+
+    #[inline(never)]
+    fn request_disposition(
+        &mut self,
+        number: SessionNo,
+        disposition: Disposition,
+    ) -> Result<(), StepError>
+        requires { self.old.waiting ≡ [] }
+        ensures { CarriedStep R.gives self.old (given.Disposition number disposition) (refusal_of result) self.new }
+    {
+        self.ask_session(number.0, |session| send_disposition(session, disposition))
+    }
+
+    #[inline(never)]
+    fn request_stop(
+        &mut self,
+        number: SessionNo,
+        reason: SessionStopReason,
+    ) -> Result<(), StepError>
+        requires { self.old.waiting ≡ [] }
+        ensures { CarriedStep R.gives self.old (given.Stop number reason) (refusal_of result) self.new }
+    {
+        self.ask_session(number.0, |session| stop(session, reason))
+    }
+
+    #[inline(never)]
+    fn request_open(&mut self) -> Result<(), StepError>
+        requires { self.old.waiting ≡ [] }
+        ensures { OpenRequest self.old (refusal_of result) self.new }
+    {
+        let frame = self.connection.send_open()?;
+        self.waiting.put(Waiting::one(frame));
+        Ok(())
+    }
+
+    #[inline(never)]
+    fn request_close(&mut self, error: Option<Error>) -> Result<(), StepError>
+        requires { self.old.waiting ≡ [] }
+        ensures { CloseRequest self.old error (refusal_of result) self.new }
+    {
+        let reason = reason_of(&error);
+        let frame = self.connection.send_close(error)?;
+        self.connection.set_connection_stop_reason(reason);
+        self.waiting.put(Waiting::one(frame));
+        Ok(())
+    }
+
+    /// Calls the session with this number, and lets what it hands out wait.
+    #[inline(always)]
+    pub(super) fn ask_session<F>(&mut self, number: u32, call: F) -> Result<(), StepError>
+    where
+        F: FnOnce(&mut Session<R>) -> Outgoing + Drop,
+        requires idle { self.old.waiting ≡ [] }
+        requires callable { F.IsAlwaysCallable call }
+        ensures { Asks (FnOnceReturnsAtMut F.FnOnce call) self.old number (refusal_of result) self.new }
+    {
+        let Some(session) = self.sessions.get_mut(&number) else {
+            return Err(StepError::NoSession);
+        };
+        let waiting = call(session)?;
+        self.waiting.put(waiting);
+        Ok(())
+    }
+
+    /// Makes a session on the lowest free channel, and sends its Begin. When memory is refused nothing changes.
+    #[inline(never)]
+    fn request_begin(&mut self, number: u32, settings: SessionSettings) -> Result<(), StepError>
+        requires { self.old.waiting ≡ [] }
+        ensures { (reached : Option ℕ) × (calls : List (session.Entry R))
+            × BeginRequest R.gives self.old number settings reached calls (refusal_of result) self.new }
+    {
+        if self.sessions.contains_key(&number) {
+            drop(settings);
+            return Err(StepError::SessionInUse);
+        }
+        let Ok(()) = self.sessions.reserve(1) else {
+            drop(settings);
+            return Err(StepError::OutOfMemory);
+        };
+        let Ok(()) = self.kept.reserve() else {
+            drop(settings);
+            return Err(StepError::OutOfMemory);
+        };
+        let channel = match self.connection.allocate_session(SessionNo(number)) {
+            Ok(channel) => channel,
+            Err(error) => {
+                drop(settings);
+                return Err(StepError::AllocSession(error));
+            }
+        };
+        let stop = self.connection.connection_stop_reason();
+        match begun(self.alloc, settings, channel, stop) {
+            Ok((session, frame)) => {
+                drop(self.sessions.insert(number, session).unwrap());
+                self.kept.add(number);
+                self.waiting.put(Waiting::alone(Some(frame)));
+                Ok(())
+            }
+            Err(error) => {
+                self.connection.deallocate_session(channel);
+                Err(StepError::SessionState(error))
+            }
+        }
+    }
+
+    /// Gives the session's channel back, where it still holds it.
+    #[inline(never)]
+    fn request_release(&mut self, number: u32) -> Result<(), StepError>
+        ensures { (reached : Option ℕ) × (calls : List (session.Entry R))
+            × ReleaseRequest self.old number reached calls (refusal_of result) self.new }
+    {
+        let Some(session) = self.sessions.get(&number) else {
+            return Err(StepError::NoSession);
+        };
+        let held = session.outgoing_channel();
+        if self.connection.session_tx_by_outgoing_channel(held) != Some(SessionNo(number)) {
+            return Err(StepError::Connection(ConnectionInnerError::NotFound(None)));
+        }
+        self.connection.deallocate_session(held);
+        Ok(())
+    }
+}

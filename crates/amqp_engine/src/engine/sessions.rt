@@ -1,0 +1,274 @@
+//! What is asked of one session: by a request, or by a frame that reached it.
+
+ghost use Rattle.std.specs.Prelude.{◌≡◌, [], string_bytes};
+ghost use Rattle.amqp_session.specs.States.{takes_end};
+ghost use Rattle.amqp_engine.specs.Calls.{is_end_received, end_reason, remote_end_reason, EndCalls, AllocateLinkCalls, AllocateIncomingCalls, AttachCalls, DetachCalls, ReceivedAttachCalls, ReceivedDetachCalls, FlowCalls, TransferCalls, StopCalls, ReceivedBeginCalls, ReceivedEndCalls, ReceivedFlowCalls, ReceivedTransferCalls, DispositionCalls, ReceivedDispositionCalls};
+ghost use Rattle.amqp_types.specs.Disposition.{DispositionSaid};
+ghost use Rattle.amqp_session.specs.declared.frame.SessionFrameBody.TheVariants as said;
+ghost use Rattle.amqp_engine.specs.Sessions.{Answered, SendsAll, RecordedEnd};
+ghost use Rattle.amqp_engine.specs.Handed.{AnsweredThere};
+
+use super::step_error::StepError;
+use super::waiting::Waiting;
+use amqp_session::{
+    IncomingChannel, InputHandle, LinkFlow, LinkRelay, Session, SessionFrame, SessionFrameBody,
+    SessionStopReason,
+};
+use amqp_types::{Attach, Begin, Detach, Disposition, End, Error, Flow, SessionState, Transfer};
+use bytes::Bytes;
+use std::collections::VecDeque;
+
+/// The frames that wait for what a session hands out, or why it refuses.
+pub(crate) type Outgoing = Result<Waiting, StepError>;
+
+/// Why a session stops with an End of this side.
+fn end_reason(error: &Option<Error>) -> SessionStopReason
+    ensures { result ≡ end_reason error.now }
+{
+    match error {
+        Some(_) => SessionStopReason::EndedWithError,
+        None => SessionStopReason::Ended,
+    }
+}
+
+/// Why a session stops with an End of the peer's.
+fn remote_end_reason(end: &End) -> SessionStopReason
+    ensures { result ≡ remote_end_reason end.now.error }
+{
+    match end.error {
+        Some(_) => SessionStopReason::RemoteEndedWithError,
+        None => SessionStopReason::RemoteEnded,
+    }
+}
+
+/// Whether the peer's End is unsolicited in this state: this side sent none.
+fn is_unsolicited(state: SessionState) -> bool
+    ensures { result ≡ is_end_received (takes_end state) }
+{
+    matches!(
+        state,
+        SessionState::BeginSent | SessionState::BeginReceived | SessionState::Mapped
+    )
+}
+
+pub(crate) fn end<R: LinkRelay>(session: &mut Session<R>, error: Option<Error>) -> Outgoing
+    ensures { Answered R.gives session.old.view (EndCalls error) result session.new.view }
+{
+    let reason = end_reason(&error);
+    let frame = session.send_end(error)?;
+    session.set_session_stop_reason(reason);
+    Ok(Waiting::alone(Some(frame)))
+}
+
+pub(crate) fn allocate_link<R: LinkRelay>(
+    session: &mut Session<R>,
+    name: String,
+    relay: Option<R>,
+) -> Outgoing
+    ensures { Answered R.gives session.old.view (AllocateLinkCalls (string_bytes name) relay) result session.new.view }
+{
+    session.allocate_link(name, relay)?;
+    Ok(Waiting::none())
+}
+
+pub(crate) fn allocate_incoming_link<R: LinkRelay>(
+    session: &mut Session<R>,
+    name: String,
+    relay: R,
+    input: InputHandle,
+) -> Outgoing
+    ensures { Answered R.gives session.old.view (AllocateIncomingCalls (string_bytes name) relay input) result session.new.view }
+{
+    session.allocate_incoming_link(name, relay, input)?;
+    Ok(Waiting::none())
+}
+
+pub(crate) fn send_attach<R: LinkRelay>(session: &mut Session<R>, attach: Attach) -> Outgoing
+    ensures { Answered R.gives session.old.view (AttachCalls attach) result session.new.view }
+{
+    Ok(Waiting::alone(Some(session.on_outgoing_attach(attach))))
+}
+
+pub(crate) fn send_detach<R: LinkRelay>(
+    session: &mut Session<R>,
+    detach: Detach,
+    expects_echo: bool,
+) -> Outgoing
+    ensures { Answered R.gives session.old.view (DetachCalls detach expects_echo) result session.new.view }
+{
+    Ok(Waiting::alone(session.on_outgoing_detach(detach, expects_echo)?))
+}
+
+pub(crate) fn send_flow<R: LinkRelay>(session: &mut Session<R>, flow: LinkFlow) -> Outgoing
+    ensures { Answered R.gives session.old.view (FlowCalls flow) result session.new.view }
+{
+    Ok(Waiting::alone(Some(session.on_outgoing_flow(flow))))
+}
+
+#[inline(always)]
+pub(crate) fn send_transfer<R: LinkRelay>(
+    session: &mut Session<R>,
+    waiting: &mut Waiting,
+    input: InputHandle,
+    transfer: Transfer,
+    payload: Bytes,
+    is_first: bool,
+) -> Result<(), StepError>
+    requires { waiting.old ≡ [] }
+    ensures { AnsweredThere R.gives session.old.view
+        (TransferCalls (record { input_handle = input.0; transfer = transfer; payload = payload; is_first = is_first }))
+        result waiting.new session.new.view }
+{
+    match session.on_outgoing_transfer(input, transfer, payload, is_first) {
+        Ok(item) => {
+            waiting.put_item(item);
+            Ok(())
+        }
+        Err(error) => Err(StepError::from(error)),
+    }
+}
+
+pub(crate) fn send_disposition<R: LinkRelay>(
+    session: &mut Session<R>,
+    disposition: Disposition,
+) -> Outgoing
+    ensures { Answered R.gives session.old.view (DispositionCalls disposition) result session.new.view }
+{
+    Ok(Waiting::alone(Some(session.on_outgoing_disposition(disposition))))
+}
+
+pub(crate) fn stop<R: LinkRelay>(session: &mut Session<R>, reason: SessionStopReason) -> Outgoing
+    ensures { Answered R.gives session.old.view (StopCalls reason) result session.new.view }
+{
+    session.set_session_stop_reason(reason);
+    Ok(Waiting::none())
+}
+
+pub(crate) fn begin_received<R: LinkRelay>(
+    session: &mut Session<R>,
+    channel: IncomingChannel,
+    begin: Begin,
+) -> Outgoing
+    ensures { Answered R.gives session.old.view (ReceivedBeginCalls channel.0 begin) result session.new.view }
+{
+    session.on_incoming_begin(channel, begin)?;
+    Ok(Waiting::none())
+}
+
+/// Records why the peer ended the session, where its End is unsolicited.
+fn record_end<R: LinkRelay>(session: &mut Session<R>, ends: bool, reason: SessionStopReason)
+    ensures { RecordedEnd session.old.view reason ends session.new.view }
+{
+    if ends {
+        session.set_session_stop_reason(reason);
+    }
+}
+
+/// The peer's End. Records the reason unless this side sent End first.
+pub(crate) fn end_received<R: LinkRelay>(
+    session: &mut Session<R>,
+    channel: IncomingChannel,
+    end: End,
+) -> Outgoing
+    ensures { Answered R.gives session.old.view (ReceivedEndCalls channel.0 end) result session.new.view }
+{
+    let reason = remote_end_reason(&end);
+    let ends = is_unsolicited(*session.local_state());
+    let told = session.on_incoming_end(channel, end);
+    record_end(session, ends, reason);
+    told?;
+    Ok(Waiting::none())
+}
+
+pub(crate) fn attach_received<R: LinkRelay>(session: &mut Session<R>, attach: Attach) -> Outgoing
+    ensures { Answered R.gives session.old.view (ReceivedAttachCalls attach) result session.new.view }
+{
+    session.on_incoming_attach(attach)?;
+    Ok(Waiting::none())
+}
+
+/// The peer's detach. What the link's relay answers goes out, and is answered no more.
+pub(crate) fn detach_received<R: LinkRelay>(session: &mut Session<R>, detach: Detach) -> Outgoing
+    ensures { Answered R.gives session.old.view (ReceivedDetachCalls detach) result session.new.view }
+{
+    match session.on_incoming_detach(detach)? {
+        None => Ok(Waiting::none()),
+        Some(answer) => Ok(Waiting::alone(session.on_outgoing_detach(answer, false)?)),
+    }
+}
+
+pub(crate) fn flow_received<R: LinkRelay>(session: &mut Session<R>, flow: Flow) -> Outgoing
+    ensures { Answered R.gives session.old.view (ReceivedFlowCalls flow) result session.new.view }
+{
+    Ok(Waiting::of(session.on_incoming_flow(flow)?))
+}
+
+/// Sends each disposition, in order. As frames they are on the session's channel, and wait as they are: that takes no memory.
+#[inline(never)]
+fn send_each<R: LinkRelay>(
+    session: &mut Session<R>,
+    dispositions: Vec<Disposition>,
+) -> VecDeque<Disposition>
+    ensures same { result.items ≡ dispositions.items }
+    ensures sent { SendsAll R.gives session.old.view dispositions.items session.new.view }
+{
+    let mut waiting = VecDeque::from(dispositions);
+    for _turn in 0..waiting.len() {
+        let disposition = waiting.pop_front().unwrap();
+        let frame = session.on_outgoing_disposition(disposition);
+        waiting.push_back_reserved(disposition_in(frame));
+    }
+    waiting
+}
+
+/// The disposition of a session's frame.
+fn disposition_in(frame: SessionFrame) -> Disposition
+    requires { (d : DispositionSaid) × (frame.body ≡ said.Disposition d) }
+    ensures { frame.body ≡ said.Disposition result }
+{
+    match frame.body {
+        SessionFrameBody::Disposition(disposition) => disposition,
+        _ => unreachable!(),
+    }
+}
+
+/// The peer's disposition. What the relays answer goes out, one disposition for each run of deliveries.
+#[inline(always)]
+pub(crate) fn disposition_received<R: LinkRelay>(
+    session: &mut Session<R>,
+    waiting: &mut Waiting,
+    disposition: Disposition,
+) -> Result<(), StepError>
+    requires { waiting.old ≡ [] }
+    ensures { AnsweredThere R.gives session.old.view (ReceivedDispositionCalls disposition) result waiting.new session.new.view }
+{
+    match session.on_incoming_disposition(disposition) {
+        Ok(None) => Ok(()),
+        Ok(Some(echoes)) => {
+            let channel = session.outgoing_channel();
+            waiting.put_dispositions(channel, send_each(session, echoes));
+            Ok(())
+        }
+        Err(error) => Err(StepError::from(error)),
+    }
+}
+
+/// The peer's transfer; after one that is accepted a session flow may be due.
+#[inline(always)]
+pub(crate) fn transfer_received<R: LinkRelay>(
+    session: &mut Session<R>,
+    waiting: &mut Waiting,
+    transfer: Transfer,
+    payload: Bytes,
+) -> Result<(), StepError>
+    requires { waiting.old ≡ [] }
+    ensures { AnsweredThere R.gives session.old.view (ReceivedTransferCalls transfer payload) result waiting.new session.new.view }
+{
+    match session.on_incoming_transfer(transfer, payload) {
+        Ok(_none) => {
+            waiting.put_item(session.maybe_outgoing_session_flow());
+            Ok(())
+        }
+        Err(error) => Err(StepError::from(error)),
+    }
+}

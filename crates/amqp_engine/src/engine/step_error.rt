@@ -1,0 +1,122 @@
+//! Why an input is refused.
+
+use amqp_connection::{AllocSessionError, ConnectionInnerError, ConnectionStateError};
+use amqp_frames::Error as FrameError;
+use amqp_session::{AllocLinkError, SessionInnerError, SessionStateError};
+use amqp_types::ReadError;
+
+/// Why an input is refused.
+#[derive(Debug, Drop, PartialEq, thiserror::Error)]
+pub enum StepError {
+    /// Frames of an earlier input still wait to be taken out. Nothing has changed.
+    #[error("output is waiting")]
+    OutputWaiting,
+    /// The received bytes are no frame or one that is left out, or memory for its fields was refused. Nothing has changed.
+    #[error("{0}")]
+    Frame(FrameError),
+    /// The connection's state does not take this, or the peer closed.
+    #[error("{0}")]
+    ConnectionState(ConnectionStateError),
+    /// The connection does not pass the frame on to a session.
+    #[error("{0}")]
+    Connection(ConnectionInnerError),
+    /// The session gets no channel. Nothing has changed.
+    #[error("{0}")]
+    AllocSession(AllocSessionError),
+    /// The session's state does not take this, or the peer ended it.
+    #[error("{0}")]
+    SessionState(SessionStateError),
+    /// The session, or the relay of one of its links, refuses this.
+    #[error("{0}")]
+    Session(SessionInnerError),
+    /// The session allots no link. Nothing has changed.
+    #[error("{0}")]
+    AllocLink(AllocLinkError),
+    /// No session has this number. Nothing has changed.
+    #[error("no session")]
+    NoSession,
+    /// A session of this number is there. Nothing has changed.
+    #[error("session in use")]
+    SessionInUse,
+    /// The engine's own room for a new session was refused (`Begin` alone). Nothing has changed.
+    #[error("out of memory")]
+    OutOfMemory,
+}
+
+impl From<ConnectionInnerError> for StepError {
+    ghost use Rattle.std.specs.Prelude.{◌≡◌};
+    ghost use Rattle.amqp_engine.specs.declared.engine.step_error.StepError.TheVariants.{Connection};
+
+    ghost from_gives = { λ error e. e ≡ Connection error };
+
+    fn from(error: ConnectionInnerError) -> StepError {
+        StepError::Connection(error)
+    }
+}
+
+impl From<SessionStateError> for StepError {
+    ghost use Rattle.std.specs.Prelude.{◌≡◌};
+    ghost use Rattle.amqp_engine.specs.declared.engine.step_error.StepError.TheVariants.{SessionState};
+
+    ghost from_gives = { λ error e. e ≡ SessionState error };
+
+    fn from(error: SessionStateError) -> StepError {
+        StepError::SessionState(error)
+    }
+}
+
+impl From<SessionInnerError> for StepError {
+    ghost use Rattle.std.specs.Prelude.{◌≡◌};
+    ghost use Rattle.amqp_engine.specs.declared.engine.step_error.StepError.TheVariants.{Session};
+
+    ghost from_gives = { λ error e. e ≡ Session error };
+
+    fn from(error: SessionInnerError) -> StepError {
+        StepError::Session(error)
+    }
+}
+
+impl From<ConnectionStateError> for StepError {
+    ghost use Rattle.std.specs.Prelude.{◌≡◌};
+    ghost use Rattle.amqp_engine.specs.declared.engine.step_error.StepError.TheVariants.{ConnectionState};
+
+    ghost from_gives = { λ error e. e ≡ ConnectionState error };
+
+    fn from(error: ConnectionStateError) -> StepError {
+        StepError::ConnectionState(error)
+    }
+}
+
+impl From<FrameError> for StepError {
+    ghost use Rattle.std.specs.Prelude.{◌≡◌};
+    ghost use Rattle.amqp_engine.specs.declared.engine.step_error.StepError.TheVariants.{Frame};
+
+    ghost from_gives = { λ error e. e ≡ Frame error };
+
+    fn from(error: FrameError) -> StepError {
+        StepError::Frame(error)
+    }
+}
+
+impl From<ReadError> for StepError {
+    ghost use Rattle.std.specs.Prelude.{◌≡◌};
+    ghost use Rattle.amqp_frames.specs.FrameError.{error_of};
+    ghost use Rattle.amqp_engine.specs.declared.engine.step_error.StepError.TheVariants.{Frame};
+
+    ghost from_gives = { λ error e. e ≡ Frame (error_of error) };
+
+    fn from(error: ReadError) -> StepError {
+        StepError::Frame(FrameError::from(error))
+    }
+}
+
+impl From<AllocLinkError> for StepError {
+    ghost use Rattle.std.specs.Prelude.{◌≡◌};
+    ghost use Rattle.amqp_engine.specs.declared.engine.step_error.StepError.TheVariants.{AllocLink};
+
+    ghost from_gives = { λ error e. e ≡ AllocLink error };
+
+    fn from(error: AllocLinkError) -> StepError {
+        StepError::AllocLink(error)
+    }
+}

@@ -1,0 +1,81 @@
+//! Runs of a handled engine: the wishes become requests, and then the inputs are run.
+
+ghost use Rattle.std.specs.Prelude.{◌≡◌, ◌<◌, [], OnOk};
+ghost use Rattle.std.specs.Vec.{vec_len, vec_capacity};
+ghost use Rattle.amqp_engine.specs.HandledRun.{IsWish, NoWishes, Asked, Hearing, HandledRan};
+
+use super::HandledEngine;
+use crate::engine::{Answer, Input, Stopped};
+use crate::laws::{law_of_histories, law_of_views};
+use amqp_connection::SessionNo;
+use amqp_session::LinkRelay;
+use std::alloc::AllocError;
+use std::collections::VecDeque;
+
+impl<R: LinkRelay> HandledEngine<R> {
+    /// Runs the inputs, as [`Engine::run`](crate::Engine::run) does, behind the wishes of handles. What waits is put out first; then
+    /// the Ends that are noted become requests, by rising session number, and then the Close. A wish that is accepted is answered
+    /// as its request: `Done`, and what goes out for it. A wish that the state does not accept leaves no answer. Wishes are not
+    /// counted in `Stopped`.
+    ///
+    /// Where memory is refused, a wish that has no place for its answer, and those behind it, stay noted, and no input is taken. A
+    /// second call goes on.
+    pub fn run(
+        &mut self,
+        inputs: &mut VecDeque<Input<R>>,
+        answers: &mut Vec<Answer>,
+    ) -> Result<(), Stopped>
+        ensures { HandledRan R.gives self.old inputs.old.items answers.old.items result self.new inputs.new.items answers.new.items }
+    {
+        law_of_histories::<R>();
+        law_of_views::<R>();
+        let Ok(()) = self.hear(answers) else {
+            return Err(Stopped { done: 0 });
+        };
+        self.engine.run(inputs, answers)
+    }
+
+    /// Puts out what waits, and asks for what is wished.
+    fn hear(&mut self, answers: &mut Vec<Answer>) -> Result<(), AllocError>
+        ensures heard { Hearing R.gives self.old answers.old.items self.new answers.new.items }
+        ensures ok { OnOk result (NoWishes self.new.wishes) }
+        ensures idle { OnOk result (self.new.waiting ≡ []) }
+    {
+        law_of_histories::<R>();
+        law_of_views::<R>();
+        self.engine.put_out(answers)?;
+        while self.engine.has_noted_end() {
+            // The place of the answer comes first: what is accepted is answered.
+            answers.reserve(1)?;
+            let (number, error) = self.engine.take_noted_end().unwrap();
+            self.ask(Input::End(SessionNo(number), error), answers)?;
+        }
+        if self.engine.has_noted_close() {
+            answers.reserve(1)?;
+            let error = self.engine.take_noted_close().unwrap();
+            self.ask(Input::Close(error), answers)?;
+        }
+        Ok(())
+    }
+
+    /// Asks for what was wished. It is answered where it is accepted.
+    fn ask(&mut self, wish: Input<R>, answers: &mut Vec<Answer>) -> Result<(), AllocError>
+        requires idle { self.old.waiting ≡ [] }
+        requires wish { IsWish wish }
+        requires room { vec_len answers.old < vec_capacity answers.old }
+        ensures asked { Asked R.gives self.old wish answers.old.items self.new answers.new.items }
+        ensures ok { OnOk result (self.new.waiting ≡ []) }
+    {
+        match self.engine.step(wish) {
+            Ok(()) => {
+                answers.push(Answer::Done).unwrap();
+                self.engine.put_out(answers)
+            }
+            // The state does not accept it.
+            Err(refused) => {
+                drop(refused);
+                Ok(())
+            }
+        }
+    }
+}

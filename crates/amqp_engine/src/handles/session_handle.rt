@@ -1,0 +1,148 @@
+//! Handles of a session.
+
+ghost use Rattle.std.specs.Prelude.{◌≡◌, None, Some, false, nat_eq};
+ghost use Rattle.std.specs.Map.{lookup};
+ghost use Rattle.amqp_types.specs.declared.states.SessionState.TheVariants.{Unmapped};
+ghost use Rattle.amqp_engine.specs.Handles.{is_unmapped, has_ended, is_ended, end_told, end_answer_of, EndCall, TryEndCall};
+
+use super::HandledEngine;
+use crate::engine::kept::EndOutcome;
+use amqp_connection::SessionNo;
+use amqp_session::{Error, LinkRelay, Session, TryEndError};
+use amqp_types::{Error as AmqpError, SessionState};
+use std::marker::Model;
+
+/// A handle of one of an engine's sessions: it ends the session, and is told once how the peer's End was answered.
+#[derive(Debug, Drop)]
+pub struct SessionHandle {
+    number: SessionNo,
+    is_told: bool,
+}
+
+impl Model for SessionHandle {
+    ghost use Rattle.amqp_engine.specs.Handles.{SessionHandleView};
+
+    ghost Value = { SessionHandleView };
+
+    ghost view = { λ h. record { number = h.number.0; told = h.is_told } };
+}
+
+/// Whether a session is ended at both ends in this state.
+fn is_unmapped(state: SessionState) -> bool
+    ensures { result ≡ is_unmapped state }
+{
+    matches!(state, SessionState::Unmapped)
+}
+
+/// How the peer's End was answered, as a handle tells it.
+fn answer_of(outcome: EndOutcome) -> Result<(), Error>
+    ensures { result ≡ end_answer_of outcome }
+{
+    match outcome {
+        Ok(()) => Ok(()),
+        Err(error) => Err(Error::from(error)),
+    }
+}
+
+/// What a handle is told where the state is `Unmapped`.
+fn told(outcome: Option<EndOutcome>) -> Result<(), Error>
+    ensures { Some result ≡ end_told Unmapped outcome }
+{
+    match outcome {
+        Some(outcome) => answer_of(outcome),
+        None => Err(Error::IllegalState),
+    }
+}
+
+impl SessionHandle {
+    /// A handle that was not told the outcome yet.
+    pub(super) fn new(number: SessionNo) -> SessionHandle
+        ensures { result ≡ record { number = number.0; told = false } }
+    {
+        SessionHandle {
+            number,
+            is_told: false,
+        }
+    }
+
+    /// Whether the session is ended at both ends, or this handle was told the outcome, or the engine never began the session.
+    pub fn is_ended<R: LinkRelay>(&self, engine: &HandledEngine<R>) -> bool
+        ensures { result ≡ is_ended self.now engine.now }
+    {
+        if self.is_told {
+            return true;
+        }
+        match engine.engine.session(self.number) {
+            Some(session) => is_unmapped(*session.local_state()),
+            None => true,
+        }
+    }
+
+    /// Wishes that the session is ended: the next run sends an End, those of lower numbers first. The first wish stays.
+    ///
+    /// `IllegalState` where this handle was told the outcome, or the engine never began the session.
+    pub fn end<R: LinkRelay>(&self, engine: &mut HandledEngine<R>) -> Result<(), Error>
+        ensures { EndCall self.now None engine.old result engine.new }
+    {
+        self.wish(None, engine)
+    }
+
+    /// The same as [`SessionHandle::end`].
+    pub fn close<R: LinkRelay>(&self, engine: &mut HandledEngine<R>) -> Result<(), Error>
+        ensures { EndCall self.now None engine.old result engine.new }
+    {
+        self.end(engine)
+    }
+
+    /// Wishes that the session is ended with this error, as [`SessionHandle::end`] does without one.
+    pub fn end_with_error<R: LinkRelay>(
+        &self,
+        error: AmqpError,
+        engine: &mut HandledEngine<R>,
+    ) -> Result<(), Error>
+        ensures { EndCall self.now (Some error) engine.old result engine.new }
+    {
+        self.wish(Some(error), engine)
+    }
+
+    fn wish<R: LinkRelay>(
+        &self,
+        error: Option<AmqpError>,
+        engine: &mut HandledEngine<R>,
+    ) -> Result<(), Error>
+        ensures { EndCall self.now error engine.old result engine.new }
+    {
+        if self.is_told || engine.engine.session(self.number).is_none() {
+            drop(error);
+            return Err(Error::IllegalState);
+        }
+        engine.engine.note_end(self.number.0, error);
+        Ok(())
+    }
+
+    /// Tells, once, how the peer's End was answered, when the session is ended at both ends; an End is wished where none is.
+    /// Where another handle was told before, it is told `IllegalState`; so it is where the engine never began the session.
+    ///
+    /// `AlreadyEnded` where this handle was told; `RemoteEndNotReceived` before the session is ended at both ends.
+    pub fn try_end<R: LinkRelay>(
+        &mut self,
+        engine: &mut HandledEngine<R>,
+    ) -> Result<Result<(), Error>, TryEndError>
+        ensures { TryEndCall self.old engine.old result self.new engine.new }
+    {
+        if self.is_told {
+            return Err(TryEndError::AlreadyEnded);
+        }
+        let Some(session) = engine.engine.session(self.number) else {
+            self.is_told = true;
+            return Ok(Err(Error::IllegalState));
+        };
+        let is_ended = is_unmapped(*session.local_state());
+        engine.engine.note_end(self.number.0, None);
+        if !is_ended {
+            return Err(TryEndError::RemoteEndNotReceived);
+        }
+        self.is_told = true;
+        Ok(told(engine.engine.take_end_outcome(self.number.0)))
+    }
+}

@@ -1,0 +1,31 @@
+//! Laws: what holds of every history of an engine, as contracts of functions that do nothing.
+
+ghost use Rattle.std.specs.Prelude.{List};
+ghost use Rattle.amqp_types.specs.declared.states.ConnectionState.{ConnectionState};
+ghost use Rattle.amqp_types.specs.Open.{OpenSaid};
+ghost use Rattle.amqp_engine.specs.EngineView.{EngineView};
+ghost use Rattle.amqp_engine.specs.Engine.{Entry};
+ghost use Rattle.amqp_engine.specs.History.{LeadsTo};
+ghost use Rattle.amqp_engine.specs.Headline.{Headline, Stands};
+
+use amqp_session::{LinkRelay, laws as session};
+
+/// Whatever an engine has been given, what contracts see of it is what its history gives: its sessions; of its
+/// connection the state, the stop reason, the Open, the channel maximum, the channels that are held and the routes of received
+/// frames; the limit of a piece; and the frames that wait.
+pub fn law_of_views<R: LinkRelay>()
+    ensures { (state : ConnectionState) (o : OpenSaid) (H : List (Entry R)) (w : EngineView R)
+        → LeadsTo R.gives state o H w → Stands state o H w }
+{
+    session::law_of_views::<R>();
+}
+
+/// Every legal history has the properties of `Headline`. One of them: an engine made in `HeaderExchange` hands out at most one
+/// Open and one Close (AMQP 1.0 part 2, section 2.4).
+pub fn law_of_histories<R: LinkRelay>()
+    ensures { (state : ConnectionState) (o : OpenSaid) (H : List (Entry R)) (w : EngineView R)
+        → LeadsTo R.gives state o H w → Headline state o H }
+{
+    session::law_of_views::<R>();
+    session::law_of_channels::<R>();
+}

@@ -1,7 +1,0 @@
-use Rattle.std.proofs.Common.{ap, ◌∙◌}
-use Rattle.std.specs.FinMap as map
-use Rattle.amqp_session.proofs.AsMap.{inserted}
-use Rattle.fe2o3_amqp.proofs.connection.route_table.RouteTable.put.Goals as goal
-
-pub returns-clause-ok : goal.returns-clause-ok
-returns-clause-ok c = inserted _ _ c.args.channel.0 c.args.number c.in_ok-insert.ensures.updates.0 ∙ ap (λ m. map.insert m c.args.channel.0 c.args.number) c.self.view_is

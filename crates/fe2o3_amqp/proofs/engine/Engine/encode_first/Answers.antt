@@ -1,7 +1,0 @@
-use Rattle.std.proofs.Common.{refl}
-use Rattle.fe2o3_amqp.proofs.engine.Engine.encode_first.Goals as goal
-
-pub returns : goal.returns
-returns g c =
-    let is = rw c.unwrap-frame.ensures at c.first.ensures.first in
-    rw (← c.self.view_is) (c.unwrap-frame.result.now, is, c.encode_from.ensures, refl)

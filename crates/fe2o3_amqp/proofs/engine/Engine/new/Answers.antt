@@ -1,8 +1,0 @@
-use Rattle.std.proofs.Common.{is_some, nat_eq, ap, sym, ◌∙◌}
-use Rattle.std.specs.Map.{lookup}
-use Rattle.std.specs.Ordering.{nat_cmp}
-use Rattle.std.specs.FinMap as map
-use Rattle.fe2o3_amqp.proofs.engine.Engine.new.Goals as goal
-
-pub invariant_of-result : goal.invariant_of-result
-invariant_of-result g c = λ n. ap (λ es. is_some (lookup (nat_eq n) es)) c.new-5.ensures.empty ∙ ap is_some (sym (ap (λ m. map.get m n) c.new-6.ensures.places ∙ map.get-empty nat_cmp n))

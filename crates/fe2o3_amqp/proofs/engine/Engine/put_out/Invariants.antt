@@ -1,9 +1,0 @@
-use Rattle.std.proofs.Common.{length}
-use Rattle.fe2o3_amqp.proofs.Outputs.{PutSoFar}
-use Rattle.fe2o3_amqp.proofs.engine.Engine.put_out.Given as goal
-
-abbrev pub invariant-loop-self : goal.invariant-loop-self
-invariant-loop-self g l = PutSoFar l.fn.self l.fn.answers.items l.self l.answers.items
-
-abbrev pub decreases-loop-self : goal.decreases-loop-self
-decreases-loop-self g l = length l.self.waiting

@@ -1,8 +1,0 @@
-use Rattle.std.proofs.Common.{rules, None, refl, string_bytes}
-use Rattle.fe2o3_amqp.specs.Calls.{AllocateIncomingCalls}
-use Rattle.fe2o3_amqp.proofs.Asking.{does}
-use Rattle.fe2o3_amqp.proofs.engine.Engine.request_incoming_link.Goals as goal
-
-pub returns : goal.returns
-returns g c =
-    let d = does g.R.LinkRelay.gives (AllocateIncomingCalls (string_bytes c.args.name) c.args.relay c.args.input) _ _ _ _ _ (λ s t a h. search rules) c.ask_session.ensures in (None, d.0, d.1, c.ask_session.new.self, (refl, d.2), refl)

@@ -1,6 +1,0 @@
-use Rattle.fe2o3_amqp.proofs.Apart.{apart}
-use Rattle.fe2o3_amqp.proofs.Standing.{stands}
-use Rattle.fe2o3_amqp.proofs.laws.law_of_views.Goals as goal
-
-pub returns : goal.returns
-returns g c = λ state o H w l. stands g.R.LinkRelay.gives c.law_of_views.ensures.stands state o H w (apart g.R.LinkRelay.gives H _ w l)
