@@ -1,8 +1,9 @@
 //! AMQP 1.0 without input or output: a connection and an engine from received bytes to sent bytes.
 //!
-//! What the crates below offer is offered here too, so that a user needs this crate alone. Each name stands here at the root, but for
-//! the laws, `Connection`, and the four errors that are named `Error`: those stand in the modules. What is this crate's own are
-//! transcripts: an engine that is driven by lines of text.
+//! What the crates below offer is offered here too, so that a user needs this crate alone; but the conversion of a refused channel
+//! into a `BeginError` is in scope only where `amqp_connection` is named too. Each name stands here at the root, but for the laws,
+//! `Connection`, and the four errors that are named `Error`: those stand in the modules. This crate's own part is transcripts: an
+//! engine that is driven by lines of text.
 #![tactic(auto)]
 
 pub mod connection;
