@@ -27,7 +27,7 @@ def half_of_the_window(rows):
 
 
 def after_a_begin(rows):
-    rows.row("Mapped by a Begin of number 0, a session with an incoming window of 2 accepts one transfer, and a flow goes out")
+    rows.row("Mapped by a Begin of number 0, a session with an incoming window of 2 refuses a transfer for no link but counts it, and a flow goes out")
     rows.new("BeginSent incoming-window=2")
     rows.ask("recv 5 " + begin(0, 0, 8, 8), "ok")
     rows.ask("session-flow", "none")

@@ -46,3 +46,5 @@ mod stopping;
 mod telling;
 #[cfg(test)]
 mod transcripts;
+#[cfg(test)]
+mod untold;

@@ -1,9 +1,9 @@
 //! AMQP 1.0 without input or output: a connection and an engine from received bytes to sent bytes.
 //!
 //! What the crates below offer is offered here too, so that a user needs this crate alone; but the conversion of a refused channel
-//! into a `BeginError` is in scope only where `amqp_connection` is named too. Each name stands here at the root, but for the laws,
-//! `Connection`, and the four errors that are named `Error`: those stand in the modules. This crate's own part is transcripts: an
-//! engine that is driven by lines of text.
+//! into a `BeginError` is in scope only where `amqp_connection` is named too. Each name stands here at the root, but for the laws
+//! and the four errors that are named `Error`: those stand in the modules. `Connection` stands in both. This crate's own part is
+//! transcripts: an engine that is driven by lines of text.
 #![tactic(auto)]
 
 pub mod connection;
@@ -15,8 +15,8 @@ mod settings;
 mod transcript;
 
 pub use amqp_connection::{
-    AllocSessionError, ConnectionInnerError, ConnectionStateError, NegotiationError, OpenError,
-    SessionNo, TryCloseError,
+    AllocSessionError, Connection, ConnectionInnerError, ConnectionStateError, NegotiationError,
+    OpenError, SessionNo, TryCloseError,
 };
 pub use amqp_engine::{
     Answer, ConnectionHandle, Engine, HandledEngine, Input, OutputError, SessionHandle, StepError,
