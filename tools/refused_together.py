@@ -23,8 +23,6 @@ leave no goal open; with 'control' as the first word it is for all of them. The 
 
 import contextlib
 import copy
-import importlib.machinery
-import importlib.util
 import json
 import os
 import re
@@ -35,6 +33,8 @@ import threading
 from collections import Counter
 from concurrent.futures import ThreadPoolExecutor
 from pathlib import Path
+
+import toolchain
 
 ROOT = Path(__file__).resolve().parent.parent
 FOLDER = "must-fail-together"
@@ -50,20 +50,8 @@ GOES_ON = re.compile(r"\)|where$|\{$")
 MISSES_A_NAME = re.compile(r"has no field|has no `|is not in scope|was not admitted|is no name|no goal|cannot continue|exports no")
 
 
-def toolchain():
-    """The toolchain's rt as a module: how it checks a crate with an edit."""
-    sys.dont_write_bytecode = True
-    file = str(Path(shutil.which("rt")).resolve())
-    loader = importlib.machinery.SourceFileLoader("rt", file)
-    module = importlib.util.module_from_spec(importlib.util.spec_from_loader("rt", loader))
-    loader.exec_module(module)
-    module.rtlib.Crate = module.Crate
-    module.Crate.cuts_libraries = True
-    module.rtlib.guarded()
-    return module
-
-
-RT = toolchain()
+# How the toolchain checks a crate with an edit.
+RT = toolchain.rt()
 # A check for each processor at a time.
 LANES = threading.BoundedSemaphore(RT.processors())
 
