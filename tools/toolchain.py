@@ -83,8 +83,9 @@ def without(lacking):
     if lacking:
         kit, logic = wanted()
         sys.exit(
-            f"toolchain: what is used of rt and is not there: {', '.join(lacking)}.\nThis tool checks crates by parts of rt that no page of the kit promises. "
-            f"Install {kit} (logic {logic}), or mend tools/toolchain.py and what it hands out for the kit at hand"
+            f"toolchain: the rt at hand lacks {', '.join(lacking)}.\n"
+            "This tool checks crates by parts of rt that no page of the kit promises, so each kit may change them. "
+            f"Install {kit} (logic {logic}), or mend rt() in tools/toolchain.py, and what is used of it, for the kit at hand."
         )
 
 
