@@ -97,6 +97,8 @@ def main():
     told = advice(want, have)
     if told:
         print(f"toolchain: {told}", flush=True)
+    if not shutil.which("gcc"):
+        print("toolchain: no gcc: the gate's last part installs Debian's gcc and libc6-dev, as root, and elsewhere fails", flush=True)
 
 
 if __name__ == "__main__":
