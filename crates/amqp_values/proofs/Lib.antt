@@ -8,6 +8,7 @@ pub mod SlotLaws
 pub mod CompositeLaws
 pub mod SymbolLaws
 pub mod Trim
+pub mod Alike
 pub mod Loops
 pub mod ArrayItems
 pub mod Under

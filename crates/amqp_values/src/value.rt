@@ -13,7 +13,7 @@ use std::marker::Model;
 /// One whole value, borrowed: a raw value, or a part of one. It may be the null.
 ///
 /// None of its calls takes memory.
-#[derive(Debug, Drop)]
+#[derive(Clone, Debug, Drop)]
 pub struct ValueRef<'a> {
     bytes: &'a [u8],
 }
@@ -29,10 +29,25 @@ impl<'a> Model for ValueRef<'a> {
     ghost invariant = { λ v. IsValue 64 v.bytes.now };
 }
 
+impl<'a> PartialEq for ValueRef<'a> {
+    ghost use Rattle.std.specs.Prelude.{nat_eq};
+    ghost use Rattle.std.specs.Cmp.{partial_equiv_from_equiv};
+    ghost use Rattle.std.specs.Cmp.Lexicographic.{nat_list_eq_equiv, pointwise};
+
+    ghost eq = { pointwise nat_eq };
+
+    ghost laws = { partial_equiv_from_equiv nat_list_eq_equiv };
+
+    /// Whether both are spelled alike. A number in another encoding is another spelling.
+    fn eq(&self, other: &ValueRef<'a>) -> bool {
+        self.bytes == other.bytes
+    }
+}
+
 /// The parts of a list or a map in their order, each borrowed. A map gives key, value, key, value. The iterator ends.
 ///
 /// None of its calls takes memory.
-#[derive(Debug, Drop)]
+#[derive(Clone, Debug, Drop)]
 pub struct Items<'a> {
     left: u32,
     bytes: &'a [u8],
@@ -47,6 +62,22 @@ impl<'a> Model for Items<'a> {
     ghost view = { λ i. parts_at i.left i.bytes.now };
 
     ghost invariant = { λ i. AllParts i.left i.bytes.now };
+}
+
+impl<'a> PartialEq for Items<'a> {
+    ghost use Rattle.std.specs.Prelude.{nat_eq};
+    ghost use Rattle.std.specs.Cmp.{partial_equiv_from_equiv};
+    ghost use Rattle.std.specs.Cmp.Lexicographic.{nat_list_eq_equiv, lists_equiv, pointwise};
+
+    ghost eq = { pointwise (pointwise nat_eq) };
+
+    ghost laws = { partial_equiv_from_equiv (lists_equiv nat_list_eq_equiv) };
+
+    /// Whether the parts that are left are spelled alike.
+    #[tactic(auto, using(crate::proofs::Alike::same_parts))]
+    fn eq(&self, other: &Items<'a>) -> bool {
+        self.left == other.left && self.bytes == other.bytes
+    }
 }
 
 impl<'a> ValueRef<'a> {

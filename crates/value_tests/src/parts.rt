@@ -116,3 +116,62 @@ fn lists_and_maps_alone_have_items(rt: HostRuntime) -> Result<(), Fail> {
     }
     Ok(())
 }
+
+/// Whether a value is like another one with the same bytes and like its own copy, and unlike one that is spelled otherwise.
+fn is_like_the_first_two(values: [&Raw; 3]) -> Result<[bool; 3], Fail> {
+    let [first, same, other] = values;
+    let copy = first.view().clone()?;
+    Ok([
+        first.view() == same.view(),
+        first.view() == copy,
+        first.view() != other.view(),
+    ])
+}
+
+#[test]
+fn values_are_compared_by_their_spelling(rt: HostRuntime) -> Result<(), Fail> {
+    let five = raw(&[0x52, 5])?;
+    let same = raw(&[0x52, 5])?;
+    let wide = raw(&[0x70, 0, 0, 0, 5])?;
+    let alike = is_like_the_first_two([&five, &same, &wide])?;
+    assert!(rt; alike == [true; 3]);
+    Ok(())
+}
+
+/// Whether parts are unlike their copy once one of them is taken, and like it again once one is taken there too.
+fn is_like_a_copy_in_step(list: &Raw) -> Result<[bool; 3], Fail> {
+    let Some(mut items) = list.view().items() else {
+        return Ok([false; 3]);
+    };
+    let mut copy = items.clone()?;
+    let before = items == copy;
+    let first = items.next();
+    let ahead = items != copy;
+    let again = copy.next();
+    Ok([before, ahead, first == again && items == copy])
+}
+
+#[test]
+fn parts_are_compared_by_what_is_left(rt: HostRuntime) -> Result<(), Fail> {
+    let list = raw(&[0xc0, 3, 2, 0x40, 0x40])?;
+    let alike = is_like_a_copy_in_step(&list)?;
+    assert!(rt; alike == [true; 3]);
+    Ok(())
+}
+
+/// Whether the parts of two lists are the same.
+fn have_the_same_parts(one: &Raw, other: &Raw) -> bool {
+    one.view().items() == other.view().items()
+}
+
+#[test]
+fn parts_are_the_same_in_a_short_list_and_in_a_long_one(rt: HostRuntime) -> Result<(), Fail> {
+    let short = raw(&[0xc0, 3, 2, 0x40, 0x41])?;
+    let long = raw(&[0xd0, 0, 0, 0, 6, 0, 0, 0, 2, 0x40, 0x41])?;
+    let other = raw(&[0xc0, 3, 2, 0x41, 0x40])?;
+    let alike = have_the_same_parts(&short, &long);
+    let unlike = have_the_same_parts(&short, &other);
+    assert!(rt; alike);
+    assert!(rt; !unlike);
+    Ok(())
+}
