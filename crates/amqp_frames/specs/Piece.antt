@@ -1,5 +1,6 @@
 -- Pieces: a head, and a part of a payload.
 use Rattle.std.specs.Prelude.{◌≡◌, ◌<◌, ◌^◌, ℕ, List, ◌++◌, length, Result, Ok, Err}
+use Rattle.amqp_values.specs.Same.{Test, both, field, texts}
 use Rattle.amqp_frames.specs.declared.error.Error.{Error}
 use Rattle.amqp_frames.specs.declared.error.Error.TheVariants as no
 use Rattle.amqp_frames.specs.declared.piece.HeadBytes.{HeadBytes}
@@ -11,6 +12,10 @@ pub record PieceParts : Type 0 where
 
 abbrev pub piece_bytes : PieceParts → List ℕ
 piece_bytes p = p.head ++ p.payload
+
+-- two pieces are the same where their heads are, and their parts of the payload
+abbrev pub piece_same : Test PieceParts
+piece_same = both (field (λ p. p.head) texts) (field (λ p. p.payload) texts)
 
 -- the bytes of a head, in a buffer of its own or shared
 abbrev pub head_bytes : HeadBytes → List ℕ

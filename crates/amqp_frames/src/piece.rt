@@ -33,6 +33,20 @@ impl Model for Piece {
     ghost invariant = { λ p. IsPiece (record { head = head_bytes p.head; payload = p.payload }) };
 }
 
+impl PartialEq for Piece {
+    ghost use Rattle.std.specs.Cmp.{partial_equiv_from_equiv};
+    ghost use Rattle.amqp_frames.specs.Piece.{piece_same};
+
+    ghost eq = { piece_same.test };
+
+    ghost laws = { partial_equiv_from_equiv piece_same.laws };
+
+    /// Whether the heads are the same, and the parts are. Whether others share the bytes does not matter.
+    fn eq(&self, other: &Piece) -> bool {
+        self.head() == other.head() && self.payload == other.payload
+    }
+}
+
 impl Piece {
     /// The piece of this head, which no other piece has, and this part.
     pub(crate) fn own(head: BytesMut, payload: Bytes) -> Piece

@@ -165,3 +165,20 @@ fn a_piece_as_one_run_of_bytes(rt: HostRuntime) -> Result<(), Fail> {
     }
     Ok(())
 }
+
+/// Whether the pieces of a transfer with this payload are those of one with the other.
+fn have_the_same_pieces(alloc: Global, one: Bytes, other: Bytes) -> Result<bool, Fail> {
+    let one = pieces(alloc, 24, delivery(0), one)?;
+    let other = pieces(alloc, 24, delivery(0), other)?;
+    Ok(one == other)
+}
+
+#[test]
+fn pieces_are_compared_by_their_bytes(rt: HostRuntime) -> Result<(), Fail> {
+    let alloc = rt.alloc();
+    let alike = have_the_same_pieces(alloc, payload(alloc, 25)?, payload(alloc, 25)?)?;
+    let unlike = have_the_same_pieces(alloc, payload(alloc, 25)?, payload(alloc, 24)?)?;
+    assert!(rt; alike);
+    assert!(rt; !unlike);
+    Ok(())
+}
