@@ -8,7 +8,9 @@ use Rattle.amqp_frames.specs.declared.frame.Frame.{Frame}
 use Rattle.amqp_frames.specs.declared.frame.FrameBody.{FrameBody}
 use Rattle.amqp_frames.specs.declared.error.Error.{Error}
 use Rattle.amqp_frames.specs.Frame.{IsBody, IsFrame, HasHeader}
+use Rattle.amqp_frames.specs.declared.decoder.FrameHead.{FrameHead}
 use Rattle.amqp_frames.specs.Decoding.{IsHeader}
+use Rattle.amqp_frames.specs.Head.{IsHead}
 
 -- ---- the header
 
@@ -42,6 +44,12 @@ same_header bytes n h f rest s =
     let channel : s.channel ≡ h.channel = sym (take_at s.channel s.body 2 s.two) ∙ ap (take 2) e ∙ take_at h.channel (drop 4 bytes) 2 h.two in
     let body : s.body ≡ drop 4 bytes = sym (drop_at s.channel s.body 2 s.two) ∙ ap (drop 2) e ∙ drop_at h.channel (drop 4 bytes) 2 h.two in
     (s.channel_is ∙ ap (from_be_bytes w16) channel ∙ sym h.channel_is, subst (λ (b : List ℕ). IsBody f.body b rest) body s.says)
+
+-- the body behind this header is the one behind any head
+pub same_body : (bytes : List ℕ) (n : ℕ) → IsHeader bytes n → (j : FrameHead) (left : List ℕ) (is : IsHead j bytes left) → is.body ≡ drop 4 bytes
+same_body bytes n h j left is =
+    let e : is.channel ++ is.body ≡ h.channel ++ drop 4 bytes = ap (drop 2) (sym is.whole ∙ h.whole) in
+    sym (drop_at is.channel is.body 2 is.two) ∙ ap (drop 2) e ∙ drop_at h.channel (drop 4 bytes) 2 h.two
 
 pub has_header : (bytes : List ℕ) (n : ℕ) → IsHeader bytes n → HasHeader bytes
 has_header bytes n h = record { behind = h.channel ++ drop 4 bytes; whole = h.whole }

@@ -22,9 +22,9 @@ use Rattle.amqp_frames.specs.declared.error.Error.{Error}
 use Rattle.amqp_frames.specs.declared.error.Error.TheVariants as no
 use Rattle.amqp_frames.specs.Frame.{IsBody, IsFrame, IsSaid, Decodes, body_of}
 use Rattle.amqp_frames.specs.Decoding.{IsHeader, Names}
-use Rattle.amqp_frames.specs.Head.{head_told, IsFields, IsBodyOf, IsLongEnough, MayAskForMemory, NoBodyOf, Opens, ReadsBodyOf, ReadsFrameOf}
+use Rattle.amqp_frames.specs.Head.{head_told, IsFields, IsBodyOf, IsHead, IsLongEnough, MayAskForMemory, NamesKind, HasNoHead, NoBodyOf, Opens, ReadsBodyOf, ReadsFrameOf}
 use Rattle.amqp_frames.specs.FrameError.{error_of}
-use Rattle.amqp_frames.proofs.Decoded.{same_header, has_header, same_frame, framed}
+use Rattle.amqp_frames.proofs.Decoded.{same_header, same_body, has_header, same_frame, framed}
 
 -- ---- the body
 
@@ -75,12 +75,6 @@ body_fields kinds bytes left k b rest e s =
     let d = parted s.performative s.text b s.behind rest s.is s.says in
     let same = pair_is d.kind k (d.list ++ s.behind) left (sym (read_off kinds b bytes rest s d) ∙ e) in
     subst (λ (j : Kind). IsBodyOf (Some j) b left rest) same.0 (d.fields left (sym same.1))
-
-no_said : KindsAreRead → (bytes : List ℕ) (b : FrameBody) (rest : List ℕ) → kind_at bytes ≡ None → IsSaid b bytes rest → ⊥
-no_said kinds bytes b rest e s =
-    let d = parted s.performative s.text b s.behind rest s.is s.says in
-    let f : kind_at bytes ≡ Some (d.kind, d.list ++ s.behind) = read_off kinds b bytes rest s d in
-    absurd cc
 
 said_by : {V : Type 0} (code : ℕ) (B : V → List (List ℕ) → Type 0) (wrap : V → Performative) (bytes descriptor left : List ℕ) (b : FrameBody) (rest : List ℕ)
     → ((v : V) (t : List ℕ) → IsDescribed code B v t → IsPerformative (wrap v) t) → IsDescriptor code descriptor → bytes ≡ descriptor ++ left
@@ -142,6 +136,16 @@ asks_behind : (bytes : List ℕ) (k : Option Kind) → IsLongEnough k bytes → 
 asks_behind bytes None long asks = absurd asks
 asks_behind bytes (Some k) long asks = long
 
+named : KindsAreRead → (bytes left : List ℕ) (k : Option Kind) → Names bytes left (Ok k) → NamesKind k bytes left
+named kinds bytes left None a = a
+named kinds bytes left (Some k) a = kinds.found bytes k left a.1
+
+no_name : KindsAreRead → (bytes : List ℕ) → ¬ (bytes ≡ []) → kind_at bytes ≡ None → (k : Option Kind) (left : List ℕ) → NamesKind k bytes left → ⊥
+no_name kinds bytes some none None left n = some n.0
+no_name kinds bytes some none (Some k) left n =
+    let e : kind_at bytes ≡ Some (k, left) = ap kind_at n.2 ∙ kinds.again k n.0 left n.1 in
+    absurd cc
+
 opened : KindsAreRead → (bytes left : List ℕ) (n : ℕ) → 4 ≤ length bytes → IsHeader bytes n → (r : Result (Option Kind) Error) → Names (drop 4 bytes) left r → Opens bytes left (headed n r)
 opened kinds bytes left n four h (Ok k) a = (
   long_enough bytes left k four a,
@@ -150,12 +154,10 @@ opened kinds bytes left n four h (Ok k) a = (
     λ is. let s = same_header bytes n h f rest is in (s.0, to_kind kinds (drop 4 bytes) left k f.body rest a s.1),
     λ is. framed_by bytes n h f rest is.0 (of_kind kinds (drop 4 bytes) left k f.body rest a is.1),
   ),
+  record { channel = h.channel; body = drop 4 bytes; two = h.two; channel_is = h.channel_is; whole = h.whole; names = named kinds (drop 4 bytes) left k a },
 )
-opened kinds bytes left n four h (Err no.DecodeError) a = inr (has_header bytes n h, λ f rest is. none f rest (same_header bytes n h f rest is).1)
-  where
-    none : (f : Frame) (rest : List ℕ) → IsBody f.body (drop 4 bytes) rest → ⊥
-    none f rest (inl t) = a.0 t.0
-    none f rest (inr s) = no_said kinds (drop 4 bytes) f.body rest a.1 s
+opened kinds bytes left n four h (Err no.DecodeError) a =
+    inr (has_header bytes n h, λ j fields is. no_name kinds (drop 4 bytes) a.0 a.1 j.kind fields (subst (λ (b : List ℕ). NamesKind j.kind b fields) (same_body bytes n h j fields is) is.names))
 opened kinds bytes left n four h (Err no.OutOfMemory) a = (behind_header bytes four a, has_header bytes n h)
 opened kinds bytes left n four h (Err no.NotImplemented) a = absurd a
 opened kinds bytes left n four h (Err no.TooLarge) a = absurd a
@@ -165,6 +167,29 @@ pub opened_from : KindsAreRead → (bytes header behind left : List ℕ) (n : �
     → (r : Result (Option Kind) Error) → Names behind left r → Opens bytes left (headed n r)
 opened_from kinds bytes header behind left n e d h r a =
     opened kinds bytes left n (subst (λ (x : List ℕ). 4 ≤ length x) e h.0) (subst (λ (x : List ℕ). IsHeader x n) e h.1) r (subst (λ (x : List ℕ). Names x left r) d a)
+
+-- ---- a frame has a head
+
+head_of : (b : FrameBody) (bytes rest : List ℕ) → IsBody b bytes rest → (k : Option Kind) × (left : List ℕ) × NamesKind k bytes left
+head_of b bytes rest (inl t) = (None, [], (t.0, refl))
+head_of b bytes rest (inr s) =
+    let d = parted s.performative s.text b s.behind rest s.is s.says in
+    (Some d.kind, d.list ++ s.behind, (d.descriptor, d.named, s.whole ∙ ap (λ (t : List ℕ). t ++ s.behind) d.whole ∙ append_assoc d.descriptor d.list s.behind))
+
+no_frame : (bytes : List ℕ) → ((h : FrameHead) (left : List ℕ) → ¬ IsHead h bytes left) → (f : Frame) (rest : List ℕ) → ¬ IsFrame f bytes rest
+no_frame bytes none f rest is =
+    let n = head_of f.body is.body rest is.says in
+    none (record { channel = f.channel; kind = n.0 }) n.1
+    (record { channel = is.channel; body = is.body; two = is.two; channel_is = is.channel_is; whole = is.whole; names = n.2 })
+
+-- where no head stands, no frame does
+pub not_opened : (bytes : List ℕ) (e : Error) → HasNoHead bytes e → Decodes bytes (Err e)
+not_opened bytes no.DecodeError (inl short) = inl short
+not_opened bytes no.DecodeError (inr n) = inr (n.0, no_frame bytes n.1)
+not_opened bytes no.OutOfMemory n = n
+not_opened bytes no.NotImplemented n = n
+not_opened bytes no.TooLarge n = absurd n
+not_opened bytes (no.Io text) n = absurd n
 
 -- ---- what the reader of a kind's fields answers, as a body
 
@@ -235,3 +260,7 @@ decodes_frame bytes left h o (Err e) b = not_decoded bytes left h e o b
 pub decodes_told : (bytes left : List ℕ) (head : Result FrameHead Error) (n : ℕ) (k : Option Kind) → Opens bytes left head → head ≡ head_told (Ok (n, k))
     → (r : Result (Frame × List ℕ) Error) → ReadsFrameOf n k left r → Decodes bytes r
 decodes_told bytes left head n k o is r b = decodes_frame bytes left (record { channel = n; kind = k }) (subst (λ (h : Result FrameHead Error). Opens bytes left h) is o) r b
+
+-- a head that was refused
+pub refused_told : (bytes left : List ℕ) (head : Result FrameHead Error) (e : Error) → Opens bytes left head → head ≡ head_told (Err e) → Decodes bytes (Err e)
+refused_told bytes left head e o is = not_opened bytes e (subst (λ (h : Result FrameHead Error). Opens bytes left h) is o)

@@ -1,8 +1,10 @@
 -- A frame's head, which is its header and its descriptor, and the fields behind it.
-use Rattle.std.specs.Prelude.{◌≡◌, ◌<◌, ◌≤◌, ◌↔◌, ℕ, List, [], ◌++◌, length, Option, Some, None, Result, Ok, Err}
+use Rattle.std.specs.Prelude.{◌≡◌, ◌<◌, ◌≤◌, ◌↔◌, ◌⊎◌, ℕ, List, [], ◌∷◌, ◌++◌, length, Option, Some, None, Result, Ok, Err}
+use Rattle.std.specs.Int.{w16, from_be_bytes}
 use Rattle.amqp_values.specs.Composite.{IsComposite}
 use Rattle.amqp_types.specs.declared.performatives.kind.Kind.{Kind}
 use Rattle.amqp_types.specs.declared.performatives.kind.Kind.TheVariants as kind
+use Rattle.amqp_types.specs.Kinds.{IsKind}
 use Rattle.amqp_types.specs.Open.{IsOpenBody}
 use Rattle.amqp_types.specs.Begin.{IsBeginBody}
 use Rattle.amqp_types.specs.Attach.{IsAttachBody}
@@ -19,7 +21,7 @@ use Rattle.amqp_frames.specs.declared.frame.FrameBody.TheVariants.{End, Open, Cl
 use Rattle.amqp_frames.specs.declared.decoder.FrameHead.{FrameHead}
 use Rattle.amqp_frames.specs.declared.error.Error.{Error}
 use Rattle.amqp_frames.specs.declared.error.Error.TheVariants as no
-use Rattle.amqp_frames.specs.Frame.{IsFrame, HasHeader, Decodes}
+use Rattle.amqp_frames.specs.Frame.{IsFrame, HasHeader}
 
 -- the fields of one performative, and what is behind them
 pub record IsFields {V : Type 0} (B : V → List (List ℕ) → Type 0) (says : V → List ℕ → FrameBody × List ℕ)
@@ -62,13 +64,36 @@ abbrev pub IsLongEnough : Option Kind → List ℕ → Type 0
 IsLongEnough None bytes = 4 ≤ length bytes
 IsLongEnough (Some k) bytes = 4 < length bytes
 
--- The frames that stand in the bytes are those on this channel whose body of this kind stands in what is left; or why none
--- stands there.
+-- The body is of this kind, and its fields are what is left: the kind's descriptor stands before them. A body of no kind is empty.
+abbrev pub NamesKind : Option Kind → List ℕ → List ℕ → Type 0
+NamesKind None body left = (body ≡ []) × (left ≡ [])
+NamesKind (Some k) body left = (descriptor : List ℕ) × IsKind k descriptor × (body ≡ descriptor ++ left)
+
+-- The head stands in the bytes, and leaves these fields: the header's first two bytes, the channel, and the descriptor.
+pub record IsHead (h : FrameHead) (bytes left : List ℕ) : Type 0 where
+  pub channel : List ℕ
+  pub body : List ℕ
+  pub two : length channel ≡ 2
+  pub channel_is : h.channel ≡ from_be_bytes w16 channel
+  pub whole : bytes ≡ 0x02 ∷ 0x00 ∷ channel ++ body
+  pub names : NamesKind h.kind body left
+
+-- why no head is read
+abbrev pub HasNoHead : List ℕ → Error → Type 0
+HasNoHead bytes no.DecodeError = (length bytes < 4) ⊎ (HasHeader bytes × ((h : FrameHead) (left : List ℕ) → ¬ IsHead h bytes left))
+HasNoHead bytes no.NotImplemented = (4 ≤ length bytes) × ¬ HasHeader bytes
+HasNoHead bytes no.OutOfMemory = (4 < length bytes) × HasHeader bytes
+HasNoHead bytes no.TooLarge = ⊥
+HasNoHead bytes (no.Io text) = ⊥
+
+-- The head that stands in the bytes, and what it leaves; the frames that stand there are those on this channel whose body of
+-- this kind stands in what is left. Or why no head stands there.
 abbrev pub Opens : List ℕ → List ℕ → Result FrameHead Error → Type 0
 Opens bytes left (Ok h) =
     IsLongEnough h.kind bytes × HasHeader bytes
     × ((f : Frame) (rest : List ℕ) → IsFrame f bytes rest ↔ ((f.channel ≡ h.channel) × IsBodyOf h.kind f.body left rest))
-Opens bytes left (Err e) = Decodes bytes (Err e)
+    × IsHead h bytes left
+Opens bytes left (Err e) = HasNoHead bytes e
 
 -- a head, from its channel and its kind
 abbrev pub head_told : Result (ℕ × Option Kind) Error → Result FrameHead Error

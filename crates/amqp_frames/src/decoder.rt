@@ -54,7 +54,7 @@ impl FrameDecoder {
     /// `DecodeError` for fewer than four bytes, and where the body is no performative; `NotImplemented` for another frame
     /// type or an extended header (AMQP 1.0 part 2, section 2.3.1); `OutOfMemory` where memory is refused, which an empty
     /// frame never asks for.
-    #[tactic(auto, using(crate::proofs::Headed::decodes_told))]
+    #[tactic(auto, using(crate::proofs::Headed::decodes_told, crate::proofs::Headed::refused_told))]
     pub fn decode(&self, alloc: Global, bytes: Bytes) -> Result<(Frame, Bytes), Error>
         ensures { Decodes bytes result }
     {

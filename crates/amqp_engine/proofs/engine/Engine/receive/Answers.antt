@@ -1,6 +1,7 @@
 use Rattle.std.proofs.Common.{None, Some, [], refl, sym, ap, subst, inl, inr}
 use Rattle.amqp_types.specs.declared.performatives.kind.Kind.TheVariants as kind
 use Rattle.amqp_frames.proofs.Decoded.{failed}
+use Rattle.amqp_frames.proofs.Headed.{not_opened}
 use Rattle.amqp_frames.specs.declared.frame.FrameBody.TheVariants.{Empty}
 use Rattle.amqp_connection.specs.Connection.{refusal_of}
 use Rattle.amqp_engine.specs.Engine.{NoneReceived}
@@ -13,7 +14,7 @@ returns-in_err-head g c = (
   None,
   [],
   c.args.self.now,
-  inl (subst (λ x. NoneReceived c.args.bytes x) (sym (ap refusal_of (failed c.from_residual.result _ c.from_residual.ensures.1))) c.in_err-head.ensures, refl, ((refl, refl), refl)),
+  inl (subst (λ x. NoneReceived c.args.bytes x) (sym (ap refusal_of (failed c.from_residual.result _ c.from_residual.ensures.1))) (not_opened c.args.bytes _ c.in_err-head.ensures), refl, ((refl, refl), refl)),
   refl,
 )
 
