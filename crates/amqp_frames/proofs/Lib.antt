@@ -4,3 +4,4 @@ pub mod Growth
 pub mod Cutting
 pub mod RoundTripLaws
 pub mod DecodedAgain
+pub mod Rooms

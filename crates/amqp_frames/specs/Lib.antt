@@ -2,6 +2,7 @@ pub mod FrameError
 pub mod Frame
 pub mod Decoding
 pub mod Head
+pub mod Heads
 pub mod Piece
 pub mod ReadBack
 pub mod Cut

@@ -1,8 +1,9 @@
 //! The encoder: a frame as pieces that keep a limit.
 
-ghost use Rattle.std.specs.Prelude.{◌≡◌, ◌≤◌, ◌<◌, ◌+◌, ◌^◌, ℕ, [], ◌∷◌, IfOk, length};
+ghost use Rattle.std.specs.Prelude.{◌≡◌, ◌≤◌, ◌<◌, ◌+◌, ◌^◌, ℕ, [], ◌∷◌, IfOk, OnOk, length};
 ghost use Rattle.amqp_frames.specs.Frame.{text_of, payload_of};
 ghost use Rattle.amqp_frames.specs.Cut.{Encodes, IsWholePiece, Whole, room_beside};
+ghost use Rattle.amqp_frames.specs.Heads.{CutsHead, CutsOff, RoomAfter};
 ghost use Rattle.amqp_frames.specs.Piece.{piece_bytes};
 ghost use Rattle.amqp_frames.specs.ReadBack.{DecodesTo};
 
@@ -60,14 +61,18 @@ impl FrameEncoder {
         self.encode_in(alloc, &mut OwnRoom(alloc), frame)
     }
 
-    /// As [`FrameEncoder::encode`], with the head of a frame that is one piece cut from the room of many.
+    /// As [`FrameEncoder::encode`], with the head of a frame that is one piece cut from the room of many. A head that fits
+    /// in the room is cut off it; for another one the room is first a block of 4096 bytes or more. A frame that is cut, or too
+    /// large, leaves the room as it was.
+    #[tactic(auto, using(crate::proofs::Rooms::room_after))]
     pub fn encode_from(
         &self,
         alloc: Global,
         heads: &mut Heads,
         frame: &Frame,
     ) -> Result<Vec<Piece>, Error>
-        ensures { Encodes (λ v. v.items) frame.now self.now result }
+        ensures pieces { Encodes (λ v. v.items) frame.now self.now result }
+        ensures room { RoomAfter CutsHead heads.old frame.now self.now result heads.new }
     {
         self.encode_in(alloc, heads, frame)
     }
@@ -86,6 +91,7 @@ impl FrameEncoder {
     }
 
     /// The pieces of the frame, the head of one that is whole in this room.
+    #[tactic(auto, using(crate::proofs::Rooms::room_kept))]
     #[inline(always)]
     fn encode_in<H: HeadRoom>(
         &self,
@@ -93,7 +99,8 @@ impl FrameEncoder {
         heads: &mut H,
         frame: &Frame,
     ) -> Result<Vec<Piece>, Error>
-        ensures { Encodes (λ v. v.items) frame.now self.now result }
+        ensures pieces { Encodes (λ v. v.items) frame.now self.now result }
+        ensures room { RoomAfter (CutsOff H.gives H.keeps) heads.old frame.now self.now result heads.new }
     {
         let limit = self.max_piece_len;
         let len = frame.body.text_len();
@@ -114,7 +121,8 @@ fn whole<H: HeadRoom>(
 ) -> Result<Vec<Piece>, AllocError>
     requires text { len ≡ length (text_of frame.now.body) }
     requires fits { length (text_of frame.now.body) + length (payload_of frame.now.body) + 4 < 2 ^ 32 }
-    ensures { IfOk result (λ v. (p : _) × (v.items ≡ p ∷ []) × IsWholePiece frame.now p × DecodesTo frame.now (piece_bytes p)) }
+    ensures piece { IfOk result (λ v. (p : _) × (v.items ≡ p ∷ []) × IsWholePiece frame.now p × DecodesTo frame.now (piece_bytes p)) }
+    ensures room { OnOk result (CutsOff H.gives H.keeps heads.old (4 + length (text_of frame.now.body)) heads.new) }
 {
     whole_is_read(frame);
     let mut pieces = Vec::with_capacity(alloc, 1)?;

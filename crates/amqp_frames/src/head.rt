@@ -1,9 +1,10 @@
 //! Heads of pieces: header and performative, each written into one buffer of a size known beforehand.
 
-ghost use Rattle.std.specs.Prelude.{◌≡◌, ◌≤◌, ◌<◌, ◌+◌, ◌^◌, ◌++◌, IfOk, length};
+ghost use Rattle.std.specs.Prelude.{◌≡◌, ◌≤◌, ◌<◌, ◌+◌, ◌^◌, ◌++◌, IfOk, OnOk, length};
 ghost use Rattle.amqp_types.specs.Transfer.{said_in};
 ghost use Rattle.amqp_frames.specs.Frame.{header_text, text_of};
 ghost use Rattle.amqp_frames.specs.Cut.{transfer_text};
+ghost use Rattle.amqp_frames.specs.Heads.{CutsOff};
 
 use crate::frame::FrameBody;
 use crate::heads::{HeadRoom, OwnRoom};
@@ -15,7 +16,8 @@ use std::alloc::{AllocError, Global};
 #[inline(always)]
 fn header<H: HeadRoom>(heads: &mut H, channel: u16, len: usize) -> Result<BytesMut, AllocError>
     requires { len < 2 ^ 32 }
-    ensures { IfOk result (λ b. (b.items ≡ header_text channel) × (len ≤ b.spare)) }
+    ensures header { IfOk result (λ b. (b.items ≡ header_text channel) × (len ≤ b.spare)) }
+    ensures room { IfOk result (λ b. H.gives heads.old (4 + len) (b.spare + 4)) }
 {
     let mut out = heads.take(4 + len)?;
     out.extend_reserved(&[2, 0]);
@@ -24,6 +26,7 @@ fn header<H: HeadRoom>(heads: &mut H, channel: u16, len: usize) -> Result<BytesM
 }
 
 /// The head of a frame that is whole, whose text has this length.
+#[tactic(auto, using(crate::proofs::Rooms::head_cut))]
 pub(crate) fn whole_head<H: HeadRoom>(
     heads: &mut H,
     channel: u16,
@@ -32,7 +35,8 @@ pub(crate) fn whole_head<H: HeadRoom>(
 ) -> Result<BytesMut, AllocError>
     requires text { len ≡ length (text_of body.now) }
     requires fits { length (text_of body.now) < 2 ^ 32 }
-    ensures { IfOk result (λ b. b.items ≡ header_text channel ++ text_of body.now) }
+    ensures head { IfOk result (λ b. b.items ≡ header_text channel ++ text_of body.now) }
+    ensures room { OnOk result (CutsOff H.gives H.keeps heads.old (4 + length (text_of body.now)) heads.new) }
 {
     let mut out = header(heads, channel, len)?;
     body.put_text(len, &mut out);

@@ -1,6 +1,7 @@
 //! Room for the heads of many frames.
 
-ghost use Rattle.std.specs.Prelude.{◌≡◌, ◌≤◌, [], IfOk};
+ghost use Rattle.std.specs.Prelude.{◌≡◌, ◌≤◌, ℕ, [], IfOk, OnOk};
+ghost use Rattle.amqp_frames.specs.Heads.{GivesRoom};
 
 use bytes::BytesMut;
 use std::alloc::{AllocError, Global};
@@ -15,13 +16,21 @@ const MOST: usize = 32768;
 
 /// Where an encoder writes the head of a frame.
 pub(crate) trait HeadRoom {
+    /// The room that is given for a head of so many bytes.
+    ghost gives: { Self → ℕ → ℕ → Type 0 };
+
+    /// What is kept of the room behind a head.
+    ghost keeps: { ℕ → Self → Type 0 };
+
     /// An empty buffer with room for `len` bytes.
     fn take(&mut self, len: usize) -> Result<BytesMut, AllocError>
-        ensures { IfOk result (λ b. (b.items ≡ []) × (len ≤ b.spare)) };
+        ensures empty { IfOk result (λ b. (b.items ≡ []) × (len ≤ b.spare)) }
+        ensures room { IfOk result (λ b. gives self.old len b.spare) };
 
     /// The head that stands in the buffer.
     fn cut(&mut self, written: BytesMut) -> Result<BytesMut, AllocError>
-        ensures { IfOk result (λ b. b.items ≡ written.items) };
+        ensures head { IfOk result (λ b. b.items ≡ written.items) }
+        ensures room { OnOk result (keeps written.spare self.new) };
 }
 
 /// Each head has a buffer of its own.
@@ -29,6 +38,10 @@ pub(crate) trait HeadRoom {
 pub(crate) struct OwnRoom(pub(crate) Global);
 
 impl HeadRoom for OwnRoom {
+    ghost gives = { λ before len room. Unit {0} };
+
+    ghost keeps = { λ room after. Unit {0} };
+
     #[inline(always)]
     fn take(&mut self, len: usize) -> Result<BytesMut, AllocError> {
         BytesMut::with_capacity(self.0, len)
@@ -60,7 +73,7 @@ impl Model for Heads {
 
     ghost view = { λ h. h.room.spare };
 
-    ghost invariant = { λ h. (h.next ≤ 32768) × (h.room.items ≡ []) × (h.before.items ≡ []) };
+    ghost invariant = { λ h. (4096 ≤ h.next) × (h.next ≤ 32768) × (h.room.items ≡ []) × (h.before.items ≡ []) };
 }
 
 impl Heads {
@@ -76,11 +89,11 @@ impl Heads {
         }
     }
 
-    /// Another block, with room for `len` bytes: the one before, where none of its heads is left.
+    /// Another block, with room for `len` bytes and for 4096: the one before, where none of its heads is left.
     #[inline(never)]
     fn next_block(&mut self, used: BytesMut, len: usize) -> Result<BytesMut, AllocError>
         requires { used.items ≡ [] }
-        ensures { IfOk result (λ b. (b.items ≡ []) × (len ≤ b.spare)) }
+        ensures { IfOk result (λ b. (b.items ≡ []) × (len ≤ b.spare) × (4096 ≤ b.spare)) }
     {
         let size = len.max(self.next);
         self.next = (2 * self.next).min(MOST);
@@ -94,6 +107,10 @@ impl Heads {
 }
 
 impl HeadRoom for Heads {
+    ghost gives = { GivesRoom };
+
+    ghost keeps = { λ room after. after ≡ room };
+
     #[inline(always)]
     fn take(&mut self, len: usize) -> Result<BytesMut, AllocError> {
         let room = mem::replace(&mut self.room, BytesMut::new(self.alloc));

@@ -35,7 +35,8 @@ impl FrameBody {
         requires len_is { len ≡ length (text_of self.now) }
         requires room { length (text_of self.now) ≤ out.old.spare }
         requires fits { length (text_of self.now) < 2 ^ 32 }
-        ensures { out.new.items ≡ out.old.items ++ text_of self.now }
+        ensures items { out.new.items ≡ out.old.items ++ text_of self.now }
+        ensures spare { out.new.spare + length (text_of self.now) ≡ out.old.spare }
     {
         match self {
             FrameBody::Attach(p) => p.put(len, out),

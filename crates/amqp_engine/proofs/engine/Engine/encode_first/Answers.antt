@@ -4,4 +4,4 @@ use Rattle.amqp_engine.proofs.engine.Engine.encode_first.Goals as goal
 pub returns : goal.returns
 returns g c =
     let is = rw c.unwrap-frame.ensures at c.first.ensures.first in
-    rw (← c.self.view_is) (c.unwrap-frame.result.now, is, c.encode_from.ensures, refl)
+    rw (← c.self.view_is) (c.unwrap-frame.result.now, is, c.encode_from.ensures.pieces, refl)
