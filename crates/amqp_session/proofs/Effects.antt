@@ -27,7 +27,7 @@ use Rattle.amqp_session.specs.Session.{SessionView, flow_frame, lets, let_gone}
 use Rattle.amqp_types.specs.Disposition.{DispositionSaid}
 use Rattle.amqp_types.specs.declared.definitions.Role.TheVariants.{Sender, Receiver}
 use Rattle.amqp_session.specs.Deliveries.{with_record, RecordFits, OpenView}
-use Rattle.amqp_session.specs.Disposing.{widened, num_messages, rows_of, meant, AsksAt, AsksEach, HasAsked}
+use Rattle.amqp_session.specs.Disposing.{widened, num_messages, rows_of, meant, AsksAt, AsksEach, SaysStateAgain, HasAsked}
 use Rattle.amqp_session.proofs.Keeping.{keeps, role_keeps}
 use Rattle.amqp_session.specs.Step.{BeginFits, begun_by, has_error, FlowFits, FlowGoes, named_delivery, waits, flow_base, flow_moved, counted_by, asked_at, FlowAnswered, FlowUnasked, FlowTaken, TransferAnswered, TransferUnasked}
 use Rattle.amqp_session.specs.Linking.{AttachAnswered, Attaches}
@@ -321,9 +321,9 @@ module _ {R : Type 0} (g : Relays R) where
     handles_are = λ k. ap (λ m. map.get m k) links ∙ places k (map.get v.links.handles k);
   }
 
-  refused_does : (v w : SessionView R) (d : DispositionSaid) (asked : List (DispositionQuestion R)) → ((asked ≡ []) × (w ≡ v)) ⊎ HasAsked g.disposition_gives v d asked w → Does v (TakesDisposition d asked (Err Refused.OutOfMemory)) w
+  refused_does : (v w : SessionView R) (d : DispositionSaid) (asked : List (DispositionQuestion R)) → ((asked ≡ []) × (w ≡ v)) ⊎ (SaysStateAgain d asked × HasAsked g.disposition_gives v d asked w) → Does v (TakesDisposition d asked (Err Refused.OutOfMemory)) w
   refused_does v w d asked (inl s) = unmoved v w _ s.1 refl refl refl refl refl tt tt (λ k o. refl)
-  refused_does v w d asked (inr s) = asked_does v w w.links v.deliveries _ s.1 (asks_keep g.disposition_gives d (meant d (rows_of d v)) asked v.links w.links s.0) refl refl refl refl refl tt tt (λ k o. refl)
+  refused_does v w d asked (inr s) = asked_does v w w.links v.deliveries _ s.1.1 (asks_keep g.disposition_gives d (meant d (rows_of d v)) asked v.links w.links s.1.0) refl refl refl refl refl tt tt (λ k o. refl)
 
   pub does : (v w : SessionView R) (e : Entry R) → Step g v e w → Does v e w
   does v w (SendsBegin (Ok f)) s = says v _ w _ f _ s.2 s.1 refl refl refl refl refl (in_state (rest v) w.state (sends_begin v.state) s.0) refl refl tt tt (λ k o. refl)

@@ -277,6 +277,6 @@ module _ {R : Type 0} (g : Relays R) where
   links_by v w (TakesDisposition d asked (Err Refused.OutOfMemory)) a s =
       disposes v.links w.links d asked _ a (elim s.2 [
         | inl x ↦ rw (x.0) record { names = ap (λ (y : SessionView R). y.links.names) x.1; handles = ap (λ (y : SessionView R). y.links.handles) x.1; inputs = λ h. ap (λ (y : SessionView R). map.get y.links.inputs h) x.1 }
-        | inr x ↦ go_each d _ asked v.links w.links x.0
+        | inr x ↦ go_each d _ asked v.links w.links x.1.0
       ])
   links_by v w e a s = absurd s

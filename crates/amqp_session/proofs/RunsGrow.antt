@@ -204,3 +204,14 @@ module _ (first n : ℕ) (hf : first < 2 ^ 32) (hn : n < 2 ^ 32) where
       by : (b : Bool) → EndBefore first (distance first n + 1) (cond b (longer n runs) (runs ++ record { first = n; last = n } ∷ []))
       by true = longer_ends runs e
       by false = more_ends runs e
+
+-- where there is a run, there is a number
+pub some_number : (first : ℕ) (numbers : List ℕ) (runs : List Run) → AreRuns first numbers runs → 0 < length runs → 0 < length numbers
+some_number first numbers [] a h = absurd (omega (arith, h))
+some_number first (n ∷ ns) (r ∷ rs) a h = omega arith
+some_number first [] (r ∷ rs) a h =
+    let begins : nat_le (distance first r.first) (distance first r.first) ≡ true = grind (arith, nat_tests, common_steps) in
+    let ends : nat_le (distance first r.first) (distance first r.last) ≡ true = let e = a.apart.2 in grind (arith, nat_tests, common_steps) in
+    let inside : is_in first r.first r ≡ true = rw (begins, ends) refl in
+    let none : list_any (is_in first r.first) (r ∷ rs) ≡ false = a.hold r.first a.apart.0 in
+    absurd (let both = sym (ap (λ b. b || list_any (is_in first r.first) rs) inside) ∙ none in cc)

@@ -1,7 +1,7 @@
 -- What a disposition means, asks and answers (AMQP 1.0 part 2, sections 2.6.12 and 2.7.6). Delivery numbers are serial numbers
 -- (section 2.8.10).
 use Rattle.std.specs.Prelude.{◌≡◌, ◌<◌, ◌≤◌, ◌+◌, ◌-◌, ◌*◌, ◌%◌, ◌^◌, ◌&&◌, ◌⊎◌, ◌↔◌, IsTrue, ℕ, Bool, true, false, not, if◌then◌else◌}
-use Rattle.std.specs.Prelude.{nat_lt, nat_le, nat_eq, List, [], ◌∷◌, ◌++◌, length, map, Option, Some, None, Result, Ok, Err, OnOk}
+use Rattle.std.specs.Prelude.{nat_lt, nat_le, nat_eq, List, [], ◌∷◌, ◌++◌, length, map, Option, Some, None, IsSome, Result, Ok, Err, OnOk}
 use Rattle.std.specs.Prelude.{unwrap_or, min}
 use Rattle.std.specs.List.{filter, list_any}
 use Rattle.amqp_values.specs.Outcome.{IsTerminal}
@@ -131,8 +131,12 @@ abbrev pub HasAsked : {R : Type 0} → DispositionGives R → SessionView R → 
     SessionView R → Type 0
 HasAsked gives v d asked w = AsksEach gives d (meant d (rows_of d v)) asked v.links w.links × (w ≡ record v { links = w.links })
 
+-- each echo says the state again: there is a state, and a relay asked for an echo
+abbrev pub SaysStateAgain : {R : Type 0} → DispositionSaid → List (DispositionQuestion R) → Type 0
+SaysStateAgain d asked = IsSome d.state × (0 < length (agreed asked))
+
 -- A settled one takes the records that it means away, and never fails. An unsettled one leaves them open and is answered by the
--- echoes; memory may be refused for a forward one: before any relay is asked, or after all were.
+-- echoes; memory may be refused for a forward one: before any relay is asked, or after all were, for the state of an echo alone.
 abbrev pub TakeDispositionStep : {R : Type 0} → DispositionGives R → SessionView R → DispositionSaid → List (DispositionQuestion R) →
     Result (Option (List DispositionSaid)) SessionInnerError → SessionView R → Type 0
 TakeDispositionStep gives v d asked (Ok None) w =
@@ -140,7 +144,7 @@ TakeDispositionStep gives v d asked (Ok None) w =
     × (w ≡ record v { links = w.links; deliveries = with_role d.role (not_meant d (rows_of d v)) v.deliveries })
 TakeDispositionStep gives v d asked (Ok (Some echoes)) w = (d.settled ≡ false) × HasAsked gives v d asked w × Echoes d (agreed asked) echoes
 TakeDispositionStep gives v d asked (Err Refused.OutOfMemory) w =
-    (d.settled ≡ false) × (is_forward d.first d.last ≡ true) × (((asked ≡ []) × (w ≡ v)) ⊎ HasAsked gives v d asked w)
+    (d.settled ≡ false) × (is_forward d.first d.last ≡ true) × (((asked ≡ []) × (w ≡ v)) ⊎ (SaysStateAgain d asked × HasAsked gives v d asked w))
 TakeDispositionStep gives v d asked (Err e) w = ⊥
 
 -- how much of a role's records the call may have read: a turn for each one meant and one more, and as many numbers as the length

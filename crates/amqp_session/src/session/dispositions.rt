@@ -1,12 +1,12 @@
 //! Dispositions of a session's open deliveries (AMQP 1.0 part 2, sections 2.6.12 and 2.7.6).
 
-ghost use Rattle.std.specs.Prelude.{◌≡◌, ◌≤◌, ◌<◌, ◌+◌, ◌*◌, ◌^◌, ◌⊎◌, ℕ, List, [], Bool, true, false, Some, None, Result, if◌then◌else◌, length, map, OnOk, OnErr, IfOk, IsTrue, ◌↔◌};
+ghost use Rattle.std.specs.Prelude.{◌≡◌, ◌≤◌, ◌<◌, ◌+◌, ◌*◌, ◌^◌, ◌⊎◌, ℕ, List, [], Bool, true, false, Some, None, Result, if◌then◌else◌, length, map, OnOk, OnErr, IfOk, IsSome, IsTrue, ◌↔◌, vec_capacity};
 ghost use Rattle.std.specs.Option.{option_map};
 ghost use Rattle.std.specs.Result.{result_map_both};
 ghost use Rattle.amqp_session.specs.Deliveries.{nothing_read, with_role};
 ghost use Rattle.amqp_session.specs.Relay.{DispositionQuestion};
 ghost use Rattle.amqp_session.specs.Walks.{IsWalked};
-ghost use Rattle.amqp_session.specs.Disposing.{span, is_forward, num_messages, meant, not_meant, agreed, AsksEach, AreRuns, Echoes, echo_of, rows_of, IsBounded, HasTerminal, TakeDispositionStep, SendDispositionStep};
+ghost use Rattle.amqp_session.specs.Disposing.{span, is_forward, num_messages, meant, not_meant, agreed, AsksEach, AreRuns, SaysStateAgain, Echoes, echo_of, rows_of, IsBounded, HasTerminal, TakeDispositionStep, SendDispositionStep};
 
 use super::Session;
 use super::runs::Run;
@@ -49,7 +49,7 @@ impl<R: LinkRelay> Session<R> {
     /// answer is one settled disposition for each run of numbers without gaps whose relays asked for it.
     ///
     /// `OutOfMemory` where an unsettled one over a forward range is refused memory: before any relay is asked, or after all were,
-    /// where a state cannot be shared. The deliveries stay open then.
+    /// where a relay asked for an echo and its state cannot be shared. The deliveries stay open then.
     #[inline(always)]
     pub fn on_incoming_disposition(
         &mut self,
@@ -135,7 +135,7 @@ impl<R: LinkRelay> Session<R> {
             (meant said.now (rows_of said.now self.old.view)) asked self.old.view.links self.new.view.links
             × Echoes said.now (agreed asked) echoes.items) }
         ensures refused { OnErr result ((self.new.view.links ≡ self.old.view.links)
-            ⊎ ((asked : List (DispositionQuestion R))
+            ⊎ ((asked : List (DispositionQuestion R)) × SaysStateAgain said.now asked
             × AsksEach R.gives.disposition_gives said.now
             (meant said.now (rows_of said.now self.old.view)) asked self.old.view.links self.new.view.links)) }
         ensures view { self.new.view ≡ record self.old.view { links = self.new.view.links } }
@@ -182,7 +182,8 @@ fn settle<R: LinkRelay>(
     rows.remove(from, count);
 }
 
-/// Asks the relays of an unsettled disposition over a forward range, and gives the echoes. Room for them is taken before.
+/// Asks the relays of an unsettled disposition over a forward range, and gives the echoes. Room for them is taken before: what
+/// may be refused after it is the state, where an echo says it again.
 fn ask<R: LinkRelay>(
     alloc: Global,
     links: &mut Links<R>,
@@ -197,7 +198,7 @@ fn ask<R: LinkRelay>(
         × AsksEach R.gives.disposition_gives said.now (meant said.now rows.now.rows) asked links.old links.new
         × Echoes said.now (agreed asked) echoes.items) }
     ensures refused { OnErr result ((links.new ≡ links.old)
-        ⊎ ((asked : List (DispositionQuestion R))
+        ⊎ ((asked : List (DispositionQuestion R)) × SaysStateAgain said.now asked
         × AsksEach R.gives.disposition_gives said.now (meant said.now rows.now.rows) asked links.old links.new)) }
     ensures walk { (went : Bool) × (OnOk result (went ≡ true)) × IsWalked said.now rows.now.rows went walk.new }
 {
@@ -210,33 +211,36 @@ fn ask<R: LinkRelay>(
     echo_all(&runs, &said.state, echoes)
 }
 
-/// The echoes of these runs, each with the state. Their room is there, unless it is refused.
+/// The echoes of these runs, each with the state. Their room was made before.
 fn echo_all(
     runs: &[Run],
     state: &Option<Raw>,
     room: Vec<Disposition>,
 ) -> Result<Vec<Disposition>, AllocError>
-    requires { room.items ≡ [] }
-    ensures { IfOk result (λ echoes. echoes.items ≡ map (echo_of state.now) runs.now) }
+    requires empty { room.items ≡ [] }
+    requires room { length runs.now ≤ vec_capacity room }
+    ensures echoes { IfOk result (λ echoes. echoes.items ≡ map (echo_of state.now) runs.now) }
+    ensures refused { OnErr result (IsSome state.now × (0 < length runs.now)) }
 {
     let mut echoes = room;
     for i in 0..runs.len() {
         let run = runs[i];
-        echoes.push(Disposition {
+        echoes.push_reserved(Disposition {
             role: Role::Sender,
             first: run.first,
             last: Some(run.last),
             settled: true,
             state: cut_of(state)?,
             batchable: false,
-        })?;
+        });
     }
     Ok(echoes)
 }
 
 /// Another cut of the same state: its bytes are shared.
 fn cut_of(state: &Option<Raw>) -> Result<Option<Raw>, AllocError>
-    ensures { IfOk result (λ s. s ≡ state.now) }
+    ensures cut { IfOk result (λ s. s ≡ state.now) }
+    ensures refused { OnErr result (IsSome state.now) }
 {
     match state {
         None => Ok(None),

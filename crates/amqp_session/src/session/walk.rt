@@ -60,6 +60,7 @@ pub(super) fn ask_each<R: LinkRelay>(
     ensures asked { (asked : List (DispositionQuestion R))
         × AsksEach R.gives.disposition_gives said.now (take result (turned from rows.now.rows)) asked links.old links.new
         × AreRuns said.now.first (noted said.now.settled asked) runs.new.items }
+    ensures room { vec_capacity runs.new ≡ vec_capacity runs.old }
     ensures most { walk.new.turns ≤ result + 1 }
     ensures least { result ≤ walk.new.turns }
     ensures search { walk.new.comparisons ≡ walk.old.comparisons }

@@ -111,3 +111,9 @@ returns-clause-least g c = omega (arith, c.loop-count.invariant.turns, c.loop-co
 
 pub returns-clause-search : goal.returns-clause-search
 returns-clause-search g c = c.loop-count.invariant.comparisons
+
+pub returns-then-span-number-clause-room : goal.returns-then-span-number-clause-room
+returns-then-span-number-clause-room g c = c.loop-count.invariant.room
+
+pub returns-clause-room : goal.returns-clause-room
+returns-clause-room g c = c.loop-count.invariant.room
