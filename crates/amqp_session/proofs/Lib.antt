@@ -1,3 +1,4 @@
+pub mod Absent
 pub mod Alone
 pub mod AsMap
 pub mod Asking

@@ -54,7 +54,7 @@ module _ {R : Type 0} (g : Relays R) where
   begin_did : (v w : SessionView R) (going going' : List SessionFrame) (result : Said) → BeginAt g v going result w going' →
       Did g v [] going w going'
   begin_did v w going going' result s = elim s [
-    | inl no_room ↦ nothing v w going going' no_room.1.0 no_room.1.1
+    | inl no_room ↦ nothing v w going going' no_room.1.1.0 no_room.1.1.1
     | inr sent ↦ one (SendsBegin sent.frame) v w going going' sent.makes
   ]
 
@@ -68,7 +68,7 @@ module _ {R : Type 0} (g : Relays R) where
   transfer_did : (h : RequestedTransfer) (v w : SessionView R) (going going' : List SessionFrame) (result : Said) →
       TransferAt g h v going result w going' → Did g v [] going w going'
   transfer_did h v w going going' result s = elim s [
-    | inl no_room ↦ nothing v w going going' no_room.1.1.0 no_room.1.1.1
+    | inl no_room ↦ nothing v w going going' no_room.2.1.0 no_room.2.1.1
     | inr sent ↦ one (SendsTransfer h sent.item) v w going going' sent.makes
   ]
 

@@ -222,7 +222,7 @@ module _ {R : Type 0} (g : Relays R) where
       (result : Result (Unit {0}) SessionInnerError) → Tallies (core a) b coming going → BeginAt g a going result w going' →
       Tallies (core w) b coming going'
   begin_step a w b coming going going' result st s = elim s [
-    | inl no_room ↦ stays a w b coming going going' st no_room.1.0 no_room.1.1
+    | inl no_room ↦ stays a w b coming going going' st no_room.1.1.0 no_room.1.1.1
     | inr sent ↦ begin_by a w b coming going going' sent.frame st sent.makes
   ]
 
@@ -263,6 +263,6 @@ module _ {R : Type 0} (g : Relays R) where
       (result : Result (Unit {0}) SessionInnerError) → Tallies (core a) b coming going →
       TransferAt g h a going result w going' → Tallies (core w) b coming going'
   transfer_step a w b h coming going going' result st s = elim s [
-    | inl no_room ↦ stays a w b coming going going' st no_room.1.1.0 no_room.1.1.1
+    | inl no_room ↦ stays a w b coming going going' st no_room.2.1.0 no_room.2.1.1
     | inr sent ↦ transfer_by a w b h coming going going' sent.item st sent.makes
   ]

@@ -1,7 +1,7 @@
 -- Two sessions, one at each end, with the frames on the way to each; and what a call of such a pair does (AMQP 1.0 part 2,
 -- sections 2.5 and 2.5.6).
 use Rattle.std.specs.Prelude.{◌≡◌, ◌≤◌, ◌+◌, ◌-◌, ◌⊎◌, ℕ, true, false, List, [], ◌∷◌, ◌++◌, length}
-use Rattle.std.specs.Prelude.{Option, None, Result, Ok, Err}
+use Rattle.std.specs.Prelude.{Option, None, IsSome, Result, Ok, Err}
 use Rattle.amqp_types.specs.Attach.{AttachSaid}
 use Rattle.amqp_types.specs.Begin.{BeginSaid}
 use Rattle.amqp_types.specs.Flow.{FlowSaid}
@@ -22,7 +22,8 @@ use Rattle.amqp_session.specs.declared.pair.Side.{Side}
 use Rattle.amqp_session.specs.declared.pair.Side.TheVariants.{A, B}
 use Rattle.amqp_session.specs.Errors.{inner_of_state}
 use Rattle.amqp_session.specs.Settings.{SettingsSaid}
-use Rattle.amqp_session.specs.States.{is_mapped}
+use Rattle.amqp_session.specs.States.{is_mapped, sends_begin}
+use Rattle.amqp_session.specs.Step.{IsUntagged}
 use Rattle.amqp_session.specs.Serial.{past}
 use Rattle.amqp_session.specs.Transfers.{RequestedTransfer}
 use Rattle.amqp_session.specs.Relay.{Relays, AttachQuestion, FlowQuestion, TransferQuestion}
@@ -95,8 +96,10 @@ pub record BeginIsSent {R : Type 0} (g : Relays R) (v : SessionView R) (going : 
   pub makes : Makes g v going (SendsBegin frame) w going'
   pub says : result ≡ answer_of_state frame
 
+-- where the state refuses it, memory has no say
 abbrev pub BeginAt : {R : Type 0} → Relays R → Effect R
-BeginAt g v going result w going' = HasNoRoom v going result w going' ⊎ BeginIsSent g v going result w going'
+BeginAt g v going result w going' =
+    (IsSome (sends_begin v.state) × HasNoRoom v going result w going') ⊎ BeginIsSent g v going result w going'
 
 -- A frame of a link is sent by this call: in Mapped alone.
 abbrev pub FrameAt : {R : Type 0} → Relays R → Entry R → Effect R
@@ -112,10 +115,10 @@ pub record TransferIsSent {R : Type 0} (g : Relays R) (h : RequestedTransfer) (v
   pub makes : Makes g v going (SendsTransfer h item) w going'
   pub says : result ≡ answer_of item
 
--- outside Mapped it is refused by the session
+-- outside Mapped, and as an untagged first, it is refused by the session, whatever the memory
 abbrev pub TransferAt : {R : Type 0} → Relays R → RequestedTransfer → Effect R
 TransferAt g h v going result w going' =
-    ((is_mapped v.state ≡ true) × HasNoRoom v going result w going') ⊎ TransferIsSent g h v going result w going'
+    ((is_mapped v.state ≡ true) × ¬ (IsUntagged h) × HasNoRoom v going result w going') ⊎ TransferIsSent g h v going result w going'
 
 -- ---- what a session does with the first frame on the way to it
 

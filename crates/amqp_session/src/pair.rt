@@ -113,8 +113,8 @@ impl<R: LinkRelay> SessionPair<R> {
 
     /// A side sends its Begin, which is then on the way to the other.
     ///
-    /// `IllegalState` in any state of the session but `Unmapped` and `BeginReceived`. `OutOfMemory` where memory is refused.
-    /// Nothing changes then.
+    /// `IllegalState` in any state of the session but `Unmapped` and `BeginReceived`, whatever the memory. Else `OutOfMemory`
+    /// where memory is refused. Nothing changes then.
     pub fn begin(&mut self, side: Side) -> Result<(), SessionInnerError>
         ensures step { BeginStep R.gives side result self.old self.new }
         ensures holds { PairHolds self.new }
@@ -154,8 +154,8 @@ impl<R: LinkRelay> SessionPair<R> {
     /// A side takes a transfer for the link of an input handle, as [`Session::on_outgoing_transfer`] does: what its session then
     /// hands out is on the way to the other.
     ///
-    /// `IllegalState` outside `Mapped`, and where the first transfer of a delivery has no tag. `OutOfMemory` where memory is
-    /// refused. Nothing changes then.
+    /// `IllegalState` outside `Mapped`, and where the first transfer of a delivery has no tag, whatever the memory. Else
+    /// `OutOfMemory` where memory is refused. Nothing changes then.
     pub fn send_transfer(
         &mut self,
         side: Side,

@@ -50,6 +50,9 @@ pub(super) fn begin_at<R: LinkRelay>(
 ) -> Result<(), SessionInnerError>
     ensures { BeginAt R.gives me.old.view going.old.items result me.new.view going.new.items }
 {
+    if !me.can_begin() {
+        return Err(SessionInnerError::IllegalState);
+    }
     let Ok(()) = going.reserve(1) else {
         return Err(SessionInnerError::OutOfMemory);
     };
@@ -116,6 +119,10 @@ pub(super) fn transfer_at<R: LinkRelay>(
         me.old.view going.old.items result me.new.view going.new.items }
 {
     if !me.can_send() {
+        drop(transfer);
+        return Err(SessionInnerError::IllegalState);
+    }
+    if is_first && transfer.delivery_tag.is_none() {
         drop(transfer);
         return Err(SessionInnerError::IllegalState);
     }

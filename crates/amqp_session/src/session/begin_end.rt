@@ -1,6 +1,6 @@
 //! How a session begins and ends (AMQP 1.0 part 2, sections 2.5.1 to 2.5.5).
 
-ghost use Rattle.std.specs.Prelude.{◌≡◌};
+ghost use Rattle.std.specs.Prelude.{◌≡◌, is_some};
 ghost use Rattle.std.specs.Option.{option_map};
 ghost use Rattle.amqp_session.specs.States.{sends_begin, takes_begin, sends_end, takes_end, answers_end};
 ghost use Rattle.amqp_session.specs.Step.{SendBeginStep, SendEndStep, TakeBeginStep, TakeEndStep, has_error};
@@ -77,6 +77,14 @@ fn is_answer(state: SessionState) -> bool
 }
 
 impl<R: LinkRelay> Session<R> {
+    /// Whether the state lets a Begin go out.
+    #[inline(always)]
+    pub(crate) fn can_begin(&self) -> bool
+        ensures { result ≡ is_some (sends_begin self.now.view.state) }
+    {
+        after_sent_begin(self.state).is_some()
+    }
+
     /// Begins the session, or answers the peer's Begin: the frame names the settings, the number of the next transfer, and
     /// the channel of the peer's Begin, if it came.
     ///

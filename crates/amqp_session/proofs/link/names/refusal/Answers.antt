@@ -1,13 +1,10 @@
-use Rattle.std.proofs.Common.{◌≡◌, Option, Some, None, is_some, false, refl, sym, subst, ◌∙◌}
+use Rattle.std.proofs.Common.{Option, sym, subst, ◌∙◌}
 use Rattle.amqp_session.specs.declared.link.Named.{Named}
 use Rattle.amqp_session.specs.declared.error.SessionInnerError.TheVariants as Refused
 use Rattle.amqp_session.specs.Linking.{AttachRefused, IsWaited}
+use Rattle.amqp_session.proofs.Absent.{none_there}
 use Rattle.amqp_session.proofs.AsMap.{text_at}
 use Rattle.amqp_session.proofs.link.names.refusal.Goals as goal
-
-none_waits : {R : Type 0} → (o : Option R) → is_some o ≡ false → o ≡ None
-none_waits None h = refl
-none_waits (Some r) h = absurd (cc)
 
 pub returns-in-None-clause-some : goal.returns-in-None-clause-some
 returns-in-None-clause-some g c = subst (λ (o : Option (Named _)). AttachRefused o Refused.RemoteAttachingLinkNameNotFound) (c.in-None.ensures.value ∙ sym (text_at c.args.names.now.entries c.args.name.now)) tt
@@ -18,4 +15,4 @@ returns-then-is_waited-clause-none g c =
 
 pub returns-else-is_waited-clause-some : goal.returns-else-is_waited-clause-some
 returns-else-is_waited-clause-some g c =
-    subst (λ (o : Option (Named _)). AttachRefused o Refused.HandleInUse) (c.in-Some.ensures.value ∙ sym (text_at c.args.names.now.entries c.args.name.now)) (none_waits _ (sym c.is_waited.ensures ∙ c.if-is_waited.false))
+    subst (λ (o : Option (Named _)). AttachRefused o Refused.HandleInUse) (c.in-Some.ensures.value ∙ sym (text_at c.args.names.now.entries c.args.name.now)) (none_there _ (sym c.is_waited.ensures ∙ c.if-is_waited.false))
