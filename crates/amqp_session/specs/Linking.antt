@@ -40,6 +40,15 @@ live_name (Some place) = place
 abbrev pub name_at : {R : Type 0} → ℕ → LinksView R → Option (List ℕ)
 name_at h l = live_name (map.get l.handles h)
 
+-- the live link of this name, if one is given
+abbrev pub named_so : {R : Type 0} → Option (List ℕ) → LinksView R → Option (Named R)
+named_so None l = None
+named_so (Some name) l = named_at name l
+
+-- the live link of a handle, with the relay that waits, if any
+abbrev pub link_at : {R : Type 0} → ℕ → LinksView R → Option (Named R)
+link_at h l = named_so (name_at h l) l
+
 -- whether the peer's answer to the detach of a handle's last link is awaited
 abbrev pub is_awaited : Option (Option (List ℕ)) → Bool
 is_awaited None = false

@@ -7,6 +7,7 @@ ghost use Rattle.amqp_session.specs.Disposing.{AsksAt, has_agreed};
 
 pub mod handles;
 mod inputs;
+pub(crate) mod leaving;
 mod live;
 mod names;
 

@@ -18,16 +18,18 @@ use amqp_types::{DeliveryNumber, DeliveryTag, Disposition, Transfer};
 use bytes::Bytes;
 use indexmap::IndexMap;
 
-/// A relay is put under a handle. Its room was made before.
+/// A relay is put under a handle, and the one that stood there is handed back. Its room was made before.
 pub(super) fn put<R: Drop>(
     inputs: &mut IndexMap<u32, Attached<R>>,
     input: InputHandle,
     link: Attached<R>,
-)
+) -> Option<Attached<R>>
     requires { 0 < spare inputs.old }
-    ensures { inputs_of inputs.new.entries ≡ map.insert (inputs_of inputs.old.entries) input.0 link }
+    ensures put { inputs_of inputs.new.entries ≡ map.insert (inputs_of inputs.old.entries) input.0 link }
+    ensures left { result ≡ map.get (inputs_of inputs.old.entries) input.0 }
 {
-    inputs.insert(input.0, link).unwrap();
+    let left = inputs.insert(input.0, link).unwrap();
+    left
 }
 
 /// The relay under a handle is taken away.

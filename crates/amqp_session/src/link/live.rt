@@ -1,12 +1,13 @@
 //! The calls of a session for its links: allotment, release, attach and detach.
 
-ghost use Rattle.std.specs.Prelude.{◌≡◌, ◌<◌, ◌^◌, Option, None, IfOk, IfErr, if◌then◌else◌, option_map, string_bytes};
+ghost use Rattle.std.specs.Prelude.{◌≡◌, ◌<◌, ◌^◌, Option, Some, None, IfOk, IfErr, OnOk, OnErr, if◌then◌else◌, option_map, string_bytes};
 ghost use Rattle.std.specs.FinMap as map;
-ghost use Rattle.amqp_session.specs.Links.{put_at};
-ghost use Rattle.amqp_session.specs.Linking.{named_at, linked, IsFull, Releases, Leaves, Attaches, Detaches, awaits};
+ghost use Rattle.amqp_session.specs.Links.{put_at, attached_at};
+ghost use Rattle.amqp_session.specs.Linking.{named_at, link_at, linked, IsFull, Releases, Leaves, Attaches, Detaches, awaits};
 ghost use Rattle.amqp_session.specs.Relay.{AttachQuestion, DetachQuestion};
 
 use super::handles::{self, Place};
+use super::leaving::Leaving;
 use super::{Attached, Links, Named, inputs, names};
 use crate::error::{AllocLinkError, SessionInnerError};
 use crate::numbers::{InputHandle, OutputHandle};
@@ -21,92 +22,106 @@ impl<R: LinkRelay> Links<R> {
         names::handle_of(&self.names, name)
     }
 
-    /// Allots an output handle for a link of this name, whose relay, if any, waits for the peer's attach.
+    /// Allots an output handle for a link of this name, which no live link has. Its relay, if any, waits for the peer's attach,
+    /// or is left where the allotment is refused.
     pub(crate) fn allot(
         &mut self,
         name: String,
         waiting: Option<R>,
-    ) -> Result<OutputHandle, AllocLinkError>
-        ensures free { IfOk result (λ h. map.get self.old.handles h.0 ≡ None) }
-        ensures fits { IfOk result (λ h. h.0 < 2 ^ 32) }
-        ensures ok { IfOk result (λ h. self.new ≡ linked (string_bytes name) h waiting self.old) }
-        ensures full { IfErr result (λ e. IsFull e) }
-        ensures err { IfErr result (λ e. self.new ≡ self.old) }
+    ) -> Leaving<Result<OutputHandle, AllocLinkError>, Option<R>>
+        requires { named_at (string_bytes name) self.old ≡ None }
+        ensures free { IfOk result.answer (λ h. map.get self.old.handles h.0 ≡ None) }
+        ensures fits { IfOk result.answer (λ h. h.0 < 2 ^ 32) }
+        ensures ok { IfOk result.answer (λ h. self.new ≡ linked (string_bytes name) h waiting self.old) }
+        ensures full { IfErr result.answer (λ e. IsFull e) }
+        ensures err { OnErr result.answer (self.new ≡ self.old) }
+        ensures left { OnErr result.answer (result.left ≡ waiting) }
+        ensures none { OnOk result.answer (result.left ≡ None) }
     {
         if self.handles.vacant_key() > u32::MAX as usize {
-            return Err(AllocLinkError::HandlesExhausted);
+            return Leaving::of(Err(AllocLinkError::HandlesExhausted), waiting);
         }
         let Ok(copy) = name.clone() else {
-            return Err(AllocLinkError::OutOfMemory);
+            return Leaving::of(Err(AllocLinkError::OutOfMemory), waiting);
         };
         let Ok(()) = self.handles.reserve(1) else {
-            return Err(AllocLinkError::OutOfMemory);
+            return Leaving::of(Err(AllocLinkError::OutOfMemory), waiting);
         };
         let Ok(()) = self.names.reserve(1) else {
-            return Err(AllocLinkError::OutOfMemory);
+            return Leaving::of(Err(AllocLinkError::OutOfMemory), waiting);
         };
         let handle = OutputHandle(handles::take(&mut self.handles, copy) as u32);
         names::put(&mut self.names, name, Named { handle, waiting });
-        Ok(handle)
+        Leaving::of(Ok(handle), None)
     }
 
     /// Releases the live link of a handle, and says whether there was one.
-    pub(crate) fn release(&mut self, handle: u32) -> bool
-        ensures { Releases self.old handle result self.new }
+    pub(crate) fn release(&mut self, handle: u32) -> Leaving<bool, Option<Named<R>>>
+        ensures step { Releases self.old handle result.answer self.new }
+        ensures left { result.left ≡ link_at handle self.old }
     {
         if !handles::is_live(&self.handles, handle) {
-            return false;
+            return Leaving::of(false, None);
         }
         let name = handles::release(&mut self.handles, handle);
-        names::remove(&mut self.names, name.as_str());
-        true
+        let left = names::remove(&mut self.names, name.as_str());
+        Leaving::of(true, left)
     }
 
     /// Takes the live link of a handle away. The handle then waits for the peer's answer, or is free. Says whether a detach goes
     /// out.
-    pub(crate) fn leave(&mut self, handle: u32, expects_echo: bool) -> bool
-        ensures { Leaves self.old handle expects_echo result self.new }
+    pub(crate) fn leave(
+        &mut self,
+        handle: u32,
+        expects_echo: bool,
+    ) -> Leaving<bool, Option<Named<R>>>
+        ensures step { Leaves self.old handle expects_echo result.answer self.new }
+        ensures left { result.left ≡ link_at handle self.old }
     {
         if !expects_echo {
-            self.release(handle);
-            return true;
+            let released = self.release(handle);
+            return Leaving::of(true, released.left);
         }
         if !handles::is_live(&self.handles, handle) {
-            return false;
+            return Leaving::of(false, None);
         }
         let name = handles::leave(&mut self.handles, handle);
-        names::remove(&mut self.names, name.as_str());
-        true
+        let left = names::remove(&mut self.names, name.as_str());
+        Leaving::of(true, left)
     }
 
-    /// Allots an output handle for a link of this name, and puts its relay under the input handle at once.
+    /// Allots an output handle for a link of this name, which no live link has, and puts its relay under the input handle at
+    /// once. The relay that stood there is left, or this one, where the allotment is refused.
     pub(crate) fn allot_attached(
         &mut self,
         name: String,
         relay: R,
         input: InputHandle,
-    ) -> Result<OutputHandle, AllocLinkError>
-        ensures free { IfOk result (λ h. map.get self.old.handles h.0 ≡ None) }
-        ensures fits { IfOk result (λ h. h.0 < 2 ^ 32) }
-        ensures ok { IfOk result (λ h. self.new ≡ put_at input.0
+    ) -> Leaving<Result<OutputHandle, AllocLinkError>, Option<R>>
+        requires { named_at (string_bytes name) self.old ≡ None }
+        ensures free { IfOk result.answer (λ h. map.get self.old.handles h.0 ≡ None) }
+        ensures fits { IfOk result.answer (λ h. h.0 < 2 ^ 32) }
+        ensures ok { IfOk result.answer (λ h. self.new ≡ put_at input.0
             (record { handle = h; relay = relay }) (linked (string_bytes name) h None self.old)) }
-        ensures full { IfErr result (λ e. IsFull e) }
-        ensures err { IfErr result (λ e. self.new ≡ self.old) }
+        ensures full { IfErr result.answer (λ e. IsFull e) }
+        ensures err { OnErr result.answer (self.new ≡ self.old) }
+        ensures left { OnErr result.answer (result.left ≡ Some relay) }
+        ensures replaced { OnOk result.answer (result.left ≡ option_map (λ a. a.relay) (attached_at input.0 self.old)) }
     {
         if self.handles.vacant_key() > u32::MAX as usize {
-            return Err(AllocLinkError::HandlesExhausted);
+            return Leaving::of(Err(AllocLinkError::HandlesExhausted), Some(relay));
         }
         let Ok(copy) = name.clone() else {
-            return Err(AllocLinkError::OutOfMemory);
+            return Leaving::of(Err(AllocLinkError::OutOfMemory), Some(relay));
         };
         let Ok(()) = self.handles.reserve(1) else {
-            return Err(AllocLinkError::OutOfMemory);
+            return Leaving::of(Err(AllocLinkError::OutOfMemory), Some(relay));
         };
         let Ok(()) = self.names.reserve(1) else {
-            return Err(AllocLinkError::OutOfMemory);
+            return Leaving::of(Err(AllocLinkError::OutOfMemory), Some(relay));
         };
         let Ok(()) = self.inputs.reserve(1) else {
-            return Err(AllocLinkError::OutOfMemory);
+            return Leaving::of(Err(AllocLinkError::OutOfMemory), Some(relay));
         };
         let handle = OutputHandle(handles::take(&mut self.handles, copy) as u32);
         let link = Named {
@@ -114,43 +129,54 @@ impl<R: LinkRelay> Links<R> {
             waiting: None,
         };
         names::put(&mut self.names, name, link);
-        inputs::put(&mut self.inputs, input, Attached { handle, relay });
-        Ok(handle)
+        let replaced = inputs::put(&mut self.inputs, input, Attached { handle, relay });
+        Leaving::of(Ok(handle), relay_of(replaced))
     }
 
-    /// Asks the relay that waits under the name of an attach, and puts it under the input handle where it accepts.
-    pub(crate) fn attach(&mut self, attach: Attach) -> Result<(), SessionInnerError>
-        ensures { (asked : Option (AttachQuestion R)) × Attaches R.gives.attach_gives self.old attach asked result self.new }
+    /// Asks the relay that waits under the name of an attach, and puts it under the input handle where it accepts. The relay that
+    /// stood there is left.
+    pub(crate) fn attach(
+        &mut self,
+        attach: Attach,
+    ) -> Leaving<Result<(), SessionInnerError>, Option<Attached<R>>>
+        ensures step { (asked : Option (AttachQuestion R))
+            × Attaches R.gives.attach_gives self.old attach asked result.answer self.new }
+        ensures replaced { OnOk result.answer (result.left ≡ attached_at attach.handle self.old) }
+        ensures none { OnErr result.answer (result.left ≡ None) }
     {
         if let Some(error) = names::refusal(&self.names, attach.name.as_str()) {
             drop(attach);
-            return Err(error);
+            return Leaving::of(Err(error), None);
         }
         let Ok(()) = self.inputs.reserve(1) else {
             drop(attach);
-            return Err(SessionInnerError::OutOfMemory);
+            return Leaving::of(Err(SessionInnerError::OutOfMemory), None);
         };
         let input = InputHandle::from(attach.handle);
         match names::attach(&mut self.names, attach) {
-            Err(error) => Err(SessionInnerError::from(error)),
+            Err(error) => Leaving::of(Err(SessionInnerError::from(error)), None),
             Ok(link) => {
-                inputs::put(&mut self.inputs, input, link);
-                Ok(())
+                let replaced = inputs::put(&mut self.inputs, input, link);
+                Leaving::of(Ok(()), replaced)
             }
         }
     }
 
-    /// Takes away the relay under the input handle of a detach, if there is one, and asks it.
-    pub(crate) fn detach(&mut self, detach: Detach) -> Option<Detach>
-        ensures { (asked : Option (DetachQuestion R)) × Detaches R.gives.detach_gives self.old detach asked result self.new }
+    /// Takes away the relay under the input handle of a detach, if there is one, and asks it. It is left as the question leaves
+    /// it.
+    pub(crate) fn detach(&mut self, detach: Detach) -> Leaving<Option<Detach>, Option<R>>
+        ensures { (asked : Option (DetachQuestion R))
+            × Detaches R.gives.detach_gives self.old detach asked result.answer self.new
+            × (result.left ≡ option_map (λ q. q.after) asked) }
     {
         let input = InputHandle::from(detach.handle);
         let Some(link) = inputs::take(&mut self.inputs, input) else {
-            return None;
+            return Leaving::of(None, None);
         };
         let awaited = self.answer(link.handle);
         let Attached { handle, mut relay } = link;
-        relay.on_incoming_detach(handle, detach, !awaited)
+        let answer = relay.on_incoming_detach(handle, detach, !awaited);
+        Leaving::of(answer, Some(relay))
     }
 
     /// Whether the peer's answer was awaited for a handle, which is then free.
@@ -166,5 +192,15 @@ impl<R: LinkRelay> Links<R> {
             handles::free(&mut self.handles, handle.0);
         }
         awaited
+    }
+}
+
+/// The relay of a link.
+fn relay_of<R: Drop>(link: Option<Attached<R>>) -> Option<R>
+    ensures { result ≡ option_map (λ a. a.relay) link }
+{
+    match link {
+        None => None,
+        Some(link) => Some(link.relay),
     }
 }

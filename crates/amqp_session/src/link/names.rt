@@ -1,6 +1,6 @@
 //! The live links by name.
 
-ghost use Rattle.std.specs.Prelude.{◌≡◌, ◌<◌, option_map, is_some, IsSome, IfNone, IfSome, string_bytes};
+ghost use Rattle.std.specs.Prelude.{◌≡◌, ◌<◌, None, option_map, is_some, IsSome, IfNone, IfSome, string_bytes};
 ghost use Rattle.std.specs.FinMap as map;
 ghost use Rattle.indexmap.specs.IndexMap.{spare};
 ghost use Rattle.amqp_session.specs.Links.{names_of};
@@ -53,19 +53,25 @@ pub(super) fn refusal<R: Drop>(
     }
 }
 
-/// A link becomes live. Its room was made before.
+/// A link becomes live by a name that no live link has. Its room was made before.
 pub(super) fn put<R: Drop>(names: &mut IndexMap<String, Named<R>>, name: String, link: Named<R>)
-    requires { 0 < spare names.old }
+    requires room { 0 < spare names.old }
+    requires free { map.get (names_of names.old.entries) (string_bytes name) ≡ None }
     ensures { names_of names.new.entries ≡ map.insert (names_of names.old.entries) (string_bytes name) link }
 {
     names.insert(name, link).unwrap();
 }
 
-/// A live link is gone, and with it the relay that waits.
-pub(super) fn remove<R: Drop>(names: &mut IndexMap<String, Named<R>>, name: &str)
-    ensures { names_of names.new.entries ≡ map.remove (names_of names.old.entries) name.now }
+/// A live link is gone, and is handed back with the relay that waits.
+pub(super) fn remove<R: Drop>(
+    names: &mut IndexMap<String, Named<R>>,
+    name: &str,
+) -> Option<Named<R>>
+    ensures removed { names_of names.new.entries ≡ map.remove (names_of names.old.entries) name.now }
+    ensures left { result ≡ map.get (names_of names.old.entries) name.now }
 {
-    names.swap_remove(name);
+    let left = names.swap_remove(name);
+    left
 }
 
 /// Asks the relay that waits for a link: on success it waits no longer.

@@ -46,7 +46,7 @@ impl<R: LinkRelay> Session<R> {
         if let Err(error) = self.may_allot(name.as_str()) {
             return Err(error);
         }
-        self.links.allot(name, relay)
+        self.links.allot(name, relay).answer()
     }
 
     /// Allots an output handle for a link of this name, and puts its relay under the input handle of the peer's attach at once:
@@ -63,7 +63,9 @@ impl<R: LinkRelay> Session<R> {
         if let Err(error) = self.may_allot(name.as_str()) {
             return Err(error);
         }
-        self.links.allot_attached(name, relay, input_handle)
+        self.links
+            .allot_attached(name, relay, input_handle)
+            .answer()
     }
 
     /// Releases the live link of an output handle with its name, and says whether there was one. Takes no memory.
@@ -71,7 +73,7 @@ impl<R: LinkRelay> Session<R> {
         ensures step { DeallocateStep self.old.view handle result self.new.view }
         ensures walk { self.new.last_walk ≡ self.old.last_walk }
     {
-        self.links.release(handle.0)
+        self.links.release(handle.0).answer()
     }
 
     /// Takes the peer's attach: the relay that waits under its name is asked, and is put under the input handle where it
@@ -85,7 +87,7 @@ impl<R: LinkRelay> Session<R> {
             × TakeAttachStep R.gives.attach_gives self.old.view attach asked result self.new.view }
         ensures walk { self.new.last_walk ≡ self.old.last_walk }
     {
-        self.links.attach(attach)
+        self.links.attach(attach).answer()
     }
 
     /// Takes the peer's detach: the link leaves the table, and its relay is told whether the peer began. It did where no detach
@@ -99,7 +101,7 @@ impl<R: LinkRelay> Session<R> {
             × TakeDetachStep R.gives.detach_gives self.old.view detach asked result self.new.view }
         ensures walk { self.new.last_walk ≡ self.old.last_walk }
     {
-        Ok(self.links.detach(detach))
+        Ok(self.links.detach(detach).answer())
     }
 
     /// The frame of an attach. Takes no memory, and changes nothing.
@@ -119,7 +121,8 @@ impl<R: LinkRelay> Session<R> {
         ensures step { SendDetachStep self.old.view detach expects_echo result self.new.view }
         ensures walk { self.new.last_walk ≡ self.old.last_walk }
     {
-        if !self.links.leave(detach.handle.0, expects_echo) {
+        let leaving = self.links.leave(detach.handle.0, expects_echo);
+        if !leaving.answer() {
             return Ok(None);
         }
         Ok(Some(SessionFrame::new(self.outgoing_channel.0, SessionFrameBody::Detach(detach))))

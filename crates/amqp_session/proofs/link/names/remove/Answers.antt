@@ -1,5 +1,9 @@
-use Rattle.amqp_session.proofs.AsMap.{name_removed}
+use Rattle.std.proofs.Common.{sym, ◌∙◌}
+use Rattle.amqp_session.proofs.AsMap.{text_at, name_removed}
 use Rattle.amqp_session.proofs.link.names.remove.Goals as goal
 
-pub returns : goal.returns
-returns g c = name_removed c.args.names.now c.swap_remove.new.self c.args.name.now c.swap_remove.ensures.updates
+pub returns-clause-removed : goal.returns-clause-removed
+returns-clause-removed g c = name_removed c.args.names.now c.swap_remove-left.new.self c.args.name.now c.swap_remove-left.ensures.updates
+
+pub returns-clause-left : goal.returns-clause-left
+returns-clause-left g c = c.swap_remove-left.ensures.value ∙ sym (text_at c.args.names.now.entries c.args.name.now)
