@@ -1,7 +1,7 @@
 //! Laws: what holds of every history of a session, as contracts of functions that do nothing; and how channels and handles
 //! compare.
 
-ghost use Rattle.std.specs.Prelude.{ℕ, Result, List, Option, ◌≡◌, ◌⊎◌, ◌<◌, ◌/◌, nat_eq, true};
+ghost use Rattle.std.specs.Prelude.{ℕ, Result, List, Option, Some, ◌≡◌, ◌⊎◌, ◌<◌, ◌/◌, nat_eq, nat_lt, true};
 ghost use Rattle.std.specs.List.{fold};
 ghost use Rattle.std.specs.Hash as fed;
 ghost use Rattle.std.specs.Ordering.{nat_cmp};
@@ -95,62 +95,99 @@ pub fn law_of_session_flows<R: LinkRelay>()
         (w.receiving.unreported ≡ 0) ⊎ (w.receiving.unreported < v.settings.incoming_window / 2) }
 {}
 
-/// Whether two channels that this side sends on are equal, and how they compare: as their numbers do. The first is
-/// hashed as its number.
+/// How two numbers compare, by each way to ask.
+#[derive(Clone, Copy, Debug, PartialEq, Eq)]
+pub struct Compared {
+    /// Whether they are equal: `==`.
+    pub equal: bool,
+    /// Which comes first: `cmp`.
+    pub order: Ordering,
+    /// The same by `partial_cmp`, which always knows.
+    pub partial_order: Option<Ordering>,
+    /// Whether the first is less: `<`.
+    pub less: bool,
+}
+
+/// Whether two channels that this side sends on are equal, and how they compare: as their numbers do. The first is hashed as its number.
 pub fn law_of_outgoing_channels<H: Hasher>(
     outgoing: OutgoingChannel,
     other: OutgoingChannel,
     state: &mut H,
-) -> (bool, Ordering)
-    ensures equality { result.0 ≡ nat_eq outgoing.0 other.0 }
-    ensures order { result.1 ≡ nat_cmp outgoing.0 other.0 }
+) -> Compared
+    ensures equality { result.equal ≡ nat_eq outgoing.0 other.0 }
+    ensures order { result.order ≡ nat_cmp outgoing.0 other.0 }
+    ensures partial_order { result.partial_order ≡ Some (nat_cmp outgoing.0 other.0) }
+    ensures less { result.less ≡ nat_lt outgoing.0 other.0 }
     ensures hash { state.new ≡ fold H.write state.old (fed.u16 outgoing.0) }
 {
     outgoing.hash(state);
-    (outgoing == other, outgoing.cmp(&other))
+    Compared {
+        equal: outgoing == other,
+        order: outgoing.cmp(&other),
+        partial_order: outgoing.partial_cmp(&other),
+        less: outgoing < other,
+    }
 }
 
-/// Whether two channels that the peer sends on are equal, and how they compare: as their numbers do. The first is
-/// hashed as its number.
+/// Whether two channels that the peer sends on are equal, and how they compare: as their numbers do. The first is hashed as its number.
 pub fn law_of_incoming_channels<H: Hasher>(
     incoming: IncomingChannel,
     other: IncomingChannel,
     state: &mut H,
-) -> (bool, Ordering)
-    ensures equality { result.0 ≡ nat_eq incoming.0 other.0 }
-    ensures order { result.1 ≡ nat_cmp incoming.0 other.0 }
+) -> Compared
+    ensures equality { result.equal ≡ nat_eq incoming.0 other.0 }
+    ensures order { result.order ≡ nat_cmp incoming.0 other.0 }
+    ensures partial_order { result.partial_order ≡ Some (nat_cmp incoming.0 other.0) }
+    ensures less { result.less ≡ nat_lt incoming.0 other.0 }
     ensures hash { state.new ≡ fold H.write state.old (fed.u16 incoming.0) }
 {
     incoming.hash(state);
-    (incoming == other, incoming.cmp(&other))
+    Compared {
+        equal: incoming == other,
+        order: incoming.cmp(&other),
+        partial_order: incoming.partial_cmp(&other),
+        less: incoming < other,
+    }
 }
 
-/// Whether two handles of this side are equal, and how they compare: as their numbers do. The first is
-/// hashed as its number.
+/// Whether two handles of this side are equal, and how they compare: as their numbers do. The first is hashed as its number.
 pub fn law_of_output_handles<H: Hasher>(
     output: OutputHandle,
     other: OutputHandle,
     state: &mut H,
-) -> (bool, Ordering)
-    ensures equality { result.0 ≡ nat_eq output.0 other.0 }
-    ensures order { result.1 ≡ nat_cmp output.0 other.0 }
+) -> Compared
+    ensures equality { result.equal ≡ nat_eq output.0 other.0 }
+    ensures order { result.order ≡ nat_cmp output.0 other.0 }
+    ensures partial_order { result.partial_order ≡ Some (nat_cmp output.0 other.0) }
+    ensures less { result.less ≡ nat_lt output.0 other.0 }
     ensures hash { state.new ≡ fold H.write state.old (fed.u32 output.0) }
 {
     output.hash(state);
-    (output == other, output.cmp(&other))
+    Compared {
+        equal: output == other,
+        order: output.cmp(&other),
+        partial_order: output.partial_cmp(&other),
+        less: output < other,
+    }
 }
 
-/// Whether two handles of the peer are equal, and how they compare: as their numbers do. The first is
-/// hashed as its number.
+/// Whether two handles of the peer are equal, and how they compare: as their numbers do. The first is hashed as its number.
 pub fn law_of_input_handles<H: Hasher>(
     input: InputHandle,
     other: InputHandle,
     state: &mut H,
-) -> (bool, Ordering)
-    ensures equality { result.0 ≡ nat_eq input.0 other.0 }
-    ensures order { result.1 ≡ nat_cmp input.0 other.0 }
+) -> Compared
+    ensures equality { result.equal ≡ nat_eq input.0 other.0 }
+    ensures order { result.order ≡ nat_cmp input.0 other.0 }
+    ensures partial_order { result.partial_order ≡ Some (nat_cmp input.0 other.0) }
+    ensures less { result.less ≡ nat_lt input.0 other.0 }
     ensures hash { state.new ≡ fold H.write state.old (fed.u32 input.0) }
 {
     input.hash(state);
-    (input == other, input.cmp(&other))
+    Compared {
+        equal: input == other,
+        order: input.cmp(&other),
+        partial_order: input.partial_cmp(&other),
+        less: input < other,
+    }
 }

@@ -2,8 +2,8 @@
 
 use crate::relays::{Choosing, Quiet};
 use amqp_session::laws::{
-    law_of_incoming_channels, law_of_input_handles, law_of_links, law_of_outgoing_channels,
-    law_of_output_handles, law_of_session_flows, law_of_views,
+    Compared, law_of_incoming_channels, law_of_input_handles, law_of_links,
+    law_of_outgoing_channels, law_of_output_handles, law_of_session_flows, law_of_views,
 };
 use amqp_session::{IncomingChannel, InputHandle, OutgoingChannel, OutputHandle};
 use std::cmp::Ordering;
@@ -19,13 +19,23 @@ fn laws_speak_of_both_relays(_rt: HostRuntime) {
     law_of_session_flows::<Choosing>();
 }
 
+/// Each way to compare two numbers tells this order.
+fn compared(order: Ordering) -> Compared {
+    Compared {
+        equal: order == Ordering::Equal,
+        order,
+        partial_order: Some(order),
+        less: order == Ordering::Less,
+    }
+}
+
 #[test]
 fn channels_compare_as_their_numbers(rt: HostRuntime) {
     let mut state = DefaultHasher::new();
     let sent = law_of_outgoing_channels(OutgoingChannel(1), OutgoingChannel(2), &mut state);
-    assert!(rt; sent == (false, Ordering::Less));
+    assert!(rt; sent == compared(Ordering::Less));
     let came = law_of_incoming_channels(IncomingChannel(3), IncomingChannel(3), &mut state);
-    assert!(rt; came == (true, Ordering::Equal));
+    assert!(rt; came == compared(Ordering::Equal));
     let mut plain = DefaultHasher::new();
     1u16.hash(&mut plain);
     3u16.hash(&mut plain);
@@ -36,9 +46,9 @@ fn channels_compare_as_their_numbers(rt: HostRuntime) {
 fn handles_compare_as_their_numbers(rt: HostRuntime) {
     let mut state = DefaultHasher::new();
     let sent = law_of_output_handles(OutputHandle(4294967295), OutputHandle(0), &mut state);
-    assert!(rt; sent == (false, Ordering::Greater));
+    assert!(rt; sent == compared(Ordering::Greater));
     let came = law_of_input_handles(InputHandle(7), InputHandle(8), &mut state);
-    assert!(rt; came == (false, Ordering::Less));
+    assert!(rt; came == compared(Ordering::Less));
     let mut plain = DefaultHasher::new();
     4294967295u32.hash(&mut plain);
     7u32.hash(&mut plain);
