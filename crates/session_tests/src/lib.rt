@@ -1,13 +1,19 @@
-//! Tests of sessions that need their types, by public calls alone: two kinds of relay, refused memory, laws, conversions. The
-//! rows of the session's calls are those of the program `session_rows`.
+//! Tests of sessions that need their types, by public calls alone: kinds of relay, how often they are asked, refused memory, laws,
+//! conversions. The rows of the session's calls are those of the program `session_rows`.
 #![tactic(auto)]
 
 #[cfg(test)]
+mod asking;
+#[cfg(test)]
 mod conversions;
+#[cfg(test)]
+mod counting;
 #[cfg(test)]
 mod dispositions;
 #[cfg(test)]
 mod laws;
+#[cfg(test)]
+mod link_calls;
 #[cfg(test)]
 mod links;
 #[cfg(test)]
