@@ -18,8 +18,8 @@ use Rattle.amqp_session.specs.declared.error.LinkRelayError.{LinkRelayError}
 use Rattle.amqp_session.specs.Settings.{SettingsSaid}
 use Rattle.amqp_session.specs.States.{is_mapped, sends_begin, takes_begin, sends_end, takes_end}
 use Rattle.amqp_session.specs.Receiving.{numbered_anew, counted, reported}
-use Rattle.amqp_session.specs.Links.{LinksView, attached_at}
-use Rattle.amqp_session.specs.Relay.{DispositionGives, DispositionQuestion, Relays, AttachQuestion, FlowQuestion, Question, Gives, Asks}
+use Rattle.amqp_session.specs.Links.{LinksView}
+use Rattle.amqp_session.specs.Relay.{DispositionGives, DispositionQuestion, Relays, AttachQuestion, FlowQuestion}
 use Rattle.amqp_session.specs.Transfers.{RequestedTransfer, numbered, first_of}
 use Rattle.amqp_session.specs.Sending.{SendingView, joined, begun, moved, let_out, opened_by}
 use Rattle.amqp_session.specs.Items.{HandsOut, item_frames, first_frame, is_some_list}

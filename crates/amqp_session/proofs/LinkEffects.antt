@@ -1,5 +1,5 @@
 -- What each call does to the links of a session, by one table over the calls and their answers.
-use Rattle.std.proofs.Common.{[], ◌∷◌, ◌⊎◌, inl, inr, ◌≡◌, ℕ, List, Option, Some, None, Result, Ok, Err, Bool, true, false, cond, nat_eq, refl, ap, sym, subst, ◌∙◌}
+use Rattle.std.proofs.Common.{[], ◌∷◌, inl, inr, ◌≡◌, ℕ, List, Option, Some, None, Result, Ok, Err, Bool, true, false, cond, nat_eq, refl, ap, sym, subst, ◌∙◌}
 use Rattle.std.specs.FinMap as map
 use Rattle.amqp_types.specs.Flow.{FlowSaid}
 use Rattle.amqp_types.specs.Attach.{AttachSaid}
@@ -19,7 +19,7 @@ use Rattle.amqp_session.specs.Step.{flow_moved, counted_by, asked_at, FlowAnswer
 use Rattle.amqp_session.specs.Linking.{live_name, linked, Releases, Leaves, AttachAnswered, Attaches}
 use Rattle.amqp_types.specs.Disposition.{DispositionSaid}
 use Rattle.amqp_session.specs.declared.deliveries.Delivery.{Delivery}
-use Rattle.amqp_session.specs.Disposing.{AsksAt, AsksEach, HasAsked, behind, question_of}
+use Rattle.amqp_session.specs.Disposing.{AsksAt, AsksEach, behind}
 use Rattle.amqp_session.specs.Linked.{asked_from, live_by, input_by, where_goes, speaks_of, handle_of}
 use Rattle.amqp_session.specs.History.{Entry, AllocatesLink, AllocatesIncomingLink, DeallocatesLink, TakesAttach, TakesDetach, SendsAttach, SendsDetach, SendsBegin, SendsEnd, TakesBegin, TakesEnd, TakesFlow, TakesTransfer, TakesDisposition, SendsDisposition, SendsFlow, SendsTransfer, SendsSessionFlow, RecordsStop, Step}
 use Rattle.amqp_session.proofs.Taking.{at_insert, at_remove}

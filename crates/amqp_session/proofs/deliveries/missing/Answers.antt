@@ -1,6 +1,4 @@
-use Rattle.std.proofs.Common.{rules, ◌≡◌, ℕ, ◌+◌, ◌-◌, ◌<◌, ◌≤◌, length, slice_index_or, arith}
-use Rattle.amqp_session.specs.declared.deliveries.Delivery.{Delivery}
-use Rattle.amqp_session.specs.Deliveries.{IsMissing, number_at}
+use Rattle.std.proofs.Common.{arith}
 use Rattle.amqp_session.proofs.Rising.{ends_apart, ends_missing}
 use Rattle.amqp_session.proofs.deliveries.missing.Goals as goal
 

@@ -1,4 +1,4 @@
-use Rattle.std.proofs.Common.{arith, ◌≡◌, ℕ, ◌+◌, ◌-◌, ◌<◌, ◌≤◌, List, ap, subst}
+use Rattle.std.proofs.Common.{arith, ◌≡◌, ◌-◌, List, ap, subst}
 use Rattle.amqp_session.specs.declared.deliveries.Delivery.{Delivery}
 use Rattle.amqp_session.specs.Deliveries.{TableView, IsMissing, number_at}
 use Rattle.amqp_session.proofs.Rising.{front_above, front_below}

@@ -1,4 +1,4 @@
-use Rattle.std.proofs.Common.{arith, ◌≡◌, ℕ, ◌<◌, length, List, ap, sym, subst, ◌∙◌}
+use Rattle.std.proofs.Common.{arith, ℕ, ◌<◌, length, List, ap, sym, subst, ◌∙◌}
 use Rattle.amqp_session.specs.declared.deliveries.Delivery.{Delivery}
 use Rattle.amqp_session.specs.Deliveries.{TableView, IsTable, number_at, recorded}
 use Rattle.amqp_session.proofs.Rising.{recorded_last, recorded_table}

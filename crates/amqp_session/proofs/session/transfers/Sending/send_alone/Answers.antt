@@ -1,4 +1,4 @@
-use Rattle.std.proofs.Common.{◌≡◌, ℕ, ◌<◌, ◌^◌, [], ap, ◌∙◌, arith}
+use Rattle.std.proofs.Common.{◌≡◌, ◌<◌, ◌^◌, [], ap, ◌∙◌, arith}
 use Rattle.amqp_session.specs.Sending.{SendingView}
 use Rattle.amqp_session.proofs.Alone.{opened_alone}
 use Rattle.amqp_session.proofs.session.transfers.Sending.send_alone.Goals as goal

@@ -1,4 +1,4 @@
-use Rattle.std.proofs.Common.{◌≡◌, ap, sym, ◌∙◌, arith}
+use Rattle.std.proofs.Common.{◌≡◌, ap, sym, arith}
 use Rattle.amqp_session.specs.Sending.{SendingView}
 use Rattle.amqp_session.proofs.Alone.{goes_behind}
 use Rattle.amqp_session.proofs.session.transfers.Sending.send_later.Goals as goal
