@@ -1,1 +1,4 @@
 pub mod Lowest
+pub mod StateTables
+pub mod HistoryLemmas
+pub mod OneEach

@@ -2,3 +2,5 @@ pub mod States
 pub mod Channels
 pub mod ConnectionErrors
 pub mod Connection
+pub mod History
+pub mod ByHistory

@@ -3,6 +3,7 @@
 
 pub mod connection;
 pub mod error;
+pub mod laws;
 pub mod numbers;
 pub mod open_error;
 
