@@ -1,13 +1,15 @@
 #!/usr/bin/env python3
-"""Lists the definitions that the contract of `Engine::run` reaches, and keeps docs/READING.md's tables by them.
+"""Lists the definitions that the contracts of an engine's runs reach, and keeps docs/READING.md's tables by them.
 
     tools/definitions_read.py            prints the tables' lines, and says where docs/READING.md differs; status 1 if it does
     tools/definitions_read.py --write    puts files and numbers into docs/READING.md; sentences and order stay
 
-From the names in the contract it follows, definition by definition, the names that each one uses, through the `use` lines
-of the files of specs/. What it counts are the lines of the definitions that are reached, with the comment above each; the
-whole length of the file stands beside it. A name that is also a variable's may be counted without need: the list may be
-too long, and is never too short. Types that stand in the code are listed by their files in a second table.
+From the names in a contract it follows, definition by definition, the names that each one uses, through the `use` lines of the files of
+specs/. The page has a table for each part, and a definition stands in the first part that reaches it: the promise of `Engine::run` (what
+moves, and then the bytes), where the view's law and the exact steps are not followed, and neither is what a legal history is, which the promise says by name
+alone; all else that `Engine::run` reaches; what the calls of handles reach beside it. What is counted are the lines of the definitions, with the
+comment above each; the whole length of the file stands beside it. A name that is also a variable's may be counted without need: a list may be
+too long, and is never too short. Types that stand in the code are listed by their files in the last table.
 """
 
 import re
@@ -17,7 +19,14 @@ from pathlib import Path
 
 ROOT = Path(__file__).resolve().parent.parent
 PAGE = ROOT / "docs/READING.md"
-START = ROOT / "crates/amqp_engine/src/engine/run.rt", "run"
+ENGINE = ROOT / "crates/amqp_engine/src"
+RUN = [(ENGINE / "engine/run.rt", "run")]
+HANDLES = [ENGINE / "handles.rt", ENGINE / "handles/run.rt", ENGINE / "handles/connection_handle.rt", ENGINE / "handles/session_handle.rt"]
+# What the promise leaves out: of a run the law of views and the steps; what relays may answer.
+NOT_IN_PROMISE = {("amqp_engine", "Views", None), ("amqp_engine", "History", None), ("amqp_session", "Relay", "Relays")}
+# What it says by name: its lines count, and what they use is not followed.
+BY_NAME = {("amqp_engine", "Legal", "Legal"), ("amqp_engine", "EngineView", "EngineView")}
+BYTES = ("amqp_frames", "amqp_types", "amqp_values")
 MISSING = "(a sentence is missing)"
 
 USE = re.compile(r"^\s*(?:ghost |pub )*use Rattle\.(\w+)\.specs\.([\w.]+?)(?:\.\{(.*?)\}| as (\w+));?\s*$")
@@ -101,9 +110,8 @@ def module(crate, path):
     return Module(crate, path)
 
 
-def contract():
+def contract(file, function):
     """The names that the clauses of the function use."""
-    file, function = START
     lines = file.read_text(encoding="utf8").splitlines()
     names, _ = imports(lines)
     at = next(i for i, line in enumerate(lines) if re.search(rf"\bfn {function}\b", line))
@@ -113,24 +121,41 @@ def contract():
     return [(*names[word], word) for word in sorted(words) if word in names]
 
 
-def reached():
-    """The definitions reached, by files, and the types of the code that they speak of."""
-    found, types, todo = {}, set(), list(contract())
+def public(files):
+    """The public functions of these files."""
+    return [(file, m[1]) for file in files for m in re.finditer(r"^ *pub fn (\w+)", file.read_text(encoding="utf8"), re.M)]
+
+
+def reach(functions, found, types, is_promise=False):
+    """Adds the definitions that the functions' contracts reach to those that were found, and gives those that came."""
+    came, todo = {}, [name for of in functions for name in contract(*of)]
     while todo:
         crate, path, name = todo.pop()
         if path.startswith("declared."):
             parts = path.removeprefix("declared.").removesuffix(".TheVariants").split(".")
             types.add((crate, "/".join(parts[:-1]), parts[-1]))
             continue
+        if is_promise and NOT_IN_PROMISE & {(crate, path, name), (crate, path, None)}:
+            continue
         here = module(crate, path)
         item = here.items.get(name)
         if item is None:
             sys.exit(f"{here.file}: no definition of {name} was found")
-        if item in found.setdefault(here, set()):
+        is_new = item not in found.setdefault(here, set())
+        # What a part before has is followed all the same: it may have been left at its name there.
+        if not is_new and item in SEEN.setdefault((here, is_promise), set()):
             continue
-        found[here].add(item)
+        SEEN.setdefault((here, is_promise), set()).add(item)
+        if is_new:
+            found[here].add(item)
+            came.setdefault(here, set()).add(item)
+        if is_promise and (crate, path, name) in BY_NAME:
+            continue
         todo += [use if isinstance(use, tuple) else (crate, path, use) for use in here.uses(item)]
-    return found, types
+    return came
+
+
+SEEN = {}
 
 
 def type_lines(crate, path, name):
@@ -147,15 +172,25 @@ def type_lines(crate, path, name):
     return file, last + 1 - first
 
 
+def counted(came):
+    """File by file: the lines that came, and those of the file."""
+    return {str(m.file.relative_to(ROOT)): (sum(b - a for a, b in items), len(m.lines)) for m, items in came.items()}
+
+
 def rows():
-    """File by file: the lines that are reached, and those of the file or the types' names."""
-    found, types = reached()
-    specs = {str(m.file.relative_to(ROOT)): (sum(b - a for a, b in items), len(m.lines)) for m, items in found.items()}
+    """What each table has: for each file its lines, and those of the file or the types' names."""
+    found, types = {}, set()
+    promise = counted(reach(RUN, found, types, is_promise=True))
+    exactly = counted(reach(RUN, found, types))
+    handles = counted(reach(public(HANDLES), found, types))
+    is_bytes = lambda file: file.split("/")[1] in BYTES
+    moves = {file: of for file, of in promise.items() if not is_bytes(file)}
+    spelled = {file: of for file, of in promise.items() if is_bytes(file)}
     code = {}
     for crate, path, name in sorted(types):
         file, lines = type_lines(crate, path, name)
         code.setdefault(str(file.relative_to(ROOT)), []).append((lines, name))
-    return specs, {file: (sum(n for n, _ in of), ", ".join(f"`{name}`" for _, name in of)) for file, of in code.items()}
+    return [moves, spelled, exactly, handles, {file: (sum(n for n, _ in of), ", ".join(f"`{name}`" for _, name in of)) for file, of in code.items()}]
 
 
 ROW = re.compile(r"^\| \d+ \| `(\S+)` \| .*?\| .*?\| (.*) \|$")
@@ -173,31 +208,34 @@ def table(lines, wanted):
             for n, file in enumerate(order, 1)]
 
 
+TOTAL = re.compile(r"\d+ files, \d+ lines")
+
+
 def main():
-    specs, code = rows()
     text = PAGE.read_text(encoding="utf8").splitlines() if PAGE.exists() else []
-    whole = []
-    wanted = [specs, code]
-    i = 0
+    whole, wanted, i = [], rows(), 0
     while i < len(text):
-        if ROW.match(text[i]) and wanted:
-            end = i
-            while end < len(text) and ROW.match(text[end]):
-                end += 1
-            whole += table(text[i:end], wanted.pop(0))
+        end = i
+        while end < len(text) and ROW.match(text[end]):
+            end += 1
+        if end > i and wanted:
+            of = wanted.pop(0)
+            # The nearest line above that counts files and lines counts those of this table.
+            said = max((n for n, line in enumerate(whole) if TOTAL.search(line)), default=None)
+            if said is not None:
+                whole[said] = TOTAL.sub(f"{len(of)} files, {sum(n for n, _ in of.values())} lines", whole[said])
+            whole += table(text[i:end], of)
             i = end
         else:
             whole.append(text[i])
             i += 1
-    total = f"{len(specs)} files, {sum(a for a, _ in specs.values())} lines"
-    whole = [re.sub(r"\d+ files, \d+ lines", total, line) for line in whole]
-    if "--write" in sys.argv:
+    for of in wanted:
+        whole += ["", *table([], of)]
+    is_written = "--write" in sys.argv
+    if is_written:
         PAGE.write_text("\n".join(whole) + "\n", encoding="utf8")
-    if not text or wanted:
-        whole = table([], specs) + [""] + table([], code)
-    print("\n".join(line for line in whole if ROW.match(line)))
-    print(total)
-    wrong = [line for line in whole if MISSING in line] + ([] if whole == text or "--write" in sys.argv else ["differs"])
+    print("\n".join(line for line in whole if ROW.match(line) or TOTAL.search(line)))
+    wrong = [line for line in whole if MISSING in line] + ([] if whole == text or is_written else ["differs"])
     if wrong:
         print(f"docs/READING.md is to be mended: {len(wrong)} places; --write puts in files and numbers")
     return 1 if wrong else 0

@@ -5,7 +5,8 @@ use Rattle.amqp_types.specs.Open.{OpenSaid}
 use Rattle.amqp_frames.specs.declared.frame.Frame.{Frame}
 use Rattle.amqp_session.specs.Relay.{Relays}
 use Rattle.amqp_engine.specs.EngineView.{EngineView, new_engine}
-use Rattle.amqp_engine.specs.Engine.{Entry, Step, Keeps}
+use Rattle.amqp_engine.specs.Engine.{Step, Keeps}
+use Rattle.amqp_engine.specs.Entry.{Entry}
 use Rattle.amqp_engine.specs.History as whole
 
 -- frames that waited left from the front, and nothing else changed but what is kept

@@ -1,7 +1,6 @@
 -- What each input does, where it is carried out.
-use Rattle.std.proofs.Common.{◌≡◌, ◌⊎◌, ℕ, List, [], ◌∷◌, Option, Some, None, Ok, Err, refl, ap, sym, subst, ◌∙◌, inl, inr, unwrap_or}
+use Rattle.std.proofs.Common.{◌≡◌, ◌⊎◌, ℕ, List, [], ◌∷◌, Option, Some, None, IsSome, Ok, Err, refl, ap, sym, subst, ◌∙◌, inl, inr, true}
 use Rattle.std.specs.Option.{option_map}
-use Rattle.std.specs.FinMap as map
 use Rattle.amqp_types.specs.declared.states.ConnectionState.{ConnectionState}
 use Rattle.amqp_types.specs.declared.states.ConnectionState.TheVariants as at
 use Rattle.amqp_types.specs.declared.states.SessionState.{SessionState}
@@ -32,16 +31,19 @@ use Rattle.amqp_engine.specs.declared.engine.input.Input.TheVariants as input
 use Rattle.amqp_engine.specs.declared.engine.step_error.StepError.{StepError}
 use Rattle.amqp_engine.specs.declared.engine.step_error.StepError.TheVariants as no
 use Rattle.amqp_connection.specs.States.{takes_close}
-use Rattle.amqp_connection.specs.Connection.{ConnectionView, SendOpenStep, SendCloseStep, IncomingOpenStep, IncomingCloseStep, BeginRouteStep, EndRouteStep, RouteStep, given_back, stopped}
+use Rattle.amqp_connection.specs.Connection.{ConnectionView, Holds, SendOpenStep, SendCloseStep, IncomingOpenStep, IncomingCloseStep, AllocateStep, BeginRouteStep, EndRouteStep, RouteStep, open_frame, close_frame, given_back, stopped}
+use Rattle.amqp_connection.specs.History as connection
 use Rattle.amqp_engine.specs.EngineView.{EngineView}
 use Rattle.amqp_engine.specs.Waits.{sent}
 use Rattle.amqp_engine.specs.Calls.{Calls, received_calls}
 use Rattle.amqp_engine.specs.Sessions.{Untouched, Called, Unknown, Reaches, Begun, BeginRequest, ReleaseRequest}
-use Rattle.amqp_engine.specs.Engine.{Entry, Carries, Received, ReceivedFrame, OpenRequest, CloseRequest, ReceivedOpen, ReceivedClose, Finds, close_reason, remote_reason, recorded, NoneReceived}
+use Rattle.amqp_engine.specs.Engine.{Carries, Received, ReceivedFrame, OpenRequest, CloseRequest, ReceivedOpen, ReceivedClose, Finds, recorded, NoneReceived}
+use Rattle.amqp_engine.specs.Entry.{Entry}
+use Rattle.amqp_engine.specs.ByHistory.{close_reason, remote_reason}
 use Rattle.amqp_engine.specs.Event.{Event, Quiet, SentOpen, SentClose, AcceptedOpen, CameClose, Began, Released, event, event_by, received_event, channel_of}
-use Rattle.amqp_engine.specs.ByHistory.{remote_close_reason, limit_by}
+use Rattle.amqp_engine.specs.ByHistory.{limit_by}
 use Rattle.amqp_engine.specs.Headline.{own_frames, asked_calls}
-use Rattle.amqp_engine.proofs.Deeds.{Moved, IsNoBegin, IsPlain, Deed, after_close, request_plain, received_plain, alone, same_engine, one_moved, at_connection, refuses, calls_one, calls_none, does}
+use Rattle.amqp_engine.proofs.Deeds.{Moved, IsNoBegin, IsPlain, Deed, close_refusal, stops, close_calls, quiet, request_plain, received_plain, alone, same_engine, one_moved, at_connection, refuses, calls_one, calls_none, does}
 
 -- an entry of these
 abbrev of : {R : Type 0} → Input R → Option Frame → Option ℕ → List (session.Entry R) → Option StepError → List Frame → Entry R
@@ -68,7 +70,11 @@ refused_peer v k o e s = absurd s
 opens : {R : Type 0} (g : Relays R) (v w : EngineView R) (received : Option Frame) (reached : Option ℕ) (calls : List (session.Entry R)) (r : Option StepError) (frames : List Frame) →
     v.waiting ≡ [] → frames ≡ w.waiting → Untouched reached calls → OpenRequest v r w → Deed g v (of input.Open received reached calls r frames) w
 opens g v w received reached calls None frames idle fe u s = alone g v w _ SentOpen refl none_waiting u (record {
-  moved = subst (λ x. Moved v.connection SentOpen x) (sym (ap (λ (x : EngineView _). x.connection) s.3)) (s.2.0, s.2.1, s.2.3);
+  moved = record {
+    calls = connection.SendOpen (Ok (open_frame v.connection.local_open)) ∷ [];
+    happens = refl;
+    chain = (s.1, (s.2.0, s.2.1, refl, s.2.3), ap (λ (x : EngineView _). x.connection) s.3);
+  };
   no_begin = tt;
   sessions_is = ap (λ (x : EngineView _). x.sessions) s.3;
   limit_is = ap (λ (x : EngineView _). x.limit) s.3;
@@ -82,8 +88,11 @@ opens g v w received reached calls (Some e) frames idle fe u s = absurd s
 closes : {R : Type 0} (g : Relays R) (v w : EngineView R) (error : Option ErrorSaid) (received : Option Frame) (reached : Option ℕ) (calls : List (session.Entry R)) (r : Option StepError) (frames : List Frame) →
     v.waiting ≡ [] → frames ≡ w.waiting → Untouched reached calls → CloseRequest v error r w → Deed g v (of (input.Close error) received reached calls r frames) w
 closes g v w error received reached calls None frames idle fe u s = alone g v w _ (SentClose error) refl none_waiting u (record {
-  moved = subst (λ x. Moved v.connection (SentClose error) x) (sym (ap (λ (x : EngineView _). x.connection) s.3))
-      (s.2.0, s.2.1, ap (λ (k : ConnectionView). stopped k (close_reason error)) s.2.3);
+  moved = record {
+    calls = connection.SendClose error (Ok (close_frame error)) ∷ connection.Stop (close_reason error) ∷ [];
+    happens = refl;
+    chain = (s.1, (s.2.0, s.2.1, refl, s.2.3), (stopped s.1 (close_reason error), refl, ap (λ (x : EngineView _). x.connection) s.3));
+  };
   no_begin = tt;
   sessions_is = ap (λ (x : EngineView _). x.sessions) s.3;
   limit_is = ap (λ (x : EngineView _). x.limit) s.3;
@@ -111,7 +120,11 @@ begins g v w k settings received reached calls None frames idle fe s =
     ∙ begin_channel g settings b.channel v.connection.stop_reason b.asked.0 b.after chain in
     record {
       taken = none_waiting;
-      moved = ap (λ (x : EngineView _). x.connection) b.put ∙ b.allocated.3 ∙ ap (λ c. record v.connection { session_by_outgoing_channel = map.insert v.connection.session_by_outgoing_channel c k.0 }) (sym channel);
+      moved = record {
+        calls = connection.Allocate k.0 (Ok (channel_of frames)) ∷ [];
+        happens = refl;
+        chain = (b.connection, subst (λ c. AllocateStep v.connection k.0 (Ok c) b.connection) (sym channel) b.allocated, ap (λ (x : EngineView _). x.connection) b.put);
+      };
       effect = inr (record {
         number = k.0;
         settings = settings;
@@ -136,11 +149,18 @@ begins g v w k settings received reached calls (Some (no.SessionState unbegun.Ou
 begins g v w k settings received reached calls (Some no.OutOfMemory) frames idle fe s = refuses g v w _ refl (λ x. cc) idle fe s.0
 begins g v w k settings received reached calls (Some e) frames idle fe s = absurd s
 
+released : (v : ConnectionView) (c n : ℕ) → Holds v c n → Moved v (Released n) (given_back v c)
+released v c n h = record {
+  calls = connection.Deallocate c true ∷ [];
+  happens = (c, h, refl);
+  chain = (given_back v c, (subst (λ (x : Option ℕ). IsSome x) (sym h) refl, refl), refl);
+}
+
 releases : {R : Type 0} (g : Relays R) (v w : EngineView R) (k : SessionNo) (received : Option Frame) (reached : Option ℕ) (calls : List (session.Entry R)) (r : Option StepError) (frames : List Frame) →
     v.waiting ≡ [] → frames ≡ w.waiting → ReleaseRequest v k.0 reached calls r w → Deed g v (of (input.Release k) received reached calls r frames) w
 releases g v w k received reached calls None frames idle fe s =
     alone g v w _ (Released k.0) refl none_waiting s.0
-    (one_moved v w (given_back v.connection s.1.0.outgoing_channel) (Released k.0) frames s.1.3 (s.1.0.outgoing_channel, s.1.2, refl) tt refl refl (fe ∙ ap (λ (x : EngineView _). x.waiting) s.1.3 ∙ idle))
+    (one_moved v w (given_back v.connection s.1.0.outgoing_channel) (Released k.0) frames s.1.3 (released v.connection s.1.0.outgoing_channel k.0 s.1.2) tt refl refl (fe ∙ ap (λ (x : EngineView _). x.waiting) s.1.3 ∙ idle))
 releases g v w k received reached calls (Some no.NoSession) frames idle fe s = refuses g v w _ refl (λ x. cc) idle fe s.0
 releases g v w k received reached calls (Some (no.Connection e)) frames idle fe s = refuses g v w _ refl (λ x. cc) idle fe s.0
 releases g v w k received reached calls (Some e) frames idle fe s = absurd s
@@ -155,7 +175,7 @@ received_is R bytes f received reached r frames is = ap (λ x. event_by {R = R} 
 took_open : {R : Type 0} (g : Relays R) (v w : EngineView R) (e : Entry R) (c : ℕ) (o : OpenSaid) (r : Option StepError) → event e ≡ received_event c (body.Open o) e.reached r → e.refusal ≡ r → v.waiting ≡ [] → e.frames ≡ w.waiting → Untouched e.reached e.calls →
     ReceivedOpen v o r w → Deed g v e w
 took_open g v w e c o None is told idle fe u s = alone g v w e (AcceptedOpen o) is (λ x. let y = sym told ∙ x in cc) u (record {
-  moved = subst (λ x. Moved v.connection (AcceptedOpen o) x) (sym (ap (λ (x : EngineView _). x.connection) s.2)) s.1;
+  moved = record { calls = connection.IncomingOpen o None ∷ []; happens = refl; chain = (s.0, s.1, ap (λ (x : EngineView _). x.connection) s.2) };
   no_begin = tt;
   sessions_is = ap (λ (x : EngineView _). x.sessions) s.2;
   limit_is = ap (λ (x : EngineView _). x.limit) s.2;
@@ -166,18 +186,22 @@ took_open g v w e c o (Some (no.ConnectionState x)) is told idle fe u s =
     alone g v w e Quiet is (λ y. let z = sym told ∙ y in cc) u (same_engine v w e.frames same (fe ∙ ap (λ (y : EngineView _). y.waiting) same ∙ idle))
 took_open g v w e c o (Some x) is told idle fe u s = absurd s
 
--- the state that a table gives, or the old one
-pub to : (next : Option ConnectionState) (old new : ConnectionState) → next ≡ Some new → new ≡ unwrap_or next old
-to next old new e = sym (ap (λ n. unwrap_or n old) e)
+-- how a Close was refused, by the table
+refused_so : (v k : ConnectionView) (c : CloseSaid) (r : Option ConnectionStateError) → IncomingCloseStep v c r k → r ≡ close_refusal (takes_close v.state) c.error
+refused_so v k c (Some state.IllegalState) s = sym (ap (λ n. close_refusal n c.error) s.0)
+refused_so v k c r s = s.2 ∙ sym (ap (λ n. close_refusal n c.error) s.1)
 
-came_close : (v k : ConnectionView) (c : CloseSaid) (told : Option ConnectionStateError) → IncomingCloseStep v c told k → k ≡ record v { state = unwrap_or (takes_close v.state) v.state }
-came_close v k c (Some state.IllegalState) s = s.1 ∙ ap (λ x. record v { state = unwrap_or x v.state }) (sym s.0)
-came_close v k c told s = s.3 ∙ ap (λ x. record v { state = x }) (to (takes_close v.state) v.state s.0 s.1)
+recorded_by : (next : Option ConnectionState) (error : Option ErrorSaid) (u k : ConnectionView) → k ≡ recorded next (remote_reason error) u → connection.Chain u (stops next error) k
+recorded_by None error u k e = e
+recorded_by (Some at.CloseReceived) error u k e = (stopped u (remote_reason error), refl, e)
+recorded_by (Some s) error u k e = e
 
-recorded_is : (next : Option ConnectionState) (error : Option ErrorSaid) (v : ConnectionView) (s : ConnectionState) → recorded next (remote_reason error) (record v { state = s }) ≡ record v { state = s; stop_reason = remote_close_reason next error v.stop_reason }
-recorded_is None error v s = refl
-recorded_is (Some at.CloseReceived) error v s = refl
-recorded_is (Some n) error v s = refl
+came_close : (v u k : ConnectionView) (c : CloseSaid) (r : Option ConnectionStateError) → IncomingCloseStep v c r u → k ≡ recorded (takes_close v.state) (remote_reason c.error) u → Moved v (CameClose c) k
+came_close v u k c r s e = record {
+  calls = close_calls v c;
+  happens = refl;
+  chain = (u, subst (λ x. IncomingCloseStep v c x u) (refused_so v u c r s) s, recorded_by (takes_close v.state) c.error u k e);
+}
 
 no_close_waits : (told : Option ConnectionStateError) (r : Option StepError) → r ≡ option_map (λ e. no.ConnectionState e) told → (¬ (r ≡ Some no.OutputWaiting)) × (¬ (r ≡ Some no.OutOfMemory))
 no_close_waits None r is = (λ x. let y = sym is ∙ x in cc, λ x. let y = sym is ∙ x in cc)
@@ -190,9 +214,7 @@ close_event c p reached r h = refl
 took_close : {R : Type 0} (g : Relays R) (v w : EngineView R) (e : Entry R) (c : ℕ) (p : CloseSaid) → event e ≡ received_event c (body.Close p) e.reached e.refusal → v.waiting ≡ [] → e.frames ≡ w.waiting → Untouched e.reached e.calls → ReceivedClose v p e.refusal w → Deed g v e w
 took_close g v w e c p is idle fe u s =
     let no = no_close_waits s.0 e.refusal s.3 in
-    let k : s.1 ≡ after_close v.connection p = s.2.2 ∙ ap (recorded (takes_close v.connection.state) (remote_reason p.error)) (came_close v.connection s.2.0 p s.0 s.2.1)
-    ∙ recorded_is (takes_close v.connection.state) p.error v.connection (unwrap_or (takes_close v.connection.state) v.connection.state) in
-    alone g v w e (CameClose p) (is ∙ close_event c p e.reached e.refusal no.1) no.0 u (one_moved v w s.1 (CameClose p) e.frames s.4 k tt refl refl (fe ∙ ap (λ (x : EngineView _). x.waiting) s.4 ∙ idle))
+    alone g v w e (CameClose p) (is ∙ close_event c p e.reached e.refusal no.1) no.0 u (one_moved v w s.1 (CameClose p) e.frames s.4 (came_close v.connection s.2.0 s.1 p s.0 s.2.1 s.2.2) tt refl refl (fe ∙ ap (λ (x : EngineView _). x.waiting) s.4 ∙ idle))
 
 -- ---- received frames of sessions
 
@@ -221,11 +243,11 @@ lost v c e k s = absurd s
 
 found_begin : (v : ConnectionView) (c : ℕ) (p : BeginSaid) → Found v c (body.Begin p)
 found_begin v c p n k (Some no.OutOfMemory) f h = absurd (h refl)
-found_begin v c p n k r f h = ((f.1.0, f.1.2), f.2)
+found_begin v c p n k r f h = record { calls = connection.IncomingBegin c (Some f.1.0) (Ok n) ∷ []; happens = (f.1.0, f.1.2, refl); chain = (k, (f.0, (f.1.0, refl, f.1.2), f.2), refl) }
 
 found_end : (v : ConnectionView) (c : ℕ) (p : EndSaid) → Found v c (body.End p)
 found_end v c p n k (Some no.OutOfMemory) f h = absurd (h refl)
-found_end v c p n k r f h = f.2
+found_end v c p n k r f h = record { calls = connection.IncomingEnd c (Ok n) ∷ []; happens = (n, refl); chain = (k, f, refl) }
 
 -- the events of frames that are a session's
 abbrev IsSession : FrameBody → Type 0
@@ -242,15 +264,15 @@ found : (v : ConnectionView) (c : ℕ) (b : FrameBody) → IsSession b → Found
 found v c (body.Begin p) i n k r f h = found_begin v c p n k r f h
 found v c (body.End p) i n k r f h = found_end v c p n k r f h
 found v c (body.Attach p) i n k (Some no.OutOfMemory) f h = absurd (h refl)
-found v c (body.Attach p) i n k r f h = f.1
+found v c (body.Attach p) i n k r f h = quiet v k f.1
 found v c (body.Detach p) i n k (Some no.OutOfMemory) f h = absurd (h refl)
-found v c (body.Detach p) i n k r f h = f.1
+found v c (body.Detach p) i n k r f h = quiet v k f.1
 found v c (body.Disposition p) i n k (Some no.OutOfMemory) f h = absurd (h refl)
-found v c (body.Disposition p) i n k r f h = f.1
+found v c (body.Disposition p) i n k r f h = quiet v k f.1
 found v c (body.Flow p) i n k (Some no.OutOfMemory) f h = absurd (h refl)
-found v c (body.Flow p) i n k r f h = f.1
+found v c (body.Flow p) i n k r f h = quiet v k f.1
 found v c (body.Transfer p payload) i n k (Some no.OutOfMemory) f h = absurd (h refl)
-found v c (body.Transfer p payload) i n k r f h = f.1
+found v c (body.Transfer p payload) i n k r f h = quiet v k f.1
 found v c b i n k r f h = absurd i
 
 unfound : (v : ConnectionView) (c : ℕ) (b : FrameBody) → IsSession b → Lost v c b

@@ -1,9 +1,11 @@
 -- What a step does: to the connection, by the event of its entry; to the sessions: nothing, calls of one of them, or one more;
 -- and what it hands out. Every law of histories goes by this.
-use Rattle.std.proofs.Common.{◌≡◌, ◌⊎◌, ◌<◌, ◌^◌, ◌++◌, ℕ, List, [], ◌∷◌, Option, Some, None, Result, Ok, Err, refl, ap, sym, subst, ◌∙◌, inl, inr, nat_eq, min, unwrap_or}
+use Rattle.std.proofs.Common.{◌≡◌, ◌⊎◌, ◌<◌, ◌^◌, ◌++◌, ℕ, List, [], ◌∷◌, Option, Some, None, Result, Ok, Err, refl, ap, sym, subst, ◌∙◌, inl, inr, nat_eq, true, unwrap_or}
 use Rattle.std.specs.FinMap as map
 use Rattle.std.specs.Map.{lookup, set_value}
 use Rattle.amqp_types.specs.declared.states.ConnectionState.{ConnectionState}
+use Rattle.amqp_types.specs.declared.states.ConnectionState.TheVariants as at
+use Rattle.amqp_types.specs.Error.{ErrorSaid}
 use Rattle.amqp_types.specs.declared.states.SessionState.{SessionState}
 use Rattle.amqp_types.specs.declared.states.SessionState.TheVariants.{Unmapped}
 use Rattle.amqp_types.specs.Close.{CloseSaid}
@@ -22,13 +24,17 @@ use Rattle.amqp_engine.specs.declared.engine.input.Input.{Input}
 use Rattle.amqp_engine.specs.declared.engine.input.Input.TheVariants as input
 use Rattle.amqp_engine.specs.declared.engine.step_error.StepError.{StepError}
 use Rattle.amqp_engine.specs.declared.engine.step_error.StepError.TheVariants as no
-use Rattle.amqp_connection.specs.States.{sends_open, takes_open, takes_close}
-use Rattle.amqp_connection.specs.Connection.{ConnectionView, Holds, closes_by, given_back, stopped}
+use Rattle.amqp_connection.specs.declared.error.ConnectionStateError.{ConnectionStateError}
+use Rattle.amqp_connection.specs.declared.error.ConnectionStateError.TheVariants as state
+use Rattle.amqp_connection.specs.States.{takes_close}
+use Rattle.amqp_connection.specs.Connection.{ConnectionView, Holds, told, open_frame, close_frame}
+use Rattle.amqp_connection.specs.History as connection
 use Rattle.amqp_engine.specs.EngineView.{EngineView}
 use Rattle.amqp_engine.specs.Waits.{sent}
 use Rattle.amqp_engine.specs.Calls.{Calls, state_refusal, session_refusal, link_refusal, request_calls, received_calls}
 use Rattle.amqp_engine.specs.Sessions.{Untouched, Nothing, Called, Unknown, Does}
-use Rattle.amqp_engine.specs.Engine.{Entry, close_reason}
+use Rattle.amqp_engine.specs.Entry.{Entry}
+use Rattle.amqp_engine.specs.ByHistory.{close_reason, remote_reason}
 use Rattle.amqp_engine.specs.Event.{Event, Quiet, SentOpen, SentClose, AcceptedOpen, CameClose, Began, Released, Routed, Unrouted, event}
 use Rattle.amqp_engine.specs.ByHistory.{remote_close_reason, limit_by}
 use Rattle.amqp_engine.specs.Headline.{own_frames, asked_calls}
@@ -40,16 +46,38 @@ use Rattle.amqp_engine.proofs.Beginning.{some_none}
 abbrev pub after_close : ConnectionView → CloseSaid → ConnectionView
 after_close v c = record v { state = unwrap_or (takes_close v.state) v.state; stop_reason = remote_close_reason (takes_close v.state) c.error v.stop_reason }
 
-abbrev pub Moved : ConnectionView → Event → ConnectionView → Type 0
-Moved v Quiet w = w ≡ v
-Moved v SentOpen w = (s : ConnectionState) × (sends_open v.state ≡ Some s) × (w ≡ record v { state = s })
-Moved v (SentClose error) w = (s : ConnectionState) × (closes_by error v.state ≡ Some s) × (w ≡ stopped (record v { state = s }) (close_reason error))
-Moved v (AcceptedOpen o) w = (s : ConnectionState) × (takes_open v.state ≡ Some s) × (w ≡ record v { state = s; agreed_channel_max = min v.local_open.channel_max o.channel_max })
-Moved v (CameClose c) w = w ≡ after_close v c
-Moved v (Began n settings c) w = w ≡ record v { session_by_outgoing_channel = map.insert v.session_by_outgoing_channel c n }
-Moved v (Released n) w = (c : ℕ) × Holds v c n × (w ≡ given_back v c)
-Moved v (Routed c n) w = ((d : ℕ) × (map.get v.session_by_outgoing_channel d ≡ Some n)) × (w ≡ record v { session_by_incoming_channel = map.insert v.session_by_incoming_channel c n })
-Moved v (Unrouted c) w = w ≡ record v { session_by_incoming_channel = map.remove v.session_by_incoming_channel c }
+-- how the peer's Close is refused, by the state that it leads to, and whether the connection is then stopped
+abbrev pub close_refusal : Option ConnectionState → Option ErrorSaid → Option ConnectionStateError
+close_refusal None error = Some state.IllegalState
+close_refusal (Some s) error = told s error
+
+abbrev pub stops : Option ConnectionState → Option ErrorSaid → List connection.Entry
+stops (Some at.CloseReceived) error = connection.Stop (remote_reason error) ∷ []
+stops next error = []
+
+abbrev pub close_calls : ConnectionView → CloseSaid → List connection.Entry
+close_calls v c = connection.IncomingClose c (close_refusal (takes_close v.state) c.error) ∷ stops (takes_close v.state) c.error
+
+-- the calls of the connection by which an event happens
+abbrev pub HappensBy : ConnectionView → Event → List connection.Entry → Type 0
+HappensBy v Quiet calls = calls ≡ []
+HappensBy v SentOpen calls = calls ≡ connection.SendOpen (Ok (open_frame v.local_open)) ∷ []
+HappensBy v (SentClose error) calls = calls ≡ connection.SendClose error (Ok (close_frame error)) ∷ connection.Stop (close_reason error) ∷ []
+HappensBy v (AcceptedOpen o) calls = calls ≡ connection.IncomingOpen o None ∷ []
+HappensBy v (CameClose c) calls = calls ≡ close_calls v c
+HappensBy v (Began n settings c) calls = calls ≡ connection.Allocate n (Ok c) ∷ []
+HappensBy v (Released n) calls = (c : ℕ) × Holds v c n × (calls ≡ connection.Deallocate c true ∷ [])
+HappensBy v (Routed c n) calls = (d : ℕ) × (map.get v.session_by_outgoing_channel d ≡ Some n) × (calls ≡ connection.IncomingBegin c (Some d) (Ok n) ∷ [])
+HappensBy v (Unrouted c) calls = (n : ℕ) × (calls ≡ connection.IncomingEnd c (Ok n) ∷ [])
+
+-- the event happens: these calls lead from the one view to the other
+pub record Moved (v : ConnectionView) (ev : Event) (w : ConnectionView) : Type 0 where
+  pub calls : List connection.Entry
+  pub happens : HappensBy v ev calls
+  pub chain : connection.Chain v calls w
+
+pub quiet : (v w : ConnectionView) → w ≡ v → Moved v Quiet w
+quiet v w e = record { calls = []; happens = refl; chain = e }
 
 -- ---- the refusals of calls
 
@@ -179,7 +207,7 @@ alone g v w e ev is taken u a = record {
 
 pub same_engine : {R : Type 0} (v w : EngineView R) (frames : List Frame) → w ≡ v → frames ≡ [] → Alone v Quiet frames w
 same_engine v w frames e none = record {
-  moved = ap (λ (x : EngineView _). x.connection) e;
+  moved = quiet v.connection w.connection (ap (λ (x : EngineView _). x.connection) e);
   no_begin = tt;
   sessions_is = ap (λ (x : EngineView _). x.sessions) e;
   limit_is = ap (λ (x : EngineView _). x.limit) e;
@@ -256,5 +284,5 @@ calls_none g v w k e ev n is m nb l o idle fe u =
 -- a request on a session
 pub does : {R : Type 0} (g : Relays R) (v w : EngineView R) (e : Entry R) (n : ℕ) (asks : Calls R) → event e ≡ Quiet → Plain asks → ((s : SessionState) → asks s e.calls e.refusal → asked_calls e.input e.received s e.calls e.refusal) → v.waiting ≡ [] → e.frames ≡ w.waiting →
     Does g v n asks e.reached e.calls e.refusal w → Deed g v e w
-does g v w e n asks is plain carry idle fe (inl s) = calls_one g v w v.connection e Quiet n asks is refl tt refl refl plain carry s.0 fe s.1
-does g v w e n asks is plain carry idle fe (inr s) = calls_none g v w v.connection e Quiet n is refl tt refl refl idle fe s.1
+does g v w e n asks is plain carry idle fe (inl s) = calls_one g v w v.connection e Quiet n asks is (quiet v.connection v.connection refl) tt refl refl plain carry s.0 fe s.1
+does g v w e n asks is plain carry idle fe (inr s) = calls_none g v w v.connection e Quiet n is (quiet v.connection v.connection refl) tt refl refl idle fe s.1

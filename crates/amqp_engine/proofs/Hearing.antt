@@ -1,10 +1,9 @@
 -- The wishes that a run has heard so far, and the run of the inputs behind them.
-use Rattle.std.proofs.Common.{◌≡◌, ℕ, List, All, [], ◌∷◌, ◌++◌, refl, ap, sym, subst, ◌∙◌, append_assoc, Option, Some, None, Result, Ok, Err, OnOk, inl, inr, false, map as each}
+use Rattle.std.proofs.Common.{◌≡◌, ℕ, List, All, [], ◌∷◌, ◌++◌, refl, ap, sym, subst, ◌∙◌, append_assoc, Option, Some, None, Result, Ok, Err, inl, inr, false, map as each}
 use Rattle.std.proofs.lemmas.List.{append-nil}
-use Rattle.std.proofs.lemmas.List.Elements.{All-nil, All-push, All-append}
+use Rattle.std.proofs.lemmas.List.Elements.{All-nil, All-push}
 use Rattle.std.specs.FinMap as finite
 use Rattle.amqp_types.specs.Error.{ErrorSaid}
-use Rattle.amqp_frames.specs.declared.frame.Frame.{Frame}
 use Rattle.amqp_session.specs.Relay.{Relays}
 use Rattle.amqp_engine.specs.declared.engine.input.Input.{Input}
 use Rattle.amqp_engine.specs.declared.engine.input.Input.TheVariants as input
@@ -12,28 +11,27 @@ use Rattle.amqp_engine.specs.declared.engine.answer.Answer.{Answer}
 use Rattle.amqp_engine.specs.declared.engine.answer.Answer.TheVariants.{Done}
 use Rattle.amqp_engine.specs.declared.engine.answer.Stopped.{Stopped}
 use Rattle.amqp_engine.specs.declared.engine.step_error.StepError.{StepError}
-use Rattle.amqp_engine.specs.Kept.{Wishes, Outcomes, outcomes_by}
+use Rattle.amqp_engine.specs.Kept.{Wishes}
 use Rattle.amqp_engine.specs.Places.{TakesEnd, has_entries}
-use Rattle.amqp_engine.specs.EngineView.{EngineView, new_engine}
-use Rattle.amqp_engine.specs.Engine.{Entry, Steps}
-use Rattle.amqp_engine.specs.History.{Taken, OnlyLeft, Chain, LeadsTo}
-use Rattle.amqp_engine.specs.Event.{event}
-use Rattle.amqp_engine.specs.ByHistory.{limit_by, limit_after}
-use Rattle.amqp_engine.specs.Output.{IsOuts, PutOut, Speaks, answer_of}
-use Rattle.amqp_engine.specs.Headline.{IsTaken, inputs_of, outcomes_from, Runs, Ran}
-use Rattle.amqp_engine.specs.HandledRun.{end_request, accepted, if_accepted, NoWishes, Hears, HandledRan, AskedSo, Asked, Hearing, IsWish}
-use Rattle.amqp_engine.proofs.Outputs.{Taken-none, Taken-more}
+use Rattle.amqp_engine.specs.EngineView.{EngineView}
+use Rattle.amqp_engine.specs.Engine.{Steps}
+use Rattle.amqp_engine.specs.Entry.{Entry}
+use Rattle.amqp_engine.specs.History.{Taken, OnlyLeft, Chain}
+use Rattle.amqp_engine.specs.Inner.Running.{Running}
+use Rattle.amqp_engine.specs.Output.{PutOut}
+use Rattle.amqp_engine.specs.Promise.{IsTaken, inputs_of, Ends, NoneLeft}
+use Rattle.amqp_engine.specs.Ran.{Ran}
+use Rattle.amqp_engine.specs.HandledRun.{end_request, accepted, if_accepted, NoWishes, Hears, HandledRan}
+use Rattle.amqp_engine.specs.Inner.Hearing.{AskedSo, Asked, Hearing, IsWish}
+use Rattle.amqp_engine.proofs.Outputs.{Taken-none}
 use Rattle.amqp_engine.proofs.Passages.{taken}
 use Rattle.amqp_engine.proofs.Staying.{step_wishes}
 use Rattle.amqp_engine.proofs.Refusing.{refused_same}
-use Rattle.amqp_engine.proofs.Running.{Chain-append, Running, Running-start, Running-more, Running-Runs, entry_of, HeadlineLaw, StandsLaw}
-
-Chain-end : {R : Type 0} (g : Relays R) (es : List (Entry R)) (v u w : EngineView R) → Chain g v es u → Taken u w → Chain g v es w
-Chain-end g [] v u w c t = Taken-more v u w c t
-Chain-end g (e ∷ es) v u w c t = (c.0, c.1, c.2, c.3, c.4, c.5, Chain-end g es c.2 u w c.6 t)
+use Rattle.amqp_engine.proofs.RunLemmas.{Chain-append, Running-append, running_ran, ran_running, HeadlineLaw, StandsLaw}
+use Rattle.amqp_engine.proofs.Running.{Chain-end, Running-start, Running-more, entry_of}
 
 -- wishes are no part of a history
-rewished : {R : Type 0} (v : EngineView R) (w : Wishes) → Taken v (record v { wishes = w })
+pub rewished : {R : Type 0} (v : EngineView R) (w : Wishes) → Taken v (record v { wishes = w })
 rewished v w = let t = Taken-none v in record {
   gone = t.gone;
   left = t.left;
@@ -171,33 +169,26 @@ ends_more g v v1 v2 v3 answers answers1 answers3 e h idle takes same asked =
       now = more.now;
     }
 
-heard_runs : {R : Type 0} (g : Relays R) (v v' : EngineView R) (heard : List (Entry R)) (answers answers' : List Answer) → HeadlineLaw g → StandsLaw g → (w : Hears v.wishes heard v'.wishes) → Heard g v heard answers v' answers' → Hearing g v answers v' answers'
-heard_runs g v v' heard answers answers' law views w h = record {
-  heard = heard;
-  hears = w;
-  all_taken = h.all_taken;
-  asked = h.asked;
-  runs = Running-Runs g v v' (accepted heard) answers answers' law views h.running;
-  limit_is = h.running.limit_is;
-}
+heard_runs : {R : Type 0} (g : Relays R) (v v' : EngineView R) (heard : List (Entry R)) (answers answers' : List Answer) → (w : Hears v.wishes heard v'.wishes) → Heard g v heard answers v' answers' → Hearing g v answers v' answers'
+heard_runs g v v' heard answers answers' w h = record { heard = heard; hears = w; all_taken = h.all_taken; asked = h.asked; running = h.running }
 
 -- the Close was not come to
-pub ends_heard : {R : Type 0} (g : Relays R) (v v' : EngineView R) (answers answers' : List Answer) → HeadlineLaw g → StandsLaw g → HearingEnds g v answers v' answers' → Hearing g v answers v' answers'
-ends_heard g v v' answers answers' law views h =
-    heard_runs g v v' h.heard answers answers' law views
+pub ends_heard : {R : Type 0} (g : Relays R) (v v' : EngineView R) (answers answers' : List Answer) → HearingEnds g v answers v' answers' → Hearing g v answers v' answers'
+ends_heard g v v' answers answers' h =
+    heard_runs g v v' h.heard answers answers'
     (record { ends = h.ends; close = None; ends_first = h.ends_first; close_last = h.close_is; are = h.are ∙ sym (append-nil (each end_request h.ends)) }) h.now
 
 -- ---- the Close
 
-pub close_heard : {R : Type 0} (g : Relays R) (v v1 v2 v3 : EngineView R) (answers answers1 answers3 : List Answer) (error : Option ErrorSaid) → HeadlineLaw g → StandsLaw g →
+pub close_heard : {R : Type 0} (g : Relays R) (v v1 v2 v3 : EngineView R) (answers answers1 answers3 : List Answer) (error : Option ErrorSaid) →
     HearingEnds g v answers v1 answers1 → v1.waiting ≡ [] → finite.entries v1.wishes.ends ≡ [] → v1.wishes.close ≡ Some error → v2 ≡ record v1 { wishes = record v1.wishes { close = None } } →
     Asked g v2 (input.Close error) answers1 v3 answers3 → Hearing g v answers v3 answers3
-close_heard g v v1 v2 v3 answers answers1 answers3 error law views h idle none noted same asked =
+close_heard g v v1 v2 v3 answers answers1 answers3 error h idle none noted same asked =
     let before = subst (λ (x : EngineView _). Heard g v h.heard answers x answers1) (sym same) (heard_rewished g v h.heard answers v1 answers1 (record v1.wishes { close = None }) h.now) in
     let more = one_more g v h.heard answers (input.Close error) v2 v3 answers1 answers3 before (ap (λ (x : EngineView _). x.waiting) same ∙ idle) tt asked in
     let left : v3.wishes ≡ record v1.wishes { close = None } = more.wishes_stay ∙ ap (λ (x : EngineView _). x.wishes) same in
     let ends : finite.entries v3.wishes.ends ≡ [] = ap (λ (w : Wishes). finite.entries w.ends) left ∙ none in
-    heard_runs g v v3 (h.heard ++ more.entry ∷ []) answers answers3 law views
+    heard_runs g v v3 (h.heard ++ more.entry ∷ []) answers answers3
     (record {
       ends = h.ends;
       close = Some error;
@@ -213,100 +204,50 @@ close_left v1 v2 v3 none same stays =
 
 -- ---- the inputs
 
-nothing_left : (limit : ℕ) (waiting' : List Frame) (out : List Answer) → PutOut limit [] waiting' out → (waiting' ≡ []) × (out ≡ [])
-nothing_left limit waiting' out p = by p.gone waiting' p.left p.answers
-  where
-    by : (gone left : List Frame) → [] ≡ gone ++ left → IsOuts limit gone out → (left ≡ []) × (out ≡ [])
-    by [] left e o = (sym e, o)
-    by (f ∷ gone) left e o = absurd cc
+-- these entries, and then the inputs behind them
+ran_both : {R : Type 0} (g : Relays R) (v u w : EngineView R) (es : List (Entry R)) (inputs inputs' : List (Input R)) (answers answers1 answers2 : List Answer) → HeadlineLaw g → StandsLaw g →
+    Running g v es answers u answers1 → Ran g [] u inputs answers1 w inputs' answers2 → Ran g es v inputs answers w inputs' answers2
+ran_both g v u w es inputs inputs' answers answers1 answers2 law views a r =
+    let b = ran_running g u w [] inputs inputs' answers1 answers2 r in
+    running_ran g v w es r.entries inputs inputs' answers answers2 law views r.promise.taken
+    (subst (λ (xs : List Answer). Running g v (es ++ r.entries) answers w xs) (sym b.appended) (Running-append g v u w es r.entries answers answers1 answers1 answers2 a b))
 
--- what is said of the one run, and then of the other, is said of both
-spoken : {R : Type 0} (limit : ℕ) (waiting : List Frame) (es : List (Entry R)) (waiting' : List Frame) (out out' : List Answer) → PutOut limit waiting [] out → Speaks limit [] es waiting' out' → Speaks limit waiting es waiting' (out ++ out')
-spoken limit waiting [] waiting' out out' p s =
-    let n = nothing_left limit waiting' out' s in
-    subst (λ (fs : List Frame). PutOut limit waiting fs (out ++ out')) (sym n.0) (subst (λ (xs : List Answer). PutOut limit waiting [] xs) (sym (ap (λ (xs : List Answer). out ++ xs) n.1 ∙ append-nil out)) p)
-spoken limit waiting (e ∷ es) waiting' out out' p s =
-    let first : s.0 ≡ [] = s.3 in (
-      out,
-      s.1,
-      ap (λ (xs : List Answer). out ++ xs) (s.2 ∙ ap (λ (xs : List Answer). xs ++ (answer_of e.refusal ∷ s.1)) first),
-      subst (λ (fs : List Frame). IsOuts limit fs out) (sym (p.left ∙ append-nil p.gone)) p.answers,
-      s.4,
-    )
-
-speaks_append : {R : Type 0} (limit : ℕ) (waiting : List Frame) (es fs : List (Entry R)) (waiting' : List Frame) (out out' : List Answer) → Speaks limit waiting es [] out → Speaks (limit_after limit es) [] fs waiting' out' → Speaks limit waiting (es ++ fs) waiting' (out ++ out')
-speaks_append limit waiting [] fs waiting' out out' s t = spoken limit waiting fs waiting' out out' s t
-speaks_append limit waiting (e ∷ es) fs waiting' out out' s t = (
-  s.0,
-  s.1 ++ out',
-  ap (λ (xs : List Answer). xs ++ out') s.2 ∙ append_assoc s.0 (answer_of e.refusal ∷ s.1) out',
-  s.3,
-  speaks_append (limit_by limit (event e)) e.frames es fs waiting' s.1 out' s.4 t,
-)
-
-outcomes_both : {R : Type 0} (o : Outcomes) (xs ys : List (Entry R)) → outcomes_from o (xs ++ ys) ≡ outcomes_from (outcomes_from o xs) ys
-outcomes_both o [] ys = refl
-outcomes_both o (e ∷ xs) ys = outcomes_both (outcomes_by e.received e.reached e.refusal o) xs ys
-
-runs_both : {R : Type 0} (g : Relays R) (v u w : EngineView R) (es fs : List (Entry R)) (answers answers1 answers2 : List Answer) → HeadlineLaw g → StandsLaw g →
-    Runs g es v answers u answers1 → u.limit ≡ limit_after v.limit es → u.waiting ≡ [] → Runs g fs u answers1 w answers2 → Runs g (es ++ fs) v answers w answers2
-runs_both g v u w es fs answers answers1 answers2 law views a limit idle b =
-    let chain = Chain-append g es fs v u w a.steps b.steps in
-    record {
-      all_taken = All-append IsTaken es fs a.all_taken b.all_taken;
-      steps = chain;
-      goes_on = λ state o H l.
-          let all : LeadsTo g state o (H ++ (es ++ fs)) w = Chain-append g H (es ++ fs) (new_engine state o) v w l chain in
-          (all, law state o (H ++ (es ++ fs)) w all, views state o (H ++ (es ++ fs)) w all);
-      outcomes_are = b.outcomes_are ∙ ap (λ o. outcomes_from o fs) a.outcomes_are ∙ sym (outcomes_both v.outcomes es fs);
-      out = a.out ++ b.out;
-      appended = b.appended ∙ ap (λ (xs : List Answer). xs ++ b.out) a.appended ∙ append_assoc answers a.out b.out;
-      said = speaks_append v.limit v.waiting es fs w.waiting a.out b.out (subst (λ (ws : List Frame). Speaks v.limit v.waiting es ws a.out) idle a.said)
-          (subst (λ k. Speaks k [] fs w.waiting b.out) limit (subst (λ (ws : List Frame). Speaks u.limit ws fs w.waiting b.out) idle b.said));
-    }
+-- these entries, and no input
+ran_none : {R : Type 0} (g : Relays R) (v v' : EngineView R) (es : List (Entry R)) (inputs : List (Input R)) (answers answers' : List Answer) → HeadlineLaw g → StandsLaw g → Running g v es answers v' answers' → Ran g es v inputs answers v' inputs answers'
+ran_none {R} g v v' es inputs answers answers' law views a =
+    running_ran g v v' es [] inputs inputs answers answers' law views refl (subst (λ (xs : List (Entry R)). Running g v xs answers v' answers') (sym (append-nil es)) a)
 
 -- memory was refused meanwhile: no input is taken
-pub heard_short : {R : Type 0} (g : Relays R) (v v' : EngineView R) (inputs : List (Input R)) (answers answers' : List Answer) (stopped : Stopped) → stopped.done ≡ 0 → Hearing g v answers v' answers' →
-    HandledRan g v inputs answers (Err stopped) v' inputs answers'
-heard_short {R} g v v' inputs answers answers' stopped none h = record {
+pub heard_short : {R : Type 0} (g : Relays R) (v v' : EngineView R) (inputs : List (Input R)) (answers answers' : List Answer) → HeadlineLaw g → StandsLaw g → Hearing g v answers v' answers' →
+    HandledRan g v inputs answers v' inputs answers'
+unfolding ran_none running_ran
+heard_short {R} g v v' inputs answers answers' law views h = record {
   heard = h.heard;
   hears = h.hears;
-  ran = record {
-    entries = [];
-    taken = refl;
-    runs = subst (λ (es : List (Entry R)). Runs g es v answers v' answers') (sym (append-nil (accepted h.heard))) h.runs;
-    result_is = none;
-  };
+  ran = ran_none g v v' (accepted h.heard) inputs answers answers' law views h.running;
   all_taken = h.all_taken;
   asked = subst (λ (es : List (Entry R)). Chain g v es v') (sym (append-nil h.heard)) h.asked;
   wishes_first = inl refl;
-  all_heard = tt;
 }
 
 -- all were heard, and then the inputs are run
-pub heard_all : {R : Type 0} (g : Relays R) (v u w : EngineView R) (inputs inputs' : List (Input R)) (answers answers1 answers2 : List Answer) (result : Result (Unit {0}) Stopped) → HeadlineLaw g → StandsLaw g →
-    Hearing g v answers u answers1 → NoWishes u.wishes → u.waiting ≡ [] → Ran g [] u inputs answers1 result w inputs' answers2 → w.wishes ≡ u.wishes → HandledRan g v inputs answers result w inputs' answers2
-heard_all {R} g v u w inputs inputs' answers answers1 answers2 result law views h none idle r stays = record {
+pub heard_all : {R : Type 0} (g : Relays R) (v u w : EngineView R) (inputs inputs' : List (Input R)) (answers answers1 answers2 : List Answer) → HeadlineLaw g → StandsLaw g →
+    Hearing g v answers u answers1 → NoWishes u.wishes → Ran g [] u inputs answers1 w inputs' answers2 → w.wishes ≡ u.wishes → HandledRan g v inputs answers w inputs' answers2
+unfolding ran_both running_ran
+heard_all {R} g v u w inputs inputs' answers answers1 answers2 law views h none r stays = record {
   heard = h.heard;
   hears = subst (λ (x : Wishes). Hears v.wishes h.heard x) (sym stays) h.hears;
-  ran = record {
-    entries = r.entries;
-    taken = r.taken;
-    runs = runs_both g v u w (accepted h.heard) r.entries answers answers1 answers2 law views h.runs h.limit_is idle r.runs;
-    result_is = r.result_is;
-  };
+  ran = ran_both g v u w (accepted h.heard) inputs inputs' answers answers1 answers2 law views h.running r;
   all_taken = h.all_taken;
-  asked = Chain-append g h.heard r.entries v u w h.asked r.runs.steps;
-  wishes_first = inr left;
-  all_heard = ok result;
+  asked = Chain-append g h.heard r.entries v u w h.asked r.steps;
+  wishes_first = inr (subst NoWishes (sym stays) none);
 }
-  where
-    left : NoWishes w.wishes
-    left = subst NoWishes (sym stays) none
 
-    ok : (x : Result (Unit {0}) Stopped) → OnOk x (NoWishes w.wishes)
-    ok (Ok y) = left
-    ok (Err y) = tt
+-- how the run of the inputs ended, where no wish is left
+pub ends_wished : {R : Type 0} (u w : EngineView R) (inputs inputs' : List (Input R)) (result : Result (Unit {0}) Stopped) → NoWishes u.wishes → w.wishes ≡ u.wishes → Ends (NoneLeft inputs' w) inputs inputs' result →
+    Ends (NoneLeft inputs' w × NoWishes w.wishes) inputs inputs' result
+ends_wished u w inputs inputs' (Ok x) none stays e = (e, subst NoWishes (sym stays) none)
+ends_wished u w inputs inputs' (Err x) none stays e = (e.0, λ p. e.1 p.0)
 
 pub no_more : {X : Type 0} (xs : List X) → has_entries xs ≡ false → xs ≡ []
 no_more [] e = refl

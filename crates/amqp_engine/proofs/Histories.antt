@@ -1,5 +1,5 @@
 -- How many Opens and Closes a history hands out, from what each state may still hand out.
-use Rattle.std.proofs.Common.{◌≡◌, ◌≤◌, ℕ, ◌+◌, List, [], ◌∷◌, ◌++◌, Option, Some, None, refl, sym, ap, subst, arith, unwrap_or}
+use Rattle.std.proofs.Common.{◌≡◌, ◌≤◌, List, [], ◌∷◌, ◌++◌, Option, Some, None, refl, sym, ap, subst, arith}
 use Rattle.amqp_types.specs.declared.states.ConnectionState.{ConnectionState}
 use Rattle.amqp_types.specs.declared.states.ConnectionState.TheVariants as at
 use Rattle.amqp_types.specs.Error.{ErrorSaid}
@@ -11,47 +11,41 @@ use Rattle.amqp_session.specs.Relay.{Relays}
 use Rattle.amqp_session.specs.OutgoingFrames.{calls_frames}
 use Rattle.amqp_frames.specs.declared.frame.Frame.{Frame}
 use Rattle.amqp_connection.specs.States.{takes_close}
-use Rattle.amqp_connection.specs.Connection.{ConnectionView, closes_by}
+use Rattle.amqp_connection.specs.Connection.{ConnectionView}
+use Rattle.amqp_connection.specs.History as connection
+use Rattle.amqp_connection.specs.ByHistory.{opens, closes, is_open, is_close, handed as connection_handed}
+use Rattle.amqp_connection.proofs.OneEach.{Goes, spends_none, chain_goes, opens-append, closes-append}
 use Rattle.amqp_engine.specs.Waits.{body_of, sent}
 use Rattle.amqp_engine.specs.EngineView.{EngineView, new_engine}
-use Rattle.amqp_engine.specs.Engine.{Entry}
+use Rattle.amqp_engine.specs.Entry.{Entry}
 use Rattle.amqp_engine.specs.Event.{Event, Quiet, SentOpen, SentClose, AcceptedOpen, CameClose, Began, Released, Routed, Unrouted, event}
 use Rattle.amqp_engine.proofs.Apart.{Chain, LeadsTo}
-use Rattle.amqp_engine.specs.Headline.{opens, closes, is_open, is_close, handed, own_frames}
-use Rattle.amqp_engine.proofs.Deeds.{Moved}
+use Rattle.amqp_engine.specs.Headline.{handed, own_frames}
+use Rattle.amqp_engine.proofs.Deeds.{Moved, stops}
 use Rattle.amqp_engine.proofs.Passages.{Passage, passage}
-use Rattle.amqp_engine.proofs.StateTables.{Spends, open_left, close_left, sends_open_spends, takes_open_spends, sends_close_spends, sends_close_with_error_spends, takes_close_spends}
-
-spends_none : (s t : ConnectionState) → t ≡ s → Spends 0 0 s t
-spends_none s t e = subst (λ x. Spends 0 0 s x) (sym e) (record { open_spent = omega arith; close_spent = omega arith })
-
-ends_at : (i j : ℕ) (s : ConnectionState) (v w : ConnectionView) → w ≡ v → Spends i j s v.state → Spends i j s w.state
-ends_at i j s v w e m = subst (λ (k : ConnectionView). Spends i j s k.state) (sym e) m
-
-closes_by_spends : (error : Option ErrorSaid) (s t : ConnectionState) → closes_by error s ≡ Some t → Spends 0 1 s t
-closes_by_spends None s t e = sends_close_spends s t e
-closes_by_spends (Some x) s t e = sends_close_with_error_spends s t e
-
-came_spends : (s : ConnectionState) (next : Option ConnectionState) → takes_close s ≡ next → Spends 0 0 s (unwrap_or next s)
-came_spends s None e = spends_none s s refl
-came_spends s (Some t) e = takes_close_spends s t e
+use Rattle.amqp_connection.proofs.StateTables.{open_left, close_left}
 
 S : (v w : ConnectionView) → v ≡ w → v.state ≡ w.state
 S v w e = ap (λ (k : ConnectionView). k.state) e
 
-abbrev Goes : List Frame → ConnectionState → ConnectionState → Type 0
-Goes fs s t = Spends (opens fs) (closes fs) s t
+handed_by : (v w : ConnectionView) (cs ds : List connection.Entry) → cs ≡ ds → connection.Chain v cs w → Goes (connection_handed ds) v.state w.state
+handed_by v w cs ds e c = subst (λ (x : List connection.Entry). Goes (connection_handed x) v.state w.state) e (chain_goes cs v w c)
 
-event_spends : (v w : ConnectionView) (ev : Event) → Moved v ev w → Goes (own_frames v.local_open ev) v.state w.state
-event_spends v w Quiet m = spends_none v.state w.state (S w v m)
-event_spends v w SentOpen m = ends_at 1 0 v.state (record v { state = m.0 }) w m.2 (sends_open_spends v.state m.0 m.1)
-event_spends v w (SentClose error) m = ends_at 0 1 v.state _ w m.2 (closes_by_spends error v.state m.0 m.1)
-event_spends v w (AcceptedOpen o) m = ends_at 0 0 v.state _ w m.2 (takes_open_spends v.state m.0 m.1)
-event_spends v w (CameClose c) m = ends_at 0 0 v.state _ w m (came_spends v.state (takes_close v.state) refl)
-event_spends v w (Began n settings c) m = spends_none v.state w.state (S w _ m)
-event_spends v w (Released n) m = spends_none v.state w.state (S w _ m.2)
-event_spends v w (Routed c n) m = spends_none v.state w.state (S w _ m.1)
-event_spends v w (Unrouted c) m = spends_none v.state w.state (S w _ m)
+stops_none : (next : Option ConnectionState) (error : Option ErrorSaid) → connection_handed (stops next error) ≡ []
+stops_none None error = refl
+stops_none (Some at.CloseReceived) error = refl
+stops_none (Some s) error = refl
+
+event_goes : (v w : ConnectionView) (ev : Event) → Moved v ev w → Goes (own_frames v.local_open ev) v.state w.state
+event_goes v w Quiet m = handed_by v w m.calls _ m.happens m.chain
+event_goes v w SentOpen m = handed_by v w m.calls _ m.happens m.chain
+event_goes v w (SentClose error) m = handed_by v w m.calls _ m.happens m.chain
+event_goes v w (AcceptedOpen o) m = handed_by v w m.calls _ m.happens m.chain
+event_goes v w (CameClose c) m = subst (λ (fs : List Frame). Goes fs v.state w.state) (stops_none (takes_close v.state) c.error) (handed_by v w m.calls _ m.happens m.chain)
+event_goes v w (Began n settings c) m = handed_by v w m.calls _ m.happens m.chain
+event_goes v w (Released n) m = handed_by v w m.calls _ m.happens.2 m.chain
+event_goes v w (Routed c n) m = handed_by v w m.calls _ m.happens.2 m.chain
+event_goes v w (Unrouted c) m = handed_by v w m.calls _ m.happens.1 m.chain
 
 -- ---- what sessions hand out is neither an Open nor a Close
 
@@ -71,14 +65,6 @@ no_closes : (fs : List SessionFrame) → closes (sent fs) ≡ 0
 no_closes [] = refl
 no_closes (f ∷ fs) = omega (arith, no_close f.body, no_closes fs)
 
-opens-append : (xs ys : List Frame) → opens (xs ++ ys) ≡ opens xs + opens ys
-opens-append [] ys = omega arith
-opens-append (f ∷ xs) ys = omega (arith, opens-append xs ys)
-
-closes-append : (xs ys : List Frame) → closes (xs ++ ys) ≡ closes xs + closes ys
-closes-append [] ys = omega arith
-closes-append (f ∷ xs) ys = omega (arith, closes-append xs ys)
-
 -- ---- a step, and a chain
 
 more_spends : (own : List Frame) (fs : List SessionFrame) (s t : ConnectionState) → Goes own s t → Goes (own ++ sent fs) s t
@@ -90,7 +76,7 @@ more_spends own fs s t m = record {
 step_spends : {R : Type 0} (g : Relays R) (v w : EngineView R) (e : Entry R) → Passage g v e w → Goes e.frames v.connection.state w.connection.state
 step_spends g v w e p =
     subst (λ (fs : List Frame). Goes fs v.connection.state w.connection.state) (sym p.frames_are)
-    (more_spends (own_frames v.connection.local_open (event e)) (calls_frames e.calls) v.connection.state w.connection.state (event_spends v.connection w.connection (event e) p.moved))
+    (more_spends (own_frames v.connection.local_open (event e)) (calls_frames e.calls) v.connection.state w.connection.state (event_goes v.connection w.connection (event e) p.moved))
 
 chain_spends : {R : Type 0} (g : Relays R) (H : List (Entry R)) (v w : EngineView R) → Chain g v H w → Goes (handed H) v.connection.state w.connection.state
 chain_spends g [] v w c = spends_none v.connection.state w.connection.state (S w.connection v.connection c.connection_is)

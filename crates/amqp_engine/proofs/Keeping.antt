@@ -4,8 +4,7 @@ use Rattle.std.proofs.Common.{◌≡◌, ◌⊎◌, ℕ, List, [], ◌∷◌, Op
 use Rattle.std.proofs.lemmas.Bool.Decides.{nat_tests}
 use Rattle.std.specs.Map.{lookup}
 use Rattle.std.specs.FinMap as map
-use Rattle.std.specs.FinMap.{get-empty, get-insert, get-remove}
-use Rattle.std.specs.Cmp.{nat_cmp_total}
+use Rattle.std.specs.FinMap.{get-empty}
 use Rattle.std.specs.Ordering.{nat_cmp}
 use Rattle.amqp_types.specs.declared.states.ConnectionState.{ConnectionState}
 use Rattle.amqp_types.specs.Open.{OpenSaid}
@@ -15,15 +14,15 @@ use Rattle.amqp_session.specs.Session.{SessionView}
 use Rattle.amqp_connection.specs.Channels.{ChannelTable}
 use Rattle.amqp_connection.specs.Connection.{ConnectionView, Holds}
 use Rattle.amqp_engine.specs.EngineView.{EngineView, new_engine}
-use Rattle.amqp_engine.specs.Engine.{Entry}
+use Rattle.amqp_engine.specs.Entry.{Entry}
 use Rattle.amqp_engine.specs.Event.{Event, Quiet, SentOpen, SentClose, AcceptedOpen, CameClose, Began, Released, Routed, Unrouted, event, is_number}
 use Rattle.amqp_engine.proofs.Apart.{Taken, Chain, LeadsTo}
 use Rattle.amqp_engine.specs.ByHistory.{held_by, held_from, held, route_by, route_from, route}
 use Rattle.amqp_engine.specs.Headline.{HeldOnce}
-use Rattle.amqp_session.proofs.AsMap.{same_test}
+use Rattle.amqp_connection.proofs.HistoryLemmas.{inserted_at, removed_at, went}
 use Rattle.amqp_engine.proofs.Beginning.{some_none}
 use Rattle.amqp_engine.proofs.Deeds.{Moved, Effect, IsNoBegin}
-use Rattle.amqp_engine.proofs.Passages.{Passage, passage, by_history}
+use Rattle.amqp_engine.proofs.Passages.{Passage, passage, by_history, came}
 use Rattle.amqp_engine.proofs.Projection.{same_number, at_end, one}
 
 abbrev pub IsThere : {R : Type 0} → EngineView R → ℕ → Type 0
@@ -33,12 +32,6 @@ same_value : (a b : ℕ) → Some a ≡ Some b → a ≡ b
 same_value a b e = cc
 
 -- ---- one more channel, or one less
-
-inserted_at : (m : ChannelTable) (c n q : ℕ) → map.get (map.insert m c n) q ≡ cond (nat_eq q c) (Some n) (map.get m q)
-inserted_at m c n q = get-insert nat_cmp_total m c n q ∙ ap (λ b. cond b (Some n) (map.get m q)) (same_test q c)
-
-removed_at : (m : ChannelTable) (c q : ℕ) → map.get (map.remove m c) q ≡ cond (nat_eq q c) None (map.get m q)
-removed_at m c q = get-remove nat_cmp_total m c q ∙ ap (λ b. cond b None (map.get m q)) (same_test q c)
 
 -- what one more holds, it or an older one does
 more_at : (m : ChannelTable) (c k q n : ℕ) → map.get (map.insert m c k) q ≡ Some n → ((q ≡ c) × (n ≡ k)) ⊎ (map.get m q ≡ Some n)
@@ -82,15 +75,15 @@ H : (x y : ConnectionView) → x ≡ y → x.session_by_outgoing_channel ≡ y.s
 H x y e = ap (λ (z : ConnectionView). z.session_by_outgoing_channel) e
 
 moves_held : (v w : ConnectionView) (ev : Event) → Moved v ev w → MovesHeld v ev w
-moves_held v w Quiet m = inl (record { held_is = H w v m; said = λ c old. refl })
-moves_held v w SentOpen m = inl (record { held_is = H w _ m.2; said = λ c old. refl })
-moves_held v w (SentClose error) m = inl (record { held_is = H w _ m.2; said = λ c old. refl })
-moves_held v w (AcceptedOpen o) m = inl (record { held_is = H w _ m.2; said = λ c old. refl })
-moves_held v w (CameClose c) m = inl (record { held_is = H w _ m; said = λ d old. refl })
-moves_held v w (Began n settings c) m = inr (inl (record { number = n; settings = settings; channel = c; is = refl; held_is = H w _ m }))
-moves_held v w (Released n) m = inr (inr (record { number = n; channel = m.0; is = refl; holds = m.1; held_is = H w _ m.2 }))
-moves_held v w (Routed c n) m = inl (record { held_is = H w _ m.1; said = λ d old. refl })
-moves_held v w (Unrouted c) m = inl (record { held_is = H w _ m; said = λ d old. refl })
+moves_held v w Quiet m = inl (record { held_is = H w _ (went v w m.calls _ m.happens m.chain); said = λ c old. refl })
+moves_held v w SentOpen m = inl (record { held_is = H w _ (went v w m.calls _ m.happens m.chain); said = λ c old. refl })
+moves_held v w (SentClose error) m = inl (record { held_is = H w _ (went v w m.calls _ m.happens m.chain); said = λ c old. refl })
+moves_held v w (AcceptedOpen o) m = inl (record { held_is = H w _ (went v w m.calls _ m.happens m.chain); said = λ c old. refl })
+moves_held v w (CameClose c) m = inl (record { held_is = H w _ (came v w c m); said = λ d old. refl })
+moves_held v w (Began n settings c) m = inr (inl (record { number = n; settings = settings; channel = c; is = refl; held_is = H w _ (went v w m.calls _ m.happens m.chain) }))
+moves_held v w (Released n) m = inr (inr (record { number = n; channel = m.happens.0; is = refl; holds = m.happens.1; held_is = H w _ (went v w m.calls _ m.happens.2 m.chain) }))
+moves_held v w (Routed c n) m = inl (record { held_is = H w _ (went v w m.calls _ m.happens.2 m.chain); said = λ d old. refl })
+moves_held v w (Unrouted c) m = inl (record { held_is = H w _ (went v w m.calls _ m.happens.1 m.chain); said = λ d old. refl })
 
 pub record Kept-routes (v : ConnectionView) (ev : Event) (w : ConnectionView) : Type 0 where
   pub routes_are : w.session_by_incoming_channel ≡ v.session_by_incoming_channel
@@ -115,15 +108,15 @@ R' : (x y : ConnectionView) → x ≡ y → x.session_by_incoming_channel ≡ y.
 R' x y e = ap (λ (z : ConnectionView). z.session_by_incoming_channel) e
 
 moves_routes : (v w : ConnectionView) (ev : Event) → Moved v ev w → MovesRoutes v ev w
-moves_routes v w Quiet m = inl (record { routes_are = R' w v m; said = λ c old. refl })
-moves_routes v w SentOpen m = inl (record { routes_are = R' w _ m.2; said = λ c old. refl })
-moves_routes v w (SentClose error) m = inl (record { routes_are = R' w _ m.2; said = λ c old. refl })
-moves_routes v w (AcceptedOpen o) m = inl (record { routes_are = R' w _ m.2; said = λ c old. refl })
-moves_routes v w (CameClose c) m = inl (record { routes_are = R' w _ m; said = λ d old. refl })
-moves_routes v w (Began n settings c) m = inl (record { routes_are = R' w _ m; said = λ d old. refl })
-moves_routes v w (Released n) m = inl (record { routes_are = R' w _ m.2; said = λ d old. refl })
-moves_routes v w (Routed c n) m = inr (inl (record { channel = c; number = n; is = refl; holds = m.0; routes_are = R' w _ m.1 }))
-moves_routes v w (Unrouted c) m = inr (inr (record { channel = c; is = refl; routes_are = R' w _ m }))
+moves_routes v w Quiet m = inl (record { routes_are = R' w _ (went v w m.calls _ m.happens m.chain); said = λ c old. refl })
+moves_routes v w SentOpen m = inl (record { routes_are = R' w _ (went v w m.calls _ m.happens m.chain); said = λ c old. refl })
+moves_routes v w (SentClose error) m = inl (record { routes_are = R' w _ (went v w m.calls _ m.happens m.chain); said = λ c old. refl })
+moves_routes v w (AcceptedOpen o) m = inl (record { routes_are = R' w _ (went v w m.calls _ m.happens m.chain); said = λ c old. refl })
+moves_routes v w (CameClose c) m = inl (record { routes_are = R' w _ (came v w c m); said = λ d old. refl })
+moves_routes v w (Began n settings c) m = inl (record { routes_are = R' w _ (went v w m.calls _ m.happens m.chain); said = λ d old. refl })
+moves_routes v w (Released n) m = inl (record { routes_are = R' w _ (went v w m.calls _ m.happens.2 m.chain); said = λ d old. refl })
+moves_routes v w (Routed c n) m = inr (inl (record { channel = c; number = n; is = refl; holds = (m.happens.0, m.happens.1); routes_are = R' w _ (went v w m.calls _ m.happens.2 m.chain) }))
+moves_routes v w (Unrouted c) m = inr (inr (record { channel = c; is = refl; routes_are = R' w _ (went v w m.calls _ m.happens.1 m.chain) }))
 
 -- ---- what is held or routed is there
 

@@ -9,7 +9,6 @@ pub mod HandedAlong
 pub mod Passing
 pub mod Beginning
 pub mod Engines
-pub mod StateTables
 pub mod KindFields
 pub mod FieldsReceived
 pub mod Deeds
@@ -27,8 +26,10 @@ pub mod Outputs
 pub mod Putting
 pub mod Staying
 pub mod KeptOutcomes
+pub mod RunLemmas
 pub mod Running
 pub mod Refusing
 pub mod Hearing
 pub mod Viewed
 pub mod Echoing
+pub mod HandleLemmas

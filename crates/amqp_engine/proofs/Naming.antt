@@ -11,7 +11,8 @@ use Rattle.amqp_connection.specs.Connection.{new_connection}
 use Rattle.amqp_engine.specs.EngineView.{EngineView, new_engine}
 use Rattle.amqp_engine.specs.Calls.{Calls}
 use Rattle.amqp_engine.specs.Sessions.{Does}
-use Rattle.amqp_engine.specs.Engine.{Entry, Step, Carries}
+use Rattle.amqp_engine.specs.Engine.{Step, Carries}
+use Rattle.amqp_engine.specs.Entry.{Entry}
 use Rattle.amqp_engine.proofs.Apart.{Chain, LeadsTo}
 use Rattle.amqp_engine.specs.ByHistory.{begun}
 use Rattle.amqp_engine.specs.Headline.{RequestsReach, ReachesNamed, names}

@@ -12,7 +12,7 @@ use Rattle.amqp_frames.specs.declared.frame.Frame.{Frame}
 use Rattle.amqp_engine.specs.Waits.{sent}
 use Rattle.amqp_connection.specs.Connection.{new_connection}
 use Rattle.amqp_engine.specs.EngineView.{EngineView, new_engine}
-use Rattle.amqp_engine.specs.Engine.{Entry}
+use Rattle.amqp_engine.specs.Entry.{Entry}
 use Rattle.amqp_engine.proofs.Apart.{Chain, LeadsTo}
 use Rattle.amqp_engine.specs.Event.{is_number}
 use Rattle.amqp_engine.specs.ByHistory.{calls_at, of_session, begun}

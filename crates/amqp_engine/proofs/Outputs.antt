@@ -6,7 +6,7 @@ use Rattle.amqp_frames.specs.Cut.{Fits}
 use Rattle.amqp_engine.specs.declared.engine.answer.Answer.{Answer}
 use Rattle.amqp_engine.specs.Waits.{FirstIs}
 use Rattle.amqp_engine.specs.EngineView.{EngineView}
-use Rattle.amqp_engine.specs.Engine.{Entry}
+use Rattle.amqp_engine.specs.Entry.{Entry}
 use Rattle.amqp_engine.specs.History.{IsClosed, IsEnded, OutcomesTaken, Taken, OnlyLeft}
 use Rattle.amqp_engine.specs.Kept.{Outcomes}
 use Rattle.amqp_connection.specs.Connection.{ConnectionView}

@@ -1,7 +1,10 @@
 -- What each step does, also where output waits, and what that gives for a chain of steps.
 use Rattle.std.proofs.Common.{◌≡◌, ◌++◌, ℕ, List, [], ◌∷◌, Option, Some, None, refl, ap, sym, subst, ◌∙◌, inl, inr}
 use Rattle.amqp_types.specs.declared.states.ConnectionState.{ConnectionState}
+use Rattle.amqp_types.specs.declared.states.ConnectionState.TheVariants as at
+use Rattle.amqp_types.specs.Error.{ErrorSaid}
 use Rattle.amqp_types.specs.Open.{OpenSaid}
+use Rattle.amqp_types.specs.Close.{CloseSaid}
 use Rattle.amqp_session.specs.declared.stop.ConnectionStopReason.{ConnectionStopReason}
 use Rattle.amqp_session.specs.Relay.{Relays}
 use Rattle.amqp_session.specs.OutgoingFrames.{calls_frames}
@@ -11,18 +14,21 @@ use Rattle.amqp_engine.specs.declared.engine.input.Input.{Input}
 use Rattle.amqp_engine.specs.declared.engine.input.Input.TheVariants as input
 use Rattle.amqp_engine.specs.declared.engine.step_error.StepError.{StepError}
 use Rattle.amqp_engine.specs.declared.engine.step_error.StepError.TheVariants as no
-use Rattle.amqp_connection.specs.States.{sends_open, takes_open}
-use Rattle.amqp_connection.specs.Connection.{ConnectionView, closes_by}
+use Rattle.amqp_connection.specs.States.{takes_close}
+use Rattle.amqp_connection.specs.Connection.{ConnectionView}
+use Rattle.amqp_connection.specs.History as connection
+use Rattle.amqp_connection.proofs.HistoryLemmas.{after, after_all, went}
 use Rattle.amqp_engine.specs.EngineView.{EngineView}
 use Rattle.amqp_engine.specs.Waits.{sent}
-use Rattle.amqp_engine.specs.Engine.{Entry, Step}
+use Rattle.amqp_engine.specs.Engine.{Step}
+use Rattle.amqp_engine.specs.Entry.{Entry}
 use Rattle.amqp_engine.specs.Event.{Event, Quiet, SentOpen, SentClose, AcceptedOpen, CameClose, Began, Released, Routed, Unrouted, event, event_by}
 use Rattle.amqp_engine.proofs.Apart.{Taken, Chain}
-use Rattle.amqp_engine.specs.ByHistory.{state_by, state_from, reason_by, reason_from, channel_max_by, channel_max_from, limit_by, limit_after, waiting_by, last_frames_from}
+use Rattle.amqp_engine.specs.ByHistory.{remote_close_reason, state_by, state_from, reason_by, reason_from, channel_max_by, channel_max_from, limit_by, limit_after, waiting_by, last_frames_from}
 use Rattle.amqp_engine.specs.Headline.{own_frames}
 use Rattle.amqp_engine.proofs.Beginning.{some_none}
-use Rattle.amqp_engine.proofs.Deeds.{Moved, IsNoBegin, Effect}
-use Rattle.amqp_engine.proofs.Carrying.{deed, to}
+use Rattle.amqp_engine.proofs.Deeds.{Moved, IsNoBegin, Effect, after_close, close_refusal, stops, quiet}
+use Rattle.amqp_engine.proofs.Carrying.{deed}
 
 pub record Passage {R : Type 0} (g : Relays R) (v : EngineView R) (e : Entry R) (w : EngineView R) : Type 0 where
   pub moved : Moved v.connection (event e) w.connection
@@ -50,7 +56,7 @@ passage g v w e (inl s) =
     let is : event e ≡ Quiet = ap (λ x. event_by e.input x e.reached e.refusal e.frames) s.2 ∙ ap (λ r. event_by e.input None e.reached r e.frames) s.1 ∙ waiting_event e.input e.reached e.frames in
     let same : w ≡ v = s.3.1 in
     record {
-      moved = subst (λ x. Moved v.connection x w.connection) (sym is) (ap (λ (x : EngineView _). x.connection) same);
+      moved = subst (λ x. Moved v.connection x w.connection) (sym is) (quiet v.connection w.connection (ap (λ (x : EngineView _). x.connection) same));
       effect = inl (subst IsNoBegin (sym is) tt, inl (record { sessions_is = ap (λ (x : EngineView _). x.sessions) same; no_calls = s.3.0.1; none_reached = inl s.3.0.0 }));
       limit_is = ap (λ (x : EngineView _). x.limit) same ∙ ap (limit_by v.limit) (sym is);
       frames_are = s.4 ∙ sym (ap (λ x. own_frames v.connection.local_open x ++ sent (calls_frames e.calls)) is ∙ ap (λ (cs : List (session.Entry _)). sent (calls_frames cs)) s.3.0.1);
@@ -97,10 +103,14 @@ record Settled : Type 0 where
 abbrev settled : ConnectionView → Settled
 settled k = record { state = k.state; stop_reason = k.stop_reason; local_open = k.local_open; agreed_channel_max = k.agreed_channel_max }
 
-in_state : (r : Option ConnectionStopReason) (o : OpenSaid) (m : ℕ) (s t : ConnectionState) → s ≡ t → ◌≡◌ {A = Settled}
-    (record { state = s; stop_reason = r; local_open = o; agreed_channel_max = m })
-    (record { state = t; stop_reason = r; local_open = o; agreed_channel_max = m })
-in_state r o m s t e = ap (λ (u : ConnectionState). record { state = u; stop_reason = r; local_open = o; agreed_channel_max = m }) e
+-- the connection after the peer's Close
+stopped_by : (next : Option ConnectionState) (error : Option ErrorSaid) (v : ConnectionView) → after_all v (stops next error) ≡ record v { stop_reason = remote_close_reason next error v.stop_reason }
+stopped_by None error v = refl
+stopped_by (Some at.CloseReceived) error v = refl
+stopped_by (Some s) error v = refl
+
+pub came : (v w : ConnectionView) (c : CloseSaid) → Moved v (CameClose c) w → w ≡ after_close v c
+came v w c m = went v w m.calls _ m.happens m.chain ∙ stopped_by (takes_close v.state) c.error (after v (connection.IncomingClose c (close_refusal (takes_close v.state) c.error)))
 
 settles : (v w : ConnectionView) (ev : Event) → Moved v ev w → ◌≡◌ {A = Settled} (settled w) (record {
   state = state_by v.state ev;
@@ -108,15 +118,15 @@ settles : (v w : ConnectionView) (ev : Event) → Moved v ev w → ◌≡◌ {A 
   local_open = v.local_open;
   agreed_channel_max = channel_max_by v.local_open ev v.agreed_channel_max;
 })
-settles v w Quiet m = ap settled m
-settles v w SentOpen m = ap settled m.2 ∙ in_state _ _ _ _ _ (to (sends_open v.state) v.state m.0 m.1)
-settles v w (SentClose error) m = ap settled m.2 ∙ in_state _ _ _ _ _ (to (closes_by error v.state) v.state m.0 m.1)
-settles v w (AcceptedOpen o) m = ap settled m.2 ∙ in_state _ _ _ _ _ (to (takes_open v.state) v.state m.0 m.1)
-settles v w (CameClose c) m = ap settled m
-settles v w (Began n settings c) m = ap settled m
-settles v w (Released n) m = ap settled m.2
-settles v w (Routed c n) m = ap settled m.1
-settles v w (Unrouted c) m = ap settled m
+settles v w Quiet m = ap settled (went v w m.calls _ m.happens m.chain)
+settles v w SentOpen m = ap settled (went v w m.calls _ m.happens m.chain)
+settles v w (SentClose error) m = ap settled (went v w m.calls _ m.happens m.chain)
+settles v w (AcceptedOpen o) m = ap settled (went v w m.calls _ m.happens m.chain)
+settles v w (CameClose c) m = ap settled (came v w c m)
+settles v w (Began n settings c) m = ap settled (went v w m.calls _ m.happens m.chain)
+settles v w (Released n) m = ap settled (went v w m.calls _ m.happens.2 m.chain)
+settles v w (Routed c n) m = ap settled (went v w m.calls _ m.happens.2 m.chain)
+settles v w (Unrouted c) m = ap settled (went v w m.calls _ m.happens.1 m.chain)
 
 pub moved_state : (v w : ConnectionView) (ev : Event) → Moved v ev w → w.state ≡ state_by v.state ev
 moved_state v w ev m = ap (λ (k : Settled). k.state) (settles v w ev m)

@@ -10,7 +10,7 @@ use Rattle.amqp_session.specs.Session.{SessionView, new_session}
 use Rattle.amqp_session.specs.History as session
 use Rattle.amqp_connection.specs.Connection.{ConnectionView}
 use Rattle.amqp_engine.specs.EngineView.{EngineView}
-use Rattle.amqp_engine.specs.Engine.{Entry}
+use Rattle.amqp_engine.specs.Entry.{Entry}
 use Rattle.amqp_engine.proofs.Apart.{Chain}
 use Rattle.amqp_engine.specs.Event.{Event, Began, event, is_number}
 use Rattle.amqp_engine.specs.ByHistory.{calls_at, of_session, state_by, reason_by, begun_by, begun_from}

@@ -22,7 +22,8 @@ use Rattle.amqp_connection.specs.Connection.{ConnectionView, EndRouteStep, Route
 use Rattle.amqp_engine.specs.EngineView.{EngineView, new_engine}
 use Rattle.amqp_engine.specs.Calls.{Calls}
 use Rattle.amqp_engine.specs.Sessions.{Called, Unknown, Reaches}
-use Rattle.amqp_engine.specs.Engine.{Entry, Step, NoneReceived, Carries, ReceivedFrame, ReceivedOpen, Finds}
+use Rattle.amqp_engine.specs.Engine.{Step, NoneReceived, Carries, ReceivedFrame, ReceivedOpen, Finds}
+use Rattle.amqp_engine.specs.Entry.{Entry}
 use Rattle.amqp_engine.proofs.Apart.{Chain, LeadsTo}
 use Rattle.amqp_engine.specs.ByHistory.{state_from, route}
 use Rattle.amqp_engine.specs.Headline.{HasReceived, Receives, AllReceived, GoesAlong, Passes, FramesReach, RoutesFollow, AllKnown}

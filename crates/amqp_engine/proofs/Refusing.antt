@@ -22,8 +22,9 @@ use Rattle.amqp_engine.specs.Waits.{sent}
 use Rattle.amqp_engine.specs.EngineView.{EngineView}
 use Rattle.amqp_engine.specs.Calls.{EndCalls, state_refusal, recorded_end}
 use Rattle.amqp_engine.specs.Sessions.{Called, Does}
-use Rattle.amqp_engine.specs.Engine.{Entry, Step, Steps, Carries, CloseRequest, kept}
-use Rattle.amqp_engine.specs.HandledRun.{IsWish}
+use Rattle.amqp_engine.specs.Engine.{Step, Steps, Carries, CloseRequest, kept}
+use Rattle.amqp_engine.specs.Entry.{Entry}
+use Rattle.amqp_engine.specs.Inner.Hearing.{IsWish}
 
 same_some : {X : Type 0} (x y : X) → Some x ≡ Some y → x ≡ y
 same_some x y e = cc

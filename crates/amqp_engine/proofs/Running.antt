@@ -1,6 +1,5 @@
 -- What has been run so far, and what is said of it at the end.
-use Rattle.std.proofs.Common.{◌≡◌, ◌+◌, List, All, [], ◌∷◌, ◌++◌, length, refl, ap, sym, subst, ◌∙◌, arith, append_assoc, length-append, Option, Result, MatchResult}
-use Rattle.std.proofs.lemmas.Result.{MatchResult-weaker}
+use Rattle.std.proofs.Common.{◌≡◌, ◌+◌, List, [], ◌∷◌, ◌++◌, length, refl, ap, sym, subst, ◌∙◌, arith, append_assoc, length-append, Option, Some, None, Result, Ok, Err, inl}
 use Rattle.std.proofs.lemmas.List.Elements.{All-nil, All-push}
 use Rattle.amqp_types.specs.declared.states.ConnectionState.{ConnectionState}
 use Rattle.amqp_types.specs.Open.{OpenSaid}
@@ -8,49 +7,32 @@ use Rattle.amqp_frames.specs.declared.frame.Frame.{Frame}
 use Rattle.amqp_engine.specs.declared.engine.input.Input.{Input}
 use Rattle.amqp_engine.specs.declared.engine.answer.Answer.{Answer}
 use Rattle.amqp_engine.specs.declared.engine.step_error.StepError.{StepError}
-use Rattle.amqp_engine.specs.declared.engine.answer.Stopped.{Stopped}
 use Rattle.amqp_session.specs.Relay.{Relays}
 use Rattle.amqp_engine.specs.EngineView.{EngineView, new_engine}
-use Rattle.amqp_engine.specs.Engine.{Entry, Steps}
-use Rattle.amqp_engine.specs.Kept.{Outcomes, outcomes_by}
-use Rattle.amqp_engine.specs.History.{Taken, OnlyLeft, Chain, LeadsTo}
+use Rattle.amqp_engine.specs.Engine.{Steps}
+use Rattle.amqp_engine.specs.Entry.{Entry}
+use Rattle.amqp_engine.specs.Kept.{outcomes_by}
+use Rattle.amqp_engine.specs.History.{Taken, OnlyLeft, Chain}
+use Rattle.amqp_engine.specs.Legal.{Legal}
+use Rattle.amqp_engine.specs.Inner.Running.{Running}
 use Rattle.amqp_engine.specs.Event.{event}
 use Rattle.amqp_engine.specs.ByHistory.{limit_by, limit_after}
-use Rattle.amqp_engine.specs.Output.{PutOut, Speaks, answer_of}
-use Rattle.amqp_engine.specs.Headline.{Headline, Stands, IsTaken, inputs_of, outcomes_from, Runs, Ran}
+use Rattle.amqp_engine.specs.Output.{PutOut, Speaks, NextOutput, answer_of}
+use Rattle.amqp_engine.specs.Promise.{IsTaken, inputs_of}
+use Rattle.amqp_engine.specs.Ran.{Ran}
+use Rattle.amqp_engine.specs.Stepped.{Stepped, Stays}
+use Rattle.amqp_engine.specs.Stepped as one
+use Rattle.amqp_frames.specs.Piece.{PieceParts}
+use Rattle.amqp_engine.specs.declared.engine.answer.OutputError.{OutputError}
+use Rattle.amqp_engine.specs.declared.engine.answer.OutputError.TheVariants as output
 use Rattle.amqp_engine.proofs.Outputs.{Taken-none, Taken-more, speaks_more, limit_more}
+use Rattle.amqp_engine.proofs.RunLemmas.{Chain-append, inputs_of-append, outcomes_from-append, HeadlineLaw, StandsLaw, legal_more, running_ran}
 use Rattle.amqp_engine.proofs.Passages.{passage, taken}
 use Rattle.amqp_engine.proofs.Staying.{step_outcomes, step_wishes}
 
 pub empty : {X : Type 0} → (xs : List X) → length xs ≡ 0 → xs ≡ []
 empty [] e = refl
 empty (x ∷ xs) e = absurd (omega arith)
-
-inputs_of-append : {R : Type 0} (xs ys : List (Entry R)) → inputs_of (xs ++ ys) ≡ inputs_of xs ++ inputs_of ys
-inputs_of-append [] ys = refl
-inputs_of-append (e ∷ xs) ys = ap (λ (is' : List (Input _)). e.input ∷ is') (inputs_of-append xs ys)
-
-Chain-later : {R : Type 0} (gives : Relays R) (u v w : EngineView R) (es : List (Entry R)) → Taken u v → Chain gives v es w → Chain gives u es w
-Chain-later gives u v w [] t c = Taken-more u v w t c
-Chain-later gives u v w (e ∷ es) t c = (c.0, c.1, c.2, Taken-more u v c.0 t c.3, c.4, c.5, c.6)
-
-pub Chain-append : {R : Type 0} (gives : Relays R) (xs ys : List (Entry R)) (u v w : EngineView R) → Chain gives u xs v → Chain gives v ys w → Chain gives u (xs ++ ys) w
-Chain-append gives [] ys u v w c d = Chain-later gives u v w ys c d
-Chain-append gives (e ∷ xs) ys u v w c d = (c.0, c.1, c.2, c.3, c.4, c.5, Chain-append gives xs ys c.2 v w c.6 d)
-
-outcomes_from-append : {R : Type 0} (o : Outcomes) (xs ys : List (Entry R)) → outcomes_from o (xs ++ ys) ≡ outcomes_from (outcomes_from o xs) ys
-outcomes_from-append o [] ys = refl
-outcomes_from-append o (e ∷ xs) ys = outcomes_from-append (outcomes_by e.received e.reached e.refusal o) xs ys
-
--- these entries have been run so far
-pub record Running {R : Type 0} (gives : Relays R) (v : EngineView R) (entries : List (Entry R)) (answers : List Answer) (v' : EngineView R) (answers' : List Answer) : Type 0 where
-  pub all_taken : All IsTaken entries
-  pub chain : Chain gives v entries v'
-  pub limit_is : v'.limit ≡ limit_after v.limit entries
-  pub outcomes_are : v'.outcomes ≡ outcomes_from v.outcomes entries
-  pub out : List Answer
-  pub appended : answers' ≡ answers ++ out
-  pub said : Speaks v.limit v.waiting entries v'.waiting out
 
 pub Running-start : {R : Type 0} (gives : Relays R) (v v' : EngineView R) (answers answers' out : List Answer) → OnlyLeft v v' → answers' ≡ answers ++ out → PutOut v.limit v.waiting v'.waiting out →
     Running gives v [] answers v' answers'
@@ -127,32 +109,38 @@ Taking-more gives v v1 v2 v3 inputs inputs1 inputs2 answers answers1 answers2 an
       wishes_stay = t.wishes_stay ∙ ap (λ (x : EngineView _). x.wishes) step.keeps ∙ step_wishes gives v1 step.done e step.step ∙ g.wishes_stay;
     }
 
-abbrev pub HeadlineLaw : {R : Type 0} → Relays R → Type 0
-HeadlineLaw gives = (state : ConnectionState) (o : OpenSaid) (H : List (Entry _)) (w : EngineView _) → LeadsTo gives state o H w → Headline state o H
+-- ---- what is said of it at the end
 
-abbrev pub StandsLaw : {R : Type 0} → Relays R → Type 0
-StandsLaw gives = (state : ConnectionState) (o : OpenSaid) (H : List (Entry _)) (w : EngineView _) → LeadsTo gives state o H w → Stands state o H w
+-- frames left, or handles took outcomes
+pub Chain-end : {R : Type 0} (gives : Relays R) (es : List (Entry R)) (v u w : EngineView R) → Chain gives v es u → Taken u w → Chain gives v es w
+Chain-end gives [] v u w c t = Taken-more v u w c t
+Chain-end gives (e ∷ es) v u w c t = (c.0, c.1, c.2, c.3, c.4, c.5, Chain-end gives es c.2 u w c.6 t)
 
--- what has been run was run
-pub Running-Runs : {R : Type 0} (gives : Relays R) (v v' : EngineView R) (entries : List (Entry R)) (answers answers' : List Answer) → HeadlineLaw gives → StandsLaw gives →
-    Running gives v entries answers v' answers' → Runs gives entries v answers v' answers'
-Running-Runs gives v v' entries answers answers' law views g = record {
-  all_taken = g.all_taken;
-  steps = g.chain;
-  goes_on = λ state o H l.
-      let all : LeadsTo gives state o (H ++ entries) v' = Chain-append gives H entries (new_engine state o) v v' l g.chain in
-      (all, law state o (H ++ entries) v' all, views state o (H ++ entries) v' all);
-  outcomes_are = g.outcomes_are;
-  out = g.out;
-  appended = g.appended;
-  said = g.said;
-}
+pub legal_left : {R : Type 0} (gives : Relays R) (v w : EngineView R) → Taken v w → Stays gives v w
+unfolding Legal
+legal_left gives v w t = λ state o H l. Chain-end gives H (new_engine state o) v w l t
 
-pub Taking-Ran : {R : Type 0} (gives : Relays R) (v v' : EngineView R) (inputs inputs' : List (Input R)) (answers answers' : List Answer) (result : Result (Unit {0}) Stopped) → HeadlineLaw gives → StandsLaw gives →
-    (g : Taking gives v inputs answers v' inputs' answers') → MatchResult result (λ _. (inputs' ≡ []) × (v'.waiting ≡ [])) (λ stopped. stopped.done + length inputs' ≡ length inputs) → Ran gives [] v inputs answers result v' inputs' answers'
-Taking-Ran gives v v' inputs inputs' answers answers' result law views g m = record {
-  entries = g.entries;
-  taken = g.taken;
-  runs = Running-Runs gives v v' g.entries answers answers' law views g.running;
-  result_is = MatchResult-weaker result m (λ x p. p) (λ stopped p. omega (arith, p, g.counted));
-}
+front : {R : Type 0} (v : EngineView R) (f : Frame) (fs : List Frame) → v.waiting ≡ f ∷ fs → Taken v (record v { waiting = fs })
+front v f fs e = record { gone = f ∷ []; left = e; connection_is = refl; sessions_is = refl; limit_is = refl; outcomes_are = record { close = inl refl; ends = λ n. inl refl } }
+
+pub next_left : {R X : Type 0} (v : EngineView R) (result : Result (Option X) OutputError) (view : X → List PieceParts) (w : EngineView R) → NextOutput view v result w → Taken v w
+next_left v (Ok None) view w n = subst (λ (x : EngineView _). Taken v x) (sym n.1) (Taken-none v)
+next_left v (Ok (Some x)) view w n = subst (λ (y : EngineView _). Taken v y) (sym n.6) (front v n.0 n.1 n.2)
+next_left v (Err (output.TooLarge f)) view w n = subst (λ (y : EngineView _). Taken v y) (sym n.3) (front v f n.0 n.1)
+next_left v (Err output.Memory) view w n = subst (λ (x : EngineView _). Taken v x) (sym n.1) (Taken-none v)
+
+-- a step, and how the history goes on by it
+pub stepped : {R : Type 0} (gives : Relays R) → HeadlineLaw gives → (v : EngineView R) (i : Input R) (r : Option StepError) (w : EngineView R) → Steps gives v i r w → Stepped gives v i r w
+stepped gives law v i r w step =
+    let e = one.entry_of step in
+    let chain : Chain gives v (e ∷ []) w = (v, step.done, w, Taken-none v, step.step, step.keeps, Taken-none w) in
+    record { step = step; goes_on = λ state o H l. let all = legal_more gives state o H (e ∷ []) v w l chain in (all, law state o (H ++ e ∷ []) w all) }
+
+-- the history of a new engine
+pub legal_new : {R : Type 0} (gives : Relays R) (state : ConnectionState) (o : OpenSaid) (v : EngineView R) → v ≡ new_engine state o → Legal gives state o [] v
+unfolding Legal
+legal_new gives state o v e = subst (λ (x : EngineView _). Taken (new_engine state o) x) (sym e) (Taken-none (new_engine state o))
+
+pub Taking-Ran : {R : Type 0} (gives : Relays R) (v v' : EngineView R) (inputs inputs' : List (Input R)) (answers answers' : List Answer) → HeadlineLaw gives → StandsLaw gives →
+    Taking gives v inputs answers v' inputs' answers' → Ran gives [] v inputs answers v' inputs' answers'
+Taking-Ran gives v v' inputs inputs' answers answers' law views g = running_ran gives v v' [] g.entries inputs inputs' answers answers' law views g.taken g.running

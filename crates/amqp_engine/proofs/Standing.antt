@@ -6,10 +6,10 @@ use Rattle.amqp_session.specs.Relay.{Relays}
 use Rattle.amqp_session.specs.History as session
 use Rattle.amqp_session.specs.Headline as single
 use Rattle.amqp_engine.specs.EngineView.{EngineView, new_engine}
-use Rattle.amqp_engine.specs.Engine.{Entry}
+use Rattle.amqp_engine.specs.Entry.{Entry}
 use Rattle.amqp_engine.proofs.Apart.{LeadsTo}
 use Rattle.amqp_engine.specs.ByHistory.{of_session, begun}
-use Rattle.amqp_engine.specs.Headline.{Stands}
+use Rattle.amqp_engine.specs.Views.{Stands}
 use Rattle.amqp_engine.proofs.Beginning.{some_none}
 use Rattle.amqp_engine.proofs.Passages.{state_law, reason_law, open_law, channel_max_law, limit_law, waiting_law}
 use Rattle.amqp_engine.proofs.Projection.{legal, same_some}

@@ -18,7 +18,8 @@ use Rattle.amqp_connection.specs.Connection.{ConnectionView}
 use Rattle.amqp_engine.specs.EngineView.{EngineView}
 use Rattle.amqp_engine.specs.Calls.{Calls}
 use Rattle.amqp_engine.specs.Sessions.{Called, Unknown, Does, Reaches, BeginRequest, ReleaseRequest}
-use Rattle.amqp_engine.specs.Engine.{Entry, Step, Carries, ReceivedFrame, ReceivedOpen, OpenRequest, CloseRequest, Finds}
+use Rattle.amqp_engine.specs.Engine.{Step, Carries, ReceivedFrame, ReceivedOpen, OpenRequest, CloseRequest, Finds}
+use Rattle.amqp_engine.specs.Entry.{Entry}
 
 abbrev Same : {R : Type 0} → EngineView R → EngineView R → Type 0
 Same v w = (w.outcomes ≡ v.outcomes) × (w.wishes ≡ v.wishes)

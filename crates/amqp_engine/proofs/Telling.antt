@@ -19,7 +19,7 @@ use Rattle.amqp_engine.specs.declared.engine.step_error.StepError.TheVariants as
 use Rattle.amqp_connection.specs.Connection.{ConnectionView, new_connection}
 use Rattle.amqp_engine.specs.EngineView.{EngineView, new_engine}
 use Rattle.amqp_engine.specs.Waits.{sent}
-use Rattle.amqp_engine.specs.Engine.{Entry}
+use Rattle.amqp_engine.specs.Entry.{Entry}
 use Rattle.amqp_engine.specs.Event.{Quiet, event, event_by, received_event}
 use Rattle.amqp_engine.proofs.Apart.{Chain, LeadsTo}
 use Rattle.amqp_engine.specs.ByHistory.{of_session, session_state}

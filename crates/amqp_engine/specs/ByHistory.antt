@@ -7,6 +7,7 @@ use Rattle.amqp_types.specs.declared.states.SessionState.TheVariants.{Unmapped}
 use Rattle.amqp_types.specs.Error.{ErrorSaid}
 use Rattle.amqp_types.specs.Open.{OpenSaid}
 use Rattle.amqp_session.specs.declared.stop.ConnectionStopReason.{ConnectionStopReason}
+use Rattle.amqp_session.specs.declared.stop.ConnectionStopReason.TheVariants as stop
 use Rattle.amqp_session.specs.History as session
 use Rattle.amqp_session.specs.Headline as single
 use Rattle.amqp_frames.specs.declared.frame.Frame.{Frame}
@@ -15,7 +16,7 @@ use Rattle.amqp_engine.specs.declared.engine.step_error.StepError.TheVariants as
 use Rattle.amqp_connection.specs.States.{sends_open, takes_open, takes_close}
 use Rattle.amqp_connection.specs.Connection.{closes_by, first_reason}
 use Rattle.amqp_engine.specs.EngineView.{peer_limit}
-use Rattle.amqp_engine.specs.Engine.{Entry, close_reason, remote_reason}
+use Rattle.amqp_engine.specs.Entry.{Entry}
 use Rattle.amqp_engine.specs.Event.{Event, SentOpen, SentClose, AcceptedOpen, CameClose, Began, Released, Routed, Unrouted, event, is_number}
 
 -- ---- the connection's state, by its tables
@@ -32,6 +33,14 @@ state_from s [] = s
 state_from s (e ∷ es) = state_from (state_by s (event e)) es
 
 -- ---- why it stopped: the first reason of a Close that was sent, or of one that came and moved it to CloseReceived
+
+abbrev pub close_reason : Option ErrorSaid → ConnectionStopReason
+close_reason None = stop.Closed
+close_reason (Some e) = stop.ClosedWithError
+
+abbrev pub remote_reason : Option ErrorSaid → ConnectionStopReason
+remote_reason None = stop.RemoteClosed
+remote_reason (Some e) = stop.RemoteClosedWithError
 
 abbrev pub remote_close_reason : Option ConnectionState → Option ErrorSaid → Option ConnectionStopReason → Option ConnectionStopReason
 remote_close_reason (Some CloseReceived) error old = first_reason old (remote_reason error)

@@ -8,7 +8,6 @@ use Rattle.amqp_types.specs.Error.{ErrorSaid}
 use Rattle.amqp_types.specs.Open.{OpenSaid}
 use Rattle.amqp_types.specs.Close.{CloseSaid}
 use Rattle.amqp_session.specs.declared.stop.ConnectionStopReason.{ConnectionStopReason}
-use Rattle.amqp_session.specs.declared.stop.ConnectionStopReason.TheVariants as stop
 use Rattle.amqp_session.specs.Relay.{Relays}
 use Rattle.amqp_session.specs.History as session
 use Rattle.amqp_frames.specs.declared.frame.Frame.{Frame}
@@ -27,6 +26,8 @@ use Rattle.amqp_connection.specs.Connection.{ConnectionView, stopped, SendOpenSt
 use Rattle.amqp_connection.specs.Connection.{BeginRouteStep, EndRouteStep, RouteStep}
 use Rattle.amqp_engine.specs.Kept.{outcomes_by}
 use Rattle.amqp_engine.specs.EngineView.{EngineView, peer_limit}
+use Rattle.amqp_engine.specs.Entry.{Entry}
+use Rattle.amqp_engine.specs.ByHistory.{close_reason, remote_reason}
 use Rattle.amqp_engine.specs.Calls.{request_calls, received_calls}
 use Rattle.amqp_engine.specs.Sessions.{Untouched, Nothing, Does, Reaches, BeginRequest, ReleaseRequest}
 
@@ -38,10 +39,6 @@ OpenRequest v None w =
 OpenRequest v (Some (no.ConnectionState e)) w =
     (k : ConnectionView) × SendOpenStep v.connection (Err e) k × (w ≡ record v { connection = k })
 OpenRequest v (Some e) w = ⊥
-
-abbrev pub close_reason : Option ErrorSaid → ConnectionStopReason
-close_reason None = stop.Closed
-close_reason (Some e) = stop.ClosedWithError
 
 abbrev pub CloseRequest : {R : Type 0} → EngineView R → Option ErrorSaid → Option StepError → EngineView R → Type 0
 CloseRequest v error None w =
@@ -59,10 +56,6 @@ ReceivedOpen v o None w =
 ReceivedOpen v o (Some (no.ConnectionState e)) w =
     (k : ConnectionView) × IncomingOpenStep v.connection o (Some e) k × (w ≡ record v { connection = k })
 ReceivedOpen v o (Some e) w = ⊥
-
-abbrev pub remote_reason : Option ErrorSaid → ConnectionStopReason
-remote_reason None = stop.RemoteClosed
-remote_reason (Some e) = stop.RemoteClosedWithError
 
 -- a move to CloseReceived records how the peer closed
 abbrev pub recorded : Option ConnectionState → ConnectionStopReason → ConnectionView → ConnectionView
@@ -153,17 +146,6 @@ ReceivedStep g v bytes refusal w =
     × Received g v bytes received reached calls refusal m × (w ≡ kept received reached refusal m)
 
 -- ---- a step
-
--- An input; the frame that was received with it; the session that was reached, by its number, and the calls of it, with
--- their answers and the questions to relays; why the input was refused, if it was; and the frames that were handed out with
--- it.
-pub record Entry (R : Type 0) : Type 0 where
-  pub input : Input R
-  pub received : Option Frame
-  pub reached : Option ℕ
-  pub calls : List (session.Entry R)
-  pub refusal : Option StepError
-  pub frames : List Frame
 
 abbrev pub Carries : {R : Type 0} → Relays R → EngineView R → Input R → Option Frame → Option ℕ → List (session.Entry R) →
     Option StepError → EngineView R → Type 0

@@ -1,21 +1,18 @@
 -- What a run of a handled engine does: it hears the wishes, and then runs the inputs.
-use Rattle.std.specs.Prelude.{◌≡◌, ◌⊎◌, ℕ, List, [], ◌∷◌, ◌++◌, map, All, Option, Some, None, Result, OnOk}
+use Rattle.std.specs.Prelude.{◌≡◌, ◌⊎◌, ℕ, List, [], ◌∷◌, ◌++◌, map, All, Option, Some, None}
 use Rattle.std.specs.FinMap as finite
 use Rattle.amqp_types.specs.Error.{ErrorSaid}
 use Rattle.amqp_session.specs.Relay.{Relays}
 use Rattle.amqp_engine.specs.declared.engine.input.Input.{Input}
 use Rattle.amqp_engine.specs.declared.engine.input.Input.TheVariants as input
 use Rattle.amqp_engine.specs.declared.engine.answer.Answer.{Answer}
-use Rattle.amqp_engine.specs.declared.engine.answer.Answer.TheVariants.{Done}
-use Rattle.amqp_engine.specs.declared.engine.answer.Stopped.{Stopped}
 use Rattle.amqp_engine.specs.declared.engine.step_error.StepError.{StepError}
 use Rattle.amqp_engine.specs.Kept.{Wishes}
 use Rattle.amqp_engine.specs.EngineView.{EngineView}
-use Rattle.amqp_engine.specs.Engine.{Entry, Steps}
-use Rattle.amqp_engine.specs.History.{OnlyLeft, Chain}
-use Rattle.amqp_engine.specs.ByHistory.{limit_after}
-use Rattle.amqp_engine.specs.Output.{PutOut}
-use Rattle.amqp_engine.specs.Headline.{inputs_of, IsTaken, Runs, Ran}
+use Rattle.amqp_engine.specs.Entry.{Entry}
+use Rattle.amqp_engine.specs.History.{Chain}
+use Rattle.amqp_engine.specs.Promise.{inputs_of, IsTaken}
+use Rattle.amqp_engine.specs.Ran.{Ran}
 
 -- what a wish asks for, as a request
 abbrev pub end_request : {R : Type 0} → ℕ × Option ErrorSaid → Input R
@@ -52,44 +49,12 @@ pub record Hears {R : Type 0} (w : Wishes) (heard : List (Entry R)) (w' : Wishes
 
 -- A run of a handled engine is a run of the wishes that are accepted, and of the inputs.
 pub record HandledRan {R : Type 0} (g : Relays R) (v : EngineView R) (inputs : List (Input R)) (answers : List Answer)
-    (result : Result (Unit {0}) Stopped) (v' : EngineView R) (inputs' : List (Input R)) (answers' : List Answer) : Type 0 where
+    (v' : EngineView R) (inputs' : List (Input R)) (answers' : List Answer) : Type 0 where
   pub heard : List (Entry R)
   pub hears : Hears v.wishes heard v'.wishes
-  pub ran : Ran g (accepted heard) v inputs answers result v' inputs' answers'
+  pub ran : Ran g (accepted heard) v inputs answers v' inputs' answers'
   -- what is heard is asked for when nothing waits, also what is refused: that changes nothing, and leaves no answer
   pub all_taken : All IsTaken heard
   pub asked : Chain g v (heard ++ ran.entries) v'
-  -- no input is taken before all wishes were heard, and the run does not end before
+  -- no input is taken before all wishes were heard
   pub wishes_first : (ran.entries ≡ []) ⊎ NoWishes v'.wishes
-  pub all_heard : OnOk result (NoWishes v'.wishes)
-
--- ---- parts of a run
-
--- A wish is asked for. Where it is accepted it is answered, and its frame is put out, or waits.
-abbrev pub AskedSo : {R : Type 0} → Option StepError → EngineView R → List Answer → EngineView R → List Answer → Type 0
-AskedSo None u answers v' answers' =
-    (out : List Answer) × (answers' ≡ (answers ++ Done ∷ []) ++ out) × OnlyLeft u v' × PutOut u.limit u.waiting v'.waiting out
-AskedSo (Some r) u answers v' answers' = (v' ≡ u) × (answers' ≡ answers)
-
-pub record Asked {R : Type 0} (g : Relays R) (v : EngineView R) (i : Input R) (answers : List Answer) (v' : EngineView R)
-    (answers' : List Answer) : Type 0 where
-  pub refusal : Option StepError
-  pub told : EngineView R
-  pub step : Steps g v i refusal told
-  pub so : AskedSo refusal told answers v' answers'
-
--- the wishes that have been heard so far
-pub record Hearing {R : Type 0} (g : Relays R) (v : EngineView R) (answers : List Answer) (v' : EngineView R) (answers' : List Answer) :
-    Type 0 where
-  pub heard : List (Entry R)
-  pub hears : Hears v.wishes heard v'.wishes
-  pub all_taken : All IsTaken heard
-  pub asked : Chain g v heard v'
-  pub runs : Runs g (accepted heard) v answers v' answers'
-  pub limit_is : v'.limit ≡ limit_after v.limit (accepted heard)
-
--- an End or a Close is asked for
-abbrev pub IsWish : {R : Type 0} → Input R → Type 0
-IsWish (input.End n error) = Unit {0}
-IsWish (input.Close error) = Unit {0}
-IsWish i = ⊥

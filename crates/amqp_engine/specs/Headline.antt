@@ -1,7 +1,5 @@
 -- The headline: what holds of every history of an engine, said of the history alone.
-use Rattle.std.specs.Prelude.{ℕ, ◌≡◌, ◌≤◌, ◌+◌, List, [], ◌∷◌, ◌++◌, length, All, Option, Some, None, Result, Err, MatchResult, nat_eq}
-use Rattle.std.specs.Map.{lookup}
-use Rattle.std.specs.FinMap as map
+use Rattle.std.specs.Prelude.{ℕ, ◌≡◌, ◌≤◌, List, [], ◌∷◌, ◌++◌, Option, Some, None, Err}
 use Rattle.amqp_types.specs.declared.states.ConnectionState.{ConnectionState}
 use Rattle.amqp_types.specs.declared.states.ConnectionState.TheVariants.{HeaderExchange, Opened}
 use Rattle.amqp_types.specs.Open.{OpenSaid}
@@ -11,28 +9,20 @@ use Rattle.amqp_frames.specs.declared.frame.FrameBody.{FrameBody}
 use Rattle.amqp_frames.specs.declared.frame.FrameBody.TheVariants as body
 use Rattle.amqp_frames.specs.Frame.{IsFrame, Decodes}
 use Rattle.amqp_engine.specs.declared.engine.input.Input.{Input}
-use Rattle.amqp_engine.specs.declared.engine.answer.Answer.{Answer}
-use Rattle.amqp_engine.specs.declared.engine.answer.Stopped.{Stopped}
 use Rattle.amqp_engine.specs.declared.engine.input.Input.TheVariants as input
 use Rattle.amqp_engine.specs.declared.engine.step_error.StepError.{StepError}
 use Rattle.amqp_engine.specs.declared.engine.step_error.StepError.TheVariants as no
 use Rattle.amqp_connection.specs.declared.error.ConnectionInnerError.TheVariants as inner
-use Rattle.amqp_session.specs.Session.{SessionView}
 use Rattle.amqp_session.specs.History as session
 use Rattle.amqp_session.specs.Headline as single
-use Rattle.amqp_session.specs.Relay.{Relays}
 use Rattle.amqp_session.specs.OutgoingFrames.{calls_frames}
-use Rattle.amqp_engine.specs.Kept.{Outcomes, outcomes_by}
-use Rattle.amqp_engine.specs.EngineView.{EngineView, own_limit}
 use Rattle.amqp_connection.specs.Connection.{not_found, open_frame, close_frame}
+use Rattle.amqp_connection.specs.ByHistory.{opens, closes}
 use Rattle.amqp_engine.specs.Waits.{sent}
 use Rattle.amqp_engine.specs.Calls.{NoCalls, Calls, request_calls, received_calls}
-use Rattle.amqp_engine.specs.Engine.{Entry}
+use Rattle.amqp_engine.specs.Entry.{Entry}
 use Rattle.amqp_engine.specs.Event.{Event, SentOpen, SentClose, event}
-use Rattle.amqp_engine.specs.ByHistory.{of_session, begun, session_state, state_from, stop_reason, channel_max, limit_after, route, held}
-use Rattle.amqp_engine.specs.ByHistory.{last_frames}
-use Rattle.amqp_engine.specs.History.{Chain, LeadsTo}
-use Rattle.amqp_engine.specs.Output.{Speaks}
+use Rattle.amqp_engine.specs.ByHistory.{of_session, begun, session_state, state_from, route, held}
 
 -- of each entry, with those before it
 abbrev pub Each : {R : Type 0} → List (Entry R) → (List (Entry R) → Entry R → Type 0) → Type 0
@@ -159,22 +149,6 @@ OnItsChannel s H = Each H (λ before e. (n : ℕ) (m : session.Made) → begun s
 
 -- ---- how many Opens and Closes were handed out
 
-abbrev pub is_open : FrameBody → ℕ
-is_open (body.Open o) = 1
-is_open b = 0
-
-abbrev pub is_close : FrameBody → ℕ
-is_close (body.Close c) = 1
-is_close b = 0
-
-abbrev pub opens : List Frame → ℕ
-opens [] = 0
-opens (f ∷ fs) = is_open f.body + opens fs
-
-abbrev pub closes : List Frame → ℕ
-closes [] = 0
-closes (f ∷ fs) = is_close f.body + closes fs
-
 -- all frames that were handed out
 abbrev pub handed : {R : Type 0} → List (Entry R) → List Frame
 handed [] = []
@@ -205,63 +179,3 @@ pub record Headline {R : Type 0} (s : ConnectionState) (o : OpenSaid) (H : List 
   -- where the headers were exchanged, at most one Open and one Close go out
   pub one_open : s ≡ HeaderExchange → opens (handed H) ≤ 1
   pub one_close : s ≡ HeaderExchange → closes (handed H) ≤ 1
-
--- ---- the law of views: what contracts see of an engine is what its history gives
-
-pub record Stands {R : Type 0} (s : ConnectionState) (o : OpenSaid) (H : List (Entry R)) (v : EngineView R) : Type 0 where
-  -- each session that was begun, and no other
-  pub sessions_are : (n : ℕ) (m : session.Made) → begun s n H ≡ Some m →
-      (t : SessionView R) × (lookup (nat_eq n) v.sessions ≡ Some t) × single.Stands m (of_session n H) t
-  pub no_other : (n : ℕ) → begun s n H ≡ None → lookup (nat_eq n) v.sessions ≡ None
-  -- the connection
-  pub state_is : v.connection.state ≡ state_from s H
-  pub stop_reason_is : v.connection.stop_reason ≡ stop_reason s H
-  pub local_open_is : v.connection.local_open ≡ o
-  pub channel_max_is : v.connection.agreed_channel_max ≡ channel_max o H
-  pub held_is : (c : ℕ) → map.get v.connection.session_by_outgoing_channel c ≡ held c H
-  pub routes_are : (c : ℕ) → map.get v.connection.session_by_incoming_channel c ≡ route c H
-  -- the limit of a piece
-  pub limit_is : v.limit ≡ limit_after (own_limit o) H
-  -- what waits is the end of the last entry's frames: others left from the front
-  pub waiting_is : (gone : List Frame) × (last_frames H ≡ gone ++ v.waiting)
-
--- ---- what a run does
-
-abbrev pub inputs_of : {R : Type 0} → List (Entry R) → List (Input R)
-inputs_of [] = []
-inputs_of (e ∷ es) = e.input ∷ inputs_of es
-
--- what waits is put out before the next input is taken
-abbrev pub IsTaken : {R : Type 0} → Entry R → Type 0
-IsTaken e = ¬ (e.refusal ≡ Some no.OutputWaiting)
-
--- the outcomes that entries leave
-abbrev pub outcomes_from : {R : Type 0} → Outcomes → List (Entry R) → Outcomes
-outcomes_from o [] = o
-outcomes_from o (e ∷ es) = outcomes_from (outcomes_by e.received e.reached e.refusal o) es
-
--- these entries were run, from the view and answers before to those after
-pub record Runs {R : Type 0} (g : Relays R) (es : List (Entry R)) (v : EngineView R) (answers : List Answer) (v' : EngineView R)
-    (answers' : List Answer) : Type 0 where
-  -- none is refused because output waits
-  pub all_taken : All IsTaken es
-  -- they are steps from the one view to the other
-  pub steps : Chain g v es v'
-  -- whatever legal history came before, it goes on by these entries; all of it keeps the headline, and gives the view
-  pub goes_on : (s : ConnectionState) (o : OpenSaid) (H : List (Entry R)) → LeadsTo g s o H v →
-      LeadsTo g s o (H ++ es) v' × Headline s o (H ++ es) × Stands s o (H ++ es) v'
-  -- their outcomes are kept, and no handle takes one meanwhile
-  pub outcomes_are : v'.outcomes ≡ outcomes_from v.outcomes es
-  -- what is appended is what waited and the output of the entries, but for the frames that wait now
-  pub out : List Answer
-  pub appended : answers' ≡ answers ++ out
-  pub said : Speaks v.limit v.waiting es v'.waiting out
-
--- A run takes inputs from the front, behind wishes that were accepted, if any. It takes all inputs and puts out all frames, or it
--- stops and says how many inputs it took.
-pub record Ran {R : Type 0} (g : Relays R) (wished : List (Entry R)) (v : EngineView R) (inputs : List (Input R)) (answers : List Answer)
-    (result : Result (Unit {0}) Stopped) (v' : EngineView R) (inputs' : List (Input R)) (answers' : List Answer) : Type 0 where
-  pub entries : List (Entry R)
-  pub taken : inputs ≡ inputs_of entries ++ inputs'
-  pub runs : Runs g (wished ++ entries) v answers v' answers'
-  pub result_is : MatchResult result (λ _. (inputs' ≡ []) × (v'.waiting ≡ [])) (λ stopped. stopped.done ≡ length entries)

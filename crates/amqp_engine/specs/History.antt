@@ -10,7 +10,8 @@ use Rattle.amqp_frames.specs.declared.frame.Frame.{Frame}
 use Rattle.amqp_session.specs.Relay.{Relays}
 use Rattle.amqp_session.specs.Session.{SessionView}
 use Rattle.amqp_engine.specs.EngineView.{EngineView, new_engine}
-use Rattle.amqp_engine.specs.Engine.{Entry, Step, Keeps}
+use Rattle.amqp_engine.specs.Engine.{Step, Keeps}
+use Rattle.amqp_engine.specs.Entry.{Entry}
 
 -- the connection is closed at both ends, and session n is ended at both
 abbrev pub IsClosed : {R : Type 0} → EngineView R → Type 0

@@ -9,7 +9,7 @@ use Rattle.amqp_engine.specs.declared.engine.step_error.StepError.{StepError}
 use Rattle.amqp_engine.specs.declared.engine.answer.OutputError.{OutputError}
 use Rattle.amqp_engine.specs.declared.engine.answer.OutputError.TheVariants as no
 use Rattle.amqp_engine.specs.EngineView.{EngineView}
-use Rattle.amqp_engine.specs.Engine.{Entry}
+use Rattle.amqp_engine.specs.Entry.{Entry}
 use Rattle.amqp_engine.specs.Event.{event}
 use Rattle.amqp_engine.specs.ByHistory.{limit_by}
 

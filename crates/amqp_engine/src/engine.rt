@@ -1,10 +1,11 @@
 //! The engine: received frames and local requests go in, the bytes of frames come out.
 
-ghost use Rattle.std.specs.Prelude.{◌≡◌, Some, IfSome, is_some, nat_eq};
+ghost use Rattle.std.specs.Prelude.{◌≡◌, [], Some, IfSome, is_some, nat_eq};
 ghost use Rattle.std.specs.Map.{lookup};
 ghost use Rattle.amqp_engine.specs.Waits.{has_frames};
 ghost use Rattle.amqp_engine.specs.EngineView.{new_engine, own_limit};
-ghost use Rattle.amqp_engine.specs.Engine.{Steps};
+ghost use Rattle.amqp_engine.specs.Stepped.{Stepped};
+ghost use Rattle.amqp_engine.specs.Legal.{Legal};
 ghost use Rattle.amqp_connection.specs.Connection.{refusal_of};
 
 pub mod answer;
@@ -20,6 +21,7 @@ mod shown;
 pub mod step_error;
 mod waiting;
 
+use crate::laws::law_of_histories;
 use amqp_connection::{Connection, SessionNo};
 use amqp_frames::{FrameDecoder, FrameEncoder, Heads};
 use amqp_session::{LinkRelay, Session};
@@ -83,7 +85,8 @@ impl<R: LinkRelay> Engine<R> {
     /// An engine whose connection is in this state and is to send this Open, with no session. Until the peer's Open is
     /// accepted, a piece has at most the `max_frame_size` of `local_open` less four bytes, and never less than four.
     pub fn new(alloc: Global, state: ConnectionState, local_open: Open) -> Engine<R>
-        ensures { result ≡ new_engine state local_open }
+        ensures legal { Legal R.gives state local_open [] result }
+        ensures new { result ≡ new_engine state local_open }
     {
         Engine {
             alloc,
@@ -126,8 +129,9 @@ impl<R: LinkRelay> Engine<R> {
     /// where the engine has no room for one more session, and of a received Close or End with an error, of which the engine
     /// keeps a copy for handles. Every other refusal is that of the connection or of the session.
     pub fn step(&mut self, input: Input<R>) -> Result<(), StepError>
-        ensures { Steps R.gives self.old input (refusal_of result) self.new }
+        ensures { Stepped R.gives self.old input (refusal_of result) self.new }
     {
+        law_of_histories::<R>();
         if self.has_output() {
             drop(input);
             return Err(StepError::OutputWaiting);

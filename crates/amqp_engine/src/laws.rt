@@ -4,9 +4,11 @@ ghost use Rattle.std.specs.Prelude.{List};
 ghost use Rattle.amqp_types.specs.declared.states.ConnectionState.{ConnectionState};
 ghost use Rattle.amqp_types.specs.Open.{OpenSaid};
 ghost use Rattle.amqp_engine.specs.EngineView.{EngineView};
-ghost use Rattle.amqp_engine.specs.Engine.{Entry};
-ghost use Rattle.amqp_engine.specs.History.{LeadsTo};
-ghost use Rattle.amqp_engine.specs.Headline.{Headline, Stands};
+ghost use Rattle.amqp_engine.specs.Entry.{Entry};
+ghost use Rattle.amqp_engine.specs.Legal.{Legal};
+ghost use Rattle.amqp_engine.specs.Headline.{Headline};
+ghost use Rattle.amqp_engine.specs.Views.{Stands};
+ghost use Rattle.amqp_engine.specs.TwoRuns.{TwoRunsAreOne};
 
 use amqp_session::{LinkRelay, laws as session};
 
@@ -15,7 +17,7 @@ use amqp_session::{LinkRelay, laws as session};
 /// frames; the limit of a piece; and the frames that wait.
 pub fn law_of_views<R: LinkRelay>()
     ensures { (state : ConnectionState) (o : OpenSaid) (H : List (Entry R)) (w : EngineView R)
-        → LeadsTo R.gives state o H w → Stands state o H w }
+        → Legal R.gives state o H w → Stands state o H w }
 {
     session::law_of_views::<R>();
 }
@@ -24,8 +26,17 @@ pub fn law_of_views<R: LinkRelay>()
 /// Open and one Close (AMQP 1.0 part 2, section 2.4).
 pub fn law_of_histories<R: LinkRelay>()
     ensures { (state : ConnectionState) (o : OpenSaid) (H : List (Entry R)) (w : EngineView R)
-        → LeadsTo R.gives state o H w → Headline state o H }
+        → Legal R.gives state o H w → Headline state o H }
 {
     session::law_of_views::<R>();
     session::law_of_channels::<R>();
+}
+
+/// Two runs in a row are one run over both lists of inputs: what the second one appends goes on where the first one stopped, also where
+/// frames waited between them. Nothing is put out twice, and nothing is left out.
+pub fn law_of_two_runs<R: LinkRelay>()
+    ensures { TwoRunsAreOne R.gives }
+{
+    law_of_histories::<R>();
+    law_of_views::<R>();
 }

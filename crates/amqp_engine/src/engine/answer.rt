@@ -4,7 +4,7 @@ use super::step_error::StepError;
 use amqp_frames::{Frame, Piece};
 
 /// Whether an input was accepted, and what is to be sent for it.
-#[derive(Debug, Drop)]
+#[derive(Debug, Drop, PartialEq)]
 pub enum Answer {
     /// The input was accepted.
     Done,

@@ -5,6 +5,7 @@ ghost use Rattle.amqp_engine.specs.declared.engine.answer.Answer.{Answer};
 ghost use Rattle.amqp_engine.specs.History.{OnlyLeft};
 ghost use Rattle.amqp_engine.specs.Waits.{has_frames};
 ghost use Rattle.amqp_engine.specs.Output.{NextOutput, PutOut};
+ghost use Rattle.amqp_engine.specs.Stepped.{Stays};
 ghost use Rattle.amqp_engine.specs.Putting.{EncodesFirst, FirstUnfit, PutsFirst};
 
 use super::Engine;
@@ -19,7 +20,8 @@ impl<R: LinkRelay> Engine<R> {
     /// `TooLarge` hands back a frame that does not fit the limit, whole or cut; it waits no longer. `Memory` where memory
     /// is refused; the frame still waits.
     pub fn next_output(&mut self) -> Result<Option<Vec<Piece>>, OutputError>
-        ensures { NextOutput (λ v. v.items) self.old result self.new }
+        ensures next { NextOutput (λ v. v.items) self.old result self.new }
+        ensures legal { Stays R.gives self.old self.new }
     {
         if !self.has_output() {
             return Ok(None);
@@ -85,6 +87,7 @@ impl<R: LinkRelay> Engine<R> {
             × PutOut self.old.limit self.old.waiting self.new.waiting out }
         ensures taken { OnlyLeft self.old self.new }
         ensures ok { OnOk result (self.new.waiting ≡ []) }
+        ensures err { OnErr result (¬ (self.new.waiting ≡ [])) }
     {
         while self.has_output() {
             let Ok(()) = self.put_first(answers) else {

@@ -12,7 +12,8 @@ ghost use Rattle.amqp_session.specs.History as session;
 ghost use Rattle.amqp_engine.specs.EngineView.{peer_limit};
 ghost use Rattle.std.specs.Fn.{FnOnceReturnsAtMut};
 ghost use Rattle.amqp_engine.specs.Sessions.{AsksAlong};
-ghost use Rattle.amqp_engine.specs.Engine.{ReceivedStep, FieldsStep, FieldsKept, ReceivedCloseStep, recorded, remote_reason};
+ghost use Rattle.amqp_engine.specs.Engine.{ReceivedStep, FieldsStep, FieldsKept, ReceivedCloseStep, recorded};
+ghost use Rattle.amqp_engine.specs.ByHistory.{remote_reason};
 
 use super::Engine;
 use super::kept::{close_answer, copy_of, end_answer};

@@ -10,7 +10,8 @@ ghost use Rattle.amqp_engine.specs.declared.engine.input.Input.TheVariants as gi
 ghost use Rattle.amqp_connection.specs.Connection.{refusal_of};
 ghost use Rattle.amqp_engine.specs.Sessions.{Asks, BeginRequest, BegunStep, ReleaseRequest};
 ghost use Rattle.std.specs.Fn.{FnOnceReturnsAtMut};
-ghost use Rattle.amqp_engine.specs.Engine.{OpenRequest, CloseRequest, CarriedStep, close_reason};
+ghost use Rattle.amqp_engine.specs.Engine.{OpenRequest, CloseRequest, CarriedStep};
+ghost use Rattle.amqp_engine.specs.ByHistory.{close_reason};
 
 use super::Engine;
 use super::input::Input;

@@ -3,7 +3,8 @@
 ghost use Rattle.std.specs.Prelude.{◌≡◌, []};
 ghost use Rattle.amqp_connection.specs.Connection.{refusal_of};
 ghost use Rattle.amqp_engine.specs.Output.{answer_of};
-ghost use Rattle.amqp_engine.specs.Headline.{Ran};
+ghost use Rattle.amqp_engine.specs.Promise.{Ends, NoneLeft};
+ghost use Rattle.amqp_engine.specs.Ran.{Ran};
 
 use super::Engine;
 use super::answer::{Answer, Stopped};
@@ -33,7 +34,8 @@ impl<R: LinkRelay> Engine<R> {
         inputs: &mut VecDeque<Input<R>>,
         answers: &mut Vec<Answer>,
     ) -> Result<(), Stopped>
-        ensures ran { Ran R.gives [] self.old inputs.old.items answers.old.items result self.new inputs.new.items answers.new.items }
+        ensures ran { Ran R.gives [] self.old inputs.old.items answers.old.items self.new inputs.new.items answers.new.items }
+        ensures ends { Ends (NoneLeft inputs.new.items self.new) inputs.old.items inputs.new.items result }
         ensures wishes { self.new.wishes ≡ self.old.wishes }
     {
         law_of_histories::<R>();

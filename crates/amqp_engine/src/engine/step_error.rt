@@ -38,7 +38,8 @@ pub enum StepError {
     /// A session of this number is there. Nothing has changed.
     #[error("session in use")]
     SessionInUse,
-    /// The engine's own room for a new session was refused (`Begin` alone). Nothing has changed.
+    /// Room of the engine's own was refused: for a new session (`Begin`), or for the copy of the error of a received Close or End, which
+    /// is kept for handles. Nothing has changed, and what the input held is dropped.
     #[error("out of memory")]
     OutOfMemory,
 }

@@ -3,6 +3,7 @@
 ghost use Rattle.std.specs.Prelude.{◌≡◌, None, Some, false};
 ghost use Rattle.amqp_types.specs.declared.states.ConnectionState.TheVariants.{End};
 ghost use Rattle.amqp_engine.specs.Handles.{is_end, is_closed, close_told, close_answer_of, CloseCall, TryCloseCall};
+ghost use Rattle.amqp_engine.specs.Stepped.{Stays};
 
 use super::HandledEngine;
 use crate::engine::kept::CloseOutcome;
@@ -71,7 +72,8 @@ impl ConnectionHandle {
     ///
     /// `IllegalState` where this handle was told the outcome.
     pub fn close<R: LinkRelay>(&self, engine: &mut HandledEngine<R>) -> Result<(), Error>
-        ensures { CloseCall self.now None engine.old result engine.new }
+        ensures said { CloseCall self.now None engine.old result engine.new }
+        ensures legal { Stays R.gives engine.old engine.new }
     {
         self.wish(None, engine)
     }
@@ -82,7 +84,8 @@ impl ConnectionHandle {
         error: AmqpError,
         engine: &mut HandledEngine<R>,
     ) -> Result<(), Error>
-        ensures { CloseCall self.now (Some error) engine.old result engine.new }
+        ensures said { CloseCall self.now (Some error) engine.old result engine.new }
+        ensures legal { Stays R.gives engine.old engine.new }
     {
         self.wish(Some(error), engine)
     }
@@ -110,7 +113,8 @@ impl ConnectionHandle {
         &mut self,
         engine: &mut HandledEngine<R>,
     ) -> Result<Result<(), Error>, TryCloseError>
-        ensures { TryCloseCall self.old engine.old result self.new engine.new }
+        ensures said { TryCloseCall self.old engine.old result self.new engine.new }
+        ensures legal { Stays R.gives engine.old engine.new }
     {
         if self.is_told {
             return Err(TryCloseError::AlreadyClosed);

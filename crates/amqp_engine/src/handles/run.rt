@@ -1,8 +1,10 @@
 //! Runs of a handled engine: the wishes become requests, and then the inputs are run.
 
-ghost use Rattle.std.specs.Prelude.{◌≡◌, ◌<◌, [], OnOk};
+ghost use Rattle.std.specs.Prelude.{◌≡◌, ◌<◌, [], OnOk, OnErr};
 ghost use Rattle.std.specs.Vec.{vec_len, vec_capacity};
-ghost use Rattle.amqp_engine.specs.HandledRun.{IsWish, NoWishes, Asked, Hearing, HandledRan};
+ghost use Rattle.amqp_engine.specs.Promise.{Ends, NoneLeft};
+ghost use Rattle.amqp_engine.specs.HandledRun.{NoWishes, HandledRan};
+ghost use Rattle.amqp_engine.specs.Inner.Hearing.{IsWish, Asked, Hearing};
 
 use super::HandledEngine;
 use crate::engine::{Answer, Input, Stopped};
@@ -25,7 +27,8 @@ impl<R: LinkRelay> HandledEngine<R> {
         inputs: &mut VecDeque<Input<R>>,
         answers: &mut Vec<Answer>,
     ) -> Result<(), Stopped>
-        ensures { HandledRan R.gives self.old inputs.old.items answers.old.items result self.new inputs.new.items answers.new.items }
+        ensures ran { HandledRan R.gives self.old inputs.old.items answers.old.items self.new inputs.new.items answers.new.items }
+        ensures ends { Ends (NoneLeft inputs.new.items self.new × NoWishes self.new.wishes) inputs.old.items inputs.new.items result }
     {
         law_of_histories::<R>();
         law_of_views::<R>();
@@ -40,9 +43,8 @@ impl<R: LinkRelay> HandledEngine<R> {
         ensures heard { Hearing R.gives self.old answers.old.items self.new answers.new.items }
         ensures ok { OnOk result (NoWishes self.new.wishes) }
         ensures idle { OnOk result (self.new.waiting ≡ []) }
+        ensures stopped { OnErr result (¬ ((self.new.waiting ≡ []) × NoWishes self.new.wishes)) }
     {
-        law_of_histories::<R>();
-        law_of_views::<R>();
         self.engine.put_out(answers)?;
         while self.engine.has_noted_end() {
             // The place of the answer comes first: what is accepted is answered.
@@ -65,6 +67,7 @@ impl<R: LinkRelay> HandledEngine<R> {
         requires room { vec_len answers.old < vec_capacity answers.old }
         ensures asked { Asked R.gives self.old wish answers.old.items self.new answers.new.items }
         ensures ok { OnOk result (self.new.waiting ≡ []) }
+        ensures err { OnErr result (¬ (self.new.waiting ≡ [])) }
     {
         match self.engine.step(wish) {
             Ok(()) => {

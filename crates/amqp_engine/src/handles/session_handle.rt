@@ -4,6 +4,7 @@ ghost use Rattle.std.specs.Prelude.{◌≡◌, None, Some, false, nat_eq};
 ghost use Rattle.std.specs.Map.{lookup};
 ghost use Rattle.amqp_types.specs.declared.states.SessionState.TheVariants.{Unmapped};
 ghost use Rattle.amqp_engine.specs.Handles.{is_unmapped, has_ended, is_ended, end_told, end_answer_of, EndCall, TryEndCall};
+ghost use Rattle.amqp_engine.specs.Stepped.{Stays};
 
 use super::HandledEngine;
 use crate::engine::kept::EndOutcome;
@@ -82,14 +83,16 @@ impl SessionHandle {
     ///
     /// `IllegalState` where this handle was told the outcome, or the engine never began the session.
     pub fn end<R: LinkRelay>(&self, engine: &mut HandledEngine<R>) -> Result<(), Error>
-        ensures { EndCall self.now None engine.old result engine.new }
+        ensures said { EndCall self.now None engine.old result engine.new }
+        ensures legal { Stays R.gives engine.old engine.new }
     {
         self.wish(None, engine)
     }
 
     /// The same as [`SessionHandle::end`].
     pub fn close<R: LinkRelay>(&self, engine: &mut HandledEngine<R>) -> Result<(), Error>
-        ensures { EndCall self.now None engine.old result engine.new }
+        ensures said { EndCall self.now None engine.old result engine.new }
+        ensures legal { Stays R.gives engine.old engine.new }
     {
         self.end(engine)
     }
@@ -100,7 +103,8 @@ impl SessionHandle {
         error: AmqpError,
         engine: &mut HandledEngine<R>,
     ) -> Result<(), Error>
-        ensures { EndCall self.now (Some error) engine.old result engine.new }
+        ensures said { EndCall self.now (Some error) engine.old result engine.new }
+        ensures legal { Stays R.gives engine.old engine.new }
     {
         self.wish(Some(error), engine)
     }
@@ -128,7 +132,8 @@ impl SessionHandle {
         &mut self,
         engine: &mut HandledEngine<R>,
     ) -> Result<Result<(), Error>, TryEndError>
-        ensures { TryEndCall self.old engine.old result self.new engine.new }
+        ensures said { TryEndCall self.old engine.old result self.new engine.new }
+        ensures legal { Stays R.gives engine.old engine.new }
     {
         if self.is_told {
             return Err(TryEndError::AlreadyEnded);

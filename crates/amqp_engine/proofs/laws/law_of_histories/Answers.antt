@@ -3,6 +3,7 @@ use Rattle.amqp_session.specs.History as session
 use Rattle.amqp_session.specs.Headline as single
 use Rattle.amqp_engine.specs.EngineView.{new_engine}
 use Rattle.amqp_engine.specs.ByHistory.{of_session, begun}
+use Rattle.amqp_engine.specs.Legal.{Legal}
 use Rattle.amqp_engine.proofs.Apart.{apart}
 use Rattle.amqp_engine.proofs.Beginning.{some_none}
 use Rattle.amqp_engine.proofs.Histories.{one_each}
@@ -15,6 +16,7 @@ use Rattle.amqp_engine.proofs.Telling.{all_asked, frames_are, ran_short}
 use Rattle.amqp_engine.proofs.laws.law_of_histories.Goals as goal
 
 pub returns : goal.returns
+unfolding Legal
 returns g c = λ state o H w whole.
     let gives = g.R.LinkRelay.gives in
     let l = apart gives H (new_engine state o) w whole in

@@ -1,4 +1,4 @@
-use Rattle.std.proofs.Common.{◌≡◌, ◌++◌, [], ◌∷◌, List, length, arith, ap, ◌∙◌, rules}
+use Rattle.std.proofs.Common.{◌≡◌, ◌<◌, ◌++◌, [], ◌∷◌, List, length, arith, ap, ◌∙◌, rules}
 use Rattle.amqp_engine.specs.declared.engine.answer.Answer.{Answer}
 use Rattle.amqp_engine.proofs.Running.{Taking-start, Taking-more, Taking-Ran, empty}
 use Rattle.amqp_engine.proofs.engine.Engine.run.Goals as goal
@@ -11,13 +11,13 @@ loop-answers-init g c =
 pub returns-in_default-clause-ran : goal.returns-in_default-clause-ran
 returns-in_default-clause-ran g c =
     let s = c.put_out.ensures.said in
-    Taking-Ran g.R.LinkRelay.gives _ _ _ _ _ _ _ c.law_of_histories.ensures c.law_of_views.ensures (Taking-start g.R.LinkRelay.gives _ _ _ _ _ _ c.put_out.ensures.taken s.1 s.2) (omega arith)
+    Taking-Ran g.R.LinkRelay.gives _ _ _ _ _ _ c.law_of_histories.ensures c.law_of_views.ensures (Taking-start g.R.LinkRelay.gives _ _ _ _ _ _ c.put_out.ensures.taken s.1 s.2)
 
 pub returns-in_default-reserve-clause-ran : goal.returns-in_default-reserve-clause-ran
 returns-in_default-reserve-clause-ran g c =
     let r = c.loop-answers.invariant.0 in
     let same : c.reserve.new.self.items ≡ c.loop-answers.answers.items = c.reserve.ensures.items in
-    rw same (Taking-Ran g.R.LinkRelay.gives _ _ _ _ _ _ _ c.law_of_histories.ensures c.law_of_views.ensures r (omega (arith, r.counted, c.len.ensures)))
+    rw same (Taking-Ran g.R.LinkRelay.gives _ _ _ _ _ _ c.law_of_histories.ensures c.law_of_views.ensures r)
 
 pub loop-answers-preserved : goal.loop-answers-preserved
 loop-answers-preserved g c =
@@ -26,7 +26,7 @@ loop-answers-preserved g c =
     let same : c.reserve.new.self.items ≡ c.loop-answers.answers.items = c.reserve.ensures.items in
     let s = c.put_out-in-loop-answers.ensures.said in
     let r = c.loop-answers.invariant in (
-      Taking-more g.R.LinkRelay.gives _ _ _ _ _ _ _ _ _ _ _ _ _ _ r.0 r.1 popped c.step-outcome.ensures (pushed ∙ ap (λ (xs : List Answer). xs ++ c.answered.result ∷ []) same ∙ ap (λ (x : Answer). c.loop-answers.answers.items ++ x ∷ []) c.answered.ensures) c.put_out-in-loop-answers.ensures.taken s.1 s.2,
+      Taking-more g.R.LinkRelay.gives _ _ _ _ _ _ _ _ _ _ _ _ _ _ r.0 r.1 popped c.step-outcome.ensures.step (pushed ∙ ap (λ (xs : List Answer). xs ++ c.answered.result ∷ []) same ∙ ap (λ (x : Answer). c.loop-answers.answers.items ++ x ∷ []) c.answered.ensures) c.put_out-in-loop-answers.ensures.taken s.1 s.2,
       c.in-Ok-put_out.ensures.ok,
       r.2,
     )
@@ -38,14 +38,12 @@ returns-in_default-put_out-clause-ran g c =
     let same : c.reserve.new.self.items ≡ c.loop-answers.answers.items = c.reserve.ensures.items in
     let s = c.put_out-in-loop-answers.ensures.said in
     let r = c.loop-answers.invariant in
-    let more = Taking-more g.R.LinkRelay.gives _ _ _ _ _ _ _ _ _ _ _ _ _ _ r.0 r.1 popped c.step-outcome.ensures (pushed ∙ ap (λ (xs : List Answer). xs ++ c.answered.result ∷ []) same ∙ ap (λ (x : Answer). c.loop-answers.answers.items ++ x ∷ []) c.answered.ensures) c.put_out-in-loop-answers.ensures.taken s.1 s.2 in
-    Taking-Ran g.R.LinkRelay.gives _ _ _ _ _ _ _ c.law_of_histories.ensures c.law_of_views.ensures more (omega (arith, more.counted, c.len-in_default-put_out.ensures))
+    let more = Taking-more g.R.LinkRelay.gives _ _ _ _ _ _ _ _ _ _ _ _ _ _ r.0 r.1 popped c.step-outcome.ensures.step (pushed ∙ ap (λ (xs : List Answer). xs ++ c.answered.result ∷ []) same ∙ ap (λ (x : Answer). c.loop-answers.answers.items ++ x ∷ []) c.answered.ensures) c.put_out-in-loop-answers.ensures.taken s.1 s.2 in
+    Taking-Ran g.R.LinkRelay.gives _ _ _ _ _ _ c.law_of_histories.ensures c.law_of_views.ensures more
 
 pub returns-clause-ran : goal.returns-clause-ran
 returns-clause-ran g c =
-    let len : length c.loop-answers.inputs.items ≡ 0 = search rules in
-    let none : c.loop-answers.inputs.items ≡ [] = empty _ len in
-    Taking-Ran g.R.LinkRelay.gives _ _ _ _ _ _ _ c.law_of_histories.ensures c.law_of_views.ensures c.loop-answers.invariant.0 (none, c.loop-answers.invariant.1)
+    Taking-Ran g.R.LinkRelay.gives _ _ _ _ _ _ c.law_of_histories.ensures c.law_of_views.ensures c.loop-answers.invariant.0
 
 pub returns-in_default-put_out-clause-wishes : goal.returns-in_default-put_out-clause-wishes
 returns-in_default-put_out-clause-wishes g c =
@@ -54,4 +52,29 @@ returns-in_default-put_out-clause-wishes g c =
     let same : c.reserve.new.self.items ≡ c.loop-answers.answers.items = c.reserve.ensures.items in
     let s = c.put_out-in-loop-answers.ensures.said in
     let r = c.loop-answers.invariant in
-    (Taking-more g.R.LinkRelay.gives _ _ _ _ _ _ _ _ _ _ _ _ _ _ r.0 r.1 popped c.step-outcome.ensures (pushed ∙ ap (λ (xs : List Answer). xs ++ c.answered.result ∷ []) same ∙ ap (λ (x : Answer). c.loop-answers.answers.items ++ x ∷ []) c.answered.ensures) c.put_out-in-loop-answers.ensures.taken s.1 s.2).wishes_stay
+    (Taking-more g.R.LinkRelay.gives _ _ _ _ _ _ _ _ _ _ _ _ _ _ r.0 r.1 popped c.step-outcome.ensures.step (pushed ∙ ap (λ (xs : List Answer). xs ++ c.answered.result ∷ []) same ∙ ap (λ (x : Answer). c.loop-answers.answers.items ++ x ∷ []) c.answered.ensures) c.put_out-in-loop-answers.ensures.taken s.1 s.2).wishes_stay
+
+pub returns-in_default-clause-ends : goal.returns-in_default-clause-ends
+returns-in_default-clause-ends g c = (omega arith, λ p. c.in_default.ensures.err p.1)
+
+pub returns-in_default-reserve-clause-ends : goal.returns-in_default-reserve-clause-ends
+returns-in_default-reserve-clause-ends g c =
+    let r = c.loop-answers.invariant.0 in
+    let some : 0 < length c.loop-answers.inputs.items = search rules in
+    (omega (arith, r.counted, c.len.ensures), λ p. absurd (omega (arith, some, ap length p.0)))
+
+pub returns-in_default-put_out-clause-ends : goal.returns-in_default-put_out-clause-ends
+returns-in_default-put_out-clause-ends g c =
+    let popped = rw c.unwrap-input.ensures at c.pop_front.ensures.items in
+    let pushed = rw c.unwrap.ensures at c.push.ensures.items in
+    let same : c.reserve.new.self.items ≡ c.loop-answers.answers.items = c.reserve.ensures.items in
+    let s = c.put_out-in-loop-answers.ensures.said in
+    let r = c.loop-answers.invariant in
+    let more = Taking-more g.R.LinkRelay.gives _ _ _ _ _ _ _ _ _ _ _ _ _ _ r.0 r.1 popped c.step-outcome.ensures.step (pushed ∙ ap (λ (xs : List Answer). xs ++ c.answered.result ∷ []) same ∙ ap (λ (x : Answer). c.loop-answers.answers.items ++ x ∷ []) c.answered.ensures) c.put_out-in-loop-answers.ensures.taken s.1 s.2 in
+    (omega (arith, more.counted, c.len-in_default-put_out.ensures), λ p. c.in_default-put_out.ensures.err p.1)
+
+pub returns-clause-ends : goal.returns-clause-ends
+returns-clause-ends g c =
+    let len : length c.loop-answers.inputs.items ≡ 0 = search rules in
+    let none : c.loop-answers.inputs.items ≡ [] = empty _ len in
+    (none, c.loop-answers.invariant.1)

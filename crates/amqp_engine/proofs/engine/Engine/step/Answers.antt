@@ -1,11 +1,12 @@
 use Rattle.std.proofs.Common.{None, [], refl, sym, ◌∙◌, inl, inr}
 use Rattle.amqp_engine.proofs.Engines.{idle, busy}
+use Rattle.amqp_engine.proofs.Running.{stepped}
 use Rattle.amqp_engine.proofs.engine.Engine.step.Goals as goal
 
 pub returns : goal.returns
 returns g c =
     let done = c.carry_out.ensures in
-    record {
+    stepped g.R.LinkRelay.gives c.law_of_histories.ensures _ _ _ _ (record {
       received = done.0;
       reached = done.1;
       calls = done.2;
@@ -13,10 +14,10 @@ returns g c =
       done = done.3;
       step = inr (idle _ (sym c.has_output.ensures ∙ c.if-has_output.false), refl, done.4);
       keeps = done.5;
-    }
+    })
 
 pub returns-then-has_output : goal.returns-then-has_output
-returns-then-has_output g c = record {
+returns-then-has_output g c = stepped g.R.LinkRelay.gives c.law_of_histories.ensures _ _ _ _ (record {
   received = None;
   reached = None;
   calls = [];
@@ -24,4 +25,4 @@ returns-then-has_output g c = record {
   done = c.args.self.now;
   step = inl (busy _ (sym c.has_output.ensures ∙ c.if-has_output.true), refl, refl, ((refl, refl), refl), refl);
   keeps = refl;
-}
+})

@@ -1,6 +1,6 @@
 use Rattle.std.proofs.Common.{◌∙◌, ap}
 use Rattle.amqp_types.specs.Close.{CloseSaid}
-use Rattle.amqp_engine.specs.Engine.{remote_reason}
+use Rattle.amqp_engine.specs.ByHistory.{remote_reason}
 use Rattle.amqp_engine.proofs.Engines.{recorded_as}
 use Rattle.amqp_engine.proofs.engine.received.take_close.Goals as goal
 

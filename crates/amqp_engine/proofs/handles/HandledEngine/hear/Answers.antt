@@ -9,7 +9,7 @@ use Rattle.amqp_engine.proofs.handles.HandledEngine.hear.Goals as goal
 pub returns-in_err-put_out-clause-heard : goal.returns-in_err-put_out-clause-heard
 returns-in_err-put_out-clause-heard g c =
     let s = c.put_out.ensures.said in
-    ends_heard g.R.LinkRelay.gives c.args.self.now c.put_out.new.self c.args.answers.now.items c.put_out.new.answers.items c.law_of_histories.ensures c.law_of_views.ensures
+    ends_heard g.R.LinkRelay.gives c.args.self.now c.put_out.new.self c.args.answers.now.items c.put_out.new.answers.items
     (subst (λ (v : EngineView _). HearingEnds g.R.LinkRelay.gives v c.args.answers.now.items c.put_out.new.self c.put_out.new.answers.items) c.self.view_is
     (ends_start g.R.LinkRelay.gives _ _ _ _ s.0 c.put_out.ensures.taken s.1 s.2))
 
@@ -24,7 +24,7 @@ loop-self-init g c =
 pub returns-in_err-reserve-clause-heard : goal.returns-in_err-reserve-clause-heard
 returns-in_err-reserve-clause-heard g c =
     let same : c.reserve.new.self.items ≡ c.loop-self.answers.items = c.reserve.ensures.items in
-    rw same (ends_heard g.R.LinkRelay.gives _ _ _ _ c.law_of_histories.ensures c.law_of_views.ensures c.loop-self.invariant.0)
+    rw same (ends_heard g.R.LinkRelay.gives _ _ _ _ c.loop-self.invariant.0)
 
 pub loop-self-preserved : goal.loop-self-preserved
 loop-self-preserved g c =
@@ -40,13 +40,13 @@ returns-in_err-ask-clause-heard g c =
     let before = subst (λ (xs : List Answer). HearingEnds g.R.LinkRelay.gives c.args.self.now c.args.answers.now.items c.loop-self.self xs) (sym same) c.loop-self.invariant.0 in
     let takes = subst (λ w. TakesEnd w (Some c.unwrap-number.result) c.take_noted_end.new.self.wishes) (ap (λ (x : EngineView _). x.wishes) c.self-in-loop-self.view_is) (rw c.unwrap-number.ensures at c.take_noted_end.ensures.taken) in
     let now = c.take_noted_end.ensures.same ∙ ap (λ (x : EngineView _). record x { wishes = c.take_noted_end.new.self.wishes }) c.self-in-loop-self.view_is in
-    ends_heard g.R.LinkRelay.gives _ _ _ _ c.law_of_histories.ensures c.law_of_views.ensures
+    ends_heard g.R.LinkRelay.gives _ _ _ _
     (ends_more g.R.LinkRelay.gives _ _ _ _ _ _ _ c.unwrap-number.result before c.loop-self.invariant.1 takes now c.ask.ensures.asked)
 
 pub returns-in_err-reserve-2-clause-heard : goal.returns-in_err-reserve-2-clause-heard
 returns-in_err-reserve-2-clause-heard g c =
     let same : c.reserve-then-has_noted_close.new.self.items ≡ c.loop-self.answers.items = c.reserve-then-has_noted_close.ensures.items in
-    rw same (ends_heard g.R.LinkRelay.gives _ _ _ _ c.law_of_histories.ensures c.law_of_views.ensures c.loop-self.invariant.0)
+    rw same (ends_heard g.R.LinkRelay.gives _ _ _ _ c.loop-self.invariant.0)
 
 pub returns-in_err-ask-2-clause-heard : goal.returns-in_err-ask-2-clause-heard
 returns-in_err-ask-2-clause-heard g c =
@@ -55,7 +55,7 @@ returns-in_err-ask-2-clause-heard g c =
     let none = no_more _ (ap (λ (x : EngineView _). has_entries (map.entries x.wishes.ends)) (sym c.self-in-loop-self.view_is) ∙ sym c.has_noted_end.ensures ∙ c.loop-self-test.false) in
     let noted = ap (λ (x : EngineView _). x.wishes.close) (sym c.self-2.view_is) ∙ sym c.take_noted_close.ensures.value ∙ c.unwrap-error.ensures in
     let now = c.take_noted_close.ensures.taken ∙ ap (λ (x : EngineView _). record x { wishes = record x.wishes { close = None } }) c.self-2.view_is in
-    close_heard g.R.LinkRelay.gives _ _ _ _ _ _ _ c.unwrap-error.result c.law_of_histories.ensures c.law_of_views.ensures before c.loop-self.invariant.1 none noted now c.ask-then-has_noted_close.ensures.asked
+    close_heard g.R.LinkRelay.gives _ _ _ _ _ _ _ c.unwrap-error.result before c.loop-self.invariant.1 none noted now c.ask-then-has_noted_close.ensures.asked
 
 pub returns-in_ok-ask-2-clause-heard : goal.returns-in_ok-ask-2-clause-heard
 returns-in_ok-ask-2-clause-heard g c =
@@ -64,7 +64,7 @@ returns-in_ok-ask-2-clause-heard g c =
     let none = no_more _ (ap (λ (x : EngineView _). has_entries (map.entries x.wishes.ends)) (sym c.self-in-loop-self.view_is) ∙ sym c.has_noted_end.ensures ∙ c.loop-self-test.false) in
     let noted = ap (λ (x : EngineView _). x.wishes.close) (sym c.self-2.view_is) ∙ sym c.take_noted_close.ensures.value ∙ c.unwrap-error.ensures in
     let now = c.take_noted_close.ensures.taken ∙ ap (λ (x : EngineView _). record x { wishes = record x.wishes { close = None } }) c.self-2.view_is in
-    close_heard g.R.LinkRelay.gives _ _ _ _ _ _ _ c.unwrap-error.result c.law_of_histories.ensures c.law_of_views.ensures before c.loop-self.invariant.1 none noted now c.ask-then-has_noted_close.ensures.asked
+    close_heard g.R.LinkRelay.gives _ _ _ _ _ _ _ c.unwrap-error.result before c.loop-self.invariant.1 none noted now c.ask-then-has_noted_close.ensures.asked
 
 pub returns-else-has_noted_close-clause-heard : goal.returns-else-has_noted_close-clause-heard
-returns-else-has_noted_close-clause-heard g c = ends_heard g.R.LinkRelay.gives _ _ _ _ c.law_of_histories.ensures c.law_of_views.ensures c.loop-self.invariant.0
+returns-else-has_noted_close-clause-heard g c = ends_heard g.R.LinkRelay.gives _ _ _ _ c.loop-self.invariant.0

@@ -1,0 +1,21 @@
+-- What has been run so far, as the loops of a run keep it.
+use Rattle.std.specs.Prelude.{◌≡◌, List, ◌++◌, All}
+use Rattle.amqp_session.specs.Relay.{Relays}
+use Rattle.amqp_engine.specs.declared.engine.answer.Answer.{Answer}
+use Rattle.amqp_engine.specs.EngineView.{EngineView}
+use Rattle.amqp_engine.specs.Entry.{Entry}
+use Rattle.amqp_engine.specs.History.{Chain}
+use Rattle.amqp_engine.specs.ByHistory.{limit_after}
+use Rattle.amqp_engine.specs.Output.{Speaks}
+use Rattle.amqp_engine.specs.Promise.{IsTaken}
+use Rattle.amqp_engine.specs.Views.{outcomes_from}
+
+-- these entries have been run so far
+pub record Running {R : Type 0} (gives : Relays R) (v : EngineView R) (entries : List (Entry R)) (answers : List Answer) (v' : EngineView R) (answers' : List Answer) : Type 0 where
+  pub all_taken : All IsTaken entries
+  pub chain : Chain gives v entries v'
+  pub limit_is : v'.limit ≡ limit_after v.limit entries
+  pub outcomes_are : v'.outcomes ≡ outcomes_from v.outcomes entries
+  pub out : List Answer
+  pub appended : answers' ≡ answers ++ out
+  pub said : Speaks v.limit v.waiting entries v'.waiting out
