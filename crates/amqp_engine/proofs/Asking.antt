@@ -29,10 +29,11 @@ called g asks acts v w n refusal answers (inl t) =
       record {
         before = t.before.view;
         after = t.after.view;
+        walk = t.after.last_walk;
         known = t.known;
         asked = subst (λ r. asks t.before.view.state a.calls r) (sym t.refused) a.asked;
         steps = a.steps;
-        put = t.put ∙ ap (λ (fs : List Frame). record v { sessions = set_value (nat_eq n) v.sessions t.after.view; waiting = fs }) (sym a.frames);
+        put = t.put ∙ ap (λ (fs : List Frame). record v { sessions = set_value (nat_eq n) v.sessions t.after.view; walks = set_value (nat_eq n) v.walks t.after.last_walk; waiting = fs }) (sym a.frames);
       },
     )
 called g asks acts v w n refusal answers (inr t) = inr (record { unknown = t.0; no_calls = refl; refused = t.1; same = t.2 })

@@ -4,6 +4,7 @@ use Rattle.std.proofs.lemmas.List.{append-nil}
 use Rattle.std.proofs.lemmas.List.Elements.{All-nil, All-push}
 use Rattle.std.specs.FinMap as finite
 use Rattle.amqp_types.specs.Error.{ErrorSaid}
+use Rattle.amqp_session.specs.declared.deliveries.WalkCount.{WalkCount}
 use Rattle.amqp_session.specs.Relay.{Relays}
 use Rattle.amqp_engine.specs.declared.engine.input.Input.{Input}
 use Rattle.amqp_engine.specs.declared.engine.input.Input.TheVariants as input
@@ -39,6 +40,29 @@ rewished v w = let t = Taken-none v in record {
   sessions_is = t.sessions_is;
   limit_is = t.limit_is;
   outcomes_are = record { close = t.outcomes_are.close; ends = t.outcomes_are.ends };
+}
+
+-- nor are the counts of walks
+rewalked : {R : Type 0} (v : EngineView R) (w : List (ℕ × WalkCount)) → Taken v (record v { walks = w })
+rewalked v w = let t = Taken-none v in record {
+  gone = t.gone;
+  left = t.left;
+  connection_is = t.connection_is;
+  sessions_is = t.sessions_is;
+  limit_is = t.limit_is;
+  outcomes_are = record { close = t.outcomes_are.close; ends = t.outcomes_are.ends };
+}
+
+running_rewalked : {R : Type 0} (g : Relays R) (v : EngineView R) (es : List (Entry R)) (answers : List Answer) (u : EngineView R) (answers' : List Answer) (w : List (ℕ × WalkCount)) →
+    Running g v es answers u answers' → Running g v es answers (record u { walks = w }) answers'
+running_rewalked g v es answers u answers' w r = record {
+  all_taken = r.all_taken;
+  chain = Chain-end g es v u (record u { walks = w }) r.chain (rewalked u w);
+  limit_is = r.limit_is;
+  outcomes_are = r.outcomes_are;
+  out = r.out;
+  appended = r.appended;
+  said = r.said;
 }
 
 -- the entries that were heard
@@ -108,7 +132,7 @@ one_more {R} g v heard answers i u v' answers1 answers' h idle is a = by a.refus
     by (Some r) s so =
         let e : Entry R = entry_of g u i (Some r) a.told s in
         let now = taken g u s.done e idle s.step in
-        let same : v' ≡ u = so.0 ∙ refused_same g u a.told i r is idle s in
+        let same : v' ≡ record u { walks = a.told.walks } = so.0 ∙ refused_same g u a.told i r is idle s in
         record {
           entry = e;
           input_is = refl;
@@ -116,7 +140,8 @@ one_more {R} g v heard answers i u v' answers1 answers' h idle is a = by a.refus
             all_taken = All-push IsTaken heard e h.all_taken now.0;
             asked = Chain-append g heard (e ∷ []) v u v' h.asked (u, s.done, a.told, Taken-none u, s.step, s.keeps, subst (λ (x : EngineView _). Taken a.told x) (sym so.0) (Taken-none a.told));
             running = subst (λ (es : List (Entry R)). Running g v es answers v' answers') (sym (accepted-push heard e ∙ append-nil (accepted heard)))
-                (subst (λ (x : EngineView _). Running g v (accepted heard) answers x answers') (sym same) (subst (λ (xs : List Answer). Running g v (accepted heard) answers u xs) (sym so.1) h.running));
+                (subst (λ (x : EngineView _). Running g v (accepted heard) answers x answers') (sym same)
+                (running_rewalked g v (accepted heard) answers u answers' a.told.walks (subst (λ (xs : List Answer). Running g v (accepted heard) answers u xs) (sym so.1) h.running)));
           };
           wishes_stay = ap (λ (x : EngineView _). x.wishes) same;
         }

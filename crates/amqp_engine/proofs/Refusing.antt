@@ -1,4 +1,4 @@
--- A wish that is refused changes nothing.
+-- A wish that is refused changes nothing. (The counts of a walk are not followed.)
 use Rattle.std.proofs.Common.{◌≡◌, ℕ, List, [], ◌∷◌, Option, Some, None, Result, Ok, Err, Bool, true, false, cond, refl, ap, sym, subst, ◌∙◌, inl, inr, nat_eq}
 use Rattle.std.specs.Map.{lookup, set_value}
 use Rattle.amqp_types.specs.Error.{ErrorSaid}
@@ -42,37 +42,46 @@ set_same (e ∷ es) n x is = by (λ h. set_same es n x h) (nat_eq n e.0) refl is
         let later : lookup (nat_eq n) es ≡ Some x = sym (ap (λ b. cond b (Some e.1) (lookup (nat_eq n) es)) t) ∙ h in
         rw t (ap (λ ys. e ∷ ys) (rest later))
 
+-- the same engine, whatever its sessions' latest walks
+abbrev pub Still : {R : Type 0} → EngineView R → EngineView R → Type 0
+Still v w = w ≡ record v { walks = w.walks }
+
+still : {R : Type 0} (v w : EngineView R) → w ≡ v → Still v w
+still v w e = e ∙ ap (λ x. record v { walks = x }) (sym (ap (λ (x : EngineView _). x.walks) e))
+
 unsent : {R : Type 0} (v w : SessionView R) (error : Option ErrorSaid) (e : SessionStateError) → SendEndStep v error (Err e) w → w ≡ v
 unsent v w error unended.IllegalState s = s.1
 unsent v w error e s = absurd s
 
-called_end : {R : Type 0} (g : Relays R) (v w : EngineView R) (n : ℕ) (error : Option ErrorSaid) (calls : List (session.Entry R)) (r : StepError) → v.waiting ≡ [] → Called g v n (EndCalls error) calls (Some r) w → w ≡ v
+called_end : {R : Type 0} (g : Relays R) (v w : EngineView R) (n : ℕ) (error : Option ErrorSaid) (calls : List (session.Entry R)) (r : StepError) → v.waiting ≡ [] → Called g v n (EndCalls error) calls (Some r) w → Still v w
 called_end {R} g v w n error calls r idle c = by c.asked.0 c.asked.1 c.asked.2
   where
-    by : (result : Result SessionFrame SessionStateError) → calls ≡ session.SendsEnd error result ∷ recorded_end error result → Some r ≡ state_refusal result → w ≡ v
+    by : (result : Result SessionFrame SessionStateError) → calls ≡ session.SendsEnd error result ∷ recorded_end error result → Some r ≡ state_refusal result → Still v w
     by (Ok f) is refused = absurd cc
     by (Err e) is refused =
         let steps = subst (λ (cs : List (session.Entry R)). session.Chain g c.before cs c.after) is c.steps in
         let after : c.after ≡ c.before = steps.2 ∙ unsent c.before steps.0 error e steps.1 in
-        c.put ∙ ap (λ (s : SessionView R). record v { sessions = set_value (nat_eq n) v.sessions s; waiting = sent (calls_frames calls) }) after
-        ∙ ap (λ es. record v { sessions = es; waiting = sent (calls_frames calls) }) (set_same v.sessions n c.before c.known)
-        ∙ ap (λ (cs : List (session.Entry R)). record v { waiting = sent (calls_frames cs) }) is
-        ∙ ap (λ (fs : List Frame). record v { waiting = fs }) (sym idle)
+        let walks = set_value (nat_eq n) v.walks c.walk in
+        c.put ∙ ap (λ (s : SessionView R). record v { sessions = set_value (nat_eq n) v.sessions s; walks = walks; waiting = sent (calls_frames calls) }) after
+        ∙ ap (λ es. record v { sessions = es; walks = walks; waiting = sent (calls_frames calls) }) (set_same v.sessions n c.before c.known)
+        ∙ ap (λ (cs : List (session.Entry R)). record v { walks = walks; waiting = sent (calls_frames cs) }) is
+        ∙ ap (λ (fs : List Frame). record v { walks = walks; waiting = fs }) (sym idle)
+        ∙ ap (λ x. record v { walks = x }) (sym (ap (λ (x : EngineView R). x.walks) c.put))
 
-refused_end : {R : Type 0} (g : Relays R) (v w : EngineView R) (n : ℕ) (error : Option ErrorSaid) (reached : Option ℕ) (calls : List (session.Entry R)) (r : StepError) → v.waiting ≡ [] → Does g v n (EndCalls error) reached calls (Some r) w → w ≡ v
+refused_end : {R : Type 0} (g : Relays R) (v w : EngineView R) (n : ℕ) (error : Option ErrorSaid) (reached : Option ℕ) (calls : List (session.Entry R)) (r : StepError) → v.waiting ≡ [] → Does g v n (EndCalls error) reached calls (Some r) w → Still v w
 refused_end g v w n error reached calls r idle (inl s) = called_end g v w n error calls r idle s.1
-refused_end g v w n error reached calls r idle (inr s) = s.1.same
+refused_end g v w n error reached calls r idle (inr s) = still v w s.1.same
 
 unclosed : (v k : ConnectionView) (error : Option ErrorSaid) (e : ConnectionStateError) → SendCloseStep v error (Err e) k → k ≡ v
 unclosed v k error state.IllegalState s = s.1
 unclosed v k error e s = absurd s
 
-refused_close : {R : Type 0} (v w : EngineView R) (error : Option ErrorSaid) (r : StepError) → CloseRequest v error (Some r) w → w ≡ v
-refused_close v w error (no.ConnectionState e) s = s.2 ∙ ap (λ (k : ConnectionView). record v { connection = k }) (unclosed v.connection s.0 error e s.1)
+refused_close : {R : Type 0} (v w : EngineView R) (error : Option ErrorSaid) (r : StepError) → CloseRequest v error (Some r) w → Still v w
+refused_close v w error (no.ConnectionState e) s = still v w (s.2 ∙ ap (λ (k : ConnectionView). record v { connection = k }) (unclosed v.connection s.0 error e s.1))
 refused_close v w error e s = absurd s
 
 abbrev SameStep : {R : Type 0} → EngineView R → EngineView R → Option Frame → Type 0
-SameStep v w received = (received ≡ None) × (w ≡ v)
+SameStep v w received = (received ≡ None) × Still v w
 
 carried : {R : Type 0} (g : Relays R) (v w : EngineView R) (i : Input R) (received : Option Frame) (reached : Option ℕ) (calls : List (session.Entry R)) (r : StepError) →
     IsWish i → v.waiting ≡ [] → Carries g v i received reached calls (Some r) w → SameStep v w received
@@ -85,7 +94,8 @@ stepped g v w e r refused is idle (inl s) = absurd (s.0 idle)
 stepped g v w e r refused is idle (inr s) =
     carried g v w e.input e.received e.reached e.calls r is idle (subst (λ x. Carries g v e.input e.received e.reached e.calls x w) refused s.2)
 
-pub refused_same : {R : Type 0} (g : Relays R) (v w : EngineView R) (i : Input R) (r : StepError) → IsWish i → v.waiting ≡ [] → Steps g v i (Some r) w → w ≡ v
+pub refused_same : {R : Type 0} (g : Relays R) (v w : EngineView R) (i : Input R) (r : StepError) → IsWish i → v.waiting ≡ [] → Steps g v i (Some r) w → Still v w
 refused_same g v w i r is idle s =
     let same = stepped g v s.done _ r refl is idle s.step in
-    s.keeps ∙ ap (λ f. kept f s.reached (Some r) s.done) same.0 ∙ same.1
+    let done : w ≡ s.done = s.keeps ∙ ap (λ f. kept f s.reached (Some r) s.done) same.0 in
+    done ∙ same.1 ∙ ap (λ x. record v { walks = x }) (sym (ap (λ (x : EngineView _). x.walks) done))

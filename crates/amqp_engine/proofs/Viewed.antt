@@ -3,7 +3,7 @@ use Rattle.std.proofs.Common.{◌≡◌, ℕ, List, [], ◌∷◌, ◌++◌, Boo
 use Rattle.std.specs.Option.{option_map, option_copied}
 use Rattle.std.specs.Map.{lookup, set_value}
 use Rattle.amqp_session.specs.Session.{Observed}
-use Rattle.amqp_engine.specs.EngineView.{views_of}
+use Rattle.amqp_engine.specs.EngineView.{views_of, walks_of}
 
 pub viewed : {R : Type 0} (n : ℕ) (es : List (ℕ × Observed R)) → lookup (nat_eq n) (views_of es) ≡ option_map (λ o. o.view) (lookup (nat_eq n) es)
 viewed n [] = refl
@@ -46,3 +46,29 @@ known_in (Some s) n es e = ap is_some (sym (viewed_some n es s.now (sym e)))
 pub viewed_there : {R : Type 0} (n : ℕ) (es : List (ℕ × Observed R)) (o : Option (Observed R)) (b : Bool) → lookup (nat_eq n) es ≡ o → b ≡ is_some o → b ≡ true → IsSome (lookup (nat_eq n) (views_of es))
 viewed_there n es None b is e t = absurd cc
 viewed_there n es (Some o) b is e t = subst IsSome (sym (viewed_some n es o is)) refl
+
+-- ---- the counts of their walks
+
+walked : {R : Type 0} (n : ℕ) (es : List (ℕ × Observed R)) → lookup (nat_eq n) (walks_of es) ≡ option_map (λ o. o.last_walk) (lookup (nat_eq n) es)
+walked n [] = refl
+walked n (e ∷ es) = by (walked n es) (nat_eq n e.0) refl
+  where
+    by : lookup (nat_eq n) (walks_of es) ≡ option_map (λ o. o.last_walk) (lookup (nat_eq n) es) → (b : Bool) → nat_eq n e.0 ≡ b → lookup (nat_eq n) (walks_of (e ∷ es)) ≡ option_map (λ o. o.last_walk) (lookup (nat_eq n) (e ∷ es))
+    by rest true p = rw p refl
+    by rest false p = rw p rest
+
+pub walked_set : {R : Type 0} (n : ℕ) (es : List (ℕ × Observed R)) (o : Observed R) → walks_of (set_value (nat_eq n) es o) ≡ set_value (nat_eq n) (walks_of es) o.last_walk
+walked_set n [] o = refl
+walked_set n (e ∷ es) o = by (walked_set n es o) (nat_eq n e.0) refl
+  where
+    by : walks_of (set_value (nat_eq n) es o) ≡ set_value (nat_eq n) (walks_of es) o.last_walk → (b : Bool) → nat_eq n e.0 ≡ b → walks_of (set_value (nat_eq n) (e ∷ es) o) ≡ set_value (nat_eq n) (walks_of (e ∷ es)) o.last_walk
+    by rest true p = rw p refl
+    by rest false p = rw p (ap (λ xs. (e.0, e.1.last_walk) ∷ xs) rest)
+
+pub walked_push : {R : Type 0} (es : List (ℕ × Observed R)) (n : ℕ) (o : Observed R) → walks_of (es ++ (n, o) ∷ []) ≡ walks_of es ++ (n, o.last_walk) ∷ []
+walked_push [] n o = refl
+walked_push (e ∷ es) n o = ap (λ xs. (e.0, e.1.last_walk) ∷ xs) (walked_push es n o)
+
+pub walk_in : {R : Type 0} (r : Option (Bor (Observed R))) (n : ℕ) (es : List (ℕ × Observed R)) → option_copied r ≡ lookup (nat_eq n) es → IfSome r (λ s. lookup (nat_eq n) (walks_of es) ≡ Some s.now.last_walk)
+walk_in None n es e = tt
+walk_in (Some s) n es e = walked n es ∙ ap (option_map (λ x. x.last_walk)) (sym e)

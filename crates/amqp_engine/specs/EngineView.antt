@@ -2,6 +2,7 @@
 use Rattle.std.specs.Prelude.{◌-◌, ℕ, List, [], map, max}
 use Rattle.amqp_types.specs.declared.states.ConnectionState.{ConnectionState}
 use Rattle.amqp_types.specs.Open.{OpenSaid}
+use Rattle.amqp_session.specs.declared.deliveries.WalkCount.{WalkCount}
 use Rattle.amqp_session.specs.Session.{SessionView, Observed}
 use Rattle.amqp_frames.specs.declared.frame.Frame.{Frame}
 use Rattle.amqp_connection.specs.Connection.{ConnectionView, new_connection}
@@ -11,6 +12,8 @@ pub record EngineView (R : Type 0) : Type 0 where
   pub connection : ConnectionView
   -- in the order in which they were begun; none is ever removed
   pub sessions : List (ℕ × SessionView R)
+  -- the counts of the latest walk of each session, in the same order
+  pub walks : List (ℕ × WalkCount)
   -- how many bytes a piece may have
   pub limit : ℕ
   -- frames that are not yet put out, oldest first
@@ -22,6 +25,10 @@ pub record EngineView (R : Type 0) : Type 0 where
 -- the sessions without the counts of their walks
 abbrev pub views_of : {R : Type 0} → List (ℕ × Observed R) → List (ℕ × SessionView R)
 views_of es = map (λ e. (e.0, e.1.view)) es
+
+-- those counts
+abbrev pub walks_of : {R : Type 0} → List (ℕ × Observed R) → List (ℕ × WalkCount)
+walks_of es = map (λ e. (e.0, e.1.last_walk)) es
 
 -- ---- the limit of a piece: the size that a side allows, without the size field; no peer may ask for less than 512 bytes
 
@@ -35,6 +42,7 @@ abbrev pub new_engine : {R : Type 0} → ConnectionState → OpenSaid → Engine
 new_engine s o = record {
   connection = new_connection s o;
   sessions = [];
+  walks = [];
   limit = own_limit o;
   waiting = [];
   outcomes = no_outcomes;

@@ -12,6 +12,7 @@ use Rattle.amqp_session.specs.declared.stop.SessionStopReason.{SessionStopReason
 use Rattle.amqp_frames.specs.declared.frame.Frame.{Frame}
 use Rattle.amqp_session.specs.Relay.{Relays}
 use Rattle.amqp_session.specs.Settings.{SettingsSaid}
+use Rattle.amqp_session.specs.declared.deliveries.WalkCount.{WalkCount}
 use Rattle.amqp_session.specs.Session.{SessionView, Observed, new_session}
 use Rattle.amqp_session.specs.Step.{StopStep, SendBeginStep}
 use Rattle.amqp_session.specs.OutgoingFrames.{calls_frames}
@@ -63,7 +64,11 @@ pub record Took {R : Type 0} (acts : Acts R) (v : EngineView R) (n : ℕ) (refus
   pub known : lookup (nat_eq n) v.sessions ≡ Some before.view
   pub acted : acts before answer after
   pub refused : refusal ≡ refusal_of answer
-  pub put : w ≡ record v { sessions = set_value (nat_eq n) v.sessions after.view; waiting = frames_with answer }
+  pub put : w ≡ record v {
+    sessions = set_value (nat_eq n) v.sessions after.view;
+    walks = set_value (nat_eq n) v.walks after.last_walk;
+    waiting = frames_with answer;
+  }
 
 -- the call goes to session n, if there is one
 abbrev pub Asks : {R : Type 0} → Acts R → EngineView R → ℕ → Option StepError → EngineView R → Type 0
@@ -75,15 +80,20 @@ AsksAlong acts v channel refusal w =
     ((n : ℕ) × (get v.connection.session_by_incoming_channel channel ≡ Some n) × Asks acts v n refusal w)
     ⊎ ((get v.connection.session_by_incoming_channel channel ≡ None) × (refusal ≡ Some (no.Connection not_found)) × (w ≡ v))
 
--- Session n made these calls, and went on to another view; all else stayed. What it handed out waits.
+-- Session n made these calls, and went on to another view and another walk; all else stayed. What it handed out waits.
 pub record Called {R : Type 0} (g : Relays R) (v : EngineView R) (n : ℕ) (asks : Calls R) (calls : List (session.Entry R))
     (refusal : Option StepError) (w : EngineView R) : Type 0 where
   pub before : SessionView R
   pub after : SessionView R
+  pub walk : WalkCount
   pub known : lookup (nat_eq n) v.sessions ≡ Some before
   pub asked : asks before.state calls refusal
   pub steps : session.Chain g before calls after
-  pub put : w ≡ record v { sessions = set_value (nat_eq n) v.sessions after; waiting = sent (calls_frames calls) }
+  pub put : w ≡ record v {
+    sessions = set_value (nat_eq n) v.sessions after;
+    walks = set_value (nat_eq n) v.walks walk;
+    waiting = sent (calls_frames calls);
+  }
 
 -- no session has the number
 pub record Unknown {R : Type 0} (v : EngineView R) (n : ℕ) (calls : List (session.Entry R)) (refusal : Option StepError)
@@ -116,12 +126,18 @@ pub record Begun {R : Type 0} (g : Relays R) (v : EngineView R) (n : ℕ) (setti
   pub channel : ℕ
   pub connection : ConnectionView
   pub after : SessionView R
+  pub walk : WalkCount
   pub unknown : lookup (nat_eq n) v.sessions ≡ None
   pub fits : settings.next_outgoing_id < 2 ^ 32
   pub allocated : AllocateStep v.connection n (Ok channel) connection
   pub asked : BeginCalls at.Unmapped calls None
   pub steps : session.Chain g (new_session settings channel at.Unmapped v.connection.stop_reason) calls after
-  pub put : w ≡ record v { connection = connection; sessions = v.sessions ++ (n, after) ∷ []; waiting = sent (calls_frames calls) }
+  pub put : w ≡ record v {
+    connection = connection;
+    sessions = v.sessions ++ (n, after) ∷ [];
+    walks = v.walks ++ (n, walk) ∷ [];
+    waiting = sent (calls_frames calls);
+  }
 
 -- a new session sends its Begin; memory may be refused
 abbrev pub BegunStep : {R : Type 0} → SessionView R → Result (Observed R × SessionFrame) SessionStateError → Type 0

@@ -55,7 +55,7 @@ impl<R> Model for Engine<R> {
     ghost use Rattle.std.specs.FinMap as map;
     ghost use Rattle.amqp_session.specs.Links.{links_code};
     ghost use Rattle.amqp_connection.specs.Channels.{channel_table_code};
-    ghost use Rattle.amqp_engine.specs.EngineView.{EngineView, views_of};
+    ghost use Rattle.amqp_engine.specs.EngineView.{EngineView, views_of, walks_of};
     ghost use Rattle.amqp_engine.specs.Places.{Seated};
 
     ghost Value = { EngineView R };
@@ -65,6 +65,7 @@ impl<R> Model for Engine<R> {
     ghost view = { λ e. record {
       connection = e.connection;
       sessions = views_of e.sessions.entries;
+      walks = walks_of e.sessions.entries;
       limit = e.encoder;
       waiting = e.waiting;
       outcomes = e.kept.outcomes;
@@ -110,6 +111,7 @@ impl<R: LinkRelay> Engine<R> {
     /// The session with this number, if it was begun. It stays, also when it has ended.
     pub fn session(&self, number: SessionNo) -> Option<&Session<R>>
         ensures found { IfSome result (λ s. lookup (nat_eq number.0) self.now.sessions ≡ Some s.now.view) }
+        ensures walk { IfSome result (λ s. lookup (nat_eq number.0) self.now.walks ≡ Some s.now.last_walk) }
         ensures known { is_some result ≡ is_some (lookup (nat_eq number.0) self.now.sessions) }
     {
         self.sessions.get(&number.0)

@@ -1,13 +1,12 @@
 use Rattle.std.proofs.Common.{sym, ap, ◌∙◌}
 use Rattle.std.specs.Option.{option_copied_mut}
 use Rattle.std.specs.HashMap.{HashMap}
-use Rattle.amqp_engine.specs.EngineView.{views_of}
 use Rattle.amqp_engine.specs.Calls.{ReceivedTransferCalls}
 use Rattle.amqp_engine.proofs.KindFields.{transfer_fields}
 use Rattle.amqp_engine.proofs.FieldsReceived.{unread}
 use Rattle.amqp_engine.proofs.HandedAlong.{unrouted, unknown, handed}
 use Rattle.amqp_engine.proofs.Passing.{route_found, route_missing}
-use Rattle.amqp_engine.proofs.Viewed.{viewed_some, viewed_none, viewed_set}
+use Rattle.amqp_engine.proofs.Viewed.{viewed_some, viewed_none}
 use Rattle.amqp_engine.proofs.engine.Engine.receive_transfer.Goals as goal
 
 pub returns-in_err-transfer : goal.returns-in_err-transfer
@@ -27,7 +26,7 @@ returns-in_default-get_mut g c =
     c.in_ok-transfer.ensures (λ refusal w reached calls h. h)
     _ _ _ _ c.in-Some.number.0 _ c.self.view_is (route_found _ _ c.in-Some.number c.session_tx_by_incoming_channel.ensures c.in-Some.is)
     (viewed_none c.in-Some.number.0 c.self.inside.sessions.entries (sym c.get_mut.ensures.value ∙ ap option_copied_mut c.in_default-get_mut.is))
-    (ap (λ (m : HashMap _ _ _). views_of m.entries) c.get_mut.follows.holds-at-none)
+    (ap (λ (m : HashMap _ _ _). m.entries) c.get_mut.follows.holds-at-none)
 
 pub returns : goal.returns
 returns g c =
@@ -37,4 +36,4 @@ returns g c =
     c.self.view_is (route_found _ _ c.in-Some.number c.session_tx_by_incoming_channel.ensures c.in-Some.is)
     (viewed_some c.in-Some.number.0 c.self.inside.sessions.entries c.in-Some-get_mut.session.now (sym c.in-Some-get_mut.ensures.value))
     c.transfer_received.ensures
-    (ap views_of (c.get_mut.follows.holds c.transfer_received.new.session).0 ∙ viewed_set c.in-Some.number.0 c.self.inside.sessions.entries c.transfer_received.new.session)
+    (c.get_mut.follows.holds c.transfer_received.new.session).0

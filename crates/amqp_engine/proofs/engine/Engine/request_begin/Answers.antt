@@ -7,13 +7,13 @@ use Rattle.amqp_session.specs.History as session
 use Rattle.amqp_session.specs.declared.error.SessionStateError.{SessionStateError}
 use Rattle.amqp_engine.specs.declared.engine.step_error.StepError.TheVariants.{SessionState, AllocSession}
 use Rattle.amqp_connection.specs.Connection.{ConnectionView, AllocateStep}
-use Rattle.amqp_engine.specs.EngineView.{EngineView, views_of}
+use Rattle.amqp_engine.specs.EngineView.{EngineView, views_of, walks_of}
 use Rattle.amqp_engine.specs.Sessions.{BeginRequest}
-use Rattle.amqp_engine.proofs.Engines.{same_engine, same_keeping}
+use Rattle.amqp_engine.proofs.Engines.{same_engine, same_keeping, one_more}
 use Rattle.std.specs.FinMap as map
 use Rattle.amqp_engine.specs.Places.{Seated}
 use Rattle.amqp_engine.proofs.KeptOutcomes.{seat_free, seated_more, seated_same}
-use Rattle.amqp_engine.proofs.Viewed.{viewed_none, viewed_there, viewed_push}
+use Rattle.amqp_engine.proofs.Viewed.{viewed_none, viewed_there}
 use Rattle.amqp_engine.proofs.Beginning.{not_some, appended, given_back_again, unallocated}
 use Rattle.amqp_engine.proofs.engine.Engine.request_begin.Goals as goal
 
@@ -22,7 +22,7 @@ returns-in-Ok-begun g c =
     let same_room = c.reserve-2.ensures.same in
     let none = not_some _ _ c.contains_key.ensures c.if-contains_key.false in
     let put = rw c.unwrap.ensures at c.insert.ensures.entries in
-    let entries = ap views_of (put ∙ ap (λ es. insert_entry nat_eq es c.args.number c.in-Ok-begun.session) c.reserve.ensures.entries ∙ appended _ c.args.number c.in-Ok-begun.session none) ∙ viewed_push c.self.inside.sessions.entries c.args.number c.in-Ok-begun.session in
+    let entries = put ∙ ap (λ es. insert_entry nat_eq es c.args.number c.in-Ok-begun.session) c.reserve.ensures.entries ∙ appended _ c.args.number c.in-Ok-begun.session none in
     let a = c.in-Ok-allocate_session.ensures in
     let stop = c.connection_stop_reason-stop.ensures ∙ ap (λ (k : ConnectionView). k.stop_reason) a.3 in
     let began = subst (λ s. SendBeginStep (new_session c.args.settings c.in-Ok-allocate_session.channel.0 Unmapped s) (Ok c.in-Ok-begun.frame) c.in-Ok-begun.session.view) stop c.in-Ok-begun.ensures.begun in
@@ -35,12 +35,13 @@ returns-in-Ok-begun g c =
           channel = c.in-Ok-allocate_session.channel.0;
           connection = c.allocate_session.new.self;
           after = c.in-Ok-begun.session.view;
+          walk = c.in-Ok-begun.session.last_walk;
           unknown = viewed_none c.args.number c.self.inside.sessions.entries none;
           fits = c.in-Ok-begun.ensures.fits;
           allocated = a;
           asked = (c.in-Ok-begun.frame, refl, refl);
           steps = (c.in-Ok-begun.session.view, began, refl);
-          put = same_keeping _ _ _ _ _ _ refl entries (c.put.ensures ∙ c.alone.ensures) (c.add.ensures.outcomes ∙ same_room.outcomes_are) (c.add.ensures.wishes ∙ same_room.wishes_are);
+          put = one_more _ c.self.inside.sessions.entries _ _ c.args.number c.in-Ok-begun.session _ _ entries (c.put.ensures ∙ c.alone.ensures) (c.add.ensures.outcomes ∙ same_room.outcomes_are) (c.add.ensures.wishes ∙ same_room.wishes_are);
         },
       ),
     )
@@ -51,12 +52,12 @@ returns-in-Err-begun g c =
     let none = not_some _ _ c.contains_key.ensures c.if-contains_key.false in
     let a = c.in-Ok-allocate_session.ensures in
     let same = given_back_again c.self.inside.connection c.allocate_session.new.self c.deallocate_session.new.self c.in-Ok-allocate_session.channel.0 c.args.number c.deallocate_session.result a.1.free a.3 c.deallocate_session.ensures in
-    let now : EngineView _ = record { connection = c.deallocate_session.new.self; sessions = views_of c.reserve.new.self.entries; limit = c.self.inside.encoder; waiting = c.self.inside.waiting; outcomes = c.reserve-2.new.self.outcomes; wishes = c.reserve-2.new.self.wishes } in
-    let before : EngineView _ = record { connection = c.self.inside.connection; sessions = views_of c.self.inside.sessions.entries; limit = c.self.inside.encoder; waiting = c.self.inside.waiting; outcomes = c.self.inside.kept.outcomes; wishes = c.self.inside.kept.wishes } in (
+    let now : EngineView _ = record { connection = c.deallocate_session.new.self; sessions = views_of c.reserve.new.self.entries; walks = walks_of c.reserve.new.self.entries; limit = c.self.inside.encoder; waiting = c.self.inside.waiting; outcomes = c.reserve-2.new.self.outcomes; wishes = c.reserve-2.new.self.wishes } in
+    let before : EngineView _ = record { connection = c.self.inside.connection; sessions = views_of c.self.inside.sessions.entries; walks = walks_of c.self.inside.sessions.entries; limit = c.self.inside.encoder; waiting = c.self.inside.waiting; outcomes = c.self.inside.kept.outcomes; wishes = c.self.inside.kept.wishes } in (
       None,
       [],
       subst (λ (v : EngineView _). BeginRequest gives v c.args.number c.args.settings None [] (Some (SessionState c.in-Err-begun.error)) now) c.self.view_is
-          (subst (λ (e : SessionStateError). BeginRequest gives before c.args.number c.args.settings None [] (Some (SessionState e)) now) (sym c.in-Err-begun.ensures.begun) (((refl, refl), same_keeping before _ _ _ _ _ same (ap views_of c.reserve.ensures.entries) refl c.reserve-2.ensures.same.outcomes_are c.reserve-2.ensures.same.wishes_are), viewed_none c.args.number c.self.inside.sessions.entries none, (c.in-Ok-allocate_session.channel.0, c.allocate_session.new.self, a))),
+          (subst (λ (e : SessionStateError). BeginRequest gives before c.args.number c.args.settings None [] (Some (SessionState e)) now) (sym c.in-Err-begun.ensures.begun) (((refl, refl), same_keeping _ _ _ _ _ _ same c.reserve.ensures.entries c.reserve-2.ensures.same.outcomes_are c.reserve-2.ensures.same.wishes_are), viewed_none c.args.number c.self.inside.sessions.entries none, (c.in-Ok-allocate_session.channel.0, c.allocate_session.new.self, a))),
     )
 
 pub returns-then-contains_key : goal.returns-then-contains_key
@@ -67,18 +68,18 @@ returns-then-contains_key g c =
 pub returns-in_default : goal.returns-in_default
 returns-in_default g c =
     let none = viewed_none c.args.number c.self.inside.sessions.entries (not_some _ _ c.contains_key.ensures c.if-contains_key.false) in
-    rw (← c.self.view_is) (None, [], (((refl, refl), same_engine _ _ _ _ _ _ _ refl (ap views_of c.reserve.ensures.entries) refl), none))
+    rw (← c.self.view_is) (None, [], (((refl, refl), same_engine _ _ _ _ _ _ _ refl c.reserve.ensures.entries refl), none))
 
 pub returns-in-Err : goal.returns-in-Err
 returns-in-Err g c =
     let none = viewed_none c.args.number c.self.inside.sessions.entries (not_some _ _ c.contains_key.ensures c.if-contains_key.false) in
     let same = unallocated c.self.inside.connection c.allocate_session.new.self c.args.number c.in-Err.error c.in-Err.ensures in
     let step = subst (λ k. AllocateStep c.self.inside.connection c.args.number (Err c.in-Err.error) k) same c.in-Err.ensures in
-    let now : EngineView _ = record { connection = c.allocate_session.new.self; sessions = views_of c.reserve.new.self.entries; limit = c.self.inside.encoder; waiting = c.self.inside.waiting; outcomes = c.reserve-2.new.self.outcomes; wishes = c.reserve-2.new.self.wishes } in (
+    let now : EngineView _ = record { connection = c.allocate_session.new.self; sessions = views_of c.reserve.new.self.entries; walks = walks_of c.reserve.new.self.entries; limit = c.self.inside.encoder; waiting = c.self.inside.waiting; outcomes = c.reserve-2.new.self.outcomes; wishes = c.reserve-2.new.self.wishes } in (
       None,
       [],
       subst (λ (v : EngineView _). BeginRequest g.R.LinkRelay.gives v c.args.number c.args.settings None [] (Some (AllocSession c.in-Err.error)) now) c.self.view_is
-          (((refl, refl), same_keeping _ _ _ _ _ _ same (ap views_of c.reserve.ensures.entries) refl c.reserve-2.ensures.same.outcomes_are c.reserve-2.ensures.same.wishes_are), none, step),
+          (((refl, refl), same_keeping _ _ _ _ _ _ same c.reserve.ensures.entries c.reserve-2.ensures.same.outcomes_are c.reserve-2.ensures.same.wishes_are), none, step),
     )
 
 pub returns-in_default-reserve : goal.returns-in_default-reserve
@@ -88,7 +89,7 @@ returns-in_default-reserve g c =
       None,
       [],
       (
-        ((refl, refl), same_keeping _ _ _ _ _ _ refl (ap views_of c.reserve.ensures.entries) refl c.reserve-2.ensures.same.outcomes_are c.reserve-2.ensures.same.wishes_are),
+        ((refl, refl), same_keeping _ _ _ _ _ _ refl c.reserve.ensures.entries c.reserve-2.ensures.same.outcomes_are c.reserve-2.ensures.same.wishes_are),
         none,
       ),
     )

@@ -1,7 +1,7 @@
 use Rattle.std.proofs.Common.{rules, ◌≡◌, Some, subst, refl, ◌∙◌}
 use Rattle.amqp_engine.specs.declared.engine.step_error.StepError.TheVariants.{ConnectionState}
 use Rattle.amqp_connection.specs.Connection.{refusal_of}
-use Rattle.amqp_engine.specs.EngineView.{EngineView, views_of}
+use Rattle.amqp_engine.specs.EngineView.{EngineView, views_of, walks_of}
 use Rattle.amqp_engine.specs.Engine.{OpenRequest}
 use Rattle.amqp_engine.proofs.Engines.{same_engine}
 use Rattle.amqp_engine.proofs.engine.Engine.request_open.Goals as goal
@@ -12,4 +12,4 @@ returns g c = rw (← c.self.view_is) (c.in_ok-frame.frame, c.send_open.new.self
 pub returns-in_err-frame : goal.returns-in_err-frame
 returns-in_err-frame g c =
     let told : refusal_of c.from_residual.result ≡ Some (ConnectionState c.in_err-frame.field-0.0) = search rules in
-    rw told (subst (λ (v : EngineView _). OpenRequest v (Some (ConnectionState c.in_err-frame.field-0.0)) (record { connection = c.send_open.new.self; sessions = views_of c.self.inside.sessions.entries; limit = c.self.inside.encoder; waiting = c.self.inside.waiting; outcomes = c.self.inside.kept.outcomes; wishes = c.self.inside.kept.wishes })) c.self.view_is (c.send_open.new.self, c.in_err-frame.ensures, refl))
+    rw told (subst (λ (v : EngineView _). OpenRequest v (Some (ConnectionState c.in_err-frame.field-0.0)) (record { connection = c.send_open.new.self; sessions = views_of c.self.inside.sessions.entries; walks = walks_of c.self.inside.sessions.entries; limit = c.self.inside.encoder; waiting = c.self.inside.waiting; outcomes = c.self.inside.kept.outcomes; wishes = c.self.inside.kept.wishes })) c.self.view_is (c.send_open.new.self, c.in_err-frame.ensures, refl))
