@@ -70,8 +70,8 @@ AT_MOST = {
     "received End": ANSWER + 2 * TEXT,
     # the container's name
     "received Open": ANSWER + TEXT,
-    # the place among the open deliveries, and a session flow
-    "received Transfer": ANSWER + PLACE + sent(1),
+    # the place among the open deliveries, the tag of a long frame, and a session flow
+    "received Transfer": ANSWER + PLACE + BUFFER + sent(1),
     # as a link of this side, and a place among the input handles
     "request AllocateIncomingLink": ANSWER + TEXT + PLACE + 2 * IN_MAP,
     # the copy of the name, the place among the output handles, and the one among the names

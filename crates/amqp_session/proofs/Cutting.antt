@@ -9,7 +9,6 @@ use Rattle.std.proofs.lemmas.List.Elements.{filter-append}
 use Rattle.amqp_types.specs.Disposition.{DispositionSaid}
 use Rattle.amqp_session.specs.declared.deliveries.Delivery.{Delivery}
 use Rattle.amqp_session.specs.Deliveries.{EachNumber, IsRising, IsTable, cut}
-use Rattle.amqp_session.specs.declared.deliveries.WalkCount.{WalkCount}
 use Rattle.amqp_session.specs.Disposing.{is_meant, in_order, meant, not_meant}
 use Rattle.amqp_session.specs.Walks.{turned, EachMeant, IsSplit, IsWalked}
 use Rattle.amqp_session.proofs.Walking.{turned_length}
@@ -151,9 +150,9 @@ meant_length d rows from n h k o s =
     let c = turned_length from rows h in
     omega (arith, a, b, c, k)
 
-pub walked : (d : DispositionSaid) (rows : List Delivery) (from n : ℕ) (placed walk : WalkCount) → from ≤ length rows →
+pub walked : (d : DispositionSaid) (rows : List Delivery) (from n turns comparisons : ℕ) → from ≤ length rows →
     n ≤ length rows → in_order d.first rows ≡ turned from rows → IsSplit d (turned from rows) n →
-    walk.turns ≤ n + 1 → n ≤ walk.turns → walk.comparisons ≡ placed.comparisons → 2 ^ placed.comparisons ≤ 2 * length rows + 1 → IsWalked d rows true walk
-walked d rows from n placed walk h k o s most least search cost =
+    turns ≤ n + 1 → n ≤ turns → 2 ^ comparisons ≤ 2 * length rows + 1 → IsWalked d rows true (record { turns = turns; comparisons = comparisons })
+walked d rows from n turns comparisons h k o s most least cost =
     let len = meant_length d rows from n h k o s in
-    record { turns = omega (arith, len, most); each_read = λ e. omega (arith, len, least); comparisons = rw search cost }
+    record { turns = omega (arith, len, most); each_read = λ e. omega (arith, len, least); comparisons = cost }

@@ -12,6 +12,7 @@ pub mod Cutting
 pub mod Backward
 pub mod Keeping
 pub mod Rising
+pub mod Counting
 pub mod Opening
 pub mod Numbering
 pub mod Flows

@@ -1,9 +1,10 @@
 -- Open deliveries: one record for each number, by rising number (AMQP 1.0 part 2, section 2.6.12).
 use Rattle.std.specs.Prelude.{ℕ, ◌<◌, ◌^◌, List, [], ◌∷◌, Option, Some, None, Bool, true, false, if◌then◌else◌, nat_eq, nat_lt, nat_le, map}
-use Rattle.std.specs.Prelude.{◌≡◌, slice_index, length, take, drop, ◌++◌, ◌+◌, ◌-◌}
+use Rattle.std.specs.Prelude.{◌≡◌, slice_index, length, take, drop, ◌++◌, ◌+◌, ◌-◌, ◌%◌}
 use Rattle.amqp_types.specs.declared.definitions.Role.{Role}
 use Rattle.amqp_types.specs.declared.definitions.Role.TheVariants.{Sender, Receiver}
 use Rattle.amqp_session.specs.declared.deliveries.Delivery.{Delivery}
+use Rattle.amqp_session.specs.declared.deliveries.ReadCount.{ReadCount}
 use Rattle.amqp_session.specs.declared.deliveries.WalkCount.{WalkCount}
 
 -- the records with this one among them: it takes the place of an older one of its number
@@ -93,10 +94,41 @@ cut from count rows =
     if nat_le count (length rows - from) then take from rows ++ drop (from + count) rows
     else drop (count - (length rows - from)) (take from rows)
 
--- A table of deliveries: its records, and how many it has room for.
+-- A table of deliveries: its records, how many it has room for, and how much of it was ever read.
 pub record TableView : Type 0 where
   pub rows : List Delivery
   pub capacity : ℕ
+  pub reads : ReadCount
+
+-- a table of which so many numbers more were read
+abbrev pub compared : ℕ → TableView → TableView
+compared k t = record t { reads = record t.reads { comparisons = (t.reads.comparisons + k) % 2 ^ 64 } }
+
+-- a table of which so many records more were read
+abbrev pub stepped : ℕ → TableView → TableView
+stepped k t = record t { reads = record t.reads { turns = (t.reads.turns + k) % 2 ^ 64 } }
+
+-- of a table nothing was ever read
+abbrev pub nothing_counted : ReadCount
+nothing_counted = record { turns = 0; comparisons = 0 }
+
+-- the count after this walk: it counts modulo 2^64, and is never set back
+abbrev pub risen : WalkCount → ReadCount → ReadCount
+risen w r = record { turns = (r.turns + w.turns) % 2 ^ 64; comparisons = (r.comparisons + w.comparisons) % 2 ^ 64 }
+
+-- what the tables of both roles have counted
+pub record OpenReads : Type 0 where
+  pub receiver : ReadCount
+  pub sender : ReadCount
+
+-- they are of eight bytes
+abbrev pub AreCounts : OpenReads → Type 0
+AreCounts r = (r.receiver.turns < 2 ^ 64) × (r.receiver.comparisons < 2 ^ 64) × (r.sender.turns < 2 ^ 64) × (r.sender.comparisons < 2 ^ 64)
+
+-- the same after a walk of the table of a role
+abbrev pub read_more : Role → WalkCount → OpenReads → OpenReads
+read_more Receiver w r = record r { receiver = risen w r.receiver }
+read_more Sender w r = record r { sender = risen w r.sender }
 
 -- a walk that has read nothing
 abbrev pub nothing_read : WalkCount

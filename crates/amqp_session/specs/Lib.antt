@@ -3,6 +3,7 @@ pub mod Settings
 pub mod Errors
 pub mod Serial
 pub mod Deliveries
+pub mod Lending
 pub mod Transfers
 pub mod Sending
 pub mod States

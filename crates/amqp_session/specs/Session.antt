@@ -14,7 +14,7 @@ use Rattle.amqp_session.specs.Settings.{SettingsSaid, begin_of}
 use Rattle.amqp_session.specs.States.{is_mapped}
 use Rattle.amqp_session.specs.Sending.{SendingView, new_sending, let_out, opened_by, drained}
 use Rattle.amqp_session.specs.Receiving.{nothing_received}
-use Rattle.amqp_session.specs.Deliveries.{OpenView}
+use Rattle.amqp_session.specs.Deliveries.{OpenReads, OpenView}
 use Rattle.amqp_session.specs.Links.{LinksView, no_links}
 
 pub record SessionView (R : Type 0) : Type 0 where
@@ -29,10 +29,12 @@ pub record SessionView (R : Type 0) : Type 0 where
   pub links : LinksView R
   pub deliveries : OpenView
 
--- A session as contracts see it: its view, and beside it the counts of its latest walk.
+-- A session as contracts see it: its view, and beside it the counts of its latest walk, and what its tables of open deliveries
+-- have counted.
 pub record Observed (R : Type 0) : Type 0 where
   pub view : SessionView R
   pub last_walk : WalkCount
+  pub reads : OpenReads
 
 abbrev pub new_session : {R : Type 0} → SettingsSaid → ℕ → SessionState → Option ConnectionStopReason → SessionView R
 new_session settings channel state stop = record {

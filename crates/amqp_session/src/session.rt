@@ -2,7 +2,7 @@
 
 ghost use Rattle.std.specs.Prelude.{◌≡◌, ◌+◌, ℕ, length};
 ghost use Rattle.amqp_session.specs.States.{is_mapped};
-ghost use Rattle.amqp_session.specs.Deliveries.{nothing_read};
+ghost use Rattle.amqp_session.specs.Deliveries.{nothing_counted, nothing_read};
 ghost use Rattle.amqp_session.specs.Session.{new_session};
 ghost use Rattle.amqp_session.specs.Step.{StopStep};
 
@@ -76,6 +76,7 @@ impl<R> Model for Session<R> {
         deliveries = record { receiver = s.sent.rows; sender = s.received.rows };
       };
       last_walk = s.last_walk;
+      reads = record { receiver = s.sent.reads; sender = s.received.reads };
     } };
 }
 
@@ -91,6 +92,7 @@ impl<R: LinkRelay> Session<R> {
     ) -> Self
         ensures view { result.view ≡ new_session settings outgoing_channel.0 state connection_stop }
         ensures walk { result.last_walk ≡ nothing_read }
+        ensures reads { result.reads ≡ record { receiver = nothing_counted; sender = nothing_counted } }
     {
         let next_outgoing_id = settings.next_outgoing_id;
         Session {
@@ -149,6 +151,7 @@ impl<R: LinkRelay> Session<R> {
     pub fn set_session_stop_reason(&mut self, reason: SessionStopReason)
         ensures step { StopStep self.old.view reason self.new.view }
         ensures walk { self.new.last_walk ≡ self.old.last_walk }
+        ensures reads { self.new.reads ≡ self.old.reads }
     {
         if self.session_stop.is_none() {
             self.session_stop = Some(reason);

@@ -93,6 +93,7 @@ impl<R: LinkRelay> Session<R> {
     pub fn send_begin(&mut self) -> Result<SessionFrame, SessionStateError>
         ensures step { SendBeginStep self.old.view result self.new.view }
         ensures walk { self.new.last_walk ≡ self.old.last_walk }
+        ensures reads { self.new.reads ≡ self.old.reads }
     {
         let Some(state) = after_sent_begin(self.state) else {
             return Err(SessionStateError::IllegalState);
@@ -112,6 +113,7 @@ impl<R: LinkRelay> Session<R> {
     pub fn send_end(&mut self, error: Option<Error>) -> Result<SessionFrame, SessionStateError>
         ensures step { SendEndStep self.old.view error result self.new.view }
         ensures walk { self.new.last_walk ≡ self.old.last_walk }
+        ensures reads { self.new.reads ≡ self.old.reads }
     {
         let Some(state) = after_sent_end(self.state, error.is_some()) else {
             return Err(SessionStateError::IllegalState);
@@ -134,6 +136,7 @@ impl<R: LinkRelay> Session<R> {
     ) -> Result<(), SessionStateError>
         ensures step { TakeBeginStep self.old.view channel.0 begin result self.new.view }
         ensures walk { self.new.last_walk ≡ self.old.last_walk }
+        ensures reads { self.new.reads ≡ self.old.reads }
     {
         let Some(state) = after_received_begin(self.state) else {
             return Err(SessionStateError::IllegalState);
@@ -157,6 +160,7 @@ impl<R: LinkRelay> Session<R> {
     ) -> Result<(), SessionStateError>
         ensures step { TakeEndStep self.old.view end result self.new.view }
         ensures walk { self.new.last_walk ≡ self.old.last_walk }
+        ensures reads { self.new.reads ≡ self.old.reads }
     {
         let is_answer = is_answer(self.state);
         let Some(state) = after_received_end(self.state) else {

@@ -3,7 +3,7 @@
 ghost use Rattle.std.specs.Prelude.{◌≡◌, ◌≤◌, ◌<◌, ◌+◌, ◌*◌, ◌^◌, ◌⊎◌, ℕ, List, [], Bool, true, false, Some, None, Result, if◌then◌else◌, length, map, OnOk, OnErr, IfOk, IsSome, IsTrue, ◌↔◌, vec_capacity};
 ghost use Rattle.std.specs.Option.{option_map};
 ghost use Rattle.std.specs.Result.{result_map_both};
-ghost use Rattle.amqp_session.specs.Deliveries.{nothing_read, with_role};
+ghost use Rattle.amqp_session.specs.Deliveries.{AreCounts, nothing_read, read_more, risen, with_role};
 ghost use Rattle.amqp_session.specs.Relay.{DispositionQuestion};
 ghost use Rattle.amqp_session.specs.Walks.{IsWalked};
 ghost use Rattle.amqp_session.specs.Disposing.{span, is_forward, num_messages, meant, not_meant, agreed, AsksEach, AreRuns, SaysStateAgain, Echoes, echo_of, rows_of, IsBounded, HasTerminal, TakeDispositionStep, SendDispositionStep};
@@ -59,6 +59,7 @@ impl<R: LinkRelay> Session<R> {
             × TakeDispositionStep R.gives.disposition_gives self.old.view disposition asked
             (result_map_both (option_map (λ v. v.items)) (λ e. e) result) self.new.view }
         ensures bound { IsBounded disposition (rows_of disposition self.old.view) result self.new.last_walk }
+        ensures reads { self.new.reads ≡ read_more disposition.role self.new.last_walk self.old.reads }
     {
         self.last_walk = WalkCount::new();
         if forward_span(disposition.first, disposition.last).is_none() {
@@ -79,6 +80,7 @@ impl<R: LinkRelay> Session<R> {
     pub fn on_outgoing_disposition(&mut self, disposition: Disposition) -> SessionFrame
         ensures step { (terminal : Bool) × SendDispositionStep self.old.view disposition terminal result self.new.view }
         ensures walk { self.new.last_walk ≡ self.old.last_walk }
+        ensures reads { self.new.reads ≡ self.old.reads }
     {
         if has_terminal(&disposition.state) {
             self.receiving.widen(num_messages_settled_by_disposition(
@@ -95,8 +97,12 @@ impl<R: LinkRelay> Session<R> {
     /// The answer to a disposition that means no delivery.
     #[inline(always)]
     fn nothing_meant(&self, settled: bool) -> Option<Vec<Disposition>>
-        ensures { option_map (λ v. v.items) result ≡ (if settled then None else Some []) }
+        ensures answer { option_map (λ v. v.items) result ≡ (if settled then None else Some []) }
+        ensures counts { AreCounts self.now.reads }
     {
+        // The proof reads the ranges of the counts.
+        let _sent = self.sent.reads();
+        let _received = self.received.reads();
         if settled {
             return None;
         }
@@ -116,6 +122,7 @@ impl<R: LinkRelay> Session<R> {
           deliveries = with_role said.now.role (not_meant said.now (rows_of said.now self.old.view)) self.old.view.deliveries;
         } }
         ensures walk { IsWalked said.now (rows_of said.now self.old.view) true self.new.last_walk }
+        ensures reads { self.new.reads ≡ read_more said.now.role self.new.last_walk self.old.reads }
     {
         let (links, walk) = (&mut self.links, &mut self.last_walk);
         match said.role {
@@ -141,11 +148,12 @@ impl<R: LinkRelay> Session<R> {
         ensures view { self.new.view ≡ record self.old.view { links = self.new.view.links } }
         ensures walk { (went : Bool) × (OnOk result (went ≡ true))
             × IsWalked said.now (rows_of said.now self.old.view) went self.new.last_walk }
+        ensures reads { self.new.reads ≡ read_more said.now.role self.new.last_walk self.old.reads }
     {
         let (links, walk) = (&mut self.links, &mut self.last_walk);
         match said.role {
-            Role::Receiver => ask(self.alloc, links, &self.sent, walk, said),
-            Role::Sender => ask(self.alloc, links, &self.received, walk, said),
+            Role::Receiver => ask(self.alloc, links, &mut self.sent, walk, said),
+            Role::Sender => ask(self.alloc, links, &mut self.received, walk, said),
         }
     }
 }
@@ -175,10 +183,13 @@ fn settle<R: LinkRelay>(
     ensures asked { (asked : List (DispositionQuestion R))
         × AsksEach R.gives.disposition_gives said.now (meant said.now rows.old.rows) asked links.old links.new }
     ensures walk { IsWalked said.now rows.old.rows true walk.new }
+    ensures reads { rows.new.reads ≡ risen walk.new rows.old.reads }
 {
     let mut runs = Vec::new(alloc);
-    let from = rows.place_of(said.first, walk);
-    let count = ask_each(links, rows, walk, said, from, &mut runs);
+    let before = rows.reads();
+    let from = rows.place_of(said.first);
+    let count = ask_each(links, rows, said, from, &mut runs);
+    *walk = rows.reads().since(before);
     rows.remove(from, count);
 }
 
@@ -187,7 +198,7 @@ fn settle<R: LinkRelay>(
 fn ask<R: LinkRelay>(
     alloc: Global,
     links: &mut Links<R>,
-    rows: &Deliveries,
+    rows: &mut Deliveries,
     walk: &mut WalkCount,
     said: &Disposition,
 ) -> Result<Vec<Disposition>, AllocError>
@@ -195,19 +206,23 @@ fn ask<R: LinkRelay>(
     requires forward { span said.now.first said.now.last < 2 ^ 31 }
     requires unread { walk.old ≡ nothing_read }
     ensures asked { IfOk result (λ echoes. (asked : List (DispositionQuestion R))
-        × AsksEach R.gives.disposition_gives said.now (meant said.now rows.now.rows) asked links.old links.new
+        × AsksEach R.gives.disposition_gives said.now (meant said.now rows.old.rows) asked links.old links.new
         × Echoes said.now (agreed asked) echoes.items) }
     ensures refused { OnErr result ((links.new ≡ links.old)
         ⊎ ((asked : List (DispositionQuestion R)) × SaysStateAgain said.now asked
-        × AsksEach R.gives.disposition_gives said.now (meant said.now rows.now.rows) asked links.old links.new)) }
-    ensures walk { (went : Bool) × (OnOk result (went ≡ true)) × IsWalked said.now rows.now.rows went walk.new }
+        × AsksEach R.gives.disposition_gives said.now (meant said.now rows.old.rows) asked links.old links.new)) }
+    ensures rows { rows.new.rows ≡ rows.old.rows }
+    ensures walk { (went : Bool) × (OnOk result (went ≡ true)) × IsWalked said.now rows.old.rows went walk.new }
+    ensures reads { rows.new.reads ≡ risen walk.new rows.old.reads }
 {
     let span = said.last.unwrap_or(said.first).wrapping_sub(said.first);
     let most = rows.len().min(span as usize + 1);
     let mut runs = Vec::with_capacity(alloc, most)?;
     let echoes = Vec::with_capacity(alloc, most)?;
-    let from = rows.place_of(said.first, walk);
-    ask_each(links, rows, walk, said, from, &mut runs);
+    let before = rows.reads();
+    let from = rows.place_of(said.first);
+    ask_each(links, rows, said, from, &mut runs);
+    *walk = rows.reads().since(before);
     echo_all(&runs, &said.state, echoes)
 }
 

@@ -36,6 +36,7 @@ fn take_room(
     ensures first { IfOk result (λ frames. 0 < count → vec_len frames + count + 1 ≤ vec_capacity frames) }
     ensures records { OnOk result (length deliveries.new.rows + count ≤ deliveries.new.capacity) }
     ensures rows { deliveries.new.rows ≡ deliveries.old.rows }
+    ensures reads { deliveries.new.reads ≡ deliveries.old.reads }
 {
     if count == 0 {
         deliveries.reserve(0)?;
@@ -61,6 +62,7 @@ fn hand_on(
     ensures item { HandsOut (is_some_list (let_out channel.0 sending.old)) (first_frame first ++ let_out channel.0 sending.old) result }
     ensures sending { sending.new ≡ drained sending.old }
     ensures opened { deliveries.new.rows ≡ opened_by sending.old deliveries.old.rows }
+    ensures reads { deliveries.new.reads ≡ deliveries.old.reads }
 {
     let mut frames = room;
     if sending.ready() == 0 {
@@ -98,6 +100,7 @@ impl<R: LinkRelay> Session<R> {
     ) -> Result<Option<SessionOutgoingItem>, SessionInnerError>
         ensures step { (asked : Option (FlowQuestion R)) × FlowStep R.gives.flow_gives self.old.view flow asked result self.new.view }
         ensures walk { self.new.last_walk ≡ self.old.last_walk }
+        ensures reads { self.new.reads ≡ self.old.reads }
     {
         self.move_windows(&flow);
         match flow.handle {
@@ -122,6 +125,7 @@ impl<R: LinkRelay> Session<R> {
         ensures step { (asked : Option (TransferQuestion R))
             × TakeTransferStep R.gives.transfer_gives self.old.view transfer payload asked result self.new.view }
         ensures walk { self.new.last_walk ≡ self.old.last_walk }
+        ensures reads { self.new.reads ≡ self.old.reads }
     {
         self.receiving.count_transfer();
         let input = InputHandle(transfer.handle.0);
@@ -133,10 +137,11 @@ impl<R: LinkRelay> Session<R> {
             drop(transfer);
             return Err(SessionInnerError::OutOfMemory);
         };
+        let was_long = is_long(&transfer, &payload);
         match self.links.ask_transfer(input, transfer, payload) {
             Err(error) => Err(SessionInnerError::from(error)),
             Ok(named) => {
-                record_named(&mut self.received, input, named);
+                record_named(self.alloc, &mut self.received, input, named, was_long);
                 Ok(None)
             }
         }
@@ -147,6 +152,7 @@ impl<R: LinkRelay> Session<R> {
         ensures moved { self.new.view ≡ flow_moved self.old.view flow.now }
         ensures fits { FlowFits self.old.view flow.now }
         ensures walk { self.new.last_walk ≡ self.old.last_walk }
+        ensures reads { self.new.reads ≡ self.old.reads }
     {
         let base = flow
             .next_incoming_id
@@ -160,6 +166,7 @@ impl<R: LinkRelay> Session<R> {
     fn flow_of_session(&mut self) -> Result<Option<SessionOutgoingItem>, SessionInnerError>
         ensures step { FlowUnasked self.old.view None result self.new.view }
         ensures walk { self.new.last_walk ≡ self.old.last_walk }
+        ensures reads { self.new.reads ≡ self.old.reads }
     {
         if !self.can_send() {
             return Ok(None);
@@ -180,6 +187,7 @@ impl<R: LinkRelay> Session<R> {
         ensures step { (asked : Option (FlowQuestion R))
             × LinkFlowStep R.gives.flow_gives self.old.view input.0 flow asked result self.new.view }
         ensures walk { self.new.last_walk ≡ self.old.last_walk }
+        ensures reads { self.new.reads ≡ self.old.reads }
     {
         if !self.links.is_attached(input) {
             return Err(SessionInnerError::UnattachedHandle);
@@ -202,6 +210,7 @@ impl<R: LinkRelay> Session<R> {
         ensures step { (asked : Option (FlowQuestion R))
             × LinkFlowStep R.gives.flow_gives self.old.view input.0 flow asked result self.new.view }
         ensures walk { self.new.last_walk ≡ self.old.last_walk }
+        ensures reads { self.new.reads ≡ self.old.reads }
     {
         let Ok(room) = take_room(self.alloc, self.sending.ready(), &mut self.sent) else {
             return Err(SessionInnerError::OutOfMemory);
@@ -232,6 +241,7 @@ impl<R: LinkRelay> Session<R> {
         ensures step { (asked : Option (FlowQuestion R))
             × LinkFlowStep R.gives.flow_gives self.old.view input.0 flow asked result self.new.view }
         ensures walk { self.new.last_walk ≡ self.old.last_walk }
+        ensures reads { self.new.reads ≡ self.old.reads }
     {
         match self.links.ask_flow(input, flow) {
             Err(error) => Err(SessionInnerError::from(error)),
@@ -250,22 +260,55 @@ impl<R: LinkRelay> Session<R> {
     }
 }
 
-/// Records the delivery that a relay named, if any.
+/// Records the delivery that a relay named, if any. Where its frame was long, with a tag of its own, so that it does not keep the
+/// frame.
 #[inline(always)]
 fn record_named(
+    alloc: Global,
     deliveries: &mut Deliveries,
     input: InputHandle,
     named: Option<(DeliveryNumber, DeliveryTag)>,
+    was_long: bool,
 )
     requires { length deliveries.old.rows < deliveries.old.capacity }
     ensures rows { deliveries.new.rows ≡ with_record (named_delivery input.0 named) deliveries.old.rows }
+    ensures reads { deliveries.new.reads ≡ deliveries.old.reads }
     ensures fits { RecordFits (named_delivery input.0 named) }
 {
     if let Some((number, tag)) = named {
+        let tag = if was_long { apart(alloc, tag) } else { tag };
         deliveries.record(Delivery {
             number,
             input_handle: input,
             tag,
         });
+    }
+}
+
+/// How many bytes beside its head a frame may have that an open delivery keeps in memory by its tag.
+const KEPT: usize = 256;
+
+/// Whether a transfer's frame is too long to be kept by a tag.
+#[inline(always)]
+fn is_long(transfer: &Transfer, payload: &Bytes) -> bool {
+    let state = match &transfer.state {
+        None => 0,
+        Some(state) => state.bytes().len(),
+    };
+    payload.len() > KEPT || state > KEPT
+}
+
+/// The same tag, with memory of its own where it is as short as the standard has it (AMQP 1.0 part 2, section 2.8.7). Where
+/// memory is refused, or it is longer, it stays what it is.
+#[inline(never)]
+fn apart(alloc: Global, tag: DeliveryTag) -> DeliveryTag
+    ensures { result.0 ≡ tag.0 }
+{
+    if tag.0.len() > 32 {
+        return tag;
+    }
+    match Bytes::copy_from_slice(alloc, &tag.0) {
+        Ok(own) => DeliveryTag(own),
+        Err(_) => tag,
     }
 }

@@ -42,6 +42,7 @@ impl<R: LinkRelay> Session<R> {
     ) -> Result<OutputHandle, AllocLinkError>
         ensures step { AllocateLinkStep self.old.view (string_bytes name) relay result self.new.view }
         ensures walk { self.new.last_walk ≡ self.old.last_walk }
+        ensures reads { self.new.reads ≡ self.old.reads }
     {
         if let Err(error) = self.may_allot(name.as_str()) {
             return Err(error);
@@ -59,6 +60,7 @@ impl<R: LinkRelay> Session<R> {
     ) -> Result<OutputHandle, AllocLinkError>
         ensures step { AllocateIncomingStep self.old.view (string_bytes name) relay input_handle result self.new.view }
         ensures walk { self.new.last_walk ≡ self.old.last_walk }
+        ensures reads { self.new.reads ≡ self.old.reads }
     {
         if let Err(error) = self.may_allot(name.as_str()) {
             return Err(error);
@@ -72,6 +74,7 @@ impl<R: LinkRelay> Session<R> {
     pub fn deallocate_link(&mut self, handle: OutputHandle) -> bool
         ensures step { DeallocateStep self.old.view handle result self.new.view }
         ensures walk { self.new.last_walk ≡ self.old.last_walk }
+        ensures reads { self.new.reads ≡ self.old.reads }
     {
         self.links.release(handle.0).answer()
     }
@@ -86,6 +89,7 @@ impl<R: LinkRelay> Session<R> {
         ensures step { (asked : Option (AttachQuestion R))
             × TakeAttachStep R.gives.attach_gives self.old.view attach asked result self.new.view }
         ensures walk { self.new.last_walk ≡ self.old.last_walk }
+        ensures reads { self.new.reads ≡ self.old.reads }
     {
         self.links.attach(attach).answer()
     }
@@ -100,6 +104,7 @@ impl<R: LinkRelay> Session<R> {
         ensures step { (asked : Option (DetachQuestion R))
             × TakeDetachStep R.gives.detach_gives self.old.view detach asked result self.new.view }
         ensures walk { self.new.last_walk ≡ self.old.last_walk }
+        ensures reads { self.new.reads ≡ self.old.reads }
     {
         Ok(self.links.detach(detach).answer())
     }
@@ -120,6 +125,7 @@ impl<R: LinkRelay> Session<R> {
     ) -> Result<Option<SessionFrame>, SessionInnerError>
         ensures step { SendDetachStep self.old.view detach expects_echo result self.new.view }
         ensures walk { self.new.last_walk ≡ self.old.last_walk }
+        ensures reads { self.new.reads ≡ self.old.reads }
     {
         let leaving = self.links.leave(detach.handle.0, expects_echo);
         if !leaving.answer() {

@@ -55,6 +55,7 @@ impl<R: LinkRelay> Session<R> {
             (record { input_handle = input_handle.0; transfer = transfer; payload = payload; is_first = is_first })
             result self.new.view }
         ensures walk { self.new.last_walk ≡ self.old.last_walk }
+        ensures reads { self.new.reads ≡ self.old.reads }
     {
         if !self.can_send() || (is_first && transfer.delivery_tag.is_none()) {
             drop(transfer);
@@ -102,6 +103,7 @@ impl<R: LinkRelay> Session<R> {
             (record { input_handle = input_handle.0; transfer = transfer; payload = payload; is_first = is_first })
             result self.new.view }
         ensures walk { self.new.last_walk ≡ self.old.last_walk }
+        ensures reads { self.new.reads ≡ self.old.reads }
     {
         let channel = self.outgoing_channel;
         match self.sending.send_later(
@@ -124,6 +126,7 @@ impl<R: LinkRelay> Session<R> {
     pub fn maybe_outgoing_session_flow(&mut self) -> Option<SessionOutgoingItem>
         ensures step { SessionFlowStep self.old.view result self.new.view }
         ensures walk { self.new.last_walk ≡ self.old.last_walk }
+        ensures reads { self.new.reads ≡ self.old.reads }
     {
         if !self.is_flow_due() {
             return None;

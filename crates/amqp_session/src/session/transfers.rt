@@ -50,6 +50,7 @@ fn record_opened(deliveries: &mut Deliveries, delivery: Option<Delivery>)
     requires room { length deliveries.old.rows < deliveries.old.capacity }
     ensures rows { deliveries.new.rows ≡ with_record delivery deliveries.old.rows }
     ensures capacity { deliveries.old.capacity ≤ deliveries.new.capacity }
+    ensures reads { deliveries.new.reads ≡ deliveries.old.reads }
 {
     if let Some(delivery) = delivery {
         deliveries.record(delivery);
@@ -71,6 +72,7 @@ fn hand_out(
     ensures held { held.new.items ≡ drop count held.old.items }
     ensures frames { frames.new.items ≡ frames.old.items ++ numbered channel.0 first (take count held.old.items) }
     ensures opened { deliveries.new.rows ≡ opened first (take count held.old.items) deliveries.old.rows }
+    ensures reads { deliveries.new.reads ≡ deliveries.old.reads }
     ensures delivery { result ≡ (first + firsts (take count held.old.items)) % 2 ^ 32 }
 {
     let mut delivery = first;
@@ -157,6 +159,7 @@ impl Sending {
         ensures drained { self.new ≡ drained self.old }
         ensures frames { frames.new.items ≡ frames.old.items ++ let_out channel.0 self.old }
         ensures opened { deliveries.new.rows ≡ opened_by self.old deliveries.old.rows }
+        ensures reads { deliveries.new.reads ≡ deliveries.old.reads }
     {
         let count = self.held.len().min(self.remote_incoming_window as usize);
         self.next_delivery = hand_out(
@@ -217,6 +220,7 @@ impl Sending {
         ensures opened { deliveries.new.rows ≡ opened_by (joined self.old
             (record { input_handle = input_handle.0; transfer = transfer; payload = payload; is_first = is_first }))
             deliveries.old.rows }
+        ensures reads { deliveries.new.reads ≡ deliveries.old.reads }
     {
         let delivery = self.next_delivery;
         record_opened(deliveries, record_of(delivery, input_handle, tag));
@@ -240,6 +244,7 @@ impl Sending {
         ensures opened { OnOk result (deliveries.new.rows ≡ opened_by (joined self.old held) deliveries.old.rows) }
         ensures err { OnErr result (self.new ≡ self.old) }
         ensures err_rows { OnErr result (deliveries.new.rows ≡ deliveries.old.rows) }
+        ensures reads { deliveries.new.reads ≡ deliveries.old.reads }
     {
         self.held.reserve(1)?;
         let count = (self.held.len() + 1).min(self.remote_incoming_window as usize);
@@ -273,6 +278,7 @@ impl Sending {
             deliveries.old.rows) }
         ensures err { OnErr result (self.new ≡ self.old) }
         ensures err_rows { OnErr result (deliveries.new.rows ≡ deliveries.old.rows) }
+        ensures reads { deliveries.new.reads ≡ deliveries.old.reads }
     {
         let held = HeldTransfer::new(input_handle, transfer, payload, is_first)?;
         if self.remote_incoming_window == 0 {

@@ -1,13 +1,13 @@
 //! The walk of a disposition over the open deliveries that it means (AMQP 1.0 part 2, section 2.6.12).
 
 ghost use Rattle.std.specs.Prelude.{◌≡◌, ◌≤◌, ◌<◌, ◌+◌, ◌-◌, ◌^◌, ℕ, List, [], length, min, take, drop, false, vec_len, vec_capacity};
-ghost use Rattle.amqp_session.specs.Deliveries.{IsTable};
+ghost use Rattle.amqp_session.specs.Deliveries.{IsTable, stepped};
 ghost use Rattle.amqp_session.specs.Relay.{DispositionQuestion};
 ghost use Rattle.amqp_session.specs.Disposing.{distance, span, in_order, meant, AsksEach, AreRuns};
 ghost use Rattle.amqp_session.specs.Walks.{around, turned, noted, noted_by, IsSplit};
 
 use super::runs::{Run, extend};
-use crate::deliveries::{Deliveries, WalkCount};
+use crate::deliveries::Deliveries;
 use crate::link::Links;
 use crate::relay::LinkRelay;
 use amqp_types::Disposition;
@@ -43,32 +43,28 @@ fn note(runs: &mut Vec<Run>, number: u32, settled: bool, answer: bool)
 /// many deliveries are meant. An unsettled one has the numbers noted for which a relay answered true.
 pub(super) fn ask_each<R: LinkRelay>(
     links: &mut Links<R>,
-    rows: &Deliveries,
-    walk: &mut WalkCount,
+    rows: &mut Deliveries,
     said: &Disposition,
     from: usize,
     runs: &mut Vec<Run>,
 ) -> usize
-    requires from { from ≤ length rows.now.rows }
-    requires order { in_order said.now.first rows.now.rows ≡ turned from rows.now.rows }
+    requires from { from ≤ length rows.old.rows }
+    requires order { in_order said.now.first rows.old.rows ≡ turned from rows.old.rows }
     requires forward { span said.now.first said.now.last < 2 ^ 31 }
-    requires unread { walk.old.turns ≡ 0 }
     requires no_runs { runs.old.items ≡ [] }
-    requires room { said.now.settled ≡ false → min (length rows.now.rows) (span said.now.first said.now.last + 1) ≤ vec_capacity runs.old }
-    ensures within { result ≤ length rows.now.rows }
-    ensures split { IsSplit said.now (turned from rows.now.rows) result }
+    requires room { said.now.settled ≡ false → min (length rows.old.rows) (span said.now.first said.now.last + 1) ≤ vec_capacity runs.old }
+    ensures within { result ≤ length rows.old.rows }
+    ensures split { IsSplit said.now (turned from rows.old.rows) result }
     ensures asked { (asked : List (DispositionQuestion R))
-        × AsksEach R.gives.disposition_gives said.now (take result (turned from rows.now.rows)) asked links.old links.new
+        × AsksEach R.gives.disposition_gives said.now (take result (turned from rows.old.rows)) asked links.old links.new
         × AreRuns said.now.first (noted said.now.settled asked) runs.new.items }
     ensures room { vec_capacity runs.new ≡ vec_capacity runs.old }
-    ensures most { walk.new.turns ≤ result + 1 }
-    ensures least { result ≤ walk.new.turns }
-    ensures search { walk.new.comparisons ≡ walk.old.comparisons }
+    ensures read { (k : ℕ) × (k ≤ result + 1) × (result ≤ k) × (rows.new ≡ stepped k rows.old) }
 {
     let len = rows.len();
     let span = said.last.unwrap_or(said.first).wrapping_sub(said.first);
     for count in 0..len {
-        let delivery = rows.delivery(around(from, count, len), walk);
+        let delivery = rows.delivery(around(from, count, len));
         let number = delivery.number;
         if span < number.wrapping_sub(said.first) {
             return count;

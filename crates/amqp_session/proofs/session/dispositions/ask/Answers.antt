@@ -1,7 +1,11 @@
-use Rattle.std.proofs.Common.{◌≡◌, ◌<◌, length, IsSome, inr, true, refl, ap, subst, ◌∙◌, Result, Ok, Err, IfOk, OnOk, OnErr, map}
+use Rattle.std.proofs.Common.{◌≡◌, ◌<◌, ◌≤◌, ◌+◌, ◌-◌, ◌%◌, ◌^◌, min, vec_capacity, List, length, arith, sym, IsSome, inr, true, refl, ap, subst, ◌∙◌, Result, Ok, Err, IfOk, OnOk, OnErr, map}
 use Rattle.amqp_types.specs.Disposition.{DispositionSaid}
-use Rattle.amqp_session.specs.Disposing.{in_order, AreRuns, agreed, echo_of}
-use Rattle.amqp_session.specs.Walks.{turned, noted}
+use Rattle.amqp_session.specs.declared.deliveries.Delivery.{Delivery}
+use Rattle.amqp_session.specs.declared.deliveries.WalkCount.{WalkCount}
+use Rattle.amqp_session.specs.Disposing.{in_order, span, AreRuns, agreed, echo_of}
+use Rattle.amqp_session.specs.Walks.{turned, noted, IsSplit, IsWalked}
+use Rattle.amqp_session.proofs.Counting.{compared_rows, risen_by, since_is, stepped_rows}
+use Rattle.amqp_session.proofs.Rising.{few}
 use Rattle.amqp_session.proofs.Walking.{order_turned}
 use Rattle.amqp_session.proofs.RunsGrow.{some_number}
 use Rattle.amqp_session.proofs.Cutting.{split_meant, walked}
@@ -22,36 +26,75 @@ on_ok (Err e) h = tt
 pub ask_each-requires-clause-order : goal.ask_each-requires-clause-order
 ask_each-requires-clause-order g c =
     let first : c.said.inside.first ≡ c.args.said.now.first = ap (λ (y : DispositionSaid). y.first) c.said.view_is in
-    subst (λ n. in_order n c.args.rows.now.rows ≡ turned c.place_of-from.result c.args.rows.now.rows) first
-    (order_turned c.said.inside.first c.args.rows.now.rows c.place_of-from.result c.place_of-from.ensures.within c.place_of-from.ensures.below c.place_of-from.ensures.above)
+    let same = compared_rows c.args.rows.now c.place_of-from.new.self c.place_of-from.ensures.cost.0 c.place_of-from.ensures.cost.1 in
+    let order = subst (λ n. in_order n c.args.rows.now.rows ≡ turned c.place_of-from.result c.args.rows.now.rows) first
+    (order_turned c.said.inside.first c.args.rows.now.rows c.place_of-from.result c.place_of-from.ensures.within c.place_of-from.ensures.below c.place_of-from.ensures.above) in
+    subst (λ (rows : List Delivery). in_order c.args.said.now.first rows ≡ turned c.place_of-from.result rows) (sym same) order
+
+pub ask_each-requires-clause-room : goal.ask_each-requires-clause-room
+ask_each-requires-clause-room g c = λ settled.
+    let same = compared_rows c.args.rows.now c.place_of-from.new.self c.place_of-from.ensures.cost.0 c.place_of-from.ensures.cost.1 in
+    let size : (c.unwrap_or.result + (2 ^ 32 - c.said.inside.first)) % 2 ^ 32 ≡ span c.args.said.now.first c.args.said.now.last = ap (λ n. (n + (2 ^ 32 - c.said.inside.first)) % 2 ^ 32) c.unwrap_or.ensures ∙ ap (λ (y : DispositionSaid). span y.first y.last) c.said.view_is in
+    let room : min (length c.args.rows.now.rows) (span c.args.said.now.first c.args.said.now.last + 1) ≤ vec_capacity c.in_ok-runs.runs = omega (arith, size, c.len.ensures.len, c.min-most.ensures, c.in_ok-runs.ensures.capacity) in
+    subst (λ (rows : List Delivery). min (length rows) (span c.args.said.now.first c.args.said.now.last + 1) ≤ vec_capacity c.in_ok-runs.runs) (sym same) room
 
 pub returns-clause-asked : goal.returns-clause-asked
 returns-clause-asked g c =
     let first : c.said.inside.first ≡ c.args.said.now.first = ap (λ (y : DispositionSaid). y.first) c.said.view_is in
+    let same = compared_rows c.args.rows.now c.place_of-from.new.self c.place_of-from.ensures.cost.0 c.place_of-from.ensures.cost.1 in
     let order = subst (λ n. in_order n c.args.rows.now.rows ≡ turned c.place_of-from.result c.args.rows.now.rows) first
     (order_turned c.said.inside.first c.args.rows.now.rows c.place_of-from.result c.place_of-from.ensures.within c.place_of-from.ensures.below c.place_of-from.ensures.above) in
-    let are = split_meant c.args.said.now c.args.rows.now.rows c.place_of-from.result c.ask_each.result order c.ask_each.ensures.split in
+    let split = subst (λ (rows : List Delivery). IsSplit c.args.said.now (turned c.place_of-from.result rows) c.ask_each.result) same c.ask_each.ensures.split in
+    let are = split_meant c.args.said.now c.args.rows.now.rows c.place_of-from.result c.ask_each.result order split in
     let a = c.ask_each.ensures.asked in
     let runs = subst (λ b. AreRuns c.args.said.now.first (noted b a.0) c.ask_each.new.runs.items) c.requires.settled a.2 in
     let state = ap (λ (y : DispositionSaid). y.state) c.said.view_is in
-    if_ok c.echo_all.result (λ echoes e. (a.0, rw are a.1, record { runs = c.ask_each.new.runs.items; are_runs = runs; are_said = e ∙ ap (map (echo_of c.said.inside.state)) c.deref.ensures.value ∙ ap (λ s. map (echo_of s) c.ask_each.new.runs.items) state })) c.echo_all.ensures.echoes
+    if_ok c.echo_all.result (λ echoes e. (a.0, rw (are, ← same) a.1, record { runs = c.ask_each.new.runs.items; are_runs = runs; are_said = e ∙ ap (map (echo_of c.said.inside.state)) c.deref.ensures.value ∙ ap (λ s. map (echo_of s) c.ask_each.new.runs.items) state })) c.echo_all.ensures.echoes
 
 pub returns-clause-refused : goal.returns-clause-refused
 returns-clause-refused g c =
     let first : c.said.inside.first ≡ c.args.said.now.first = ap (λ (y : DispositionSaid). y.first) c.said.view_is in
+    let same = compared_rows c.args.rows.now c.place_of-from.new.self c.place_of-from.ensures.cost.0 c.place_of-from.ensures.cost.1 in
     let order = subst (λ n. in_order n c.args.rows.now.rows ≡ turned c.place_of-from.result c.args.rows.now.rows) first
     (order_turned c.said.inside.first c.args.rows.now.rows c.place_of-from.result c.place_of-from.ensures.within c.place_of-from.ensures.below c.place_of-from.ensures.above) in
-    let are = split_meant c.args.said.now c.args.rows.now.rows c.place_of-from.result c.ask_each.result order c.ask_each.ensures.split in
+    let split = subst (λ (rows : List Delivery). IsSplit c.args.said.now (turned c.place_of-from.result rows) c.ask_each.result) same c.ask_each.ensures.split in
+    let are = split_meant c.args.said.now c.args.rows.now.rows c.place_of-from.result c.ask_each.result order split in
     let a = c.ask_each.ensures.asked in
     let runs = subst (λ b. AreRuns c.args.said.now.first (noted b a.0) c.ask_each.new.runs.items) c.requires.settled a.2 in
     let some = some_number c.args.said.now.first (agreed a.0) c.ask_each.new.runs.items runs in
     let state = ap (λ (y : DispositionSaid). y.state) c.said.view_is in
-    on_err c.echo_all.result (λ e. inr (a.0, (subst IsSome state e.0, some (subst (λ rs. 0 < length rs) c.deref.ensures.value e.1)), rw are a.1)) c.echo_all.ensures.refused
+    on_err c.echo_all.result (λ e. inr (a.0, (subst IsSome state e.0, some (subst (λ rs. 0 < length rs) c.deref.ensures.value e.1)), rw (are, ← same) a.1)) c.echo_all.ensures.refused
+
+pub returns-clause-rows : goal.returns-clause-rows
+returns-clause-rows g c =
+    let same = compared_rows c.args.rows.now c.place_of-from.new.self c.place_of-from.ensures.cost.0 c.place_of-from.ensures.cost.1 in
+    let e = c.ask_each.ensures in
+    stepped_rows c.place_of-from.new.self c.ask_each.new.rows e.read.0 e.read.3 ∙ same
 
 pub returns-clause-walk : goal.returns-clause-walk
 returns-clause-walk g c =
     let first : c.said.inside.first ≡ c.args.said.now.first = ap (λ (y : DispositionSaid). y.first) c.said.view_is in
-    let order = subst (λ n. in_order n c.args.rows.now.rows ≡ turned c.place_of-from.result c.args.rows.now.rows) first
-    (order_turned c.said.inside.first c.args.rows.now.rows c.place_of-from.result c.place_of-from.ensures.within c.place_of-from.ensures.below c.place_of-from.ensures.above) in
+    let p = c.place_of-from.ensures in
     let e = c.ask_each.ensures in
-    (true, on_ok c.echo_all.result refl, walked c.args.said.now c.args.rows.now.rows c.place_of-from.result c.ask_each.result c.place_of-from.new.walk c.ask_each.new.walk c.place_of-from.ensures.within e.within order e.split e.most e.least e.search c.place_of-from.ensures.cost)
+    let same = compared_rows c.args.rows.now c.place_of-from.new.self p.cost.0 p.cost.1 in
+    let order = subst (λ n. in_order n c.args.rows.now.rows ≡ turned c.place_of-from.result c.args.rows.now.rows) first
+    (order_turned c.said.inside.first c.args.rows.now.rows c.place_of-from.result p.within p.below p.above) in
+    let split = subst (λ (rows : List Delivery). IsSplit c.args.said.now (turned c.place_of-from.result rows) c.ask_each.result) same e.split in
+    let within : c.ask_each.result ≤ length c.args.rows.now.rows = subst (λ (rows : List Delivery). c.ask_each.result ≤ length rows) same e.within in
+    let little = few p.cost.0 (length c.args.rows.now.rows) (omega (arith, p.few)) p.cost.2 in
+    let is = since_is c.since.result c.args.rows.now c.place_of-from.new.self c.ask_each.new.rows c.reads.result c.reads-before.result p.cost.0 e.read.0 c.since.ensures p.cost.1 e.read.3 c.reads.ensures c.reads-before.ensures (omega (arith, e.read.1, within, p.few)) (omega (arith, little)) in (
+      true,
+      on_ok c.echo_all.result refl,
+      subst (λ (w : WalkCount). IsWalked c.args.said.now c.args.rows.now.rows true w) (sym is)
+          (walked c.args.said.now c.args.rows.now.rows c.place_of-from.result c.ask_each.result e.read.0 p.cost.0 p.within within order split e.read.1 e.read.2 p.cost.2),
+    )
+
+pub returns-clause-reads : goal.returns-clause-reads
+returns-clause-reads g c =
+    let p = c.place_of-from.ensures in
+    let e = c.ask_each.ensures in
+    let same = compared_rows c.args.rows.now c.place_of-from.new.self p.cost.0 p.cost.1 in
+    let within : c.ask_each.result ≤ length c.args.rows.now.rows = subst (λ (rows : List Delivery). c.ask_each.result ≤ length rows) same e.within in
+    let little = few p.cost.0 (length c.args.rows.now.rows) (omega (arith, p.few)) p.cost.2 in
+    let is = since_is c.since.result c.args.rows.now c.place_of-from.new.self c.ask_each.new.rows c.reads.result c.reads-before.result p.cost.0 e.read.0 c.since.ensures p.cost.1 e.read.3 c.reads.ensures c.reads-before.ensures (omega (arith, e.read.1, within, p.few)) (omega (arith, little)) in
+    risen_by c.since.result c.args.rows.now c.place_of-from.new.self c.ask_each.new.rows p.cost.0 e.read.0 is p.cost.1 e.read.3

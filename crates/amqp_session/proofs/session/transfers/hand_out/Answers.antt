@@ -21,6 +21,7 @@ loop-i-preserved c =
       rest = t.0 ∙ c.loop-i.invariant.rest;
       said = t.1 ∙ c.loop-i.invariant.said;
       deliveries = t.2 ∙ c.loop-i.invariant.deliveries;
+      reads = c.record_opened.ensures.reads ∙ c.loop-i.invariant.reads;
       opens = t.3 ∙ c.loop-i.invariant.opens;
     }
 

@@ -12,5 +12,6 @@ invariant-loop-i l = record {
   rest : drop (l.count - l.i) l.held.items ≡ drop l.count l.fn.held.items;
   said : l.frames.items ++ numbered l.channel.0 l.delivery (take (l.count - l.i) l.held.items) ≡ l.fn.frames.items ++ numbered l.channel.0 l.first (take l.count l.fn.held.items);
   deliveries : (l.delivery + firsts (take (l.count - l.i) l.held.items)) % 2 ^ 32 ≡ (l.first + firsts (take l.count l.fn.held.items)) % 2 ^ 32;
+  reads : l.deliveries.reads ≡ l.fn.deliveries.reads;
   opens : opened l.delivery (take (l.count - l.i) l.held.items) l.deliveries.rows ≡ opened l.first (take l.count l.fn.held.items) l.fn.deliveries.rows;
 }

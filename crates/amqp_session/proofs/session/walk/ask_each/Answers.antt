@@ -1,9 +1,9 @@
 use Rattle.std.proofs.Common.{◌≡◌, ◌≤◌, ◌<◌, ◌+◌, ◌-◌, ◌%◌, ◌^◌, [], List, length, take, Some, refl, ap, sym, subst, ◌∙◌, arith, slice_get}
 use Rattle.amqp_types.specs.Disposition.{DispositionSaid}
 use Rattle.amqp_session.specs.declared.deliveries.Delivery.{Delivery}
-use Rattle.amqp_session.specs.declared.deliveries.WalkCount.{WalkCount}
 use Rattle.amqp_session.specs.Disposing.{distance, span, AsksEach, AreRuns, has_agreed}
 use Rattle.amqp_session.specs.Walks.{around, turned, noted, noted_by, EachMeant}
+use Rattle.amqp_session.proofs.Counting.{not_stepped, stepped_more, stepped_rows}
 use Rattle.amqp_session.proofs.RunsGrow.{EndBefore, end_later}
 use Rattle.amqp_session.proofs.Walking.{reads, reach, reach_more, each_more, meant_is, stops_at, stops_end, turned_length, asks_more, noted_more, nothing_noted}
 use Rattle.amqp_session.proofs.session.walk.ask_each.Goals as goal
@@ -13,14 +13,10 @@ loop-count-init g c = record {
   asked = ([], (refl, refl), rw c.requires.no_runs (nothing_noted g.row.R.Denot c.args.said.now.first c.args.said.now.settled));
   ends = rw c.requires.no_runs tt;
   near = tt;
-  turns = c.requires.unread;
-  comparisons = refl;
+  counted = not_stepped c.args.rows.now c.len-len.ensures.turns;
   few = let e = ap length c.requires.no_runs in omega (arith, e);
   room = refl;
 }
-
-pub delivery-delivery-requires-clause-few : goal.delivery-delivery-requires-clause-few
-delivery-delivery-requires-clause-few g c = omega (arith, c.loop-count.invariant.turns)
 
 pub returns-then-span-number-clause-split : goal.returns-then-span-number-clause-split
 returns-then-span-number-clause-split g c =
@@ -29,7 +25,8 @@ returns-then-span-number-clause-split g c =
     let size : (c.unwrap_or.result + (2 ^ 32 - c.said.inside.first)) % 2 ^ 32 ≡ span d.first d.last = ap (λ n. (n + (2 ^ 32 - c.said.inside.first)) % 2 ^ 32) c.unwrap_or.ensures ∙ ap (λ (y : DispositionSaid). span y.first y.last) c.said.view_is in
     let hf : d.first < 2 ^ 32 = subst (λ n. n < 2 ^ 32) first (omega arith) in
     let lt : c.loop-count.count < length c.args.rows.now.rows = omega (arith, c.len-len.ensures.len) in
-    let at : slice_get c.args.rows.now.rows (around c.args.from c.loop-count.count (length c.args.rows.now.rows)) ≡ Some c.delivery-delivery.result.now = rw (← c.len-len.ensures.len, ← c.around.ensures.value) c.delivery-delivery.ensures.value in
+    let same = stepped_rows c.args.rows.now c.loop-count.rows c.loop-count.count c.loop-count.invariant.counted in
+    let at : slice_get c.args.rows.now.rows (around c.args.from c.loop-count.count (length c.args.rows.now.rows)) ≡ Some c.delivery-delivery.result.now = rw (← c.len-len.ensures.len, ← c.around.ensures.value, ← same) c.delivery-delivery.ensures.value in
     let s = reads d c.args.rows.now.rows c.args.from c.loop-count.count c.delivery-delivery.result.now hf c.len-len.ensures.table c.requires.from c.requires.order lt at in
     let far : span d.first d.last < distance d.first c.delivery-delivery.result.now.number = rw (← size, ← first) c.if-span-number.true in
     stops_at d _ _ _ c.requires.forward s far c.loop-count.invariant.near
@@ -37,14 +34,9 @@ returns-then-span-number-clause-split g c =
 pub returns-then-span-number-clause-asked : goal.returns-then-span-number-clause-asked
 returns-then-span-number-clause-asked g c = c.loop-count.invariant.asked
 
-pub returns-then-span-number-clause-most : goal.returns-then-span-number-clause-most
-returns-then-span-number-clause-most g c = let e = ap (λ (w : WalkCount). w.turns) c.delivery-delivery.ensures.counted in omega (arith, e, c.loop-count.invariant.turns)
-
-pub returns-then-span-number-clause-least : goal.returns-then-span-number-clause-least
-returns-then-span-number-clause-least g c = let e = ap (λ (w : WalkCount). w.turns) c.delivery-delivery.ensures.counted in omega (arith, e, c.loop-count.invariant.turns)
-
-pub returns-then-span-number-clause-search : goal.returns-then-span-number-clause-search
-returns-then-span-number-clause-search g c = ap (λ (w : WalkCount). w.comparisons) c.delivery-delivery.ensures.counted ∙ c.loop-count.invariant.comparisons
+pub returns-then-span-number-clause-read : goal.returns-then-span-number-clause-read
+returns-then-span-number-clause-read g c =
+    (c.loop-count.count + 1, omega arith, omega arith, stepped_more c.args.rows.now c.loop-count.rows c.delivery-delivery.follows.lender-at-none c.loop-count.count c.loop-count.invariant.counted c.delivery-delivery.follows.holds-at-none)
 
 pub note-requires : goal.note-requires
 note-requires g c settled =
@@ -53,7 +45,8 @@ note-requires g c settled =
     let size : (c.unwrap_or.result + (2 ^ 32 - c.said.inside.first)) % 2 ^ 32 ≡ span d.first d.last = ap (λ n. (n + (2 ^ 32 - c.said.inside.first)) % 2 ^ 32) c.unwrap_or.ensures ∙ ap (λ (y : DispositionSaid). span y.first y.last) c.said.view_is in
     let hf : d.first < 2 ^ 32 = subst (λ n. n < 2 ^ 32) first (omega arith) in
     let lt : c.loop-count.count < length c.args.rows.now.rows = omega (arith, c.len-len.ensures.len) in
-    let at : slice_get c.args.rows.now.rows (around c.args.from c.loop-count.count (length c.args.rows.now.rows)) ≡ Some c.delivery-delivery.result.now = rw (← c.len-len.ensures.len, ← c.around.ensures.value) c.delivery-delivery.ensures.value in
+    let same = stepped_rows c.args.rows.now c.loop-count.rows c.loop-count.count c.loop-count.invariant.counted in
+    let at : slice_get c.args.rows.now.rows (around c.args.from c.loop-count.count (length c.args.rows.now.rows)) ≡ Some c.delivery-delivery.result.now = rw (← c.len-len.ensures.len, ← c.around.ensures.value, ← same) c.delivery-delivery.ensures.value in
     let s = reads d c.args.rows.now.rows c.args.from c.loop-count.count c.delivery-delivery.result.now hf c.len-len.ensures.table c.requires.from c.requires.order lt at in
     let near : distance d.first c.delivery-delivery.result.now.number ≤ span d.first d.last = rw (← size, ← first) c.if-span-number.false in
     let room = c.requires.room (ap (λ (y : DispositionSaid). y.settled) (sym c.said.view_is) ∙ settled) in
@@ -71,7 +64,8 @@ loop-count-preserved g c =
     let hf : d.first < 2 ^ 32 = subst (λ n. n < 2 ^ 32) first (omega arith) in
     let hn : x.number < 2 ^ 32 = omega arith in
     let lt : k < length c.args.rows.now.rows = omega (arith, c.len-len.ensures.len) in
-    let at : slice_get c.args.rows.now.rows (around c.args.from k (length c.args.rows.now.rows)) ≡ Some x = rw (← c.len-len.ensures.len, ← c.around.ensures.value) c.delivery-delivery.ensures.value in
+    let same = stepped_rows c.args.rows.now c.loop-count.rows k v.counted in
+    let at : slice_get c.args.rows.now.rows (around c.args.from k (length c.args.rows.now.rows)) ≡ Some x = rw (← c.len-len.ensures.len, ← c.around.ensures.value, ← same) c.delivery-delivery.ensures.value in
     let s = reads d c.args.rows.now.rows c.args.from k x hf c.len-len.ensures.table c.requires.from c.requires.order lt at in
     let near : distance d.first x.number ≤ span d.first d.last = rw (← size, ← first) c.if-span-number.false in
     let q = c.ask_disposition-answer.ensures in
@@ -80,13 +74,11 @@ loop-count-preserved g c =
     let runs = noted_more d.first x.number d.settled (has_agreed q.0) v.asked.0 more.0 c.loop-count.runs.items hf hn more.2 behind v.asked.2 in
     let items : c.note.new.runs.items ≡ noted_by d.settled (has_agreed q.0) x.number c.loop-count.runs.items =
     c.note.ensures.items ∙ ap (λ b. noted_by b c.ask_disposition-answer.result x.number c.loop-count.runs.items) (ap (λ (y : DispositionSaid). y.settled) c.said.view_is) ∙ ap (λ b. noted_by d.settled b x.number c.loop-count.runs.items) q.2 in
-    let turns = ap (λ (w : WalkCount). w.turns) c.delivery-delivery.ensures.counted in
     record {
       asked = (more.0, rw s.grow more.1, subst (AreRuns d.first (noted d.settled more.0)) (sym items) runs.0);
       ends = rw (s.grow, reach_more d.first 0 (take k order) x) (subst (EndBefore d.first (distance d.first x.number + 1)) (sym items) runs.1);
       near = rw s.grow (each_more d _ (take k order) x v.near (meant_is d x.number c.requires.forward near));
-      turns = omega (arith, turns, v.turns);
-      comparisons = ap (λ (w : WalkCount). w.comparisons) c.delivery-delivery.ensures.counted ∙ v.comparisons;
+      counted = stepped_more c.args.rows.now c.loop-count.rows c.delivery-delivery.follows.lender-at-none k v.counted c.delivery-delivery.follows.holds-at-none;
       few = omega (arith, v.few, c.note.ensures.len);
       room = c.note.ensures.capacity ∙ v.room;
     }
@@ -103,14 +95,10 @@ returns-clause-asked g c =
     let a = c.loop-count.invariant.asked in
     (a.0, subst (λ n. AsksEach g.R.LinkRelay.gives.disposition_gives c.args.said.now (take n (turned c.args.from c.args.rows.now.rows)) a.0 c.args.links.now c.loop-count.links) end a.1, a.2)
 
-pub returns-clause-most : goal.returns-clause-most
-returns-clause-most g c = omega (arith, c.loop-count.invariant.turns, c.loop-count.auto.count-end)
-
-pub returns-clause-least : goal.returns-clause-least
-returns-clause-least g c = omega (arith, c.loop-count.invariant.turns, c.loop-count.auto.count-end)
-
-pub returns-clause-search : goal.returns-clause-search
-returns-clause-search g c = c.loop-count.invariant.comparisons
+pub returns-clause-read : goal.returns-clause-read
+returns-clause-read g c =
+    let end : c.loop-count.count ≡ c.len-len.result = omega (arith, c.loop-count.auto.count-end) in
+    (c.loop-count.count, omega (arith, end), omega (arith, end), c.loop-count.invariant.counted)
 
 pub returns-then-span-number-clause-room : goal.returns-then-span-number-clause-room
 returns-then-span-number-clause-room g c = c.loop-count.invariant.room

@@ -1,7 +1,7 @@
 use Rattle.std.proofs.Common.{sym, subst, arith}
 use Rattle.amqp_session.specs.Deliveries.{IsTable}
 use Rattle.amqp_session.proofs.Rising.{recorded_table}
-use Rattle.amqp_session.proofs.deliveries.Deliveries.put.Goals as goal
+use Rattle.amqp_session.proofs.deliveries.table.Deliveries.put.Goals as goal
 
 pub missing-self-inside-requires : goal.missing-self-inside-requires
 missing-self-inside-requires c =

@@ -1,7 +1,7 @@
 use Rattle.std.proofs.Common.{◌≡◌, sym, ◌∙◌}
 use Rattle.std.specs.List.{insert}
 use Rattle.amqp_session.proofs.Rising.{recorded_on, recorded_before}
-use Rattle.amqp_session.proofs.deliveries.put_at.Goals as goal
+use Rattle.amqp_session.proofs.deliveries.table.put_at.Goals as goal
 
 pub returns-then-stands_at-clause-items : goal.returns-then-stands_at-clause-items
 returns-then-stands_at-clause-items c =

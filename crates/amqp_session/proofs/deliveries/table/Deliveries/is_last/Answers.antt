@@ -5,7 +5,7 @@ use Rattle.std.specs.VecDeque.{deque_len}
 use Rattle.amqp_session.specs.declared.deliveries.Delivery.{Delivery}
 use Rattle.amqp_session.specs.Deliveries.{TableView, number_at}
 use Rattle.amqp_session.proofs.Rising.{last_place, last_more}
-use Rattle.amqp_session.proofs.deliveries.Deliveries.is_last.Goals as goal
+use Rattle.amqp_session.proofs.deliveries.table.Deliveries.is_last.Goals as goal
 
 pub returns-in-Some-clause-last : goal.returns-in-Some-clause-last
 returns-in-Some-clause-last c = λ true.

@@ -1,7 +1,7 @@
 use Rattle.std.proofs.Common.{sym, subst}
 use Rattle.amqp_session.specs.Deliveries.{IsTable}
 use Rattle.amqp_session.proofs.Cutting.{table_without}
-use Rattle.amqp_session.proofs.deliveries.Deliveries.remove.Goals as goal
+use Rattle.amqp_session.proofs.deliveries.table.Deliveries.remove.Goals as goal
 
 pub missing-self-inside-requires : goal.missing-self-inside-requires
 missing-self-inside-requires c =

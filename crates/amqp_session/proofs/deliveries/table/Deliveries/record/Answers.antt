@@ -2,7 +2,7 @@ use Rattle.std.proofs.Common.{arith, ℕ, ◌<◌, length, List, ap, sym, subst,
 use Rattle.amqp_session.specs.declared.deliveries.Delivery.{Delivery}
 use Rattle.amqp_session.specs.Deliveries.{TableView, IsTable, number_at, recorded}
 use Rattle.amqp_session.proofs.Rising.{recorded_last, recorded_table}
-use Rattle.amqp_session.proofs.deliveries.Deliveries.record.Goals as goal
+use Rattle.amqp_session.proofs.deliveries.table.Deliveries.record.Goals as goal
 
 pub missing-self-inside-requires : goal.missing-self-inside-requires
 missing-self-inside-requires c =

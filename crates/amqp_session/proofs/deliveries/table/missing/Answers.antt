@@ -1,6 +1,6 @@
 use Rattle.std.proofs.Common.{arith}
 use Rattle.amqp_session.proofs.Rising.{ends_apart, ends_missing}
-use Rattle.amqp_session.proofs.deliveries.missing.Goals as goal
+use Rattle.amqp_session.proofs.deliveries.table.missing.Goals as goal
 
 pub overflow_sub-result : goal.overflow_sub-result
 overflow_sub-result c =

@@ -1,0 +1,256 @@
+//! The table of open deliveries, which counts each read of it. Search and walk stand outside this module.
+
+ghost use Rattle.std.specs.Prelude.{◌≡◌, ℕ, ◌+◌, ◌-◌, ◌*◌, ◌%◌, ◌^◌, ◌<◌, ◌≤◌, [], length, slice_get, slice_set, Some, OnOk, IsTrue, false};
+ghost use Rattle.std.specs.Borrow.{sem};
+ghost use Rattle.std.specs.VecDeque.{deque_capacity};
+ghost use Rattle.amqp_session.specs.Deliveries.{IsRising, IsTable, IsMissing, compared, cut, nothing_counted, number_at, recorded};
+
+use super::{Delivery, ReadCount};
+use std::alloc::{AllocError, Global};
+use std::collections::VecDeque;
+use std::marker::Model;
+
+/// The open deliveries of one role, by rising number.
+///
+/// Another module reads a record by [`Deliveries::delivery`] and a number by [`Deliveries::number`], and by no other call; both
+/// count the read, and no call sets the count back. A record that comes at the end costs constant time.
+#[derive(Drop)]
+pub(crate) struct Deliveries {
+    rows: VecDeque<Delivery>,
+    /// How many numbers are missing between the first and the last.
+    missing: usize,
+    reads: ReadCount,
+}
+
+impl Model for Deliveries {
+    ghost use Rattle.std.specs.VecDeque.{deque_capacity};
+    ghost use Rattle.amqp_session.specs.Deliveries.{TableView, IsTable, IsMissing};
+
+    ghost Value = { TableView };
+
+    ghost view = { λ t. record {
+      rows = t.rows.items;
+      capacity = deque_capacity t.rows;
+      reads = t.reads;
+    } };
+
+    ghost invariant = { λ t. IsTable t.rows.items × IsMissing t.missing t.rows.items };
+}
+
+/// How many numbers are missing between the first and the last of a table.
+#[inline(always)]
+fn missing(rows: &VecDeque<Delivery>) -> usize
+    requires table { IsTable rows.now.items }
+    ensures missing { IsMissing result rows.now.items }
+{
+    let len = rows.len();
+    if len == 0 {
+        return 0;
+    }
+    (rows[len - 1].number - rows[0].number) as usize - (len - 1)
+}
+
+/// A record takes the place of the one that stands there.
+fn replace(rows: &mut VecDeque<Delivery>, place: usize, delivery: Delivery)
+    requires within { place < length rows.old.items }
+    ensures items { rows.new.items ≡ slice_set rows.old.items place delivery }
+    ensures capacity { deque_capacity rows.new ≡ deque_capacity rows.old }
+{
+    rows[place] = delivery;
+}
+
+/// Whether the number stands at the place.
+fn stands_at(rows: &VecDeque<Delivery>, place: usize, number: u32) -> bool
+    ensures there { IsTrue result → (place < length rows.now.items) × (number_at rows.now.items place ≡ number) }
+    ensures not_there { result ≡ false → place < length rows.now.items → ¬ (number_at rows.now.items place ≡ number) }
+{
+    place < rows.len() && rows[place].number == number
+}
+
+/// Puts a record at its place: that of an older one of its number, or between the others.
+fn put_at(rows: &mut VecDeque<Delivery>, place: usize, delivery: Delivery)
+    requires table { IsTable rows.old.items }
+    requires room { length rows.old.items < deque_capacity rows.old }
+    requires within { place ≤ length rows.old.items }
+    requires below { (i : ℕ) → i < place → number_at rows.old.items i < delivery.number }
+    requires above { (i : ℕ) → place ≤ i → i < length rows.old.items → delivery.number ≤ number_at rows.old.items i }
+    ensures items { rows.new.items ≡ recorded delivery rows.old.items }
+    ensures capacity { deque_capacity rows.old ≤ deque_capacity rows.new }
+{
+    if stands_at(rows, place, delivery.number) {
+        replace(rows, place, delivery);
+    } else {
+        rows.insert(place, delivery).unwrap();
+    }
+}
+
+/// Takes away `count` records from a place on; those past the end are the first ones. The shorter side moves, once: nothing moves
+/// where they stand at an end.
+fn cut_out(rows: &mut VecDeque<Delivery>, from: usize, count: usize)
+    requires from { from ≤ length rows.old.items }
+    requires count { count ≤ length rows.old.items }
+    ensures items { rows.new.items ≡ cut from count rows.old.items }
+{
+    // The oldest alone: a drain would pay for its own record.
+    if from == 0 && count == 1 {
+        drop(rows.pop_front());
+        return;
+    }
+    let rest = rows.len() - from;
+    if count <= rest {
+        rows.drain(from..from + count);
+    } else {
+        rows.truncate(from);
+        rows.drain(..count - rest);
+    }
+}
+
+/// Where the numbers from `number` on begin.
+fn place_among(rows: &VecDeque<Delivery>, number: u32) -> usize
+    requires rising { IsRising rows.now.items }
+    ensures within { result ≤ length rows.now.items }
+    ensures below { (i : ℕ) → i < result → number_at rows.now.items i < number }
+    ensures above { (i : ℕ) → result ≤ i → i < length rows.now.items → number ≤ number_at rows.now.items i }
+{
+    let mut low = 0;
+    let mut high = rows.len();
+    while low < high {
+        let middle = low + (high - low) / 2;
+        if rows[middle].number < number {
+            low = middle + 1;
+        } else {
+            high = middle;
+        }
+    }
+    low
+}
+
+impl Deliveries {
+    ghost use Rattle.amqp_session.specs.Lending.{CountsTurn};
+
+    /// A table with no record.
+    pub(crate) fn new(alloc: Global) -> Deliveries
+        ensures rows { result.rows ≡ [] }
+        ensures reads { result.reads ≡ nothing_counted }
+    {
+        Deliveries {
+            rows: VecDeque::new(alloc),
+            missing: 0,
+            reads: ReadCount::new(),
+        }
+    }
+
+    /// How much of it was ever read.
+    pub(crate) fn reads(&self) -> ReadCount
+        ensures { result ≡ self.now.reads }
+    {
+        self.reads
+    }
+
+    /// How many records there are.
+    #[inline(always)]
+    pub(crate) fn len(&self) -> usize
+        ensures len { result ≡ length self.now.rows }
+        ensures rising { IsRising self.now.rows }
+        ensures table { IsTable self.now.rows }
+        ensures few { result ≤ 2 ^ 32 }
+        ensures turns { self.now.reads.turns < 2 ^ 64 }
+        ensures comparisons { self.now.reads.comparisons < 2 ^ 64 }
+    {
+        // The proof reads the ranges of the counts.
+        let _turns = self.reads.turns;
+        let _comparisons = self.reads.comparisons;
+        self.rows.len()
+    }
+
+    /// How many numbers are missing between the first and the last.
+    #[inline(always)]
+    pub(crate) fn missing(&self) -> usize
+        ensures { IsMissing result self.now.rows }
+    {
+        self.missing
+    }
+
+    /// The number at a place: one comparison.
+    #[inline(always)]
+    pub(crate) fn number(&mut self, at: usize) -> u32
+        requires within { at < length self.old.rows }
+        ensures value { result ≡ number_at self.old.rows at }
+        ensures counted { self.new ≡ compared 1 self.old }
+    {
+        self.reads.comparisons = self.reads.comparisons.wrapping_add(1);
+        self.rows[at].number
+    }
+
+    /// The record at a place: one turn.
+    #[inline(always)]
+    pub(crate) fn delivery(&mut self, at: usize) -> &Delivery
+        requires within { at < length self.old.rows }
+        ensures* counted { sem 𝓛 (CountsTurn self.entry) }
+        ensures value { slice_get self.old.rows at ≡ Some result.now }
+    {
+        self.reads.turns = self.reads.turns.wrapping_add(1);
+        &self.rows[at]
+    }
+
+    /// Reserves room for more records. When memory is refused the table stays as it is.
+    #[inline(always)]
+    pub(crate) fn reserve(&mut self, additional: usize) -> Result<(), AllocError>
+        ensures room { OnOk result (length self.new.rows + additional ≤ self.new.capacity) }
+        ensures rows { self.new ≡ record self.old { capacity = self.new.capacity } }
+    {
+        self.rows.reserve(additional)
+    }
+
+    /// Puts a record in its place; it takes the place of an older one of its number.
+    #[inline(always)]
+    pub(crate) fn record(&mut self, delivery: Delivery)
+        requires room { length self.old.rows < self.old.capacity }
+        ensures rows { self.new.rows ≡ recorded delivery self.old.rows }
+        ensures capacity { self.old.capacity ≤ self.new.capacity }
+        ensures reads { self.new.reads ≡ self.old.reads }
+    {
+        if !self.is_last(delivery.number) {
+            return self.put(delivery);
+        }
+        self.rows.push_back_reserved(delivery);
+        self.missing = missing(&self.rows);
+    }
+
+    /// Whether all numbers are below this one.
+    #[inline(always)]
+    fn is_last(&self, number: u32) -> bool
+        ensures last { IsTrue result → (i : ℕ) → i < length self.now.rows → number_at self.now.rows i < number }
+        ensures not_last { result ≡ false → number ≤ number_at self.now.rows (length self.now.rows - 1) }
+    {
+        match self.rows.back() {
+            None => true,
+            Some(last) => last.number < number,
+        }
+    }
+
+    /// Puts a record in its place, which the search finds.
+    #[inline(never)]
+    fn put(&mut self, delivery: Delivery)
+        requires room { length self.old.rows < self.old.capacity }
+        ensures rows { self.new.rows ≡ recorded delivery self.old.rows }
+        ensures capacity { self.old.capacity ≤ self.new.capacity }
+        ensures reads { self.new.reads ≡ self.old.reads }
+    {
+        let place = place_among(&self.rows, delivery.number);
+        put_at(&mut self.rows, place, delivery);
+        self.missing = missing(&self.rows);
+    }
+
+    /// Takes away `count` records from a place on; those past the end are the first ones. The shorter side moves, once: nothing
+    /// moves where they stand at an end.
+    pub(crate) fn remove(&mut self, from: usize, count: usize)
+        requires from { from ≤ length self.old.rows }
+        requires count { count ≤ length self.old.rows }
+        ensures rows { self.new.rows ≡ cut from count self.old.rows }
+        ensures reads { self.new.reads ≡ self.old.reads }
+    {
+        cut_out(&mut self.rows, from, count);
+        self.missing = missing(&self.rows);
+    }
+}
