@@ -10,6 +10,7 @@ pub mod RunsGrow
 pub mod Walking
 pub mod Cutting
 pub mod Backward
+pub mod Ranges
 pub mod Keeping
 pub mod Rising
 pub mod Counting

@@ -88,6 +88,11 @@ abbrev pub with_role : Role → List Delivery → OpenView → OpenView
 with_role Receiver rows v = record v { receiver = rows }
 with_role Sender rows v = record v { sender = rows }
 
+-- the role of the other side
+abbrev pub peer_role : Role → Role
+peer_role Receiver = Sender
+peer_role Sender = Receiver
+
 -- the records without these many from a place on; those past the end are the first ones
 abbrev pub cut : ℕ → ℕ → List Delivery → List Delivery
 cut from count rows =

@@ -6,6 +6,7 @@ use Rattle.std.specs.Prelude.{unwrap_or, min}
 use Rattle.std.specs.List.{filter, list_any}
 use Rattle.amqp_values.specs.Outcome.{IsTerminal}
 use Rattle.amqp_types.specs.Disposition.{DispositionSaid}
+use Rattle.amqp_types.specs.declared.definitions.Role.{Role}
 use Rattle.amqp_types.specs.declared.definitions.Role.TheVariants.{Sender}
 use Rattle.amqp_session.specs.declared.deliveries.Delivery.{Delivery}
 use Rattle.amqp_session.specs.declared.deliveries.WalkCount.{WalkCount}
@@ -15,7 +16,7 @@ use Rattle.amqp_session.specs.declared.frame.SessionFrameBody.TheVariants as Bod
 use Rattle.amqp_session.specs.declared.session.receiving.Receiving.{Receiving}
 use Rattle.amqp_session.specs.declared.error.SessionInnerError.{SessionInnerError}
 use Rattle.amqp_session.specs.declared.error.SessionInnerError.TheVariants as Refused
-use Rattle.amqp_session.specs.Deliveries.{nothing_read, of_role, with_role}
+use Rattle.amqp_session.specs.Deliveries.{nothing_read, of_role, with_role, peer_role}
 use Rattle.amqp_session.specs.Links.{LinksView, attached_at, put_at}
 use Rattle.amqp_session.specs.Relay.{DispositionGives, DispositionAsked, DispositionQuestion, Asks, goes_on, of_disposition}
 use Rattle.amqp_session.specs.Session.{SessionView}
@@ -48,11 +49,19 @@ num_messages first last = if is_forward first last then span first last + 1 else
 abbrev pub in_order : ℕ → List Delivery → List Delivery
 in_order first rows = filter (λ r. nat_le first r.number) rows ++ filter (λ r. nat_lt r.number first) rows
 
+-- the records that a range means, and the others
+abbrev pub in_range : ℕ → Option ℕ → List Delivery → List Delivery
+in_range first last rows = filter (λ r. is_meant first last r.number) rows
+
+abbrev pub out_of_range : ℕ → Option ℕ → List Delivery → List Delivery
+out_of_range first last rows = filter (λ r. not (is_meant first last r.number)) rows
+
+-- those that a disposition means, in order, and the others
 abbrev pub meant : DispositionSaid → List Delivery → List Delivery
-meant d rows = filter (λ r. is_meant d.first d.last r.number) (in_order d.first rows)
+meant d rows = in_range d.first d.last (in_order d.first rows)
 
 abbrev pub not_meant : DispositionSaid → List Delivery → List Delivery
-not_meant d rows = filter (λ r. not (is_meant d.first d.last r.number)) rows
+not_meant d rows = out_of_range d.first d.last rows
 
 -- ---- what is asked
 
@@ -175,3 +184,15 @@ abbrev pub SendDispositionStep : {R : Type 0} → SessionView R → DispositionS
 SendDispositionStep v d terminal frame w =
     (IsTrue terminal ↔ HasTerminal d.state) × (frame ≡ disposition_frame v d)
     × (w ≡ record v { receiving = if terminal then widened (num_messages d.first d.last) v.receiving else v.receiving })
+
+-- ---- this side settles by itself
+
+-- the open deliveries in which this side has a role: those that it received, as receiver, or those that it sent, as sender
+abbrev pub own_rows : {R : Type 0} → Role → SessionView R → List Delivery
+own_rows role v = of_role (peer_role role) v.deliveries
+
+-- Those of a range are let go, and counted. No relay is asked and no frame goes out.
+abbrev pub SettleStep : {R : Type 0} → SessionView R → Role → ℕ → Option ℕ → ℕ → SessionView R → Type 0
+SettleStep v role first last count w =
+    (count ≡ length (in_range first last (own_rows role v)))
+    × (w ≡ record v { deliveries = with_role (peer_role role) (out_of_range first last (own_rows role v)) v.deliveries })

@@ -14,6 +14,7 @@ mod links;
 mod outgoing;
 pub mod receiving;
 pub mod runs;
+mod settling;
 mod shown;
 pub(crate) mod transfers;
 mod walk;

@@ -61,12 +61,31 @@ pub fn walk(alloc: Global, session: &Session<RowRelay>, text: &str) -> anyhow::R
 
 /// How many messages a disposition settles over a range of numbers.
 pub fn messages(alloc: Global, text: &str) -> anyhow::Result<String> {
+    let (first, last) = range(text)?;
+    let count = num_messages_settled_by_disposition(first, last);
+    Ok(format!(in alloc; "{count}\n")?)
+}
+
+/// How many open deliveries of a range are let go, in which this side has a role.
+pub fn settled(
+    alloc: Global,
+    session: &mut Session<RowRelay>,
+    text: &str,
+) -> anyhow::Result<String> {
+    let (role, rest) = reading::word(text);
+    let role = reading::role(role)?;
+    let (first, last) = range(rest)?;
+    let count = session.settle(role, first, last);
+    Ok(format!(in alloc; "{count}\n")?)
+}
+
+/// The first number of a range, and the last one, where it is named.
+fn range(text: &str) -> anyhow::Result<(u32, Option<u32>)> {
     let (first, last) = reading::word(text);
     let first = reading::number(first)?;
     let last = match last {
         "" => None,
         last => Some(reading::number(last)?),
     };
-    let count = num_messages_settled_by_disposition(first, last);
-    Ok(format!(in alloc; "{count}\n")?)
+    Ok((first, last))
 }

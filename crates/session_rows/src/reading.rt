@@ -1,7 +1,7 @@
 //! Words of a line: numbers, states, reasons, texts and bytes.
 
 use amqp_session::{ConnectionStopReason, SessionStopReason};
-use amqp_types::{Error, Performative, SessionState, Symbol};
+use amqp_types::{Error, Performative, Role, SessionState, Symbol};
 use bytes::Bytes;
 use std::alloc::Global;
 
@@ -18,6 +18,15 @@ pub fn number(text: &str) -> anyhow::Result<u32> {
 /// A channel.
 pub fn channel(text: &str) -> anyhow::Result<u16> {
     Ok(text.parse::<u16>()?)
+}
+
+/// The role of this name.
+pub fn role(name: &str) -> anyhow::Result<Role> {
+    match name {
+        "receiver" => Ok(Role::Receiver),
+        "sender" => Ok(Role::Sender),
+        _ => Err(anyhow::anyhow!("no role")),
+    }
 }
 
 /// The state of this name.

@@ -46,6 +46,7 @@ fn once(alloc: Global, session: &mut Session<RowRelay>, line: &str) -> anyhow::R
         ("end", rest) => end(alloc, session, rest),
         ("stop", rest) => stop(alloc, session, rest),
         ("disposition", rest) => disposition::sent(alloc, session, rest),
+        ("settle", rest) => disposition::settled(alloc, session, rest),
         ("walk", rest) => disposition::walk(alloc, session, rest),
         ("messages", rest) => disposition::messages(alloc, rest),
         _ => plain(alloc, session, line),

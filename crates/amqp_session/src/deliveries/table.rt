@@ -5,6 +5,8 @@ ghost use Rattle.std.specs.Borrow.{sem};
 ghost use Rattle.std.specs.VecDeque.{deque_capacity};
 ghost use Rattle.amqp_session.specs.Deliveries.{IsRising, IsTable, IsMissing, compared, cut, nothing_counted, number_at, recorded};
 
+mod ranges;
+
 use super::{Delivery, ReadCount};
 use std::alloc::{AllocError, Global};
 use std::collections::VecDeque;
@@ -240,6 +242,15 @@ impl Deliveries {
         let place = place_among(&self.rows, delivery.number);
         put_at(&mut self.rows, place, delivery);
         self.missing = missing(&self.rows);
+    }
+
+    /// Where the numbers from `number` on begin. It is of this module alone, and counts nothing.
+    fn find(&self, number: u32) -> usize
+        ensures within { result ≤ length self.now.rows }
+        ensures below { (i : ℕ) → i < result → number_at self.now.rows i < number }
+        ensures above { (i : ℕ) → result ≤ i → i < length self.now.rows → number ≤ number_at self.now.rows i }
+    {
+        place_among(&self.rows, number)
     }
 
     /// Takes away `count` records from a place on; those past the end are the first ones. The shorter side moves, once: nothing

@@ -32,7 +32,7 @@ pub fn num_messages_settled_by_disposition(first: u32, last: Option<u32>) -> u32
 
 /// How far the last number of a range is behind its first, where the range is forward.
 #[inline(always)]
-fn forward_span(first: u32, last: Option<u32>) -> Option<u32>
+pub(super) fn forward_span(first: u32, last: Option<u32>) -> Option<u32>
     ensures { result ≡ if is_forward first last then Some (span first last) else None }
 {
     let span = last.unwrap_or(first).wrapping_sub(first);
@@ -66,7 +66,7 @@ impl<R: LinkRelay> Session<R> {
             return Ok(self.nothing_meant(disposition.settled));
         }
         if disposition.settled {
-            self.settle(&disposition);
+            self.take_away(&disposition);
             return Ok(None);
         }
         match self.ask(&disposition) {
@@ -110,7 +110,7 @@ impl<R: LinkRelay> Session<R> {
     }
 
     /// Tells the relays of a settled disposition over a forward range, and takes the deliveries of its role away.
-    fn settle(&mut self, said: &Disposition)
+    fn take_away(&mut self, said: &Disposition)
         requires settled { said.now.settled ≡ true }
         requires forward { span said.now.first said.now.last < 2 ^ 31 }
         requires unread { self.old.last_walk ≡ nothing_read }

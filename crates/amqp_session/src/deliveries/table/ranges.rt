@@ -1,0 +1,39 @@
+//! A range of numbers in a table of open deliveries: its records are let go by two searches and one cut.
+
+ghost use Rattle.std.specs.Prelude.{◌≡◌, ◌≤◌, ◌+◌, ◌-◌, true, false, not, nat_le, length, if◌then◌else◌};
+ghost use Rattle.std.specs.List.{filter};
+ghost use Rattle.amqp_session.specs.Disposing.{distance};
+
+use super::Deliveries;
+
+/// How many places there are from one up to another. Where the range passes the end, the front is behind it.
+fn stretch(from: usize, to: usize, len: usize, passes: bool) -> usize
+    requires from { from ≤ len }
+    requires forward { passes ≡ false → from ≤ to }
+    requires passing { passes ≡ true → to ≤ from }
+    ensures value { result ≡ if passes then (len - from) + to else to - from }
+{
+    if passes {
+        len - from + to
+    } else {
+        to - from
+    }
+}
+
+impl Deliveries {
+    /// Lets the records go whose numbers are at most `span` behind `first`, modulo 2^32, and answers how many they were. Where the
+    /// numbers pass 4294967295 they are the last ones of the table and the first ones. Its two searches count nowhere.
+    pub(crate) fn let_go(&mut self, first: u32, span: u32) -> usize
+        ensures rows { self.new.rows ≡ filter (λ r. not (nat_le (distance first r.number) span)) self.old.rows }
+        ensures count { result ≡ length (filter (λ r. nat_le (distance first r.number) span) self.old.rows) }
+        ensures reads { self.new.reads ≡ self.old.reads }
+    {
+        let len = self.len();
+        let behind = first.wrapping_add(span).wrapping_add(1);
+        let from = self.find(first);
+        let to = self.find(behind);
+        let count = stretch(from, to, len, behind <= first);
+        self.remove(from, count);
+        count
+    }
+}
