@@ -26,7 +26,7 @@ use Rattle.amqp_session.specs.Items.{HandsOut, item_frames, first_frame, is_some
 use Rattle.amqp_session.specs.Session.{SessionView, flow_frame, lets, let_gone}
 use Rattle.amqp_types.specs.Disposition.{DispositionSaid}
 use Rattle.amqp_types.specs.declared.definitions.Role.TheVariants.{Sender, Receiver}
-use Rattle.amqp_session.specs.Deliveries.{with_record, RecordFits, OpenView}
+use Rattle.amqp_session.specs.Deliveries.{with_record, RecordFits, OpenView, peer_role}
 use Rattle.amqp_session.specs.Disposing.{widened, num_messages, rows_of, meant, AsksAt, AsksEach, SaysStateAgain, HasAsked}
 use Rattle.amqp_session.proofs.Keeping.{keeps, role_keeps}
 use Rattle.amqp_session.specs.Step.{BeginFits, begun_by, has_error, FlowFits, FlowGoes, named_delivery, waits, flow_base, flow_moved, counted_by, asked_at, FlowAnswered, FlowUnasked, FlowTaken, TransferAnswered, TransferUnasked}
@@ -35,7 +35,7 @@ use Rattle.amqp_session.specs.Linked.{taken_by}
 use Rattle.amqp_session.proofs.Taking.{at_insert, taken_release, taken_leave, taken_drop}
 use Rattle.amqp_types.specs.Attach.{AttachSaid}
 use Rattle.std.specs.FinMap as map
-use Rattle.amqp_session.specs.History.{Entry, AllocatesLink, AllocatesIncomingLink, DeallocatesLink, TakesAttach, TakesDetach, SendsAttach, SendsDetach, SendsBegin, SendsEnd, TakesBegin, TakesEnd, TakesFlow, TakesTransfer, TakesDisposition, SendsDisposition, SendsFlow, SendsTransfer, SendsSessionFlow, RecordsStop, Step}
+use Rattle.amqp_session.specs.History.{Entry, AllocatesLink, AllocatesIncomingLink, DeallocatesLink, TakesAttach, TakesDetach, SendsAttach, SendsDetach, SendsBegin, SendsEnd, TakesBegin, TakesEnd, TakesFlow, TakesTransfer, TakesDisposition, SendsDisposition, SendsFlow, SendsTransfer, SendsSessionFlow, RecordsStop, Settles, Step}
 use Rattle.amqp_session.specs.OutgoingFrames.{inner_frames, call_frames, OnChannel}
 use Rattle.amqp_session.specs.Received.{named_of, named_with, channel_by}
 use Rattle.amqp_session.specs.Headline.{transfers_in, state_by}
@@ -374,8 +374,11 @@ module _ {R : Type 0} (g : Relays R) where
   does v w (SendsDisposition d true f) s = says v _ w _ f _ s.2 s.1 refl refl refl refl refl refl refl refl tt tt (λ k o. refl)
   does v w (SendsDisposition d false f) s = says v _ w _ f _ s.2 s.1 refl refl refl refl refl refl refl refl tt tt (λ k o. refl)
   does v w (TakesDisposition d asked (Ok None)) s =
-      let kept = role_keeps d.role d v.deliveries in
+      let kept = role_keeps d.role d.first d.last v.deliveries in
       asked_does v w w.links _ _ s.2 (asks_keep g.disposition_gives d (meant d (rows_of d v)) asked v.links w.links s.1) kept.0 refl refl refl (ap (λ n. record (rest v) { named = n }) kept.1) tt tt (λ k o. refl)
   does v w (TakesDisposition d asked (Ok (Some echoes))) s = asked_does v w w.links v.deliveries _ s.1.1 (asks_keep g.disposition_gives d (meant d (rows_of d v)) asked v.links w.links s.1.0) refl refl refl refl refl tt tt (λ k o. refl)
   does v w (TakesDisposition d asked (Err Refused.OutOfMemory)) s = refused_does v w d asked s.2
   does v w (TakesDisposition d asked (Err e)) s = absurd s
+  does v w (Settles role first last count) s =
+      let kept = role_keeps (peer_role role) first last v.deliveries in
+      asked_does v w v.links _ _ s.1 refl kept.0 refl refl refl (ap (λ n. record (rest v) { named = n }) kept.1) tt tt (λ k o. refl)

@@ -21,7 +21,7 @@ use Rattle.amqp_types.specs.Disposition.{DispositionSaid}
 use Rattle.amqp_session.specs.declared.deliveries.Delivery.{Delivery}
 use Rattle.amqp_session.specs.Disposing.{AsksAt, AsksEach, behind}
 use Rattle.amqp_session.specs.Linked.{asked_from, live_by, input_by, where_goes, speaks_of, handle_of}
-use Rattle.amqp_session.specs.History.{Entry, AllocatesLink, AllocatesIncomingLink, DeallocatesLink, TakesAttach, TakesDetach, SendsAttach, SendsDetach, SendsBegin, SendsEnd, TakesBegin, TakesEnd, TakesFlow, TakesTransfer, TakesDisposition, SendsDisposition, SendsFlow, SendsTransfer, SendsSessionFlow, RecordsStop, Step}
+use Rattle.amqp_session.specs.History.{Entry, AllocatesLink, AllocatesIncomingLink, DeallocatesLink, TakesAttach, TakesDetach, SendsAttach, SendsDetach, SendsBegin, SendsEnd, TakesBegin, TakesEnd, TakesFlow, TakesTransfer, TakesDisposition, SendsDisposition, SendsFlow, SendsTransfer, SendsSessionFlow, RecordsStop, Settles, Step}
 use Rattle.amqp_session.proofs.Taking.{at_insert, at_remove}
 use Rattle.amqp_session.proofs.Effects.{attach_keeps}
 use Rattle.amqp_session.proofs.Naming.{same_number, Agree, agree_like, agree_linked, agree_release, agree_leave, agree_dropped, names_linked, names_release, names_leave, attach_waits}
@@ -271,6 +271,7 @@ module _ {R : Type 0} (g : Relays R) where
   links_by v w (SendsSessionFlow None) a s = kept v.links w.links _ a (ap links_of s.1) (λ n o. refl) (λ k o. refl)
   links_by v w (SendsSessionFlow (Some (SingleFrame f))) a s = kept v.links w.links _ a (ap links_of s.2) (λ n o. refl) (λ k o. refl)
   links_by v w (RecordsStop reason) a s = kept v.links w.links _ a (ap links_of s) (λ n o. refl) (λ k o. refl)
+  links_by v w (Settles role first last count) a s = kept v.links w.links _ a (ap links_of s.1) (λ n o. refl) (λ k o. refl)
   links_by v w (SendsDisposition d terminal f) a s = kept v.links w.links _ a (ap links_of s.2) (λ n o. refl) (λ k o. refl)
   links_by v w (TakesDisposition d asked (Ok None)) a s = disposes v.links w.links d asked _ a (go_each d _ asked v.links w.links s.1)
   links_by v w (TakesDisposition d asked (Ok (Some echoes))) a s = disposes v.links w.links d asked _ a (go_each d _ asked v.links w.links s.1.0)

@@ -148,9 +148,9 @@ module _ (rows : List Delivery) (first span from to : ℕ) (hf : first < 2 ^ 32)
       let after = next first span in
       let order : from ≤ to = begins_later rows first after from to (omega (arith, h)) a b in
       let s = between (λ n. nat_le (distance first n) span) from to rows order b.within
-          (λ i ge lt within. let low = a.below i lt in let d = down first (number_at rows i) low hf in is_far first span (number_at rows i) (omega (arith, d, low, h, hs, hf)))
-          (λ i ge lt within. let high = a.above i ge within in let low = b.below i lt in let u = under_at (2 ^ 32) rows t.1 i within in let d = up first (number_at rows i) high u in is_near first span (number_at rows i) (omega (arith, d, high, low, h, hs, hf)))
-          (λ i ge lt within. let high = b.above i ge within in let u = under_at (2 ^ 32) rows t.1 i within in let d = up first (number_at rows i) (omega (arith, h, high)) u in is_far first span (number_at rows i) (omega (arith, d, high, h, hs, hf)))
+      (λ i ge lt within. let low = a.below i lt in let d = down first (number_at rows i) low hf in is_far first span (number_at rows i) (omega (arith, d, low, h, hs, hf)))
+      (λ i ge lt within. let high = a.above i ge within in let low = b.below i lt in let u = under_at (2 ^ 32) rows t.1 i within in let d = up first (number_at rows i) high u in is_near first span (number_at rows i) (omega (arith, d, high, low, h, hs, hf)))
+      (λ i ge lt within. let high = b.above i ge within in let u = under_at (2 ^ 32) rows t.1 i within in let d = up first (number_at rows i) (omega (arith, h, high)) u in is_far first span (number_at rows i) (omega (arith, d, high, h, hs, hf)))
       in
       record { few = let w = b.within in omega (arith, w); left_is = cut_between from to rows order b.within ∙ sym s.0; count_is = sym s.1 }
 
@@ -159,9 +159,9 @@ module _ (rows : List Delivery) (first span from to : ℕ) (hf : first < 2 ^ 32)
       let after = next first span in
       let order : to ≤ from = begins_later rows after first to from h b a in
       let s = around (λ n. nat_le (distance first n) span) to from rows order a.within
-          (λ i ge lt within. let low = b.below i lt in let less : number_at rows i < first = omega (arith, low, h) in let d = down first (number_at rows i) less hf in is_near first span (number_at rows i) (omega (arith, d, low, h, hs, hf)))
-          (λ i ge lt within. let high = b.above i ge within in let low = a.below i lt in let d = down first (number_at rows i) low hf in is_far first span (number_at rows i) (omega (arith, d, high, low, h, hs, hf)))
-          (λ i ge lt within. let high = a.above i ge within in let u = under_at (2 ^ 32) rows t.1 i within in let d = up first (number_at rows i) high u in is_near first span (number_at rows i) (omega (arith, d, high, u, h, hs, hf)))
+      (λ i ge lt within. let low = b.below i lt in let less : number_at rows i < first = omega (arith, low, h) in let d = down first (number_at rows i) less hf in is_near first span (number_at rows i) (omega (arith, d, low, h, hs, hf)))
+      (λ i ge lt within. let high = b.above i ge within in let low = a.below i lt in let d = down first (number_at rows i) low hf in is_far first span (number_at rows i) (omega (arith, d, high, low, h, hs, hf)))
+      (λ i ge lt within. let high = a.above i ge within in let u = under_at (2 ^ 32) rows t.1 i within in let d = up first (number_at rows i) high u in is_near first span (number_at rows i) (omega (arith, d, high, u, h, hs, hf)))
       in
       record { few = let w = a.within in omega (arith, w, order); left_is = cut_around to from rows order a.within ∙ sym s.0; count_is = sym s.1 }
 

@@ -8,6 +8,7 @@ use Rattle.amqp_types.specs.Flow.{FlowSaid}
 use Rattle.amqp_types.specs.Transfer.{TransferSaid}
 use Rattle.amqp_types.specs.Disposition.{DispositionSaid}
 use Rattle.amqp_types.specs.Detach.{DetachSaid}
+use Rattle.amqp_types.specs.declared.definitions.Role.{Role}
 use Rattle.amqp_types.specs.declared.states.SessionState.{SessionState}
 use Rattle.amqp_session.specs.declared.numbers.InputHandle.{InputHandle}
 use Rattle.amqp_session.specs.declared.numbers.OutputHandle.{OutputHandle}
@@ -27,7 +28,7 @@ use Rattle.amqp_session.specs.Step.{SendBeginStep, SendEndStep, TakeBeginStep, T
 use Rattle.amqp_session.specs.Step.{SendFlowStep, SessionFlowStep, StopStep}
 use Rattle.amqp_session.specs.Linking.{AllocateLinkStep, AllocateIncomingStep, DeallocateStep, TakeAttachStep, TakeDetachStep}
 use Rattle.amqp_session.specs.Linking.{SendAttachStep, SendDetachStep}
-use Rattle.amqp_session.specs.Disposing.{TakeDispositionStep, SendDispositionStep}
+use Rattle.amqp_session.specs.Disposing.{TakeDispositionStep, SendDispositionStep, SettleStep}
 
 -- One call: its arguments, the questions to relays with their answers, and its answer; of a disposition that is sent also whether
 -- its state is terminal.
@@ -51,6 +52,7 @@ pub data Entry (R : Type 0) : Type 0 where
   SendsDetach : DetachSaid → Bool → Result (Option SessionFrame) SessionInnerError → Entry R
   SendsSessionFlow : Option SessionOutgoingItem → Entry R
   RecordsStop : SessionStopReason → Entry R
+  Settles : Role → ℕ → Option ℕ → ℕ → Entry R
 
 -- the session goes from one view to the other by this call
 abbrev pub Step : {R : Type 0} → Relays R → SessionView R → Entry R → SessionView R → Type 0
@@ -73,6 +75,7 @@ Step g v (SendsDisposition d terminal frame) w = SendDispositionStep v d termina
 Step g v (SendsDetach d expects_echo result) w = SendDetachStep v d expects_echo result w
 Step g v (SendsSessionFlow item) w = SessionFlowStep v item w
 Step g v (RecordsStop reason) w = StopStep v reason w
+Step g v (Settles role first last count) w = SettleStep v role first last count w
 
 abbrev pub Chain : {R : Type 0} → Relays R → SessionView R → List (Entry R) → SessionView R → Type 0
 Chain g v [] w = w ≡ v

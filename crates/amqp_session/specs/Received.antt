@@ -7,11 +7,11 @@ use Rattle.amqp_session.specs.declared.deliveries.Delivery.{Delivery}
 use Rattle.amqp_session.specs.declared.stop.SessionStopReason.{SessionStopReason}
 use Rattle.amqp_session.specs.declared.error.LinkRelayError.{LinkRelayError}
 use Rattle.amqp_types.specs.declared.definitions.Role.{Role}
-use Rattle.amqp_session.specs.Deliveries.{is_role}
+use Rattle.amqp_session.specs.Deliveries.{is_role, peer_role}
 use Rattle.amqp_session.specs.Disposing.{is_meant, num_messages}
 use Rattle.amqp_session.specs.Step.{named_delivery}
 use Rattle.amqp_session.specs.History.{Entry, TakesBegin, TakesFlow, TakesTransfer, TakesDisposition, SendsDisposition, SendsSessionFlow}
-use Rattle.amqp_session.specs.History.{RecordsStop}
+use Rattle.amqp_session.specs.History.{RecordsStop, Settles}
 
 -- ---- the calls since the last one of a kind
 
@@ -110,9 +110,10 @@ abbrev pub named_with : {R : Type 0} → Entry R → Option Delivery
 named_with (TakesTransfer t payload (Some q) result) = named_delivery t.handle (named_of q.answer)
 named_with e = None
 
--- whether a received disposition settles the delivery of a role and number
+-- whether a call takes away the delivery of a role and number: a received disposition that settles it, or this side's own settling
 abbrev pub takes_away : {R : Type 0} → Role → Entry R → ℕ → Bool
 takes_away role (TakesDisposition d asked (Ok None)) n = is_role role d.role && is_meant d.first d.last n
+takes_away role (Settles own first last count) n = is_role role (peer_role own) && is_meant first last n
 takes_away role e n = false
 
 -- ---- the stop reason

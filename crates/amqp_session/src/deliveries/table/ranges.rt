@@ -13,11 +13,7 @@ fn stretch(from: usize, to: usize, len: usize, passes: bool) -> usize
     requires passing { passes ≡ true → to ≤ from }
     ensures value { result ≡ if passes then (len - from) + to else to - from }
 {
-    if passes {
-        len - from + to
-    } else {
-        to - from
-    }
+    if passes { len - from + to } else { to - from }
 }
 
 impl Deliveries {

@@ -1,4 +1,3 @@
-use Rattle.std.proofs.Common.{ap, ◌∙◌, is_some}
 use Rattle.amqp_session.specs.Disposing.{is_forward, span}
 use Rattle.amqp_session.proofs.Backward.{is_backward, settles_none}
 use Rattle.amqp_session.proofs.session.Session.settle.Goals as goal

@@ -1,5 +1,4 @@
-use Rattle.std.proofs.Common.{ap, ◌∙◌, arith}
-use Rattle.amqp_session.specs.Deliveries.{cut}
+use Rattle.std.proofs.Common.{◌∙◌, arith}
 use Rattle.amqp_session.proofs.Ranges.{Ranges, ranges}
 use Rattle.amqp_session.proofs.deliveries.table.Deliveries.let_go.Goals as goal
 
