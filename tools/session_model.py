@@ -11,6 +11,9 @@ from row import ACCEPTED, LAST, RECEIVED, RELEASED, detach, disposition, echo, f
 CIRCLE, HALF = 2**32, 2**31
 ROWS, CALLS = 2000, 12
 
+# so many more rows, in which this side settles by itself too
+SETTLED_HERE = 300
+
 # input handles, and whether the link that stands under one at first asks for echoes; under 9 there is none
 HANDLES = {0: True, 4: False, 6: True}
 
@@ -100,6 +103,7 @@ class Script:
 
     def __init__(self, rows, seed):
         self.rows, self.chance, self.model = rows, Random(seed), Model()
+        self.kinds = 20 if seed < ROWS else 25
         rows.row(f"Random dispositions, {seed}")
         rows.new("Mapped")
         rows.ask("recv 7 " + flow(0, 1000), "none")
@@ -178,9 +182,18 @@ class Script:
         self.model.give(first, last, state)
         self.rows.ask("disposition " + said, "out 0 " + said)
 
+    def settled_here(self):
+        """This side settles a range by itself: those that are open are let go, and no link is asked."""
+        is_sender = self.chance.randrange(3) == 0
+        first, last = self.range()
+        gone = self.model.meant(first, last, is_sender)
+        self.model.settle(gone, is_sender)
+        role = "sender" if is_sender else "receiver"
+        self.rows.ask(f"settle {role} {first}" + ("" if last is None else f" {last}"), str(len(gone)))
+
     def call(self):
         """A call that chance chooses: more deliveries are opened than settled."""
-        kind = self.chance.randrange(20)
+        kind = self.chance.randrange(self.kinds)
         if kind < 4:
             self.sent()
         elif kind < 11:
@@ -189,8 +202,10 @@ class Script:
             self.heard(settled=kind < 13)
         elif kind == 17:
             self.detached()
-        else:
+        elif kind < 20:
             self.given()
+        else:
+            self.settled_here()
 
     def show(self):
         model = self.model
@@ -213,7 +228,7 @@ class Script:
 
 
 def write(rows):
-    for seed in range(ROWS):
+    for seed in range(ROWS + SETTLED_HERE):
         script = Script(rows, seed)
         for _ in range(CALLS):
             script.call()

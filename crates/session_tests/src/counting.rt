@@ -35,7 +35,7 @@ impl Asked {
     }
 }
 
-/// Accepts what it is told, and counts it. Its relations allow any answer.
+/// Accepts what it is told, counts it, and names each transfer that has a number and a tag. Its relations allow any answer.
 #[derive(Drop)]
 pub struct Counting<'a> {
     pub asked: &'a Asked,
@@ -66,11 +66,14 @@ impl<'a> LinkRelay for Counting<'a> {
 
     fn on_incoming_transfer(
         &mut self,
-        _transfer: Transfer,
+        transfer: Transfer,
         _payload: Bytes,
     ) -> Result<Option<(DeliveryNumber, DeliveryTag)>, LinkRelayError> {
         self.asked.others.fetch_add(1, Ordering::SeqCst);
-        Ok(None)
+        match (transfer.delivery_id, transfer.delivery_tag) {
+            (Some(number), Some(tag)) => Ok(Some((number, tag))),
+            _ => Ok(None),
+        }
     }
 
     fn on_incoming_disposition(

@@ -24,3 +24,5 @@ mod refusals;
 mod relay_answers;
 #[cfg(test)]
 mod relays;
+#[cfg(test)]
+mod settling;

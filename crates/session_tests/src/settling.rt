@@ -1,0 +1,115 @@
+//! What this side settles by itself: which open deliveries are let go, and that no relay is asked.
+
+use crate::counting::{Asked, Counting};
+use crate::link_calls::{allot_incoming, session};
+use crate::made::{grant, send, transfer};
+use amqp_session::{LinkRelay, Session, WalkCount};
+use amqp_types::{Disposition, Role};
+use bytes::Bytes;
+use std::alloc::Global;
+
+/// A mapped session with a link under input handle 0, and a window of the peer's.
+fn linked(alloc: Global, asked: &Asked) -> Session<Counting<'_>> {
+    let mut session = session(alloc);
+    let _handle = allot_incoming(alloc, &mut session, "a", Counting { asked }, 0);
+    let _granted = grant(&mut session, Some(0), 100);
+    session
+}
+
+/// A transfer of the peer with a number.
+fn receive<R: LinkRelay>(session: &mut Session<R>, number: u32) -> bool {
+    let mut coming = transfer(Some(b"y"));
+    coming.delivery_id = Some(number);
+    let payload = Bytes::from_static(b"m");
+    session.on_incoming_transfer(coming, payload).is_ok()
+}
+
+/// Transfers of the peer on both sides of the last number, and one far behind.
+fn receive_five<R: LinkRelay>(session: &mut Session<R>) -> bool {
+    receive(session, 4294967294)
+        && receive(session, 4294967295)
+        && receive(session, 0)
+        && receive(session, 1)
+        && receive(session, 5)
+}
+
+/// How much the walk of an unsettled disposition of the peer reads.
+fn walk_of<R: LinkRelay>(session: &mut Session<R>, first: u32, last: u32) -> WalkCount {
+    drop(session.on_incoming_disposition(Disposition {
+        role: Role::Sender,
+        first,
+        last: Some(last),
+        settled: false,
+        state: None,
+        batchable: false,
+    }));
+    session.last_walk()
+}
+
+#[test]
+fn what_was_received_is_let_go(rt: HostRuntime) {
+    let asked = Asked::new();
+    let mut session = linked(rt.alloc(), &asked);
+    let are_taken = receive_five(&mut session);
+    let gone = [
+        session.settle(Role::Receiver, 0, Some(2147483648)),
+        session.settle(Role::Sender, 4294967294, Some(5)),
+        session.settle(Role::Receiver, 4294967295, Some(0)),
+        session.settle(Role::Receiver, 4294967295, Some(0)),
+        session.settle(Role::Receiver, 5, None),
+        session.settle(Role::Receiver, 6, None),
+    ];
+    let open = session.open_deliveries();
+    let rest = [
+        session.settle(Role::Receiver, 4294967294, None),
+        session.settle(Role::Receiver, 0, Some(2147483647)),
+    ];
+    let at_last = session.open_deliveries();
+    drop(session);
+    assert!(rt; are_taken);
+    assert!(rt; gone == [0, 0, 2, 0, 1, 0]);
+    assert_eq!(rt; open, 2);
+    assert!(rt; rest == [1, 1]);
+    assert_eq!(rt; at_last, 0);
+    assert_eq!(rt; asked.counts(), [0, 0, 5]);
+}
+
+#[test]
+fn what_was_sent_is_let_go(rt: HostRuntime) {
+    let asked = Asked::new();
+    let mut session = linked(rt.alloc(), &asked);
+    for _ in 0..3 {
+        let _sent = send(&mut session, Some(b"y"), true);
+    }
+    let open = session.open_deliveries();
+    let gone = [
+        session.settle(Role::Receiver, 0, Some(7)),
+        session.settle(Role::Sender, 1, Some(7)),
+        session.settle(Role::Sender, 0, None),
+    ];
+    let numbers = (session.next_outgoing_id(), session.remote_incoming_window());
+    let at_last = session.open_deliveries();
+    drop(session);
+    assert_eq!(rt; open, 3);
+    assert!(rt; gone == [0, 2, 1]);
+    assert!(rt; numbers == (3, 97));
+    assert_eq!(rt; at_last, 0);
+    assert_eq!(rt; asked.counts(), [0, 0, 0]);
+}
+
+#[test]
+fn the_latest_walk_stays(rt: HostRuntime) {
+    let asked = Asked::new();
+    let mut session = linked(rt.alloc(), &asked);
+    let are_taken = receive_five(&mut session);
+    let walk = walk_of(&mut session, 0, 1);
+    let before = asked.counts();
+    let gone = session.settle(Role::Receiver, 4294967294, Some(5));
+    let after = session.last_walk();
+    drop(session);
+    assert!(rt; are_taken);
+    assert!(rt; walk.turns == 3);
+    assert_eq!(rt; gone, 5);
+    assert!(rt; walk == after);
+    assert!(rt; asked.counts() == before);
+}
