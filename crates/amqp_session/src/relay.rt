@@ -21,6 +21,10 @@ use bytes::Bytes;
 ///
 /// A relation says of each call how the relay before it, its arguments, its answer and the relay after it belong together; so a
 /// relay may have a choice. A session reserves memory for all that may follow before it asks.
+///
+/// An open delivery has a record, which stays until the peer's settled disposition names it, or until this side lets it go by
+/// `Session::settle` (AMQP 1.0 part 2, section 2.6.12). Nothing else closes one: no disposition of this side, settled or not, no
+/// echo, no detach, no End. So a session keeps the record for ever where neither comes, unless its number comes again.
 pub trait LinkRelay: Drop {
     /// What a relay may answer: for each call a relation of the relay before, the arguments, the answer and the relay after.
     ghost gives: { Relays Self };
@@ -38,7 +42,8 @@ pub trait LinkRelay: Drop {
         ensures { gives.flow_gives self.old handle flow result self.new };
 
     /// A transfer for the link, with its payload. The answer names the delivery by number and tag where it is open from
-    /// now on: until a settled disposition names it.
+    /// now on. It should name one only where the peer's settled disposition of it will come, or where this side calls
+    /// `Session::settle` for it: so none that came settled, and none that this side settles at once.
     fn on_incoming_transfer(
         &mut self,
         transfer: Transfer,
@@ -46,7 +51,9 @@ pub trait LinkRelay: Drop {
     ) -> Result<Option<(DeliveryNumber, DeliveryTag)>, LinkRelayError>
         ensures { gives.transfer_gives self.old transfer payload result self.new };
 
-    /// A disposition of the delivery with this tag. The answer says whether a settled one is to be sent back.
+    /// A disposition of the delivery with this tag. The answer says whether a settled one is to be sent back. A settled one takes
+    /// the delivery away, whatever the answer. An unsettled one leaves it open, also where one is sent back: if the peer settles
+    /// no more then, this side calls `Session::settle` for it.
     fn on_incoming_disposition(
         &mut self,
         role: Role,

@@ -9,15 +9,15 @@ use crate::relay::LinkRelay;
 use amqp_types::{DeliveryNumber, Role};
 
 impl<R: LinkRelay> Session<R> {
-    /// Lets open deliveries go that this side settles by itself, and answers how many they were: of those that it received, where
-    /// its `role` is `Receiver`, and else of those that it sent. So it is the role of a disposition that this side sends.
+    /// Lets open deliveries go that this side settles by itself, and answers how many they were. `role` is this side's role in
+    /// them, as in a disposition that it sends: `Receiver` means those that it received, and `Sender` those that it sent.
     ///
     /// It means the open ones from `first` to `last`, or `first` alone where no last is named. The numbers are serial numbers, so a
     /// range may pass 4294967295; one over half of the circle or more is backward, and means none: the answer is 0 then.
     ///
-    /// No state refuses it. It takes no memory, asks no relay and makes no frame: a settled disposition for the peer is sent by
-    /// [`Session::on_outgoing_disposition`]. Its time grows with the digits of how many are open, and with the records that go or
-    /// are moved.
+    /// It is taken in every state, never fails, and takes no memory. No relay is asked and no frame made: the peer is told by
+    /// [`Session::on_outgoing_disposition`], which leaves the deliveries open. However wide the range is, it costs two binary
+    /// searches and one cut of the table, and [`Session::last_walk`] stays.
     pub fn settle(
         &mut self,
         role: Role,
