@@ -1,39 +1,57 @@
 -- Runs that grow at their end.
-use Rattle.std.proofs.Common.{◌≡◌, ℕ, suc, zero, ◌<◌, ◌≤◌, ◌+◌, ◌-◌, ◌%◌, ◌^◌, ◌||◌, ◌&&◌, List, [], ◌∷◌, ◌++◌, length, refl, ap, sym, ◌∙◌, arith, cond, Bool, true, false, inl, inr, nat_eq, nat_le, slice_index_or, slice_set, slice_get, Some, unwrap_or}
+use Rattle.std.proofs.Common.{◌≡◌, ℕ, suc, zero, ◌<◌, ◌≤◌, ◌+◌, ◌-◌, ◌%◌, ◌^◌, ◌||◌, ◌&&◌, List, [], ◌∷◌, ◌++◌, length, refl, ap, sym, ◌∙◌, arith, cond, Bool, true, false, inl, inr, nat_eq, nat_le, slice_index_or, slice_set, slice_get, Option, Some, None, unwrap_or, map, ◌*◌}
 use Rattle.std.specs.List.{list_any}
+use Rattle.std.proofs.lemmas.List.{length-map, map-append}
 use Rattle.std.proofs.lemmas.Bool.{cases_order}
 use Rattle.std.proofs.lemmas.Bool.Decides.{nat_tests}
 use Rattle.std.proofs.lemmas.Grind.{common_steps}
-use Rattle.amqp_session.specs.declared.session.runs.Run.{Run}
-use Rattle.amqp_session.specs.Runs.{goes_on, longer, extended}
-use Rattle.amqp_session.specs.Disposing.{distance, is_in, AreApart, AreRuns}
+use Rattle.amqp_types.specs.Disposition.{DispositionSaid}
+use Rattle.amqp_session.specs.Runs.{Run, goes_on, longer, extended}
+use Rattle.amqp_session.specs.Disposing.{distance, echo_of, is_in, AreApart, AreRuns}
 
 -- ---- the last run
 
-pub last_goes_on : (runs : List Run) (n k : ℕ) (x : Run) → length runs ≡ suc k → Some x ≡ slice_get runs k →
-    nat_eq ((x.last + 1) % 2 ^ 32) n ≡ goes_on n runs
+-- the answers for these runs, without a state
+abbrev unsaid : List Run → List DispositionSaid
+unsaid runs = map (echo_of None) runs
+
+last_goes_on : (runs : List Run) (n k : ℕ) (x : DispositionSaid) → length runs ≡ suc k → Some x ≡ slice_get (unsaid runs) k →
+    nat_eq ((unwrap_or x.last x.first + 1) % 2 ^ 32) n ≡ goes_on n runs
 last_goes_on [] n k x len at = absurd (omega (arith, len))
-last_goes_on (r ∷ []) n zero x len at = ap (λ o. nat_eq (((unwrap_or o x).last + 1) % 2 ^ 32) n) at
+last_goes_on (r ∷ []) n zero x len at = ap (λ o. let y : DispositionSaid = unwrap_or o x in nat_eq ((unwrap_or y.last y.first + 1) % 2 ^ 32) n) at
 last_goes_on (r ∷ []) n (suc k) x len at = absurd (omega (arith, len))
 last_goes_on (r ∷ s ∷ rs) n zero x len at = absurd (omega (arith, len))
 last_goes_on (r ∷ s ∷ rs) n (suc k) x len at = last_goes_on (s ∷ rs) n k x (omega (arith, len)) at
 
-pub last_longer : (runs : List Run) (n k : ℕ) (x : Run) → length runs ≡ suc k → x ≡ slice_index_or runs k x →
-    longer n runs ≡ slice_set runs k (record { first = x.first; last = n })
+pub last_longer : (runs : List Run) (n k : ℕ) (x : DispositionSaid) → length runs ≡ suc k → x ≡ slice_index_or (unsaid runs) k x →
+    unsaid (longer n runs) ≡ slice_set (unsaid runs) k (echo_of None (record { first = x.first; last = n }))
 last_longer [] n k x len at = absurd (omega (arith, len))
-last_longer (r ∷ []) n zero x len at = ap (λ (y : Run). record { first = y.first; last = n } ∷ []) (sym at)
+last_longer (r ∷ []) n zero x len at = ap (λ (y : DispositionSaid). echo_of None (record { first = y.first; last = n }) ∷ []) (sym at)
 last_longer (r ∷ []) n (suc k) x len at = absurd (omega (arith, len))
 last_longer (r ∷ s ∷ rs) n zero x len at = absurd (omega (arith, len))
-last_longer (r ∷ s ∷ rs) n (suc k) x len at = ap (λ ys. r ∷ ys) (last_longer (s ∷ rs) n k x (omega (arith, len)) at)
+last_longer (r ∷ s ∷ rs) n (suc k) x len at = ap (λ ys. echo_of None r ∷ ys) (last_longer (s ∷ rs) n k x (omega (arith, len)) at)
 
 pub has_last : (runs : List Run) (n : ℕ) → true ≡ goes_on n runs → 0 < length runs
 has_last [] n e = absurd (cc)
 has_last (r ∷ rs) n e = omega arith
 
-pub read_last : (runs : List Run) (n : ℕ) (x : Run) → Some x ≡ slice_get runs (length runs - 1) →
-    nat_eq ((x.last + 1) % 2 ^ 32) n ≡ goes_on n runs
+pub read_last : (runs : List Run) (n : ℕ) (x : DispositionSaid) → Some x ≡ slice_get (unsaid runs) (length (unsaid runs) - 1) →
+    nat_eq ((unwrap_or x.last x.first + 1) % 2 ^ 32) n ≡ goes_on n runs
 read_last [] n x at = absurd (cc)
-read_last (r ∷ rs) n x at = last_goes_on (r ∷ rs) n (length rs) x refl (at ∙ ap (slice_get (r ∷ rs)) (omega arith))
+read_last (r ∷ rs) n x at =
+    let len : length (map (echo_of None) rs) ≡ length rs = length-map rs (echo_of None) in
+    last_goes_on (r ∷ rs) n (length rs) x refl (at ∙ ap (slice_get (unsaid (r ∷ rs))) (omega (arith, len)))
+
+-- a number behind the last run that does not go on with it begins one of its own
+pub one_behind : (runs : List Run) (n : ℕ) → goes_on n runs ≡ false → unsaid (extended n runs) ≡ unsaid runs ++ echo_of None (record { first = n; last = n }) ∷ []
+one_behind runs n e =
+    let own : Run = record { first = n; last = n } in
+    ap (λ b. unsaid (cond b (longer n runs) (runs ++ own ∷ []))) e ∙ map-append (echo_of None) runs (own ∷ [])
+
+-- each with this state
+pub stated : (s : Option (List ℕ)) (runs : List Run) → map (λ (d : DispositionSaid). let x : DispositionSaid = record d { state = s } in x) (unsaid runs) ≡ map (echo_of s) runs
+stated s [] = refl
+stated s (r ∷ rs) = ap (λ xs. echo_of s r ∷ xs) (stated s rs)
 
 -- ---- distances
 
@@ -111,6 +129,11 @@ one_alone a x =
     ]
 
 -- ---- runs with a number more
+
+-- the first run begins at k or farther
+abbrev pub StartBehind : ℕ → ℕ → List Run → Type 0
+StartBehind first k [] = Unit {0}
+StartBehind first k (r ∷ rs) = k ≤ distance first r.first
 
 -- all runs end nearer than k
 abbrev pub EndBefore : ℕ → ℕ → List Run → Type 0
@@ -204,6 +227,25 @@ module _ (first n : ℕ) (hf : first < 2 ^ 32) (hn : n < 2 ^ 32) where
       by : (b : Bool) → EndBefore first (distance first n + 1) (cond b (longer n runs) (runs ++ record { first = n; last = n } ∷ []))
       by true = longer_ends runs e
       by false = more_ends runs e
+
+-- runs have a missing number between them
+few_from : (first n k : ℕ) (runs : List Run) → first < 2 ^ 32 → n < 2 ^ 32 → goes_on n runs ≡ false → EndBefore first (distance first n) runs →
+    AreApart first runs → k ≤ distance first n → StartBehind first k runs → k + 2 * length runs ≤ distance first n
+few_from first n k [] hf hn t e a h s = omega (arith, h)
+few_from first n k (r ∷ []) hf hn t e a h s =
+    let gap = dist_gap first r.last n hf a.1 hn e.0 (λ same. absurd (let v : nat_eq ((r.last + 1) % 2 ^ 32) n ≡ true = grind (arith, nat_tests, common_steps) in cc)) in
+    omega (arith, gap, s, a.2)
+few_from first n k (r ∷ q ∷ rs) hf hn t e a h s =
+    let rest = few_from first n (k + 2) (q ∷ rs) hf hn t e.1 a.4 (omega (arith, s, a.2, a.3, a.4.2, e.1.0)) (omega (arith, s, a.2, a.3)) in
+    omega (arith, rest)
+
+-- so they are at most half as many as the numbers up to the one behind them
+pub few_runs : (first n : ℕ) (runs : List Run) → first < 2 ^ 32 → n < 2 ^ 32 → goes_on n runs ≡ false → EndBefore first (distance first n) runs →
+    AreApart first runs → 2 * length runs ≤ distance first n
+few_runs first n [] hf hn t e a = omega arith
+few_runs first n (r ∷ rs) hf hn t e a =
+    let from = few_from first n 0 (r ∷ rs) hf hn t e a (omega arith) (omega arith) in
+    omega (arith, from)
 
 -- where there is a run, there is a number
 pub some_number : (first : ℕ) (numbers : List ℕ) (runs : List Run) → AreRuns first numbers runs → 0 < length runs → 0 < length numbers

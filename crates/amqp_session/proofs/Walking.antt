@@ -8,8 +8,7 @@ use Rattle.std.proofs.lemmas.List.{take_more, drop_more, drop_all, get_or-drop, 
 use Rattle.std.proofs.lemmas.Option.{get_or_from_slice_get}
 use Rattle.amqp_types.specs.Disposition.{DispositionSaid}
 use Rattle.amqp_session.specs.declared.deliveries.Delivery.{Delivery}
-use Rattle.amqp_session.specs.declared.session.runs.Run.{Run}
-use Rattle.amqp_session.specs.Runs.{extended}
+use Rattle.amqp_session.specs.Runs.{Run, extended}
 use Rattle.amqp_session.specs.Relay.{DispositionGives, DispositionQuestion}
 use Rattle.amqp_session.specs.Links.{LinksView}
 use Rattle.amqp_session.specs.Deliveries.{Above, Under, IsRising, IsTable, number_at}

@@ -10,7 +10,7 @@ use Rattle.amqp_types.specs.declared.definitions.Role.{Role}
 use Rattle.amqp_types.specs.declared.definitions.Role.TheVariants.{Sender}
 use Rattle.amqp_session.specs.declared.deliveries.Delivery.{Delivery}
 use Rattle.amqp_session.specs.declared.deliveries.WalkCount.{WalkCount}
-use Rattle.amqp_session.specs.declared.session.runs.Run.{Run}
+use Rattle.amqp_session.specs.Runs.{Run}
 use Rattle.amqp_session.specs.declared.frame.SessionFrame.{SessionFrame}
 use Rattle.amqp_session.specs.declared.frame.SessionFrameBody.TheVariants as Body
 use Rattle.amqp_session.specs.declared.session.receiving.Receiving.{Receiving}

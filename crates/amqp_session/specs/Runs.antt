@@ -1,6 +1,10 @@
 -- How runs of numbers grow at their end.
 use Rattle.std.specs.Prelude.{ℕ, ◌+◌, ◌%◌, ◌^◌, Bool, false, List, [], ◌∷◌, ◌++◌, if◌then◌else◌, nat_eq}
-use Rattle.amqp_session.specs.declared.session.runs.Run.{Run}
+
+-- A run of numbers, from its first to its last, modulo 2^32.
+pub record Run : Type 0 where
+  pub first : ℕ
+  pub last : ℕ
 
 -- whether a number is the one behind the last run
 abbrev pub goes_on : ℕ → List Run → Bool

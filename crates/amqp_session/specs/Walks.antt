@@ -5,8 +5,7 @@ use Rattle.amqp_types.specs.Disposition.{DispositionSaid}
 use Rattle.amqp_session.specs.declared.deliveries.Delivery.{Delivery}
 use Rattle.amqp_session.specs.Relay.{DispositionQuestion}
 use Rattle.amqp_session.specs.declared.deliveries.WalkCount.{WalkCount}
-use Rattle.amqp_session.specs.declared.session.runs.Run.{Run}
-use Rattle.amqp_session.specs.Runs.{extended}
+use Rattle.amqp_session.specs.Runs.{Run, extended}
 use Rattle.amqp_session.specs.Disposing.{is_meant, meant, agreed}
 
 -- the place of the table that is this far behind another, where the front is behind the end

@@ -13,7 +13,7 @@ mod incoming;
 mod links;
 mod outgoing;
 pub mod receiving;
-pub mod runs;
+mod runs;
 mod settling;
 mod shown;
 pub(crate) mod transfers;

@@ -9,7 +9,7 @@ ghost use Rattle.amqp_session.specs.Walks.{IsWalked};
 ghost use Rattle.amqp_session.specs.Disposing.{span, is_forward, num_messages, meant, not_meant, agreed, AsksEach, AreRuns, SaysStateAgain, Echoes, echo_of, rows_of, IsBounded, HasTerminal, TakeDispositionStep, SendDispositionStep};
 
 use super::Session;
-use super::runs::Run;
+use super::runs::with_state;
 use super::walk::ask_each;
 use crate::deliveries::{Deliveries, WalkCount};
 use crate::error::SessionInnerError;
@@ -185,10 +185,10 @@ fn settle<R: LinkRelay>(
     ensures walk { IsWalked said.now rows.old.rows true walk.new }
     ensures reads { rows.new.reads ≡ risen walk.new rows.old.reads }
 {
-    let mut runs = Vec::new(alloc);
+    let mut no_echoes = Vec::new(alloc);
     let before = rows.reads();
     let from = rows.place_of(said.first);
-    let count = ask_each(links, rows, said, from, &mut runs);
+    let count = ask_each(links, rows, said, from, &mut no_echoes);
     *walk = rows.reads().since(before);
     rows.remove(from, count);
 }
@@ -216,49 +216,11 @@ fn ask<R: LinkRelay>(
     ensures reads { rows.new.reads ≡ risen walk.new rows.old.reads }
 {
     let span = said.last.unwrap_or(said.first).wrapping_sub(said.first);
-    let most = rows.len().min(span as usize + 1);
-    let mut runs = Vec::with_capacity(alloc, most)?;
-    let echoes = Vec::with_capacity(alloc, most)?;
+    let most = rows.len().min(span as usize / 2 + 1);
+    let mut echoes = Vec::with_capacity(alloc, most)?;
     let before = rows.reads();
     let from = rows.place_of(said.first);
-    ask_each(links, rows, said, from, &mut runs);
+    ask_each(links, rows, said, from, &mut echoes);
     *walk = rows.reads().since(before);
-    echo_all(&runs, &said.state, echoes)
-}
-
-/// The echoes of these runs, each with the state. Their room was made before.
-fn echo_all(
-    runs: &[Run],
-    state: &Option<Raw>,
-    room: Vec<Disposition>,
-) -> Result<Vec<Disposition>, AllocError>
-    requires empty { room.items ≡ [] }
-    requires room { length runs.now ≤ vec_capacity room }
-    ensures echoes { IfOk result (λ echoes. echoes.items ≡ map (echo_of state.now) runs.now) }
-    ensures refused { OnErr result (IsSome state.now × (0 < length runs.now)) }
-{
-    let mut echoes = room;
-    for i in 0..runs.len() {
-        let run = runs[i];
-        echoes.push_reserved(Disposition {
-            role: Role::Sender,
-            first: run.first,
-            last: Some(run.last),
-            settled: true,
-            state: cut_of(state)?,
-            batchable: false,
-        });
-    }
-    Ok(echoes)
-}
-
-/// Another cut of the same state: its bytes are shared.
-fn cut_of(state: &Option<Raw>) -> Result<Option<Raw>, AllocError>
-    ensures cut { IfOk result (λ s. s ≡ state.now) }
-    ensures refused { OnErr result (IsSome state.now) }
-{
-    match state {
-        None => Ok(None),
-        Some(state) => Ok(Some(state.clone()?)),
-    }
+    with_state(echoes, &said.state)
 }

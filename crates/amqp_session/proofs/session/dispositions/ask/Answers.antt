@@ -1,4 +1,5 @@
-use Rattle.std.proofs.Common.{◌≡◌, ◌<◌, ◌≤◌, ◌+◌, ◌-◌, ◌%◌, ◌^◌, min, vec_capacity, List, length, arith, sym, IsSome, inr, true, refl, ap, subst, ◌∙◌, Result, Ok, Err, IfOk, OnOk, OnErr, map}
+use Rattle.std.proofs.Common.{None, ◌/◌, ◌≡◌, ◌<◌, ◌≤◌, ◌+◌, ◌-◌, ◌%◌, ◌^◌, min, vec_capacity, List, length, arith, sym, IsSome, inr, true, refl, ap, subst, ◌∙◌, Result, Ok, Err, IfOk, OnOk, OnErr, map}
+use Rattle.std.proofs.lemmas.List.{length-map}
 use Rattle.amqp_types.specs.Disposition.{DispositionSaid}
 use Rattle.amqp_session.specs.declared.deliveries.Delivery.{Delivery}
 use Rattle.amqp_session.specs.declared.deliveries.WalkCount.{WalkCount}
@@ -35,8 +36,8 @@ pub ask_each-requires-clause-room : goal.ask_each-requires-clause-room
 ask_each-requires-clause-room g c = λ settled.
     let same = compared_rows c.args.rows.now c.place_of-from.new.self c.place_of-from.ensures.cost.0 c.place_of-from.ensures.cost.1 in
     let size : (c.unwrap_or.result + (2 ^ 32 - c.said.inside.first)) % 2 ^ 32 ≡ span c.args.said.now.first c.args.said.now.last = ap (λ n. (n + (2 ^ 32 - c.said.inside.first)) % 2 ^ 32) c.unwrap_or.ensures ∙ ap (λ (y : DispositionSaid). span y.first y.last) c.said.view_is in
-    let room : min (length c.args.rows.now.rows) (span c.args.said.now.first c.args.said.now.last + 1) ≤ vec_capacity c.in_ok-runs.runs = omega (arith, size, c.len.ensures.len, c.min-most.ensures, c.in_ok-runs.ensures.capacity) in
-    subst (λ (rows : List Delivery). min (length rows) (span c.args.said.now.first c.args.said.now.last + 1) ≤ vec_capacity c.in_ok-runs.runs) (sym same) room
+    let room : min (length c.args.rows.now.rows) (span c.args.said.now.first c.args.said.now.last / 2 + 1) ≤ vec_capacity c.in_ok-echoes.echoes = omega (arith, size, c.len.ensures.len, c.min-most.ensures, c.in_ok-echoes.ensures.capacity) in
+    subst (λ (rows : List Delivery). min (length rows) (span c.args.said.now.first c.args.said.now.last / 2 + 1) ≤ vec_capacity c.in_ok-echoes.echoes) (sym same) room
 
 pub returns-clause-asked : goal.returns-clause-asked
 returns-clause-asked g c =
@@ -47,9 +48,9 @@ returns-clause-asked g c =
     let split = subst (λ (rows : List Delivery). IsSplit c.args.said.now (turned c.place_of-from.result rows) c.ask_each.result) same c.ask_each.ensures.split in
     let are = split_meant c.args.said.now c.args.rows.now.rows c.place_of-from.result c.ask_each.result order split in
     let a = c.ask_each.ensures.asked in
-    let runs = subst (λ b. AreRuns c.args.said.now.first (noted b a.0) c.ask_each.new.runs.items) c.requires.settled a.2 in
+    let runs = subst (λ b. AreRuns c.args.said.now.first (noted b a.0) a.2) c.requires.settled a.3 in
     let state = ap (λ (y : DispositionSaid). y.state) c.said.view_is in
-    if_ok c.echo_all.result (λ echoes e. (a.0, rw (are, ← same) a.1, record { runs = c.ask_each.new.runs.items; are_runs = runs; are_said = e ∙ ap (map (echo_of c.said.inside.state)) c.deref.ensures.value ∙ ap (λ s. map (echo_of s) c.ask_each.new.runs.items) state })) c.echo_all.ensures.echoes
+    if_ok c.with_state.result (λ echoes e. (a.0, rw (are, ← same) a.1, record { runs = a.2; are_runs = runs; are_said = e a.2 a.4 ∙ ap (λ s. map (echo_of s) a.2) state })) c.with_state.ensures.echoes
 
 pub returns-clause-refused : goal.returns-clause-refused
 returns-clause-refused g c =
@@ -60,10 +61,11 @@ returns-clause-refused g c =
     let split = subst (λ (rows : List Delivery). IsSplit c.args.said.now (turned c.place_of-from.result rows) c.ask_each.result) same c.ask_each.ensures.split in
     let are = split_meant c.args.said.now c.args.rows.now.rows c.place_of-from.result c.ask_each.result order split in
     let a = c.ask_each.ensures.asked in
-    let runs = subst (λ b. AreRuns c.args.said.now.first (noted b a.0) c.ask_each.new.runs.items) c.requires.settled a.2 in
-    let some = some_number c.args.said.now.first (agreed a.0) c.ask_each.new.runs.items runs in
+    let runs = subst (λ b. AreRuns c.args.said.now.first (noted b a.0) a.2) c.requires.settled a.3 in
+    let some = some_number c.args.said.now.first (agreed a.0) a.2 runs in
+    let len = ap length a.4 ∙ length-map a.2 (echo_of None) in
     let state = ap (λ (y : DispositionSaid). y.state) c.said.view_is in
-    on_err c.echo_all.result (λ e. inr (a.0, (subst IsSome state e.0, some (subst (λ rs. 0 < length rs) c.deref.ensures.value e.1)), rw (are, ← same) a.1)) c.echo_all.ensures.refused
+    on_err c.with_state.result (λ e. inr (a.0, (subst IsSome state e.0, some (omega (arith, len, e.1))), rw (are, ← same) a.1)) c.with_state.ensures.refused
 
 pub returns-clause-rows : goal.returns-clause-rows
 returns-clause-rows g c =
@@ -84,7 +86,7 @@ returns-clause-walk g c =
     let little = few p.cost.0 (length c.args.rows.now.rows) (omega (arith, p.few)) p.cost.2 in
     let is = since_is c.since.result c.args.rows.now c.place_of-from.new.self c.ask_each.new.rows c.reads.result c.reads-before.result p.cost.0 e.read.0 c.since.ensures p.cost.1 e.read.3 c.reads.ensures c.reads-before.ensures (omega (arith, e.read.1, within, p.few)) (omega (arith, little)) in (
       true,
-      on_ok c.echo_all.result refl,
+      on_ok c.with_state.result refl,
       subst (λ (w : WalkCount). IsWalked c.args.said.now c.args.rows.now.rows true w) (sym is)
           (walked c.args.said.now c.args.rows.now.rows c.place_of-from.result c.ask_each.result e.read.0 p.cost.0 p.within within order split e.read.1 e.read.2 p.cost.2),
     )

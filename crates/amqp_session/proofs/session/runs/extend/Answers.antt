@@ -1,14 +1,32 @@
-use Rattle.std.proofs.Common.{rules, ◌≡◌, ◌-◌, suc, arith, cond, true, vec_len, length, ap, sym, ◌∙◌, ◌++◌, ◌∷◌, []}
-use Rattle.amqp_session.specs.Runs.{goes_on, longer}
-use Rattle.amqp_session.proofs.RunsGrow.{last_longer, has_last}
+use Rattle.std.proofs.Common.{rules, ◌≡◌, ◌-◌, ℕ, List, suc, arith, cond, vec_len, length, ap, sym, ◌∙◌, ◌++◌, ◌∷◌, [], None, map, slice_index_or, slice_set}
+use Rattle.std.proofs.lemmas.List.{length-map}
+use Rattle.amqp_types.specs.Disposition.{DispositionSaid}
+use Rattle.amqp_session.specs.Runs.{Run, longer}
+use Rattle.amqp_session.specs.Disposing.{echo_of}
+use Rattle.amqp_session.proofs.RunsGrow.{last_longer, has_last, one_behind}
 use Rattle.amqp_session.proofs.session.runs.extend.Goals as goal
 
 pub returns-then-goes_on-clause-items : goal.returns-then-goes_on-clause-items
-returns-then-goes_on-clause-items c =
-    let items = c.args.runs.now.items in
-    let len : vec_len c.args.runs.now ≡ length items = search rules in
-    let goes : true ≡ goes_on c.args.number items = rw (← c.deref.ensures.value) c.if-goes_on.ensures in
-    let some = has_last items c.args.number goes in
-    let k : length items ≡ suc (c.len-last.result - 1) = omega (arith, len, some, c.len-last.ensures) in
-    sym (last_longer items c.args.number (c.len-last.result - 1) c.index.result.now k c.index.ensures)
-    ∙ ap (λ b. cond b (longer c.args.number items) (items ++ record { first = c.args.number; last = c.args.number } ∷ [])) goes
+returns-then-goes_on-clause-items c = λ runs e.
+    let items = c.args.echoes.now.items in
+    let n : ℕ = c.args.number in
+    let k : ℕ = c.len-last.result - 1 in
+    let x : DispositionSaid = c.index.result.now in
+    let goes = c.if-goes_on.ensures runs (c.deref.ensures.value ∙ e) in
+    let some = has_last runs n goes in
+    let vec : vec_len c.args.echoes.now ≡ length items = search rules in
+    let len : length runs ≡ suc k = omega (arith, vec, some, c.len-last.ensures, ap length e, length-map runs (echo_of None)) in
+    let at : x ≡ slice_index_or (map (echo_of None) runs) k x = c.index.ensures ∙ ap (λ (xs : List DispositionSaid). slice_index_or xs k x) e in
+    let first = ap (λ (y : DispositionSaid). y.first) c.behind-echoes.view_is in
+    let own : Run = record { first = n; last = n } in
+    ap (slice_set items k) (c.echo.ensures ∙ ap (λ (f : ℕ). echo_of None (record { first = f; last = n })) first)
+    ∙ ap (λ (xs : List DispositionSaid). slice_set xs k (echo_of None (record { first = x.first; last = n }))) e
+    ∙ sym (last_longer runs n k x len at)
+    ∙ ap (λ b. map (echo_of None) (cond b (longer n runs) (runs ++ own ∷ []))) goes
+
+pub returns-else-goes_on-clause-items : goal.returns-else-goes_on-clause-items
+returns-else-goes_on-clause-items c = λ runs e.
+    let own : Run = record { first = c.args.number; last = c.args.number } in
+    c.push_reserved.ensures.items ∙ ap (λ (y : DispositionSaid). c.args.echoes.now.items ++ y ∷ []) c.echo-else-goes_on.ensures
+    ∙ ap (λ (xs : List DispositionSaid). xs ++ echo_of None own ∷ []) e
+    ∙ sym (one_behind runs c.args.number (sym (c.if-goes_on.ensures runs (c.deref.ensures.value ∙ e))))

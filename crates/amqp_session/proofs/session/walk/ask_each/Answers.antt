@@ -1,20 +1,20 @@
-use Rattle.std.proofs.Common.{◌≡◌, ◌≤◌, ◌<◌, ◌+◌, ◌-◌, ◌%◌, ◌^◌, [], List, length, take, Some, refl, ap, sym, subst, ◌∙◌, arith, slice_get}
+use Rattle.std.proofs.Common.{rules, map, None, vec_len, ◌≡◌, ◌≤◌, ◌<◌, ◌+◌, ◌-◌, ◌%◌, ◌^◌, [], List, length, take, Some, refl, ap, sym, subst, ◌∙◌, arith, slice_get}
+use Rattle.std.proofs.lemmas.List.{length-map}
 use Rattle.amqp_types.specs.Disposition.{DispositionSaid}
 use Rattle.amqp_session.specs.declared.deliveries.Delivery.{Delivery}
-use Rattle.amqp_session.specs.Disposing.{distance, span, AsksEach, AreRuns, has_agreed}
+use Rattle.amqp_session.specs.Disposing.{distance, span, echo_of, AsksEach, has_agreed}
 use Rattle.amqp_session.specs.Walks.{around, turned, noted, noted_by, EachMeant}
 use Rattle.amqp_session.proofs.Counting.{not_stepped, stepped_more, stepped_rows}
-use Rattle.amqp_session.proofs.RunsGrow.{EndBefore, end_later}
+use Rattle.amqp_session.proofs.RunsGrow.{end_later, few_runs}
 use Rattle.amqp_session.proofs.Walking.{reads, reach, reach_more, each_more, meant_is, stops_at, stops_end, turned_length, asks_more, noted_more, nothing_noted}
 use Rattle.amqp_session.proofs.session.walk.ask_each.Goals as goal
 
 pub loop-count-init : goal.loop-count-init
 loop-count-init g c = record {
-  asked = ([], (refl, refl), rw c.requires.no_runs (nothing_noted g.row.R.Denot c.args.said.now.first c.args.said.now.settled));
-  ends = rw c.requires.no_runs tt;
+  asked = ([], (refl, refl), [], nothing_noted g.row.R.Denot c.args.said.now.first c.args.said.now.settled, c.requires.no_echoes, tt);
   near = tt;
   counted = not_stepped c.args.rows.now c.len-len.ensures.turns;
-  few = let e = ap length c.requires.no_runs in omega (arith, e);
+  few = let e = ap length c.requires.no_echoes in omega (arith, e);
   room = refl;
 }
 
@@ -32,7 +32,7 @@ returns-then-span-number-clause-split g c =
     stops_at d _ _ _ c.requires.forward s far c.loop-count.invariant.near
 
 pub returns-then-span-number-clause-asked : goal.returns-then-span-number-clause-asked
-returns-then-span-number-clause-asked g c = c.loop-count.invariant.asked
+returns-then-span-number-clause-asked g c = let a = c.loop-count.invariant.asked in (a.0, a.1, a.2, a.3, a.4)
 
 pub returns-then-span-number-clause-read : goal.returns-then-span-number-clause-read
 returns-then-span-number-clause-read g c =
@@ -49,8 +49,15 @@ note-requires g c settled =
     let at : slice_get c.args.rows.now.rows (around c.args.from c.loop-count.count (length c.args.rows.now.rows)) ≡ Some c.delivery-delivery.result.now = rw (← c.len-len.ensures.len, ← c.around.ensures.value, ← same) c.delivery-delivery.ensures.value in
     let s = reads d c.args.rows.now.rows c.args.from c.loop-count.count c.delivery-delivery.result.now hf c.len-len.ensures.table c.requires.from c.requires.order lt at in
     let near : distance d.first c.delivery-delivery.result.now.number ≤ span d.first d.last = rw (← size, ← first) c.if-span-number.false in
+    let v = c.loop-count.invariant in
+    let a = v.asked in
+    let hn : c.delivery-delivery.result.now.number < 2 ^ 32 = omega arith in
+    let behind = end_later d.first _ (distance d.first c.delivery-delivery.result.now.number) a.2 s.near a.5 in
+    let vec : vec_len c.loop-count.echoes ≡ length c.loop-count.echoes.items = search rules in
+    let len : vec_len c.loop-count.echoes ≡ length a.2 = vec ∙ ap length a.4 ∙ length-map a.2 (echo_of None) in
     let room = c.requires.room (ap (λ (y : DispositionSaid). y.settled) (sym c.said.view_is) ∙ settled) in
-    omega (arith, room, near, s.near, s.few, lt, c.loop-count.invariant.few, c.loop-count.invariant.room)
+    (a.2, a.4, λ own. let half = few_runs d.first c.delivery-delivery.result.now.number a.2 hf hn own behind a.3.apart in
+    omega (arith, room, near, half, len, lt, v.few, v.room))
 
 pub loop-count-preserved : goal.loop-count-preserved
 loop-count-preserved g c =
@@ -70,13 +77,12 @@ loop-count-preserved g c =
     let near : distance d.first x.number ≤ span d.first d.last = rw (← size, ← first) c.if-span-number.false in
     let q = c.ask_disposition-answer.ensures in
     let more = asks_more g.R.LinkRelay.gives.disposition_gives d (take k order) x v.asked.0 q.0 _ _ _ v.asked.1 q.1 in
-    let behind = end_later d.first (reach d.first 0 (take k order)) (distance d.first x.number) c.loop-count.runs.items s.near v.ends in
-    let runs = noted_more d.first x.number d.settled (has_agreed q.0) v.asked.0 more.0 c.loop-count.runs.items hf hn more.2 behind v.asked.2 in
-    let items : c.note.new.runs.items ≡ noted_by d.settled (has_agreed q.0) x.number c.loop-count.runs.items =
-    c.note.ensures.items ∙ ap (λ b. noted_by b c.ask_disposition-answer.result x.number c.loop-count.runs.items) (ap (λ (y : DispositionSaid). y.settled) c.said.view_is) ∙ ap (λ b. noted_by d.settled b x.number c.loop-count.runs.items) q.2 in
+    let old = v.asked.2 in
+    let behind = end_later d.first (reach d.first 0 (take k order)) (distance d.first x.number) old s.near v.asked.5 in
+    let runs = noted_more d.first x.number d.settled (has_agreed q.0) v.asked.0 more.0 old hf hn more.2 behind v.asked.3 in
+    let items = c.note.ensures.items old v.asked.4 ∙ ap (λ b. map (echo_of None) (noted_by b c.ask_disposition-answer.result x.number old)) (ap (λ (y : DispositionSaid). y.settled) c.said.view_is) ∙ ap (λ b. map (echo_of None) (noted_by d.settled b x.number old)) q.2 in
     record {
-      asked = (more.0, rw s.grow more.1, subst (AreRuns d.first (noted d.settled more.0)) (sym items) runs.0);
-      ends = rw (s.grow, reach_more d.first 0 (take k order) x) (subst (EndBefore d.first (distance d.first x.number + 1)) (sym items) runs.1);
+      asked = (more.0, rw s.grow more.1, noted_by d.settled (has_agreed q.0) x.number old, runs.0, items, rw (s.grow, reach_more d.first 0 (take k order) x) runs.1);
       near = rw s.grow (each_more d _ (take k order) x v.near (meant_is d x.number c.requires.forward near));
       counted = stepped_more c.args.rows.now c.loop-count.rows c.delivery-delivery.follows.lender-at-none k v.counted c.delivery-delivery.follows.holds-at-none;
       few = omega (arith, v.few, c.note.ensures.len);
@@ -93,15 +99,9 @@ pub returns-clause-asked : goal.returns-clause-asked
 returns-clause-asked g c =
     let end : c.loop-count.count ≡ c.len-len.result = omega (arith, c.loop-count.auto.count-end) in
     let a = c.loop-count.invariant.asked in
-    (a.0, subst (λ n. AsksEach g.R.LinkRelay.gives.disposition_gives c.args.said.now (take n (turned c.args.from c.args.rows.now.rows)) a.0 c.args.links.now c.loop-count.links) end a.1, a.2)
+    (a.0, subst (λ n. AsksEach g.R.LinkRelay.gives.disposition_gives c.args.said.now (take n (turned c.args.from c.args.rows.now.rows)) a.0 c.args.links.now c.loop-count.links) end a.1, a.2, a.3, a.4)
 
 pub returns-clause-read : goal.returns-clause-read
 returns-clause-read g c =
     let end : c.loop-count.count ≡ c.len-len.result = omega (arith, c.loop-count.auto.count-end) in
     (c.loop-count.count, omega (arith, end), omega (arith, end), c.loop-count.invariant.counted)
-
-pub returns-then-span-number-clause-room : goal.returns-then-span-number-clause-room
-returns-then-span-number-clause-room g c = c.loop-count.invariant.room
-
-pub returns-clause-room : goal.returns-clause-room
-returns-clause-room g c = c.loop-count.invariant.room
