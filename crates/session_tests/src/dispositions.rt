@@ -88,10 +88,21 @@ fn mapped(alloc: Global) -> Result<Session<Marked>, Fail> {
 /// A transfer of the peer with a number; its relay asks for an echo of it, or does not.
 fn receive(session: &mut Session<Marked>, number: u32, asks: bool) -> bool {
     let tag: &'static [u8] = if asks { b"y" } else { b"no" };
+    receive_tagged(session, number, tag, b"m")
+}
+
+/// A transfer of the peer with a number, a tag and a payload.
+fn receive_tagged(
+    session: &mut Session<Marked>,
+    number: u32,
+    tag: &'static [u8],
+    payload: &'static [u8],
+) -> bool {
     let mut coming = transfer(Some(tag));
     coming.delivery_id = Some(number);
-    let payload = Bytes::from_static(b"m");
-    session.on_incoming_transfer(coming, payload).is_ok()
+    session
+        .on_incoming_transfer(coming, Bytes::from_static(payload))
+        .is_ok()
 }
 
 /// The accepted state, and that of received.
@@ -162,6 +173,28 @@ fn echoes_are_maximal_runs(rt: HostRuntime) -> Result<(), Fail> {
     assert_eq!(rt; session.open_deliveries(), 5);
     assert_eq!(rt; session.last_walk().turns, 5);
     drop(session);
+    Ok(())
+}
+
+/// A payload longer than what an open delivery may keep by its tag.
+const LONG: &[u8] = &[7; 300];
+
+#[test]
+fn a_tag_of_a_long_frame_stays_the_same(rt: HostRuntime) -> Result<(), Fail> {
+    let mut session = mapped(rt.alloc())?;
+    let are_taken = receive_tagged(&mut session, 1, b"y", LONG)
+        && receive_tagged(&mut session, 2, b"no", LONG)
+        && receive_tagged(&mut session, 3, b"y", LONG)
+        && receive_tagged(
+            &mut session,
+            4,
+            b"a tag of more than thirty-two bytes",
+            LONG,
+        );
+    let are_echoed = two_echoes(&mut session, (1, 4), (1, 1), (3, 3));
+    drop(session);
+    assert!(rt; are_taken);
+    assert!(rt; are_echoed);
     Ok(())
 }
 
