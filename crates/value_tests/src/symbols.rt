@@ -1,6 +1,7 @@
-//! Symbols, and the error for refused memory.
+//! Symbols, one and many, and the error for refused memory.
 
-use amqp_values::{ReadError, Symbol};
+use amqp_values::{Field, ReadError, Symbol};
+use bytes::Bytes;
 use std::alloc::{AllocError, Global};
 use std::test::Fail;
 
@@ -45,4 +46,82 @@ fn symbols_of_other_texts_are_others(rt: HostRuntime) -> Result<(), Fail> {
 #[test]
 fn want_of_memory_is_no_malformed_value(rt: HostRuntime) {
     assert_eq!(rt; ReadError::from(AllocError), ReadError::OutOfMemory);
+}
+
+/// What stands at the front of bytes.
+#[derive(Clone, Copy, Debug, PartialEq)]
+enum Many {
+    /// So many symbols whose texts have so many bytes, in a list with so much room; and so many bytes behind them.
+    Symbols {
+        count: usize,
+        len: usize,
+        room: usize,
+        left: usize,
+    },
+    /// No symbols.
+    Malformed,
+    /// Memory was refused.
+    OutOfMemory,
+}
+
+fn text_len(symbols: &[Symbol]) -> usize {
+    let mut len: usize = 0;
+    for symbol in symbols {
+        len = len.saturating_add(symbol.as_str().len());
+    }
+    len
+}
+
+fn read(alloc: Global, bytes: &'static [u8]) -> Many {
+    let mut rest = Bytes::from_static(bytes);
+    let read = <Vec<Symbol> as Field>::read(alloc, &mut rest);
+    let answer = match &read {
+        Ok(symbols) => Many::Symbols {
+            count: symbols.len(),
+            len: text_len(symbols.as_slice()),
+            room: symbols.capacity(),
+            left: rest.len(),
+        },
+        Err(ReadError::Malformed) => Many::Malformed,
+        Err(ReadError::OutOfMemory) => Many::OutOfMemory,
+    };
+    drop(read);
+    answer
+}
+
+#[test]
+fn many_symbols_are_read_into_a_list_of_their_number(rt: HostRuntime) {
+    let three = Many::Symbols {
+        count: 3,
+        len: 3,
+        room: 3,
+        left: 1,
+    };
+    let short = b"\xe0\x08\x03\xa3\x00\x02ab\x01c\x40";
+    assert_eq!(rt; read(rt.alloc(), short), three);
+    let long =
+        b"\xf0\x00\x00\x00\x14\x00\x00\x00\x03\xb3\x00\x00\x00\x00\x00\x00\x00\x02ab\x00\x00\x00\x01c\x40";
+    assert_eq!(rt; read(rt.alloc(), long), three);
+    let alone = Many::Symbols {
+        count: 1,
+        len: 2,
+        room: 1,
+        left: 1,
+    };
+    assert_eq!(rt; read(rt.alloc(), b"\xa3\x02ab\x40"), alone);
+}
+
+/// Also where the first request for memory is refused.
+#[test]
+fn symbols_of_a_wrong_count_are_malformed(rt: HostRuntime) {
+    for bytes in [
+        b"\xe0\x08\x02\xa3\x00\x02ab\x01c",
+        b"\xe0\x08\x04\xa3\x00\x02ab\x01c",
+        b"\xe0\x08\x03\xa3\x00\x02ab\x02c",
+        b"\xe0\x08\x03\xa3\x00\x02ab\x01\xff",
+    ] {
+        assert_eq!(rt; read(rt.alloc(), bytes), Many::Malformed);
+    }
+    let many = b"\xf0\x00\x00\x00\x08\xff\xff\xff\xff\xa3\x00\x00\x00";
+    assert_eq!(rt; read(rt.alloc(), many), Many::Malformed);
 }
