@@ -3,7 +3,7 @@ use Rattle.std.proofs.lemmas.List.{length-map}
 use Rattle.amqp_types.specs.Disposition.{DispositionSaid}
 use Rattle.amqp_session.specs.declared.deliveries.Delivery.{Delivery}
 use Rattle.amqp_session.specs.Disposing.{distance, span, echo_of, AsksEach, has_agreed}
-use Rattle.amqp_session.specs.Walks.{around, turned, noted, noted_by, EachMeant}
+use Rattle.amqp_session.specs.Walks.{around, turned, noted_by, EachMeant}
 use Rattle.amqp_session.proofs.Counting.{not_stepped, stepped_more, stepped_rows}
 use Rattle.amqp_session.proofs.RunsGrow.{end_later, few_runs}
 use Rattle.amqp_session.proofs.Walking.{reads, reach, reach_more, each_more, meant_is, stops_at, stops_end, turned_length, asks_more, noted_more, nothing_noted}
