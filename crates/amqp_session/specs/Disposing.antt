@@ -1,5 +1,5 @@
--- What a disposition means, asks and answers (AMQP 1.0 part 2, sections 2.6.12 and 2.7.6). Delivery numbers are serial numbers
--- (section 2.8.10).
+-- What a disposition means, asks and answers, and what this side settles by itself (AMQP 1.0 part 2, sections 2.6.12 and 2.7.6).
+-- Delivery numbers are serial numbers (section 2.8.10).
 use Rattle.std.specs.Prelude.{◌≡◌, ◌<◌, ◌≤◌, ◌+◌, ◌-◌, ◌*◌, ◌%◌, ◌^◌, ◌&&◌, ◌⊎◌, ◌↔◌, IsTrue, ℕ, Bool, true, false, not, if◌then◌else◌}
 use Rattle.std.specs.Prelude.{nat_lt, nat_le, nat_eq, List, [], ◌∷◌, ◌++◌, length, map, Option, Some, None, IsSome, Result, Ok, Err, OnOk}
 use Rattle.std.specs.Prelude.{unwrap_or, min}
