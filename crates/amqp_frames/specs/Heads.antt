@@ -10,9 +10,17 @@ use Rattle.amqp_frames.specs.Cut.{Whole}
 abbrev pub GivesRoom : ℕ → ℕ → ℕ → Type 0
 GivesRoom before len room = (len ≤ before → room ≡ before) × (before < len → 4096 ≤ room)
 
+-- a head of so many bytes is longer than a block, and does not fit in what there is
+abbrev pub IsTooLong : ℕ → ℕ → Type 0
+IsTooLong before len = (before < len) × (32768 < len)
+
+-- a head that is not too long was cut off as this says, and one that is too long has left the room as it was
+abbrev pub CutsOrLeaves : {S : Type 0} → (S → ℕ → Type 0) → (S → ℕ → S → Type 0) → S → ℕ → S → Type 0
+CutsOrLeaves too_long cuts before len after = (¬ too_long before len → cuts before len after) × (too_long before len → after ≡ before)
+
 -- a head of so many bytes was cut off the front of that room
 abbrev pub CutsHead : ℕ → ℕ → ℕ → Type 0
-CutsHead before len after = GivesRoom before len (after + len)
+CutsHead = CutsOrLeaves IsTooLong (λ before len after. GivesRoom before len (after + len))
 
 -- the same by what any place for heads says: which room it gives for a head, and what it keeps of the room behind one
 pub record CutsOff {S : Type 0} (gives : S → ℕ → ℕ → Type 0) (keeps : ℕ → S → Type 0) (before : S) (len : ℕ) (after : S) : Type 0 where

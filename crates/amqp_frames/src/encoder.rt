@@ -3,7 +3,7 @@
 ghost use Rattle.std.specs.Prelude.{◌≡◌, ◌≤◌, ◌<◌, ◌+◌, ◌^◌, ℕ, [], ◌∷◌, IfOk, OnOk, length};
 ghost use Rattle.amqp_frames.specs.Frame.{text_of, payload_of};
 ghost use Rattle.amqp_frames.specs.Cut.{Encodes, IsWholePiece, Whole, room_beside};
-ghost use Rattle.amqp_frames.specs.Heads.{CutsHead, CutsOff, RoomAfter};
+ghost use Rattle.amqp_frames.specs.Heads.{CutsHead, CutsOff, CutsOrLeaves, RoomAfter};
 ghost use Rattle.amqp_frames.specs.Piece.{piece_bytes};
 ghost use Rattle.amqp_frames.specs.ReadBack.{DecodesTo};
 
@@ -62,8 +62,8 @@ impl FrameEncoder {
     }
 
     /// As [`FrameEncoder::encode`], with the head of a frame that is one piece cut from the room of many. A head that fits
-    /// in the room is cut off it; for another one the room is first a block of 4096 bytes or more. A frame that is cut, or too
-    /// large, leaves the room as it was.
+    /// in the room is cut off it; for another one of at most 32768 bytes the room is first a block of 4096 bytes or more. A head
+    /// that is longer has a buffer of its own. It leaves the room as it was, and so does a frame that is cut, or too large.
     #[tactic(auto, using(crate::proofs::Rooms::room_after))]
     pub fn encode_from(
         &self,
@@ -100,7 +100,7 @@ impl FrameEncoder {
         frame: &Frame,
     ) -> Result<Vec<Piece>, Error>
         ensures pieces { Encodes (λ v. v.items) frame.now self.now result }
-        ensures room { RoomAfter (CutsOff H.gives H.keeps) heads.old frame.now self.now result heads.new }
+        ensures room { RoomAfter (CutsOrLeaves H.too_long (CutsOff H.gives H.keeps)) heads.old frame.now self.now result heads.new }
     {
         let limit = self.max_piece_len;
         let len = frame.body.text_len();
@@ -122,12 +122,12 @@ fn whole<H: HeadRoom>(
     requires text { len ≡ length (text_of frame.now.body) }
     requires fits { length (text_of frame.now.body) + length (payload_of frame.now.body) + 4 < 2 ^ 32 }
     ensures piece { IfOk result (λ v. (p : _) × (v.items ≡ p ∷ []) × IsWholePiece frame.now p × DecodesTo frame.now (piece_bytes p)) }
-    ensures room { OnOk result (CutsOff H.gives H.keeps heads.old (4 + length (text_of frame.now.body)) heads.new) }
+    ensures room { OnOk result (CutsOrLeaves H.too_long (CutsOff H.gives H.keeps) heads.old (4 + length (text_of frame.now.body)) heads.new) }
 {
     whole_is_read(frame);
     let mut pieces = Vec::with_capacity(alloc, 1)?;
     let payload = frame.body.payload()?;
-    let head = whole_head(heads, frame.channel, &frame.body, len)?;
+    let head = whole_head(alloc, heads, frame.channel, &frame.body, len)?;
     pieces.push_reserved(Piece::own(head, payload));
     Ok(pieces)
 }

@@ -4,7 +4,7 @@ ghost use Rattle.std.specs.Prelude.{◌≡◌, ◌≤◌, ◌<◌, ◌+◌, ◌^
 ghost use Rattle.amqp_types.specs.Transfer.{said_in};
 ghost use Rattle.amqp_frames.specs.Frame.{header_text, text_of};
 ghost use Rattle.amqp_frames.specs.Cut.{transfer_text};
-ghost use Rattle.amqp_frames.specs.Heads.{CutsOff};
+ghost use Rattle.amqp_frames.specs.Heads.{CutsOff, CutsOrLeaves};
 
 use crate::frame::FrameBody;
 use crate::heads::{HeadRoom, OwnRoom};
@@ -15,7 +15,8 @@ use std::alloc::{AllocError, Global};
 /// A buffer with the header, and room for `len` bytes behind it.
 #[inline(always)]
 fn header<H: HeadRoom>(heads: &mut H, channel: u16, len: usize) -> Result<BytesMut, AllocError>
-    requires { len < 2 ^ 32 }
+    requires fits { len < 2 ^ 32 }
+    requires short { ¬ H.too_long heads.old (4 + len) }
     ensures header { IfOk result (λ b. (b.items ≡ header_text channel) × (len ≤ b.spare)) }
     ensures room { IfOk result (λ b. H.gives heads.old (4 + len) (b.spare + 4)) }
 {
@@ -25,9 +26,11 @@ fn header<H: HeadRoom>(heads: &mut H, channel: u16, len: usize) -> Result<BytesM
     Ok(out)
 }
 
-/// The head of a frame that is whole, whose text has this length.
-#[tactic(auto, using(crate::proofs::Rooms::head_cut))]
+/// The head of a frame that is whole, whose text has this length: cut off the room, or in a buffer of its own where it is too long
+/// for that.
+#[tactic(auto, using(crate::proofs::Rooms::head_cut, crate::proofs::Rooms::head_left))]
 pub(crate) fn whole_head<H: HeadRoom>(
+    alloc: Global,
     heads: &mut H,
     channel: u16,
     body: &FrameBody,
@@ -36,11 +39,31 @@ pub(crate) fn whole_head<H: HeadRoom>(
     requires text { len ≡ length (text_of body.now) }
     requires fits { length (text_of body.now) < 2 ^ 32 }
     ensures head { IfOk result (λ b. b.items ≡ header_text channel ++ text_of body.now) }
-    ensures room { OnOk result (CutsOff H.gives H.keeps heads.old (4 + length (text_of body.now)) heads.new) }
+    ensures room { OnOk result (CutsOrLeaves H.too_long (CutsOff H.gives H.keeps) heads.old (4 + length (text_of body.now)) heads.new) }
 {
+    if heads.is_too_long(4 + len) {
+        return own_head(alloc, channel, body, len);
+    }
     let mut out = header(heads, channel, len)?;
     body.put_text(len, &mut out);
     heads.cut(out)
+}
+
+/// The head of such a frame, in a buffer of its own.
+#[inline(never)]
+fn own_head(
+    alloc: Global,
+    channel: u16,
+    body: &FrameBody,
+    len: usize,
+) -> Result<BytesMut, AllocError>
+    requires text { len ≡ length (text_of body.now) }
+    requires fits { length (text_of body.now) < 2 ^ 32 }
+    ensures { IfOk result (λ b. b.items ≡ header_text channel ++ text_of body.now) }
+{
+    let mut out = header(&mut OwnRoom(alloc), channel, len)?;
+    body.put_text(len, &mut out);
+    Ok(out)
 }
 
 /// The head of a piece of a transfer, with one of its texts.

@@ -1,7 +1,7 @@
 //! Room for the heads of many frames.
 
-ghost use Rattle.std.specs.Prelude.{◌≡◌, ◌≤◌, ℕ, [], IfOk, OnOk};
-ghost use Rattle.amqp_frames.specs.Heads.{GivesRoom};
+ghost use Rattle.std.specs.Prelude.{◌≡◌, ◌≤◌, ◌↔◌, ℕ, [], IsTrue, IfOk, OnOk};
+ghost use Rattle.amqp_frames.specs.Heads.{GivesRoom, IsTooLong};
 
 use bytes::BytesMut;
 use std::alloc::{AllocError, Global};
@@ -11,19 +11,27 @@ use std::mem;
 /// How many bytes the first block has: about a hundred heads of transfers.
 const FIRST: usize = 4096;
 
-/// How many bytes a block has at most, but for a longer head. Each block that is asked for is twice as long as the one before.
+/// How many bytes a block has at most. Each block that is asked for is twice as long as the one before.
 const MOST: usize = 32768;
 
 /// Where an encoder writes the head of a frame.
 pub(crate) trait HeadRoom {
+    /// The heads of so many bytes that it has no room for.
+    ghost too_long: { Self → ℕ → Type 0 };
+
     /// The room that is given for a head of so many bytes.
     ghost gives: { Self → ℕ → ℕ → Type 0 };
 
     /// What is kept of the room behind a head.
     ghost keeps: { ℕ → Self → Type 0 };
 
+    /// Whether a head of `len` bytes has to have a buffer of its own.
+    fn is_too_long(&self, len: usize) -> bool
+        ensures { IsTrue result ↔ too_long self.now len };
+
     /// An empty buffer with room for `len` bytes.
     fn take(&mut self, len: usize) -> Result<BytesMut, AllocError>
+        requires { ¬ too_long self.old len }
         ensures empty { IfOk result (λ b. (b.items ≡ []) × (len ≤ b.spare)) }
         ensures room { IfOk result (λ b. gives self.old len b.spare) };
 
@@ -38,9 +46,16 @@ pub(crate) trait HeadRoom {
 pub(crate) struct OwnRoom(pub(crate) Global);
 
 impl HeadRoom for OwnRoom {
+    ghost too_long = { λ before len. ⊥ };
+
     ghost gives = { λ before len room. Unit {0} };
 
     ghost keeps = { λ room after. Unit {0} };
+
+    #[inline(always)]
+    fn is_too_long(&self, _len: usize) -> bool {
+        false
+    }
 
     #[inline(always)]
     fn take(&mut self, len: usize) -> Result<BytesMut, AllocError> {
@@ -55,7 +70,8 @@ impl HeadRoom for OwnRoom {
 
 /// Room from which an encoder cuts the heads of many frames. It asks for memory once for hundreds of them: for a block of 4096
 /// bytes first, then for longer ones, up to 32768 bytes, and takes the block before once more where all of its heads are dropped. It
-/// keeps up to two blocks; a head keeps its whole block.
+/// keeps up to two blocks; a head keeps its whole block. A head of more than 32768 bytes that does not fit has a buffer of its own,
+/// which goes with the head, and the room stays as it was: no longer block is asked for, nor kept.
 #[derive(Drop)]
 pub struct Heads {
     alloc: Global,
@@ -92,7 +108,8 @@ impl Heads {
     /// Another block, with room for `len` bytes and for 4096: the one before, where none of its heads is left.
     #[inline(never)]
     fn next_block(&mut self, used: BytesMut, len: usize) -> Result<BytesMut, AllocError>
-        requires { used.items ≡ [] }
+        requires empty { used.items ≡ [] }
+        requires short { len ≤ 32768 }
         ensures { IfOk result (λ b. (b.items ≡ []) × (len ≤ b.spare) × (4096 ≤ b.spare)) }
     {
         let size = len.max(self.next);
@@ -102,14 +119,29 @@ impl Heads {
             return Ok(block);
         }
         drop(block);
-        BytesMut::with_capacity(self.alloc, size)
+        new_block(self.alloc, size)
     }
 }
 
+/// A block of `size` bytes. All blocks are asked for here, so none is longer than `MOST`.
+fn new_block(alloc: Global, size: usize) -> Result<BytesMut, AllocError>
+    requires { size ≤ 32768 }
+    ensures { IfOk result (λ b. (b.items ≡ []) × (size ≤ b.spare)) }
+{
+    BytesMut::with_capacity(alloc, size)
+}
+
 impl HeadRoom for Heads {
+    ghost too_long = { IsTooLong };
+
     ghost gives = { GivesRoom };
 
     ghost keeps = { λ room after. after ≡ room };
+
+    #[inline(always)]
+    fn is_too_long(&self, len: usize) -> bool {
+        len > MOST && len > self.room.capacity()
+    }
 
     #[inline(always)]
     fn take(&mut self, len: usize) -> Result<BytesMut, AllocError> {
