@@ -18,7 +18,7 @@ IsTooLong before len = (before < len) × (32768 < len)
 abbrev pub CutsOrLeaves : {S : Type 0} → (S → ℕ → Type 0) → (S → ℕ → S → Type 0) → S → ℕ → S → Type 0
 CutsOrLeaves too_long cuts before len after = (¬ too_long before len → cuts before len after) × (too_long before len → after ≡ before)
 
--- a head of so many bytes was cut off the front of that room
+-- a head of so many bytes was cut off the front of that room, or was too long for it
 abbrev pub CutsHead : ℕ → ℕ → ℕ → Type 0
 CutsHead = CutsOrLeaves IsTooLong (λ before len after. GivesRoom before len (after + len))
 
