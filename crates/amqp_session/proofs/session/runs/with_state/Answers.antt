@@ -15,8 +15,10 @@ loop-i-preserved c =
     let lt : c.loop-i.i < length c.args.echoes.items = omega (arith, vec, c.len-i-end.ensures) in
     let put = ap (λ (s : Option (List ℕ)). let y : DispositionSaid = record { role = i.role; first = i.first; last = i.last; settled = i.settled; state = s; batchable = i.batchable } in y) c.in_ok-said.ensures.cut in
     let is = ap (with_this c.args.state.now) c.behind-said.view_is in
-    record { items = ap (slice_set c.loop-i.said.items c.loop-i.i) (put ∙ is)
-        ∙ map_over_more (with_this c.args.state.now) c.args.echoes.items c.loop-i.said.items c.loop-i.i c.index_mut.result.now lt c.loop-i.invariant.items c.index_mut.ensures.value }
+    record {
+      items = ap (slice_set c.loop-i.said.items c.loop-i.i) (put ∙ is)
+          ∙ map_over_more (with_this c.args.state.now) c.args.echoes.items c.loop-i.said.items c.loop-i.i c.index_mut.result.now lt c.loop-i.invariant.items c.index_mut.ensures.value;
+    }
 
 pub returns-clause-echoes : goal.returns-clause-echoes
 returns-clause-echoes c = λ runs e.

@@ -55,9 +55,12 @@ note-requires g c settled =
     let behind = end_later d.first _ (distance d.first c.delivery-delivery.result.now.number) a.2 s.near a.5 in
     let vec : vec_len c.loop-count.echoes ≡ length c.loop-count.echoes.items = search rules in
     let len : vec_len c.loop-count.echoes ≡ length a.2 = vec ∙ ap length a.4 ∙ length-map a.2 (echo_of None) in
-    let room = c.requires.room (ap (λ (y : DispositionSaid). y.settled) (sym c.said.view_is) ∙ settled) in
-    (a.2, a.4, λ own. let half = few_runs d.first c.delivery-delivery.result.now.number a.2 hf hn own behind a.3.apart in
-    omega (arith, room, near, half, len, lt, v.few, v.room))
+    let room = c.requires.room (ap (λ (y : DispositionSaid). y.settled) (sym c.said.view_is) ∙ settled) in (
+      a.2,
+      a.4,
+      λ own. let half = few_runs d.first c.delivery-delivery.result.now.number a.2 hf hn own behind a.3.apart in
+          omega (arith, room, near, half, len, lt, v.few, v.room),
+    )
 
 pub loop-count-preserved : goal.loop-count-preserved
 loop-count-preserved g c =
