@@ -1,10 +1,12 @@
 """Rows of dispositions in an engine: which open deliveries they mean, and the echoes (AMQP 1.0 part 2, sections 2.6.12 and 2.7.6).
 
-The relay of a transcript's links asks for an echo of each unsettled disposition. It names a received transfer that is not settled.
+The relay of a transcript's links asks for an echo of each unsettled disposition. It names a received transfer that is not settled. What this
+side settles by itself is seen by the echoes that come no more (section 2.6.12).
 """
 
 from engine_links import UNATTACHED, hear, mapped
-from row import ACCEPTED, LAST, RECEIVED, RELEASED, attach, begin, detach, disposition, echo, end, opening, out, recv, transfer
+from row import ACCEPTED, LAST, OUR_CLOSE, RECEIVED, RELEASED
+from row import attach, begin, closing, detach, disposition, echo, end, flow, opening, out, recv, transfer
 
 
 def linked(rows, title, **how):
@@ -193,6 +195,119 @@ def outside_mapped(rows):
     hear(rows, disposition(0, 1), "err NotFound")
 
 
+def settle(rows, role, first, last="", session=0):
+    """This side settles the range by itself: nothing goes out, whatever was open."""
+    rows.ask(f"settle {session} {role} {first} {last}".rstrip())
+
+
+def settled_here(rows):
+    linked(rows, "What this side settles by itself is let go, of its role alone; nothing goes out, and a second time nothing is left")
+    sends(rows, 0, 1, 2, 3, 4)
+    takes(rows, 1, 2, 3)
+    settle(rows, "sender", 1, 2)
+    echoes(rows, disposition(0, 9), (0, 0), (3, 4))
+    echoes(rows, disposition(0, 9, of_receiver=False), (1, 3))
+    settle(rows, "receiver", 2)
+    settle(rows, "receiver", 2)
+    echoes(rows, disposition(0, 9), (0, 0), (3, 4))
+    echoes(rows, disposition(0, 9, of_receiver=False), (1, 1), (3, 3))
+    hear(rows, disposition(0, 3, settled=True))
+    settle(rows, "sender", 0, LAST // 2)
+    hear(rows, disposition(0, 9))
+    settle(rows, "receiver", 0, 9)
+    hear(rows, disposition(0, 9, of_receiver=False))
+    linked(rows, "A disposition of this side that settles leaves a received delivery open, until this side lets it go by itself")
+    takes(rows, 0, 1)
+    rows.ask("send 0 " + disposition(0, 1, True), out(disposition(0, 1, True)))
+    echoes(rows, disposition(0, 1, of_receiver=False), (0, 1))
+    settle(rows, "receiver", 0, 1)
+    hear(rows, disposition(0, 1, of_receiver=False))
+    linked(rows, "So does an echo that settles, with what was sent")
+    sends(rows, 0, 1)
+    echoes(rows, disposition(0, 1), (0, 1))
+    settle(rows, "sender", 0, 1)
+    hear(rows, disposition(0, 1))
+    linked(rows, "A transfer that waits is not open yet: it goes out later, and its delivery is open then", window=1)
+    sends(rows, 0)
+    rows.ask("send 0 " + transfer(text="t"))
+    settle(rows, "sender", 0, 5)
+    hear(rows, disposition(0, 5))
+    hear(rows, flow(1, 8), out(transfer(1, "t")))
+    echoes(rows, disposition(0, 5), (1, 1))
+
+
+def settled_ranges(rows):
+    taken = (LAST - 1, LAST, 0, 1)
+    linked(rows, "The range that this side settles may pass the last number")
+    takes(rows, *taken)
+    settle(rows, "receiver", LAST, 0)
+    echoes(rows, disposition(LAST - 5, 5, of_receiver=False), (LAST - 1, LAST - 1), (1, 1))
+    linked(rows, "A range over half of the circle or more is backward: this side settles none by it, and what is in a shorter one")
+    takes(rows, *taken)
+    for first, last in [(0, 2**31), (0, LAST), (1, 0), (LAST, LAST - 1), (LAST, 2**31 - 1)]:
+        settle(rows, "receiver", first, last)
+        echoes(rows, disposition(LAST - 1, 1, of_receiver=False), (LAST - 1, 1))
+    settle(rows, "receiver", LAST, 2**31 - 2)
+    echoes(rows, disposition(LAST - 1, 1, of_receiver=False), (LAST - 1, LAST - 1))
+
+
+def settled_in_each_state(rows):
+    rows.row("Before the peer's Begin nothing is open, and nothing is remembered: what goes out later under the number is open")
+    rows.open()
+    rows.begin(0)
+    settle(rows, "sender", 0, 9)
+    hear(rows, begin(0, 0, 8, 8))
+    rows.ask("link 0 a")
+    hear(rows, attach("a", 0))
+    sends(rows, 0)
+    echoes(rows, disposition(0), (0, 0))
+    linked(rows, "Behind an End of this side's it is let go too, and behind the peer's answer nothing is refused")
+    sends(rows, 0, 1)
+    rows.ask("end 0", out(end()))
+    settle(rows, "sender", 0)
+    echoes(rows, disposition(0, 1), (1, 1))
+    hear(rows, end())
+    settle(rows, "sender", 1)
+    rows.ask("release 0")
+    settle(rows, "sender", 0, 1)
+    linked(rows, "Behind an End of the peer's, and behind its answer")
+    sends(rows, 0)
+    hear(rows, end(), "err RemoteEnded")
+    settle(rows, "sender", 0)
+    rows.ask("end 0", out(end()))
+    settle(rows, "sender", 0)
+    settle(rows, "receiver", 0, 9)
+    linked(rows, "Behind a Close of both")
+    sends(rows, 0, 1)
+    rows.ask("close", OUR_CLOSE)
+    settle(rows, "sender", 0)
+    echoes(rows, disposition(0, 1), (1, 1))
+    rows.ask(recv(closing()))
+    settle(rows, "sender", 1)
+    hear(rows, disposition(0, 1))
+
+
+def settled_of_one_session(rows):
+    rows.row("What is settled in one session stays open in the other; a number that was never begun is no session")
+    rows.open()
+    settle_unknown(rows, 0)
+    for number, channel in ((0, 5), (1, 6)):
+        rows.begin(number)
+        rows.ask(recv(begin(number, 0, 8, 8), channel))
+        rows.ask(f"link {number} a")
+        rows.ask(recv(attach("a", 0), channel))
+        rows.ask(f"send {number} " + transfer(text="t"), out(transfer(0, "t"), number))
+    settle(rows, "sender", 0, 5, session=1)
+    settle_unknown(rows, 2)
+    rows.ask(recv(disposition(0, 5), 6))
+    rows.ask(recv(disposition(0, 5), 5), out(echo(0, 0)))
+
+
+def settle_unknown(rows, session):
+    for role in ("sender", "receiver"):
+        rows.ask(f"settle {session} {role} 0 9", "err NoSession")
+
+
 def write(rows):
     of_what_was_sent(rows)
     states(rows)
@@ -201,3 +316,7 @@ def write(rows):
     several_links(rows)
     asked_for(rows)
     outside_mapped(rows)
+    settled_here(rows)
+    settled_ranges(rows)
+    settled_in_each_state(rows)
+    settled_of_one_session(rows)

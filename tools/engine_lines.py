@@ -18,6 +18,13 @@ def read(rows):
     rows.begin(4294967295, 1)
     rows.ask("send 9 " + FIRST, "err NoSession")
     rows.ask("end 4294967294", "err NoSession")
+    rows.row("What this side settles is named by its role, the first number and the last one, where there is a last; zeros may stand in front")
+    rows.ask("settle 0 sender 0", "err NoSession")
+    rows.open()
+    rows.begin(7, 0)
+    rows.ask("settle 007 receiver 0000 4294967295")
+    rows.ask("settle 7 sender 4294967295")
+    rows.ask("settle 4294967295 sender 1 2", "err NoSession")
     rows.row("A link's flow goes out with the session's numbers")
     rows.open()
     rows.begin(0)
@@ -66,6 +73,23 @@ def bad(rows):
         "link -1 a",
         "link 4294967296 a",
         "links 0 a",
+        "settle",
+        "settle 0",
+        "settle 0 sender",
+        "settle 0 sender ",
+        "settle 0 sender  1",
+        "settle 0 sender 1 ",
+        "settle 0 sender 1 2 3",
+        "settle 0 sender +1",
+        "settle 0 sender 1 -2",
+        "settle 0 sender 4294967296",
+        "settle 0 sender 1 4294967296",
+        "settle 0 Sender 1",
+        "settle 0 peer 1",
+        "settle 0 1 2",
+        "settle +0 sender 1",
+        "settle a sender 1",
+        "settle 4294967296 sender 1",
     ]:
         rows.row(f"This line cannot be read: [{line}]")
         rows.ask(line, "bad line 1", "status 2")

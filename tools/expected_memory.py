@@ -91,6 +91,10 @@ def disposes(rows):
     rows.ask("free " + recv(disposition(0, 3, True), 5))
     rows.ask("free " + recv(disposition(LAST, LAST - 5), 5))
     rows.ask(f"free send 0 {disposition(20, 21, True)}", out(disposition(20, 21, True)))
+    rows.ask("settle 0 receiver 20 20")
+    rows.ask("free settle 0 receiver 21 30")
+    rows.ask("free settle 0 sender 4 9")
+    rows.ask(recv(disposition(20, 21, of_receiver=False), 5))
 
 
 def leaves(rows):

@@ -82,6 +82,7 @@ AT_MOST = {
     "request Detach": ANSWER + sent(1),
     # the container's name
     "request Open": ANSWER + TEXT + sent(1),
+    "request Settle": ANSWER,
     # the place among the open deliveries, and two pieces
     "request Transfer": ANSWER + PLACE + max(sent(1), 1 + 2),
     # two Ends of the script go out in one run
@@ -149,7 +150,7 @@ def name_of(line):
     if word == "call":
         return rest.split(" ")[0] + (" cut" if rest.startswith("encode 40 ") else "")
     names = {"open": "Open", "close": "Close", "begin": "Begin", "end": "End", "release": "Release", "link": "AllocateLink",
-             "link-incoming": "AllocateIncomingLink"}
+             "link-incoming": "AllocateIncomingLink", "settle": "Settle"}
     return "request " + names[word] if word in names else word
 
 

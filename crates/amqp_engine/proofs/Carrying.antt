@@ -389,6 +389,7 @@ carries g v w (input.Detach k d expects_echo) received reached calls r frames id
 carries g v w (input.Flow k l) received reached calls r frames idle fe s = does g v w _ k.0 _ refl (request_plain (input.Flow k l)) (λ t a. a) idle fe s.1
 carries g v w (input.Transfer k h t payload first) received reached calls r frames idle fe s = does g v w _ k.0 _ refl (request_plain (input.Transfer k h t payload first)) (λ x a. a) idle fe s.1
 carries g v w (input.Disposition k d) received reached calls r frames idle fe s = does g v w _ k.0 _ refl (request_plain (input.Disposition k d)) (λ t a. a) idle fe s.1
+carries g v w (input.Settle k role first last) received reached calls r frames idle fe s = does g v w _ k.0 _ refl (request_plain (input.Settle k role first last)) (λ t a. a) idle fe s.1
 carries g v w (input.Stop k reason) received reached calls r frames idle fe s = does g v w _ k.0 _ refl (request_plain (input.Stop k reason)) (λ t a. a) idle fe s.1
 
 pub deed : {R : Type 0} (g : Relays R) (v w : EngineView R) (e : Entry R) → v.waiting ≡ [] → e.frames ≡ w.waiting → Carries g v e.input e.received e.reached e.calls e.refusal w → Deed g v e w

@@ -115,6 +115,7 @@ request_plain (input.Detach n d expects_echo) s cs r a = plain_session a.0 r a.2
 request_plain (input.Flow n l) s cs r a = plain_none r a.2
 request_plain (input.Transfer n h t payload first) s cs r a = plain_session a.0 r a.2
 request_plain (input.Disposition n d) s cs r a = plain_none r a.3
+request_plain (input.Settle n role first last) s cs r a = plain_none r a.2
 request_plain (input.Stop n reason) s cs r a = plain_none r a.1
 request_plain (input.Begin n settings) s cs r a = plain_none r a.2
 request_plain i s cs r a = absurd a

@@ -47,6 +47,7 @@ carries g v w n (input.Detach k d expects_echo) e is s = does g v w k.0 n _ e is
 carries g v w n (input.Flow k l) e is s = does g v w k.0 n _ e is (request_plain (input.Flow k l)) s.1
 carries g v w n (input.Transfer k h t payload first) e is s = does g v w k.0 n _ e is (request_plain (input.Transfer k h t payload first)) s.1
 carries g v w n (input.Disposition k d) e is s = does g v w k.0 n _ e is (request_plain (input.Disposition k d)) s.1
+carries g v w n (input.Settle k role first last) e is s = does g v w k.0 n _ e is (request_plain (input.Settle k role first last)) s.1
 carries g v w n (input.Stop k reason) e is s = does g v w k.0 n _ e is (request_plain (input.Stop k reason)) s.1
 carries g v w n i e is s = absurd (some_none (sym is))
 

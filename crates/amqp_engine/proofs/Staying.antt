@@ -96,6 +96,7 @@ carries g v w (input.Detach n d echo) received reached calls r s = does g v w n.
 carries g v w (input.Flow n l) received reached calls r s = does g v w n.0 _ reached calls r s.1
 carries g v w (input.Transfer n h t payload first) received reached calls r s = does g v w n.0 _ reached calls r s.1
 carries g v w (input.Disposition n d) received reached calls r s = does g v w n.0 _ reached calls r s.1
+carries g v w (input.Settle n role first last) received reached calls r s = does g v w n.0 _ reached calls r s.1
 carries g v w (input.Stop n reason) received reached calls r s = does g v w n.0 _ reached calls r s.1
 
 same : {R : Type 0} (g : Relays R) (v w : EngineView R) (e : Entry R) → Step g v e w → Same v w

@@ -1,6 +1,7 @@
 -- What an input or a received frame asks of the session that it reaches: its calls, by the session's state, and the refusal
 -- that is answered. This is the one table of them.
 use Rattle.std.specs.Prelude.{string_bytes, ◌≡◌, ℕ, List, [], ◌∷◌, Option, Some, None, Result, Ok, Err, Bool, true, false}
+use Rattle.amqp_types.specs.declared.definitions.Role.{Role}
 use Rattle.amqp_types.specs.declared.states.SessionState.{SessionState}
 use Rattle.amqp_types.specs.declared.states.SessionState.TheVariants as at
 use Rattle.amqp_types.specs.Error.{ErrorSaid}
@@ -94,6 +95,11 @@ TransferCalls h s calls refusal = (result : Result (Option SessionOutgoingItem) 
 abbrev pub DispositionCalls : {R : Type 0} → DispositionSaid → Calls R
 DispositionCalls d s calls refusal =
     (terminal : Bool) × (f : SessionFrame) × (calls ≡ session.SendsDisposition d terminal f ∷ []) × (refusal ≡ None)
+
+-- what this side settles by itself is let go, however many deliveries that is, and no frame is made
+abbrev pub SettleCalls : {R : Type 0} → Role → ℕ → Option ℕ → Calls R
+SettleCalls role first last s calls refusal =
+    (count : ℕ) × (calls ≡ session.Settles role first last count ∷ []) × (refusal ≡ None)
 
 abbrev pub StopCalls : {R : Type 0} → SessionStopReason → Calls R
 StopCalls reason s calls refusal = (calls ≡ session.RecordsStop reason ∷ []) × (refusal ≡ None)
@@ -190,6 +196,7 @@ request_calls (input.Flow n l) = FlowCalls l
 request_calls (input.Transfer n h t payload first) =
     TransferCalls (record { input_handle = h.0; transfer = t; payload = payload; is_first = first })
 request_calls (input.Disposition n d) = DispositionCalls d
+request_calls (input.Settle n role first last) = SettleCalls role first last
 request_calls (input.Stop n reason) = StopCalls reason
 request_calls i = NoCalls
 

@@ -172,6 +172,8 @@ Carries g v (input.Transfer n h t payload first) received reached calls refusal 
     (received ≡ None) × Does g v n.0 (request_calls (input.Transfer n h t payload first)) reached calls refusal w
 Carries g v (input.Disposition n d) received reached calls refusal w =
     (received ≡ None) × Does g v n.0 (request_calls (input.Disposition n d)) reached calls refusal w
+Carries g v (input.Settle n role first last) received reached calls refusal w =
+    (received ≡ None) × Does g v n.0 (request_calls (input.Settle n role first last)) reached calls refusal w
 Carries g v (input.Stop n reason) received reached calls refusal w =
     (received ≡ None) × Does g v n.0 (request_calls (input.Stop n reason)) reached calls refusal w
 

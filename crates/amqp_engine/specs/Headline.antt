@@ -58,6 +58,7 @@ names (input.Detach n d expects_echo) = Some n.0
 names (input.Flow n l) = Some n.0
 names (input.Transfer n h t payload first) = Some n.0
 names (input.Disposition n d) = Some n.0
+names (input.Settle n role first last) = Some n.0
 names (input.Stop n reason) = Some n.0
 names i = None
 

@@ -161,6 +161,14 @@ pub fn window_of<R: LinkRelay>(engine: &Engine<R>) -> u32 {
     }
 }
 
+/// How many deliveries of session 0 are open, of both roles; 1000 where there is none.
+pub fn open_of<R: LinkRelay>(engine: &Engine<R>) -> usize {
+    match engine.session(SessionNo(0)) {
+        Some(session) => session.open_deliveries(),
+        None => 1000,
+    }
+}
+
 /// The session to which channel 7 of the peer's leads; 1000 where it leads to none.
 pub fn led<R: LinkRelay>(engine: &Engine<R>) -> u32 {
     match engine

@@ -5,7 +5,7 @@ use crate::given::{ReplayEngine, ReplayInput};
 use crate::linking::allot_incoming;
 use crate::rows::{Ask, Row, first_wrong, first_wrong_opened};
 use crate::running::{push, received_frame, runs_to};
-use fe2o3_amqp::{Input, ReplayRelay, SessionNo};
+use fe2o3_amqp::{Input, ReplayRelay, SessionNo, SessionState};
 use std::alloc::Global;
 use std::collections::VecDeque;
 
@@ -50,6 +50,86 @@ const HALF: &[Row] = &[
     Row::Asked(Ask::Receive("02000005005314c006034343a0010aff"), "done"),
     Row::Out("out 02000000005313c00b0452015202437000001388\n"),
 ];
+
+/// Three deliveries that go out, and stay open.
+const SENT: &[Row] = &[
+    Row::Asked(Ask::Send(b"a", b""), "done"),
+    Row::Taken,
+    Row::Asked(Ask::Send(b"b", b""), "done"),
+    Row::Taken,
+    Row::Asked(Ask::Send(b"c", b""), "done"),
+    Row::Taken,
+    Row::Open(3),
+];
+
+/// Nothing is open before the peer's Begin, nor in a session that was never begun.
+const SETTLED_EARLY: &[Row] = &[
+    Row::Asked(Ask::Settle(0, 0, Some(9)), "NoSession"),
+    Row::Begins(0),
+    Row::Asked(Ask::Settle(0, 0, Some(9)), "done"),
+    Row::Asked(Ask::SettleReceived(0, 0, None), "done"),
+    Row::Asked(Ask::Settle(1, 0, None), "NoSession"),
+    Row::Silence,
+    Row::State(0, Some(SessionState::BeginSent)),
+    Row::Asked(Ask::Receive(BEGIN), "done"),
+];
+
+/// What is named alone is let go, of the role that is named; nothing else moves, and no frame waits.
+const SETTLED_IN_MAPPED: &[Row] = &[
+    Row::Asked(Ask::SettleReceived(0, 0, Some(9)), "done"),
+    Row::Open(3),
+    Row::Asked(Ask::Settle(0, 1, None), "done"),
+    Row::Silence,
+    Row::Open(2),
+    Row::Window(8),
+    Row::Numbers(0, (3, 5, 0)),
+    Row::State(0, Some(SessionState::Mapped)),
+];
+
+/// This side's End, and the peer's answer.
+const SETTLED_BEHIND_OUR_END: &[Row] = &[
+    Row::Asked(Ask::End(0), "done"),
+    Row::Taken,
+    Row::Asked(Ask::Settle(0, 0, None), "done"),
+    Row::Silence,
+    Row::Open(2),
+    Row::Asked(Ask::Receive("0200000500531745"), "done"),
+    Row::State(0, Some(SessionState::Unmapped)),
+    Row::Asked(Ask::Settle(0, 0, Some(1)), "done"),
+    Row::Silence,
+    Row::Open(1),
+];
+
+/// The peer's End, and this side's answer.
+const SETTLED_BEHIND_THE_PEERS: &[Row] = &[
+    Row::Asked(Ask::Receive("0200000500531745"), "RemoteEnded"),
+    Row::State(0, Some(SessionState::EndReceived)),
+    Row::Asked(Ask::Settle(0, 1, Some(2)), "done"),
+    Row::Silence,
+    Row::Open(1),
+    Row::Asked(Ask::End(0), "done"),
+    Row::Taken,
+    Row::Asked(Ask::Settle(0, 0, Some(2)), "done"),
+    Row::Open(0),
+];
+
+#[test]
+fn what_this_side_settles_is_let_go_and_nothing_goes_out(rt: HostRuntime) {
+    let parts: &[&[Row]] = &[SETTLED_EARLY, SENT, SETTLED_IN_MAPPED];
+    assert_eq!(rt; first_wrong_opened(rt.alloc(), parts), None);
+}
+
+#[test]
+fn this_side_settles_behind_its_own_end(rt: HostRuntime) {
+    let parts: &[&[Row]] = &[MAPPED, SENT, SETTLED_BEHIND_OUR_END];
+    assert_eq!(rt; first_wrong_opened(rt.alloc(), parts), None);
+}
+
+#[test]
+fn this_side_settles_behind_the_peers_end(rt: HostRuntime) {
+    let parts: &[&[Row]] = &[MAPPED, SENT, SETTLED_BEHIND_THE_PEERS];
+    assert_eq!(rt; first_wrong_opened(rt.alloc(), parts), None);
+}
 
 #[test]
 fn a_disposition_gives_one_frame_and_moves_the_window(rt: HostRuntime) {

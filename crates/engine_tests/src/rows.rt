@@ -2,16 +2,16 @@
 //! proof several seconds.
 
 use crate::asking::{
-    answer, begins, engine_in, led, numbers_of, pieces, puts_out, reason_of, receive_digits, send,
-    state_of, stopped, window_of,
+    answer, begins, engine_in, led, numbers_of, open_of, pieces, puts_out, reason_of,
+    receive_digits, send, state_of, stopped, window_of,
 };
 use crate::linking::{
     Why, allot, dispose, handle_of, puts_out_one, send_attach, send_detach, send_flow, unallotted,
 };
 use bytes::Bytes;
 use fe2o3_amqp::{
-    ConnectionState, ConnectionStopReason, Engine, Input, LinkRelay, SessionNo, SessionSettings,
-    SessionState, SessionStopReason,
+    ConnectionState, ConnectionStopReason, Engine, Input, LinkRelay, Role, SessionNo,
+    SessionSettings, SessionState, SessionStopReason,
 };
 use std::alloc::Global;
 
@@ -44,6 +44,10 @@ pub enum Ask {
     Detach(u32),
     /// The request of a session's disposition, with this state.
     Dispose(u32, &'static [u8]),
+    /// That this side settles what it sent in a session, from the first number to the last.
+    Settle(u32, u32, Option<u32>),
+    /// The same of what it received.
+    SettleReceived(u32, u32, Option<u32>),
 }
 
 /// What an engine does, or shows.
@@ -69,6 +73,8 @@ pub enum Row {
     Numbers(u32, (u32, u32, usize)),
     /// How many transfers the peer may still send in session 0.
     Window(u32),
+    /// How many deliveries of session 0 are open.
+    Open(usize),
     /// The session to which channel 7 of the peer's leads; 1000 where it leads to none.
     Led(u32),
     /// The output handle of the live link of a name; 1000 where there is none.
@@ -145,6 +151,7 @@ fn shows<R: LinkRelay>(engine: &Engine<R>, row: Row) -> bool {
         Row::Reason(number, want) => reason_of(engine, number) == want,
         Row::Numbers(number, want) => numbers_of(engine, number) == want,
         Row::Window(want) => window_of(engine) == want,
+        Row::Open(want) => open_of(engine) == want,
         Row::Led(want) => led(engine) == want,
         Row::Live(name, want) => handle_of(engine, name) == want,
         Row::Connection(state, reason) => stopped(engine) == (state, reason),
@@ -174,6 +181,12 @@ fn input<R: LinkRelay>(ask: Ask) -> Input<R> {
         Ask::BeginWith(window) => begin_with(window),
         Ask::End(number) => Input::End(SessionNo(number), None),
         Ask::Stop(number, reason) => Input::Stop(SessionNo(number), reason),
+        Ask::Settle(number, first, last) => {
+            Input::Settle(SessionNo(number), Role::Sender, first, last)
+        }
+        Ask::SettleReceived(number, first, last) => {
+            Input::Settle(SessionNo(number), Role::Receiver, first, last)
+        }
         _ => Input::Close(None),
     }
 }

@@ -34,7 +34,9 @@ const FAILED: u8 = 3;
 /// peer's attach. `send N HEX` has session N send one performative with what follows it: an Attach, a Flow that names a link,
 /// a Transfer, a Disposition, or a Detach that the peer is to answer. A transfer's input handle has the number of its handle,
 /// it is the first of its delivery exactly where it has a tag, and what follows is its payload; behind another performative it
-/// is dropped. N is a decimal number to 4294967295.
+/// is dropped. `settle N ROLE FIRST LAST` lets open deliveries of session N go that this side settles by itself, from FIRST to LAST,
+/// and `settle N ROLE FIRST` the first alone; ROLE is this side's, `receiver` or `sender`. N, FIRST and LAST are decimal numbers
+/// to 4294967295.
 ///
 /// `output` gets `out HEX`, in lower case, for each piece, `err NAME` for each refusal that is not for memory, and
 /// `err TooLarge` for a frame that does not fit the peer's limit. What belongs to a line is written, and flushed, before the

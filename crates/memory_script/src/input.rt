@@ -37,6 +37,7 @@ fn of_session(alloc: Global, word: &str, rest: &str) -> Result<Option<ScriptInpu
         "link-incoming" => incoming_link(alloc, number, rest),
         "send" => sent(alloc, number, rest, true),
         "detach" => sent(alloc, number, rest, false),
+        "settle" => Ok(settled(number, rest)),
         _ => Ok(None),
     }
 }
@@ -50,6 +51,16 @@ fn begin(number: SessionNo, window: &str) -> Option<ScriptInput> {
     let mut settings = SessionSettings::new();
     settings.incoming_window = incoming_window;
     Some(Input::Begin(number, settings))
+}
+
+/// What this side settles by itself: its role, the first number, and the last one.
+fn settled(number: SessionNo, text: &str) -> Option<ScriptInput> {
+    let (role, range) = reading::word(text);
+    let role = reading::role(role)?;
+    let (first, last) = reading::word(range);
+    let first = first.parse::<u32>().ok()?;
+    let last = last.parse::<u32>().ok()?;
+    Some(Input::Settle(number, role, first, Some(last)))
 }
 
 fn link(alloc: Global, number: SessionNo, name: &str) -> Result<Option<ScriptInput>, AllocError> {

@@ -8,6 +8,7 @@
 //! | `link N NAME`, `link-incoming N HANDLE NAME` | `AllocateLink`, `AllocateIncomingLink` |
 //! | `send N HEX` | one performative of a link: a detach is one that the peer is to answer |
 //! | `detach N HEX` | a detach that the peer is not to answer |
+//! | `settle N ROLE FIRST LAST` | `Settle`, as the receiver or the sender |
 //! | `recv HEX` | a received frame, without its size |
 //! | `take HEX` | a received transfer: where its session refuses it for memory it is not offered again |
 //! | `free LINE` | the input of that line, by `step`, while every request for memory is refused; then what goes out |

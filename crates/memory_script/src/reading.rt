@@ -1,7 +1,7 @@
 //! Reading the script, and the words of its lines.
 
 use bytes::Bytes;
-use fe2o3_amqp::{InputHandle, Performative, ReadError, SessionNo, hex_bytes};
+use fe2o3_amqp::{InputHandle, Performative, ReadError, Role, SessionNo, hex_bytes};
 use std::alloc::{AllocError, Global};
 use std::io::Read;
 
@@ -41,6 +41,15 @@ pub fn handle(text: &str) -> Option<InputHandle> {
     match text.parse::<u32>() {
         Ok(number) => Some(InputHandle(number)),
         Err(_) => None,
+    }
+}
+
+/// A role.
+pub fn role(text: &str) -> Option<Role> {
+    match text {
+        "receiver" => Some(Role::Receiver),
+        "sender" => Some(Role::Sender),
+        _ => None,
     }
 }
 

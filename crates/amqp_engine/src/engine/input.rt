@@ -2,7 +2,7 @@
 
 use amqp_connection::SessionNo;
 use amqp_session::{InputHandle, LinkFlow, SessionSettings, SessionStopReason};
-use amqp_types::{Attach, Detach, Disposition, Error, Transfer};
+use amqp_types::{Attach, DeliveryNumber, Detach, Disposition, Error, Role, Transfer};
 use bytes::Bytes;
 
 /// A received frame, or a local request. `R` relays what comes for the links of a session.
@@ -35,6 +35,16 @@ pub enum Input<R> {
     Transfer(SessionNo, InputHandle, Transfer, Bytes, bool),
     /// A disposition of deliveries of the session is to be sent.
     Disposition(SessionNo, Disposition),
+    /// Open deliveries of the session that this side settles by itself are let go (AMQP 1.0 part 2, section 2.6.12). The role is
+    /// this side's, as in a disposition that it sends: `Receiver` means those that it received, and `Sender` those that it
+    /// sent. It means the open ones from the first number to the last, or the first alone where no last is named; a range of
+    /// half of the circle of numbers or more is backward, and means none.
+    ///
+    /// A settled disposition of the peer's closes a delivery by itself; a disposition of this side's leaves it open. So this is
+    /// for a receiver whose relay names its deliveries, behind a `Disposition` of its own that settles them, and for a
+    /// sender whose echo settles. It is taken in every state of the session. No frame goes out, no relay is asked, and the
+    /// session takes no memory. `NoSession` where no session has the number; it is refused for no other reason.
+    Settle(SessionNo, Role, DeliveryNumber, Option<DeliveryNumber>),
     /// The session's channel is given back, for another session. Callers do so after the exchange of End: frames of the
     /// session would still carry the channel.
     Release(SessionNo),

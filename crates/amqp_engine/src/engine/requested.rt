@@ -17,7 +17,7 @@ use super::Engine;
 use super::input::Input;
 use super::sessions::{
     Outgoing, allocate_incoming_link, allocate_link, end, send_attach, send_detach,
-    send_disposition, send_flow, send_transfer, stop,
+    send_disposition, send_flow, send_transfer, settle, stop,
 };
 use super::step_error::StepError;
 use super::waiting::Waiting;
@@ -26,7 +26,9 @@ use amqp_session::{
     ConnectionStopReason, InputHandle, LinkFlow, LinkRelay, OutgoingChannel, Session, SessionFrame,
     SessionSettings, SessionStateError, SessionStopReason,
 };
-use amqp_types::{Attach, Detach, Disposition, Error, SessionState, Transfer};
+use amqp_types::{
+    Attach, DeliveryNumber, Detach, Disposition, Error, Role, SessionState, Transfer,
+};
 use bytes::Bytes;
 use std::alloc::Global;
 
@@ -86,6 +88,9 @@ impl<R: LinkRelay> Engine<R> {
             Input::Disposition(number, disposition) => self.request_disposition(
                 number,
                 disposition,
+            ),
+            Input::Settle(number, role, first, last) => self.request_settle(
+                number, role, first, last,
             ),
             Input::Release(number) => self.request_release(number.0),
             Input::Stop(number, reason) => self.request_stop(number, reason),
@@ -202,6 +207,20 @@ impl<R: LinkRelay> Engine<R> {
         ensures { CarriedStep R.gives self.old (given.Disposition number disposition) (refusal_of result) self.new }
     {
         self.ask_session(number.0, |session| send_disposition(session, disposition))
+    }
+
+    #[inline(never)]
+    fn request_settle(
+        &mut self,
+        number: SessionNo,
+        role: Role,
+        first: DeliveryNumber,
+        last: Option<DeliveryNumber>,
+    ) -> Result<(), StepError>
+        requires { self.old.waiting ≡ [] }
+        ensures { CarriedStep R.gives self.old (given.Settle number role first last) (refusal_of result) self.new }
+    {
+        self.ask_session(number.0, |session| settle(session, role, first, last))
     }
 
     #[inline(never)]

@@ -2,7 +2,7 @@
 
 ghost use Rattle.std.specs.Prelude.{◌≡◌, [], string_bytes};
 ghost use Rattle.amqp_session.specs.States.{takes_end};
-ghost use Rattle.amqp_engine.specs.Calls.{is_end_received, end_reason, remote_end_reason, EndCalls, AllocateLinkCalls, AllocateIncomingCalls, AttachCalls, DetachCalls, ReceivedAttachCalls, ReceivedDetachCalls, FlowCalls, TransferCalls, StopCalls, ReceivedBeginCalls, ReceivedEndCalls, ReceivedFlowCalls, ReceivedTransferCalls, DispositionCalls, ReceivedDispositionCalls};
+ghost use Rattle.amqp_engine.specs.Calls.{is_end_received, end_reason, remote_end_reason, EndCalls, AllocateLinkCalls, AllocateIncomingCalls, AttachCalls, DetachCalls, ReceivedAttachCalls, ReceivedDetachCalls, FlowCalls, TransferCalls, SettleCalls, StopCalls, ReceivedBeginCalls, ReceivedEndCalls, ReceivedFlowCalls, ReceivedTransferCalls, DispositionCalls, ReceivedDispositionCalls};
 ghost use Rattle.amqp_types.specs.Disposition.{DispositionSaid};
 ghost use Rattle.amqp_session.specs.declared.frame.SessionFrameBody.TheVariants as said;
 ghost use Rattle.amqp_engine.specs.Sessions.{Answered, SendsAll, RecordedEnd};
@@ -14,7 +14,10 @@ use amqp_session::{
     IncomingChannel, InputHandle, LinkFlow, LinkRelay, Session, SessionFrame, SessionFrameBody,
     SessionStopReason,
 };
-use amqp_types::{Attach, Begin, Detach, Disposition, End, Error, Flow, SessionState, Transfer};
+use amqp_types::{
+    Attach, Begin, DeliveryNumber, Detach, Disposition, End, Error, Flow, Role, SessionState,
+    Transfer,
+};
 use bytes::Bytes;
 use std::collections::VecDeque;
 
@@ -135,6 +138,19 @@ pub(crate) fn send_disposition<R: LinkRelay>(
     ensures { Answered R.gives session.old.view (DispositionCalls disposition) result session.new.view }
 {
     Ok(Waiting::alone(Some(session.on_outgoing_disposition(disposition))))
+}
+
+/// What this side settles by itself. No frame goes out, whatever was let go.
+pub(crate) fn settle<R: LinkRelay>(
+    session: &mut Session<R>,
+    role: Role,
+    first: DeliveryNumber,
+    last: Option<DeliveryNumber>,
+) -> Outgoing
+    ensures { Answered R.gives session.old.view (SettleCalls role first last) result session.new.view }
+{
+    session.settle(role, first, last);
+    Ok(Waiting::none())
 }
 
 pub(crate) fn stop<R: LinkRelay>(session: &mut Session<R>, reason: SessionStopReason) -> Outgoing

@@ -10,7 +10,7 @@ use amqp_connection::SessionNo;
 use amqp_engine::Input;
 use amqp_frames::Piece;
 use amqp_session::{InputHandle, LinkFlow, SessionSettings};
-use amqp_types::{Performative, ReadError};
+use amqp_types::{Performative, ReadError, Role};
 use bytes::Bytes;
 use hex::FromHexError;
 use std::alloc::{AllocError, Global};
@@ -54,6 +54,7 @@ fn asked_with(alloc: Global, word: &str, rest: &str) -> Result<Asked, AllocError
         "recv" => received(alloc, rest),
         "send" => sent(alloc, rest),
         "link" => link(alloc, rest),
+        "settle" => Ok(settled(rest)),
         _ => match number_of(rest) {
             Some(number) => Ok(of_session(word, number)),
             None => Ok(Asked::Unreadable),
@@ -72,13 +73,51 @@ fn of_session(word: &str, number: SessionNo) -> Asked {
 }
 
 /// The number of these decimal digits; `None` for anything else, for a sign too, and above 4294967295.
-fn number_of(text: &str) -> Option<SessionNo> {
+fn decimal(text: &str) -> Option<u32> {
     if text.starts_with('+') {
         return None;
     }
-    match text.parse::<u32>() {
-        Ok(number) => Some(SessionNo(number)),
-        Err(_) => None,
+    text.parse::<u32>().ok()
+}
+
+/// The session's number of these digits.
+fn number_of(text: &str) -> Option<SessionNo> {
+    decimal(text).map(SessionNo)
+}
+
+/// The role of this word.
+fn role_of(word: &str) -> Option<Role> {
+    match word {
+        "receiver" => Some(Role::Receiver),
+        "sender" => Some(Role::Sender),
+        _ => None,
+    }
+}
+
+/// What this side settles: behind the session's number its own role, the first number, and the last one where it is named.
+fn settled(text: &str) -> Asked {
+    let Some((number, text)) = text.split_once(' ') else {
+        return Asked::Unreadable;
+    };
+    let Some((role, range)) = text.split_once(' ') else {
+        return Asked::Unreadable;
+    };
+    match (number_of(number), role_of(role)) {
+        (Some(number), Some(role)) => settled_range(number, role, range),
+        _ => Asked::Unreadable,
+    }
+}
+
+fn settled_range(number: SessionNo, role: Role, range: &str) -> Asked {
+    let Some((first, last)) = range.split_once(' ') else {
+        return match decimal(range) {
+            Some(first) => Asked::Input(Input::Settle(number, role, first, None)),
+            None => Asked::Unreadable,
+        };
+    };
+    match (decimal(first), decimal(last)) {
+        (Some(first), Some(last)) => Asked::Input(Input::Settle(number, role, first, Some(last))),
+        _ => Asked::Unreadable,
     }
 }
 

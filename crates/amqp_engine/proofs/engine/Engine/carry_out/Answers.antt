@@ -28,6 +28,9 @@ returns-in-Detach g c = rw c.in-Detach.is c.request_detach.ensures
 pub returns-in-Disposition : goal.returns-in-Disposition
 returns-in-Disposition g c = rw c.in-Disposition.is c.request_disposition.ensures
 
+pub returns-in-Settle : goal.returns-in-Settle
+returns-in-Settle g c = rw c.in-Settle.is c.request_settle.ensures
+
 pub returns-in-Received : goal.returns-in-Received
 returns-in-Received g c = rw c.in-Received.is c.receive.ensures
 
