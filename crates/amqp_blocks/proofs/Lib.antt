@@ -1,0 +1,9 @@
+pub mod PlaceLemmas
+pub mod LeaveLemmas
+pub mod PutLemmas
+pub mod RoomLemmas
+pub mod SplitLemmas
+pub mod PassLemmas
+pub mod CutLemmas
+pub mod ReplaceLemmas
+pub mod JoinLemmas

@@ -1,0 +1,71 @@
+use Rattle.std.proofs.Common.{◌≡◌, ℕ, ◌+◌, ◌-◌, ◌<◌, ◌∷◌, [], List, length, get_or, ap, subst, ◌∙◌, arith, add-one, length-append, length-drop}
+use Rattle.std.specs.List.{insert}
+use Rattle.amqp_blocks.specs.Chunked.{EachSpare, places_of}
+use Rattle.amqp_blocks.proofs.PlaceLemmas.{ends_long, same_at}
+use Rattle.amqp_blocks.proofs.PutLemmas.{end_covers, size_of}
+use Rattle.amqp_blocks.proofs.RoomLemmas.{popped, spares_front, spares_last, places_append}
+use Rattle.amqp_blocks.proofs.SplitLemmas.{split_is}
+use Rattle.amqp_blocks.proofs.adding.split.Goals as goal
+
+pub halve-upper-requires-clause-empty : goal.halve-upper-requires-clause-empty
+halve-upper-requires-clause-empty g c =
+    let sp = popped c.pop.result c.unwrap-ring.result c.args.spare.now.items c.pop.new.self.items c.unwrap-ring.ensures c.pop.ensures.items in
+    (spares_last c.pop.new.self.items c.unwrap-ring.result (subst EachSpare sp c.requires.spares)).0
+
+pub index-requires-2 : goal.index-requires-2
+index-requires-2 g c =
+    let long = ends_long c.args.base c.args.blocks.now.items c.args.ends.now.items c.requires.chunked.stops in
+    omega (arith, long, c.requires.block, c.args.ends.now.ok.0)
+
+pub overflow_sub-end : goal.overflow_sub-end
+overflow_sub-end g c =
+    let bs = c.args.blocks.now.items in
+    let u = c.halve-upper.ensures.halved in
+    let upper = c.halve-upper.result in
+    let cover = end_covers c.args.base bs c.args.place.block u.from c.index-2.result.now c.requires.block u.was in
+    let end = c.index-2.ensures ∙ ap (λ (ks : List ℕ). get_or ks c.args.place.block c.index-2.result.now) c.requires.chunked.stops in
+    omega (arith, cover, end, c.len.ensures, upper.ok.0, ap length u.rest, length-drop c.max-half.result u.from.items)
+
+pub insert-requires : goal.insert-requires
+insert-requires g c =
+    let long = ends_long c.args.base c.args.blocks.now.items c.args.ends.now.items c.requires.chunked.stops in
+    omega (arith, long, c.requires.block, c.args.ends.now.ok.0)
+
+pub unwrap-requires : goal.unwrap-requires
+unwrap-requires g c =
+    let long = ends_long c.args.base c.args.blocks.now.items c.args.ends.now.items c.requires.chunked.stops in
+    c.insert.ensures.succeeds (omega (arith, long, c.requires.ends_fit, c.requires.spare, c.args.ends.now.ok.0))
+
+pub returns : goal.returns
+returns g c =
+    let bs = c.args.blocks.now.items in
+    let es = c.args.ends.now.items in
+    let i = c.args.place.block in
+    let ring = c.unwrap-ring.result in
+    let left = c.pop.new.self.items in
+    let sp = popped c.pop.result ring c.args.spare.now.items left c.unwrap-ring.ensures c.pop.ensures.items in
+    let spares = subst EachSpare sp c.requires.spares in
+    let empty = spares_last left ring spares in
+    let u = c.halve-upper.ensures.halved in
+    let upper = c.halve-upper.result in
+    let half = c.max-half.result in
+    let within = c.requires.within u.from u.was in
+    let same = size_of c.index.result.now u.from (same_at bs i c.index.result.now u.from c.requires.block c.index.ensures u.was) in
+    let low : half < length u.from.items = omega (arith, within, same, c.index.result.now.ok.0, c.len-most.ensures, c.capacity.ensures, c.saturating_sub.ensures, c.max-half.ensures, empty.1) in
+    let fs : c.insert.new.self.items ≡ insert es i (c.index-2.result.now - c.len.result) = rw c.unwrap.ensures at c.insert.ensures.items in
+    let ds : c.insert-2.new.self.items ≡ insert c.halve-upper.new.blocks.items (i + 1) upper = rw c.unwrap-2.ensures at c.insert-2.ensures.items in
+    let s = split_is c.args.base bs c.halve-upper.new.blocks.items c.insert-2.new.self.items es c.insert.new.self.items i (i + 1) half c.index-2.result.now c.len.result ring upper c.requires.block u (omega (arith, c.max-half.ensures, c.requires.some)) low (add-one i) ds (c.len.ensures ∙ upper.ok.0) c.index-2.ensures fs c.requires.chunked in
+    record {
+      chunked = s.chunked;
+      spares = spares_front left ring spares;
+      items = s.items;
+      kept = record {
+        rings = omega (arith, s.count, ap length sp, length-append left (ring ∷ []));
+        places = omega (arith, s.places, ap places_of sp, places_append left (ring ∷ []), u.upper_places);
+      };
+      block = omega (arith, s.count, c.requires.block);
+      start = s.start;
+      within = λ b e. let l = s.lower b e in omega (arith, l, c.max-half.ensures);
+      place = s.place;
+      capacity = (omega (arith, c.insert-2.ensures.capacity, c.halve-upper.ensures.capacity), c.insert.ensures.capacity);
+    }

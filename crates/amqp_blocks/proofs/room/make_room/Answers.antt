@@ -1,0 +1,52 @@
+use Rattle.std.proofs.Common.{ap, arith}
+use Rattle.std.proofs.lemmas.Result.{on_ok_weaker}
+use Rattle.amqp_blocks.specs.Chunked.{items_of, places_of}
+use Rattle.amqp_blocks.proofs.PlaceLemmas.{base_low, total_is}
+use Rattle.amqp_blocks.proofs.RoomLemmas.{items_fit, spares_count}
+use Rattle.amqp_blocks.proofs.room.make_room.Goals as goal
+
+pub returns-then-additional-len-clause-ok : goal.returns-then-additional-len-clause-ok
+returns-then-additional-len-clause-ok g c =
+    let v = c.requires.sound in
+    let fit = items_fit c.args.blocks.now.items v.chunked.some in
+    let spare = spares_count c.args.spare.now.items v.spares in
+    omega (arith, fit, spare, c.if-additional-len.true, c.len.ensures, c.args.spare.now.ok.0)
+
+pub total-requires : goal.total-requires
+total-requires g c = base_low c.args.base c.args.blocks.now.items c.args.ends.now.items c.requires.sound.chunked.stops
+
+pub make_room_in_block-requires-clause-fits : goal.make_room_in_block-requires-clause-fits
+make_room_in_block-requires-clause-fits g c =
+    let n = total_is c.args.base c.total.result c.args.blocks.now.items c.args.ends.now.items c.requires.sound.chunked.stops c.total.ensures.none c.total.ensures.some in
+    omega (arith, n, c.min-rest.ensures, c.if-additional-rest.true, c.if-additional-len.false)
+
+pub returns-then-additional-rest-clause-kept : goal.returns-then-additional-rest-clause-kept
+returns-then-additional-rest-clause-kept g c = omega (arith, c.make_room_in_block.ensures.kept)
+
+pub returns-then-additional-rest-clause-ok : goal.returns-then-additional-rest-clause-ok
+returns-then-additional-rest-clause-ok g c = on_ok_weaker c.make_room_in_block.result (λ w. omega (arith, w)) c.make_room_in_block.ensures.ok
+
+pub returns-then-additional-rest-2-clause-items : goal.returns-then-additional-rest-2-clause-items
+returns-then-additional-rest-2-clause-items g c = ap items_of c.make_room_for_first.ensures.items
+
+pub returns-then-additional-rest-2-clause-kept : goal.returns-then-additional-rest-2-clause-kept
+returns-then-additional-rest-2-clause-kept g c =
+    let e = c.make_room_for_first.ensures in
+    omega (arith, e.kept, ap places_of e.items)
+
+pub returns-then-additional-rest-2-clause-ok : goal.returns-then-additional-rest-2-clause-ok
+returns-then-additional-rest-2-clause-ok g c =
+    let e = c.make_room_for_first.ensures in
+    let fit = items_fit c.make_room_for_first.new.blocks.items e.sound.chunked.some in
+    on_ok_weaker c.make_room_for_first.result (λ w. omega (arith, w, fit)) e.ok
+
+pub returns : goal.returns
+returns g c =
+    let e = c.make_room_in_spares.ensures in
+    let fit = items_fit c.make_room_in_spares.new.blocks.items e.sound.chunked.some in
+    record {
+      sound = e.sound;
+      items = ap items_of e.items;
+      kept = omega (arith, e.kept, ap places_of e.items);
+      ok = on_ok_weaker c.make_room_in_spares.result (λ w. omega (arith, w, fit)) e.ok;
+    }

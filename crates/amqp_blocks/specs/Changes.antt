@@ -1,0 +1,125 @@
+-- Changes of one block.
+use Rattle.std.specs.Prelude.{ℕ, zero, suc, ◌<◌, ◌≤◌, ◌≡◌, ◌+◌, List, [], ◌∷◌, ◌++◌, length, take, drop, slice_index_or, slice_set}
+use Rattle.std.specs.List.{remove, insert}
+use Rattle.amqp_blocks.specs.Chunked.{Block, items_of, ends_from, EachSome, places_of}
+
+module _ {T : Type 0} where
+  -- one block has lost items
+  pub record IsThinned (old : List (Block T)) (i at count : ℕ) (new : List (Block T)) : Type 0 where
+    pub from : Block T
+    pub to : Block T
+    pub was : from ≡ slice_index_or old i from
+    pub set : new ≡ slice_set old i to
+    pub items : to.items ≡ take at from.items ++ drop (at + count) from.items
+
+  -- one block has lost its first item
+  pub record IsPopped (old : List (Block T)) (i : ℕ) (item : T) (new : List (Block T)) : Type 0 where
+    pub from : Block T
+    pub to : Block T
+    pub was : from ≡ slice_index_or old i from
+    pub set : new ≡ slice_set old i to
+    pub items : from.items ≡ item ∷ to.items
+
+  -- one block has an item more
+  pub record IsPut (old : List (Block T)) (i at : ℕ) (item : T) (new : List (Block T)) : Type 0 where
+    pub from : Block T
+    pub to : Block T
+    pub was : from ≡ slice_index_or old i from
+    pub set : new ≡ slice_set old i to
+    pub items : to.items ≡ insert from.items at item
+    pub places : from.cap ≤ to.cap
+
+  -- one block has an item more, and its last one is out
+  pub record IsShifted (old : List (Block T)) (i at : ℕ) (item last : T) (new : List (Block T)) : Type 0 where
+    pub from : Block T
+    pub to : Block T
+    pub was : from ≡ slice_index_or old i from
+    pub set : new ≡ slice_set old i to
+    pub items : to.items ++ last ∷ [] ≡ insert from.items at item
+    pub places : from.cap ≤ to.cap
+
+  -- one block has an item more, and its first one is out
+  pub record IsUnshifted (old : List (Block T)) (i at : ℕ) (item first : T) (new : List (Block T)) : Type 0 where
+    pub from : Block T
+    pub to : Block T
+    pub was : from ≡ slice_index_or old i from
+    pub set : new ≡ slice_set old i to
+    pub items : first ∷ to.items ≡ insert from.items at item
+    pub places : from.cap ≤ to.cap
+
+  -- one block has another item at a place
+  pub record IsReplaced (old : List (Block T)) (i at : ℕ) (item : T) (new : List (Block T)) : Type 0 where
+    pub from : Block T
+    pub to : Block T
+    pub was : from ≡ slice_index_or old i from
+    pub set : new ≡ slice_set old i to
+    pub items : to.items ≡ slice_set from.items at item
+    pub places : to.cap ≡ from.cap
+
+  -- one block's ring may have grown
+  pub record IsGrown (old : List (Block T)) (i : ℕ) (new : List (Block T)) : Type 0 where
+    pub from : Block T
+    pub to : Block T
+    pub was : from ≡ slice_index_or old i from
+    pub set : new ≡ slice_set old i to
+    pub items : to.items ≡ from.items
+    pub places : from.cap ≤ to.cap
+
+  -- one block has its first items, and the others are apart
+  pub record IsHalved (old : List (Block T)) (i half : ℕ) (new : List (Block T)) (spare upper : Block T) : Type 0 where
+    pub from : Block T
+    pub lower : Block T
+    pub was : from ≡ slice_index_or old i from
+    pub set : new ≡ slice_set old i lower
+    pub items : lower.items ≡ take half from.items
+    pub rest : upper.items ≡ drop half from.items
+    pub places : lower.cap ≡ from.cap
+    pub upper_places : upper.cap ≡ spare.cap
+
+  -- a block is gone where it was empty, and else all is as it was
+  abbrev pub IsSwept : List (Block T) → List ℕ → ℕ → List (Block T) → List ℕ → Type 0
+  IsSwept old ends i new stops =
+      (b : Block T) → b ≡ slice_index_or old i b →
+      (length b.items ≡ 0 → (new ≡ remove old i) × (stops ≡ remove ends i)) × (0 < length b.items → (new ≡ old) × (stops ≡ ends))
+
+  -- no ring is lost, and no place of one
+  pub record KeepsPlaces (old spare new left : List (Block T)) : Type 0 where
+    pub rings : length new + length left ≡ length old + length spare
+    pub places : places_of old + places_of spare ≤ places_of new + places_of left
+
+  -- an item that was to come at a rank has come in, and another one is to come at a second rank, with the same items in the end
+  pub record IsPassed (old : List (Block T)) (rank : ℕ) (item : T) (new : List (Block T)) (then_rank : ℕ) (out : T) : Type 0 where
+    pub sizes : (n : ℕ) → ends_from n new ≡ ends_from n old
+    pub some : EachSome old → EachSome new
+    pub items : insert (items_of new) then_rank out ≡ insert (items_of old) rank item
+    pub count : length (items_of new) ≡ length (items_of old)
+    pub blocks : length new ≡ length old
+    pub places : places_of old ≤ places_of new
+
+  -- each block but this one has an item, and none has more than 256
+  abbrev pub EachSomeBut : List (Block T) → ℕ → Type 0
+  EachSomeBut [] i = Unit {0}
+  EachSomeBut (b ∷ bs) zero = (length b.items ≤ 256) × EachSome bs
+  EachSomeBut (b ∷ bs) (suc i) = (0 < length b.items) × (length b.items ≤ 256) × EachSomeBut bs i
+
+  -- blocks that hold the first items of a list, and their running lengths
+  pub record IsFront (base rank : ℕ) (items : List T) (blocks : List (Block T)) (ends : List ℕ) : Type 0 where
+    pub stops : ends ≡ ends_from base blocks
+    pub some : EachSome blocks
+    pub is : items_of blocks ≡ take rank items
+
+  -- the first of these blocks has lost its first items
+  abbrev pub IsTrimmed : List (Block T) → ℕ → List (Block T) → Type 0
+  IsTrimmed old zero new = new ≡ old
+  IsTrimmed [] (suc at) new = ⊥
+  IsTrimmed (b ∷ bs) (suc at) new = (c : Block T) × (new ≡ c ∷ bs) × (c.items ≡ drop (suc at) b.items)
+
+  -- two blocks that follow each other are one
+  pub record IsJoined (old : List (Block T)) (i : ℕ) (new : List (Block T)) : Type 0 where
+    pub lower : Block T
+    pub upper : Block T
+    pub whole : Block T
+    pub lower_was : lower ≡ slice_index_or old i lower
+    pub upper_was : upper ≡ slice_index_or old (i + 1) upper
+    pub set : new ≡ slice_set (remove old (i + 1)) i whole
+    pub items : whole.items ≡ lower.items ++ upper.items

@@ -1,0 +1,112 @@
+//! An item comes into the sequence: into a block that has a place, or with a new block for it.
+
+ghost use Rattle.std.specs.Prelude.{◌≡◌, ◌+◌, ◌-◌, ◌^◌, ◌<◌, ◌≤◌, length, slice_index, slice_index_or, vec_capacity, min};
+ghost use Rattle.std.specs.List.{insert};
+ghost use Rattle.amqp_blocks.specs.Chunked.{Block, items_of, start_of, places_of, IsChunked, EachSpare, Within, HasItem, HasPlace};
+ghost use Rattle.amqp_blocks.specs.Changes.{KeepsPlaces};
+
+use crate::lengths::raise_from;
+use crate::rings::{halve, put};
+use crate::search::Place;
+use std::collections::VecDeque;
+
+/// An item comes into a block that has a place for it.
+#[inline(always)]
+pub(crate) fn put_in<T>(
+    blocks: &mut Vec<VecDeque<T>>,
+    ends: &mut Vec<usize>,
+    base: usize,
+    place: Place,
+    item: T,
+)
+    requires chunked { IsChunked base blocks.old.items ends.old.items }
+    requires block { place.block < length blocks.old.items }
+    requires within { Within blocks.old.items place.block place.at }
+    requires place { HasPlace blocks.old.items place.block }
+    requires few { length (items_of blocks.old.items) < 2 ^ 33 }
+    ensures chunked { IsChunked base blocks.new.items ends.new.items }
+    ensures items { items_of blocks.new.items ≡ insert (items_of blocks.old.items) (start_of blocks.old.items place.block + place.at) item }
+    ensures places { places_of blocks.old.items ≤ places_of blocks.new.items }
+    ensures count { length blocks.new.items ≡ length blocks.old.items }
+    ensures capacity { (vec_capacity blocks.new ≡ vec_capacity blocks.old) × (vec_capacity ends.new ≡ vec_capacity ends.old) }
+{
+    put(blocks, place, item);
+    raise_from(ends, place.block);
+}
+
+/// Where a block begins: where the one before it ends.
+fn start(ends: &Vec<usize>, base: usize, block: usize) -> usize
+    requires { block ≤ length ends.now.items }
+    ensures first { block ≡ 0 → result ≡ base }
+    ensures other { 0 < block → result ≡ slice_index ends.now.items (block - 1) }
+{
+    if block == 0 {
+        return base;
+    }
+    ends[block - 1]
+}
+
+/// A spare ring becomes a block of one item.
+pub(crate) fn put_alone<T>(
+    blocks: &mut Vec<VecDeque<T>>,
+    ends: &mut Vec<usize>,
+    base: usize,
+    spare: &mut Vec<VecDeque<T>>,
+    block: usize,
+    item: T,
+)
+    requires chunked { IsChunked base blocks.old.items ends.old.items }
+    requires spares { EachSpare spare.old.items }
+    requires spare { 0 < length spare.old.items }
+    requires blocks_fit { length blocks.old.items + length spare.old.items ≤ vec_capacity blocks.old }
+    requires ends_fit { length blocks.old.items + length spare.old.items ≤ vec_capacity ends.old }
+    requires block { block ≤ length blocks.old.items }
+    requires few { length (items_of blocks.old.items) < 2 ^ 33 }
+    ensures chunked { IsChunked base blocks.new.items ends.new.items }
+    ensures spares { EachSpare spare.new.items }
+    ensures items { items_of blocks.new.items ≡ insert (items_of blocks.old.items) (start_of blocks.old.items block) item }
+    ensures kept { KeepsPlaces blocks.old.items spare.old.items blocks.new.items spare.new.items }
+    ensures capacity { (vec_capacity blocks.old ≤ vec_capacity blocks.new) × (vec_capacity ends.old ≤ vec_capacity ends.new) }
+{
+    let mut ring = spare.pop().unwrap();
+    ring.push_back_reserved(item);
+    let end = start(ends, base, block) + 1;
+    raise_from(ends, block);
+    ends.insert(block, end).unwrap();
+    blocks.insert(block, ring).unwrap();
+}
+
+/// A block is cut in two at a place in it or behind it, with a spare ring for the upper part. No item is lost.
+pub(crate) fn split<T>(
+    blocks: &mut Vec<VecDeque<T>>,
+    ends: &mut Vec<usize>,
+    base: usize,
+    spare: &mut Vec<VecDeque<T>>,
+    place: Place,
+)
+    requires chunked { IsChunked base blocks.old.items ends.old.items }
+    requires spares { EachSpare spare.old.items }
+    requires spare { 0 < length spare.old.items }
+    requires blocks_fit { length blocks.old.items + length spare.old.items ≤ vec_capacity blocks.old }
+    requires ends_fit { length blocks.old.items + length spare.old.items ≤ vec_capacity ends.old }
+    requires block { place.block < length blocks.old.items }
+    requires some { 0 < place.at }
+    requires within { HasItem blocks.old.items place.block place.at }
+    ensures chunked { IsChunked base blocks.new.items ends.new.items }
+    ensures spares { EachSpare spare.new.items }
+    ensures items { items_of blocks.new.items ≡ items_of blocks.old.items }
+    ensures kept { KeepsPlaces blocks.old.items spare.old.items blocks.new.items spare.new.items }
+    ensures block { place.block < length blocks.new.items }
+    ensures start { start_of blocks.new.items place.block ≡ start_of blocks.old.items place.block }
+    ensures within { Within blocks.new.items place.block place.at }
+    ensures place { HasPlace blocks.new.items place.block }
+    ensures capacity { (vec_capacity blocks.old ≤ vec_capacity blocks.new) × (vec_capacity ends.old ≤ vec_capacity ends.new) }
+{
+    let ring = spare.pop().unwrap();
+    let most = blocks[place.block].len();
+    let half = place.at.max(most.saturating_sub(ring.capacity()));
+    let upper = halve(blocks, place.block, half, ring);
+    let end = ends[place.block] - upper.len();
+    ends.insert(place.block, end).unwrap();
+    blocks.insert(place.block + 1, upper).unwrap();
+}

@@ -1,0 +1,73 @@
+//! Running lengths.
+
+ghost use Rattle.std.specs.Prelude.{◌≡◌, ℕ, ◌+◌, ◌-◌, ◌^◌, ◌<◌, ◌≤◌, ◌++◌, length, map, take, drop, slice_index, vec_capacity};
+
+/// Lowers running lengths.
+fn lower(ends: &mut [usize], count: usize)
+    requires enough { (i : ℕ) → i < length ends.old → count ≤ slice_index ends.old i }
+    ensures lowered { ends.new ≡ map (λ e. e - count) ends.old }
+{
+    for i in 0..ends.len() {
+        ends[i] -= count;
+    }
+}
+
+/// Raises running lengths by one.
+fn raise(ends: &mut [usize])
+    requires few { (i : ℕ) → i < length ends.old → slice_index ends.old i < 2 ^ 64 - 1 }
+    ensures raised { ends.new ≡ map (λ e. e + 1) ends.old }
+{
+    for i in 0..ends.len() {
+        ends[i] += 1;
+    }
+}
+
+/// Lowers the running lengths from a block on.
+pub(crate) fn lower_from(ends: &mut Vec<usize>, block: usize, count: usize)
+    requires block { block ≤ length ends.old.items }
+    requires enough { (i : ℕ) → i < length (drop block ends.old.items) → count ≤ slice_index (drop block ends.old.items) i }
+    ensures lowered { ends.new.items ≡ take block ends.old.items ++ map (λ e. e - count) (drop block ends.old.items) }
+    ensures capacity { vec_capacity ends.new ≡ vec_capacity ends.old }
+{
+    lower(&mut ends[block..], count);
+}
+
+/// Raises the running lengths from a block on by one.
+pub(crate) fn raise_from(ends: &mut Vec<usize>, block: usize)
+    requires block { block ≤ length ends.old.items }
+    requires few { (i : ℕ) → i < length (drop block ends.old.items) → slice_index (drop block ends.old.items) i < 2 ^ 64 - 1 }
+    ensures raised { ends.new.items ≡ take block ends.old.items ++ map (λ e. e + 1) (drop block ends.old.items) }
+    ensures capacity { vec_capacity ends.new ≡ vec_capacity ends.old }
+{
+    raise(&mut ends[block..]);
+}
+
+/// Tells the running lengths that items have left a block: the base rises where it is the first one. Answers the base.
+pub(crate) fn sink(ends: &mut Vec<usize>, base: usize, block: usize, count: usize) -> usize
+    requires block { block ≤ length ends.old.items }
+    requires fits { base + count < 2 ^ 64 }
+    requires enough { (i : ℕ) → i < length (drop block ends.old.items) → count ≤ slice_index (drop block ends.old.items) i }
+    ensures first { block ≡ 0 → (ends.new.items ≡ ends.old.items) × (result ≡ base + count) }
+    ensures other { 0 < block → (result ≡ base) × (ends.new.items ≡ take block ends.old.items ++ map (λ e. e - count) (drop block ends.old.items)) }
+    ensures capacity { vec_capacity ends.new ≡ vec_capacity ends.old }
+{
+    if block == 0 {
+        return base + count;
+    }
+    lower_from(ends, block, count);
+    base
+}
+
+/// Counts from 0 again, where the base is large. Answers the base.
+pub(crate) fn settle(ends: &mut Vec<usize>, base: usize) -> usize
+    requires enough { (i : ℕ) → i < length ends.old.items → base ≤ slice_index ends.old.items i }
+    ensures small { base ≤ 2 ^ 32 → (ends.new.items ≡ ends.old.items) × (result ≡ base) }
+    ensures large { 2 ^ 32 < base → (ends.new.items ≡ map (λ e. e - base) ends.old.items) × (result ≡ 0) }
+    ensures capacity { vec_capacity ends.new ≡ vec_capacity ends.old }
+{
+    if base <= 0x1_0000_0000 {
+        return base;
+    }
+    lower_from(ends, 0, base);
+    0
+}

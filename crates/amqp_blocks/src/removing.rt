@@ -1,0 +1,55 @@
+//! Which items leave, and how.
+
+ghost use Rattle.std.specs.Prelude.{◌≡◌, ◌+◌, ◌-◌, ◌^◌, ◌<◌, ◌≤◌, ◌++◌, length, take, drop};
+ghost use Rattle.amqp_blocks.specs.Chunked.{items_of, IsSound};
+
+use crate::cutting::cut_wide;
+use crate::joining::join_near;
+use crate::leaving::leave;
+use crate::search::{locate, locate_end};
+use std::collections::VecDeque;
+
+/// The items of a stretch of ranks leave. Answers the base, and the block that the stretch began in.
+fn cut_out<T: Drop>(
+    blocks: &mut Vec<VecDeque<T>>,
+    ends: &mut Vec<usize>,
+    base: usize,
+    spare: &mut Vec<VecDeque<T>>,
+    from: usize,
+    to: usize,
+) -> (usize, usize)
+    requires sound { IsSound base blocks.old ends.old spare.old }
+    requires order { from < to }
+    requires within { to ≤ length (items_of blocks.old.items) }
+    ensures sound { IsSound result.0 blocks.new ends.new spare.new }
+    ensures items { items_of blocks.new.items ≡ take from (items_of blocks.old.items) ++ drop to (items_of blocks.old.items) }
+{
+    let first = locate(ends, base, from);
+    if to - from <= blocks[first.block].len() - first.at {
+        let base = leave(blocks, ends, spare, base, first, to - from);
+        return (base, first.block);
+    }
+    let last = locate_end(ends, base, to);
+    let base = cut_wide(blocks, ends, base, first, last, from, to - from);
+    (base, first.block)
+}
+
+/// The items of a stretch of ranks leave, and blocks of few items are joined there. Answers the base.
+pub(crate) fn remove_some<T: Drop>(
+    blocks: &mut Vec<VecDeque<T>>,
+    ends: &mut Vec<usize>,
+    base: usize,
+    spare: &mut Vec<VecDeque<T>>,
+    from: usize,
+    to: usize,
+) -> usize
+    requires sound { IsSound base blocks.old ends.old spare.old }
+    requires order { from < to }
+    requires within { to ≤ length (items_of blocks.old.items) }
+    ensures sound { IsSound result blocks.new ends.new spare.new }
+    ensures items { items_of blocks.new.items ≡ take from (items_of blocks.old.items) ++ drop to (items_of blocks.old.items) }
+{
+    let (base, block) = cut_out(blocks, ends, base, spare, from, to);
+    join_near(blocks, ends, base, spare, block);
+    base
+}

@@ -1,0 +1,218 @@
+//! The sequence.
+
+ghost use Rattle.std.specs.Prelude.{◌≡◌, ◌==◌, ◌↔◌, ◌+◌, ◌-◌, ◌^◌, ◌<◌, ◌≤◌, [], ◌∷◌, ◌++◌, length, take, drop, slice_get, slice_set, slice_index_or, Some, IsSome, OnOk, option_copied};
+ghost use Rattle.std.specs.List.{insert};
+ghost use Rattle.std.specs.Option.{option_to_list};
+ghost use Rattle.amqp_blocks.specs.Chunked.{Block, items_of, start_of, HasItem};
+
+use crate::cascade::end_of;
+use crate::inserting::{put_before, put_last};
+use crate::leaving::pop;
+use crate::removing::remove_some;
+use crate::rings::write_at;
+use crate::room::make_room;
+use crate::search::{Place, locate, total};
+use std::alloc::{AllocError, Global};
+use std::collections::VecDeque;
+use std::marker::Model;
+
+/// The most items in a block.
+pub const BLOCK: usize = 256;
+
+/// Items in order, in blocks that are never empty.
+#[derive(Drop)]
+pub struct Blocks<T> {
+    blocks: Vec<VecDeque<T>>,
+    // Where each block ends: the items up to there, and `base` more.
+    ends: Vec<usize>,
+    // How many items have left at the front.
+    base: usize,
+    // Empty rings for the blocks to come.
+    spare: Vec<VecDeque<T>>,
+}
+
+impl<T> Model for Blocks<T> {
+    ghost use Rattle.amqp_blocks.specs.Chunked.{Sequence, items_of, room_of, IsSound};
+
+    ghost Value = { Sequence T };
+
+    ghost view = { λ s. record { items = items_of s.blocks.items; room = room_of s.blocks.items s.spare.items } };
+
+    ghost invariant = { λ s. IsSound s.base s.blocks s.ends s.spare };
+}
+
+/// The item of a place.
+#[inline(always)]
+fn item_of<T>(blocks: &Vec<VecDeque<T>>, place: Place) -> &T
+    requires at { HasItem blocks.now.items place.block place.at }
+    requires block { place.block < length blocks.now.items }
+    ensures value { slice_get (items_of blocks.now.items) (start_of blocks.now.items place.block + place.at) ≡ Some result.now }
+{
+    &blocks[place.block][place.at]
+}
+
+impl<T> Blocks<T> {
+    /// A sequence of no items. It asks for no memory.
+    pub fn new(alloc: Global) -> Blocks<T>
+        ensures items { result.items ≡ [] }
+        ensures room { result.room ≡ 0 }
+    {
+        Blocks {
+            blocks: Vec::new(alloc),
+            ends: Vec::new(alloc),
+            base: 0,
+            spare: Vec::new(alloc),
+        }
+    }
+
+    /// How many items there are.
+    #[inline(always)]
+    pub fn len(&self) -> usize
+        ensures { result ≡ length self.now.items }
+    {
+        total(&self.ends, self.base)
+    }
+
+    /// Whether there are no items.
+    pub fn is_empty(&self) -> bool
+        ensures { result ≡ (length self.now.items == 0) }
+    {
+        self.len() == 0
+    }
+
+    /// The item of a rank, which is below the length.
+    #[inline(always)]
+    pub fn get(&self, rank: usize) -> &T
+        requires within { rank < length self.now.items }
+        ensures value { slice_get self.now.items rank ≡ Some result.now }
+    {
+        let place = locate(&self.ends, self.base, rank);
+        item_of(&self.blocks, place)
+    }
+
+    /// The first item, or `None` where there is none.
+    #[inline(always)]
+    pub fn first(&self) -> Option<&T>
+        ensures { option_copied result ≡ slice_get self.now.items 0 }
+    {
+        if self.blocks.len() == 0 {
+            return None;
+        }
+        Some(item_of(&self.blocks, Place { block: 0, at: 0 }))
+    }
+
+    /// The last item, or `None` where there is none.
+    #[inline(always)]
+    pub fn last(&self) -> Option<&T>
+        ensures { option_copied result ≡ slice_get self.now.items (length self.now.items - 1) }
+    {
+        let count = self.blocks.len();
+        if count == 0 {
+            return None;
+        }
+        let end = end_of(&self.blocks, count - 1);
+        let place = Place {
+            block: end.block,
+            at: end.at - 1,
+        };
+        Some(item_of(&self.blocks, place))
+    }
+
+    /// Makes room for so many items more, wherever they come. A refusal leaves all items as they were.
+    #[inline(always)]
+    pub fn reserve(&mut self, additional: usize) -> Result<(), AllocError>
+        ensures items { self.new.items ≡ self.old.items }
+        ensures kept { self.old.room ≤ self.new.room }
+        ensures room { OnOk result (additional ≤ self.new.room) }
+    {
+        make_room(
+            &mut self.blocks,
+            &mut self.ends,
+            self.base,
+            &mut self.spare,
+            additional,
+        )
+    }
+
+    /// Puts an item behind the last one. It needs room for one, and asks for no memory.
+    #[inline(always)]
+    pub fn push_back(&mut self, item: T)
+        requires room { 0 < self.old.room }
+        requires few { length self.old.items < 2 ^ 33 }
+        ensures items { self.new.items ≡ self.old.items ++ item ∷ [] }
+        ensures room { self.old.room ≤ self.new.room + 1 }
+    {
+        put_last(
+            &mut self.blocks,
+            &mut self.ends,
+            self.base,
+            &mut self.spare,
+            item,
+        );
+    }
+
+    /// Puts an item before that of a rank, or behind the last where the rank is the length. It needs room for one, and asks for no memory.
+    pub fn insert(&mut self, rank: usize, item: T)
+        requires room { 0 < self.old.room }
+        requires few { length self.old.items < 2 ^ 33 }
+        requires within { rank ≤ length self.old.items }
+        ensures items { self.new.items ≡ insert self.old.items rank item }
+        ensures room { self.old.room ≤ self.new.room + 1 }
+    {
+        put_before(
+            &mut self.blocks,
+            &mut self.ends,
+            self.base,
+            &mut self.spare,
+            rank,
+            item,
+        );
+    }
+
+    /// Puts an item in the place of that of a rank, which is dropped.
+    pub fn replace(&mut self, rank: usize, item: T)
+    where
+        T: Drop,
+        requires within { rank < length self.old.items }
+        ensures items { self.new.items ≡ slice_set self.old.items rank item }
+        ensures room { self.new.room ≡ self.old.room }
+    {
+        let place = locate(&self.ends, self.base, rank);
+        write_at(&mut self.blocks, place, item);
+    }
+
+    /// Takes the first item out, or answers `None` where there is none.
+    #[inline(always)]
+    pub fn pop_front(&mut self) -> Option<T>
+        ensures items { self.old.items ≡ option_to_list result ++ self.new.items }
+        ensures variant { IsSome result ↔ (0 < length self.old.items) }
+    {
+        if self.blocks.len() == 0 {
+            return None;
+        }
+        let (item, base) = pop(&mut self.blocks, &mut self.ends, &mut self.spare, self.base);
+        self.base = base;
+        Some(item)
+    }
+
+    /// Takes the items of the ranks from `from` on and below `to` out, and drops them.
+    pub fn remove_range(&mut self, from: usize, to: usize)
+    where
+        T: Drop,
+        requires order { from ≤ to }
+        requires within { to ≤ length self.old.items }
+        ensures items { self.new.items ≡ take from self.old.items ++ drop to self.old.items }
+    {
+        if from == to {
+            return;
+        }
+        self.base = remove_some(
+            &mut self.blocks,
+            &mut self.ends,
+            self.base,
+            &mut self.spare,
+            from,
+            to,
+        );
+    }
+}

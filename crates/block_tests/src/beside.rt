@@ -1,0 +1,108 @@
+//! A sequence in blocks beside a plain list, which gets the same changes.
+
+use amqp_blocks::Blocks;
+use std::alloc::Global;
+use std::process::Abort;
+use std::test::Fail;
+
+/// No run has more items.
+const MOST: usize = 100_000;
+
+/// A sequence and a plain list of the same items.
+#[derive(Drop)]
+pub struct Beside {
+    blocks: Blocks<u64>,
+    plain: Vec<u64>,
+}
+
+impl Beside {
+    /// Both with no items.
+    pub fn new(alloc: Global) -> Beside {
+        Beside {
+            blocks: Blocks::new(alloc),
+            plain: Vec::new(alloc),
+        }
+    }
+
+    /// How many items the plain list has.
+    pub fn len(&self) -> usize {
+        self.plain.len()
+    }
+
+    /// Puts an item behind the last.
+    pub fn push_back(&mut self, rt: &impl Abort, item: u64) -> Result<(), Fail> {
+        assert!(rt; self.blocks.len() < MOST);
+        self.blocks.reserve(1)?;
+        self.blocks.push_back(item);
+        self.plain.push(item)?;
+        Ok(())
+    }
+
+    /// Puts an item before that of a rank.
+    pub fn insert(&mut self, rt: &impl Abort, rank: usize, item: u64) -> Result<(), Fail> {
+        self.blocks.reserve(1)?;
+        assert!(rt; self.blocks.len() < MOST && rank <= self.blocks.len());
+        self.blocks.insert(rank, item);
+        assert!(rt; rank <= self.plain.len());
+        self.plain.insert(rank, item)?;
+        Ok(())
+    }
+
+    /// Makes room for items, then puts them in at scattered ranks, with no call in between.
+    pub fn insert_many(&mut self, rt: &impl Abort, count: usize, step: usize) -> Result<(), Fail> {
+        insert_many(rt, &mut self.blocks, &mut self.plain, count, step)
+    }
+
+    /// Puts an item in the place of another.
+    pub fn replace(&mut self, rt: &impl Abort, rank: usize, item: u64) {
+        assert!(rt; rank < self.blocks.len() && rank < self.plain.len());
+        self.blocks.replace(rank, item);
+        self.plain[rank] = item;
+    }
+
+    /// Takes the first item out.
+    pub fn pop_front(&mut self, rt: &impl Abort) {
+        let item = self.blocks.pop_front();
+        assert!(rt; self.plain.len() > 0);
+        assert_eq!(rt; item, Some(self.plain.remove(0)));
+    }
+
+    /// Takes a stretch out.
+    pub fn remove_range(&mut self, rt: &impl Abort, from: usize, to: usize) {
+        assert!(rt; from <= to && to <= self.blocks.len() && to <= self.plain.len());
+        self.blocks.remove_range(from, to);
+        self.plain.drain(from..to);
+    }
+
+    /// Whether both have the same items, their ends and lengths among them.
+    pub fn are_equal(&self, rt: &impl Abort) {
+        assert_eq!(rt; self.blocks.len(), self.plain.len());
+        assert_eq!(rt; self.blocks.is_empty(), self.plain.is_empty());
+        assert_eq!(rt; self.blocks.first(), self.plain.first());
+        assert_eq!(rt; self.blocks.last(), self.plain.last());
+        for (rank, item) in self.plain.iter().enumerate() {
+            assert!(rt; rank < self.blocks.len());
+            assert_eq!(rt; self.blocks.get(rank), item, "at {rank}");
+        }
+    }
+}
+
+/// Makes room for items, then puts them in at scattered ranks, with no call in between.
+fn insert_many(
+    rt: &impl Abort,
+    blocks: &mut Blocks<u64>,
+    plain: &mut Vec<u64>,
+    count: usize,
+    step: usize,
+) -> Result<(), Fail> {
+    blocks.reserve(count)?;
+    for i in 0..count {
+        assert!(rt; blocks.len() < MOST);
+        let rank = i.wrapping_mul(step) % (blocks.len() + 1);
+        let item = i as u64;
+        blocks.insert(rank, item);
+        assert!(rt; rank <= plain.len());
+        plain.insert(rank, item)?;
+    }
+    Ok(())
+}
