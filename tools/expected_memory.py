@@ -80,8 +80,8 @@ def sends(rows):
 
 
 def receives(rows):
-    """What no later disposition names comes first: its session may refuse it for memory."""
-    for number in (10, 20, 21):
+    """What no later disposition names comes first: its session may refuse it for memory, for the first record or as the ring grows."""
+    for number in (10, 11, 20, 21):
         rows.ask(recv(transfer(number, "t") + "70", 5).replace("recv", "take"))
 
 

@@ -11,7 +11,7 @@ mod route_table;
 mod routing;
 mod shown;
 
-use amqp_session::ConnectionStopReason;
+use amqp_session::{ConnectionStopReason, KeyHash};
 use amqp_types::{ConnectionState, Open};
 use channel_table::ChannelTable;
 use route_table::RouteTable;
@@ -50,8 +50,21 @@ impl Model for Connection {
 }
 
 impl Connection {
-    /// A connection in this state, which is to send this Open. Nothing is held, and no stop reason is recorded.
+    /// A connection in this state, which is to send this Open. Nothing is held, and no stop reason is recorded. Its routes are found
+    /// by [`KeyHash::Fixed`].
     pub fn new(alloc: Global, state: ConnectionState, local_open: Open) -> Connection
+        ensures { result ≡ new_connection state local_open }
+    {
+        Connection::keyed(alloc, KeyHash::Fixed, state, local_open)
+    }
+
+    /// The same connection, whose routes are found by this hash.
+    pub fn keyed(
+        alloc: Global,
+        hash: KeyHash,
+        state: ConnectionState,
+        local_open: Open,
+    ) -> Connection
         ensures { result ≡ new_connection state local_open }
     {
         Connection {
@@ -60,7 +73,7 @@ impl Connection {
             agreed_channel_max: local_open.channel_max,
             local_open,
             session_by_outgoing_channel: ChannelTable::new(alloc),
-            session_by_incoming_channel: RouteTable::new(alloc),
+            session_by_incoming_channel: RouteTable::new(alloc, hash),
         }
     }
 

@@ -24,7 +24,7 @@ mod waiting;
 use crate::laws::law_of_histories;
 use amqp_connection::{Connection, SessionNo};
 use amqp_frames::{FrameDecoder, FrameEncoder, Heads};
-use amqp_session::{LinkRelay, Session};
+use amqp_session::{KeyHash, LinkRelay, Session};
 use amqp_types::{ConnectionState, Open};
 pub use answer::{Answer, OutputError, Stopped};
 use indexmap::IndexMap;
@@ -41,6 +41,7 @@ use waiting::Waiting;
 #[derive(Drop)]
 pub struct Engine<R> {
     alloc: Global,
+    hash: KeyHash,
     connection: Connection,
     sessions: IndexMap<u32, Session<R>>,
     decoder: FrameDecoder,
@@ -84,17 +85,33 @@ fn first_limit(local_open: &Open) -> u32
 
 impl<R: LinkRelay> Engine<R> {
     /// An engine whose connection is in this state and is to send this Open, with no session. Until the peer's Open is
-    /// accepted, a piece has at most the `max_frame_size` of `local_open` less four bytes, and never less than four.
+    /// accepted, a piece has at most the `max_frame_size` of `local_open` less four bytes, and never less than four. Names of links,
+    /// input handles and incoming channels are found by [`KeyHash::Fixed`]: a peer that is not trusted is for [`Engine::keyed`].
     pub fn new(alloc: Global, state: ConnectionState, local_open: Open) -> Engine<R>
+        ensures legal { Legal R.gives state local_open [] result }
+        ensures new { result ≡ new_engine state local_open }
+    {
+        Engine::keyed(alloc, KeyHash::Fixed, state, local_open)
+    }
+
+    /// The same engine, which finds names of links, input handles and incoming channels by this hash. With a key that the peer does
+    /// not know, the peer cannot choose them so that they collide.
+    pub fn keyed(
+        alloc: Global,
+        hash: KeyHash,
+        state: ConnectionState,
+        local_open: Open,
+    ) -> Engine<R>
         ensures legal { Legal R.gives state local_open [] result }
         ensures new { result ≡ new_engine state local_open }
     {
         Engine {
             alloc,
+            hash,
             encoder: FrameEncoder::new(first_limit(&local_open)),
             heads: Heads::new(alloc),
             decoder: FrameDecoder::new(),
-            connection: Connection::new(alloc, state, local_open),
+            connection: Connection::keyed(alloc, hash, state, local_open),
             sessions: IndexMap::new(alloc),
             waiting: Waiting::none(),
             kept: Kept::new(alloc),

@@ -20,6 +20,7 @@ pub mod Flows
 pub mod Books
 pub mod Effects
 pub mod Since
+pub mod ByNumber
 pub mod Histories
 pub mod LinkLaws
 pub mod SessionFlows

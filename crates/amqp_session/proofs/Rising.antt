@@ -1,11 +1,12 @@
 -- Sorted tables of deliveries.
-use Rattle.std.proofs.Common.{◌≡◌, ℕ, suc, zero, ◌+◌, ◌-◌, ◌*◌, ◌/◌, ◌^◌, ◌<◌, ◌≤◌, inl, inr, arith, add-one, List, [], ◌∷◌, ◌++◌, length, ap, sym, subst, ◌∙◌, refl, true, false, cond, nat_lt, nat_eq, Option, Some, None, set, slice_index_or}
+use Rattle.std.proofs.Common.{◌≡◌, ℕ, suc, zero, ◌+◌, ◌-◌, ◌*◌, ◌/◌, ◌^◌, ◌<◌, ◌≤◌, inl, inr, arith, add-one, List, [], ◌∷◌, ◌++◌, length, ap, sym, subst, ◌∙◌, refl, true, false, cond, nat_lt, nat_eq, Option, Some, None, set, slice_index_or, slice_get}
 use Rattle.std.proofs.Math.Nat.{mul-le-mul_left, pow-suc}
 use Rattle.std.proofs.Math.Pow.{pow-lt}
 use Rattle.std.proofs.lemmas.Bool.{cases_lt, cases_order}
 use Rattle.std.proofs.lemmas.Bool.Decides.{nat_tests}
 use Rattle.std.proofs.lemmas.Grind.{common_steps}
 use Rattle.std.specs.List.{insert}
+use Rattle.std.proofs.lemmas.Option.{get_or_from_slice_get, slice_get_within}
 use Rattle.std.proofs.lemmas.List.{get_or-map}
 use Rattle.std.proofs.lemmas.List.Edits.{insert_end}
 use Rattle.amqp_session.specs.declared.deliveries.Delivery.{Delivery}
@@ -133,6 +134,14 @@ with_record_length (Some d) rows = recorded_length d rows
 -- a record that was read
 pub number_read : (rows : List Delivery) (i : ℕ) (x : Delivery) → i < length rows → x ≡ slice_index_or rows i x → number_at rows i ≡ x.number
 number_read rows i x h e = get_or-map (λ (d : Delivery). d.number) rows i x 0 h ∙ ap (λ (d : Delivery). d.number) (sym e)
+
+-- where one stands there are some
+pub some_rows : (rows : List Delivery) (i : ℕ) (x : Delivery) → slice_get rows i ≡ Some x → 0 < length rows
+some_rows rows i x h = let within = slice_get_within rows i x h in omega (arith, within)
+
+-- a record that was read at a place
+pub stands : (rows : List Delivery) (i : ℕ) (x : Delivery) → slice_get rows i ≡ Some x → x ≡ slice_index_or rows i x
+stands rows i x h = sym (get_or_from_slice_get rows i x x h)
 
 -- where the last number is smaller, all are
 pub last_place : (rows : List Delivery) (n number : ℕ) (x : Delivery) → IsRising rows → n ≡ length rows → 0 < n → x ≡ slice_index_or rows (n - 1) x → x.number < number → (i : ℕ) → i < length rows → number_at rows i < number

@@ -25,3 +25,4 @@ pub mod Headline
 pub mod Pair
 pub mod PairLedger
 pub mod PairOrder
+pub mod Hashing

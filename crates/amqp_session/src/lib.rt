@@ -5,6 +5,7 @@ pub mod deliveries;
 pub mod error;
 pub mod flow;
 pub mod frame;
+pub mod keys;
 pub mod laws;
 pub mod link;
 pub mod numbers;
@@ -21,6 +22,7 @@ pub use error::{
 };
 pub use flow::LinkFlow;
 pub use frame::{SessionFrame, SessionFrameBody, SessionOutgoingItem};
+pub use keys::KeyHash;
 pub use numbers::{IncomingChannel, InputHandle, OutgoingChannel, OutputHandle};
 pub use pair::{SessionPair, Side};
 pub use relay::LinkRelay;

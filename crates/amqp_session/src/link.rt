@@ -15,6 +15,7 @@ use self::handles::Place;
 use crate::deliveries::Delivery;
 use crate::error::LinkRelayError;
 use crate::flow::LinkFlow;
+use crate::keys::{self, Hints, KeyHash, Numbered};
 use crate::numbers::{InputHandle, OutputHandle};
 use crate::relay::LinkRelay;
 use amqp_types::{DeliveryNumber, DeliveryTag, Disposition, Transfer};
@@ -45,9 +46,10 @@ pub struct Named<R> {
 /// The live links by name, the output handles that are taken, and the relays by input handle.
 #[derive(Drop)]
 pub(crate) struct Links<R> {
-    names: IndexMap<String, Named<R>>,
+    names: IndexMap<String, Named<R>, KeyHash>,
     handles: Slab<Place>,
-    inputs: IndexMap<u32, Attached<R>>,
+    inputs: Numbered<Attached<R>>,
+    hints: Hints,
 }
 
 impl<R> Model for Links<R> {
@@ -62,13 +64,14 @@ impl<R> Model for Links<R> {
 
 impl<R: LinkRelay> Links<R> {
     /// No link.
-    pub(crate) fn new(alloc: Global) -> Self
+    pub(crate) fn new(alloc: Global, hash: KeyHash) -> Self
         ensures { result ≡ no_links }
     {
         Links {
-            names: IndexMap::new(alloc),
+            names: IndexMap::with_hasher(alloc, hash),
             handles: Slab::new(alloc),
-            inputs: IndexMap::new(alloc),
+            inputs: IndexMap::with_hasher(alloc, hash),
+            hints: Hints::new(),
         }
     }
 
@@ -77,7 +80,7 @@ impl<R: LinkRelay> Links<R> {
     pub(crate) fn is_attached(&self, input: InputHandle) -> bool
         ensures { result ≡ is_some (attached_at input.0 self.now) }
     {
-        self.inputs.contains_key(&input.0)
+        keys::get(&self.inputs, &self.hints, input.0).is_some()
     }
 
     /// Asks the relay under an input handle about a flow.
@@ -105,7 +108,7 @@ impl<R: LinkRelay> Links<R> {
         ensures { Asked (of_transfer R.gives.transfer_gives) (attached_at input.0 self.old) (transfer, payload) result
             (λ link. self.new ≡ put_at input.0 link self.old) }
     {
-        inputs::ask_transfer(&mut self.inputs, input, transfer, payload)
+        inputs::ask_transfer(&mut self.inputs, &self.hints, input, transfer, payload)
     }
 
     /// Asks the relay under the input handle of a delivery, if one is attached there, about a disposition of the delivery, and
@@ -118,6 +121,6 @@ impl<R: LinkRelay> Links<R> {
         if !self.is_attached(delivery.input_handle) {
             return false;
         }
-        inputs::ask_disposition(&mut self.inputs, said, delivery)
+        inputs::ask_disposition(&mut self.inputs, &self.hints, said, delivery)
     }
 }

@@ -22,6 +22,7 @@ mod walk;
 use self::receiving::Receiving;
 use self::transfers::Sending;
 use crate::deliveries::{Deliveries, WalkCount};
+use crate::keys::KeyHash;
 use crate::link::Links;
 use crate::numbers::{IncomingChannel, OutgoingChannel};
 use crate::relay::LinkRelay;
@@ -83,9 +84,33 @@ impl<R> Model for Session<R> {
 
 impl<R: LinkRelay> Session<R> {
     /// A session with these settings on an outgoing channel, in a state, with the reason why its connection stopped, if it
-    /// did. Nothing waits, no link is attached, no delivery is open, and the numbers that the peer gives are 0.
+    /// did. Nothing waits, no link is attached, no delivery is open, and the numbers that the peer gives are 0. Its links are found by
+    /// [`KeyHash::Fixed`].
     pub fn new(
         alloc: Global,
+        settings: SessionSettings,
+        outgoing_channel: OutgoingChannel,
+        state: SessionState,
+        connection_stop: Option<ConnectionStopReason>,
+    ) -> Self
+        ensures view { result.view ≡ new_session settings outgoing_channel.0 state connection_stop }
+        ensures walk { result.last_walk ≡ nothing_read }
+        ensures reads { result.reads ≡ record { receiver = nothing_counted; sender = nothing_counted } }
+    {
+        Session::keyed(
+            alloc,
+            KeyHash::Fixed,
+            settings,
+            outgoing_channel,
+            state,
+            connection_stop,
+        )
+    }
+
+    /// The same session, whose links are found by this hash.
+    pub fn keyed(
+        alloc: Global,
+        hash: KeyHash,
         settings: SessionSettings,
         outgoing_channel: OutgoingChannel,
         state: SessionState,
@@ -106,7 +131,7 @@ impl<R: LinkRelay> Session<R> {
             session_stop: None,
             sending: Sending::new(alloc, next_outgoing_id),
             receiving: Receiving::new(),
-            links: Links::new(alloc),
+            links: Links::new(alloc, hash),
             sent: Deliveries::new(alloc),
             received: Deliveries::new(alloc),
             last_walk: WalkCount::new(),

@@ -25,9 +25,9 @@ pub use amqp_engine::{
 pub use amqp_frames::{Frame, FrameBody, FrameDecoder, FrameEncoder, FrameHead, Heads, Piece};
 pub use amqp_session::{
     AllocLinkError, BeginError, ConnectionStopReason, DEFAULT_WINDOW, IncomingChannel, InputHandle,
-    LinkFlow, LinkRelay, LinkRelayError, OutgoingChannel, OutputHandle, Session, SessionFrame,
-    SessionFrameBody, SessionInnerError, SessionOutgoingItem, SessionPair, SessionSettings,
-    SessionStateError, SessionStopReason, Side, TryEndError, WalkCount,
+    KeyHash, LinkFlow, LinkRelay, LinkRelayError, OutgoingChannel, OutputHandle, Session,
+    SessionFrame, SessionFrameBody, SessionInnerError, SessionOutgoingItem, SessionPair,
+    SessionSettings, SessionStateError, SessionStopReason, Side, TryEndError, WalkCount,
     num_messages_settled_by_disposition,
 };
 pub use amqp_types::{

@@ -11,11 +11,12 @@ mod transport;
 use bytes::Bytes;
 use chunks::Chunks;
 use fe2o3_amqp::{
-    ConnectionState, DEFAULT_CHANNEL_MAX, Engine, Input, Open, ReplayRelay, SessionNo,
+    ConnectionState, DEFAULT_CHANNEL_MAX, Engine, Input, KeyHash, Open, ReplayRelay, SessionNo,
     SessionSettings, hex_bytes,
 };
 use std::alloc::{AllocError, Global};
 use std::collections::VecDeque;
+use std::hash::RandomState;
 use std::io::{self, BufRead, BufReader, BufWriter, ErrorKind, Write};
 use transport::{exchange_headers, next_frame, push, run, serve};
 
@@ -46,21 +47,29 @@ fn main(rt: HostRuntime) -> anyhow::Result<()> {
     let alloc = rt.alloc();
     let mut out = BufWriter::new(alloc, io::writer(&rt))?;
     let mut frames = Vec::new(alloc);
+    // The peer cannot know this key, and so cannot choose handles and channels that collide.
+    let hash = KeyHash::Keyed(RandomState::new(&rt)?);
     for line in BufReader::new(alloc, rt.reader())?.lines(alloc) {
-        take_line(alloc, line?.as_str(), &mut frames, &mut out)?;
+        take_line(alloc, hash, line?.as_str(), &mut frames, &mut out)?;
     }
-    finish(alloc, &mut frames, &mut out)
+    finish(alloc, hash, &mut frames, &mut out)
 }
 
 /// Tells what the last frames gave.
-fn finish<O: Write>(alloc: Global, frames: &mut Vec<Bytes>, out: &mut O) -> anyhow::Result<()> {
-    tell(alloc, frames, out)?;
+fn finish<O: Write>(
+    alloc: Global,
+    hash: KeyHash,
+    frames: &mut Vec<Bytes>,
+    out: &mut O,
+) -> anyhow::Result<()> {
+    tell(alloc, hash, frames, out)?;
     out.flush()?;
     Ok(())
 }
 
 fn take_line<O: Write>(
     alloc: Global,
+    hash: KeyHash,
     line: &str,
     frames: &mut Vec<Bytes>,
     out: &mut O,
@@ -68,11 +77,11 @@ fn take_line<O: Write>(
     match line.split_once(' ') {
         None => gather(alloc, line, frames),
         Some(("stream", digits)) => {
-            tell(alloc, frames, out)?;
+            tell(alloc, hash, frames, out)?;
             tell_end(alloc, digits, out)
         }
         Some(_) => {
-            tell(alloc, frames, out)?;
+            tell(alloc, hash, frames, out)?;
             Ok(writeln!(out, "{line}")?)
         }
     }
@@ -99,15 +108,20 @@ fn bytes_of(alloc: Global, digits: &str) -> anyhow::Result<Bytes> {
 }
 
 /// Writes what an engine says to the frames that were gathered, if any, and whether it says the same to their stream.
-fn tell<O: Write>(alloc: Global, frames: &mut Vec<Bytes>, out: &mut O) -> anyhow::Result<()> {
+fn tell<O: Write>(
+    alloc: Global,
+    hash: KeyHash,
+    frames: &mut Vec<Bytes>,
+    out: &mut O,
+) -> anyhow::Result<()> {
     if frames.is_empty() {
         return Ok(());
     }
     let stream = stream_of(alloc, frames.as_slice())?;
-    let alone = one_by_one(alloc, frames.as_slice())?;
+    let alone = one_by_one(alloc, hash, frames.as_slice())?;
     tell_alone(alloc, &alone, out)?;
     for size in [1, 7, 4096] {
-        tell_streamed(alloc, stream.as_slice(), size, &alone, out)?;
+        tell_streamed(alloc, hash, stream.as_slice(), size, &alone, out)?;
     }
     frames.clear();
     Ok(())
@@ -123,19 +137,20 @@ fn tell_alone<O: Write>(alloc: Global, alone: &Said, out: &mut O) -> anyhow::Res
 /// Writes whether an engine says the same to the stream in chunks of a size.
 fn tell_streamed<O: Write>(
     alloc: Global,
+    hash: KeyHash,
     stream: &[u8],
     size: usize,
     alone: &Said,
     out: &mut O,
 ) -> anyhow::Result<()> {
-    let is_same = streamed(alloc, stream, size)?.is_same(alone);
+    let is_same = streamed(alloc, hash, stream, size)?.is_same(alone);
     let word = if is_same { "the same" } else { "other" };
     writeln!(out, "chunks of {size}: {word}")?;
     Ok(())
 }
 
 /// An engine that has sent its Open and is to begin a session.
-fn engine(alloc: Global) -> Result<Engine<ReplayRelay>, AllocError> {
+fn engine(alloc: Global, hash: KeyHash) -> Result<Engine<ReplayRelay>, AllocError> {
     let open = Open {
         container_id: String::from_str(alloc, "example")?,
         hostname: None,
@@ -148,7 +163,7 @@ fn engine(alloc: Global) -> Result<Engine<ReplayRelay>, AllocError> {
         desired_capabilities: None,
         properties: None,
     };
-    Ok(Engine::new(alloc, ConnectionState::HeaderExchange, open))
+    Ok(Engine::keyed(alloc, hash, ConnectionState::HeaderExchange, open))
 }
 
 /// The first inputs: an Open, and a Begin, which goes out at once.
@@ -165,8 +180,8 @@ fn begin() -> Input<ReplayRelay> {
 }
 
 /// An engine that takes the frames one by one.
-fn one_by_one(alloc: Global, frames: &[Bytes]) -> anyhow::Result<Said> {
-    let mut engine = engine(alloc)?;
+fn one_by_one(alloc: Global, hash: KeyHash, frames: &[Bytes]) -> anyhow::Result<Said> {
+    let mut engine = engine(alloc, hash)?;
     let mut inputs = VecDeque::new(alloc);
     let mut said = Said::nothing(alloc);
     let outcome = take_each(alloc, &mut engine, &mut inputs, frames, &mut said);
@@ -197,8 +212,8 @@ fn take_each(
 }
 
 /// An engine that takes the stream in chunks of a size.
-fn streamed(alloc: Global, stream: &[u8], size: usize) -> anyhow::Result<Said> {
-    let mut engine = engine(alloc)?;
+fn streamed(alloc: Global, hash: KeyHash, stream: &[u8], size: usize) -> anyhow::Result<Said> {
+    let mut engine = engine(alloc, hash)?;
     let mut inputs = VecDeque::new(alloc);
     let mut said = Said::nothing(alloc);
     let mut chunks = Chunks::new(stream, size);

@@ -3,7 +3,8 @@
 ghost use Rattle.std.specs.Prelude.{◌≡◌, OnOk, OnErr};
 ghost use Rattle.std.specs.FinMap as map;
 
-use amqp_session::IncomingChannel;
+use amqp_session::keys::{self, Hints, Numbered};
+use amqp_session::{IncomingChannel, KeyHash};
 use indexmap::IndexMap;
 use std::alloc::{AllocError, Global};
 use std::marker::Model;
@@ -11,7 +12,8 @@ use std::marker::Model;
 /// The sessions that received frames go to, by their channels.
 #[derive(Drop)]
 pub(crate) struct RouteTable {
-    routes: IndexMap<u16, u32>,
+    routes: Numbered<u32>,
+    hints: Hints,
 }
 
 impl Model for RouteTable {
@@ -29,11 +31,12 @@ impl Model for RouteTable {
 
 impl RouteTable {
     /// No channel leads anywhere.
-    pub(crate) fn new(alloc: Global) -> RouteTable
+    pub(crate) fn new(alloc: Global, hash: KeyHash) -> RouteTable
         ensures { result ≡ map.empty }
     {
         RouteTable {
-            routes: IndexMap::new(alloc),
+            routes: IndexMap::with_hasher(alloc, hash),
+            hints: Hints::new(),
         }
     }
 
@@ -42,7 +45,7 @@ impl RouteTable {
     pub(crate) fn of(&self, channel: IncomingChannel) -> Option<u32>
         ensures { result ≡ map.get self.now channel.0 }
     {
-        self.routes.get(&channel.0).copied()
+        keys::get(&self.routes, &self.hints, u32::from(channel.0)).copied()
     }
 
     /// From now on the channel leads to this session.
@@ -50,7 +53,9 @@ impl RouteTable {
         ensures ok { OnOk result (self.new ≡ map.insert self.old channel.0 number) }
         ensures err { OnErr result (self.new ≡ self.old) }
     {
-        self.routes.insert(channel.0, number)?;
+        let channel = u32::from(channel.0);
+        let (index, _) = self.routes.insert_full(channel, number)?;
+        self.hints.note(channel, index);
         Ok(())
     }
 
@@ -59,6 +64,6 @@ impl RouteTable {
         ensures value { result ≡ map.get self.old channel.0 }
         ensures removed { self.new ≡ map.remove self.old channel.0 }
     {
-        self.routes.swap_remove(&channel.0)
+        keys::take(&mut self.routes, &mut self.hints, u32::from(channel.0))
     }
 }

@@ -23,8 +23,8 @@ use super::step_error::StepError;
 use super::waiting::Waiting;
 use amqp_connection::{ConnectionInnerError, SessionNo};
 use amqp_session::{
-    ConnectionStopReason, InputHandle, LinkFlow, LinkRelay, OutgoingChannel, Session, SessionFrame,
-    SessionSettings, SessionStateError, SessionStopReason,
+    ConnectionStopReason, InputHandle, KeyHash, LinkFlow, LinkRelay, OutgoingChannel, Session,
+    SessionFrame, SessionSettings, SessionStateError, SessionStopReason,
 };
 use amqp_types::{
     Attach, DeliveryNumber, Detach, Disposition, Error, Role, SessionState, Transfer,
@@ -45,6 +45,7 @@ fn reason_of(error: &Option<Error>) -> ConnectionStopReason
 /// A new session that has sent its Begin, and the frame.
 fn begun<R: LinkRelay>(
     alloc: Global,
+    hash: KeyHash,
     settings: SessionSettings,
     channel: OutgoingChannel,
     stop: Option<ConnectionStopReason>,
@@ -52,7 +53,7 @@ fn begun<R: LinkRelay>(
     ensures begun { BegunStep (new_session settings channel.0 Unmapped stop) result }
     ensures fits { settings.next_outgoing_id < 2 ^ 32 }
 {
-    let mut session = Session::new(alloc, settings, channel, SessionState::Unmapped, stop);
+    let mut session = Session::keyed(alloc, hash, settings, channel, SessionState::Unmapped, stop);
     match session.send_begin() {
         Ok(frame) => Ok((session, frame)),
         Err(error) => {
@@ -301,7 +302,7 @@ impl<R: LinkRelay> Engine<R> {
             }
         };
         let stop = self.connection.connection_stop_reason();
-        match begun(self.alloc, settings, channel, stop) {
+        match begun(self.alloc, self.hash, settings, channel, stop) {
             Ok((session, frame)) => {
                 drop(self.sessions.insert(number, session).unwrap());
                 self.kept.add(number);

@@ -2,14 +2,13 @@
 
 ghost use Rattle.std.specs.Prelude.{◌≡◌, ℕ, ◌+◌, ◌-◌, ◌*◌, ◌%◌, ◌^◌, ◌<◌, ◌≤◌, [], length, slice_get, slice_set, Some, OnOk, IsTrue, false};
 ghost use Rattle.std.specs.Borrow.{sem};
-ghost use Rattle.std.specs.VecDeque.{deque_capacity};
 ghost use Rattle.amqp_session.specs.Deliveries.{IsRising, IsTable, IsMissing, compared, cut, nothing_counted, number_at, recorded};
 
 mod ranges;
 
 use super::{Delivery, ReadCount};
+use amqp_blocks::Blocks;
 use std::alloc::{AllocError, Global};
-use std::collections::VecDeque;
 use std::marker::Model;
 
 /// The open deliveries of one role, by rising number.
@@ -18,30 +17,28 @@ use std::marker::Model;
 /// count the read, and no call sets the count back. A record that comes at the end costs constant time.
 #[derive(Drop)]
 pub(crate) struct Deliveries {
-    rows: VecDeque<Delivery>,
-    /// How many numbers are missing between the first and the last.
-    missing: usize,
+    rows: Blocks<Delivery>,
     reads: ReadCount,
 }
 
 impl Model for Deliveries {
-    ghost use Rattle.std.specs.VecDeque.{deque_capacity};
-    ghost use Rattle.amqp_session.specs.Deliveries.{TableView, IsTable, IsMissing};
+    ghost use Rattle.std.specs.Prelude.{◌+◌, length};
+    ghost use Rattle.amqp_session.specs.Deliveries.{TableView, IsTable};
 
     ghost Value = { TableView };
 
     ghost view = { λ t. record {
       rows = t.rows.items;
-      capacity = deque_capacity t.rows;
+      capacity = length t.rows.items + t.rows.room;
       reads = t.reads;
     } };
 
-    ghost invariant = { λ t. IsTable t.rows.items × IsMissing t.missing t.rows.items };
+    ghost invariant = { λ t. IsTable t.rows.items };
 }
 
 /// How many numbers are missing between the first and the last of a table.
 #[inline(always)]
-fn missing(rows: &VecDeque<Delivery>) -> usize
+fn missing(rows: &Blocks<Delivery>) -> usize
     requires table { IsTable rows.now.items }
     ensures missing { IsMissing result rows.now.items }
 {
@@ -49,66 +46,57 @@ fn missing(rows: &VecDeque<Delivery>) -> usize
     if len == 0 {
         return 0;
     }
-    (rows[len - 1].number - rows[0].number) as usize - (len - 1)
-}
-
-/// A record takes the place of the one that stands there.
-fn replace(rows: &mut VecDeque<Delivery>, place: usize, delivery: Delivery)
-    requires within { place < length rows.old.items }
-    ensures items { rows.new.items ≡ slice_set rows.old.items place delivery }
-    ensures capacity { deque_capacity rows.new ≡ deque_capacity rows.old }
-{
-    rows[place] = delivery;
+    (rows.get(len - 1).number - rows.get(0).number) as usize - (len - 1)
 }
 
 /// Whether the number stands at the place.
-fn stands_at(rows: &VecDeque<Delivery>, place: usize, number: u32) -> bool
+fn stands_at(rows: &Blocks<Delivery>, place: usize, number: u32) -> bool
     ensures there { IsTrue result → (place < length rows.now.items) × (number_at rows.now.items place ≡ number) }
     ensures not_there { result ≡ false → place < length rows.now.items → ¬ (number_at rows.now.items place ≡ number) }
 {
-    place < rows.len() && rows[place].number == number
+    place < rows.len() && rows.get(place).number == number
 }
 
 /// Puts a record at its place: that of an older one of its number, or between the others.
-fn put_at(rows: &mut VecDeque<Delivery>, place: usize, delivery: Delivery)
+fn put_at(rows: &mut Blocks<Delivery>, place: usize, delivery: Delivery)
     requires table { IsTable rows.old.items }
-    requires room { length rows.old.items < deque_capacity rows.old }
+    requires room { 0 < rows.old.room }
     requires within { place ≤ length rows.old.items }
     requires below { (i : ℕ) → i < place → number_at rows.old.items i < delivery.number }
     requires above { (i : ℕ) → place ≤ i → i < length rows.old.items → delivery.number ≤ number_at rows.old.items i }
     ensures items { rows.new.items ≡ recorded delivery rows.old.items }
-    ensures capacity { deque_capacity rows.old ≤ deque_capacity rows.new }
+    ensures room { length rows.old.items + rows.old.room ≤ length rows.new.items + rows.new.room }
 {
     if stands_at(rows, place, delivery.number) {
-        replace(rows, place, delivery);
+        rows.replace(place, delivery);
     } else {
-        rows.insert(place, delivery).unwrap();
+        rows.insert(place, delivery);
     }
 }
 
-/// Takes away `count` records from a place on; those past the end are the first ones. The shorter side moves, once: nothing moves
-/// where they stand at an end.
-fn cut_out(rows: &mut VecDeque<Delivery>, from: usize, count: usize)
+/// Takes away `count` records from a place on; those past the end are the first ones. What moves is within a block.
+fn cut_out(rows: &mut Blocks<Delivery>, from: usize, count: usize)
     requires from { from ≤ length rows.old.items }
     requires count { count ≤ length rows.old.items }
     ensures items { rows.new.items ≡ cut from count rows.old.items }
 {
-    // The oldest alone: a drain would pay for its own record.
+    // The oldest alone: a range would pay for its own record.
     if from == 0 && count == 1 {
         drop(rows.pop_front());
         return;
     }
-    let rest = rows.len() - from;
+    let len = rows.len();
+    let rest = len - from;
     if count <= rest {
-        rows.drain(from..from + count);
+        rows.remove_range(from, from + count);
     } else {
-        rows.truncate(from);
-        rows.drain(..count - rest);
+        rows.remove_range(from, len);
+        rows.remove_range(0, count - rest);
     }
 }
 
 /// Where the numbers from `number` on begin.
-fn place_among(rows: &VecDeque<Delivery>, number: u32) -> usize
+fn place_among(rows: &Blocks<Delivery>, number: u32) -> usize
     requires rising { IsRising rows.now.items }
     ensures within { result ≤ length rows.now.items }
     ensures below { (i : ℕ) → i < result → number_at rows.now.items i < number }
@@ -118,7 +106,7 @@ fn place_among(rows: &VecDeque<Delivery>, number: u32) -> usize
     let mut high = rows.len();
     while low < high {
         let middle = low + (high - low) / 2;
-        if rows[middle].number < number {
+        if rows.get(middle).number < number {
             low = middle + 1;
         } else {
             high = middle;
@@ -136,8 +124,7 @@ impl Deliveries {
         ensures reads { result.reads ≡ nothing_counted }
     {
         Deliveries {
-            rows: VecDeque::new(alloc),
-            missing: 0,
+            rows: Blocks::new(alloc),
             reads: ReadCount::new(),
         }
     }
@@ -170,7 +157,7 @@ impl Deliveries {
     pub(crate) fn missing(&self) -> usize
         ensures { IsMissing result self.now.rows }
     {
-        self.missing
+        missing(&self.rows)
     }
 
     /// The number at a place: one comparison.
@@ -181,7 +168,7 @@ impl Deliveries {
         ensures counted { self.new ≡ compared 1 self.old }
     {
         self.reads.comparisons = self.reads.comparisons.wrapping_add(1);
-        self.rows[at].number
+        self.rows.get(at).number
     }
 
     /// The record at a place: one turn.
@@ -192,7 +179,7 @@ impl Deliveries {
         ensures value { slice_get self.old.rows at ≡ Some result.now }
     {
         self.reads.turns = self.reads.turns.wrapping_add(1);
-        &self.rows[at]
+        self.rows.get(at)
     }
 
     /// Reserves room for more records. When memory is refused the table stays as it is.
@@ -215,8 +202,7 @@ impl Deliveries {
         if !self.is_last(delivery.number) {
             return self.put(delivery);
         }
-        self.rows.push_back_reserved(delivery);
-        self.missing = missing(&self.rows);
+        self.rows.push_back(delivery);
     }
 
     /// Whether all numbers are below this one.
@@ -225,7 +211,7 @@ impl Deliveries {
         ensures last { IsTrue result → (i : ℕ) → i < length self.now.rows → number_at self.now.rows i < number }
         ensures not_last { result ≡ false → number ≤ number_at self.now.rows (length self.now.rows - 1) }
     {
-        match self.rows.back() {
+        match self.rows.last() {
             None => true,
             Some(last) => last.number < number,
         }
@@ -241,7 +227,6 @@ impl Deliveries {
     {
         let place = place_among(&self.rows, delivery.number);
         put_at(&mut self.rows, place, delivery);
-        self.missing = missing(&self.rows);
     }
 
     /// Where the numbers from `number` on begin. It is of this module alone, and counts nothing.
@@ -253,8 +238,7 @@ impl Deliveries {
         place_among(&self.rows, number)
     }
 
-    /// Takes away `count` records from a place on; those past the end are the first ones. The shorter side moves, once: nothing
-    /// moves where they stand at an end.
+    /// Takes away `count` records from a place on; those past the end are the first ones. What moves is within a block.
     pub(crate) fn remove(&mut self, from: usize, count: usize)
         requires from { from ≤ length self.old.rows }
         requires count { count ≤ length self.old.rows }
@@ -262,6 +246,5 @@ impl Deliveries {
         ensures reads { self.new.reads ≡ self.old.reads }
     {
         cut_out(&mut self.rows, from, count);
-        self.missing = missing(&self.rows);
     }
 }

@@ -1,9 +1,6 @@
 //! The relays that are attached, by input handle.
 
-ghost use Rattle.std.specs.Prelude.{◌≡◌, ◌<◌, IsSome, nat_eq};
-ghost use Rattle.std.specs.FinMap as map;
-ghost use Rattle.indexmap.specs.IndexMap.{spare};
-ghost use Rattle.amqp_session.specs.Links.{inputs_of};
+ghost use Rattle.std.specs.Prelude.{◌≡◌, IsSome, nat_eq};
 ghost use Rattle.std.specs.Map.{lookup, set_value};
 ghost use Rattle.amqp_session.specs.Relay.{of_flow, of_transfer, of_disposition, Asked};
 ghost use Rattle.amqp_session.specs.Disposing.{question_of};
@@ -12,40 +9,15 @@ use super::Attached;
 use crate::deliveries::Delivery;
 use crate::error::LinkRelayError;
 use crate::flow::LinkFlow;
+use crate::keys::{self, Hints, Numbered};
 use crate::numbers::InputHandle;
 use crate::relay::LinkRelay;
 use amqp_types::{DeliveryNumber, DeliveryTag, Disposition, Transfer};
 use bytes::Bytes;
-use indexmap::IndexMap;
-
-/// A relay is put under a handle, and the one that stood there is handed back. Its room was made before.
-pub(super) fn put<R: Drop>(
-    inputs: &mut IndexMap<u32, Attached<R>>,
-    input: InputHandle,
-    link: Attached<R>,
-) -> Option<Attached<R>>
-    requires { 0 < spare inputs.old }
-    ensures put { inputs_of inputs.new.entries ≡ map.insert (inputs_of inputs.old.entries) input.0 link }
-    ensures left { result ≡ map.get (inputs_of inputs.old.entries) input.0 }
-{
-    let left = inputs.insert(input.0, link).unwrap();
-    left
-}
-
-/// The relay under a handle is taken away.
-pub(super) fn take<R: Drop>(
-    inputs: &mut IndexMap<u32, Attached<R>>,
-    input: InputHandle,
-) -> Option<Attached<R>>
-    ensures value { result ≡ map.get (inputs_of inputs.old.entries) input.0 }
-    ensures removed { inputs_of inputs.new.entries ≡ map.remove (inputs_of inputs.old.entries) input.0 }
-{
-    inputs.swap_remove(&input.0)
-}
 
 /// Asks the relay under a handle about a flow.
 pub(super) fn ask_flow<R: LinkRelay>(
-    inputs: &mut IndexMap<u32, Attached<R>>,
+    inputs: &mut Numbered<Attached<R>>,
     input: InputHandle,
     flow: LinkFlow,
 ) -> Result<Option<LinkFlow>, LinkRelayError>
@@ -60,7 +32,8 @@ pub(super) fn ask_flow<R: LinkRelay>(
 /// Asks the relay under a handle about a transfer.
 #[inline(always)]
 pub(super) fn ask_transfer<R: LinkRelay>(
-    inputs: &mut IndexMap<u32, Attached<R>>,
+    inputs: &mut Numbered<Attached<R>>,
+    hints: &Hints,
     input: InputHandle,
     transfer: Transfer,
     payload: Bytes,
@@ -69,14 +42,27 @@ pub(super) fn ask_transfer<R: LinkRelay>(
     ensures { Asked (of_transfer R.gives.transfer_gives) (lookup (nat_eq input.0) inputs.old.entries) (transfer, payload) result
         (λ link. inputs.new.entries ≡ set_value (nat_eq input.0) inputs.old.entries link) }
 {
-    let link = inputs.get_mut(&input.0).unwrap();
+    let at = keys::index_of(inputs, hints, input.0).unwrap();
+    let link = inputs.get_index_mut(at).unwrap();
     link.relay.on_incoming_transfer(transfer, payload)
+}
+
+/// Asks the relay of a link about a disposition of a delivery.
+#[inline(always)]
+fn ask<R: LinkRelay>(link: &mut Attached<R>, said: &Disposition, delivery: &Delivery) -> bool
+    ensures asked { of_disposition R.gives.disposition_gives link.old.handle link.old.relay (question_of said.now delivery.now) result link.new.relay }
+    ensures handle { link.new.handle ≡ link.old.handle }
+{
+    let (role, settled, state) = (said.role, said.settled, said.state.as_ref());
+    link.relay
+        .on_incoming_disposition(role, settled, state, &delivery.tag)
 }
 
 /// Asks the relay under the input handle of a delivery about a disposition of it.
 #[inline(always)]
 pub(super) fn ask_disposition<R: LinkRelay>(
-    inputs: &mut IndexMap<u32, Attached<R>>,
+    inputs: &mut Numbered<Attached<R>>,
+    hints: &Hints,
     said: &Disposition,
     delivery: &Delivery,
 ) -> bool
@@ -85,8 +71,7 @@ pub(super) fn ask_disposition<R: LinkRelay>(
         (question_of said.now delivery.now) result
         (λ link. inputs.new.entries ≡ set_value (nat_eq delivery.now.input_handle.0) inputs.old.entries link) }
 {
-    let link = inputs.get_mut(&delivery.input_handle.0).unwrap();
-    let (role, settled, state) = (said.role, said.settled, said.state.as_ref());
-    link.relay
-        .on_incoming_disposition(role, settled, state, &delivery.tag)
+    let at = keys::index_of(inputs, hints, delivery.input_handle.0).unwrap();
+    let link = inputs.get_index_mut(at).unwrap();
+    ask(link, said, delivery)
 }

@@ -8,8 +8,9 @@ ghost use Rattle.amqp_session.specs.Relay.{AttachQuestion, DetachQuestion};
 
 use super::handles::{self, Place};
 use super::leaving::Leaving;
-use super::{Attached, Links, Named, inputs, names};
+use super::{Attached, Links, Named, names};
 use crate::error::{AllocLinkError, SessionInnerError};
+use crate::keys;
 use crate::numbers::{InputHandle, OutputHandle};
 use crate::relay::LinkRelay;
 use amqp_types::{Attach, Detach};
@@ -129,7 +130,8 @@ impl<R: LinkRelay> Links<R> {
             waiting: None,
         };
         names::put(&mut self.names, name, link);
-        let replaced = inputs::put(&mut self.inputs, input, Attached { handle, relay });
+        let attached = Attached { handle, relay };
+        let replaced = keys::put(&mut self.inputs, &mut self.hints, input.0, attached);
         Leaving::of(Ok(handle), relay_of(replaced))
     }
 
@@ -156,7 +158,7 @@ impl<R: LinkRelay> Links<R> {
         match names::attach(&mut self.names, attach) {
             Err(error) => Leaving::of(Err(SessionInnerError::from(error)), None),
             Ok(link) => {
-                let replaced = inputs::put(&mut self.inputs, input, link);
+                let replaced = keys::put(&mut self.inputs, &mut self.hints, input.0, link);
                 Leaving::of(Ok(()), replaced)
             }
         }
@@ -170,7 +172,7 @@ impl<R: LinkRelay> Links<R> {
             × (result.left ≡ option_map (λ q. q.after) asked) }
     {
         let input = InputHandle::from(detach.handle);
-        let Some(link) = inputs::take(&mut self.inputs, input) else {
+        let Some(link) = keys::take(&mut self.inputs, &mut self.hints, input.0) else {
             return Leaving::of(None, None);
         };
         let awaited = self.answer(link.handle);

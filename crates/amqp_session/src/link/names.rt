@@ -8,6 +8,7 @@ ghost use Rattle.amqp_session.specs.Linking.{AttachAsked, WaitAsked, IsWaited, A
 
 use super::{Attached, Named};
 use crate::error::{LinkRelayError, SessionInnerError};
+use crate::keys::KeyHash;
 use crate::numbers::OutputHandle;
 use crate::relay::LinkRelay;
 use amqp_types::Attach;
@@ -15,7 +16,7 @@ use indexmap::IndexMap;
 
 /// The output handle of a live link.
 pub(super) fn handle_of<R: Drop>(
-    names: &IndexMap<String, Named<R>>,
+    names: &IndexMap<String, Named<R>, KeyHash>,
     name: &str,
 ) -> Option<OutputHandle>
     ensures { result ≡ option_map (λ n. n.handle) (map.get (names_of names.now.entries) name.now) }
@@ -35,7 +36,7 @@ fn is_waited<R: Drop>(link: &Named<R>) -> bool
 
 /// Why the attach of a name is refused before a relay is asked: no live link has the name, or no relay waits for it.
 pub(super) fn refusal<R: Drop>(
-    names: &IndexMap<String, Named<R>>,
+    names: &IndexMap<String, Named<R>, KeyHash>,
     name: &str,
 ) -> Option<SessionInnerError>
     ensures none { IfNone result (IsWaited (map.get (names_of names.now.entries) name.now)) }
@@ -54,7 +55,11 @@ pub(super) fn refusal<R: Drop>(
 }
 
 /// A link becomes live by a name that no live link has. Its room was made before.
-pub(super) fn put<R: Drop>(names: &mut IndexMap<String, Named<R>>, name: String, link: Named<R>)
+pub(super) fn put<R: Drop>(
+    names: &mut IndexMap<String, Named<R>, KeyHash>,
+    name: String,
+    link: Named<R>,
+)
     requires room { 0 < spare names.old }
     requires free { map.get (names_of names.old.entries) (string_bytes name) ≡ None }
     ensures { names_of names.new.entries ≡ map.insert (names_of names.old.entries) (string_bytes name) link }
@@ -64,7 +69,7 @@ pub(super) fn put<R: Drop>(names: &mut IndexMap<String, Named<R>>, name: String,
 
 /// A live link is gone, and is handed back with the relay that waits.
 pub(super) fn remove<R: Drop>(
-    names: &mut IndexMap<String, Named<R>>,
+    names: &mut IndexMap<String, Named<R>, KeyHash>,
     name: &str,
 ) -> Option<Named<R>>
     ensures removed { names_of names.new.entries ≡ map.remove (names_of names.old.entries) name.now }
@@ -94,7 +99,7 @@ fn ask<R: LinkRelay>(link: &mut Named<R>, attach: Attach) -> Result<Attached<R>,
 
 /// Asks the relay that waits under the name of an attach: on success it waits no longer.
 pub(super) fn attach<R: LinkRelay>(
-    names: &mut IndexMap<String, Named<R>>,
+    names: &mut IndexMap<String, Named<R>, KeyHash>,
     attach: Attach,
 ) -> Result<Attached<R>, LinkRelayError>
     requires { IsWaited (map.get (names_of names.old.entries) attach.name) }

@@ -1,6 +1,5 @@
-use Rattle.std.proofs.Common.{◌≡◌, sym, ◌∙◌}
-use Rattle.std.specs.List.{insert}
-use Rattle.amqp_session.proofs.Rising.{recorded_on, recorded_before}
+use Rattle.std.proofs.Common.{◌^◌, arith, sym, ◌∙◌}
+use Rattle.amqp_session.proofs.Rising.{few_rows, recorded_on, recorded_before}
 use Rattle.amqp_session.proofs.deliveries.table.put_at.Goals as goal
 
 pub returns-then-stands_at-clause-items : goal.returns-then-stands_at-clause-items
@@ -10,5 +9,7 @@ returns-then-stands_at-clause-items c =
 
 pub returns-else-stands_at-clause-items : goal.returns-else-stands_at-clause-items
 returns-else-stands_at-clause-items c =
-    let items : c.insert.new.self.items ≡ insert c.args.rows.now.items c.args.place c.args.delivery = rw c.unwrap.ensures at c.insert.ensures.items in
-    items ∙ sym (recorded_before c.args.rows.now.items c.args.place c.args.delivery c.requires.within c.requires.below c.requires.above c.requires.table.0 (c.stands_at.ensures.not_there c.if-stands_at.false))
+    c.insert.ensures.items ∙ sym (recorded_before c.args.rows.now.items c.args.place c.args.delivery c.requires.within c.requires.below c.requires.above c.requires.table.0 (c.stands_at.ensures.not_there c.if-stands_at.false))
+
+pub insert-requires-clause-few : goal.insert-requires-clause-few
+insert-requires-clause-few c = let few = few_rows (2 ^ 32) c.args.rows.now.items c.requires.table.0 c.requires.table.1 in omega (arith, few)

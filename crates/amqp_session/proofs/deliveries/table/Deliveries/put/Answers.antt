@@ -3,10 +3,5 @@ use Rattle.amqp_session.specs.Deliveries.{IsTable}
 use Rattle.amqp_session.proofs.Rising.{recorded_table}
 use Rattle.amqp_session.proofs.deliveries.table.Deliveries.put.Goals as goal
 
-pub missing-self-inside-requires : goal.missing-self-inside-requires
-missing-self-inside-requires c =
-    record { table = subst IsTable (sym c.put_at.ensures.items) (recorded_table c.args.delivery c.self.inside.rows.items (omega arith) c.self.invariant.0) }
-
 pub invariant_of-self : goal.invariant_of-self
-invariant_of-self c =
-    (subst IsTable (sym c.put_at.ensures.items) (recorded_table c.args.delivery c.self.inside.rows.items (omega arith) c.self.invariant.0), c.missing-self-inside.ensures.missing)
+invariant_of-self c = subst IsTable (sym c.put_at.ensures.items) (recorded_table c.args.delivery c.self.inside.rows.items (omega arith) c.self.invariant)

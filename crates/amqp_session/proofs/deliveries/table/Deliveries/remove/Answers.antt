@@ -3,10 +3,5 @@ use Rattle.amqp_session.specs.Deliveries.{IsTable}
 use Rattle.amqp_session.proofs.Cutting.{table_without}
 use Rattle.amqp_session.proofs.deliveries.table.Deliveries.remove.Goals as goal
 
-pub missing-self-inside-requires : goal.missing-self-inside-requires
-missing-self-inside-requires c =
-    record { table = subst IsTable (sym c.cut_out.ensures.items) (table_without c.args.from c.args.count c.self.inside.rows.items c.self.invariant.0) }
-
 pub invariant_of-self : goal.invariant_of-self
-invariant_of-self c =
-    (subst IsTable (sym c.cut_out.ensures.items) (table_without c.args.from c.args.count c.self.inside.rows.items c.self.invariant.0), c.missing-self-inside.ensures.missing)
+invariant_of-self c = subst IsTable (sym c.cut_out.ensures.items) (table_without c.args.from c.args.count c.self.inside.rows.items c.self.invariant)

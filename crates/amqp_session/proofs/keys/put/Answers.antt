@@ -1,0 +1,9 @@
+use Rattle.std.proofs.Common.{sym, ◌∙◌}
+use Rattle.amqp_session.proofs.AsMap.{get_at, inserted}
+use Rattle.amqp_session.proofs.keys.put.Goals as goal
+
+pub returns-clause-put : goal.returns-clause-put
+returns-clause-put g c = let updates = rw c.unwrap-index.ensures at c.insert_full.ensures.updates in inserted c.args.map.now.entries c.insert_full.new.self.entries c.args.key c.args.value updates.0
+
+pub returns-clause-left : goal.returns-clause-left
+returns-clause-left g c = let old = rw c.unwrap-index.ensures at c.insert_full.ensures.old in old ∙ sym (get_at c.args.map.now.entries c.args.key)
