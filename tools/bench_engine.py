@@ -2,13 +2,17 @@
 """What the engine costs, in instructions for a transfer or a delivery and in requests for memory, with the figures of qpid-proton
 beside it.
 
-    tools/bench_engine.py [PROGRAM [WORD..]]
+    tools/bench_engine.py [--time] [PROGRAM [WORD..]]
 
 PROGRAM is the program of `crates/bench_engine`, as `rt run` builds it; where none is named it is built first. With words only the
 rows are counted whose name has one of them. Callgrind counts, as for `tools/bench.py`: as a slope between two counts, so that what
 is done once is out, and the slope of the same run by an engine that only drops its inputs is taken off. What is left is
 `Engine::run`, and a look at each answer. qpid-proton's figures come from `bench_proton.py`: counted in the same run where its packages are
-installed, and else stored; they hold its inputs too.
+installed, and else stored; they hold its inputs too. A row has one where both do the same: a run, or a push, for as many frames, and
+each received delivery kept until it is settled.
+
+With `--time` it prints nanoseconds of processor time, the least of five runs, and has rows of a million open deliveries too. What takes more
+than two minutes is left out.
 """
 
 import re
@@ -18,51 +22,102 @@ import tempfile
 from pathlib import Path
 
 from bench import run
-from bench_proton import figures
+from bench_proton import ORDERS, WIDTHS, figures, most, times
+from measured import TooLong, per_unit, seconds
 
 CRATE = Path(__file__).resolve().parent.parent / "crates" / "bench_engine"
 MEMORY = {"malloc", "calloc", "realloc", "aligned_alloc", "posix_memalign"}
+# The mode of the program for each order
+MODES = {"in order": "forward", "in reverse": "backward", "from the middle": "middle", "scattered": "scattered", "every second": "second"}
+WIDE, MANY = 1000000, 20000
 
 
 class Row:
     """Two counts of a mode, for batches of some size, with so many deliveries open in each of some sessions."""
 
-    def __init__(self, name, mode, counts, batch, open_before=0, sessions=1, each=1, proton=None):
+    def __init__(self, name, mode, counts, batch, open_before=0, sessions=1, each=1, proton=None, largest=None, left=None):
         self.name, self.mode, self.counts, self.batch = name, mode, counts, batch
-        self.more = [str(open_before), str(sessions)]
+        self.open_before, self.sessions = open_before, sessions
         # what one count stands for
-        self.units = (counts[1] - counts[0]) * sessions * each
+        self.each = each
+        # the largest count, and how many deliveries are open behind each
+        self.largest, self.left = largest or 10**6, left
         self.proton = proton
+
+    def sessions_to_time(self):
+        """So many that some thousand units are timed, where the largest count is less."""
+        return 1 if self.largest * self.each >= MANY else max(1, MANY // self.open_before)
+
+    def check(self, out, count):
+        """Ends where the engine refused an input, or where another number of deliveries is open than the row says."""
+        if "refused=0 " not in out or self.left and f"open={self.left(count)}\n" not in out:
+            sys.exit(f"{self.name}: {out}")
 
 
 def of_batch(batch):
     """The rows of transfers that come and go in batches."""
     counts = (20, 60) if batch == 100 else (1000, 3000)
-    yield Row(f"receive and accept, by {batch}", "receive", counts, batch, each=batch, proton=f"receive {batch}")
+    yield Row(f"receive and accept, by {batch}", "receive", counts, batch, each=batch)
+    yield Row(f"receive, keep, accept and settle, by {batch}", "named", counts, batch, each=batch, proton=f"receive {batch}", left=lambda _: 0)
     yield Row(f"send settled, by {batch}", "send", counts, batch, each=batch, proton=f"send {batch}")
-    yield Row(f"send and have settled, by {batch}", "unsettled", counts, batch, each=batch, proton=f"unsettled {batch}")
+    yield Row(f"send and have settled, by {batch}", "unsettled", counts, batch, each=batch, proton=f"unsettled {batch}", left=lambda _: 0)
 
 
 def of_width(width):
-    """The rows of so many open deliveries: settled by ones, ten in a run, or all at once."""
+    """The rows of so many open deliveries: settled ten in a run, or all at once."""
     sessions = 20 if width == 10 else 1
     counts = (0, 10) if width == 10 else (200, 600)
-    yield Row(f"settle one of {width}, in order", "forward", counts, 10, width, sessions, proton=f"in order {width}")
-    yield Row(f"settle one of {width}, in reverse", "backward", counts, 10, width, sessions, proton=f"in reverse {width}")
-    yield Row(f"settle one of {width}, all at once", "range", (0, 1), 10, width, sessions, width, proton=f"all at once {width}")
+    for order in ("in order", "in reverse"):
+        yield Row(f"settle one of {width}, {order}, by 10", MODES[order], counts, 10, width, sessions, largest=width,
+                  left=lambda count: width - count)
+    yield Row(f"settle one of {width}, all at once", "range", (0, 1), 10, width, sessions, width, proton=f"all at once {width}", largest=1)
+
+
+def of_order(order, width):
+    """The row of so many open deliveries that are settled in this order, each by a run of its own. Of every second one all are settled,
+    since the first of them stand at the front."""
+    largest, sessions = most(order, width), 20 if width == 10 else 1
+    counts = (0, largest) if width == 10 or order == "every second" else (200, min(600, largest))
+    return Row(f"settle one of {width}, {order}", MODES[order], counts, 1, width, sessions, proton=f"{order} {width}", largest=largest,
+               left=lambda count: width - count)
+
+
+def of_received(width):
+    """The rows of so many open deliveries of the peer's. It names them in order, or by numbers that are scattered. Those that pass 2^32 do
+    so for half of them: then no older number is open."""
+    sessions, half = 20 if width == 10 else 1, width // 2
+    past = (0, half) if width == 10 else (200, min(600, half))
+    yield Row(f"receive one, settle the oldest of {width}", "oldest", (200, 600), 1, width, proton=f"oldest {width}", left=lambda _: width)
+    yield Row(f"receive one, settle the oldest of {width} past 2^32", "wrapped", past, 1, width, sessions, proton=f"oldest past 2^32 {width}",
+              left=lambda _: width, largest=half)
+    yield Row(f"receive {width} scattered, settle in order", "arrivals", (0, 1), 1, width, sessions, width, left=lambda _: 0,
+              largest=max(1, 10**6 // width))
+
+
+def of_widths(widths):
+    """The rows of orders that a peer may choose."""
+    for width in widths:
+        yield from (of_order(order, width) for order in ORDERS)
+        yield from of_received(width)
 
 
 def rows():
-    """All rows."""
+    """All rows that are counted."""
     yield from of_batch(100)
     yield from of_batch(1)
     yield Row("hold back and let out, by 100", "held", (20, 60), 100, each=100)
     yield Row("hold back and let out, by 1000", "held", (2, 6), 1000, each=1000)
-    yield from of_width(10)
-    yield from of_width(1000)
-    yield from of_width(100000)
-    yield Row("ten settled by 2^31 numbers", "wide", (0, 1), 10, 10, 20)
+    for width in WIDTHS:
+        yield from of_width(width)
+    yield Row("ten settled by 2^31 numbers", "wide", (0, 1), 10, 10, 20, largest=1)
     yield Row("settle one of ten, after 100000", "peak", (0, 10), 10, 100000)
+    yield from of_widths(WIDTHS)
+
+
+def rows_to_time():
+    """All rows that are timed: ten settled behind a hundred thousand are too few for it."""
+    yield from (row for row in rows() if row.mode != "peak")
+    yield from of_widths([WIDE])
 
 
 def requests_in(profile):
@@ -84,23 +139,43 @@ def counted(program, row, count, lines, more):
     with tempfile.TemporaryDirectory() as folder:
         profile = Path(folder) / "profile"
         under = ["valgrind", "--tool=callgrind", f"--callgrind-out-file={profile}"]
-        out, said = run(program, row.mode, count, row.batch, lines, under, row.more + more)
-        if "refused=0" not in out:
-            sys.exit(f"{row.name}: {out}")
+        out, said = run(program, row.mode, count, row.batch, lines, under, [str(row.open_before), str(row.sessions), *more])
+        if not more:
+            row.check(out, count)
         return int(re.search(r"Collected : (\d+)", said).group(1)), requests_in(profile)
 
 
 def slope(program, row, lines, more):
     """What one unit costs."""
     few, many = (counted(program, row, count, lines, more) for count in row.counts)
-    return [(many[i] - few[i]) / row.units for i in (0, 1)]
+    units = (row.counts[1] - row.counts[0]) * row.sessions * row.each
+    return [(many[i] - few[i]) / units for i in (0, 1)]
 
 
-def write(program, row, lines, proton):
+def write_counted(program, row, lines, proton):
     """Prints the cost of a unit: of the engine alone, and of its inputs, with qpid-proton's."""
     whole, made = slope(program, row, lines, []), slope(program, row, lines, ["idle"])
-    beside = proton.get(row.proton, "")
-    print(f"{row.name:36}{whole[0] - made[0]:10.0f}{whole[1] - made[1]:10.2f}{made[0]:10.0f}{made[1]:10.2f}{beside:>10}", flush=True)
+    beside = proton[row.proton] if row.proton else ""
+    print(f"{row.name:46}{whole[0] - made[0]:10.0f}{whole[1] - made[1]:10.2f}{made[0]:10.0f}{made[1]:10.2f}{beside:>10}", flush=True)
+
+
+def timed(program, row, lines, more):
+    """The nanoseconds of one unit."""
+    sessions = row.sessions_to_time()
+    text = ("\n".join(lines) + "\n").encode()
+    words = [row.batch, row.open_before, sessions, *more]
+    took = per_unit(lambda count: seconds([program, row.mode, count, *words], text), row.largest, row.counts[1])
+    return took / sessions / row.each * 1e9
+
+
+def write_timed(program, row, lines, proton):
+    """Prints the time of a unit, as `write_counted`."""
+    try:
+        whole, made = timed(program, row, lines, []), timed(program, row, lines, ["idle"])
+        said = f"{whole - made:10.0f}{made:10.0f}"
+    except TooLong:
+        said = f"{'over two minutes':>20}"
+    print(f"{row.name:46}{said}{proton(row.proton):>10}", flush=True)
 
 
 def built():
@@ -111,12 +186,17 @@ def built():
 
 
 def main():
-    program = sys.argv[1] if len(sys.argv) > 1 else built()
-    wanted = sys.argv[2:]
-    lines, proton = (CRATE / "stdin").read_text().split(), figures()
-    print(f"{'a transfer, or a delivery':36}{'instr.':>10}{'requests':>10}{'its input':>10}{'requests':>10}{'proton':>10}")
-    for row in rows():
-        if not wanted or any(word in row.name for word in wanted):
+    is_timed = sys.argv[1:2] == ["--time"]
+    words = sys.argv[2 if is_timed else 1:]
+    program = words[0] if words else built()
+    lines = (CRATE / "stdin").read_text().split()
+    if is_timed:
+        print(f"{'nanoseconds of a transfer, or a delivery':46}{'engine':>10}{'its input':>10}{'proton':>10}")
+    else:
+        print(f"{'a transfer, or a delivery':46}{'instr.':>10}{'requests':>10}{'its input':>10}{'requests':>10}{'proton':>10}")
+    proton, write = (times(), write_timed) if is_timed else (figures(), write_counted)
+    for row in rows_to_time() if is_timed else rows():
+        if not words[1:] or any(word in row.name for word in words[1:]):
             write(program, row, lines, proton)
 
 

@@ -5,6 +5,7 @@
    bench_proton send N FILE BATCH       sends N transfers of 64 bytes, settled
    bench_proton unsettled N FILE BATCH  sends N transfers unsettled; each is settled when the peer has
    bench_proton open N FILE BATCH       sends N transfers unsettled, and then takes what the peer settles, until FILE ends
+   bench_proton keep N FILE BATCH       takes the transfers of FILE, and leaves each unsettled until the peer settles it
 
    FILE holds pieces, each behind its length in four bytes: what the peer says first, and then what it says for each BATCH. The last
    line of the output is what was done. */
@@ -24,6 +25,7 @@ enum { PAYLOAD = 64 };
 
 static char *bytes, *end;
 static long done;
+static int keeps;
 
 static void load(const char *name) {
   FILE *file = fopen(name, "rb");
@@ -89,6 +91,18 @@ static void take(pn_delivery_t *delivery) {
   pn_delivery_settle(delivery);
 }
 
+/* One that has come is read and stays open; one that the peer has settled is let go. */
+static void keep(pn_delivery_t *delivery) {
+  char payload[PAYLOAD];
+  if (pn_delivery_settled(delivery)) {
+    pn_delivery_settle(delivery);
+    done++;
+  } else if (pn_delivery_readable(delivery) && !pn_delivery_partial(delivery)) {
+    done += pn_link_recv(pn_delivery_link(delivery), payload, PAYLOAD) == PAYLOAD;
+    pn_link_advance(pn_delivery_link(delivery));
+  }
+}
+
 static void settle(pn_delivery_t *delivery) {
   if (!pn_delivery_updated(delivery)) return;
   done += pn_delivery_remote_state(delivery) == PN_ACCEPTED;
@@ -99,7 +113,8 @@ static void answer(end_t *e) {
   for (pn_event_t *event; (event = pn_collector_peek(e->collector)); pn_collector_pop(e->collector)) {
     if (pn_event_type(event) != PN_DELIVERY) continue;
     pn_delivery_t *delivery = pn_event_delivery(event);
-    if (pn_link_is_receiver(pn_delivery_link(delivery))) take(delivery);
+    if (keeps) keep(delivery);
+    else if (pn_link_is_receiver(pn_delivery_link(delivery))) take(delivery);
     else settle(delivery);
   }
 }
@@ -119,7 +134,8 @@ static void send_from(pn_link_t *link, long first, long count, int is_settled) {
 
 static void exchange(const char *mode, long count, long batch) {
   end_t e = {pn_connection(), pn_transport(), pn_collector()};
-  int receives = !strcmp(mode, "receive"), is_settled = !strcmp(mode, "send");
+  keeps = !strcmp(mode, "keep");
+  int receives = keeps || !strcmp(mode, "receive"), is_settled = !strcmp(mode, "send");
   pn_connection_collect(e.connection, e.collector);
   pn_connection_set_container(e.connection, "bench");
   pn_transport_bind(e.transport, e.connection);
@@ -132,11 +148,11 @@ static void exchange(const char *mode, long count, long batch) {
   put_out(&e);
   hear(&e);
   answer(&e);
-  int stays_open = !strcmp(mode, "open");
-  if (stays_open) send_from(link, 0, count, 0);
+  int sends_first = !strcmp(mode, "open"), to_the_end = keeps || sends_first;
+  if (sends_first) send_from(link, 0, count, 0);
   put_out(&e);
-  for (long i = 0; stays_open ? bytes < end : i < count; i += batch) {
-    if (!receives && !stays_open) send_from(link, i, batch, is_settled);
+  for (long i = 0; to_the_end ? bytes < end : i < count; i += batch) {
+    if (!receives && !sends_first) send_from(link, i, batch, is_settled);
     put_out(&e);
     if (!is_settled) hear(&e);
     answer(&e);

@@ -34,6 +34,8 @@ ROOT = Path(__file__).resolve().parent.parent
 ANSWER = PLACE = TEXT = 1
 IN_MAP = 4
 BUFFER = 2
+# A record of an open delivery: where its table is empty, a list of blocks, one of their ends, one of spare rings, and a ring.
+RECORD = 4 * PLACE
 # A frame alone: the list of pieces, and the bytes of the head. A cut one: the list, the first head, the one that all in the middle share, the last.
 ONE_PIECE = 1 + 1
 CUT = 1 + 1 + BUFFER + 1
@@ -61,17 +63,17 @@ AT_MOST = {
     "received Attach": ANSWER + TEXT + IN_MAP,
     # the place among the routes
     "received Begin": ANSWER + IN_MAP,
-    # the lists of the echoes and of their frames
-    "received Disposition": ANSWER + 2 * PLACE + sent(1),
-    # the list of frames, and the places among the open deliveries
-    "received Flow": ANSWER + 2 * PLACE + sent(FRAMES),
+    # the list of the echoes
+    "received Disposition": ANSWER + PLACE + sent(1),
+    # the list of frames, and the records
+    "received Flow": ANSWER + PLACE + RECORD + sent(FRAMES),
     # the error's condition, and its copy for the handles
     "received Close": ANSWER + 2 * TEXT,
     "received End": ANSWER + 2 * TEXT,
     # the container's name
     "received Open": ANSWER + TEXT,
-    # the place among the open deliveries, the tag of a long frame, and a session flow
-    "received Transfer": ANSWER + PLACE + BUFFER + sent(1),
+    # the record, the tag of a long frame, and a session flow
+    "received Transfer": ANSWER + RECORD + BUFFER + sent(1),
     # as a link of this side, and a place among the input handles
     "request AllocateIncomingLink": ANSWER + TEXT + PLACE + 2 * IN_MAP,
     # the copy of the name, the place among the output handles, and the one among the names
@@ -83,8 +85,8 @@ AT_MOST = {
     # the container's name
     "request Open": ANSWER + TEXT + sent(1),
     "request Settle": ANSWER,
-    # the place among the open deliveries, and two pieces
-    "request Transfer": ANSWER + PLACE + max(sent(1), 1 + 2),
+    # the record, and two pieces
+    "request Transfer": ANSWER + RECORD + max(sent(1), 1 + 2),
     # two Ends of the script go out in one run
     "run of wishes": ANSWER + sent(2),
     "write": TEXT,

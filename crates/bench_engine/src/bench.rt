@@ -1,6 +1,6 @@
 //! The measured engine, with what it is given and what it answers.
 
-use crate::relay::Taker;
+use crate::relay::Relay;
 use bytes::Bytes;
 use fe2o3_amqp::{Answer, ConnectionState, Engine, Input, Open, Piece, SessionNo};
 use std::alloc::{AllocError, Global};
@@ -36,8 +36,8 @@ pub struct Seen {
 /// An engine, the inputs that it is to be given next, and its last answers.
 #[derive(Drop)]
 pub struct Bench {
-    engine: Engine<Taker>,
-    inputs: VecDeque<Input<Taker>>,
+    engine: Engine<Relay>,
+    inputs: VecDeque<Input<Relay>>,
     answers: Vec<Answer>,
     seen: Seen,
     is_idle: bool,
@@ -131,7 +131,7 @@ impl Bench {
 
     /// Puts an input behind the others.
     #[inline(never)]
-    pub fn give(&mut self, input: Input<Taker>) -> Result<(), AllocError> {
+    pub fn give(&mut self, input: Input<Relay>) -> Result<(), AllocError> {
         self.inputs.push_back(input)?;
         Ok(())
     }

@@ -7,6 +7,7 @@
 //! | MODE | What is done COUNT times |
 //! |---|---|
 //! | `receive` | BATCH transfers come, and one disposition goes out that accepts them |
+//! | `named` | the same, by a relay that names each; behind the disposition this side settles them |
 //! | `send` | BATCH settled transfers go out |
 //! | `unsettled` | BATCH transfers go out, and a received disposition settles each |
 //! | `held` | BATCH transfers are held back, and a received flow lets them out |
@@ -14,8 +15,19 @@
 //! | MODE | What is done once OPEN transfers have gone out unsettled |
 //! |---|---|
 //! | `forward`, `backward` | COUNT received dispositions settle the lowest that is open, or the highest; BATCH of them in a run |
+//! | `middle`, `second` | the same from the number OPEN / 2 on, or of the numbers 0, 2, 4 and so on |
+//! | `scattered` | the same of the numbers 7919 i mod OPEN, where i counts from 0 |
 //! | `range`, `wide` | COUNT of them come over all that are open, or over 2^31 numbers |
 //! | `peak` | all are settled at once, ten more go out, and then as `forward` |
+//!
+//! | MODE | What is done of received deliveries, which the relay names |
+//! |---|---|
+//! | `oldest` | OPEN come, from the number 0 on; then COUNT times one more comes, and a received disposition settles the oldest |
+//! | `wrapped` | the same from the number 2^32 - OPEN / 2 on, so that half of those that are open are past 2^32 |
+//! | `arrivals` | COUNT times OPEN come by the numbers 7919 i mod OPEN, and received dispositions settle them from 0 on |
+//!
+//! COUNT is at most OPEN in the modes of sent deliveries that settle one after the other, and half of it in `middle` and `second`;
+//! of what is not open, nothing is settled.
 //!
 //! With `idle` for the engine's part, as `bench_engine MODE COUNT BATCH OPEN SESSIONS idle`, the inputs are made and dropped.
 //! `all` does all of these. For each mode it prints what the engine answered, and how many deliveries of the first session are then
@@ -33,16 +45,23 @@ use std::alloc::Global;
 use std::env;
 use std::io::{self, BufRead, BufReader, Write};
 
-const MODES: [&str; 9] = [
+const MODES: [&str; 16] = [
     "receive",
+    "named",
     "send",
     "unsettled",
     "held",
     "forward",
     "backward",
+    "middle",
+    "second",
+    "scattered",
     "range",
     "wide",
     "peak",
+    "oldest",
+    "wrapped",
+    "arrivals",
 ];
 
 /// Reads the lines of the input.

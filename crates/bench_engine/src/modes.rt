@@ -1,8 +1,10 @@
 //! The modes: what a session is given, and when.
 
+mod received;
+
 use crate::bench::{Bench, Plan};
 use crate::frames;
-use crate::relay::Taker;
+use crate::relay::Relay;
 use bytes::Bytes;
 use fe2o3_amqp::{
     DeliveryTag, Disposition, Handle, Input, InputHandle, Raw, Role, SessionNo, SessionSettings,
@@ -18,6 +20,10 @@ const WIDEST: u32 = 0x7fff_ffff;
 
 /// How many go out behind the peak.
 const AFTER_PEAK: u32 = 10;
+
+/// How far a scattered number is from the one before it. It is a prime: among OPEN numbers, none comes twice before each has come,
+/// unless OPEN is a multiple of it.
+const STRIDE: u32 = 7919;
 
 /// A session with one link, and the number of its next transfer.
 #[derive(Drop)]
@@ -38,10 +44,18 @@ pub fn run(alloc: Global, bench: &mut Bench, mode: &str, plan: &Plan) -> anyhow:
             channel,
             next: 0,
         };
-        link.begin(bench)?;
+        link.begin(bench, relay_of(mode))?;
         link.measure(bench, mode)?;
     }
     Ok(())
+}
+
+/// The relay of the link in this mode.
+fn relay_of(mode: &str) -> Relay {
+    match mode {
+        "named" | "oldest" | "wrapped" | "arrivals" => Relay::Namer,
+        _ => Relay::Taker,
+    }
 }
 
 fn open(bench: &mut Bench, plan: &Plan) -> anyhow::Result<()> {
@@ -55,10 +69,10 @@ impl<'a> Link<'a> {
         SessionNo(u32::from(self.channel))
     }
 
-    fn begin(&self, bench: &mut Bench) -> anyhow::Result<()> {
+    fn begin(&self, bench: &mut Bench, relay: Relay) -> anyhow::Result<()> {
         bench.give(Input::Begin(self.session(), SessionSettings::new()))?;
         self.give_begun(bench)?;
-        self.give_link(bench)?;
+        self.give_link(bench, relay)?;
         bench.run()
     }
 
@@ -68,9 +82,9 @@ impl<'a> Link<'a> {
         bench.give(Input::Received(answer))
     }
 
-    fn give_link(&self, bench: &mut Bench) -> Result<(), AllocError> {
+    fn give_link(&self, bench: &mut Bench, relay: Relay) -> Result<(), AllocError> {
         let name = String::from_str(self.alloc, "link")?;
-        bench.give(Input::AllocateIncomingLink(self.session(), name, Taker, InputHandle(0)))
+        bench.give(Input::AllocateIncomingLink(self.session(), name, relay, InputHandle(0)))
     }
 
     fn measure(&mut self, bench: &mut Bench, mode: &str) -> anyhow::Result<()> {
@@ -79,6 +93,10 @@ impl<'a> Link<'a> {
             "send" => self.send(bench),
             "unsettled" => self.send_unsettled(bench),
             "held" => self.hold(bench),
+            "named" => self.receive_named(bench),
+            "oldest" => self.settle_oldest(bench, 0),
+            "wrapped" => self.settle_oldest(bench, 0u32.wrapping_sub(self.plan.open / 2)),
+            "arrivals" => self.receive_scattered(bench),
             _ => {
                 self.go_out(bench, self.plan.open)?;
                 self.settle(bench, mode)
@@ -88,8 +106,11 @@ impl<'a> Link<'a> {
 
     fn settle(&mut self, bench: &mut Bench, mode: &str) -> anyhow::Result<()> {
         match mode {
-            "forward" => self.settle_forward(bench, 0),
-            "backward" => self.settle_backward(bench),
+            "forward" => self.settle_by(bench, 0, 1),
+            "backward" => self.settle_by(bench, self.next.wrapping_sub(1), u32::MAX),
+            "middle" => self.settle_by(bench, self.plan.open / 2, 1),
+            "second" => self.settle_by(bench, 0, 2),
+            "scattered" => self.settle_scattered(bench),
             "range" => self.settle_range(bench, self.next.wrapping_sub(1)),
             "wide" => self.settle_range(bench, WIDEST),
             "peak" => self.settle_after_peak(bench),
@@ -126,7 +147,7 @@ impl<'a> Link<'a> {
             for _ in 0..self.plan.batch {
                 bench.give(Input::Received(frame.clone()?))?;
             }
-            self.give_accepted(bench)?;
+            self.give_accepted(bench, 0, self.plan.batch)?;
             bench.take()?;
         }
         Ok(())
@@ -169,22 +190,32 @@ impl<'a> Link<'a> {
         Ok(())
     }
 
-    fn settle_forward(&self, bench: &mut Bench, first: u32) -> anyhow::Result<()> {
+    /// COUNT are settled: `first`, and from there on each number that is `step` further; to go back is a step of nearly 2^32.
+    fn settle_by(&self, bench: &mut Bench, first: u32, step: u32) -> anyhow::Result<()> {
         for i in 0..self.plan.count {
-            let number = first.wrapping_add(i);
+            let number = first.wrapping_add(step.wrapping_mul(i));
             self.give_settled(bench, number, number)?;
             self.pass(bench)?;
         }
         bench.take()
     }
 
-    fn settle_backward(&self, bench: &mut Bench) -> anyhow::Result<()> {
-        for i in 0..self.plan.count {
-            let number = self.next.wrapping_sub(1).wrapping_sub(i);
+    fn settle_scattered(&self, bench: &mut Bench) -> anyhow::Result<()> {
+        let mut number = 0;
+        for _ in 0..self.plan.count {
             self.give_settled(bench, number, number)?;
             self.pass(bench)?;
+            number = self.scattered_behind(number);
         }
         bench.take()
+    }
+
+    /// The number behind this one in a scattered order of those below OPEN.
+    fn scattered_behind(&self, number: u32) -> u32 {
+        number
+            .wrapping_add(STRIDE)
+            .checked_rem(self.plan.open)
+            .unwrap_or(0)
     }
 
     fn settle_range(&self, bench: &mut Bench, last: u32) -> anyhow::Result<()> {
@@ -200,7 +231,7 @@ impl<'a> Link<'a> {
         self.give_settled(bench, 0, first)?;
         bench.take()?;
         self.go_out(bench, AFTER_PEAK)?;
-        self.settle_forward(bench, first)
+        self.settle_by(bench, first, 1)
     }
 
     /// The next transfer goes out.
@@ -225,14 +256,14 @@ impl<'a> Link<'a> {
         bench.give(Input::Transfer(self.session(), InputHandle(0), transfer, payload, true))
     }
 
-    /// This side accepts a received batch.
-    fn give_accepted(&self, bench: &mut Bench) -> anyhow::Result<()> {
+    /// This side accepts the received deliveries from `first` to `last`.
+    fn give_accepted(&self, bench: &mut Bench, first: u32, last: u32) -> anyhow::Result<()> {
         let (state, rest) = Raw::read(Bytes::from_static(ACCEPTED))?;
         drop(rest);
         let disposition = Disposition {
             role: Role::Receiver,
-            first: 0,
-            last: Some(self.plan.batch),
+            first,
+            last: Some(last),
             settled: true,
             state: Some(state),
             batchable: false,
@@ -241,9 +272,9 @@ impl<'a> Link<'a> {
         Ok(())
     }
 
-    /// The peer settles the deliveries from `first` to `last`.
+    /// The peer settles the sent deliveries from `first` to `last`.
     fn give_settled(&self, bench: &mut Bench, first: u32, last: u32) -> Result<(), AllocError> {
-        let frame = frames::settled(self.alloc, self.channel, first, last)?;
+        let frame = frames::settled(self.alloc, self.channel, Role::Receiver, first, last)?;
         bench.give(Input::Received(frame))
     }
 
