@@ -11,7 +11,7 @@ pub(crate) struct Place {
 }
 
 /// How many blocks from the guessed one on are looked at before the search halves.
-const NEAR: usize = 8;
+const NEAR: usize = 2;
 
 /// Whether a block holds a target.
 #[inline(always)]
@@ -114,6 +114,24 @@ fn block_of(ends: &Vec<usize>, base: usize, rank: usize) -> usize
     between(ends, base, rank)
 }
 
+/// The place of a rank in the block that holds it.
+#[inline(always)]
+fn place_in(ends: &Vec<usize>, base: usize, rank: usize, block: usize) -> Place
+    requires fits { base + rank < 2 ^ 64 }
+    requires holds { HoldsTarget ends.now.items (base + rank) block }
+    ensures block { result.block ≡ block }
+    ensures first { result.block ≡ 0 → result.at ≡ rank }
+    ensures other { 0 < result.block → slice_index ends.now.items (result.block - 1) + result.at ≡ base + rank }
+{
+    if block == 0 {
+        return Place { block, at: rank };
+    }
+    Place {
+        block,
+        at: base + rank - ends[block - 1],
+    }
+}
+
 /// Where a rank is: its block, and its place there.
 #[inline(always)]
 pub(crate) fn locate(ends: &Vec<usize>, base: usize, rank: usize) -> Place
@@ -126,13 +144,25 @@ pub(crate) fn locate(ends: &Vec<usize>, base: usize, rank: usize) -> Place
     ensures behind { base + rank < slice_index ends.now.items result.block }
 {
     let block = block_of(ends, base, rank);
-    if block == 0 {
-        return Place { block, at: rank };
+    place_in(ends, base, rank, block)
+}
+
+/// Where a rank is, which may be in the hinted block. A hint may be wrong.
+#[inline(always)]
+pub(crate) fn locate_near(ends: &Vec<usize>, base: usize, hint: usize, rank: usize) -> Place
+    requires some { 0 < length ends.now.items }
+    requires fits { base + rank < 2 ^ 64 }
+    requires within { base + rank < slice_index ends.now.items (length ends.now.items - 1) }
+    ensures block { result.block < length ends.now.items }
+    ensures first { result.block ≡ 0 → result.at ≡ rank }
+    ensures other { 0 < result.block → slice_index ends.now.items (result.block - 1) + result.at ≡ base + rank }
+    ensures behind { base + rank < slice_index ends.now.items result.block }
+{
+    let block = hint.min(ends.len() - 1);
+    if holds(ends, base + rank, block) {
+        return place_in(ends, base, rank, block);
     }
-    Place {
-        block,
-        at: base + rank - ends[block - 1],
-    }
+    locate(ends, base, rank)
 }
 
 /// Where a rank is that may be the length: then it is behind the last block.

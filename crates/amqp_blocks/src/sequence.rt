@@ -11,7 +11,7 @@ use crate::leaving::pop;
 use crate::removing::remove_some;
 use crate::rings::write_at;
 use crate::room::make_room;
-use crate::search::{Place, locate, total};
+use crate::search::{Place, locate, locate_near, total};
 use std::alloc::{AllocError, Global};
 use std::collections::VecDeque;
 use std::marker::Model;
@@ -29,6 +29,8 @@ pub struct Blocks<T> {
     base: usize,
     // Empty rings for the blocks to come.
     spare: Vec<VecDeque<T>>,
+    // The block that was sought last, which may be another one by now.
+    sought: usize,
 }
 
 impl<T> Model for Blocks<T> {
@@ -62,6 +64,7 @@ impl<T> Blocks<T> {
             ends: Vec::new(alloc),
             base: 0,
             spare: Vec::new(alloc),
+            sought: 0,
         }
     }
 
@@ -86,8 +89,17 @@ impl<T> Blocks<T> {
         requires within { rank < length self.now.items }
         ensures value { slice_get self.now.items rank ≡ Some result.now }
     {
-        let place = locate(&self.ends, self.base, rank);
+        let place = locate_near(&self.ends, self.base, self.sought, rank);
         item_of(&self.blocks, place)
+    }
+
+    /// Remembers the block of a rank, which is below the length: reads near it find it at once. No item changes.
+    #[inline(always)]
+    pub fn seek(&mut self, rank: usize)
+        requires within { rank < length self.old.items }
+        ensures { self.new ≡ self.old }
+    {
+        self.sought = locate_near(&self.ends, self.base, self.sought, rank).block;
     }
 
     /// The first item, or `None` where there is none.

@@ -220,3 +220,13 @@ ends_missing rows n first last r e some at_first at_last = λ any.
     let front = number_read rows 0 first (omega (arith, e, some)) at_first in
     let back : number_at rows (length rows - 1) ≡ last.number = subst (λ k. number_at rows (k - 1) ≡ last.number) e (number_read rows (n - 1) last (omega (arith, e, some)) at_last) in
     omega (arith, front, back, apart, e)
+
+-- the same of two ends that were read
+pub read_ends : (rows : List Delivery) (first last : Delivery) → IsRising rows → slice_get rows 0 ≡ Some first → slice_get rows (length rows - 1) ≡ Some last → first.number + (length rows - 1) ≤ last.number
+read_ends rows first last r front back =
+    ends_apart rows (length rows) first last r refl (some_rows rows 0 first front) (stands rows 0 first front) (stands rows (length rows - 1) last back)
+
+pub read_missing : (rows : List Delivery) (n : ℕ) (first last : Delivery) → IsRising rows → n ≡ length rows → slice_get rows 0 ≡ Some first → slice_get rows (length rows - 1) ≡ Some last → IsMissing (last.number - first.number - (n - 1)) rows
+read_missing rows n first last r e front back =
+    subst (λ (k : ℕ). IsMissing (last.number - first.number - (k - 1)) rows) (sym e)
+    (ends_missing rows (length rows) first last r refl (some_rows rows 0 first front) (stands rows 0 first front) (stands rows (length rows - 1) last back))

@@ -1,4 +1,4 @@
-//! Maps whose keys the peer chooses: how their keys are hashed, and where they were last found.
+//! Maps whose keys the peer chooses: how their keys are hashed, and where they were last put.
 
 ghost use Rattle.std.specs.Prelude.{◌≡◌, ◌<◌, Some, IfSome, is_some, option_copied, nat_eq, slice_get};
 ghost use Rattle.std.specs.Map.{lookup};
@@ -36,15 +36,15 @@ impl BuildHasher for KeyHash {
 /// How many places are remembered.
 const HINTS: usize = 16;
 
-/// At which index of a map keys were last found: of the keys with the same lowest bits the one that was noted last. A hint may be
-/// wrong. Who takes it compares the key that stands there, and else asks the map.
+/// At which index of a map keys were last put or moved to: of the keys with the same lowest bits the one that was noted last.
+/// A hint may be wrong. Who takes it compares the key that stands there, and else asks the map.
 #[derive(Clone, Copy)]
 pub struct Hints {
     places: [u32; HINTS],
 }
 
 impl Hints {
-    /// Nothing was found.
+    /// Nothing was noted.
     pub fn new() -> Hints {
         Hints { places: [0; HINTS] }
     }
@@ -55,7 +55,7 @@ impl Hints {
         self.places[key as usize % HINTS] as usize
     }
 
-    /// The key was found at this index.
+    /// The key was put at this index, or moved to it.
     #[inline(always)]
     pub fn note(&mut self, key: u32, index: usize) {
         self.places[key as usize % HINTS] = (index % 0x1_0000_0000) as u32;

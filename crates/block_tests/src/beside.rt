@@ -43,7 +43,8 @@ impl Beside {
         self.blocks.reserve(1)?;
         assert!(rt; self.blocks.len() < MOST && rank <= self.blocks.len());
         self.blocks.insert(rank, item);
-        assert!(rt; rank <= self.plain.len());
+        assert!(rt; rank < self.blocks.len() && rank <= self.plain.len());
+        self.blocks.seek(rank);
         self.plain.insert(rank, item)?;
         Ok(())
     }

@@ -51,6 +51,7 @@ fn each_call_gives_what_it_says(rt: HostRuntime) -> Result<(), Fail> {
     assert_eq!(rt; blocks.last().copied(), Some(40));
     assert!(&rt; blocks.len() == 4);
     blocks.replace(2, 33);
+    blocks.seek(2);
     assert_eq!(rt; *blocks.get(2), 33);
     assert_eq!(rt; blocks.pop_front(), Some(10));
     assert!(&rt; blocks.len() == 3);

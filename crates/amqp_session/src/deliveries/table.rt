@@ -42,11 +42,10 @@ fn missing(rows: &Blocks<Delivery>) -> usize
     requires table { IsTable rows.now.items }
     ensures missing { IsMissing result rows.now.items }
 {
-    let len = rows.len();
-    if len == 0 {
+    let (Some(first), Some(last)) = (rows.first(), rows.last()) else {
         return 0;
-    }
-    (rows.get(len - 1).number - rows.get(0).number) as usize - (len - 1)
+    };
+    (last.number - first.number) as usize - (rows.len() - 1)
 }
 
 /// Whether the number stands at the place.
@@ -168,6 +167,7 @@ impl Deliveries {
         ensures counted { self.new ≡ compared 1 self.old }
     {
         self.reads.comparisons = self.reads.comparisons.wrapping_add(1);
+        self.rows.seek(at);
         self.rows.get(at).number
     }
 
