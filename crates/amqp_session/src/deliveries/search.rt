@@ -53,7 +53,7 @@ impl Deliveries {
         if len / 2 < missing || len == 0 {
             return Part { low: 0, high: len };
         }
-        let far = first.saturating_sub(self.number(0)) as usize;
+        let far = first.saturating_sub(self.first_number()) as usize;
         Part {
             low: far.saturating_sub(missing).min(len),
             high: far.min(len),

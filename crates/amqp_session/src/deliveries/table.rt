@@ -13,8 +13,8 @@ use std::marker::Model;
 
 /// The open deliveries of one role, by rising number.
 ///
-/// Another module reads a record by [`Deliveries::delivery`] and a number by [`Deliveries::number`], and by no other call; both
-/// count the read, and no call sets the count back. A record that comes at the end costs constant time.
+/// Another module reads a record by [`Deliveries::delivery`] and a number by [`Deliveries::number`] or
+/// [`Deliveries::first_number`], and by no other call; each counts the read, and no call sets the count back. A record that comes at the end costs constant time.
 #[derive(Drop)]
 pub(crate) struct Deliveries {
     rows: Blocks<Delivery>,
@@ -159,7 +159,18 @@ impl Deliveries {
         missing(&self.rows)
     }
 
-    /// The number at a place: one comparison.
+    /// The number at the front: one comparison.
+    #[inline(always)]
+    pub(crate) fn first_number(&mut self) -> u32
+        requires some { 0 < length self.old.rows }
+        ensures value { result ≡ number_at self.old.rows 0 }
+        ensures counted { self.new ≡ compared 1 self.old }
+    {
+        self.reads.comparisons = self.reads.comparisons.wrapping_add(1);
+        self.rows.get(0).number
+    }
+
+    /// The number at a place: one comparison. A search comes near to it next, so its block is remembered.
     #[inline(always)]
     pub(crate) fn number(&mut self, at: usize) -> u32
         requires within { at < length self.old.rows }

@@ -1,4 +1,4 @@
-use Rattle.std.proofs.Common.{◌≤◌, ◌-◌, ◌+◌, length, arith, sym}
+use Rattle.std.proofs.Common.{arith, sym}
 use Rattle.amqp_session.proofs.Rising.{read_ends, read_missing}
 use Rattle.amqp_session.proofs.deliveries.table.missing.Goals as goal
 
