@@ -11,7 +11,7 @@ pub(crate) struct Place {
 }
 
 /// How many blocks from the guessed one on are looked at before the search halves.
-const NEAR: usize = 2;
+const NEAR: usize = 4;
 
 /// Whether a block holds a target.
 #[inline(always)]
@@ -158,6 +158,9 @@ pub(crate) fn locate_near(ends: &Vec<usize>, base: usize, hint: usize, rank: usi
     ensures other { 0 < result.block → slice_index ends.now.items (result.block - 1) + result.at ≡ base + rank }
     ensures behind { base + rank < slice_index ends.now.items result.block }
 {
+    if holds(ends, base + rank, 0) {
+        return Place { block: 0, at: rank };
+    }
     let block = hint.min(ends.len() - 1);
     if holds(ends, base + rank, block) {
         return place_in(ends, base, rank, block);
