@@ -1,0 +1,12 @@
+use Rattle.std.proofs.Common.{◌≡◌, subst, arith, length, true, false, ◌<◌}
+use Rattle.amqp_numbers.specs.Ranges.{begins_by}
+use Rattle.amqp_numbers.proofs.SearchLemmas.{rank_is}
+use Rattle.amqp_numbers.proofs.search.halving.Goals as goal
+
+pub returns : goal.returns
+returns c =
+    let i = c.loop-low.invariant in
+    let rs = c.args.ranges.now.items in
+    let same : c.loop-low.high ≡ c.loop-low.low = omega (arith, i.order, c.loop-low-test.false) in
+    let behind = subst (λ k. k < length rs → begins_by rs k c.args.number ≡ false) same i.behind in
+    record { rank = rank_is rs 0 c.loop-low.low c.args.number c.requires.spaced (omega (arith, same, i.within)) i.before behind }
