@@ -121,8 +121,8 @@ lower_joined rs n i a s e h =
       numbers = λ q. held_take rs i q a e ∙ ap (λ b. is_held q (take i rs) || (nat_le a.first q && b)) (up_to q a.last n h);
     }
 
-pub upper_last : (rs : List Range) (n rank : ℕ) → rank ≡ length rs → IsUpper rs n rank rank n
-upper_last rs n rank h = record { order = omega arith; within = omega (arith, h); last_is = omega arith; spaced = by rs rank h; numbers = λ q. none_above n q (is_held q (drop rank rs)) }
+pub upper_last : (rs : List Range) (n rank : ℕ) → n < 2 ^ 32 → rank ≡ length rs → IsUpper rs n rank rank n
+upper_last rs n rank f h = record { order = omega arith; within = omega (arith, h); last_is = omega arith; fits = f; spaced = by rs rank h; numbers = λ q. none_above n q (is_held q (drop rank rs)) }
   where
     by : (rs : List Range) (i : ℕ) → i ≡ length rs → BeginFrom (n + 2) (drop i rs)
     by [] zero h = tt
@@ -130,10 +130,10 @@ upper_last rs n rank h = record { order = omega arith; within = omega (arith, h)
     by (r ∷ rs) zero h = absurd (omega arith)
     by (r ∷ rs) (suc i) h = by rs i (omega arith)
 
-pub upper_alone : (rs : List Range) (n i : ℕ) (a : Range) → IsSpaced 0 rs → slice_get rs i ≡ Some a → n + 2 ≤ a.first → IsUpper rs n i i n
-upper_alone rs n i a s e h =
+pub upper_alone : (rs : List Range) (n i : ℕ) (a : Range) → n < 2 ^ 32 → IsSpaced 0 rs → slice_get rs i ≡ Some a → n + 2 ≤ a.first → IsUpper rs n i i n
+upper_alone rs n i a f s e h =
     let p = at rs 0 i a s e in
-    record { order = omega arith; within = omega (arith, p.within); last_is = omega arith; spaced = by rs i e; numbers = λ q. none_above n q (is_held q (drop i rs)) }
+    record { order = omega arith; within = omega (arith, p.within); last_is = omega arith; fits = f; spaced = by rs i e; numbers = λ q. none_above n q (is_held q (drop i rs)) }
   where
     by : (rs : List Range) (i : ℕ) → slice_get rs i ≡ Some a → BeginFrom (n + 2) (drop i rs)
     by [] i e = absurd (cc)
@@ -147,17 +147,18 @@ upper_joined rs n i a s e h =
       order = omega arith;
       within = omega (arith, p.within);
       last_is = omega (arith, h, p.order);
+      fits = p.fits;
       spaced = begin_from (drop (suc i) rs) (a.last + 2) p.behind;
       numbers = λ q. held_drop rs i q a e ∙ ap (λ b. (b && nat_le q a.last) || is_held q (drop (suc i) rs)) (from_on q a.first n h);
     }
 
 -- ---- a new range in the place of those that it joins
 
-pub put_spaced : (rs : List Range) (n rank from to : ℕ) (r : Range) → IsSpaced 0 rs → r.last < 2 ^ 32 → IsLower rs n rank from r.first → IsUpper rs n rank to r.last → IsSpaced 0 (take from rs ++ r ∷ drop to rs)
-put_spaced rs n rank from to r s f l u =
+pub put_spaced : (rs : List Range) (n rank from to : ℕ) (r : Range) → IsSpaced 0 rs → IsLower rs n rank from r.first → IsUpper rs n rank to r.last → IsSpaced 0 (take from rs ++ r ∷ drop to rs)
+put_spaced rs n rank from to r s l u =
     let d = spaced_drop rs 0 to s in
     spaced_append (take from rs) (r ∷ drop to rs) 0 (spaced_take rs 0 from s)
-      (l.spaced, omega (arith, l.first_is, u.last_is), f, spaced_from (drop to rs) (r.last + 2) d.0 d.1 u.spaced)
+      (l.spaced, omega (arith, l.first_is, u.last_is), u.fits, spaced_from (drop to rs) (r.last + 2) d.0 d.1 u.spaced)
 
 within : (first last n q : ℕ) → first ≤ n → n ≤ last → (nat_le first q && nat_le q last) ≡ (nat_eq q n || ((nat_le first q && nat_lt q n) || (nat_lt n q && nat_le q last)))
 within first last n q f l = grind (arith, nat_tests, common_steps)

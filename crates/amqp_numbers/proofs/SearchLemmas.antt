@@ -21,13 +21,13 @@ begins_low [] low i n s h = absurd (cc)
 begins_low (r ∷ rs) low zero n s h = let x = le_true r.first n h in omega (arith, x, s.0)
 begins_low (r ∷ rs) low (suc i) n s h = let x = begins_low rs (r.last + 2) i n s.3 h in omega (arith, x, s.0, s.1)
 
-pub rank_is : (rs : List Range) (low rank n : ℕ) → IsSpaced low rs → rank ≤ length rs → (0 < rank → begins_by rs (rank - 1) n ≡ true) → (rank < length rs → begins_by rs rank n ≡ false) → IsRank rs n rank
-rank_is [] low rank n s w b a = omega arith
+pub rank_is : (rs : List Range) (low rank n : ℕ) → IsSpaced low rs → rank ≤ length rs → ((j : ℕ) → rank ≡ suc j → begins_by rs j n ≡ true) → (rank < length rs → begins_by rs rank n ≡ false) → IsRank rs n rank
+rank_is [] low rank n s w b a = omega (arith, w)
 rank_is (r ∷ rs) low zero n s w b a = le_false r.first n (a (omega arith))
-rank_is (r ∷ rs) low (suc zero) n s w b a = (le_true r.first n (b (omega arith)), rank_is rs (r.last + 2) 0 n s.3 (omega arith) (λ h. absurd (omega arith)) (λ h. a (omega arith)))
+rank_is (r ∷ rs) low (suc zero) n s w b a = (le_true r.first n (b zero refl), rank_is rs (r.last + 2) 0 n s.3 (omega arith) (λ j e. absurd (omega (arith, e))) (λ h. a (omega (arith, h))))
 rank_is (r ∷ rs) low (suc (suc i)) n s w b a =
-    let x = begins_low rs (r.last + 2) i n s.3 (b (omega arith)) in
-    (omega (arith, x, s.1), rank_is rs (r.last + 2) (suc i) n s.3 (omega arith) (λ h. b (omega arith)) (λ h. a (omega arith)))
+    let x = begins_low rs (r.last + 2) i n s.3 (b (suc i) refl) in
+    (omega (arith, x, s.1), rank_is rs (r.last + 2) (suc i) n s.3 (omega (arith, w)) (λ j e. b (suc j) (ap suc e)) (λ h. a (omega (arith, h))))
 
 pub rank_within : (rs : List Range) (n rank : ℕ) → IsRank rs n rank → rank ≤ length rs
 rank_within [] n rank h = omega arith

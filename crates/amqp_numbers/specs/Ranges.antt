@@ -71,5 +71,6 @@ pub record IsUpper (rs : List Range) (n rank to last : ℕ) : Type 0 where
   pub order : rank ≤ to
   pub within : to ≤ length rs
   pub last_is : n ≤ last
+  pub fits : last < 2 ^ 32
   pub spaced : BeginFrom (last + 2) (drop to rs)
   pub numbers : (q : ℕ) → is_held q (drop rank rs) ≡ ((nat_lt n q && nat_le q last) || is_held q (drop to rs))

@@ -23,10 +23,10 @@ returns-else-after-number-eq1 c =
     let a = c.get-after.result.now in
     let b = apart_above c.args.ranges.now.items c.args.number c.args.rank a c.requires.apart c.get-after.ensures.value in
     let n : c.args.number + 2 ≤ a.first = omega (arith, b, c.if-after-number-eq1.false) in
-    record { upper = upper_alone c.args.ranges.now.items c.args.number c.args.rank a c.requires.spaced c.get-after.ensures.value n }
+    record { upper = upper_alone c.args.ranges.now.items c.args.number c.args.rank a c.ranges.number.fits c.requires.spaced c.get-after.ensures.value n }
 
 pub returns-else-rank-len : goal.returns-else-rank-len
 returns-else-rank-len c =
     let w = apart_within c.args.ranges.now.items c.args.number c.args.rank c.requires.apart in
     let e : c.args.rank ≡ length c.args.ranges.now.items = omega (arith, w, c.if-rank-len.false, c.len.ensures) in
-    record { upper = upper_last c.args.ranges.now.items c.args.number c.args.rank e }
+    record { upper = upper_last c.args.ranges.now.items c.args.number c.args.rank c.ranges.number.fits e }
