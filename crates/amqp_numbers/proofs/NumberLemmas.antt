@@ -1,5 +1,5 @@
 -- The numbers that ranges hold, as a map.
-use Rattle.std.proofs.Common.{◌≡◌, ℕ, zero, suc, ◌+◌, ◌-◌, ◌<◌, ◌≤◌, List, [], ◌∷◌, ◌++◌, cond, Bool, true, false, ◌&&◌, ◌||◌, Option, Some, None, nat_eq, nat_lt, nat_le, refl, ap, sym, ◌∙◌, subst, arith}
+use Rattle.std.proofs.Common.{◌≡◌, ℕ, zero, suc, ◌+◌, ◌-◌, List, [], ◌∷◌, cond, Bool, true, false, ◌&&◌, ◌||◌, Some, None, nat_eq, nat_lt, nat_le, refl, ap, sym, ◌∙◌, arith}
 use Rattle.std.proofs.lemmas.Bool.Decides.{nat_tests}
 use Rattle.std.proofs.lemmas.Grind.{common_steps}
 use Rattle.std.specs.Ordering.{nat_cmp, eq_by_cmp}
@@ -46,7 +46,7 @@ pub inserted : (old new : List Range) (n : ℕ) → ((q : ℕ) → is_held q new
 inserted old new n h = same_map nat_cmp_total nat_cmp-IsAntisymmetric _ _ (λ q.
     get_numbers new q ∙ ap (λ b. cond b (Some true) None) (h q) ∙ sym (either (nat_eq q n) (is_held q old) (Some true) None)
     ∙ sym (get-insert nat_cmp_total (numbers_of old) n true q ∙ ap (λ b. cond b (Some true) (get (numbers_of old) q)) (same_test q n)
-           ∙ ap (cond (nat_eq q n) (Some true)) (get_numbers old q)))
+    ∙ ap (cond (nat_eq q n) (Some true)) (get_numbers old q)))
 
 same_number : (q n : ℕ) → nat_eq q n ≡ true → q ≡ n
 same_number q n h = grind (arith, nat_tests, common_steps)

@@ -1,10 +1,9 @@
 -- Ranges that are spaced, and one that comes among them.
-use Rattle.std.proofs.Common.{◌≡◌, ℕ, zero, suc, ◌+◌, ◌*◌, ◌-◌, ◌^◌, ◌<◌, ◌≤◌, List, [], ◌∷◌, ◌++◌, length, take, drop, Bool, true, false, ◌&&◌, ◌||◌, Some, nat_eq, nat_lt, nat_le, slice_get, refl, ap, sym, ◌∙◌, subst, arith}
+use Rattle.std.proofs.Common.{◌≡◌, ℕ, zero, suc, ◌+◌, ◌*◌, ◌^◌, ◌<◌, ◌≤◌, List, [], ◌∷◌, ◌++◌, length, take, drop, Bool, true, false, ◌&&◌, ◌||◌, Some, nat_eq, nat_lt, nat_le, slice_get, refl, ap, sym, ◌∙◌, subst, arith}
 use Rattle.std.proofs.lemmas.Bool.Decides.{nat_tests}
 use Rattle.std.proofs.lemmas.Grind.{common_steps}
 use Rattle.amqp_numbers.specs.declared.ranges.Range.{Range}
-use Rattle.amqp_numbers.specs.Ranges.{IsSpaced, IsApart, IsLower, IsUpper, BeginFrom, next_low, is_held}
-use Rattle.amqp_numbers.proofs.SearchLemmas.{apart_within, apart_below, apart_above}
+use Rattle.amqp_numbers.specs.Ranges.{IsSpaced, IsLower, IsUpper, BeginFrom, next_low, is_held}
 
 -- each range takes two numbers at least, with the one that is missing behind it
 pub few : (rs : List Range) (low : ℕ) → IsSpaced low rs → low ≤ 2 ^ 32 + 1 → low + 2 * length rs ≤ 2 ^ 32 + 1
@@ -158,7 +157,7 @@ pub put_spaced : (rs : List Range) (n rank from to : ℕ) (r : Range) → IsSpac
 put_spaced rs n rank from to r s l u =
     let d = spaced_drop rs 0 to s in
     spaced_append (take from rs) (r ∷ drop to rs) 0 (spaced_take rs 0 from s)
-      (l.spaced, omega (arith, l.first_is, u.last_is), u.fits, spaced_from (drop to rs) (r.last + 2) d.0 d.1 u.spaced)
+    (l.spaced, omega (arith, l.first_is, u.last_is), u.fits, spaced_from (drop to rs) (r.last + 2) d.0 d.1 u.spaced)
 
 within : (first last n q : ℕ) → first ≤ n → n ≤ last → (nat_le first q && nat_le q last) ≡ (nat_eq q n || ((nat_le first q && nat_lt q n) || (nat_lt n q && nat_le q last)))
 within first last n q f l = grind (arith, nat_tests, common_steps)
@@ -175,4 +174,4 @@ put_held rs n rank from to r l u q =
     held_append (take from rs) (r ∷ drop to rs) q
     ∙ sorted_out (is_held q (take from rs)) (nat_le r.first q && nat_le q r.last) (nat_eq q n) (nat_le r.first q && nat_lt q n) (nat_lt n q && nat_le q r.last) (is_held q (drop to rs)) (within r.first r.last n q l.first_is u.last_is)
     ∙ ap (λ b. nat_eq q n || b) (sym (held_parts rs rank q ∙ ap (λ b. b || is_held q (drop rank rs)) (l.numbers q)
-        ∙ ap (λ b. (is_held q (take from rs) || (nat_le r.first q && nat_lt q n)) || b) (u.numbers q)))
+    ∙ ap (λ b. (is_held q (take from rs) || (nat_le r.first q && nat_lt q n)) || b) (u.numbers q)))

@@ -44,8 +44,7 @@ impl NumberSet {
     pub fn contains(&self, number: u32) -> bool
         ensures { result ≡ is_some (map.get self.now number) }
     {
-        let rank = rank_of(&self.ranges, number);
-        is_in_range_before(&self.ranges, rank, number)
+        is_in_range_before(&self.ranges, rank_of(&self.ranges, number), number)
     }
 
     /// Puts a number into the set. One that is there already changes nothing. Where memory is refused, nothing changes either: it is asked

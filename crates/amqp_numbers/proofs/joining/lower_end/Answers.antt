@@ -1,4 +1,4 @@
-use Rattle.std.proofs.Common.{◌≡◌, ◌<◌, ◌≤◌, ◌+◌, ◌-◌, ℕ, suc, sym, subst, arith}
+use Rattle.std.proofs.Common.{◌≡◌, ◌≤◌, ◌+◌, ◌-◌, suc, sym, subst, arith}
 use Rattle.amqp_numbers.specs.Ranges.{IsApart, IsLower}
 use Rattle.amqp_numbers.proofs.SearchLemmas.{apart_within, apart_below}
 use Rattle.amqp_numbers.proofs.RangeLemmas.{lower_alone, lower_joined}

@@ -1,5 +1,5 @@
-use Rattle.std.proofs.Common.{◌≡◌, ◌<◌, ◌≤◌, ◌+◌, ◌-◌, ℕ, suc, length, sym, subst, arith}
-use Rattle.amqp_numbers.specs.Ranges.{IsApart, IsUpper}
+use Rattle.std.proofs.Common.{◌≡◌, ◌≤◌, ◌+◌, suc, length, subst, arith}
+use Rattle.amqp_numbers.specs.Ranges.{IsUpper}
 use Rattle.amqp_numbers.proofs.SearchLemmas.{apart_within, apart_above}
 use Rattle.amqp_numbers.proofs.RangeLemmas.{upper_alone, upper_joined, upper_last}
 use Rattle.amqp_numbers.proofs.joining.upper_end.Goals as goal

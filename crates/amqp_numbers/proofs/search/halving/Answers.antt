@@ -10,5 +10,5 @@ returns c =
     let same : c.loop-low.high ≡ c.loop-low.low = omega (arith, i.order, c.loop-low-test.false) in
     let behind = subst (λ k. k < length rs → begins_by rs k c.args.number ≡ false) same i.behind in
     let before : (j : ℕ) → c.loop-low.low ≡ suc j → begins_by rs j c.args.number ≡ true =
-        (λ j e. let k : c.loop-low.low - 1 ≡ j = omega (arith, e) in subst (λ k. begins_by rs k c.args.number ≡ true) k (i.before (omega (arith, e)))) in
+    (λ j e. let k : c.loop-low.low - 1 ≡ j = omega (arith, e) in subst (λ k. begins_by rs k c.args.number ≡ true) k (i.before (omega (arith, e)))) in
     record { rank = rank_is rs 0 c.loop-low.low c.args.number c.requires.spaced (omega (arith, same, i.within)) before behind }

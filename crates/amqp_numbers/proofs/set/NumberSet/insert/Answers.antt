@@ -1,4 +1,4 @@
-use Rattle.std.proofs.Common.{◌≡◌, ◌<◌, ◌^◌, List, ◌∷◌, ◌++◌, take, drop, true, false, length, Result, Ok, Err, OnOk, OnErr, ap, sym, ◌∙◌, subst, arith}
+use Rattle.std.proofs.Common.{◌≡◌, List, ◌∷◌, ◌++◌, take, drop, true, Result, Ok, Err, OnOk, OnErr, ap, sym, ◌∙◌, subst, arith}
 use Rattle.std.specs.FinMap.{insert}
 use Rattle.amqp_numbers.specs.declared.ranges.Range.{Range}
 use Rattle.amqp_numbers.specs.Ranges.{Numbers, numbers_of, is_held, IsSpaced}
