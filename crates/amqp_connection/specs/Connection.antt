@@ -180,6 +180,11 @@ RouteStep v channel (Ok number) w = (map.get v.session_by_incoming_channel chann
 RouteStep v channel (Err (inner.NotFound text)) w = (map.get v.session_by_incoming_channel channel ≡ None) × (text ≡ None) × (w ≡ v)
 RouteStep v channel (Err e) w = ⊥
 
+-- whether some channel of the peer's leads to the session
+abbrev pub IsRouted : ConnectionView → ℕ → Bool → Type 0
+IsRouted v number true = (c : ℕ) × (map.get v.session_by_incoming_channel c ≡ Some number)
+IsRouted v number false = (c : ℕ) → ¬ (map.get v.session_by_incoming_channel c ≡ Some number)
+
 -- ---- what a call answered
 
 abbrev pub refusal_of : {X E : Type 0} → Result X E → Option E

@@ -1,5 +1,6 @@
 pub mod States
 pub mod Channels
+pub mod RouteCounts
 pub mod ConnectionErrors
 pub mod Connection
 pub mod History

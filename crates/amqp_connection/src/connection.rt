@@ -7,6 +7,7 @@ ghost use Rattle.amqp_connection.specs.Connection.{new_connection, stopped};
 mod allocation;
 mod channel_table;
 mod open_close;
+mod route_counts;
 mod route_table;
 mod routing;
 mod shown;

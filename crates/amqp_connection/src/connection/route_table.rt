@@ -2,7 +2,9 @@
 
 ghost use Rattle.std.specs.Prelude.{◌≡◌, OnOk, OnErr};
 ghost use Rattle.std.specs.FinMap as map;
+ghost use Rattle.amqp_connection.specs.RouteCounts.{IsLedTo};
 
+use super::route_counts;
 use amqp_session::keys::{self, Hints, Numbered};
 use amqp_session::{IncomingChannel, KeyHash};
 use indexmap::IndexMap;
@@ -14,6 +16,9 @@ use std::marker::Model;
 pub(crate) struct RouteTable {
     routes: Numbered<u32>,
     hints: Hints,
+    /// How many channels lead to each session, for the sessions to which any leads.
+    counts: Numbered<u32>,
+    count_hints: Hints,
 }
 
 impl Model for RouteTable {
@@ -21,12 +26,15 @@ impl Model for RouteTable {
     ghost use Rattle.std.specs.Ordering.{nat_cmp};
     ghost use Rattle.std.specs.Coded.{coded_ℕ};
     ghost use Rattle.std.specs.FinMap as map;
+    ghost use Rattle.amqp_connection.specs.RouteCounts.{Counted};
 
     ghost Value = { map.FinMap nat_cmp ℕ };
 
     ghost coded = { map.code coded_ℕ coded_ℕ };
 
     ghost view = { λ t. map.from_entries t.routes.entries };
+
+    ghost invariant = { λ t. Counted (map.from_entries t.routes.entries) t.counts.entries };
 }
 
 impl RouteTable {
@@ -37,6 +45,8 @@ impl RouteTable {
         RouteTable {
             routes: IndexMap::with_hasher(alloc, hash),
             hints: Hints::new(),
+            counts: IndexMap::with_hasher(alloc, hash),
+            count_hints: Hints::new(),
         }
     }
 
@@ -48,14 +58,28 @@ impl RouteTable {
         keys::get(&self.routes, &self.hints, u32::from(channel.0)).copied()
     }
 
+    /// Whether some channel leads to the session.
+    pub(crate) fn leads_to(&self, number: u32) -> bool
+        ensures { IsLedTo self.now number result }
+    {
+        keys::get(&self.counts, &self.count_hints, number).is_some()
+    }
+
     /// From now on the channel leads to this session.
     pub(crate) fn put(&mut self, channel: IncomingChannel, number: u32) -> Result<(), AllocError>
         ensures ok { OnOk result (self.new ≡ map.insert self.old channel.0 number) }
         ensures err { OnErr result (self.new ≡ self.old) }
     {
-        let channel = u32::from(channel.0);
-        let (index, _) = self.routes.insert_full(channel, number)?;
-        self.hints.note(channel, index);
+        if self.of(channel) == Some(number) {
+            return Ok(());
+        }
+        // Then no count needs memory once the route is put.
+        self.counts.reserve(1)?;
+        let key = u32::from(channel.0);
+        let (index, before) = self.routes.insert_full(key, number)?;
+        self.hints.note(key, index);
+        route_counts::raise(&mut self.counts, &mut self.count_hints, number);
+        route_counts::lower(&mut self.counts, &mut self.count_hints, before);
         Ok(())
     }
 
@@ -64,6 +88,8 @@ impl RouteTable {
         ensures value { result ≡ map.get self.old channel.0 }
         ensures removed { self.new ≡ map.remove self.old channel.0 }
     {
-        keys::take(&mut self.routes, &mut self.hints, u32::from(channel.0))
+        let before = keys::take(&mut self.routes, &mut self.hints, u32::from(channel.0));
+        route_counts::lower(&mut self.counts, &mut self.count_hints, before);
+        before
     }
 }

@@ -6,7 +6,7 @@ ghost use Rattle.std.specs.FinMap as map;
 ghost use Rattle.amqp_session.specs.declared.frame.SessionFrameBody.TheVariants as said;
 ghost use Rattle.amqp_frames.specs.declared.frame.FrameBody.TheVariants as body;
 ghost use Rattle.amqp_connection.specs.declared.error.ConnectionInnerError.{ConnectionInnerError};
-ghost use Rattle.amqp_connection.specs.Connection.{BeginRouteStep, EndRouteStep, RouteStep, passed_on};
+ghost use Rattle.amqp_connection.specs.Connection.{BeginRouteStep, EndRouteStep, IsRouted, RouteStep, passed_on};
 
 use super::Connection;
 use crate::error::ConnectionInnerError;
@@ -72,6 +72,15 @@ impl Connection {
             Some(number) => Some(SessionNo(number)),
             None => None,
         }
+    }
+
+    /// Whether a frame of the peer's can reach this session: a channel of the peer's leads to it, since a Begin on that
+    /// channel named the session's channel, and no End on it came since (AMQP 1.0 part 2, sections 2.5.1 and 2.5.3). Takes the
+    /// same time however many channels there are.
+    pub fn has_route(&self, number: SessionNo) -> bool
+        ensures { IsRouted self.now number.0 result }
+    {
+        self.session_by_incoming_channel.leads_to(number.0)
     }
 
     /// The frame of a session's Begin. Takes no memory, and tests no state.
