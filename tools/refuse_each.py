@@ -61,8 +61,8 @@ AT_MOST = {
     "read": TEXT,
     # the name, and the place among the input handles
     "received Attach": ANSWER + TEXT + IN_MAP,
-    # the place among the routes
-    "received Begin": ANSWER + IN_MAP,
+    # the place among the routes, and that of the session's count of them
+    "received Begin": ANSWER + 2 * IN_MAP,
     # the list of the echoes
     "received Disposition": ANSWER + PLACE + sent(1),
     # the list of frames, and the records

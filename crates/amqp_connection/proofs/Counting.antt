@@ -1,5 +1,5 @@
 -- How many channels lead to a session, and the counts of it.
-use Rattle.std.proofs.Common.{rules, ◌≡◌, ℕ, zero, suc, ◌+◌, ◌-◌, ◌<◌, ◌≤◌, cond, List, Option, Some, None, [], is_some, refl, ap, sym, ◌∙◌, nat_eq, nat_lt, Bool, true, false, arith}
+use Rattle.std.proofs.Common.{◌≡◌, ℕ, zero, suc, ◌+◌, ◌<◌, ◌≤◌, cond, List, Option, Some, None, [], is_some, refl, ap, sym, ◌∙◌, nat_eq, nat_lt, Bool, true, false, arith}
 use Rattle.std.proofs.lemmas.Bool.Decides.{nat_tests}
 use Rattle.std.proofs.lemmas.Grind.{common_steps}
 use Rattle.std.specs.Prelude.{unwrap_or}
@@ -24,7 +24,7 @@ leads_one (Some x) n = one (nat_eq x n)
     one true = omega arith
     one false = omega arith
 
-pub leading_most : (m : ChannelTable) (n end : ℕ) → leading m n end ≤ end
+leading_most : (m : ChannelTable) (n end : ℕ) → leading m n end ≤ end
 unfolding leading
 leading_most m n zero = omega arith
 leading_most m n (suc c) = omega (arith, leading_most m n c, leads_one (map.get m c) n)
@@ -201,7 +201,8 @@ counted_take routes counts down k lt c lowers = record {
     others : (q : ℕ) → ¬ (q ≡ k) → map.get (map.remove routes k) q ≡ map.get routes q
     others q other = get-remove nat_cmp_total routes k q ∙ ap (λ b. cond b None (map.get routes q)) (turned k q ∙ untested k q (λ e. other (sym e)))
 
--- whether there is a count
+-- ---- whether a session has a count
+
 below : (k : ℕ) → nat_lt k 65536 ≡ true → k < 65536
 below k t = grind (arith, nat_tests, common_steps)
 
@@ -221,15 +222,18 @@ not_led : (routes : ChannelTable) (counts : List (ℕ × ℕ)) (n k : ℕ) → C
 not_led routes counts n k c zeroed e true lt = omega (arith, zeroed, c.each n, at_most_leading routes k n 65536 (below k lt), ap (λ o. leads o n) e, ap (λ b. mark b) (tested n n refl))
 not_led routes counts n k c zeroed e false lt = let x = sym e ∙ c.within k (not_below k lt) in cc
 
+-- then, and only then, some channel leads to it
 pub led : (routes : ChannelTable) (counts : List (ℕ × ℕ)) (n : ℕ) (b : Bool) → Counted routes counts → is_some (lookup (nat_eq n) counts) ≡ b → IsLedTo routes n b
 led routes counts n true c is = some_leads routes n 65536 (omega (arith, c.each n, above_zero (lookup (nat_eq n) counts) is (c.no_zero n)))
 led routes counts n false c is = λ k e. not_led routes counts n k c (zero_at (lookup (nat_eq n) counts) is) e (nat_lt k 65536) refl
+
+-- ---- a route that is there already
 
 pub same_option : (o : Option ℕ) (n : ℕ) → option_eq nat_eq o (Some n) ≡ true → o ≡ Some n
 same_option None n e = absurd cc
 same_option (Some x) n e = ap (λ y. Some y) (same_number x n e)
 
--- a route that is there already
+-- put once more, it changes nothing
 pub there : (routes : ChannelTable) (k number : ℕ) → map.get routes k ≡ Some number → routes ≡ map.insert routes k number
 there routes k number is = same_map nat_cmp_total nat_cmp-IsAntisymmetric _ _ (λ q. by q (nat_eq k q) refl)
   where

@@ -88,8 +88,8 @@ impl RouteTable {
         ensures value { result ≡ map.get self.old channel.0 }
         ensures removed { self.new ≡ map.remove self.old channel.0 }
     {
-        let before = keys::take(&mut self.routes, &mut self.hints, u32::from(channel.0));
-        route_counts::lower(&mut self.counts, &mut self.count_hints, before);
-        before
+        let number = keys::take(&mut self.routes, &mut self.hints, u32::from(channel.0));
+        route_counts::lower(&mut self.counts, &mut self.count_hints, number);
+        number
     }
 }

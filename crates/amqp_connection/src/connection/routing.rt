@@ -75,8 +75,8 @@ impl Connection {
     }
 
     /// Whether a frame of the peer's can reach this session: a channel of the peer's leads to it, since a Begin on that
-    /// channel named the session's channel, and no End on it came since (AMQP 1.0 part 2, sections 2.5.1 and 2.5.3). Takes the
-    /// same time however many channels there are.
+    /// channel named the session's channel, and no End on it came since (AMQP 1.0 part 2, sections 2.5.1 and 2.5.2). That is one
+    /// look-up, however many channels there are.
     pub fn has_route(&self, number: SessionNo) -> bool
         ensures { IsRouted self.now number.0 result }
     {

@@ -1,4 +1,4 @@
-use Rattle.std.proofs.Common.{rules, sym, subst, ◌∙◌}
+use Rattle.std.proofs.Common.{sym, subst, ◌∙◌}
 use Rattle.amqp_connection.specs.RouteCounts.{Lowered}
 use Rattle.amqp_connection.proofs.Counting.{take_writes, gone}
 use Rattle.amqp_connection.proofs.connection.route_counts.lower.Goals as goal

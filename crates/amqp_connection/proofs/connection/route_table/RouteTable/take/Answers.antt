@@ -1,4 +1,4 @@
-use Rattle.std.proofs.Common.{◌≡◌, ◌<◌, ◌≤◌, ap, sym, subst, ◌∙◌, arith}
+use Rattle.std.proofs.Common.{◌≤◌, ap, sym, subst, ◌∙◌, arith}
 use Rattle.std.specs.FinMap as map
 use Rattle.amqp_session.specs.Hashing.{numbered}
 use Rattle.amqp_connection.specs.RouteCounts.{Counted, Lowered, count_at, leads}
@@ -7,22 +7,22 @@ use Rattle.amqp_connection.proofs.connection.route_table.RouteTable.take.Goals a
 
 pub lower-requires : goal.lower-requires
 lower-requires c n =
-    let before = c.take-before.ensures.value ∙ ap (λ k. map.get (numbered c.self.inside.routes.entries) k) c.from.ensures in
+    let before = c.take-number.ensures.value ∙ ap (λ k. map.get (numbered c.self.inside.routes.entries) k) c.from.ensures in
     subst (λ o. leads o n ≤ count_at c.self.inside.counts.entries n) (sym before) (has_count _ _ c.args.channel.0 n (omega arith) c.self.invariant)
 
 pub invariant_of-self : goal.invariant_of-self
 invariant_of-self c =
-    let before = c.take-before.ensures.value ∙ ap (λ k. map.get (numbered c.self.inside.routes.entries) k) c.from.ensures in
-    let removed = c.take-before.ensures.removed ∙ ap (λ k. map.remove (numbered c.self.inside.routes.entries) k) c.from.ensures in
+    let before = c.take-number.ensures.value ∙ ap (λ k. map.get (numbered c.self.inside.routes.entries) k) c.from.ensures in
+    let removed = c.take-number.ensures.removed ∙ ap (λ k. map.remove (numbered c.self.inside.routes.entries) k) c.from.ensures in
     let lowers = subst (λ o. Lowered o c.self.inside.counts.entries c.lower.new.counts.entries) before c.lower.ensures in
     subst (λ m. Counted m c.lower.new.counts.entries) (sym removed) (counted_take _ _ _ c.args.channel.0 (omega arith) c.self.invariant lowers)
 
 pub returns-clause-value : goal.returns-clause-value
 returns-clause-value c =
-    c.take-before.ensures.value ∙ ap (λ k. map.get (numbered c.self.inside.routes.entries) k) c.from.ensures
+    c.take-number.ensures.value ∙ ap (λ k. map.get (numbered c.self.inside.routes.entries) k) c.from.ensures
     ∙ ap (λ m. map.get m c.args.channel.0) c.self.view_is
 
 pub returns-clause-removed : goal.returns-clause-removed
 returns-clause-removed c =
-    c.take-before.ensures.removed ∙ ap (λ k. map.remove (numbered c.self.inside.routes.entries) k) c.from.ensures
+    c.take-number.ensures.removed ∙ ap (λ k. map.remove (numbered c.self.inside.routes.entries) k) c.from.ensures
     ∙ ap (λ m. map.remove m c.args.channel.0) c.self.view_is
