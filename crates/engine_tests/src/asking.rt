@@ -180,6 +180,11 @@ pub fn led<R: LinkRelay>(engine: &Engine<R>) -> u32 {
     }
 }
 
+/// Whether a channel of the peer's leads to the session.
+pub fn is_led<R: LinkRelay>(engine: &Engine<R>, number: u32) -> bool {
+    engine.connection().has_route(SessionNo(number))
+}
+
 /// The state of the connection, and why it stopped, where a reason is recorded.
 pub fn stopped<R: LinkRelay>(
     engine: &Engine<R>,

@@ -2,7 +2,7 @@
 //! proof several seconds.
 
 use crate::asking::{
-    answer, begins, engine_in, led, numbers_of, open_of, pieces, puts_out, reason_of,
+    answer, begins, engine_in, is_led, led, numbers_of, open_of, pieces, puts_out, reason_of,
     receive_digits, send, state_of, stopped, window_of,
 };
 use crate::linking::{
@@ -152,7 +152,7 @@ fn shows<R: LinkRelay>(engine: &Engine<R>, row: Row) -> bool {
         Row::Numbers(number, want) => numbers_of(engine, number) == want,
         Row::Window(want) => window_of(engine) == want,
         Row::Open(want) => open_of(engine) == want,
-        Row::Led(want) => led(engine) == want,
+        Row::Led(want) => led(engine) == want && is_led(engine, want) == (want < 1000),
         Row::Live(name, want) => handle_of(engine, name) == want,
         Row::Connection(state, reason) => stopped(engine) == (state, reason),
         _ => false,

@@ -17,7 +17,7 @@ pub lower-requires : goal.lower-requires
 lower-requires c n =
     let before = c.in_ok-index.ensures.old ∙ ap (λ k. lookup (nat_eq k) c.self.inside.routes.entries) c.from-key.ensures ∙ sym (get_at c.self.inside.routes.entries c.args.channel.0) in
     let raises = subst (λ es. Raised c.args.number es c.raise.new.counts.entries) c.reserve.ensures.entries c.raise.ensures in
-    subst (λ o. leads o n ≤ count_at c.raise.new.counts.entries n) (sym before) (has_count_still _ _ _ c.args.channel.0 c.args.number n (omega arith) c.self.invariant raises)
+    omega (arith, ap (λ o. leads o n) before, has_count_still _ _ _ c.args.channel.0 c.args.number n (omega arith) c.self.invariant raises)
 
 pub invariant_of-self-2 : goal.invariant_of-self-2
 invariant_of-self-2 c =

@@ -8,7 +8,7 @@ use Rattle.amqp_connection.proofs.connection.route_table.RouteTable.take.Goals a
 pub lower-requires : goal.lower-requires
 lower-requires c n =
     let before = c.take-number.ensures.value ∙ ap (λ k. map.get (numbered c.self.inside.routes.entries) k) c.from.ensures in
-    subst (λ o. leads o n ≤ count_at c.self.inside.counts.entries n) (sym before) (has_count _ _ c.args.channel.0 n (omega arith) c.self.invariant)
+    omega (arith, ap (λ o. leads o n) before, has_count _ _ c.args.channel.0 n (omega arith) c.self.invariant)
 
 pub invariant_of-self : goal.invariant_of-self
 invariant_of-self c =
