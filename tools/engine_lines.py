@@ -25,6 +25,9 @@ def read(rows):
     rows.ask("settle 007 receiver 0000 4294967295")
     rows.ask("settle 7 sender 4294967295")
     rows.ask("settle 4294967295 sender 1 2", "err NoSession")
+    rows.row("A session that is forgotten is named by its number; zeros may stand in front")
+    rows.ask("forget 000", "err NoSession")
+    rows.ask("forget 4294967295", "err NoSession")
     rows.row("A link's flow goes out with the session's numbers")
     rows.open()
     rows.begin(0)
@@ -52,6 +55,11 @@ def bad(rows):
         "begin 1 ",
         "begin  1",
         "release",
+        "forget",
+        "forget ",
+        "forget +1",
+        "forget 0 0",
+        "forget 4294967296",
         "end 0 0",
         "send 0",
         "send 0 ",

@@ -151,9 +151,100 @@ def routes(rows):
     rows.ask(recv(flow(1, 1), 5), "err NotFound")
 
 
+def over(rows, number, channel, peers):
+    """Session `number` is begun on this channel, answered on the peer's, ended at both sides, and gives its channel back."""
+    rows.begin(number, channel)
+    rows.ask(recv(begin(channel, 0, 8, 8), peers))
+    rows.ask(f"end {number}", out(end(), channel))
+    rows.ask(recv(end(), peers))
+    rows.ask(f"release {number}")
+
+
+def unknown(rows, number):
+    """Nothing is asked of a session that was forgotten, and its number is not begun again."""
+    for line in (f"end {number}", f"release {number}", f"settle {number} sender 0 9", f"link {number} a", send("a", "ff", session=number), f"forget {number}"):
+        rows.ask(line, "err NoSession")
+    rows.ask(f"begin {number}", "err SessionInUse")
+
+
+def forgotten(rows):
+    in_use = "err SessionInUse"
+    rows.row("A session is forgotten when both Ends were exchanged and its channel was given back, and not before")
+    rows.open()
+    rows.ask("forget 0", "err NoSession")
+    rows.begin(0)
+    rows.ask("forget 0", ILLEGAL)
+    rows.ask(recv(begin(0, 0, 8, 8), 5))
+    rows.ask("forget 0", ILLEGAL)
+    rows.ask("end 0", out(end()))
+    rows.ask("forget 0", ILLEGAL)
+    rows.ask(recv(end(), 5))
+    rows.ask("forget 0", in_use)
+    rows.ask("release 0")
+    rows.ask("forget 0")
+    unknown(rows, 0)
+    rows.ask(recv(flow(0, 1), 5), "err NotFound")
+    rows.begin(1, 0)
+    rows.ask(recv(begin(0, 0, 8, 8), 5))
+    rows.ask(send("a", "ff", session=1), sent(0, "a", "ff"))
+    rows.row("A session that the peer ended first is forgotten once this side's End went out")
+    rows.open()
+    rows.begin(0)
+    rows.ask(recv(begin(0, 0, 8, 8), 5))
+    rows.ask(recv(end(), 5), "err RemoteEnded")
+    rows.ask("release 0")
+    rows.ask("forget 0", ILLEGAL)
+    rows.ask("end 0", out(end()))
+    rows.ask("forget 0")
+    unknown(rows, 0)
+    rows.row("While a channel of the peer's leads to a session it is not forgotten: a second Begin, which it refused, made one more")
+    rows.open()
+    rows.begin(0)
+    rows.ask(recv(begin(0, 0, 8, 8), 5))
+    rows.ask(recv(begin(0, 0, 8, 8), 9), ILLEGAL)
+    rows.ask("end 0", out(end()))
+    rows.ask(recv(end(), 5))
+    rows.ask("release 0")
+    rows.ask("forget 0", in_use)
+    rows.ask(recv(end(), 9), ILLEGAL)
+    rows.ask("forget 0")
+    rows.ask(recv(flow(0, 1), 9), "err NotFound")
+    rows.row("With a session that is forgotten go its links and the transfers that it held back; other sessions keep their routes and channels")
+    rows.open()
+    rows.begin(0)
+    rows.begin(1)
+    rows.ask(recv(begin(0, 0, 1, 8), 5))
+    rows.ask(recv(begin(1, 0, 1, 8), 6))
+    rows.ask("link 0 a")
+    rows.ask(send("a", "ff"), sent(0, "a", "ff"))
+    rows.ask(send("b", "fe"))
+    rows.ask("end 0", out(end()))
+    rows.ask(recv(end(), 5))
+    rows.ask("release 0")
+    rows.begin(2, 0)
+    rows.ask(recv(begin(0, 0, 2, 8), 5))
+    rows.ask("forget 0")
+    rows.ask("link 2 a")
+    rows.ask(send("c", "fd", session=2), sent(0, "c", "fd"))
+    rows.ask(recv(flow(1, 3), 5))
+    rows.ask(send("d", "fc", session=2), sent(1, "d", "fc"))
+    rows.ask(send("e", "fb", session=1), sent(0, "e", "fb", channel=1))
+    rows.ask(recv(flow(1, 1), 6))
+    rows.row("Numbers of forgotten sessions stay used, in whatever order they were forgotten, and the numbers beside them are free")
+    rows.open()
+    for number in (7, 5, 6, 9, 0, 4294967295, 8):
+        over(rows, number, 0, 3)
+        rows.ask(f"forget {number}")
+    for number in (0, 5, 6, 7, 8, 9, 4294967295):
+        rows.ask(f"begin {number}", in_use)
+    for channel, number in enumerate((1, 4, 10, 4294967294)):
+        rows.begin(number, channel)
+
+
 def write(rows):
     windows(rows)
     second_begins(rows)
     cut_transfers(rows)
     channels(rows)
     routes(rows)
+    forgotten(rows)

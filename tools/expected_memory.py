@@ -107,6 +107,8 @@ def leaves(rows):
     rows.ask("free " + recv(end(), 6), "err RemoteEnded")
     rows.ask("free end 1", out(end(), 1))
     rows.ask("free release 0")
+    rows.ask("forget 0")
+    rows.ask("free forget 0", "err NoSession")
     began(rows, 2, 0, 5)
     rows.ask("free close", OUR_CLOSE)
     rows.ask("free " + recv(closing()))

@@ -83,6 +83,8 @@ AT_MOST = {
     "request Begin": ANSWER + IN_MAP + IN_MAP + PLACE + PLACE + IN_MAP + sent(1),
     "request Detach": ANSWER + sent(1),
     # the container's name
+    # the number, where it follows none that was forgotten and none follows it: a list of blocks, one of their ends, one of spare rings, and a ring
+    "request Forget": ANSWER + 4 * PLACE,
     "request Open": ANSWER + TEXT + sent(1),
     "request Settle": ANSWER,
     # the record, and two pieces
@@ -151,7 +153,7 @@ def name_of(line):
         return "request " + TABLES[int(rest.split(" ")[1][4:6], 16)][0]
     if word == "call":
         return rest.split(" ")[0] + (" cut" if rest.startswith("encode 40 ") else "")
-    names = {"open": "Open", "close": "Close", "begin": "Begin", "end": "End", "release": "Release", "link": "AllocateLink",
+    names = {"open": "Open", "close": "Close", "begin": "Begin", "end": "End", "release": "Release", "forget": "Forget", "link": "AllocateLink",
              "link-incoming": "AllocateIncomingLink", "settle": "Settle"}
     return "request " + names[word] if word in names else word
 

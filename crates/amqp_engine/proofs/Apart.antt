@@ -15,6 +15,7 @@ pub record Taken {R : Type 0} (v w : EngineView R) : Type 0 where
   pub left : v.waiting ≡ gone ++ w.waiting
   pub connection_is : w.connection ≡ v.connection
   pub sessions_is : w.sessions ≡ v.sessions
+  pub forgotten_is : w.forgotten ≡ v.forgotten
   pub limit_is : w.limit ≡ v.limit
 
 abbrev pub Chain : {R : Type 0} → Relays R → EngineView R → List (Entry R) → EngineView R → Type 0
@@ -25,7 +26,7 @@ abbrev pub LeadsTo : {R : Type 0} → Relays R → ConnectionState → OpenSaid 
 LeadsTo g state o H w = Chain g (new_engine state o) H w
 
 taken : {R : Type 0} (v w : EngineView R) → whole.Taken v w → Taken v w
-taken v w t = record { gone = t.gone; left = t.left; connection_is = t.connection_is; sessions_is = t.sessions_is; limit_is = t.limit_is }
+taken v w t = record { gone = t.gone; left = t.left; connection_is = t.connection_is; sessions_is = t.sessions_is; forgotten_is = t.forgotten_is; limit_is = t.limit_is }
 
 -- what an entry leaves to be kept, and then what leaves
 later : {R : Type 0} (e : Entry R) (m n w : EngineView R) → Keeps e m n → Taken n w → Taken m w
@@ -34,6 +35,7 @@ later e m n w k t = record {
   left = sym (ap (λ (x : EngineView _). x.waiting) k) ∙ t.left;
   connection_is = t.connection_is ∙ ap (λ (x : EngineView _). x.connection) k;
   sessions_is = t.sessions_is ∙ ap (λ (x : EngineView _). x.sessions) k;
+  forgotten_is = t.forgotten_is ∙ ap (λ (x : EngineView _). x.forgotten) k;
   limit_is = t.limit_is ∙ ap (λ (x : EngineView _). x.limit) k;
 }
 

@@ -36,14 +36,15 @@ use Rattle.amqp_connection.specs.History as connection
 use Rattle.amqp_engine.specs.EngineView.{EngineView}
 use Rattle.amqp_engine.specs.Waits.{sent}
 use Rattle.amqp_engine.specs.Calls.{Calls, received_calls}
-use Rattle.amqp_engine.specs.Sessions.{Untouched, Called, Unknown, Reaches, Begun, BeginRequest, ReleaseRequest}
+use Rattle.amqp_engine.specs.Sessions.{Untouched, Called, Unknown, Reaches, Begun, BeginRequest, ReleaseRequest, ForgetRequest}
 use Rattle.amqp_engine.specs.Engine.{Carries, Received, ReceivedFrame, OpenRequest, CloseRequest, ReceivedOpen, ReceivedClose, Finds, recorded, NoneReceived}
 use Rattle.amqp_engine.specs.Entry.{Entry}
 use Rattle.amqp_engine.specs.ByHistory.{close_reason, remote_reason}
 use Rattle.amqp_engine.specs.Event.{Event, Quiet, SentOpen, SentClose, AcceptedOpen, CameClose, Began, Released, event, event_by, received_event, channel_of}
 use Rattle.amqp_engine.specs.ByHistory.{limit_by}
 use Rattle.amqp_engine.specs.Headline.{own_frames, asked_calls}
-use Rattle.amqp_engine.proofs.Deeds.{Moved, IsNoBegin, IsPlain, Deed, close_refusal, stops, close_calls, quiet, request_plain, received_plain, alone, same_engine, one_moved, at_connection, refuses, calls_one, calls_none, does}
+use Rattle.amqp_engine.proofs.Beginning.{some_none}
+use Rattle.amqp_engine.proofs.Deeds.{Moved, NoneMoves, IsPlain, Deed, close_refusal, stops, close_calls, quiet, request_plain, received_plain, alone, same_engine, one_moved, at_connection, refuses, calls_one, calls_none, does}
 
 -- an entry of these
 abbrev of : {R : Type 0} → Input R → Option Frame → Option ℕ → List (session.Entry R) → Option StepError → List Frame → Entry R
@@ -75,8 +76,9 @@ opens g v w received reached calls None frames idle fe u s = alone g v w _ SentO
     happens = refl;
     chain = (s.1, (s.2.0, s.2.1, refl, s.2.3), ap (λ (x : EngineView _). x.connection) s.3);
   };
-  no_begin = tt;
+  none_moves = tt;
   sessions_is = ap (λ (x : EngineView _). x.sessions) s.3;
+  forgotten_is = ap (λ (x : EngineView _). x.forgotten) s.3;
   limit_is = ap (λ (x : EngineView _). x.limit) s.3;
   frames_are = fe ∙ ap (λ (x : EngineView _). x.waiting) s.3 ∙ ap (λ (f : Frame). f ∷ []) s.2.2;
 })
@@ -93,8 +95,9 @@ closes g v w error received reached calls None frames idle fe u s = alone g v w 
     happens = refl;
     chain = (s.1, (s.2.0, s.2.1, refl, s.2.3), (stopped s.1 (close_reason error), refl, ap (λ (x : EngineView _). x.connection) s.3));
   };
-  no_begin = tt;
+  none_moves = tt;
   sessions_is = ap (λ (x : EngineView _). x.sessions) s.3;
+  forgotten_is = ap (λ (x : EngineView _). x.forgotten) s.3;
   limit_is = ap (λ (x : EngineView _). x.limit) s.3;
   frames_are = fe ∙ ap (λ (x : EngineView _). x.waiting) s.3 ∙ ap (λ (f : Frame). f ∷ []) s.2.2;
 })
@@ -125,7 +128,7 @@ begins g v w k settings received reached calls None frames idle fe s =
         happens = refl;
         chain = (b.connection, subst (λ c. AllocateStep v.connection k.0 (Ok c) b.connection) (sym channel) b.allocated, ap (λ (x : EngineView _). x.connection) b.put);
       };
-      effect = inr (record {
+      effect = inr (inl (record {
         number = k.0;
         settings = settings;
         channel = b.channel;
@@ -134,11 +137,13 @@ begins g v w k settings received reached calls None frames idle fe s =
         accepted = refl;
         reached_is = s.0;
         absent = b.unknown;
+        unused = b.unused;
         fits = b.fits;
         asked = b.asked;
         chain = b.steps;
         sessions_is = ap (λ (x : EngineView _). x.sessions) b.put;
-      });
+      }));
+      forgotten_is = ap (λ (x : EngineView _). x.forgotten) b.put;
       limit_is = ap (λ (x : EngineView _). x.limit) b.put;
       frames_are = shown;
       session_frames = λ m r. shown;
@@ -165,6 +170,37 @@ releases g v w k received reached calls (Some no.NoSession) frames idle fe s = r
 releases g v w k received reached calls (Some (no.Connection e)) frames idle fe s = refuses g v w _ refl (λ x. cc) idle fe s.0
 releases g v w k received reached calls (Some e) frames idle fe s = absurd s
 
+-- a session is let go
+forgets : {R : Type 0} (g : Relays R) (v w : EngineView R) (k : SessionNo) (received : Option Frame) (reached : Option ℕ) (calls : List (session.Entry R)) (r : Option StepError) (frames : List Frame) →
+    v.waiting ≡ [] → frames ≡ w.waiting → ForgetRequest v k.0 reached calls r w → Deed g v (of (input.Forget k) received reached calls r frames) w
+forgets g v w k received reached calls None frames idle fe s =
+    let put = s.2.put in
+    let sent_none : sent (calls_frames calls) ≡ [] = ap (λ (cs : List (session.Entry _)). sent (calls_frames cs)) s.0.1 in
+    record {
+      taken = none_waiting;
+      moved = record { calls = []; happens = refl; chain = ap (λ (x : EngineView _). x.connection) put };
+      effect = inr (inr (record {
+        number = k.0;
+        before = s.1.0;
+        event_is = refl;
+        accepted = refl;
+        unreached = s.0.0;
+        no_calls = s.0.1;
+        known = s.1.1;
+        over = s.1.2;
+        without = s.2.sessions;
+      }));
+      forgotten_is = ap (λ (x : EngineView _). x.forgotten) put;
+      limit_is = ap (λ (x : EngineView _). x.limit) put;
+      frames_are = fe ∙ ap (λ (x : EngineView _). x.waiting) put ∙ idle ∙ sym sent_none;
+      session_frames = λ m r. absurd (some_none (sym r ∙ s.0.0));
+    }
+forgets g v w k received reached calls (Some no.OutOfMemory) frames idle fe s = refuses g v w _ refl (λ x. cc) idle fe s.0
+forgets g v w k received reached calls (Some no.NoSession) frames idle fe s = refuses g v w _ refl (λ x. cc) idle fe s.0
+forgets g v w k received reached calls (Some no.SessionInUse) frames idle fe s = refuses g v w _ refl (λ x. cc) idle fe s.0
+forgets g v w k received reached calls (Some (no.SessionState e)) frames idle fe s = refuses g v w _ refl (λ x. cc) idle fe s.0
+forgets g v w k received reached calls (Some e) frames idle fe s = absurd s.1
+
 -- ---- received frames of the connection
 
 -- the event of a frame that was received
@@ -176,8 +212,9 @@ took_open : {R : Type 0} (g : Relays R) (v w : EngineView R) (e : Entry R) (c : 
     ReceivedOpen v o r w → Deed g v e w
 took_open g v w e c o None is told idle fe u s = alone g v w e (AcceptedOpen o) is (λ x. let y = sym told ∙ x in cc) u (record {
   moved = record { calls = connection.IncomingOpen o None ∷ []; happens = refl; chain = (s.0, s.1, ap (λ (x : EngineView _). x.connection) s.2) };
-  no_begin = tt;
+  none_moves = tt;
   sessions_is = ap (λ (x : EngineView _). x.sessions) s.2;
+  forgotten_is = ap (λ (x : EngineView _). x.forgotten) s.2;
   limit_is = ap (λ (x : EngineView _). x.limit) s.2;
   frames_are = fe ∙ ap (λ (x : EngineView _). x.waiting) s.2 ∙ idle;
 })
@@ -287,21 +324,21 @@ unfound v c b i = absurd i
 
 -- what such an event leaves
 pub record IsSessionEvent (v : ConnectionView) (limit : ℕ) (ev : Event) : Type 0 where
-  pub no_begin : IsNoBegin ev
+  pub none_moves : NoneMoves ev
   pub limit_is : limit_by limit ev ≡ limit
   pub no_frames : own_frames v.local_open ev ≡ []
 
 session_event : (v : ConnectionView) (limit c : ℕ) (b : FrameBody) (reached : Option ℕ) (r : Option StepError) → IsSession b → IsSessionEvent v limit (received_event c b reached r)
-session_event v limit c b reached (Some no.OutOfMemory) i = record { no_begin = tt; limit_is = refl; no_frames = refl }
-session_event v limit c (body.Begin p) (Some n) r i = record { no_begin = tt; limit_is = refl; no_frames = refl }
-session_event v limit c (body.Begin p) None r i = record { no_begin = tt; limit_is = refl; no_frames = refl }
-session_event v limit c (body.End p) (Some n) r i = record { no_begin = tt; limit_is = refl; no_frames = refl }
-session_event v limit c (body.End p) None r i = record { no_begin = tt; limit_is = refl; no_frames = refl }
-session_event v limit c (body.Attach p) reached r i = record { no_begin = tt; limit_is = refl; no_frames = refl }
-session_event v limit c (body.Detach p) reached r i = record { no_begin = tt; limit_is = refl; no_frames = refl }
-session_event v limit c (body.Disposition p) reached r i = record { no_begin = tt; limit_is = refl; no_frames = refl }
-session_event v limit c (body.Flow p) reached r i = record { no_begin = tt; limit_is = refl; no_frames = refl }
-session_event v limit c (body.Transfer p payload) reached r i = record { no_begin = tt; limit_is = refl; no_frames = refl }
+session_event v limit c b reached (Some no.OutOfMemory) i = record { none_moves = tt; limit_is = refl; no_frames = refl }
+session_event v limit c (body.Begin p) (Some n) r i = record { none_moves = tt; limit_is = refl; no_frames = refl }
+session_event v limit c (body.Begin p) None r i = record { none_moves = tt; limit_is = refl; no_frames = refl }
+session_event v limit c (body.End p) (Some n) r i = record { none_moves = tt; limit_is = refl; no_frames = refl }
+session_event v limit c (body.End p) None r i = record { none_moves = tt; limit_is = refl; no_frames = refl }
+session_event v limit c (body.Attach p) reached r i = record { none_moves = tt; limit_is = refl; no_frames = refl }
+session_event v limit c (body.Detach p) reached r i = record { none_moves = tt; limit_is = refl; no_frames = refl }
+session_event v limit c (body.Disposition p) reached r i = record { none_moves = tt; limit_is = refl; no_frames = refl }
+session_event v limit c (body.Flow p) reached r i = record { none_moves = tt; limit_is = refl; no_frames = refl }
+session_event v limit c (body.Transfer p payload) reached r i = record { none_moves = tt; limit_is = refl; no_frames = refl }
 session_event v limit c b reached r i = absurd i
 
 -- where no session is reached
@@ -340,8 +377,8 @@ reaches g v w e c b i is carry idle fe (inr s) = by s.4
     m h = subst (λ o. Moved v.connection (received_event c b o e.refusal) s.1) (sym s.3) (found v.connection c b i s.0 s.1 e.refusal s.2 h)
 
     by : Called g (record v { connection = s.1 }) s.0 (received_calls c b) e.calls e.refusal w ⊎ Unknown (record v { connection = s.1 }) s.0 e.calls e.refusal w → Deed g v e w
-    by (inl x) = calls_one g v w s.1 e ev s.0 (received_calls c b) is (m (plain_short e.refusal (received_plain c b x.before.state e.calls e.refusal x.asked))) q.no_begin q.limit_is q.no_frames (received_plain c b) carry s.3 fe x
-    by (inr x) = calls_none g v w s.1 e ev s.0 is (m (λ y. let z = sym x.refused ∙ y in cc)) q.no_begin q.limit_is q.no_frames idle fe x
+    by (inl x) = calls_one g v w s.1 e ev s.0 (received_calls c b) is (m (plain_short e.refusal (received_plain c b x.before.state e.calls e.refusal x.asked))) q.none_moves q.limit_is q.no_frames (received_plain c b) carry s.3 fe x
+    by (inr x) = calls_none g v w s.1 e ev s.0 is (m (λ y. let z = sym x.refused ∙ y in cc)) q.none_moves q.limit_is q.no_frames idle fe x
 
 -- ---- received frames
 
@@ -381,6 +418,7 @@ carries g v w input.Open received reached calls r frames idle fe s = opens g v w
 carries g v w (input.Close error) received reached calls r frames idle fe s = closes g v w error received reached calls r frames idle fe s.1 s.2
 carries g v w (input.Begin k settings) received reached calls r frames idle fe s = begins g v w k settings received reached calls r frames idle fe s.1
 carries g v w (input.Release k) received reached calls r frames idle fe s = releases g v w k received reached calls r frames idle fe s.1
+carries g v w (input.Forget k) received reached calls r frames idle fe s = forgets g v w k received reached calls r frames idle fe s.1
 carries g v w (input.End k error) received reached calls r frames idle fe s = does g v w _ k.0 _ refl (request_plain (input.End k error)) (λ t a. a) idle fe s.1
 carries g v w (input.AllocateLink k name relay) received reached calls r frames idle fe s = does g v w _ k.0 _ refl (request_plain (input.AllocateLink k name relay)) (λ t a. a) idle fe s.1
 carries g v w (input.AllocateIncomingLink k name relay h) received reached calls r frames idle fe s = does g v w _ k.0 _ refl (request_plain (input.AllocateIncomingLink k name relay h)) (λ t a. a) idle fe s.1

@@ -1,4 +1,4 @@
--- What a step does: to the connection, by the event of its entry; to the sessions: nothing, calls of one of them, or one more;
+-- What a step does: to the connection, by the event of its entry; to the sessions: nothing, calls of one of them, one more or one less;
 -- and what it hands out. Every law of histories goes by this.
 use Rattle.std.proofs.Common.{◌≡◌, ◌⊎◌, ◌<◌, ◌^◌, ◌++◌, ℕ, List, [], ◌∷◌, Option, Some, None, Result, Ok, Err, refl, ap, sym, subst, ◌∙◌, inl, inr, nat_eq, true, unwrap_or}
 use Rattle.std.specs.FinMap as map
@@ -29,14 +29,15 @@ use Rattle.amqp_connection.specs.declared.error.ConnectionStateError.TheVariants
 use Rattle.amqp_connection.specs.States.{takes_close}
 use Rattle.amqp_connection.specs.Connection.{ConnectionView, Holds, told, open_frame, close_frame}
 use Rattle.amqp_connection.specs.History as connection
+use Rattle.amqp_numbers.specs.Ranges.{Numbers}
 use Rattle.amqp_engine.specs.EngineView.{EngineView}
 use Rattle.amqp_engine.specs.Waits.{sent}
 use Rattle.amqp_engine.specs.Calls.{Calls, state_refusal, session_refusal, link_refusal, request_calls, received_calls}
-use Rattle.amqp_engine.specs.Sessions.{Untouched, Nothing, Called, Unknown, Does}
+use Rattle.amqp_engine.specs.Sessions.{Untouched, Nothing, Called, Unknown, Does, IsOver, Without}
 use Rattle.amqp_engine.specs.Entry.{Entry}
 use Rattle.amqp_engine.specs.ByHistory.{close_reason, remote_reason}
-use Rattle.amqp_engine.specs.Event.{Event, Quiet, SentOpen, SentClose, AcceptedOpen, CameClose, Began, Released, Routed, Unrouted, event}
-use Rattle.amqp_engine.specs.ByHistory.{remote_close_reason, limit_by}
+use Rattle.amqp_engine.specs.Event.{Event, Quiet, SentOpen, SentClose, AcceptedOpen, CameClose, Began, Released, Forgot, Routed, Unrouted, event}
+use Rattle.amqp_engine.specs.ByHistory.{remote_close_reason, limit_by, numbers_by}
 use Rattle.amqp_engine.specs.Headline.{own_frames, asked_calls}
 use Rattle.amqp_engine.proofs.Beginning.{some_none}
 
@@ -67,6 +68,7 @@ HappensBy v (AcceptedOpen o) calls = calls ≡ connection.IncomingOpen o None �
 HappensBy v (CameClose c) calls = calls ≡ close_calls v c
 HappensBy v (Began n settings c) calls = calls ≡ connection.Allocate n (Ok c) ∷ []
 HappensBy v (Released n) calls = (c : ℕ) × Holds v c n × (calls ≡ connection.Deallocate c true ∷ [])
+HappensBy v (Forgot n) calls = calls ≡ []
 HappensBy v (Routed c n) calls = (d : ℕ) × (map.get v.session_by_outgoing_channel d ≡ Some n) × (calls ≡ connection.IncomingBegin c (Some d) (Ok n) ∷ [])
 HappensBy v (Unrouted c) calls = (n : ℕ) × (calls ≡ connection.IncomingEnd c (Ok n) ∷ [])
 
@@ -132,7 +134,7 @@ received_plain c b s cs r a = absurd a
 
 -- ---- the sessions
 
--- no session has a call, and none is begun
+-- no session has a call, and none comes or goes
 pub record Stays {R : Type 0} (v : EngineView R) (e : Entry R) (w : EngineView R) : Type 0 where
   pub sessions_is : w.sessions ≡ v.sessions
   pub no_calls : e.calls ≡ []
@@ -158,18 +160,36 @@ pub record Begins {R : Type 0} (g : Relays R) (v : EngineView R) (e : Entry R) (
   pub accepted : e.refusal ≡ None
   pub reached_is : e.reached ≡ Some number
   pub absent : lookup (nat_eq number) v.sessions ≡ None
+  pub unused : map.get v.forgotten number ≡ None
   pub fits : settings.next_outgoing_id < 2 ^ 32
   pub asked : asked_calls e.input e.received Unmapped e.calls e.refusal
   pub chain : session.Chain g (new_session settings channel Unmapped v.connection.stop_reason) e.calls after
   pub sessions_is : w.sessions ≡ v.sessions ++ (number, after) ∷ []
 
--- an event that begins no session
-abbrev pub IsNoBegin : Event → Type 0
-IsNoBegin (Began n settings c) = ⊥
-IsNoBegin ev = Unit {0}
+pub record Forgets {R : Type 0} (v : EngineView R) (e : Entry R) (w : EngineView R) : Type 0 where
+  pub number : ℕ
+  pub before : SessionView R
+  pub event_is : event e ≡ Forgot number
+  pub accepted : e.refusal ≡ None
+  pub unreached : e.reached ≡ None
+  pub no_calls : e.calls ≡ []
+  pub known : lookup (nat_eq number) v.sessions ≡ Some before
+  pub over : IsOver v number before
+  pub without : Without number v.sessions w.sessions
+
+-- an event by which no session comes or goes
+abbrev pub NoneMoves : Event → Type 0
+NoneMoves (Began n settings c) = ⊥
+NoneMoves (Forgot n) = ⊥
+NoneMoves ev = Unit {0}
 
 abbrev pub Effect : {R : Type 0} → Relays R → EngineView R → Entry R → EngineView R → Type 0
-Effect g v e w = (IsNoBegin (event e) × (Stays v e w ⊎ Changes g v e w)) ⊎ Begins g v e w
+Effect g v e w = (NoneMoves (event e) × (Stays v e w ⊎ Changes g v e w)) ⊎ (Begins g v e w ⊎ Forgets v e w)
+
+-- then no number is used up
+same_numbers : (ev : Event) (old : Numbers) → NoneMoves ev → numbers_by ev old ≡ old
+same_numbers (Forgot n) old m = absurd m
+same_numbers ev old m = refl
 
 -- ---- a step that carries its input out
 
@@ -177,6 +197,7 @@ pub record Deed {R : Type 0} (g : Relays R) (v : EngineView R) (e : Entry R) (w 
   pub taken : ¬ (e.refusal ≡ Some no.OutputWaiting)
   pub moved : Moved v.connection (event e) w.connection
   pub effect : Effect g v e w
+  pub forgotten_is : w.forgotten ≡ numbers_by (event e) v.forgotten
   pub limit_is : w.limit ≡ limit_by v.limit (event e)
   pub frames_are : e.frames ≡ own_frames v.connection.local_open (event e) ++ sent (calls_frames e.calls)
   pub session_frames : (n : ℕ) → e.reached ≡ Some n → e.frames ≡ sent (calls_frames e.calls)
@@ -186,8 +207,9 @@ pub record Deed {R : Type 0} (g : Relays R) (v : EngineView R) (e : Entry R) (w 
 -- what a step does that has no call
 pub record Alone {R : Type 0} (v : EngineView R) (ev : Event) (frames : List Frame) (w : EngineView R) : Type 0 where
   pub moved : Moved v.connection ev w.connection
-  pub no_begin : IsNoBegin ev
+  pub none_moves : NoneMoves ev
   pub sessions_is : w.sessions ≡ v.sessions
+  pub forgotten_is : w.forgotten ≡ v.forgotten
   pub limit_is : w.limit ≡ limit_by v.limit ev
   pub frames_are : frames ≡ own_frames v.connection.local_open ev
 
@@ -199,7 +221,8 @@ pub alone : {R : Type 0} (g : Relays R) (v w : EngineView R) (e : Entry R) (ev :
 alone g v w e ev is taken u a = record {
   taken = taken;
   moved = subst (λ x. Moved v.connection x w.connection) (sym is) a.moved;
-  effect = inl (subst IsNoBegin (sym is) a.no_begin, inl (record { sessions_is = a.sessions_is; no_calls = u.1; none_reached = inl u.0 }));
+  effect = inl (subst NoneMoves (sym is) a.none_moves, inl (record { sessions_is = a.sessions_is; no_calls = u.1; none_reached = inl u.0 }));
+  forgotten_is = a.forgotten_is ∙ sym (same_numbers ev v.forgotten a.none_moves) ∙ ap (λ x. numbers_by x v.forgotten) (sym is);
   limit_is = a.limit_is ∙ ap (limit_by v.limit) (sym is);
   frames_are = a.frames_are ∙ ap (own_frames v.connection.local_open) (sym is) ∙ sym (append-nil (own_frames v.connection.local_open (event e)))
       ∙ sym (ap (λ (cs : List (session.Entry _)). own_frames v.connection.local_open (event e) ++ sent (calls_frames cs)) u.1);
@@ -209,19 +232,21 @@ alone g v w e ev is taken u a = record {
 pub same_engine : {R : Type 0} (v w : EngineView R) (frames : List Frame) → w ≡ v → frames ≡ [] → Alone v Quiet frames w
 same_engine v w frames e none = record {
   moved = quiet v.connection w.connection (ap (λ (x : EngineView _). x.connection) e);
-  no_begin = tt;
+  none_moves = tt;
   sessions_is = ap (λ (x : EngineView _). x.sessions) e;
+  forgotten_is = ap (λ (x : EngineView _). x.forgotten) e;
   limit_is = ap (λ (x : EngineView _). x.limit) e;
   frames_are = none;
 }
 
 -- the connection alone moves, and nothing goes out
-pub one_moved : {R : Type 0} (v w : EngineView R) (k : ConnectionView) (ev : Event) (frames : List Frame) → w ≡ record v { connection = k } → Moved v.connection ev k → IsNoBegin ev → limit_by v.limit ev ≡ v.limit →
+pub one_moved : {R : Type 0} (v w : EngineView R) (k : ConnectionView) (ev : Event) (frames : List Frame) → w ≡ record v { connection = k } → Moved v.connection ev k → NoneMoves ev → limit_by v.limit ev ≡ v.limit →
     own_frames v.connection.local_open ev ≡ [] → frames ≡ [] → Alone v ev frames w
 one_moved v w k ev frames e m n l o none = record {
   moved = subst (λ x. Moved v.connection ev x) (sym (ap (λ (x : EngineView _). x.connection) e)) m;
-  no_begin = n;
+  none_moves = n;
   sessions_is = ap (λ (x : EngineView _). x.sessions) e;
+  forgotten_is = ap (λ (x : EngineView _). x.forgotten) e;
   limit_is = ap (λ (x : EngineView _). x.limit) e ∙ sym l;
   frames_are = none ∙ sym o;
 }
@@ -236,13 +261,13 @@ refuses g v w e is taken idle fe n = alone g v w e Quiet is taken n.0 (same_engi
 -- ---- calls of one session
 
 -- the session is called, where the connection moved to k
-pub calls_one : {R : Type 0} (g : Relays R) (v w : EngineView R) (k : ConnectionView) (e : Entry R) (ev : Event) (n : ℕ) (asks : Calls R) → event e ≡ ev → Moved v.connection ev k → IsNoBegin ev → limit_by v.limit ev ≡ v.limit →
+pub calls_one : {R : Type 0} (g : Relays R) (v w : EngineView R) (k : ConnectionView) (e : Entry R) (ev : Event) (n : ℕ) (asks : Calls R) → event e ≡ ev → Moved v.connection ev k → NoneMoves ev → limit_by v.limit ev ≡ v.limit →
     own_frames v.connection.local_open ev ≡ [] → Plain asks → ((s : SessionState) → asks s e.calls e.refusal → asked_calls e.input e.received s e.calls e.refusal) → e.reached ≡ Some n → e.frames ≡ w.waiting → Called g (record v { connection = k }) n asks e.calls e.refusal w → Deed g v e w
 calls_one g v w k e ev n asks is m nb l o plain carry reached fe c = record {
   taken = by e.refusal (plain c.before.state e.calls e.refusal c.asked);
   moved = subst (λ x. Moved v.connection x w.connection) (sym is) (subst (λ x. Moved v.connection ev x) (sym (ap (λ (x : EngineView _). x.connection) c.put)) m);
   effect = inl (
-    subst IsNoBegin (sym is) nb,
+    subst NoneMoves (sym is) nb,
     inr (record {
       number = n;
       before = c.before;
@@ -255,6 +280,7 @@ calls_one g v w k e ev n asks is m nb l o plain carry reached fe c = record {
       put = ap (λ (x : EngineView _). x.sessions) c.put;
     }),
   );
+  forgotten_is = ap (λ (x : EngineView _). x.forgotten) c.put ∙ sym (same_numbers ev v.forgotten nb) ∙ ap (λ x. numbers_by x v.forgotten) (sym is);
   limit_is = ap (λ (x : EngineView _). x.limit) c.put ∙ sym l ∙ ap (limit_by v.limit) (sym is);
   frames_are = fe ∙ ap (λ (x : EngineView _). x.waiting) c.put ∙ sym (ap (λ (fs : List Frame). fs ++ sent (calls_frames e.calls)) (ap (own_frames v.connection.local_open) is ∙ o));
   session_frames = λ m r. fe ∙ ap (λ (x : EngineView _). x.waiting) c.put;
@@ -268,7 +294,7 @@ calls_one g v w k e ev n asks is m nb l o plain carry reached fe c = record {
     by (Some y) p x = absurd p
 
 -- no session has the number
-pub calls_none : {R : Type 0} (g : Relays R) (v w : EngineView R) (k : ConnectionView) (e : Entry R) (ev : Event) (n : ℕ) → event e ≡ ev → Moved v.connection ev k → IsNoBegin ev → limit_by v.limit ev ≡ v.limit →
+pub calls_none : {R : Type 0} (g : Relays R) (v w : EngineView R) (k : ConnectionView) (e : Entry R) (ev : Event) (n : ℕ) → event e ≡ ev → Moved v.connection ev k → NoneMoves ev → limit_by v.limit ev ≡ v.limit →
     own_frames v.connection.local_open ev ≡ [] → v.waiting ≡ [] → e.frames ≡ w.waiting → Unknown (record v { connection = k }) n e.calls e.refusal w → Deed g v e w
 calls_none g v w k e ev n is m nb l o idle fe u =
     let none : e.frames ≡ [] = fe ∙ ap (λ (x : EngineView _). x.waiting) u.same ∙ idle in
@@ -276,7 +302,8 @@ calls_none g v w k e ev n is m nb l o idle fe u =
     record {
       taken = λ x. let y = sym u.refused ∙ x in cc;
       moved = subst (λ x. Moved v.connection x w.connection) (sym is) (subst (λ x. Moved v.connection ev x) (sym (ap (λ (x : EngineView _). x.connection) u.same)) m);
-      effect = inl (subst IsNoBegin (sym is) nb, inl (record { sessions_is = ap (λ (x : EngineView _). x.sessions) u.same; no_calls = u.no_calls; none_reached = inr u.refused }));
+      effect = inl (subst NoneMoves (sym is) nb, inl (record { sessions_is = ap (λ (x : EngineView _). x.sessions) u.same; no_calls = u.no_calls; none_reached = inr u.refused }));
+      forgotten_is = ap (λ (x : EngineView _). x.forgotten) u.same ∙ sym (same_numbers ev v.forgotten nb) ∙ ap (λ x. numbers_by x v.forgotten) (sym is);
       limit_is = ap (λ (x : EngineView _). x.limit) u.same ∙ sym l ∙ ap (limit_by v.limit) (sym is);
       frames_are = none ∙ sym (ap (λ (fs : List Frame). fs ++ sent (calls_frames e.calls)) own ∙ ap (λ (cs : List (session.Entry _)). sent (calls_frames cs)) u.no_calls);
       session_frames = λ m r. none ∙ sym (ap (λ (cs : List (session.Entry _)). sent (calls_frames cs)) u.no_calls);

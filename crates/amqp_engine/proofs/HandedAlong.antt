@@ -11,6 +11,7 @@ use Rattle.amqp_session.specs.History as session
 use Rattle.amqp_engine.specs.declared.engine.step_error.StepError.{StepError}
 use Rattle.amqp_engine.specs.declared.engine.step_error.StepError.TheVariants.{NoSession, Connection}
 use Rattle.amqp_connection.specs.Connection.{ConnectionView, RouteStep, refusal_of, not_found}
+use Rattle.amqp_numbers.specs.Ranges.{Numbers}
 use Rattle.amqp_engine.specs.Kept.{Outcomes, Wishes}
 use Rattle.amqp_engine.specs.EngineView.{EngineView, views_of}
 use Rattle.amqp_engine.specs.Calls.{Calls}
@@ -38,17 +39,17 @@ module _ {R V : Type 0} (g : Relays R) {k : Kind} (r : Reads k V) (asks : Calls 
       was_passed g r asks (Answering g asks) v v c fields left p _ read (carry _ _) (λ s t a h. h) (inr (sym seen ∙ none, refl, refl))
 
   -- the session that it leads to is not there
-  pub unknown : {o : Outcomes} {q : Wishes} (j : ConnectionView) (es es' : List (ℕ × Observed R)) (limit n : ℕ) (fs : List Frame) → parts o q j es limit fs ≡ v
-      → get j.session_by_incoming_channel c ≡ Some n → lookup (nat_eq n) (views_of es) ≡ None → es' ≡ es → FieldsStep g v c (Some k) fields (Some NoSession) (parts o q j es' limit fs)
+  pub unknown : {gone : Numbers} {o : Outcomes} {q : Wishes} (j : ConnectionView) (es es' : List (ℕ × Observed R)) (limit n : ℕ) (fs : List Frame) → parts gone o q j es limit fs ≡ v
+      → get j.session_by_incoming_channel c ≡ Some n → lookup (nat_eq n) (views_of es) ≡ None → es' ≡ es → FieldsStep g v c (Some k) fields (Some NoSession) (parts gone o q j es' limit fs)
   unknown j es es' limit n fs same route none stays =
       let seen = ap (λ (x : EngineView R). get x.connection.session_by_incoming_channel c) same in
       asked _ _ n (sym seen ∙ route) (no_session g asks v j es es' limit n fs same none stays)
 
   -- that session took it
-  pub handed : {o : Outcomes} {q : Wishes} {X : Type 0} (j : ConnectionView) (es es' : List (ℕ × Observed R)) (limit n : ℕ) (fs waiting : List Frame)
-      (before after : Observed R) (result : Result X StepError) → parts o q j es limit fs ≡ v → get j.session_by_incoming_channel c ≡ Some n
+  pub handed : {gone : Numbers} {o : Outcomes} {q : Wishes} {X : Type 0} (j : ConnectionView) (es es' : List (ℕ × Observed R)) (limit n : ℕ) (fs waiting : List Frame)
+      (before after : Observed R) (result : Result X StepError) → parts gone o q j es limit fs ≡ v → get j.session_by_incoming_channel c ≡ Some n
       → lookup (nat_eq n) (views_of es) ≡ Some before.view → AnsweredThere g before.view asks result waiting after.view → es' ≡ set_value (nat_eq n) es after
-      → FieldsStep g v c (Some k) fields (refusal_of result) (parts o q j es' limit waiting)
+      → FieldsStep g v c (Some k) fields (refusal_of result) (parts gone o q j es' limit waiting)
   handed j es es' limit n fs waiting before after result same route known answered set =
       let seen = ap (λ (x : EngineView R). get x.connection.session_by_incoming_channel c) same in
       asked _ _ n (sym seen ∙ route) (took g asks v j es es' limit n fs waiting before after result same known answered set)

@@ -7,6 +7,7 @@ use Rattle.amqp_session.specs.Session.{Observed}
 use Rattle.amqp_engine.specs.declared.engine.step_error.StepError.{StepError}
 use Rattle.amqp_engine.specs.declared.engine.step_error.StepError.TheVariants.{NoSession}
 use Rattle.amqp_connection.specs.Connection.{ConnectionView, refusal_of}
+use Rattle.amqp_numbers.specs.Ranges.{Numbers}
 use Rattle.amqp_engine.specs.Kept.{Outcomes, Wishes}
 use Rattle.amqp_engine.specs.EngineView.{EngineView, views_of}
 use Rattle.amqp_engine.specs.Calls.{Calls}
@@ -19,11 +20,11 @@ refusal_told (Ok x) waiting = refl
 refusal_told (Err e) waiting = refl
 
 -- session n took the call
-pub took : {R X : Type 0} {o : Outcomes} {q : Wishes} (g : Relays R) (asks : Calls R) (v : EngineView R) (k : ConnectionView) (es es' : List (ℕ × Observed R)) (limit n : ℕ) (fs waiting : List Frame) (before after : Observed R) (result : Result X StepError) →
-    parts o q k es limit fs ≡ v → lookup (nat_eq n) (views_of es) ≡ Some before.view → AnsweredThere g before.view asks result waiting after.view → es' ≡ set_value (nat_eq n) es after →
-    Asks (Answering g asks) v n (refusal_of result) (parts o q k es' limit waiting)
-took {R = R} {o = o} {q = q} g asks v k es es' limit n fs waiting before after result same known answered set =
-    subst (λ (x : EngineView R). Asks (Answering g asks) x n (refusal_of result) (parts o q k es' limit waiting)) same (inl (record {
+pub took : {R X : Type 0} {p : Numbers} {o : Outcomes} {q : Wishes} (g : Relays R) (asks : Calls R) (v : EngineView R) (k : ConnectionView) (es es' : List (ℕ × Observed R)) (limit n : ℕ) (fs waiting : List Frame) (before after : Observed R) (result : Result X StepError) →
+    parts p o q k es limit fs ≡ v → lookup (nat_eq n) (views_of es) ≡ Some before.view → AnsweredThere g before.view asks result waiting after.view → es' ≡ set_value (nat_eq n) es after →
+    Asks (Answering g asks) v n (refusal_of result) (parts p o q k es' limit waiting)
+took {R = R} {p = p} {o = o} {q = q} g asks v k es es' limit n fs waiting before after result same known answered set =
+    subst (λ (x : EngineView R). Asks (Answering g asks) x n (refusal_of result) (parts p o q k es' limit waiting)) same (inl (record {
       before = before;
       after = after;
       answer = told result waiting;
@@ -34,7 +35,7 @@ took {R = R} {o = o} {q = q} g asks v k es es' limit n fs waiting before after r
     }))
 
 -- there is no session n
-pub no_session : {R : Type 0} {o : Outcomes} {q : Wishes} (g : Relays R) (asks : Calls R) (v : EngineView R) (k : ConnectionView) (es es' : List (ℕ × Observed R)) (limit n : ℕ) (fs : List Frame) →
-    parts o q k es limit fs ≡ v → lookup (nat_eq n) (views_of es) ≡ None → es' ≡ es → Asks (Answering g asks) v n (Some NoSession) (parts o q k es' limit fs)
-no_session {R = R} {o = o} {q = q} g asks v k es es' limit n fs same none stays =
-    subst (λ (x : EngineView R). Asks (Answering g asks) x n (Some NoSession) (parts o q k es' limit fs)) same (inr (none, refl, same_engine k k es' es limit fs fs refl stays refl))
+pub no_session : {R : Type 0} {p : Numbers} {o : Outcomes} {q : Wishes} (g : Relays R) (asks : Calls R) (v : EngineView R) (k : ConnectionView) (es es' : List (ℕ × Observed R)) (limit n : ℕ) (fs : List Frame) →
+    parts p o q k es limit fs ≡ v → lookup (nat_eq n) (views_of es) ≡ None → es' ≡ es → Asks (Answering g asks) v n (Some NoSession) (parts p o q k es' limit fs)
+no_session {R = R} {p = p} {o = o} {q = q} g asks v k es es' limit n fs same none stays =
+    subst (λ (x : EngineView R). Asks (Answering g asks) x n (Some NoSession) (parts p o q k es' limit fs)) same (inr (none, refl, same_engine k k es' es limit fs fs refl stays refl))

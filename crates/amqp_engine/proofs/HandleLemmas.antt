@@ -42,6 +42,7 @@ closed v e = record {
   left = refl;
   connection_is = refl;
   sessions_is = refl;
+  forgotten_is = refl;
   limit_is = refl;
   outcomes_are = record { close = inr (e, refl); ends = λ n. inl refl };
 }
@@ -79,6 +80,7 @@ ended n v is = record {
   left = refl;
   connection_is = refl;
   sessions_is = refl;
+  forgotten_is = refl;
   limit_is = refl;
   outcomes_are = record { close = inl refl; ends = λ k. by k (nat_eq k n) refl };
 }

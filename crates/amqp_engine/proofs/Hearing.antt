@@ -38,6 +38,7 @@ rewished v w = let t = Taken-none v in record {
   left = t.left;
   connection_is = t.connection_is;
   sessions_is = t.sessions_is;
+  forgotten_is = t.forgotten_is;
   limit_is = t.limit_is;
   outcomes_are = record { close = t.outcomes_are.close; ends = t.outcomes_are.ends };
 }
@@ -49,6 +50,7 @@ rewalked v w = let t = Taken-none v in record {
   left = t.left;
   connection_is = t.connection_is;
   sessions_is = t.sessions_is;
+  forgotten_is = t.forgotten_is;
   limit_is = t.limit_is;
   outcomes_are = record { close = t.outcomes_are.close; ends = t.outcomes_are.ends };
 }

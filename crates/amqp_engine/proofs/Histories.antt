@@ -18,7 +18,7 @@ use Rattle.amqp_connection.proofs.OneEach.{Goes, spends_none, chain_goes, opens-
 use Rattle.amqp_engine.specs.Waits.{body_of, sent}
 use Rattle.amqp_engine.specs.EngineView.{EngineView, new_engine}
 use Rattle.amqp_engine.specs.Entry.{Entry}
-use Rattle.amqp_engine.specs.Event.{Event, Quiet, SentOpen, SentClose, AcceptedOpen, CameClose, Began, Released, Routed, Unrouted, event}
+use Rattle.amqp_engine.specs.Event.{Event, Quiet, SentOpen, SentClose, AcceptedOpen, CameClose, Began, Released, Forgot, Routed, Unrouted, event}
 use Rattle.amqp_engine.proofs.Apart.{Chain, LeadsTo}
 use Rattle.amqp_engine.specs.Headline.{handed, own_frames}
 use Rattle.amqp_engine.proofs.Deeds.{Moved, stops}
@@ -44,6 +44,7 @@ event_goes v w (AcceptedOpen o) m = handed_by v w m.calls _ m.happens m.chain
 event_goes v w (CameClose c) m = subst (λ (fs : List Frame). Goes fs v.state w.state) (stops_none (takes_close v.state) c.error) (handed_by v w m.calls _ m.happens m.chain)
 event_goes v w (Began n settings c) m = handed_by v w m.calls _ m.happens m.chain
 event_goes v w (Released n) m = handed_by v w m.calls _ m.happens.2 m.chain
+event_goes v w (Forgot n) m = handed_by v w m.calls _ m.happens m.chain
 event_goes v w (Routed c n) m = handed_by v w m.calls _ m.happens.2 m.chain
 event_goes v w (Unrouted c) m = handed_by v w m.calls _ m.happens.1 m.chain
 

@@ -10,20 +10,23 @@ use Rattle.amqp_types.specs.declared.states.ConnectionState.{ConnectionState}
 use Rattle.amqp_types.specs.Open.{OpenSaid}
 use Rattle.amqp_session.specs.Settings.{SettingsSaid}
 use Rattle.amqp_session.specs.Relay.{Relays}
-use Rattle.amqp_session.specs.Session.{SessionView}
+use Rattle.amqp_session.specs.Session.{SessionView, new_session}
+use Rattle.amqp_session.specs.History as session
+use Rattle.amqp_session.proofs.Effects.{Rest, does}
+use Rattle.amqp_types.specs.declared.states.SessionState.TheVariants.{Unmapped}
 use Rattle.amqp_connection.specs.Channels.{ChannelTable}
 use Rattle.amqp_connection.specs.Connection.{ConnectionView, Holds}
 use Rattle.amqp_engine.specs.EngineView.{EngineView, new_engine}
 use Rattle.amqp_engine.specs.Entry.{Entry}
-use Rattle.amqp_engine.specs.Event.{Event, Quiet, SentOpen, SentClose, AcceptedOpen, CameClose, Began, Released, Routed, Unrouted, event, is_number}
+use Rattle.amqp_engine.specs.Event.{Event, Quiet, SentOpen, SentClose, AcceptedOpen, CameClose, Began, Released, Forgot, Routed, Unrouted, event, is_number}
 use Rattle.amqp_engine.proofs.Apart.{Taken, Chain, LeadsTo}
-use Rattle.amqp_engine.specs.ByHistory.{held_by, held_from, held, route_by, route_from, route}
+use Rattle.amqp_engine.specs.ByHistory.{calls_at, forgotten_by, held_by, held_from, held, route_by, route_from, route}
 use Rattle.amqp_engine.specs.Headline.{HeldOnce}
 use Rattle.amqp_connection.proofs.HistoryLemmas.{inserted_at, removed_at, went}
 use Rattle.amqp_engine.proofs.Beginning.{some_none}
-use Rattle.amqp_engine.proofs.Deeds.{Moved, Effect, IsNoBegin}
+use Rattle.amqp_engine.proofs.Deeds.{Moved, Effect, Forgets, NoneMoves}
 use Rattle.amqp_engine.proofs.Passages.{Passage, passage, by_history, came}
-use Rattle.amqp_engine.proofs.Projection.{same_number, at_end, one}
+use Rattle.amqp_engine.proofs.Projection.{same_number, same_some, at_end, not_gone, one}
 
 abbrev pub IsThere : {R : Type 0} → EngineView R → ℕ → Type 0
 IsThere v n = (s : SessionView _) × (lookup (nat_eq n) v.sessions ≡ Some s)
@@ -82,6 +85,7 @@ moves_held v w (AcceptedOpen o) m = inl (record { held_is = H w _ (went v w m.ca
 moves_held v w (CameClose c) m = inl (record { held_is = H w _ (came v w c m); said = λ d old. refl })
 moves_held v w (Began n settings c) m = inr (inl (record { number = n; settings = settings; channel = c; is = refl; held_is = H w _ (went v w m.calls _ m.happens m.chain) }))
 moves_held v w (Released n) m = inr (inr (record { number = n; channel = m.happens.0; is = refl; holds = m.happens.1; held_is = H w _ (went v w m.calls _ m.happens.2 m.chain) }))
+moves_held v w (Forgot n) m = inl (record { held_is = H w _ (went v w m.calls _ m.happens m.chain); said = λ d old. refl })
 moves_held v w (Routed c n) m = inl (record { held_is = H w _ (went v w m.calls _ m.happens.2 m.chain); said = λ d old. refl })
 moves_held v w (Unrouted c) m = inl (record { held_is = H w _ (went v w m.calls _ m.happens.1 m.chain); said = λ d old. refl })
 
@@ -115,13 +119,23 @@ moves_routes v w (AcceptedOpen o) m = inl (record { routes_are = R' w _ (went v 
 moves_routes v w (CameClose c) m = inl (record { routes_are = R' w _ (came v w c m); said = λ d old. refl })
 moves_routes v w (Began n settings c) m = inl (record { routes_are = R' w _ (went v w m.calls _ m.happens m.chain); said = λ d old. refl })
 moves_routes v w (Released n) m = inl (record { routes_are = R' w _ (went v w m.calls _ m.happens.2 m.chain); said = λ d old. refl })
+moves_routes v w (Forgot n) m = inl (record { routes_are = R' w _ (went v w m.calls _ m.happens m.chain); said = λ d old. refl })
 moves_routes v w (Routed c n) m = inr (inl (record { channel = c; number = n; is = refl; holds = (m.happens.0, m.happens.1); routes_are = R' w _ (went v w m.calls _ m.happens.2 m.chain) }))
 moves_routes v w (Unrouted c) m = inr (inr (record { channel = c; is = refl; routes_are = R' w _ (went v w m.calls _ m.happens.1 m.chain) }))
 
 -- ---- what is held or routed is there
 
+-- the session is there, and on this channel
+abbrev pub IsOn : {R : Type 0} → EngineView R → ℕ → ℕ → Type 0
+IsOn v n c = (s : SessionView _) × (lookup (nat_eq n) v.sessions ≡ Some s) × (s.outgoing_channel ≡ c)
+
+-- no call moves a session to another channel
+on_it_still : {R : Type 0} (g : Relays R) (cs : List (session.Entry R)) (s t : SessionView R) → session.Chain g s cs t → t.outgoing_channel ≡ s.outgoing_channel
+on_it_still g [] s t c = ap (λ (x : SessionView _). x.outgoing_channel) c
+on_it_still g (e ∷ cs) s t c = on_it_still g cs c.0 t c.2 ∙ ap (λ (x : Rest). x.outgoing_channel) (does g s c.0 e c.1).rest_is
+
 pub record Kept {R : Type 0} (v : EngineView R) : Type 0 where
-  pub known : (c n : ℕ) → map.get v.connection.session_by_outgoing_channel c ≡ Some n → IsThere v n
+  pub known : (c n : ℕ) → map.get v.connection.session_by_outgoing_channel c ≡ Some n → IsOn v n c
   pub once : (c d n : ℕ) → map.get v.connection.session_by_outgoing_channel c ≡ Some n → map.get v.connection.session_by_outgoing_channel d ≡ Some n → c ≡ d
   pub routed : (c n : ℕ) → map.get v.connection.session_by_incoming_channel c ≡ Some n → IsThere v n
 
@@ -130,39 +144,83 @@ kept_taken v u t k =
     let held : u.connection.session_by_outgoing_channel ≡ v.connection.session_by_outgoing_channel = H u.connection v.connection t.connection_is in
     let routes : u.connection.session_by_incoming_channel ≡ v.connection.session_by_incoming_channel = R' u.connection v.connection t.connection_is in
     let there : (n : ℕ) → IsThere v n → IsThere u n = λ n x. (x.0, ap (lookup (nat_eq n)) t.sessions_is ∙ x.1) in
+    let on : (c n : ℕ) → IsOn v n c → IsOn u n c = λ c n x. (x.0, ap (lookup (nat_eq n)) t.sessions_is ∙ x.1, x.2) in
     record {
-      known = λ c n e. there n (k.known c n (ap (λ (m : ChannelTable). map.get m c) (sym held) ∙ e));
+      known = λ c n e. on c n (k.known c n (ap (λ (m : ChannelTable). map.get m c) (sym held) ∙ e));
       once = λ c d n e f. k.once c d n (ap (λ (m : ChannelTable). map.get m c) (sym held) ∙ e) (ap (λ (m : ChannelTable). map.get m d) (sym held) ∙ f);
       routed = λ c n e. there n (k.routed c n (ap (λ (m : ChannelTable). map.get m c) (sym routes) ∙ e));
     }
 
+-- what a session is in use by: a channel that it holds, or a route to it
+abbrev InUse : {R : Type 0} → EngineView R → ℕ → Type 0
+InUse v n = ((c : ℕ) × (map.get v.connection.session_by_outgoing_channel c ≡ Some n)) ⊎ ((c : ℕ) × (map.get v.connection.session_by_incoming_channel c ≡ Some n))
+
+-- one that is in use is not forgotten
+in_use : {R : Type 0} (v w : EngineView R) (e : Entry R) (n : ℕ) → Kept v → (x : Forgets v e w) → InUse v n → nat_eq n x.number ≡ true → ⊥
+in_use v w e n k x (inl h) p =
+    let on = k.known h.0 n h.1 in
+    let number = same_number n x.number p in
+    let same : x.before ≡ on.0 = same_some x.before on.0 _ x.known (ap (λ q. lookup (nat_eq q) v.sessions) (sym number) ∙ on.1) in
+    let channel : x.before.outgoing_channel ≡ h.0 = ap (λ (s : SessionView _). s.outgoing_channel) same ∙ on.2 in
+    x.over.gave_back (ap (λ c. map.get v.connection.session_by_outgoing_channel c) channel ∙ h.1 ∙ ap (λ q. Some q) number)
+in_use v w e n k x (inr h) p = x.over.unrouted h.0 (h.1 ∙ ap (λ q. Some q) (same_number n x.number p))
+
+not_let_go : {R : Type 0} (g : Relays R) (v w : EngineView R) (e : Entry R) (n : ℕ) → Passage g v e w → Kept v → InUse v n → forgotten_by n (event e) false ≡ false
+not_let_go g v w e n p k u = by p.effect
+  where
+    by : Effect g v e w → forgotten_by n (event e) false ≡ false
+    by (inl x) = not_gone n (event e) false x.0
+    by (inr (inl x)) = ap (λ ev. forgotten_by n ev false) x.event_is
+    by (inr (inr x)) = apart (nat_eq n x.number) refl
+      where
+        apart : (b : Bool) → nat_eq n x.number ≡ b → forgotten_by n (event e) false ≡ false
+        apart true t = absurd (in_use v w e n k x u t)
+        apart false t = ap (λ ev. forgotten_by n ev false) x.event_is ∙ ap (λ b. cond b true false) t
+
 -- sessions stay
-stays : {R : Type 0} (g : Relays R) (v w : EngineView R) (e : Entry R) (n : ℕ) → Passage g v e w → IsThere v n → IsThere w n
-stays g v w e n p x = let r = one g n v w e x.0 p.effect x.1 in (r.0, r.1)
+stays : {R : Type 0} (g : Relays R) (v w : EngineView R) (e : Entry R) (n : ℕ) → Passage g v e w → forgotten_by n (event e) false ≡ false → IsThere v n → IsThere w n
+stays g v w e n p r x = let a = one g n v w e x.0 p.effect x.1 in (a.0, a.1 ∙ ap (λ b. cond b None (Some a.0)) r)
+
+stays_on : {R : Type 0} (g : Relays R) (v w : EngineView R) (e : Entry R) (n c : ℕ) → Passage g v e w → forgotten_by n (event e) false ≡ false → IsOn v n c → IsOn w n c
+stays_on g v w e n c p r x = let a = one g n v w e x.0 p.effect x.1 in (a.0, a.1 ∙ ap (λ b. cond b None (Some a.0)) r, on_it_still g (calls_at n e) x.0 a.0 a.2 ∙ x.2)
 
 -- a session that begins was not there, and is
 same_began : (n k c d : ℕ) (s t : SettingsSaid) → Began n s c ≡ Began k t d → n ≡ k
 same_began n k c d s t e = cc
 
-begun_now : {R : Type 0} (g : Relays R) (v w : EngineView R) (e : Entry R) (n : ℕ) (settings : SettingsSaid) (c : ℕ) → Passage g v e w → event e ≡ Began n settings c → (lookup (nat_eq n) v.sessions ≡ None) × IsThere w n
+forgot_none : (k n : ℕ) (s : SettingsSaid) (c : ℕ) → Forgot k ≡ Began n s c → ⊥
+forgot_none k n s c e = cc
+
+same_channel : (n k c d : ℕ) (s t : SettingsSaid) → Began n s c ≡ Began k t d → c ≡ d
+same_channel n k c d s t e = cc
+
+begun_now : {R : Type 0} (g : Relays R) (v w : EngineView R) (e : Entry R) (n : ℕ) (settings : SettingsSaid) (c : ℕ) → Passage g v e w → event e ≡ Began n settings c → (lookup (nat_eq n) v.sessions ≡ None) × IsOn w n c
 begun_now g v w e n settings c p is = by p.effect
   where
-    by : Effect g v e w → (lookup (nat_eq n) v.sessions ≡ None) × IsThere w n
-    by (inl x) = absurd (subst IsNoBegin is x.0)
-    by (inr x) =
+    by : Effect g v e w → (lookup (nat_eq n) v.sessions ≡ None) × IsOn w n c
+    by (inl x) = absurd (subst NoneMoves is x.0)
+    by (inr (inr x)) = absurd (forgot_none x.number n settings c (sym x.event_is ∙ is))
+    by (inr (inl x)) =
         let same : x.number ≡ n = same_began x.number n x.channel c x.settings settings (sym x.event_is ∙ is) in
         let absent : lookup (nat_eq n) v.sessions ≡ None = ap (λ k. lookup (nat_eq k) v.sessions) (sym same) ∙ x.absent in
-        let here : nat_eq n x.number ≡ true = grind (arith, nat_tests, same) in
-        (absent, (x.after, ap (lookup (nat_eq n)) x.sessions_is ∙ at_end v.sessions n x.number x.after absent ∙ ap (λ b. cond b (Some x.after) None) here))
+        let here : nat_eq n x.number ≡ true = grind (arith, nat_tests, same) in (
+          absent,
+          (
+            x.after,
+            ap (lookup (nat_eq n)) x.sessions_is ∙ at_end v.sessions n x.number x.after absent ∙ ap (λ b. cond b (Some x.after) None) here,
+            on_it_still g e.calls (new_session x.settings x.channel Unmapped v.connection.stop_reason) x.after x.chain ∙ same_channel x.number n x.channel c x.settings settings (sym x.event_is ∙ is),
+          ),
+        )
 
-held_known : {R : Type 0} (g : Relays R) (v w : EngineView R) (e : Entry R) → Passage g v e w → Kept v → MovesHeld v.connection (event e) w.connection → (c n : ℕ) → map.get w.connection.session_by_outgoing_channel c ≡ Some n → IsThere w n
-held_known g v w e p k (inl x) c n h = stays g v w e n p (k.known c n (ap (λ (m : ChannelTable). map.get m c) (sym x.held_is) ∙ h))
+held_known : {R : Type 0} (g : Relays R) (v w : EngineView R) (e : Entry R) → Passage g v e w → Kept v → MovesHeld v.connection (event e) w.connection → (c n : ℕ) → map.get w.connection.session_by_outgoing_channel c ≡ Some n → IsOn w n c
+held_known g v w e p k (inl x) c n h = let was = ap (λ (m : ChannelTable). map.get m c) (sym x.held_is) ∙ h in stays_on g v w e n c p (not_let_go g v w e n p k (inl (c, was))) (k.known c n was)
 held_known g v w e p k (inr (inl x)) c n h = by (more_at v.connection.session_by_outgoing_channel x.channel x.number c n (ap (λ (m : ChannelTable). map.get m c) (sym x.held_is) ∙ h))
   where
-    by : ((c ≡ x.channel) × (n ≡ x.number)) ⊎ (map.get v.connection.session_by_outgoing_channel c ≡ Some n) → IsThere w n
-    by (inl y) = let b = begun_now g v w e x.number x.settings x.channel p x.is in (b.1.0, ap (λ q. lookup (nat_eq q) w.sessions) y.1 ∙ b.1.1)
-    by (inr y) = stays g v w e n p (k.known c n y)
-held_known g v w e p k (inr (inr x)) c n h = stays g v w e n p (k.known c n (less_at v.connection.session_by_outgoing_channel x.channel c n (ap (λ (m : ChannelTable). map.get m c) (sym x.held_is) ∙ h)))
+    by : ((c ≡ x.channel) × (n ≡ x.number)) ⊎ (map.get v.connection.session_by_outgoing_channel c ≡ Some n) → IsOn w n c
+    by (inl y) = let b = begun_now g v w e x.number x.settings x.channel p x.is in (b.1.0, ap (λ q. lookup (nat_eq q) w.sessions) y.1 ∙ b.1.1, b.1.2 ∙ sym y.0)
+    by (inr y) = stays_on g v w e n c p (not_let_go g v w e n p k (inl (c, y))) (k.known c n y)
+held_known g v w e p k (inr (inr x)) c n h =
+    let was = less_at v.connection.session_by_outgoing_channel x.channel c n (ap (λ (m : ChannelTable). map.get m c) (sym x.held_is) ∙ h) in stays_on g v w e n c p (not_let_go g v w e n p k (inl (c, was))) (k.known c n was)
 
 held_once : {R : Type 0} (g : Relays R) (v w : EngineView R) (e : Entry R) → Passage g v e w → Kept v → MovesHeld v.connection (event e) w.connection → (c d n : ℕ) → map.get w.connection.session_by_outgoing_channel c ≡ Some n → map.get w.connection.session_by_outgoing_channel d ≡ Some n → c ≡ d
 held_once g v w e p k (inl x) c d n a b = k.once c d n (ap (λ (m : ChannelTable). map.get m c) (sym x.held_is) ∙ a) (ap (λ (m : ChannelTable). map.get m d) (sym x.held_is) ∙ b)
@@ -182,13 +240,16 @@ held_once g v w e p k (inr (inr x)) c d n a b =
     k.once c d n (less_at v.connection.session_by_outgoing_channel x.channel c n (ap (λ (m : ChannelTable). map.get m c) (sym x.held_is) ∙ a)) (less_at v.connection.session_by_outgoing_channel x.channel d n (ap (λ (m : ChannelTable). map.get m d) (sym x.held_is) ∙ b))
 
 route_known : {R : Type 0} (g : Relays R) (v w : EngineView R) (e : Entry R) → Passage g v e w → Kept v → MovesRoutes v.connection (event e) w.connection → (c n : ℕ) → map.get w.connection.session_by_incoming_channel c ≡ Some n → IsThere w n
-route_known g v w e p k (inl x) c n h = stays g v w e n p (k.routed c n (ap (λ (m : ChannelTable). map.get m c) (sym x.routes_are) ∙ h))
+route_known g v w e p k (inl x) c n h = let was = ap (λ (m : ChannelTable). map.get m c) (sym x.routes_are) ∙ h in stays g v w e n p (not_let_go g v w e n p k (inr (c, was))) (k.routed c n was)
 route_known g v w e p k (inr (inl x)) c n h = by (more_at v.connection.session_by_incoming_channel x.channel x.number c n (ap (λ (m : ChannelTable). map.get m c) (sym x.routes_are) ∙ h))
   where
     by : ((c ≡ x.channel) × (n ≡ x.number)) ⊎ (map.get v.connection.session_by_incoming_channel c ≡ Some n) → IsThere w n
-    by (inl y) = stays g v w e n p (k.known x.holds.0 n (x.holds.1 ∙ ap (λ q. Some q) (sym y.1)))
-    by (inr y) = stays g v w e n p (k.routed c n y)
-route_known g v w e p k (inr (inr x)) c n h = stays g v w e n p (k.routed c n (less_at v.connection.session_by_incoming_channel x.channel c n (ap (λ (m : ChannelTable). map.get m c) (sym x.routes_are) ∙ h)))
+    by (inl y) =
+        let holds = x.holds.1 ∙ ap (λ q. Some q) (sym y.1) in
+        let on = k.known x.holds.0 n holds in stays g v w e n p (not_let_go g v w e n p k (inl (x.holds.0, holds))) (on.0, on.1)
+    by (inr y) = stays g v w e n p (not_let_go g v w e n p k (inr (c, y))) (k.routed c n y)
+route_known g v w e p k (inr (inr x)) c n h =
+    let was = less_at v.connection.session_by_incoming_channel x.channel c n (ap (λ (m : ChannelTable). map.get m c) (sym x.routes_are) ∙ h) in stays g v w e n p (not_let_go g v w e n p k (inr (c, was))) (k.routed c n was)
 
 kept_step : {R : Type 0} (g : Relays R) (v w : EngineView R) (e : Entry R) → Passage g v e w → Kept v → Kept w
 kept_step g v w e p k =

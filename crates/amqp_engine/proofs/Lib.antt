@@ -2,6 +2,7 @@ pub mod Apart
 pub mod Picked
 pub mod Queue
 pub mod Placed
+pub mod Clearing
 pub mod Asked
 pub mod Asking
 pub mod Handing

@@ -7,19 +7,18 @@ use Rattle.amqp_session.specs.Relay.{Relays}
 use Rattle.amqp_engine.specs.declared.engine.input.Input.{Input}
 use Rattle.amqp_engine.specs.declared.engine.input.Input.TheVariants as input
 use Rattle.amqp_engine.specs.declared.engine.step_error.StepError.TheVariants as no
-use Rattle.amqp_connection.specs.Connection.{new_connection}
 use Rattle.amqp_engine.specs.EngineView.{EngineView, new_engine}
 use Rattle.amqp_engine.specs.Calls.{Calls}
 use Rattle.amqp_engine.specs.Sessions.{Does}
 use Rattle.amqp_engine.specs.Engine.{Step, Carries}
 use Rattle.amqp_engine.specs.Entry.{Entry}
 use Rattle.amqp_engine.proofs.Apart.{Chain, LeadsTo}
-use Rattle.amqp_engine.specs.ByHistory.{begun}
+use Rattle.amqp_engine.specs.ByHistory.{live}
 use Rattle.amqp_engine.specs.Headline.{RequestsReach, ReachesNamed, names}
 use Rattle.amqp_engine.proofs.Beginning.{some_none}
 use Rattle.amqp_engine.proofs.Deeds.{Plain, request_plain}
 use Rattle.amqp_engine.proofs.Passages.{chain_split}
-use Rattle.amqp_engine.proofs.Projection.{Legal, legal}
+use Rattle.amqp_engine.proofs.Projection.{Lives, legal, lives}
 use Rattle.amqp_engine.proofs.Reaching.{plain_known}
 use Rattle.amqp_engine.proofs.Keeping.{IsThere}
 
@@ -59,10 +58,10 @@ pub requests_reach : {R : Type 0} (g : Relays R) (made : ConnectionState) (o : O
 requests_reach g made o H w l before after e is n named late short =
     let r = chain_split g before (e ∷ after) (new_engine made o) w (subst (λ (es : List (Entry _)). Chain g (new_engine made o) es w) is l) in
     let same : lookup (nat_eq n) r.2.0.sessions ≡ lookup (nat_eq n) r.0.sessions = ap (lookup (nat_eq n)) r.2.2.sessions_is in
-    by r.0 r.2.0 (legal g before n (new_engine made o) r.0 r.1 refl) same (step_says g r.2.0 r.2.1 n e named late r.2.3)
+    by r.0 r.2.0 (lives g made o n before r.0 (legal g before n (new_engine made o) r.0 r.1 refl)) same (step_says g r.2.0 r.2.1 n e named late r.2.3)
   where
-    by : (m u : EngineView _) → Legal g n (new_connection made o) before m → lookup (nat_eq n) u.sessions ≡ lookup (nat_eq n) m.sessions → Says u n e → ReachesNamed (begun made n before) n e
-    by m u (inl a) same (inl s) = absurd (some_none (sym s.0.1 ∙ same ∙ a.unknown))
-    by m u (inl a) same (inr s) = subst (λ x. ReachesNamed x n e) (sym a.unbegun) (s.1, s.2)
-    by m u (inr p) same (inl s) = subst (λ x. ReachesNamed x n e) (sym p.begun_is) (s.1, s.2)
+    by : (m u : EngineView _) → Lives g made n before m → lookup (nat_eq n) u.sessions ≡ lookup (nat_eq n) m.sessions → Says u n e → ReachesNamed (live made n before) n e
+    by m u (inl a) same (inl s) = absurd (some_none (sym s.0.1 ∙ same ∙ a.1))
+    by m u (inl a) same (inr s) = subst (λ x. ReachesNamed x n e) (sym a.0) (s.1, s.2)
+    by m u (inr p) same (inl s) = subst (λ x. ReachesNamed x n e) (sym p.live_is) (s.1, s.2)
     by m u (inr p) same (inr s) = absurd (some_none (sym p.there ∙ sym same ∙ s.0))

@@ -42,7 +42,7 @@ outcomes_more u v w k ss s t = record { close = close s.close t.close; ends = λ
     ended n a (inr b) = inr (subst (λ (es : List (ℕ × SessionView _)). (x : SessionView _) × (lookup (nat_eq n) es ≡ Some x) × (x.state ≡ Unmapped)) ss b.0, b.1)
 
 pub Taken-none : {R : Type 0} (v : EngineView R) → Taken v v
-Taken-none v = record { gone = []; left = refl; connection_is = refl; sessions_is = refl; limit_is = refl; outcomes_are = outcomes_same v v refl }
+Taken-none v = record { gone = []; left = refl; connection_is = refl; sessions_is = refl; forgotten_is = refl; limit_is = refl; outcomes_are = outcomes_same v v refl }
 
 pub Taken-more : {R : Type 0} (u v w : EngineView R) → Taken u v → Taken v w → Taken u w
 Taken-more u v w s t = record {
@@ -50,6 +50,7 @@ Taken-more u v w s t = record {
   left = s.left ∙ ap (λ (ts : List Frame). s.gone ++ ts) t.left ∙ sym (append_assoc s.gone t.gone w.waiting);
   connection_is = t.connection_is ∙ s.connection_is;
   sessions_is = t.sessions_is ∙ s.sessions_is;
+  forgotten_is = t.forgotten_is ∙ s.forgotten_is;
   limit_is = t.limit_is ∙ s.limit_is;
   outcomes_are = outcomes_more u v w s.connection_is s.sessions_is s.outcomes_are t.outcomes_are;
 }
@@ -94,6 +95,7 @@ put_more v u w answers answers1 answers2 a p n pushed =
       left = n.2 ∙ ap (λ (xs : List Frame). f ∷ xs) (sym same);
       connection_is = ap (λ (x : EngineView _). x.connection) n.4;
       sessions_is = ap (λ (x : EngineView _). x.sessions) n.4;
+      forgotten_is = ap (λ (x : EngineView _). x.forgotten) n.4;
       limit_is = ap (λ (x : EngineView _). x.limit) n.4;
       outcomes_are = outcomes_same u w (ap (λ (x : EngineView _). x.outcomes) n.4);
     } in

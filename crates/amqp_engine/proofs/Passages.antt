@@ -22,17 +22,18 @@ use Rattle.amqp_engine.specs.EngineView.{EngineView}
 use Rattle.amqp_engine.specs.Waits.{sent}
 use Rattle.amqp_engine.specs.Engine.{Step}
 use Rattle.amqp_engine.specs.Entry.{Entry}
-use Rattle.amqp_engine.specs.Event.{Event, Quiet, SentOpen, SentClose, AcceptedOpen, CameClose, Began, Released, Routed, Unrouted, event, event_by}
+use Rattle.amqp_engine.specs.Event.{Event, Quiet, SentOpen, SentClose, AcceptedOpen, CameClose, Began, Released, Forgot, Routed, Unrouted, event, event_by}
 use Rattle.amqp_engine.proofs.Apart.{Taken, Chain}
-use Rattle.amqp_engine.specs.ByHistory.{remote_close_reason, state_by, state_from, reason_by, reason_from, channel_max_by, channel_max_from, limit_by, limit_after, waiting_by, last_frames_from}
+use Rattle.amqp_engine.specs.ByHistory.{remote_close_reason, state_by, state_from, reason_by, reason_from, channel_max_by, channel_max_from, limit_by, limit_after, numbers_by, waiting_by, last_frames_from}
 use Rattle.amqp_engine.specs.Headline.{own_frames}
 use Rattle.amqp_engine.proofs.Beginning.{some_none}
-use Rattle.amqp_engine.proofs.Deeds.{Moved, IsNoBegin, Effect, after_close, close_refusal, stops, quiet}
+use Rattle.amqp_engine.proofs.Deeds.{Moved, NoneMoves, Effect, after_close, close_refusal, stops, quiet}
 use Rattle.amqp_engine.proofs.Carrying.{deed}
 
 pub record Passage {R : Type 0} (g : Relays R) (v : EngineView R) (e : Entry R) (w : EngineView R) : Type 0 where
   pub moved : Moved v.connection (event e) w.connection
   pub effect : Effect g v e w
+  pub forgotten_is : w.forgotten ≡ numbers_by (event e) v.forgotten
   pub limit_is : w.limit ≡ limit_by v.limit (event e)
   pub frames_are : e.frames ≡ own_frames v.connection.local_open (event e) ++ sent (calls_frames e.calls)
   pub session_frames : (n : ℕ) → e.reached ≡ Some n → e.frames ≡ sent (calls_frames e.calls)
@@ -57,7 +58,8 @@ passage g v w e (inl s) =
     let same : w ≡ v = s.3.1 in
     record {
       moved = subst (λ x. Moved v.connection x w.connection) (sym is) (quiet v.connection w.connection (ap (λ (x : EngineView _). x.connection) same));
-      effect = inl (subst IsNoBegin (sym is) tt, inl (record { sessions_is = ap (λ (x : EngineView _). x.sessions) same; no_calls = s.3.0.1; none_reached = inl s.3.0.0 }));
+      effect = inl (subst NoneMoves (sym is) tt, inl (record { sessions_is = ap (λ (x : EngineView _). x.sessions) same; no_calls = s.3.0.1; none_reached = inl s.3.0.0 }));
+      forgotten_is = ap (λ (x : EngineView _). x.forgotten) same ∙ ap (λ x. numbers_by x v.forgotten) (sym is);
       limit_is = ap (λ (x : EngineView _). x.limit) same ∙ ap (limit_by v.limit) (sym is);
       frames_are = s.4 ∙ sym (ap (λ x. own_frames v.connection.local_open x ++ sent (calls_frames e.calls)) is ∙ ap (λ (cs : List (session.Entry _)). sent (calls_frames cs)) s.3.0.1);
       session_frames = λ n r. absurd (some_none (sym r ∙ s.3.0.0));
@@ -68,6 +70,7 @@ passage g v w e (inr s) =
     record {
       moved = d.moved;
       effect = d.effect;
+      forgotten_is = d.forgotten_is;
       limit_is = d.limit_is;
       frames_are = d.frames_are;
       session_frames = d.session_frames;
@@ -125,6 +128,7 @@ settles v w (AcceptedOpen o) m = ap settled (went v w m.calls _ m.happens m.chai
 settles v w (CameClose c) m = ap settled (came v w c m)
 settles v w (Began n settings c) m = ap settled (went v w m.calls _ m.happens m.chain)
 settles v w (Released n) m = ap settled (went v w m.calls _ m.happens.2 m.chain)
+settles v w (Forgot n) m = ap settled (went v w m.calls _ m.happens m.chain)
 settles v w (Routed c n) m = ap settled (went v w m.calls _ m.happens.2 m.chain)
 settles v w (Unrouted c) m = ap settled (went v w m.calls _ m.happens.1 m.chain)
 
@@ -216,5 +220,5 @@ waiting_law g all (e ∷ es) v w l c =
 -- ---- a history in two parts
 
 pub chain_split : {R : Type 0} (g : Relays R) (xs ys : List (Entry R)) (v w : EngineView R) → Chain g v (xs ++ ys) w → (m : EngineView R) × Chain g v xs m × Chain g m ys w
-chain_split g [] ys v w c = (v, record { gone = []; left = refl; connection_is = refl; sessions_is = refl; limit_is = refl }, c)
+chain_split g [] ys v w c = (v, record { gone = []; left = refl; connection_is = refl; sessions_is = refl; forgotten_is = refl; limit_is = refl }, c)
 chain_split g (e ∷ xs) ys v w c = let r = chain_split g xs ys c.1 w c.4 in (r.0, (c.0, c.1, c.2, c.3, r.1), r.2)

@@ -65,3 +65,16 @@ stays f old new k x w e = same_map nat_cmp_total nat_cmp-IsAntisymmetric _ _ (λ
     by : (q : ℕ) (b : Bool) → nat_eq k q ≡ b → cond (nat_eq k q) (f x) (get (pick f old) q) ≡ get (pick f old) q
     by q true p = ap (λ b. cond b (f x) (get (pick f old) q)) p ∙ e ∙ sym (get_pick f old k) ∙ ap (get (pick f old)) (same_key k q p)
     by q false p = ap (λ b. cond b (f x) (get (pick f old) q)) p
+
+-- how entries differ of which one key is gone
+abbrev pub Clears : {X : Type 0} → List (ℕ × X) → List (ℕ × X) → ℕ → Type 0
+Clears old new k = (q : ℕ) → lookup (nat_eq q) new ≡ cond (nat_eq k q) None (lookup (nat_eq q) old)
+
+pub gone : {X Y : Type 0} (f : X → Option Y) (old new : List (ℕ × X)) (k : ℕ) → Clears old new k → pick f new ≡ remove (pick f old) k
+gone f old new k w = same_map nat_cmp_total nat_cmp-IsAntisymmetric _ _ (λ q.
+    get_pick f new q ∙ ap (picked_at f) (w q) ∙ none (nat_eq k q) (lookup (nat_eq q) old) ∙ ap (λ o. cond (nat_eq k q) None o) (sym (get_pick f old q))
+    ∙ sym (get-remove nat_cmp_total (pick f old) k q ∙ ap (λ b. cond b None (get (pick f old) q)) (turned k q)))
+  where
+    none : (b : Bool) (o : Option _) → picked_at f (cond b None o) ≡ cond b None (picked_at f o)
+    none true o = refl
+    none false o = refl

@@ -174,7 +174,7 @@ frame_known : {R : Type 0} (g : Relays R) (v w : EngineView R) (c : ℕ) (b : Fr
 frame_known g v w c body.Empty reached calls r k s = λ e. let x = sym s.1 ∙ e in cc
 frame_known g v w c (body.Open o) reached calls r k s = open_known v w o r s.1
 frame_known g v w c (body.Close p) reached calls r k s = close_known s.1.0 r s.1.3
-frame_known g v w c (body.Begin p) reached calls r k s = reaches_known g (Finds v.connection c (body.Begin p)) v w _ reached calls r (received_plain c (body.Begin p)) (λ n u f. k.known f.1.0 n f.1.2) s
+frame_known g v w c (body.Begin p) reached calls r k s = reaches_known g (Finds v.connection c (body.Begin p)) v w _ reached calls r (received_plain c (body.Begin p)) (λ n u f. let on = k.known f.1.0 n f.1.2 in (on.0, on.1)) s
 frame_known g v w c (body.End p) reached calls r k s = reaches_known g (Finds v.connection c (body.End p)) v w _ reached calls r (received_plain c (body.End p)) (λ n u f. k.routed c n f.1) s
 frame_known g v w c (body.Attach p) reached calls r k s = reaches_known g (Finds v.connection c (body.Attach p)) v w _ reached calls r (received_plain c (body.Attach p)) (λ n u f. k.routed c n f.0) s
 frame_known g v w c (body.Detach p) reached calls r k s = reaches_known g (Finds v.connection c (body.Detach p)) v w _ reached calls r (received_plain c (body.Detach p)) (λ n u f. k.routed c n f.0) s

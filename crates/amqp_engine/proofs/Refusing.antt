@@ -22,7 +22,7 @@ use Rattle.amqp_engine.specs.Waits.{sent}
 use Rattle.amqp_engine.specs.EngineView.{EngineView}
 use Rattle.amqp_engine.specs.Calls.{EndCalls, state_refusal, recorded_end}
 use Rattle.amqp_engine.specs.Sessions.{Called, Does}
-use Rattle.amqp_engine.specs.Engine.{Step, Steps, Carries, CloseRequest, kept}
+use Rattle.amqp_engine.specs.Engine.{Step, Steps, Carries, CloseRequest, kept, left}
 use Rattle.amqp_engine.specs.Entry.{Entry}
 use Rattle.amqp_engine.specs.Inner.Hearing.{IsWish}
 
@@ -94,8 +94,13 @@ stepped g v w e r refused is idle (inl s) = absurd (s.0 idle)
 stepped g v w e r refused is idle (inr s) =
     carried g v w e.input e.received e.reached e.calls r is idle (subst (λ x. Carries g v e.input e.received e.reached e.calls x w) refused s.2)
 
+-- what is refused lets nothing go
+pub not_left : {R : Type 0} (i : Input R) (r : StepError) (m : EngineView R) → left i (Some r) m ≡ m
+not_left (input.Forget n) r m = refl
+not_left i r m = refl
+
 pub refused_same : {R : Type 0} (g : Relays R) (v w : EngineView R) (i : Input R) (r : StepError) → IsWish i → v.waiting ≡ [] → Steps g v i (Some r) w → Still v w
 refused_same g v w i r is idle s =
     let same = stepped g v s.done _ r refl is idle s.step in
-    let done : w ≡ s.done = s.keeps ∙ ap (λ f. kept f s.reached (Some r) s.done) same.0 in
+    let done : w ≡ s.done = s.keeps ∙ not_left i r _ ∙ ap (λ f. kept f s.reached (Some r) s.done) same.0 in
     done ∙ same.1 ∙ ap (λ x. record v { walks = x }) (sym (ap (λ (x : EngineView _). x.walks) done))

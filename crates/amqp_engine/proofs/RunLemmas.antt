@@ -10,7 +10,7 @@ use Rattle.amqp_engine.specs.declared.engine.input.Input.{Input}
 use Rattle.amqp_engine.specs.declared.engine.answer.Answer.{Answer}
 use Rattle.amqp_engine.specs.EngineView.{EngineView, new_engine}
 use Rattle.amqp_engine.specs.Entry.{Entry}
-use Rattle.amqp_engine.specs.Kept.{Outcomes, outcomes_by}
+use Rattle.amqp_engine.specs.Kept.{Outcomes, outcomes_after}
 use Rattle.amqp_engine.specs.History.{Taken, Chain}
 use Rattle.amqp_engine.specs.Legal.{Legal}
 use Rattle.amqp_engine.specs.Event.{event}
@@ -38,7 +38,7 @@ Chain-append gives (e ∷ xs) ys u v w c d = (c.0, c.1, c.2, c.3, c.4, c.5, Chai
 
 pub outcomes_from-append : {R : Type 0} (o : Outcomes) (xs ys : List (Entry R)) → outcomes_from o (xs ++ ys) ≡ outcomes_from (outcomes_from o xs) ys
 outcomes_from-append o [] ys = refl
-outcomes_from-append o (e ∷ xs) ys = outcomes_from-append (outcomes_by e.received e.reached e.refusal o) xs ys
+outcomes_from-append o (e ∷ xs) ys = outcomes_from-append (outcomes_after e.input e.received e.reached e.refusal o) xs ys
 
 limit_after-append : {R : Type 0} (limit : ℕ) (xs ys : List (Entry R)) → limit_after limit (xs ++ ys) ≡ limit_after (limit_after limit xs) ys
 limit_after-append limit [] ys = refl

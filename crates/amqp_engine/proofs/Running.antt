@@ -11,7 +11,7 @@ use Rattle.amqp_session.specs.Relay.{Relays}
 use Rattle.amqp_engine.specs.EngineView.{EngineView, new_engine}
 use Rattle.amqp_engine.specs.Engine.{Steps}
 use Rattle.amqp_engine.specs.Entry.{Entry}
-use Rattle.amqp_engine.specs.Kept.{outcomes_by}
+use Rattle.amqp_engine.specs.Kept.{outcomes_after}
 use Rattle.amqp_engine.specs.History.{Taken, OnlyLeft, Chain}
 use Rattle.amqp_engine.specs.Legal.{Legal}
 use Rattle.amqp_engine.specs.Inner.Running.{Running}
@@ -69,7 +69,7 @@ Running-more gives v v1 v2 v3 entries answers answers1 answers2 answers3 out inp
       chain = Chain-append gives entries (e ∷ []) v v1 v3 g.chain (v1, step.done, v2, Taken-none v1, step.step, step.keeps, t.taken);
       limit_is = t.taken.limit_is ∙ limit2 ∙ sym (limit_more v.limit entries e);
       outcomes_are = t.outcomes_stay ∙ ap (λ (x : EngineView _). x.outcomes) step.keeps
-          ∙ ap (λ o. outcomes_by e.received e.reached e.refusal o) (step_outcomes gives v1 step.done e step.step ∙ g.outcomes_are) ∙ sym (outcomes_from-append v.outcomes entries (e ∷ []));
+          ∙ ap (λ o. outcomes_after e.input e.received e.reached e.refusal o) (step_outcomes gives v1 step.done e step.step ∙ g.outcomes_are) ∙ sym (outcomes_from-append v.outcomes entries (e ∷ []));
       out = g.out ++ answer_of r ∷ out;
       appended = appended ∙ ap (λ (xs : List Answer). xs ++ out) (pushed ∙ ap (λ (xs : List Answer). xs ++ answer_of r ∷ []) g.appended)
           ∙ append_assoc (answers ++ g.out) (answer_of r ∷ []) out ∙ append_assoc answers g.out (answer_of r ∷ out);
@@ -121,7 +121,7 @@ unfolding Legal
 legal_left gives v w t = λ state o H l. Chain-end gives H (new_engine state o) v w l t
 
 front : {R : Type 0} (v : EngineView R) (f : Frame) (fs : List Frame) → v.waiting ≡ f ∷ fs → Taken v (record v { waiting = fs })
-front v f fs e = record { gone = f ∷ []; left = e; connection_is = refl; sessions_is = refl; limit_is = refl; outcomes_are = record { close = inl refl; ends = λ n. inl refl } }
+front v f fs e = record { gone = f ∷ []; left = e; connection_is = refl; sessions_is = refl; forgotten_is = refl; limit_is = refl; outcomes_are = record { close = inl refl; ends = λ n. inl refl } }
 
 pub next_left : {R X : Type 0} (v : EngineView R) (result : Result (Option X) OutputError) (view : X → List PieceParts) (w : EngineView R) → NextOutput view v result w → Taken v w
 next_left v (Ok None) view w n = subst (λ (x : EngineView _). Taken v x) (sym n.1) (Taken-none v)

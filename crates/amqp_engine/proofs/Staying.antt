@@ -17,7 +17,7 @@ use Rattle.amqp_engine.specs.declared.engine.step_error.StepError.TheVariants as
 use Rattle.amqp_connection.specs.Connection.{ConnectionView}
 use Rattle.amqp_engine.specs.EngineView.{EngineView}
 use Rattle.amqp_engine.specs.Calls.{Calls}
-use Rattle.amqp_engine.specs.Sessions.{Called, Unknown, Does, Reaches, BeginRequest, ReleaseRequest}
+use Rattle.amqp_engine.specs.Sessions.{Called, Unknown, Does, Reaches, BeginRequest, ReleaseRequest, ForgetRequest}
 use Rattle.amqp_engine.specs.Engine.{Step, Carries, ReceivedFrame, ReceivedOpen, OpenRequest, CloseRequest, Finds}
 use Rattle.amqp_engine.specs.Entry.{Entry}
 
@@ -50,6 +50,11 @@ releases v w n reached calls None s = as_put _ w s.1.3
 releases v w n reached calls (Some no.NoSession) s = as_put _ w s.0.1
 releases v w n reached calls (Some (no.Connection e)) s = as_put _ w s.0.1
 releases v w n reached calls (Some e) s = absurd s
+
+forgets : {R : Type 0} (v w : EngineView R) (n : ℕ) (reached : Option ℕ) (calls : List (session.Entry R)) (r : Option StepError) → ForgetRequest v n reached calls r w → Same v w
+forgets v w n reached calls None s = as_put _ w s.2.put
+forgets v w n reached calls (Some no.OutOfMemory) s = as_put _ w s.0.1
+forgets v w n reached calls (Some e) s = as_put _ w s.0.1
 
 does : {R : Type 0} (g : Relays R) (v w : EngineView R) (n : ℕ) (asks : Calls R) (reached : Option ℕ) (calls : List (session.Entry R)) (r : Option StepError) → Does g v n asks reached calls r w → Same v w
 does g v w n asks reached calls r (inl s) = as_put _ w s.1.put
@@ -88,6 +93,7 @@ carries g v w input.Open received reached calls r s = opens v w r s.2
 carries g v w (input.Close error) received reached calls r s = closes v w error r s.2
 carries g v w (input.Begin n settings) received reached calls r s = begins g v w n.0 settings reached calls r s.1
 carries g v w (input.Release n) received reached calls r s = releases v w n.0 reached calls r s.1
+carries g v w (input.Forget n) received reached calls r s = forgets v w n.0 reached calls r s.1
 carries g v w (input.End n error) received reached calls r s = does g v w n.0 _ reached calls r s.1
 carries g v w (input.AllocateLink n name relay) received reached calls r s = does g v w n.0 _ reached calls r s.1
 carries g v w (input.AllocateIncomingLink n name relay h) received reached calls r s = does g v w n.0 _ reached calls r s.1

@@ -1,6 +1,7 @@
 -- An entry's calls are what its input asks of the session in its state, and its frames are theirs.
-use Rattle.std.proofs.Common.{◌≡◌, ◌⊎◌, ◌++◌, ℕ, List, [], ◌∷◌, Option, Some, None, refl, ap, sym, subst, ◌∙◌, inl, inr, nat_eq}
+use Rattle.std.proofs.Common.{◌≡◌, ◌⊎◌, ◌++◌, ℕ, List, [], ◌∷◌, Option, Some, None, refl, ap, sym, subst, ◌∙◌, inl, inr, nat_eq, is_some, cond, Bool, true, false}
 use Rattle.std.specs.Map.{lookup}
+use Rattle.std.specs.FinMap as map
 use Rattle.amqp_types.specs.declared.states.ConnectionState.{ConnectionState}
 use Rattle.amqp_types.specs.declared.states.SessionState.{SessionState}
 use Rattle.amqp_types.specs.declared.states.SessionState.TheVariants.{Unmapped}
@@ -17,17 +18,18 @@ use Rattle.amqp_engine.specs.declared.engine.input.Input.TheVariants as input
 use Rattle.amqp_engine.specs.declared.engine.step_error.StepError.{StepError}
 use Rattle.amqp_engine.specs.declared.engine.step_error.StepError.TheVariants as no
 use Rattle.amqp_connection.specs.Connection.{ConnectionView, new_connection}
+use Rattle.amqp_numbers.specs.Ranges.{Numbers}
 use Rattle.amqp_engine.specs.EngineView.{EngineView, new_engine}
 use Rattle.amqp_engine.specs.Waits.{sent}
 use Rattle.amqp_engine.specs.Entry.{Entry}
 use Rattle.amqp_engine.specs.Event.{Quiet, event, event_by, received_event}
 use Rattle.amqp_engine.proofs.Apart.{Chain, LeadsTo}
-use Rattle.amqp_engine.specs.ByHistory.{of_session, session_state}
+use Rattle.amqp_engine.specs.ByHistory.{of_session, is_forgotten, session_state}
 use Rattle.amqp_engine.specs.Headline.{Asked, AllAsked, FramesAre, RanShort, asked_calls, own_frames}
 use Rattle.amqp_engine.proofs.Beginning.{some_none}
 use Rattle.amqp_engine.proofs.Deeds.{IsPlain, Effect, Stays, Changes}
 use Rattle.amqp_engine.proofs.Passages.{Passage, passage, chain_split, open_law}
-use Rattle.amqp_engine.proofs.Projection.{Legal, legal, same_some}
+use Rattle.amqp_engine.proofs.Projection.{Legal, legal, numbers_are, same_some}
 
 abbrev pub ViewsLaw : {R : Type 0} → Relays R → Type 0
 ViewsLaw g = (m : session.Made) (h : List (session.Entry _)) (v : SessionView _) → session.LeadsTo g m h v → single.Stands m h v
@@ -35,17 +37,21 @@ ViewsLaw g = (m : session.Made) (h : List (session.Entry _)) (v : SessionView _)
 same_value : (a b : ℕ) → Some a ≡ Some b → a ≡ b
 same_value a b e = cc
 
+still_there : {X : Type 0} (b : Bool) (x y : X) (o : Option X) → o ≡ cond b None (Some x) → o ≡ Some y → x ≡ y
+still_there true x y o e f = absurd (some_none (sym f ∙ e))
+still_there false x y o e f = same_some x y o e f
+
 -- the state of a session that is there is what the history says
 there_state : {R : Type 0} (g : Relays R) → ViewsLaw g → (n : ℕ) (k : ConnectionView) (before : List (Entry R)) (m : EngineView R) (s : SessionView R) → Legal g n k before m → lookup (nat_eq n) m.sessions ≡ Some s → s.state ≡ session_state n before
 there_state g law n k before m s (inl a) there = absurd (some_none (sym there ∙ a.unknown))
 there_state g law n k before m s (inr p) there =
-    let same : p.last ≡ s = same_some p.last s (lookup (nat_eq n) m.sessions) p.there there in
+    let same : p.last ≡ s = still_there (is_forgotten n before) p.last s (lookup (nat_eq n) m.sessions) p.there there in
     sym (ap (λ (x : SessionView _). x.state) same) ∙ (law p.made (of_session n before) p.last p.legal).state_is ∙ ap (λ x. single.state_from x (of_session n before)) p.unmapped
 
--- that of one that is not there is the first one
-absent_state : {R : Type 0} (g : Relays R) (n : ℕ) (k : ConnectionView) (before : List (Entry R)) (m : EngineView R) → Legal g n k before m → lookup (nat_eq n) m.sessions ≡ None → Unmapped ≡ session_state n before
-absent_state g n k before m (inl a) none = sym (ap (λ (cs : List (session.Entry _)). single.state_from Unmapped cs) a.no_calls)
-absent_state g n k before m (inr p) none = absurd (some_none (sym p.there ∙ none))
+-- that of one that was never there is the first one
+absent_state : {R : Type 0} (g : Relays R) (n : ℕ) (k : ConnectionView) (before : List (Entry R)) (m : EngineView R) → Legal g n k before m → lookup (nat_eq n) m.sessions ≡ None → is_forgotten n before ≡ false → Unmapped ≡ session_state n before
+absent_state g n k before m (inl a) none stays = sym (ap (λ (cs : List (session.Entry _)). single.state_from Unmapped cs) a.no_calls)
+absent_state g n k before m (inr p) none stays = absurd (some_none (sym (p.there ∙ ap (λ b. cond b None (Some p.last)) stays) ∙ none))
 
 abbrev Is : {R : Type 0} → Entry R → SessionState → Type 0
 Is e s = asked_calls e.input e.received s e.calls e.refusal
@@ -65,17 +71,19 @@ some_asked before e n (Some k) is r a = λ known. subst (λ x. Is e (session_sta
 pub all_asked : {R : Type 0} (g : Relays R) → ViewsLaw g → (made : ConnectionState) (o : OpenSaid) (H : List (Entry R)) (w : EngineView R) → LeadsTo g made o H w → AllAsked H
 all_asked g law made o H w l before after e is =
     let r = chain_split g before (e ∷ after) (new_engine made o) w (subst (λ (es : List (Entry _)). Chain g (new_engine made o) es w) is l) in
-    by r.0 r.2.0 r.2.1 (λ n. legal g before n (new_engine made o) r.0 r.1 refl) (λ n. ap (lookup (nat_eq n)) r.2.2.sessions_is) (passage g r.2.0 r.2.1 e r.2.3).effect
+    by r.0 r.2.0 r.2.1 (λ n. legal g before n (new_engine made o) r.0 r.1 refl) (λ n. ap (lookup (nat_eq n)) r.2.2.sessions_is)
+    (λ n. ap (λ (x : Numbers). is_some (map.get x n)) r.2.2.forgotten_is ∙ numbers_are g n made o before r.0 r.1) (passage g r.2.0 r.2.1 e r.2.3).effect
   where
-    by : (m u t : EngineView _) → ((n : ℕ) → Legal g n (new_connection made o) before m) → ((n : ℕ) → lookup (nat_eq n) u.sessions ≡ lookup (nat_eq n) m.sessions) → Effect g u e t → Asked before e.reached e
-    by m u t legal same (inl x) = stay x.1
+    by : (m u t : EngineView _) → ((n : ℕ) → Legal g n (new_connection made o) before m) → ((n : ℕ) → lookup (nat_eq n) u.sessions ≡ lookup (nat_eq n) m.sessions) → ((n : ℕ) → is_some (map.get u.forgotten n) ≡ is_forgotten n before) → Effect g u e t → Asked before e.reached e
+    by m u t legal same used (inl x) = stay x.1
       where
         stay : Stays u e t ⊎ Changes g u e t → Asked before e.reached e
         stay (inl y) = none_asked before e e.reached refl y.no_calls y.none_reached
         stay (inr y) = some_asked before e y.number e.reached refl y.reached_is
             (subst (Is e) (there_state g law y.number (new_connection made o) before m y.before (legal y.number) (sym (same y.number) ∙ y.known)) y.asked)
-    by m u t legal same (inr x) = some_asked before e x.number e.reached refl x.reached_is
-        (subst (Is e) (absent_state g x.number (new_connection made o) before m (legal x.number) (sym (same x.number) ∙ x.absent)) x.asked)
+    by m u t legal same used (inr (inr x)) = none_asked before e e.reached refl x.no_calls (inl x.unreached)
+    by m u t legal same used (inr (inl x)) = some_asked before e x.number e.reached refl x.reached_is
+        (subst (Is e) (absent_state g x.number (new_connection made o) before m (legal x.number) (sym (same x.number) ∙ x.absent) (sym (used x.number) ∙ ap is_some x.unused)) x.asked)
 
 pub frames_are : {R : Type 0} (g : Relays R) (made : ConnectionState) (o : OpenSaid) (H : List (Entry R)) (w : EngineView R) → LeadsTo g made o H w → FramesAre o H
 frames_are g made o H w l before after e is =
@@ -127,4 +135,5 @@ ran_short g made o H w l before after e is short =
 
         effects : Effect g u e t → (e.reached ≡ None) × (e.frames ≡ [])
         effects (inl x) = stay x.1
-        effects (inr x) = absurd (some_none (sym short ∙ x.accepted))
+        effects (inr (inl x)) = absurd (some_none (sym short ∙ x.accepted))
+        effects (inr (inr x)) = absurd (some_none (sym short ∙ x.accepted))

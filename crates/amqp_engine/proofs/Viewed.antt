@@ -20,6 +20,14 @@ viewed_some n es o is = viewed n es ∙ ap (option_map (λ x. x.view)) is
 pub viewed_none : {R : Type 0} (n : ℕ) (es : List (ℕ × Observed R)) → lookup (nat_eq n) es ≡ None → lookup (nat_eq n) (views_of es) ≡ None
 viewed_none n es is = viewed n es ∙ ap (option_map (λ x. x.view)) is
 
+-- where no view stands, no session does
+pub unviewed : {R : Type 0} (n : ℕ) (es : List (ℕ × Observed R)) → lookup (nat_eq n) (views_of es) ≡ None → lookup (nat_eq n) es ≡ None
+unviewed {R = R} n es is = by (lookup (nat_eq n) es) (sym (viewed n es) ∙ is)
+  where
+    by : (o : Option (Observed R)) → option_map (λ x. x.view) o ≡ None → o ≡ None
+    by None e = refl
+    by (Some x) e = absurd cc
+
 -- one session goes on
 pub viewed_set : {R : Type 0} (n : ℕ) (es : List (ℕ × Observed R)) (o : Observed R) → views_of (set_value (nat_eq n) es o) ≡ set_value (nat_eq n) (views_of es) o.view
 viewed_set n [] o = refl
@@ -49,7 +57,7 @@ viewed_there n es (Some o) b is e t = subst IsSome (sym (viewed_some n es o is))
 
 -- ---- the counts of their walks
 
-walked : {R : Type 0} (n : ℕ) (es : List (ℕ × Observed R)) → lookup (nat_eq n) (walks_of es) ≡ option_map (λ o. o.last_walk) (lookup (nat_eq n) es)
+pub walked : {R : Type 0} (n : ℕ) (es : List (ℕ × Observed R)) → lookup (nat_eq n) (walks_of es) ≡ option_map (λ o. o.last_walk) (lookup (nat_eq n) es)
 walked n [] = refl
 walked n (e ∷ es) = by (walked n es) (nat_eq n e.0) refl
   where

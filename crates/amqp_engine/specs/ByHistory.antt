@@ -1,5 +1,5 @@
 -- What a history gives of the connection, its channels, its routes and its sessions: by its entries alone, the oldest first.
-use Rattle.std.specs.Prelude.{ℕ, List, [], ◌∷◌, ◌++◌, Option, Some, None, cond, nat_eq, unwrap_or, min}
+use Rattle.std.specs.Prelude.{ℕ, List, [], ◌∷◌, ◌++◌, Option, Some, None, Bool, true, false, cond, nat_eq, unwrap_or, min}
 use Rattle.amqp_types.specs.declared.states.ConnectionState.{ConnectionState}
 use Rattle.amqp_types.specs.declared.states.ConnectionState.TheVariants.{CloseReceived}
 use Rattle.amqp_types.specs.declared.states.SessionState.{SessionState}
@@ -15,9 +15,11 @@ use Rattle.amqp_engine.specs.declared.engine.step_error.StepError.{StepError}
 use Rattle.amqp_engine.specs.declared.engine.step_error.StepError.TheVariants as no
 use Rattle.amqp_connection.specs.States.{sends_open, takes_open, takes_close}
 use Rattle.amqp_connection.specs.Connection.{closes_by, first_reason}
+use Rattle.amqp_numbers.specs.Ranges.{Numbers}
+use Rattle.std.specs.FinMap as map
 use Rattle.amqp_engine.specs.EngineView.{peer_limit}
 use Rattle.amqp_engine.specs.Entry.{Entry}
-use Rattle.amqp_engine.specs.Event.{Event, SentOpen, SentClose, AcceptedOpen, CameClose, Began, Released, Routed, Unrouted, event, is_number}
+use Rattle.amqp_engine.specs.Event.{Event, SentOpen, SentClose, AcceptedOpen, CameClose, Began, Released, Forgot, Routed, Unrouted, event, is_number}
 
 -- ---- the connection's state, by its tables
 
@@ -135,6 +137,27 @@ begun_from n s stop (e ∷ es) = begun_by n stop (event e) (begun_from n (state_
 -- of an engine whose connection began in this state
 abbrev pub begun : {R : Type 0} → ConnectionState → ℕ → List (Entry R) → Option session.Made
 begun s n H = begun_from n s None H
+
+-- whether session n was forgotten
+abbrev pub forgotten_by : ℕ → Event → Bool → Bool
+forgotten_by n (Forgot k) old = cond (nat_eq n k) true old
+forgotten_by n ev old = old
+
+abbrev pub forgotten_from : {R : Type 0} → ℕ → Bool → List (Entry R) → Bool
+forgotten_from n old [] = old
+forgotten_from n old (e ∷ es) = forgotten_from n (forgotten_by n (event e) old) es
+
+abbrev pub is_forgotten : {R : Type 0} → ℕ → List (Entry R) → Bool
+is_forgotten n H = forgotten_from n false H
+
+-- how session n was made, while it is there: one that was forgotten is there no more, and its number is not begun again
+abbrev pub live : {R : Type 0} → ConnectionState → ℕ → List (Entry R) → Option session.Made
+live s n H = cond (is_forgotten n H) None (begun s n H)
+
+-- the numbers of the sessions that were forgotten, with that of the event
+abbrev pub numbers_by : Event → Numbers → Numbers
+numbers_by (Forgot n) old = map.insert old n true
+numbers_by ev old = old
 
 -- the state of session n
 abbrev pub session_state : {R : Type 0} → ℕ → List (Entry R) → SessionState

@@ -24,12 +24,12 @@ use Rattle.amqp_engine.specs.declared.engine.step_error.StepError.TheVariants as
 use Rattle.amqp_connection.specs.States.{takes_close}
 use Rattle.amqp_connection.specs.Connection.{ConnectionView, stopped, SendOpenStep, SendCloseStep, IncomingOpenStep, IncomingCloseStep}
 use Rattle.amqp_connection.specs.Connection.{BeginRouteStep, EndRouteStep, RouteStep}
-use Rattle.amqp_engine.specs.Kept.{outcomes_by}
+use Rattle.amqp_engine.specs.Kept.{outcomes_by, outcomes_without}
 use Rattle.amqp_engine.specs.EngineView.{EngineView, peer_limit}
 use Rattle.amqp_engine.specs.Entry.{Entry}
 use Rattle.amqp_engine.specs.ByHistory.{close_reason, remote_reason}
 use Rattle.amqp_engine.specs.Calls.{request_calls, received_calls}
-use Rattle.amqp_engine.specs.Sessions.{Untouched, Nothing, Does, Reaches, BeginRequest, ReleaseRequest}
+use Rattle.amqp_engine.specs.Sessions.{Untouched, Nothing, Does, Reaches, BeginRequest, ReleaseRequest, ForgetRequest}
 
 -- ---- requests of the connection
 
@@ -123,6 +123,10 @@ Received g v bytes received reached calls refusal w =
     ⊎ ((f : Frame) × (rest : List ℕ) × IsFrame f bytes rest × (received ≡ Some f)
     × ReceivedFrame g v f.channel f.body reached calls refusal w)
 
+-- what is left of that by this input: where it forgets a session, the outcome of that is let go
+abbrev pub left : {R : Type 0} → Input R → Option StepError → EngineView R → EngineView R
+left i refusal m = record m { outcomes = outcomes_without i refusal m.outcomes }
+
 -- some body stands in the fields and is received, or none stands there
 abbrev pub FieldsStep : {R : Type 0} → Relays R → EngineView R → ℕ → Option Kind → List ℕ → Option StepError → EngineView R → Type 0
 FieldsStep g v c k fields refusal w =
@@ -156,6 +160,7 @@ Carries g v (input.Close error) received reached calls refusal w =
 Carries g v (input.Begin n settings) received reached calls refusal w =
     (received ≡ None) × BeginRequest g v n.0 settings reached calls refusal w
 Carries g v (input.Release n) received reached calls refusal w = (received ≡ None) × ReleaseRequest v n.0 reached calls refusal w
+Carries g v (input.Forget n) received reached calls refusal w = (received ≡ None) × ForgetRequest v n.0 reached calls refusal w
 Carries g v (input.End n error) received reached calls refusal w =
     (received ≡ None) × Does g v n.0 (request_calls (input.End n error)) reached calls refusal w
 Carries g v (input.AllocateLink n name relay) received reached calls refusal w =
@@ -181,7 +186,7 @@ Carries g v (input.Stop n reason) received reached calls refusal w =
 abbrev pub CarriedStep : {R : Type 0} → Relays R → EngineView R → Input R → Option StepError → EngineView R → Type 0
 CarriedStep g v i refusal w =
     (received : Option Frame) × (reached : Option ℕ) × (calls : List (session.Entry _)) × (m : EngineView _)
-    × Carries g v i received reached calls refusal m × (w ≡ kept received reached refusal m)
+    × Carries g v i received reached calls refusal m × (w ≡ left i refusal (kept received reached refusal m))
 
 -- what waits stops all else
 abbrev pub WaitingStep : {R : Type 0} → EngineView R → Entry R → EngineView R → Type 0
@@ -196,7 +201,7 @@ Step g v e w =
 
 -- then the outcome of the entry is kept
 abbrev pub Keeps : {R : Type 0} → Entry R → EngineView R → EngineView R → Type 0
-Keeps e m w = w ≡ kept e.received e.reached e.refusal m
+Keeps e m w = w ≡ left e.input e.refusal (kept e.received e.reached e.refusal m)
 
 -- a step with this input and this refusal, and what is kept of it
 pub record Steps {R : Type 0} (g : Relays R) (v : EngineView R) (i : Input R) (refusal : Option StepError) (w : EngineView R) : Type 0 where
@@ -206,4 +211,4 @@ pub record Steps {R : Type 0} (g : Relays R) (v : EngineView R) (i : Input R) (r
   pub frames : List Frame
   pub done : EngineView R
   pub step : Step g v (record { input = i; received = received; reached = reached; calls = calls; refusal = refusal; frames = frames }) done
-  pub keeps : w ≡ kept received reached refusal done
+  pub keeps : w ≡ left i refusal (kept received reached refusal done)

@@ -6,14 +6,18 @@ use Rattle.amqp_session.specs.declared.deliveries.WalkCount.{WalkCount}
 use Rattle.amqp_session.specs.Session.{SessionView, Observed}
 use Rattle.amqp_frames.specs.declared.frame.Frame.{Frame}
 use Rattle.amqp_connection.specs.Connection.{ConnectionView, new_connection}
+use Rattle.std.specs.FinMap as map
+use Rattle.amqp_numbers.specs.Ranges.{Numbers}
 use Rattle.amqp_engine.specs.Kept.{Outcomes, Wishes, no_outcomes, no_wishes}
 
 pub record EngineView (R : Type 0) : Type 0 where
   pub connection : ConnectionView
-  -- in the order in which they were begun; none is ever removed
+  -- those that were begun and not forgotten, by their numbers, in no order
   pub sessions : List (ℕ × SessionView R)
-  -- the counts of the latest walk of each session, in the same order
+  -- the counts of the latest walk of each session
   pub walks : List (ℕ × WalkCount)
+  -- the numbers of the sessions that were forgotten
+  pub forgotten : Numbers
   -- how many bytes a piece may have
   pub limit : ℕ
   -- frames that are not yet put out, oldest first
@@ -43,6 +47,7 @@ new_engine s o = record {
   connection = new_connection s o;
   sessions = [];
   walks = [];
+  forgotten = map.empty;
   limit = own_limit o;
   waiting = [];
   outcomes = no_outcomes;

@@ -1,5 +1,5 @@
 -- What an entry of a history does to the connection: an Open or a Close that is sent or received, a session that is begun or
--- gives its channel back, a route that is made or taken away.
+-- gives its channel back, a route that is made or taken away, a session that is forgotten.
 use Rattle.std.specs.Prelude.{ℕ, List, [], ◌∷◌, Option, Some, None, Bool, false, nat_eq}
 use Rattle.amqp_types.specs.Error.{ErrorSaid}
 use Rattle.amqp_types.specs.Open.{OpenSaid}
@@ -26,6 +26,8 @@ pub data Event : Type 0 where
   -- a session of this number was begun with these settings on this channel; it gave its channel back
   Began : ℕ → SettingsSaid → ℕ → Event
   Released : ℕ → Event
+  -- a session of this number was let go
+  Forgot : ℕ → Event
   -- a channel of the peer's leads to a session; it leads nowhere
   Routed : ℕ → ℕ → Event
   Unrouted : ℕ → Event
@@ -51,6 +53,7 @@ event_by input.Open received reached None frames = SentOpen
 event_by (input.Close error) received reached None frames = SentClose error
 event_by (input.Begin n settings) received reached None frames = Began n.0 settings (channel_of frames)
 event_by (input.Release n) received reached None frames = Released n.0
+event_by (input.Forget n) received reached None frames = Forgot n.0
 event_by i received reached refusal frames = Quiet
 
 abbrev pub event : {R : Type 0} → Entry R → Event

@@ -22,7 +22,7 @@ use Rattle.amqp_engine.specs.Waits.{sent}
 use Rattle.amqp_engine.specs.Calls.{NoCalls, Calls, request_calls, received_calls}
 use Rattle.amqp_engine.specs.Entry.{Entry}
 use Rattle.amqp_engine.specs.Event.{Event, SentOpen, SentClose, event}
-use Rattle.amqp_engine.specs.ByHistory.{of_session, begun, session_state, state_from, route, held}
+use Rattle.amqp_engine.specs.ByHistory.{of_session, begun, live, session_state, state_from, route, held}
 
 -- of each entry, with those before it
 abbrev pub Each : {R : Type 0} → List (Entry R) → (List (Entry R) → Entry R → Type 0) → Type 0
@@ -62,7 +62,7 @@ names (input.Settle n role first last) = Some n.0
 names (input.Stop n reason) = Some n.0
 names i = None
 
--- A request reaches the session that it names, where that was begun; else it is NoSession.
+-- A request reaches the session that it names, where that was begun and not forgotten; else it is NoSession.
 abbrev pub ReachesNamed : {R : Type 0} → Option session.Made → ℕ → Entry R → Type 0
 ReachesNamed None n e = (e.reached ≡ None) × (e.refusal ≡ Some no.NoSession)
 ReachesNamed (Some m) n e = (e.reached ≡ Some n) × ¬ (e.refusal ≡ Some no.NoSession)
@@ -71,7 +71,7 @@ ReachesNamed (Some m) n e = (e.reached ≡ Some n) × ¬ (e.refusal ≡ Some no.
 abbrev pub RequestsReach : {R : Type 0} → ConnectionState → List (Entry R) → Type 0
 RequestsReach s H =
     Each H (λ before e. (n : ℕ) → names e.input ≡ Some n → ¬ (e.refusal ≡ Some no.OutputWaiting) → ¬ (e.refusal ≡ Some no.OutOfMemory) →
-    ReachesNamed (begun s n before) n e)
+    ReachesNamed (live s n before) n e)
 
 -- A frame goes along the route of its channel, and to no other session; without a route it is NotFound.
 abbrev pub GoesAlong : {R : Type 0} → Option ℕ → Entry R → Type 0

@@ -32,6 +32,7 @@ pub record Taken {R : Type 0} (v w : EngineView R) : Type 0 where
   pub left : v.waiting ≡ gone ++ w.waiting
   pub connection_is : w.connection ≡ v.connection
   pub sessions_is : w.sessions ≡ v.sessions
+  pub forgotten_is : w.forgotten ≡ v.forgotten
   pub limit_is : w.limit ≡ v.limit
   pub outcomes_are : OutcomesTaken v w
 

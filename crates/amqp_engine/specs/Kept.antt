@@ -11,6 +11,8 @@ use Rattle.amqp_session.specs.declared.error.SessionStateError.{SessionStateErro
 use Rattle.amqp_session.specs.declared.error.SessionStateError.TheVariants as ended
 use Rattle.amqp_connection.specs.declared.error.ConnectionStateError.{ConnectionStateError}
 use Rattle.amqp_connection.specs.declared.error.ConnectionStateError.TheVariants as closed
+use Rattle.amqp_engine.specs.declared.engine.input.Input.{Input}
+use Rattle.amqp_engine.specs.declared.engine.input.Input.TheVariants as input
 use Rattle.amqp_engine.specs.declared.engine.step_error.StepError.{StepError}
 use Rattle.amqp_engine.specs.declared.engine.step_error.StepError.TheVariants as no
 
@@ -71,6 +73,15 @@ outcomes_with b reached refusal o = o
 abbrev pub outcomes_by : Option Frame → Option ℕ → Option StepError → Outcomes → Outcomes
 outcomes_by None reached refusal o = o
 outcomes_by (Some f) reached refusal o = outcomes_with f.body reached refusal o
+
+-- with a session that is forgotten its outcome goes
+abbrev pub outcomes_without : {R : Type 0} → Input R → Option StepError → Outcomes → Outcomes
+outcomes_without (input.Forget n) None o = record o { sessions = map.remove o.sessions n.0 }
+outcomes_without i refusal o = o
+
+-- what an entry leaves
+abbrev pub outcomes_after : {R : Type 0} → Input R → Option Frame → Option ℕ → Option StepError → Outcomes → Outcomes
+outcomes_after i received reached refusal o = outcomes_without i refusal (outcomes_by received reached refusal o)
 
 -- ---- wishes
 

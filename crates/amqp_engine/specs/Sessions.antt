@@ -3,7 +3,7 @@
 use Rattle.std.specs.Prelude.{◌≡◌, ◌⊎◌, ◌<◌, ◌^◌, ℕ, List, [], ◌∷◌, ◌++◌, map, Option, Some, None, Result, Ok, Err, IsSome, nat_eq, Bool}
 use Rattle.std.specs.Prelude.{true, false}
 use Rattle.std.specs.Map.{lookup, set_value}
-use Rattle.std.specs.FinMap.{get}
+use Rattle.std.specs.FinMap.{get, insert}
 use Rattle.amqp_types.specs.declared.states.SessionState.TheVariants as at
 use Rattle.amqp_session.specs.declared.frame.SessionFrame.{SessionFrame}
 use Rattle.amqp_session.specs.declared.error.SessionStateError.{SessionStateError}
@@ -20,7 +20,7 @@ use Rattle.amqp_session.specs.History as session
 use Rattle.amqp_connection.specs.declared.error.ConnectionInnerError.{ConnectionInnerError}
 use Rattle.amqp_engine.specs.declared.engine.step_error.StepError.{StepError}
 use Rattle.amqp_engine.specs.declared.engine.step_error.StepError.TheVariants as no
-use Rattle.amqp_connection.specs.Connection.{ConnectionView, AllocateStep, Holds, given_back, not_found, refusal_of}
+use Rattle.amqp_connection.specs.Connection.{ConnectionView, AllocateStep, Holds, IsRouted, given_back, not_found, refusal_of}
 use Rattle.amqp_engine.specs.EngineView.{EngineView}
 use Rattle.amqp_engine.specs.Waits.{sent, disposition_frame}
 use Rattle.amqp_engine.specs.Calls.{Calls, BeginCalls, SentEach}
@@ -128,6 +128,7 @@ pub record Begun {R : Type 0} (g : Relays R) (v : EngineView R) (n : ℕ) (setti
   pub after : SessionView R
   pub walk : WalkCount
   pub unknown : lookup (nat_eq n) v.sessions ≡ None
+  pub unused : get v.forgotten n ≡ None
   pub fits : settings.next_outgoing_id < 2 ^ 32
   pub allocated : AllocateStep v.connection n (Ok channel) connection
   pub asked : BeginCalls at.Unmapped calls None
@@ -152,16 +153,26 @@ Untouched reached calls = (reached ≡ None) × (calls ≡ [])
 abbrev pub Nothing : {R : Type 0} → EngineView R → Option ℕ → List (session.Entry R) → EngineView R → Type 0
 Nothing v reached calls w = Untouched reached calls × (w ≡ v)
 
+-- A number is used for one session: of those that are there, and of those that were forgotten.
+abbrev pub IsUsed : {R : Type 0} → EngineView R → ℕ → Type 0
+IsUsed v n = IsSome (lookup (nat_eq n) v.sessions) ⊎ IsSome (get v.forgotten n)
+
+abbrev pub IsFresh : {R : Type 0} → EngineView R → ℕ → Type 0
+IsFresh v n = (lookup (nat_eq n) v.sessions ≡ None) × (get v.forgotten n ≡ None)
+
+abbrev pub Used : {R : Type 0} → EngineView R → ℕ → Bool → Type 0
+Used v n true = IsUsed v n
+Used v n false = IsFresh v n
+
 abbrev pub BeginRequest : {R : Type 0} → Relays R → EngineView R → ℕ → SettingsSaid → Option ℕ → List (session.Entry R) →
     Option StepError → EngineView R → Type 0
 BeginRequest g v n settings reached calls None w = (reached ≡ Some n) × Begun g v n settings calls w
-BeginRequest g v n settings reached calls (Some no.SessionInUse) w = Nothing v reached calls w × IsSome (lookup (nat_eq n) v.sessions)
+BeginRequest g v n settings reached calls (Some no.SessionInUse) w = Nothing v reached calls w × IsUsed v n
 BeginRequest g v n settings reached calls (Some (no.AllocSession e)) w =
-    Nothing v reached calls w × (lookup (nat_eq n) v.sessions ≡ None) × AllocateStep v.connection n (Err e) v.connection
+    Nothing v reached calls w × IsFresh v n × AllocateStep v.connection n (Err e) v.connection
 BeginRequest g v n settings reached calls (Some (no.SessionState unbegun.OutOfMemory)) w =
-    Nothing v reached calls w × (lookup (nat_eq n) v.sessions ≡ None)
-    × ((c : ℕ) × (k : ConnectionView) × AllocateStep v.connection n (Ok c) k)
-BeginRequest g v n settings reached calls (Some no.OutOfMemory) w = Nothing v reached calls w × (lookup (nat_eq n) v.sessions ≡ None)
+    Nothing v reached calls w × IsFresh v n × ((c : ℕ) × (k : ConnectionView) × AllocateStep v.connection n (Ok c) k)
+BeginRequest g v n settings reached calls (Some no.OutOfMemory) w = Nothing v reached calls w × IsFresh v n
 BeginRequest g v n settings reached calls (Some e) w = ⊥
 
 -- The channel of session n is given back, where it still holds it. Its route stays, and so does the session.
@@ -173,3 +184,42 @@ ReleaseRequest v n reached calls (Some no.NoSession) w = Nothing v reached calls
 ReleaseRequest v n reached calls (Some (no.Connection e)) w = Nothing v reached calls w × (e ≡ not_found)
     × ((s : SessionView _) × (lookup (nat_eq n) v.sessions ≡ Some s) × ¬ (Holds v.connection s.outgoing_channel n))
 ReleaseRequest v n reached calls (Some e) w = ⊥
+
+-- ---- a session is let go
+
+-- A session is over: both Ends were exchanged, no handle's wish for it is noted, it has given its channel back, and no channel of the
+-- peer's leads to it.
+pub record IsOver {R : Type 0} (v : EngineView R) (n : ℕ) (s : SessionView R) : Type 0 where
+  pub ended : s.state ≡ at.Unmapped
+  pub unwished : get v.wishes.ends n ≡ None
+  pub gave_back : ¬ (Holds v.connection s.outgoing_channel n)
+  pub unrouted : IsRouted v.connection n false
+
+-- what stood under the number is gone, and all else is there as before
+pub record Without {X : Type 0} (n : ℕ) (old new : List (ℕ × X)) : Type 0 where
+  pub gone : lookup (nat_eq n) new ≡ None
+  pub others : (k : ℕ) → nat_eq n k ≡ false → lookup (nat_eq k) new ≡ lookup (nat_eq k) old
+
+-- Session n goes with all that it holds, and its number is used up.
+pub record LetsGo {R : Type 0} (v : EngineView R) (n : ℕ) (w : EngineView R) : Type 0 where
+  pub sessions : Without n v.sessions w.sessions
+  pub walks : Without n v.walks w.walks
+  pub put : w ≡ record v { sessions = w.sessions; walks = w.walks; forgotten = insert v.forgotten n true }
+
+abbrev pub IsIn : {R : Type 0} → EngineView R → ℕ → (SessionView R → Type 0) → Type 0
+IsIn v n P = (s : SessionView _) × (lookup (nat_eq n) v.sessions ≡ Some s) × P s
+
+-- Whether session n is over, or why it is not: no session has the number; it has not ended, or its End is wished; it holds its channel, or
+-- frames can reach it.
+abbrev pub Over : {R : Type 0} → EngineView R → ℕ → Option StepError → Type 0
+Over v n None = IsIn v n (IsOver v n)
+Over v n (Some no.NoSession) = lookup (nat_eq n) v.sessions ≡ None
+Over v n (Some (no.SessionState e)) = (e ≡ unbegun.IllegalState) × IsIn v n (λ s. ¬ (s.state ≡ at.Unmapped) ⊎ IsSome (get v.wishes.ends n))
+Over v n (Some no.SessionInUse) = IsIn v n (λ s. Holds v.connection s.outgoing_channel n ⊎ IsRouted v.connection n true)
+Over v n (Some e) = ⊥
+
+-- A session that is over is let go. Memory may be refused for its number.
+abbrev pub ForgetRequest : {R : Type 0} → EngineView R → ℕ → Option ℕ → List (session.Entry R) → Option StepError → EngineView R → Type 0
+ForgetRequest v n reached calls None w = Untouched reached calls × Over v n None × LetsGo v n w
+ForgetRequest v n reached calls (Some no.OutOfMemory) w = Nothing v reached calls w × Over v n None
+ForgetRequest v n reached calls (Some e) w = Nothing v reached calls w × Over v n (Some e)

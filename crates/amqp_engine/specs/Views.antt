@@ -1,5 +1,5 @@
 -- What contracts see of an engine is what its history gives.
-use Rattle.std.specs.Prelude.{ℕ, ◌≡◌, List, [], ◌∷◌, ◌++◌, Some, None, nat_eq}
+use Rattle.std.specs.Prelude.{ℕ, ◌≡◌, List, [], ◌∷◌, ◌++◌, Some, None, is_some, nat_eq}
 use Rattle.std.specs.Map.{lookup}
 use Rattle.std.specs.FinMap as map
 use Rattle.amqp_types.specs.declared.states.ConnectionState.{ConnectionState}
@@ -9,17 +9,18 @@ use Rattle.amqp_session.specs.Session.{SessionView}
 use Rattle.amqp_session.specs.History as session
 use Rattle.amqp_session.specs.Headline as single
 use Rattle.amqp_session.specs.Relay.{Relays}
-use Rattle.amqp_engine.specs.Kept.{Outcomes, outcomes_by}
+use Rattle.amqp_engine.specs.Kept.{Outcomes, outcomes_after}
 use Rattle.amqp_engine.specs.EngineView.{EngineView, own_limit}
 use Rattle.amqp_engine.specs.Entry.{Entry}
 use Rattle.amqp_engine.specs.Legal.{Legal}
-use Rattle.amqp_engine.specs.ByHistory.{of_session, begun, state_from, stop_reason, channel_max, limit_after, route, held, last_frames}
+use Rattle.amqp_engine.specs.ByHistory.{of_session, live, is_forgotten, state_from, stop_reason, channel_max, limit_after, route, held, last_frames}
 
 pub record Stands {R : Type 0} (s : ConnectionState) (o : OpenSaid) (H : List (Entry R)) (v : EngineView R) : Type 0 where
-  -- each session that was begun, and no other
-  pub sessions_are : (n : ℕ) (m : session.Made) → begun s n H ≡ Some m →
+  -- each session that was begun and not forgotten, and no other
+  pub sessions_are : (n : ℕ) (m : session.Made) → live s n H ≡ Some m →
       (t : SessionView R) × (lookup (nat_eq n) v.sessions ≡ Some t) × single.Stands m (of_session n H) t
-  pub no_other : (n : ℕ) → begun s n H ≡ None → lookup (nat_eq n) v.sessions ≡ None
+  pub no_other : (n : ℕ) → live s n H ≡ None → lookup (nat_eq n) v.sessions ≡ None
+  pub forgotten_are : (n : ℕ) → is_some (map.get v.forgotten n) ≡ is_forgotten n H
   -- the connection
   pub state_is : v.connection.state ≡ state_from s H
   pub stop_reason_is : v.connection.stop_reason ≡ stop_reason s H
@@ -35,7 +36,7 @@ pub record Stands {R : Type 0} (s : ConnectionState) (o : OpenSaid) (H : List (E
 -- the outcomes that entries leave
 abbrev pub outcomes_from : {R : Type 0} → Outcomes → List (Entry R) → Outcomes
 outcomes_from o [] = o
-outcomes_from o (e ∷ es) = outcomes_from (outcomes_by e.received e.reached e.refusal o) es
+outcomes_from o (e ∷ es) = outcomes_from (outcomes_after e.input e.received e.reached e.refusal o) es
 
 -- Whatever legal history led to the view after, the view is what it gives. And the outcomes are those that the entries left: no
 -- handle takes one meanwhile.

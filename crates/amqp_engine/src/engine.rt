@@ -9,6 +9,7 @@ ghost use Rattle.amqp_engine.specs.Legal.{Legal};
 ghost use Rattle.amqp_connection.specs.Connection.{refusal_of};
 
 pub mod answer;
+mod forgetting;
 mod handling;
 pub mod input;
 pub(crate) mod kept;
@@ -24,6 +25,7 @@ mod waiting;
 use crate::laws::law_of_histories;
 use amqp_connection::{Connection, SessionNo};
 use amqp_frames::{FrameDecoder, FrameEncoder, Heads};
+use amqp_numbers::NumberSet;
 use amqp_session::{KeyHash, LinkRelay, Session};
 use amqp_types::{ConnectionState, Open};
 pub use answer::{Answer, OutputError, Stopped};
@@ -44,6 +46,8 @@ pub struct Engine<R> {
     hash: KeyHash,
     connection: Connection,
     sessions: IndexMap<u32, Session<R>>,
+    /// The numbers of the sessions that were forgotten.
+    forgotten: NumberSet,
     decoder: FrameDecoder,
     encoder: FrameEncoder,
     heads: Heads,
@@ -67,6 +71,7 @@ impl<R> Model for Engine<R> {
       connection = e.connection;
       sessions = views_of e.sessions.entries;
       walks = walks_of e.sessions.entries;
+      forgotten = e.forgotten;
       limit = e.encoder;
       waiting = e.waiting;
       outcomes = e.kept.outcomes;
@@ -113,6 +118,7 @@ impl<R: LinkRelay> Engine<R> {
             decoder: FrameDecoder::new(),
             connection: Connection::keyed(alloc, hash, state, local_open),
             sessions: IndexMap::new(alloc),
+            forgotten: NumberSet::new(alloc),
             waiting: Waiting::none(),
             kept: Kept::new(alloc),
         }
@@ -125,7 +131,7 @@ impl<R: LinkRelay> Engine<R> {
         &self.connection
     }
 
-    /// The session with this number, if it was begun. It stays, also when it has ended.
+    /// The session with this number, if it was begun and not forgotten. It stays, also when it has ended.
     pub fn session(&self, number: SessionNo) -> Option<&Session<R>>
         ensures found { IfSome result (λ s. lookup (nat_eq number.0) self.now.sessions ≡ Some s.now.view) }
         ensures walk { IfSome result (λ s. lookup (nat_eq number.0) self.now.walks ≡ Some s.now.last_walk) }
@@ -145,8 +151,8 @@ impl<R: LinkRelay> Engine<R> {
     ///
     /// Nothing changes where the refusal is `OutputWaiting` (frames still wait), `Frame` (the received bytes are no frame, or
     /// memory for its fields is refused), `NoSession`, `SessionInUse`, `AllocSession`, or `OutOfMemory`. That comes of a `Begin`
-    /// where the engine has no room for one more session, and of a received Close or End with an error, of which the engine
-    /// keeps a copy for handles. Every other refusal is that of the connection or of the session.
+    /// where the engine has no room for one more session, of a `Forget` where it has none for the number, and of a received Close or
+    /// End with an error, of which the engine keeps a copy for handles. Every other refusal is that of the connection or of the session.
     pub fn step(&mut self, input: Input<R>) -> Result<(), StepError>
         ensures { Stepped R.gives self.old input (refusal_of result) self.new }
     {

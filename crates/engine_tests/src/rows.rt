@@ -30,6 +30,10 @@ pub enum Ask {
     BeginWith(u32),
     /// The request of a session's End, without an error.
     End(u32),
+    /// That a session gives its channel back.
+    Release(u32),
+    /// That a session is let go.
+    Forget(u32),
     /// That a session stopped for this reason.
     Stop(u32, SessionStopReason),
     /// The request of a first transfer of session 0, of this tag and payload.
@@ -180,6 +184,8 @@ fn input<R: LinkRelay>(ask: Ask) -> Input<R> {
         Ask::Begin(number) => Input::Begin(SessionNo(number), SessionSettings::new()),
         Ask::BeginWith(window) => begin_with(window),
         Ask::End(number) => Input::End(SessionNo(number), None),
+        Ask::Release(number) => Input::Release(SessionNo(number)),
+        Ask::Forget(number) => Input::Forget(SessionNo(number)),
         Ask::Stop(number, reason) => Input::Stop(SessionNo(number), reason),
         Ask::Settle(number, first, last) => {
             Input::Settle(SessionNo(number), Role::Sender, first, last)

@@ -44,6 +44,22 @@ const ENDED: &[Row] = &[
     Row::Numbers(0, (1, 1, 1)),
 ];
 
+/// The session is let go behind both Ends, once its channel was given back: nothing of it is left but its number.
+const FORGOTTEN: &[Row] = &[
+    Row::Asked(Ask::Forget(0), "IllegalState"),
+    Row::Asked(Ask::Receive("0200000500531745"), "done"),
+    Row::State(0, Some(SessionState::Unmapped)),
+    Row::Asked(Ask::Forget(0), "SessionInUse"),
+    Row::Asked(Ask::Release(0), "done"),
+    Row::Asked(Ask::Forget(0), "done"),
+    Row::Silence,
+    Row::State(0, None),
+    Row::Asked(Ask::Forget(0), "NoSession"),
+    Row::Asked(Ask::Begin(0), "SessionInUse"),
+    Row::Begins(1),
+    Row::State(1, Some(SessionState::BeginSent)),
+];
+
 #[test]
 fn a_begin_goes_out(rt: HostRuntime) {
     assert_eq!(rt; first_wrong_opened(rt.alloc(), &[BEGUN]), None);
@@ -57,4 +73,9 @@ fn a_transfer_waits_for_the_window(rt: HostRuntime) {
 #[test]
 fn an_end_is_recorded(rt: HostRuntime) {
     assert_eq!(rt; first_wrong_opened(rt.alloc(), &[FULL, ENDED]), None);
+}
+
+#[test]
+fn a_session_that_is_over_is_forgotten(rt: HostRuntime) {
+    assert_eq!(rt; first_wrong_opened(rt.alloc(), &[FULL, ENDED, FORGOTTEN]), None);
 }

@@ -29,7 +29,8 @@ const FAILED: u8 = 3;
 /// The engine is in `HeaderExchange`; its Open has the container-id `replay`, the max-frame-size 262144, the channel-max
 /// 255 and nothing else. A line ends at a line feed. An empty line is skipped; `recv HEX` is a received frame without its
 /// size, with digits in either case; `open` and `close` ask for this side's Open and Close. `begin N` begins session N, with
-/// default settings; `end N` ends it without an error; `release N` gives its channel back. `link N NAME` allots an output
+/// default settings; `end N` ends it without an error; `release N` gives its channel back, and `forget N` lets it
+/// go once it is over. `link N NAME` allots an output
 /// handle of session N for a link of that name, which is the rest of the line, with a [`ReplayRelay`] that waits for the
 /// peer's attach. `send N HEX` has session N send one performative with what follows it: an Attach, a Flow that names a link,
 /// a Transfer, a Disposition, or a Detach that the peer is to answer. A transfer's input handle has the number of its handle,

@@ -33,6 +33,7 @@ fn of_session(alloc: Global, word: &str, rest: &str) -> Result<Option<ScriptInpu
         "begin" => Ok(begin(number, rest)),
         "end" => Ok(Some(Input::End(number, None))),
         "release" => Ok(Some(Input::Release(number))),
+        "forget" => Ok(Some(Input::Forget(number))),
         "link" => link(alloc, number, rest),
         "link-incoming" => incoming_link(alloc, number, rest),
         "send" => sent(alloc, number, rest, true),

@@ -3,7 +3,7 @@
 //! | Line | What is done |
 //! |---|---|
 //! | `# TEXT` | a script begins, with a new engine, and the line is repeated |
-//! | `open`, `close`, `begin N`, `end N`, `release N` | the request of that name |
+//! | `open`, `close`, `begin N`, `end N`, `release N`, `forget N` | the request of that name |
 //! | `begin N WINDOW` | the same, with that incoming window |
 //! | `link N NAME`, `link-incoming N HANDLE NAME` | `AllocateLink`, `AllocateIncomingLink` |
 //! | `send N HEX` | one performative of a link: a detach is one that the peer is to answer |

@@ -48,6 +48,17 @@ pub enum Input<R> {
     /// The session's channel is given back, for another session. Callers do so after the exchange of End: frames of the
     /// session would still carry the channel.
     Release(SessionNo),
+    /// The session is let go, with its links and their relays, its open deliveries, the transfers that it holds back, and what is kept
+    /// of it for handles. It has to be over (AMQP 1.0 part 2, section 2.5.5): its End was sent and the peer's came, it has given its
+    /// channel back (`Release`), and no channel of the peer's leads to it. No frame goes out, and no relay is asked.
+    ///
+    /// From then on the engine is as if it had never had the session, but for its number, which stays used: `Begin` with it is
+    /// `SessionInUse`, and every other request `NoSession`. Numbers that are used in order take one place together, however many they are.
+    ///
+    /// `NoSession` where no session has the number. `SessionState(IllegalState)` where it is not in `Unmapped`, or where a handle's wish
+    /// to end it is noted. `SessionInUse` where it holds its channel, or a channel of the peer's leads to it. `OutOfMemory` where memory
+    /// is refused for the number. Nothing changes then.
+    Forget(SessionNo),
     /// Why the session stopped is recorded, where no reason is recorded yet.
     Stop(SessionNo, SessionStopReason),
 }

@@ -210,6 +210,23 @@ impl Kept {
         drop(self.places.insert(number, place).unwrap());
     }
 
+    /// The session's place goes, with its outcome.
+    pub(crate) fn forget(&mut self, number: u32)
+        requires unwished { map.get self.old.wishes.ends number ≡ None }
+        ensures outcomes { self.new.outcomes ≡ record self.old.outcomes { sessions = map.remove self.old.outcomes.sessions number } }
+        ensures wishes { self.new.wishes ≡ self.old.wishes }
+        ensures places { self.new.places ≡ map.remove self.old.places number }
+    {
+        drop(self.places.swap_remove(&number));
+    }
+
+    /// Whether an End of this session is noted.
+    pub(crate) fn is_wished(&self, number: u32) -> bool
+        ensures { result ≡ is_some (map.get self.now.wishes.ends number) }
+    {
+        is_noted(&self.places, number)
+    }
+
     /// Keeps how the peer's Close was answered. The last answer stays.
     pub(crate) fn keep_close(&mut self, answer: Option<CloseOutcome>)
         ensures outcomes { self.new.outcomes ≡ close_kept answer self.old.outcomes }

@@ -94,6 +94,7 @@ impl<R: LinkRelay> Engine<R> {
                 number, role, first, last,
             ),
             Input::Release(number) => self.request_release(number.0),
+            Input::Forget(number) => self.request_forget(number),
             Input::Stop(number, reason) => self.request_stop(number, reason),
         }
     }
@@ -282,7 +283,7 @@ impl<R: LinkRelay> Engine<R> {
         ensures { (reached : Option ℕ) × (calls : List (session.Entry R))
             × BeginRequest R.gives self.old number settings reached calls (refusal_of result) self.new }
     {
-        if self.sessions.contains_key(&number) {
+        if self.is_used(number) {
             drop(settings);
             return Err(StepError::SessionInUse);
         }

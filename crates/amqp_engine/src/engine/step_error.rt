@@ -35,10 +35,11 @@ pub enum StepError {
     /// No session has this number. Nothing has changed.
     #[error("no session")]
     NoSession,
-    /// A session of this number is there. Nothing has changed.
+    /// A session of this number is there or was forgotten (`Begin`); or it holds a channel, or frames can still reach it (`Forget`).
+    /// Nothing has changed.
     #[error("session in use")]
     SessionInUse,
-    /// Room of the engine's own was refused: for a new session (`Begin`), or for the copy of the error of a received Close or End, which
+    /// Room of the engine's own was refused: for a new session (`Begin`), for a number that stays used (`Forget`), or for the copy of the error of a received Close or End, which
     /// is kept for handles. Nothing has changed, and what the input held is dropped.
     #[error("out of memory")]
     OutOfMemory,

@@ -68,6 +68,7 @@ fn of_session(word: &str, number: SessionNo) -> Asked {
         "begin" => Asked::Input(Input::Begin(number, SessionSettings::new())),
         "end" => Asked::Input(Input::End(number, None)),
         "release" => Asked::Input(Input::Release(number)),
+        "forget" => Asked::Input(Input::Forget(number)),
         _ => Asked::Unreadable,
     }
 }

@@ -47,3 +47,6 @@ returns-in-Begin g c =
 pub returns-in-Release : goal.returns-in-Release
 returns-in-Release g c =
     let b = c.request_release.ensures in rw c.in-Release.is (None, b.0, b.1, c.request_release.new.self, (refl, b.2), refl)
+
+pub returns-in-Forget : goal.returns-in-Forget
+returns-in-Forget g c = rw c.in-Forget.is c.request_forget.ensures

@@ -6,7 +6,7 @@ use Rattle.amqp_engine.proofs.Running.{legal_new}
 use Rattle.amqp_engine.proofs.engine.Engine.keyed.Goals as goal
 
 pub invariant_of-result : goal.invariant_of-result
-invariant_of-result g c = λ n. ap (λ es. is_some (lookup (nat_eq n) es)) c.new-4.ensures.empty ∙ ap is_some (sym (ap (λ m. map.get m n) c.new-5.ensures.places ∙ map.get-empty nat_cmp n))
+invariant_of-result g c = λ n. ap (λ es. is_some (lookup (nat_eq n) es)) c.new-4.ensures.empty ∙ ap is_some (sym (ap (λ m. map.get m n) c.new-6.ensures.places ∙ map.get-empty nat_cmp n))
 
 pub returns-clause-legal : goal.returns-clause-legal
 returns-clause-legal g c = legal_new g.R.LinkRelay.gives c.args.state c.args.local_open _ (search rules)

@@ -21,8 +21,8 @@ returns g c =
       [],
       (
         (refl, refl),
-        subst (λ (v : EngineView _). ReceivedOpen v c.in_ok-open.«open» None (record { connection = c.on_incoming_open.new.self; sessions = views_of c.self.inside.sessions.entries; walks = walks_of c.self.inside.sessions.entries; limit = c.new-self-inside.result; waiting = c.self.inside.waiting; outcomes = c.self.inside.kept.outcomes; wishes = c.self.inside.kept.wishes })) c.self.view_is
-            (c.on_incoming_open.new.self, c.in_ok-on_incoming_open.ensures, ap (λ (n : ℕ). record { connection = c.on_incoming_open.new.self; sessions = views_of c.self.inside.sessions.entries; walks = walks_of c.self.inside.sessions.entries; limit = n; waiting = c.self.inside.waiting; outcomes = c.self.inside.kept.outcomes; wishes = c.self.inside.kept.wishes }) limit_is),
+        subst (λ (v : EngineView _). ReceivedOpen v c.in_ok-open.«open» None (record { connection = c.on_incoming_open.new.self; sessions = views_of c.self.inside.sessions.entries; walks = walks_of c.self.inside.sessions.entries; forgotten = c.self.inside.forgotten; limit = c.new-self-inside.result; waiting = c.self.inside.waiting; outcomes = c.self.inside.kept.outcomes; wishes = c.self.inside.kept.wishes })) c.self.view_is
+            (c.on_incoming_open.new.self, c.in_ok-on_incoming_open.ensures, ap (λ (n : ℕ). record { connection = c.on_incoming_open.new.self; sessions = views_of c.self.inside.sessions.entries; walks = walks_of c.self.inside.sessions.entries; forgotten = c.self.inside.forgotten; limit = n; waiting = c.self.inside.waiting; outcomes = c.self.inside.kept.outcomes; wishes = c.self.inside.kept.wishes }) limit_is),
       ),
     )
 
@@ -35,7 +35,7 @@ returns-in_err-on_incoming_open g c =
       [],
       (
         (refl, refl),
-        subst (λ (v : EngineView _). ReceivedOpen v c.in_ok-open.«open» (Some (ConnectionState c.in_err-on_incoming_open.field-0.0)) (record { connection = c.on_incoming_open.new.self; sessions = views_of c.self.inside.sessions.entries; walks = walks_of c.self.inside.sessions.entries; limit = c.self.inside.encoder; waiting = c.self.inside.waiting; outcomes = c.self.inside.kept.outcomes; wishes = c.self.inside.kept.wishes })) c.self.view_is
+        subst (λ (v : EngineView _). ReceivedOpen v c.in_ok-open.«open» (Some (ConnectionState c.in_err-on_incoming_open.field-0.0)) (record { connection = c.on_incoming_open.new.self; sessions = views_of c.self.inside.sessions.entries; walks = walks_of c.self.inside.sessions.entries; forgotten = c.self.inside.forgotten; limit = c.self.inside.encoder; waiting = c.self.inside.waiting; outcomes = c.self.inside.kept.outcomes; wishes = c.self.inside.kept.wishes })) c.self.view_is
             (c.on_incoming_open.new.self, c.in_err-on_incoming_open.ensures, refl),
       ),
     ))

@@ -12,4 +12,4 @@ returns g c = rw (← c.self.view_is) (c.in_ok-frame.frame, c.send_open.new.self
 pub returns-in_err-frame : goal.returns-in_err-frame
 returns-in_err-frame g c =
     let told : refusal_of c.from_residual.result ≡ Some (ConnectionState c.in_err-frame.field-0.0) = search rules in
-    rw told (subst (λ (v : EngineView _). OpenRequest v (Some (ConnectionState c.in_err-frame.field-0.0)) (record { connection = c.send_open.new.self; sessions = views_of c.self.inside.sessions.entries; walks = walks_of c.self.inside.sessions.entries; limit = c.self.inside.encoder; waiting = c.self.inside.waiting; outcomes = c.self.inside.kept.outcomes; wishes = c.self.inside.kept.wishes })) c.self.view_is (c.send_open.new.self, c.in_err-frame.ensures, refl))
+    rw told (subst (λ (v : EngineView _). OpenRequest v (Some (ConnectionState c.in_err-frame.field-0.0)) (record { connection = c.send_open.new.self; sessions = views_of c.self.inside.sessions.entries; walks = walks_of c.self.inside.sessions.entries; forgotten = c.self.inside.forgotten; limit = c.self.inside.encoder; waiting = c.self.inside.waiting; outcomes = c.self.inside.kept.outcomes; wishes = c.self.inside.kept.wishes })) c.self.view_is (c.send_open.new.self, c.in_err-frame.ensures, refl))

@@ -1,5 +1,7 @@
 use Rattle.std.proofs.Common.{None, [], refl, sym, ◌∙◌, inl, inr}
 use Rattle.amqp_engine.proofs.Engines.{idle, busy}
+use Rattle.amqp_engine.specs.declared.engine.step_error.StepError.TheVariants.{OutputWaiting}
+use Rattle.amqp_engine.proofs.Refusing.{not_left}
 use Rattle.amqp_engine.proofs.Running.{stepped}
 use Rattle.amqp_engine.proofs.engine.Engine.step.Goals as goal
 
@@ -24,5 +26,5 @@ returns-then-has_output g c = stepped g.R.LinkRelay.gives c.law_of_histories.ens
   frames = [];
   done = c.args.self.now;
   step = inl (busy _ (sym c.has_output.ensures ∙ c.if-has_output.true), refl, refl, ((refl, refl), refl), refl);
-  keeps = refl;
+  keeps = sym (not_left c.args.input OutputWaiting c.args.self.now);
 })
