@@ -7,8 +7,8 @@ from pathlib import Path
 
 
 def command(main, doc):
-    """Runs the tool; `--help` prints the doc. What the system refuses is a line on standard error, and status 1."""
-    if {"-h", "--help"} & set(sys.argv[1:]):
+    """Runs the tool; `--help` as the first word prints the doc. What the system refuses is a line on standard error, and status 1."""
+    if sys.argv[1:2] in (["-h"], ["--help"]):
         print(doc.strip())
         return
     try:
@@ -22,6 +22,8 @@ def command(main, doc):
         told(f"{error.filename}: {error.strerror}" if error.filename else str(error))
     except subprocess.CalledProcessError as error:
         told(f"{' '.join(map(str, error.cmd))}: status {error.returncode}")
+    except subprocess.TimeoutExpired as error:
+        told(f"{' '.join(map(str, error.cmd))}: no end within {error.timeout:.0f} seconds")
     except UnicodeDecodeError as error:
         told(f"a file is not text: {error.reason}")
     except KeyboardInterrupt:
