@@ -112,6 +112,13 @@ def pipelined():
     return [opened()[0], *sent, opened()[1], begin("B", 0, 0), frame("B", 0, END), frame("B", 0, CLOSE)]
 
 
+def begun_too_early():
+    """The client begins a session before its Open: the engine has no such session, and refuses what is asked of it."""
+    early = [begin("A", 0), *opened(), begin("B", 0, 0), attach("A", 0, "link", 0, RECEIVER), frame("A", 0, END), frame("A", 0, CLOSE)]
+    refused = ["frame 1, A, Begin (begin): ConnectionNotOpened", "frame 4, B, Begin: NotFound", "frame 5, A, Attach (link): NoSession"]
+    return early, [*refused, "frame 5, A, Attach: NoSession", "frame 6, A, End (end): NoSession"]
+
+
 def cases():
     """Each connection's name and frames, the side whose place the engine takes, and what it refuses."""
     again = channel_again()
@@ -121,5 +128,6 @@ def cases():
         lives = many_lives(seed)
         yield f"many_lives {seed}", lives, "A", []
         yield f"many_lives {seed}", lives, "B", peer_ends(lives)
+    yield "begun_too_early", begun_too_early()[0], "A", begun_too_early()[1]
     yield "in_flight", in_flight(), "A", FLIGHT_A
     yield "pipelined", pipelined(), "A", [f"frame 8, B, End: IllegalState {FLEW}"]

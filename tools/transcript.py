@@ -28,7 +28,8 @@ from command import command, told
 from frames import ATTACH, BEGIN, CLOSE, DETACH, DISPOSITION, END, FLOW, NAMES, NULL, OPEN, TRANSFER, Frame, Malformed, flag, integer, text
 from in_flight import OF_LAWFUL, InFlight
 
-MARK, MARKED = "release 4294967295", "err NoSession"
+# Two lines that are always refused, and change nothing: no line of a transcript is answered so
+MARK, MARKED = "release 4294967295\nrecv \n", "err NoSession\nerr DecodeError\n"
 # Refusals that are no breach
 PEER_ENDED, IN_FLIGHT = "the peer ended", "in flight behind this side's Close"
 
@@ -236,7 +237,8 @@ class Transcript:
 
     def link(self, at, session, name):
         session.links[name] = session.handles.give()
-        self.said(at, f"link {session.number} {name}")
+        # no line can have a name with a line feed: one without a name is refused as a bad line
+        self.said(at, f"link {session.number} {'' if chr(10) in name else name}")
 
     def request(self, at, frame):
         if frame.code == OPEN:
@@ -314,13 +316,13 @@ def answers(lines, program):
     unread = {}
     while True:
         left = [(place, line) for place, (_, line) in enumerate(lines) if place not in unread]
-        given = "".join(f"{line}\n{MARK}\n" for _, line in left)
+        given = "".join(f"{line}\n{MARK}" for _, line in left)
         ran = subprocess.run([program], input=given, stdout=subprocess.PIPE, stderr=subprocess.PIPE, text=True, errors="replace")
         bad = re.match(r"bad line (\d+)", ran.stderr)
         if bad:
-            unread[left[(int(bad[1]) - 1) // 2][0]] = ["bad line"]
+            unread[left[(int(bad[1]) - 1) // 3][0]] = ["bad line"]
             continue
-        said = ran.stdout.split(MARKED + "\n")
+        said = ran.stdout.split(MARKED)
         if ran.returncode or len(said) != len(left) + 1:
             told(f"{program}: it ended with status {ran.returncode}, behind {len(said) - 1} of {len(left)} lines")
         names = {place: re.findall(r"^err (.*)$", it, re.M) for (place, _), it in zip(left, said)}
