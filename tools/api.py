@@ -2,10 +2,12 @@
 """Writes an API reference of the library crates, from their sources: static pages, to be opened in a browser.
 
     tools/api.py OUT
+    tools/api.py --check   writes nothing: the last line is 'N passed, M failed', a test for each file of a crate, and for each page
 
 OUT is a folder, which is made where it is missing; OUT/index.html has a box to search in. Each crate has a page with its public items: doc,
 signature, and contract as it is written; and a page with its definitions (specs/*.antt), to which the names in contracts lead. The pages need no
-network. The last line counts them, and the links that lead nowhere; the status is 1 where there are any.
+network. The last line counts them, and the links that lead nowhere; the status is 1 where there are any. A check is that each clause of a file
+was read, and that each link of a page leads somewhere.
 """
 
 import re
@@ -316,15 +318,32 @@ def dead(pages):
     return found
 
 
-def main():
-    if len(sys.argv) != 2 or sys.argv[1].startswith("-"):
-        sys.exit(__doc__.strip())
-    names = Names(libraries(ROOT))
-    pages = {}
+def made():
+    """The crates, the pages by the names of their files, and how many names can be searched."""
+    names, pages = Names(libraries(ROOT)), {}
     for name, crate in names.crates.items():
         pages[f"{name}.html"] = CratePage(names, crate).html()
         pages[f"{name}.specs.html"] = specs_page(names, crate)
     pages["index.html"], count = index(names)
+    return names.crates, pages, count
+
+
+def check():
+    crates, pages, _ = made()
+    unread = [f"{name}::{'::'.join(file.module)}: not each clause was read" for name, it in crates.items() for file in it.unread()]
+    lost = dead(pages)
+    print("".join(f"{it}\n" for it in [*unread, *lost]), end="")
+    tests, failed = sum(len(it.files) for it in crates.values()) + len(pages), len(unread) + len({it.split(":")[0] for it in lost})
+    print(f"{tests - failed} passed, {failed} failed")
+    sys.exit(bool(failed))
+
+
+def main():
+    if sys.argv[1:] == ["--check"]:
+        check()
+    if len(sys.argv) != 2 or sys.argv[1].startswith("-"):
+        sys.exit(__doc__.strip())
+    _, pages, count = made()
     out = Path(sys.argv[1])
     out.mkdir(parents=True, exist_ok=True)
     for name, text in pages.items():

@@ -174,6 +174,11 @@ class File:
             at = stop + 1
 
 
+def clauses(items):
+    """How many clauses these items have, and those within them."""
+    return sum(len(it.clauses) + clauses(it.inner) for it in items)
+
+
 class Crate:
     """A crate: its files by module, and its public items."""
 
@@ -225,6 +230,10 @@ class Crate:
             self.hand_on(inner, last, path)
         elif (*module, last) in self.files:
             self.show((*module, last), (*path, name))
+
+    def unread(self):
+        """The files of which not every clause was read."""
+        return [file for file in self.files.values() if len(re.findall(r"^\s*(?:requires|ensures)\b", file.code, re.M)) != clauses(file.items)]
 
     def impls(self, name):
         """The impls of a type: those without a trait first, and of these the ones beside the type."""
