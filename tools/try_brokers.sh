@@ -43,12 +43,15 @@ proton() {
 
 rabbitmq() {
     install rabbitmq-server || return 1
-    local port home=$folder/rabbitmq
-    port=$(free_port)
+    local port names home=$folder/rabbitmq
+    port=$(free_port) names=$(free_port)
+    # Erlang's server of names, which RabbitMQ would start by itself and leave behind
+    epmd -port "$names" -address 127.0.0.1 &
+    running+=($!)
     mkdir -p "$home/log"
     printf '%s\n' "listeners.tcp.1 = 127.0.0.1:$port" 'default_user = guest' 'default_pass = guest' >"$home/rabbitmq.conf"
     echo '[rabbitmq_amqp1_0].' >"$home/enabled_plugins"
-    HOME=$home ERL_EPMD_PORT=$(free_port) ERL_EPMD_ADDRESS=127.0.0.1 RABBITMQ_NODENAME=bridge@localhost RABBITMQ_DIST_PORT=$(free_port) \
+    HOME=$home ERL_EPMD_PORT=$names ERL_EPMD_ADDRESS=127.0.0.1 RABBITMQ_NODENAME=bridge@localhost RABBITMQ_DIST_PORT=$(free_port) \
         RABBITMQ_MNESIA_BASE=$home/mnesia RABBITMQ_LOG_BASE=$home/log RABBITMQ_CONFIG_FILE=$home/rabbitmq.conf \
         RABBITMQ_ENABLED_PLUGINS_FILE=$home/enabled_plugins RABBITMQ_CONF_ENV_FILE=/dev/null RABBITMQ_PID_FILE=$home/pid \
         RABBITMQ_SERVER_ADDITIONAL_ERL_ARGS='-kernel inet_dist_use_interface {127,0,0,1}' \
