@@ -17,6 +17,7 @@ import sys
 from pathlib import Path
 
 from bench_proton import figures
+from command import command
 
 CRATE = Path(__file__).resolve().parent.parent / "crates" / "bench_codec"
 NAMES = ["open", "begin", "attach", "flow", "transfer", "disposition", "detach", "end", "close"]
@@ -79,4 +80,4 @@ def main():
 
 
 if __name__ == "__main__":
-    main()
+    command(main, __doc__)

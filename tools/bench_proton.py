@@ -22,6 +22,7 @@ import tempfile
 from pathlib import Path
 
 import canonical as c
+from command import command
 from measured import TooLong, per_unit, seconds
 
 TOOLS = Path(__file__).resolve().parent
@@ -253,6 +254,8 @@ def times():
 
 
 def main():
+    if not is_there():
+        print("bench_proton: gcc, valgrind or libqpid-proton11-dev is missing: stored figures follow", file=sys.stderr)
     wanted, found = sys.argv[1:], figures()
     for name in [*counters(), "mean"]:
         if not wanted or any(word in name for word in wanted):
@@ -260,4 +263,4 @@ def main():
 
 
 if __name__ == "__main__":
-    main()
+    command(main, __doc__)

@@ -6,6 +6,7 @@
 This is all that a transport has to do: the protocol headers, SASL (ANONYMOUS, or PLAIN with --sasl; part 5 of the standard, section 5.3), the
 four bytes of size before each frame, and an empty frame where the peer's idle time-out asks for one (part 2, sections 2.2, 2.3 and 2.4.5).
 All else is the engine's: each line that the program is given, and what it answers, is a step. Prints what it did; a refusal by its name.
+Where nobody listens, the peer hangs up or the program ends, a line on standard error says so, and the status is 1.
 """
 
 import socket
@@ -14,7 +15,8 @@ import sys
 import time
 
 from canonical import boolean, composite, string, symbol, tag, ubyte, uint
-from frames import ATTACH, BEGIN, CLOSE, DETACH, DISPOSITION, END, FLOW, NULL, OPEN, TRANSFER, Frame, end_of, flag, integer, parts
+from command import command, told
+from frames import ATTACH, BEGIN, CLOSE, DETACH, DISPOSITION, END, FLOW, NAMES, NULL, OPEN, TRANSFER, Frame, Malformed, end_of, flag, integer, parts
 
 MARK, MARKED = "release 4294967295\n", "err NoSession\n"
 SENDER, RECEIVER = boolean(False), boolean(True)
@@ -29,12 +31,16 @@ class Engine:
         self.refused = []
 
     def step(self, line):
-        self.run.stdin.write(line + "\n" + MARK)
-        self.run.stdin.flush()
+        try:
+            self.run.stdin.write(line + "\n" + MARK)
+            self.run.stdin.flush()
+        except BrokenPipeError:
+            # what it had answered before is read first
+            pass
         pieces = []
         while (answer := self.run.stdout.readline()) != MARKED:
             if not answer:
-                sys.exit(f"the program ended at: {line[:60]}")
+                told(f"the program ended with status {self.run.wait()}, at: {line[:60]}")
             if answer.startswith("out "):
                 pieces.append(bytes.fromhex(answer[4:]))
             else:
@@ -43,7 +49,10 @@ class Engine:
         return pieces
 
     def end(self):
-        self.run.stdin.close()
+        try:
+            self.run.stdin.close()
+        except BrokenPipeError:
+            pass
         return self.run.wait()
 
 
@@ -51,11 +60,17 @@ class Transport:
     """A socket that carries frames: sizes before them, and empty ones while nothing else goes."""
 
     def __init__(self, host, port):
-        self.socket = socket.create_connection((host, port), timeout=20)
+        try:
+            self.socket = socket.create_connection((host, port), timeout=20)
+        except OSError as error:
+            told(f"{host}:{port}: {error.strerror or error}")
         self.idle, self.sent = None, time.monotonic()
 
     def write(self, of):
-        self.socket.sendall(of)
+        try:
+            self.socket.sendall(of)
+        except OSError as error:
+            told(f"the peer hung up: {error.strerror or error}")
         self.sent = time.monotonic()
 
     def take(self, count):
@@ -65,12 +80,14 @@ class Transport:
             self.socket.settimeout(self.idle / 4 if self.idle else 20)
             try:
                 some = self.socket.recv(count - len(of))
-            except TimeoutError:
+            except socket.timeout:
                 if self.idle:
                     continue
-                raise
+                told("the peer was silent for 20 seconds")
+            except OSError as error:
+                told(f"the peer hung up: {error.strerror or error}")
             if not some:
-                sys.exit("the peer closed the connection")
+                told("the peer hung up")
             of += some
         return of
 
@@ -82,13 +99,16 @@ class Transport:
         self.write((len(frame) + 4).to_bytes(4, "big") + frame)
 
     def get(self):
-        return self.take(int.from_bytes(self.take(4), "big") - 4)
+        size = int.from_bytes(self.take(4), "big")
+        if size < 8:
+            raise Malformed
+        return self.take(size - 4)
 
     def header(self, protocol):
         mine = b"AMQP" + bytes([protocol, 1, 0, 0])
         self.write(mine)
         if self.take(8) != mine:
-            sys.exit(f"the peer does not speak protocol {protocol}")
+            told(f"the peer does not speak protocol {protocol}")
 
     def sasl(self, login):
         self.header(3)
@@ -97,8 +117,8 @@ class Transport:
         self.put(b"\x02\x01\x00\x00" + composite(0x41, [symbol(mechanism), tag({"bin": response.encode().hex()})]))
         outcome = self.get()
         fields, _ = parts(outcome, end_of(outcome, 5))
-        if fields[0] != ubyte(0):
-            sys.exit("the peer refused the login")
+        if fields[:1] != [ubyte(0)]:
+            told("the peer refused the login")
 
 
 class Bridge:
@@ -123,7 +143,7 @@ class Bridge:
     def until(self, *codes):
         while (frame := self.hear()).code not in codes:
             if frame.code in (CLOSE, END):
-                sys.exit(f"the peer ended: {frame.body()}")
+                told(f"the peer sent {NAMES[frame.code]}: {frame.body().hex()}")
         return frame
 
     def send(self, code, fields, payload=b""):
@@ -158,7 +178,7 @@ class Bridge:
         """Receives the messages and settles each."""
         self.attach("from", 0, RECEIVER, address)
         self.send(FLOW, [uint(0), uint(5000), uint(0), uint(5000), uint(0), uint(0), uint(count)])
-        bodies, going = [], b""
+        bodies, going, first = [], b"", NULL
         while len(bodies) < count:
             frame = self.until(TRANSFER)
             going += frame.payload
@@ -167,7 +187,8 @@ class Bridge:
                 bodies, going = [*bodies, going], b""
                 self.send(DISPOSITION, [RECEIVER, first, NULL, boolean(True), ACCEPTED])
         expected = [f"message {number}".encode() for number in range(count)]
-        assert all(body.endswith(it) for body, it in zip(bodies, expected)), "other messages came back"
+        if not all(body.endswith(it) for body, it in zip(bodies, expected)):
+            told("other messages came back")
         print(f"received {len(bodies)} messages in order, and settled them")
         self.send(DETACH, [uint(0), boolean(True)])
         self.until(DETACH)
@@ -180,17 +201,28 @@ class Bridge:
         print(f"closed; the program ended with status {self.engine.end()}; {len(self.engine.refused)} refused")
 
 
-def main():
-    words, login, count = sys.argv[1:], "", 20
-    for name in ("--sasl", "--messages"):
-        if name in words:
+def read():
+    """The words of the command: four, and behind them the login and how many messages."""
+    words, said = sys.argv[1:], {"--sasl": "", "--messages": "20"}
+    for name in said:
+        if name in words[:-1]:
             at = words.index(name)
-            login, count = (words[at + 1], count) if name == "--sasl" else (login, int(words[at + 1]))
+            said[name] = words[at + 1]
             del words[at : at + 2]
-    if len(words) != 4:
-        sys.exit(__doc__)
-    program, host, port, address = words
-    bridge = Bridge(program, host, int(port), login)
+    if len(words) != 4 or not words[2].isdecimal() or not said["--messages"].isdecimal():
+        sys.exit(__doc__.strip())
+    return words, said["--sasl"], int(said["--messages"])
+
+
+def main():
+    (program, host, port, address), login, count = read()
+    try:
+        talk(Bridge(program, host, int(port), login), address, count)
+    except (Malformed, RecursionError):
+        told("the peer sent what is no frame of AMQP")
+
+
+def talk(bridge, address, count):
     bridge.ask("open")
     bridge.until(OPEN)
     bridge.ask("begin 0")
@@ -201,4 +233,4 @@ def main():
 
 
 if __name__ == "__main__":
-    main()
+    command(main, __doc__)

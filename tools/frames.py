@@ -66,7 +66,7 @@ def flag(of):
 
 def text(of):
     """The string or symbol."""
-    return of[5 if of[0] & 0x10 else 2 :].decode()
+    return of[5 if of[0] & 0x10 else 2 :].decode(errors="replace")
 
 
 class Frame:

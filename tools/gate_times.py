@@ -18,6 +18,8 @@ import sys
 import threading
 from pathlib import Path
 
+from command import command
+
 ROOT = Path(__file__).resolve().parent.parent
 PROC = Path("/proc")
 TICKS = os.sysconf("SC_CLK_TCK")
@@ -125,9 +127,9 @@ def table(times, whole, minutes):
 
 
 def main():
-    command = sys.argv[1:] or [str(ROOT / ".ci" / "run")]
+    words = sys.argv[1:] or [str(ROOT / ".ci" / "run")]
     begun, ended = os.times().elapsed, threading.Event()
-    child = subprocess.Popen(command, cwd=ROOT, stdin=subprocess.DEVNULL, stdout=sys.stderr)
+    child = subprocess.Popen(words, cwd=ROOT, stdin=subprocess.DEVNULL, stdout=sys.stderr)
     times = Times(child.pid)
 
     def watch():
@@ -146,4 +148,4 @@ def main():
 
 
 if __name__ == "__main__":
-    main()
+    command(main, __doc__)

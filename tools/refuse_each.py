@@ -25,6 +25,7 @@ from pathlib import Path
 
 import expected_exchange
 import expected_memory
+from command import command
 from expected_frames import TABLES
 
 ROOT = Path(__file__).resolve().parent.parent
@@ -279,4 +280,4 @@ def main():
 
 
 if __name__ == "__main__":
-    main()
+    command(main, __doc__)

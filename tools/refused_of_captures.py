@@ -1,16 +1,19 @@
 #!/usr/bin/env python3
-"""Has amqp_replay take either side of each recorded connection, and compares what it refuses with what it should. Each recording is also read
-as tshark shows a followed stream, in chunks of 1, 7 and 4096 bytes.
+"""Has amqp_replay take either side of each recorded connection, and compares what it refuses with what it should; and of those that
+made_connections.py makes. Each recording is also read as tshark shows a followed stream, in chunks of 1, 7 and 4096 bytes.
 
     tools/refused_of_captures.py [PROGRAM]
 
 PROGRAM is crates/amqp_replay/out/amqp_replay where it is left out, as the gate builds it. The recordings and the wanted refusals,
-refused.rows, are in crates/codec_tests/captures. The last line is 'N passed, M failed', a test for each recording, side and size.
+refused.rows, are in crates/codec_tests/captures. The last line is 'N passed, M failed', a test for each connection and side, and for each
+recording and size.
 """
 
 import sys
 from pathlib import Path
 
+from command import command
+from made_connections import cases
 from transcript import Transcript, followed, recorded, refusals
 
 ROOT = Path(__file__).resolve().parent.parent
@@ -38,12 +41,20 @@ def shown(frames, size):
     return lines
 
 
-def main(program=ROOT / "crates" / "amqp_replay" / "out" / "amqp_replay"):
-    failed, table = [], wanted()
-    names = {it.stem for it in CAPTURES.glob("*.txt")}
-    assert {name for name, _ in table} == names, "a recording stands in no table"
+def connections():
+    """Each connection, as its name, its frames, the side that the engine takes, and what it should refuse."""
+    table = wanted()
+    assert {name for name, _ in table} == {it.stem for it in CAPTURES.glob("*.txt")}, "a recording stands in no table"
     for (name, side), lines in table.items():
-        told = refusals(Transcript(recorded(CAPTURES / f"{name}.txt"), side), program)
+        yield name, recorded(CAPTURES / f"{name}.txt"), side, lines
+    yield from cases()
+
+
+def main():
+    program = sys.argv[1] if len(sys.argv) > 1 else ROOT / "crates" / "amqp_replay" / "out" / "amqp_replay"
+    failed, table, names = [], [*connections()], [it.stem for it in CAPTURES.glob("*.txt")]
+    for name, frames, side, lines in table:
+        told = refusals(Transcript(frames, side), program)
         if told != lines:
             failed.append((name, side))
             print(f"{name} {side}: refused\n" + "\n".join(told) + "\nwanted\n" + "\n".join(lines))
@@ -58,4 +69,4 @@ def main(program=ROOT / "crates" / "amqp_replay" / "out" / "amqp_replay"):
 
 
 if __name__ == "__main__":
-    main(*sys.argv[1:])
+    command(main, __doc__)

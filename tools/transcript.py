@@ -7,22 +7,31 @@
 FILE is what `tshark -q -z follow,tcp,raw,N` prints, or a file of lines `A HEX` and `B HEX`, each a frame without its size; A is the
 client. The second word says whose place the engine takes (A where it is left out): what the other side sent comes as `recv` lines, and
 what this side sent is asked for. The engine gives its own channels, handles and numbers, so those are translated in both directions:
-- the peer's Begin names the channel that the engine has given; a Begin that asks for a session is taken as the answer to one of this side;
+- the peer's Begin names the channel that the engine has given, the lowest one that no session holds; a session holds its own until both have
+  ended it. A Begin that asks for a session is taken as the answer to one of this side;
 - next-incoming-id of the peer's flows and the numbers in its dispositions count from this side's first ones, which are 0 here;
 - handles are those that the engine gives: the handle that was freed last, else the next one.
-What this side asks for before its session is mapped waits for the peer's Begin. A detach that answers the peer's, a flow of the session
-alone, and empty frames are left out: the engine answers by itself, or has no need of them.
+What this side asks for before its session is mapped waits for the peer's Begin, and its Close waits for that. A detach that answers the
+peer's, a flow of the session alone, and empty frames are left out: the engine answers by itself, or has no need of them.
+What the peer had sent before it read this side's Close is no breach, also where the engine refuses it: it is shown as in flight.
+The status is 0 where all was read and run, whatever was refused; 1 where a file or the program cannot be read or run.
 """
 
 import re
 import subprocess
 import sys
+from itertools import count
 from pathlib import Path
 
 from canonical import uint, ushort
+from command import command, told
 from frames import ATTACH, BEGIN, CLOSE, DETACH, DISPOSITION, END, FLOW, NAMES, NULL, OPEN, TRANSFER, Frame, Malformed, flag, integer, text
+from in_flight import OF_LAWFUL, InFlight
 
-MARK, MARKED = "release 4294967295", "err NoSession"
+# Two lines that are always refused, and change nothing: no line of a transcript is answered so
+MARK, MARKED = "release 4294967295\nrecv \n", "err NoSession\nerr DecodeError\n"
+# Refusals that are no breach
+PEER_ENDED, IN_FLIGHT = "the peer ended", "in flight behind this side's Close"
 
 
 # ---- recordings
@@ -77,12 +86,12 @@ class Handles:
 
 
 class Session:
-    """A session of this side: its number, its channel here, and what its recorded numbers count from."""
+    """A session of this side: its number, its recorded channel and the one here, and what its recorded numbers count from."""
 
-    def __init__(self, number, channel, first_id, first_delivery):
-        self.number, self.channel = number, channel
+    def __init__(self, number, own, channel, first_id, first_delivery):
+        self.number, self.own, self.channel = number, own, channel
         self.first_id, self.first_delivery = first_id, first_delivery
-        self.is_mapped, self.ended, self.waiting = False, set(), []
+        self.is_mapped, self.is_held, self.ended, self.waiting = False, True, set(), []
         self.handles, self.links, self.awaited, self.inputs, self.going = Handles(), {}, set(), {}, set()
         # the recorded handle of a link, and its handle here
         self.given = {}
@@ -92,13 +101,15 @@ class Transcript:
     def __init__(self, frames, side):
         self.frames, self.side, self.lines = frames, side, []
         self.read = [self.parsed(of) for _, of in frames]
-        # sessions by this side's recorded channel, and by the peer's
-        self.by_own, self.by_peer, self.begun, self.free, self.is_open = {}, {}, 0, [], False
+        # sessions by this side's recorded channel, and by the peer's; the channels that are held here
+        self.sessions, self.by_own, self.by_peer, self.held, self.is_open = [], {}, {}, set(), False
+        # the place of a Close that waits; from this side's Close on, what may still be in flight, and the places of it
+        self.closing, self.behind, self.in_flight = None, None, set()
 
     def parsed(self, of):
         try:
             return Frame(of)
-        except (Malformed, UnicodeDecodeError):
+        except (Malformed, RecursionError):
             return None
 
     def said(self, at, line):
@@ -117,6 +128,8 @@ class Transcript:
                 self.receive(at, of, frame)
             elif frame is not None and frame.code is not None:
                 self.request(at, frame)
+        if self.closing is not None:
+            self.close(self.closing)
         return self.lines
 
     # ---- what the peer sent
@@ -125,6 +138,10 @@ class Transcript:
         if frame is not None and frame.code is not None:
             if frame.code != OPEN:
                 self.open(at)
+            if frame.code == CLOSE and self.closing is not None:
+                self.close(self.closing)
+            if self.behind and self.behind.has(frame, frame.channel in self.by_peer):
+                self.in_flight.add(at)
             before = frame.bytes()
             self.translate(at, frame)
             if frame.bytes() != before:
@@ -135,7 +152,7 @@ class Transcript:
 
     def translate(self, at, frame):
         """The numbers of the peer's frame, as this side's are here; and what has to be asked for before it comes."""
-        if frame.code == BEGIN:
+        if frame.code == BEGIN and not self.behind:
             self.by_peer[frame.channel] = self.answered(at, frame)
             frame[0] = ushort(self.by_peer[frame.channel].channel)
         session = self.by_peer.get(frame.channel)
@@ -163,8 +180,7 @@ class Transcript:
 
     def is_attached_later(self, at, frame):
         session, name = self.by_peer[frame.channel], frame[0]
-        own = next(channel for channel, its in self.by_own.items() if its is session)
-        return text(name) not in session.links and self.later(at, self.side, ATTACH, lambda it: (it.channel, it[0]) == (own, name))
+        return text(name) not in session.links and self.later(at, self.side, ATTACH, lambda it: (it.channel, it[0]) == (session.own, name))
 
     def after(self, at, frame, session):
         """What follows from a frame of the peer."""
@@ -173,11 +189,14 @@ class Transcript:
             for place, waits in session.waiting:
                 self.request(place, waits)
             session.waiting = []
+            if self.closing is not None and not any(it.waiting for it in self.sessions):
+                self.close(self.closing)
         elif frame.code == ATTACH and text(frame[0]) in session.links:
             session.inputs[integer(frame[1])] = session.links[text(frame[0])]
         elif frame.code == DETACH:
             self.detached(session, session.inputs.pop(integer(frame[0]), None))
         elif frame.code == END:
+            del self.by_peer[frame.channel]
             self.end(at, session, "peer")
 
     def detached(self, session, handle):
@@ -191,9 +210,10 @@ class Transcript:
     def end(self, at, session, side):
         """The channel is given back when both have ended the session."""
         session.ended.add(side)
-        if len(session.ended) == 2:
+        if len(session.ended) == 2 and session.is_held:
             self.said(at, f"release {session.number}")
-            self.free = sorted([*self.free, session.channel])
+            self.held.discard(session.channel)
+            session.is_held = False
 
     # ---- what this side sent
 
@@ -205,20 +225,30 @@ class Transcript:
     def begin(self, at, own):
         mine = self.later(at, self.side, BEGIN, lambda it: it.channel == own)
         sent = self.later(at, self.side, TRANSFER, lambda it: it.channel == own and it[1] != NULL)
-        channel = self.free.pop(0) if self.free else self.begun - sum(len(it.ended) == 2 for it in self.by_own.values())
-        self.by_own[own] = Session(self.begun, channel, integer(mine[1]) if mine else 0, integer(sent[1]) if sent else 0)
-        self.said(at, f"begin {self.begun}")
-        self.begun += 1
+        number, channel = len(self.sessions), next(it for it in count() if it not in self.held)
+        self.held.add(channel)
+        self.by_own[own] = Session(number, own, channel, *(integer(it[1]) or 0 if it else 0 for it in (mine, sent)))
+        self.sessions.append(self.by_own[own])
+        self.said(at, f"begin {number}")
+
+    def close(self, at):
+        self.said(at, "close")
+        self.closing, self.behind = None, InFlight()
 
     def link(self, at, session, name):
         session.links[name] = session.handles.give()
-        self.said(at, f"link {session.number} {name}")
+        # no line can have a name with a line feed: one without a name is refused as a bad line
+        self.said(at, f"link {session.number} {'' if chr(10) in name else name}")
 
     def request(self, at, frame):
         if frame.code == OPEN:
             return self.open(at)
         if frame.code == CLOSE:
-            return self.said(at, "close")
+            if any(it.waiting for it in self.sessions):
+                self.closing = at
+            else:
+                self.close(at)
+            return None
         session = self.by_own.get(frame.channel)
         if frame.code == BEGIN:
             # one that answers the peer's was asked for when that came
@@ -286,16 +316,16 @@ def answers(lines, program):
     unread = {}
     while True:
         left = [(place, line) for place, (_, line) in enumerate(lines) if place not in unread]
-        given = "".join(f"{line}\n{MARK}\n" for _, line in left)
-        ran = subprocess.run([program], input=given, stdout=subprocess.PIPE, stderr=subprocess.PIPE, text=True)
+        given = "".join(f"{line}\n{MARK}" for _, line in left)
+        ran = subprocess.run([program], input=given, stdout=subprocess.PIPE, stderr=subprocess.PIPE, text=True, errors="replace")
         bad = re.match(r"bad line (\d+)", ran.stderr)
         if bad:
-            unread[left[(int(bad[1]) - 1) // 2][0]] = ["bad line"]
+            unread[left[(int(bad[1]) - 1) // 3][0]] = ["bad line"]
             continue
-        told = ran.stdout.split(MARKED + "\n")
-        if ran.returncode or len(told) != len(left) + 1:
-            sys.exit(f"the program ended with status {ran.returncode}")
-        names = {place: re.findall(r"^err (.*)$", it, re.M) for (place, _), it in zip(left, told)}
+        said = ran.stdout.split(MARKED)
+        if ran.returncode or len(said) != len(left) + 1:
+            told(f"{program}: it ended with status {ran.returncode}, behind {len(said) - 1} of {len(left)} lines")
+        names = {place: re.findall(r"^err (.*)$", it, re.M) for (place, _), it in zip(left, said)}
         return [{**names, **unread}[place] for place in range(len(lines))]
 
 
@@ -310,25 +340,44 @@ def shown(transcript, at, line, name):
     side, frame = transcript.frames[at][0], transcript.read[at]
     kind = "no frame" if frame is None else NAMES.get(frame.code, "empty frame")
     asked = "" if line.startswith(("recv", "send")) else f" ({line.split(' ')[0]})"
-    return f"frame {at + 1}, {side}, {kind}{asked}: {name}{' (the peer ended)' if name.startswith('Remote') and frame and frame.code in (END, CLOSE) else ''}"
+    mark = ""
+    if name.startswith("Remote") and frame and frame.code in (END, CLOSE):
+        mark = f" ({PEER_ENDED})"
+    elif line.startswith("recv") and at in transcript.in_flight and name in OF_LAWFUL:
+        mark = f" ({IN_FLIGHT})"
+    return f"frame {at + 1}, {side}, {kind}{asked}: {name}{mark}"
+
+
+def counted(frames, found):
+    """The last line: how many frames there are, how many are refused as breaches, and how many lawful ones are named."""
+    ended, flew = (sum(it.endswith(f"({mark})") for it in found) for mark in (PEER_ENDED, IN_FLIGHT))
+    line = f"{len(frames)} frames, {len(found) - ended - flew} refused, {ended} by which {PEER_ENDED}"
+    return f"{line}, {flew} {IN_FLIGHT}" if flew else line
 
 
 def main():
-    words = sys.argv[1:]
-    program = words[words.index("--run") + 1] if "--run" in words else None
-    words = words[: words.index("--run")] if program else words
+    words, program = sys.argv[1:], None
+    if "--run" in words[:-1]:
+        at = words.index("--run")
+        program = words[at + 1]
+        del words[at : at + 2]
     side = words[1] if len(words) > 1 else "A"
-    if not words or side not in ("A", "B"):
-        sys.exit(__doc__)
-    transcript = Transcript(recorded(words[0]), side)
+    if len(words) not in (1, 2) or side not in ("A", "B"):
+        sys.exit(__doc__.strip())
+    try:
+        frames = recorded(words[0])
+    except ValueError as error:
+        told(f"{words[0]}: {error}")
+    if not frames:
+        told(f"{words[0]}: no frame in it")
+    transcript = Transcript(frames, side)
     if program is None:
         print("\n".join(line for _, line in transcript.run()))
         return
     found = refusals(transcript, program)
     print("".join(f"{it}\n" for it in found), end="")
-    told = sum(it.endswith("(the peer ended)") for it in found)
-    print(f"{len(transcript.frames)} frames, {len(found) - told} refused, {told} by which the peer ended")
+    print(counted(frames, found))
 
 
 if __name__ == "__main__":
-    main()
+    command(main, __doc__)

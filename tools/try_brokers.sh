@@ -3,6 +3,8 @@
 # from Debian's packages, which it installs where they are missing (as root). Each is started in a folder of its own and stopped at the end.
 # It is no part of the gate.
 set -euo pipefail
+case "${1-}" in -h | --help) sed -n '2,/^set/{/^set/d;s/^# \{0,1\}//;p}' "$0" && exit 0 ;; esac
+command -v rt >/dev/null || [ -x "$(dirname "$0")/../crates/amqp_replay/out/amqp_replay" ] || { echo "try_brokers: no rt on the path, and no amqp_replay that it left" >&2; exit 1; }
 cd "$(dirname "$0")/.."
 program=crates/amqp_replay/out/amqp_replay
 folder=$(mktemp -d)
@@ -10,7 +12,8 @@ running=()
 trap 'for it in "${running[@]}"; do kill "$it" 2>/dev/null || true; done; wait 2>/dev/null; rm -rf "$folder"' EXIT
 
 install() {
-    dpkg -s "$@" >/dev/null 2>&1 || { apt-get update -q && DEBIAN_FRONTEND=noninteractive apt-get install -q -y --no-install-recommends "$@"; } >"$folder/apt" 2>&1
+    dpkg -s "$@" >/dev/null 2>&1 || { apt-get update -q && DEBIAN_FRONTEND=noninteractive apt-get install -q -y --no-install-recommends "$@"; } >"$folder/apt" 2>&1 ||
+        { echo "try_brokers: Debian's packages $* cannot be installed: $(tail -n 1 "$folder/apt")" >&2; return 1; }
 }
 
 free_port() {
@@ -27,7 +30,7 @@ await_port() {
 }
 
 proton() {
-    install gcc libc6-dev libqpid-proton11-dev libqpid-proton11-dev-examples
+    install gcc libc6-dev libqpid-proton11-dev libqpid-proton11-dev-examples || return 1
     local examples=/usr/share/proton/examples/c port
     port=$(free_port)
     gcc -I"$examples" "$examples/broker.c" -o "$folder/broker" -l:libqpid-proton-core.so.10 -l:libqpid-proton-proactor.so.1 -lpthread
@@ -39,13 +42,16 @@ proton() {
 }
 
 rabbitmq() {
-    install rabbitmq-server
-    local port home=$folder/rabbitmq
-    port=$(free_port)
+    install rabbitmq-server || return 1
+    local port names home=$folder/rabbitmq
+    port=$(free_port) names=$(free_port)
+    # Erlang's server of names, which RabbitMQ would start by itself and leave behind
+    epmd -port "$names" -address 127.0.0.1 &
+    running+=($!)
     mkdir -p "$home/log"
     printf '%s\n' "listeners.tcp.1 = 127.0.0.1:$port" 'default_user = guest' 'default_pass = guest' >"$home/rabbitmq.conf"
     echo '[rabbitmq_amqp1_0].' >"$home/enabled_plugins"
-    HOME=$home ERL_EPMD_PORT=$(free_port) ERL_EPMD_ADDRESS=127.0.0.1 RABBITMQ_NODENAME=bridge@localhost RABBITMQ_DIST_PORT=$(free_port) \
+    HOME=$home ERL_EPMD_PORT=$names ERL_EPMD_ADDRESS=127.0.0.1 RABBITMQ_NODENAME=bridge@localhost RABBITMQ_DIST_PORT=$(free_port) \
         RABBITMQ_MNESIA_BASE=$home/mnesia RABBITMQ_LOG_BASE=$home/log RABBITMQ_CONFIG_FILE=$home/rabbitmq.conf \
         RABBITMQ_ENABLED_PLUGINS_FILE=$home/enabled_plugins RABBITMQ_CONF_ENV_FILE=/dev/null RABBITMQ_PID_FILE=$home/pid \
         RABBITMQ_SERVER_ADDITIONAL_ERL_ARGS='-kernel inet_dist_use_interface {127,0,0,1}' \

@@ -1,0 +1,35 @@
+"""How the tools of this folder are called: what --help prints, and the one line where a file, a program or a peer is missing."""
+
+import os
+import subprocess
+import sys
+from pathlib import Path
+
+
+def command(main, doc):
+    """Runs the tool; `--help` as the first word prints the doc. What the system refuses is a line on standard error, and status 1."""
+    if sys.argv[1:2] in (["-h"], ["--help"]):
+        print(doc.strip())
+        return
+    try:
+        main()
+        sys.stdout.flush()
+    except BrokenPipeError:
+        # whoever read the output has gone: what is left of it goes nowhere
+        os.dup2(os.open(os.devnull, os.O_WRONLY), sys.stdout.fileno())
+        sys.exit(1)
+    except OSError as error:
+        told(f"{error.filename}: {error.strerror}" if error.filename else str(error))
+    except subprocess.CalledProcessError as error:
+        told(f"{' '.join(map(str, error.cmd))}: status {error.returncode}")
+    except subprocess.TimeoutExpired as error:
+        told(f"{' '.join(map(str, error.cmd))}: no end within {error.timeout:.0f} seconds")
+    except UnicodeDecodeError as error:
+        told(f"a file is not text: {error.reason}")
+    except KeyboardInterrupt:
+        sys.exit(130)
+
+
+def told(what):
+    """Ends the tool with one line on standard error, and status 1."""
+    sys.exit(f"{Path(sys.argv[0]).stem}: {what}")
