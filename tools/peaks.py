@@ -138,9 +138,15 @@ def attached(i):
     return [f"link 0 link-{i}", sent(attach(f"link-{i}", False)), received(attach(f"link-{i}", True))]
 
 
-def ended(i):
-    """A session of the next number: its Begin, its End, and its channel given back."""
-    return [f"begin {i}", received(begin()), f"end {i}", received(end()), f"release {i}"]
+def forgotten(i, within=()):
+    """A session of the next number: its Begin, what happens within, its End, its channel given back, and the session forgotten."""
+    return [f"begin {i}", received(begin()), *within, f"end {i}", received(end()), f"release {i}", f"forget {i}"]
+
+
+def used(i):
+    """One that has a link and an open delivery when it ends."""
+    mine = (it.replace("send 0 ", f"send {i} ") for it in (sent(attach("a", False)), sent(transfer(0, False), b"x" * 64)))
+    return forgotten(i, [f"link {i} a", next(mine), received(attach("a", True)), next(mine)])
 
 
 LIVES = [
@@ -155,7 +161,8 @@ LIVES = [
     Life("echoes of a sent delivery", [*SENDS, sent(transfer(0, False))], lambda i: [received(disposition(True, 0, False))], 4, 1),
     Life("echoes of a received one", [*RECEIVES, received(transfer(0, True))], lambda i: [received(disposition(False, 0, False))], 3, 1),
     Life("flows that are echoed", SENDS, lambda i: [received(flow(0, WIDEST, True))], 3, 1),
-    Life("sessions begun, ended and released", OPEN, ended, 1, 2),
+    Life("sessions begun, ended and forgotten", OPEN, forgotten, 1, 2),
+    Life("sessions with a link, forgotten", OPEN, used, 1, 4),
 ]
 
 

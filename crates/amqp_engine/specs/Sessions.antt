@@ -187,11 +187,14 @@ ReleaseRequest v n reached calls (Some e) w = ⊥
 
 -- ---- a session is let go
 
--- A session is over: both Ends were exchanged, no handle's wish for it is noted, it has given its channel back, and no channel of the
--- peer's leads to it.
-pub record IsOver {R : Type 0} (v : EngineView R) (n : ℕ) (s : SessionView R) : Type 0 where
-  pub ended : s.state ≡ at.Unmapped
+-- Both Ends were exchanged, and no handle's wish for one is noted.
+pub record HasEnded {R : Type 0} (v : EngineView R) (n : ℕ) (s : SessionView R) : Type 0 where
+  pub unmapped : s.state ≡ at.Unmapped
   pub unwished : get v.wishes.ends n ≡ None
+
+-- A session is over: it has ended, it has given its channel back, and no channel of the peer's leads to it.
+pub record IsOver {R : Type 0} (v : EngineView R) (n : ℕ) (s : SessionView R) : Type 0 where
+  pub ended : HasEnded v n s
   pub gave_back : ¬ (Holds v.connection s.outgoing_channel n)
   pub unrouted : IsRouted v.connection n false
 
@@ -209,13 +212,14 @@ pub record LetsGo {R : Type 0} (v : EngineView R) (n : ℕ) (w : EngineView R) :
 abbrev pub IsIn : {R : Type 0} → EngineView R → ℕ → (SessionView R → Type 0) → Type 0
 IsIn v n P = (s : SessionView _) × (lookup (nat_eq n) v.sessions ≡ Some s) × P s
 
--- Whether session n is over, or why it is not: no session has the number; it has not ended, or its End is wished; it holds its channel, or
--- frames can reach it.
+-- Whether session n is over, or why it is not: no session has the number; it has not ended, or its End is wished; or else it holds its
+-- channel, or frames can reach it.
 abbrev pub Over : {R : Type 0} → EngineView R → ℕ → Option StepError → Type 0
 Over v n None = IsIn v n (IsOver v n)
 Over v n (Some no.NoSession) = lookup (nat_eq n) v.sessions ≡ None
 Over v n (Some (no.SessionState e)) = (e ≡ unbegun.IllegalState) × IsIn v n (λ s. ¬ (s.state ≡ at.Unmapped) ⊎ IsSome (get v.wishes.ends n))
-Over v n (Some no.SessionInUse) = IsIn v n (λ s. Holds v.connection s.outgoing_channel n ⊎ IsRouted v.connection n true)
+Over v n (Some no.SessionInUse) =
+    IsIn v n (λ s. HasEnded v n s × (Holds v.connection s.outgoing_channel n ⊎ IsRouted v.connection n true))
 Over v n (Some e) = ⊥
 
 -- A session that is over is let go. Memory may be refused for its number.

@@ -21,12 +21,12 @@ returns-then-is_wished g c =
 pub returns-then-eq : goal.returns-then-eq
 returns-then-eq g c =
     let known = viewed_some c.args.number c.self.inside.sessions.entries c.in-Some.session.now (sym c.in-Some.ensures.value) in
-    rw (← c.self.view_is) (c.in-Some.session.now.view, known, inl (search rules))
+    rw (← c.self.view_is) (c.in-Some.session.now.view, known, (record { unmapped = search rules; unwished = search rules }, inl (search rules)))
 
 pub returns-then-has_route : goal.returns-then-has_route
 returns-then-has_route g c =
     let known = viewed_some c.args.number c.self.inside.sessions.entries c.in-Some.session.now (sym c.in-Some.ensures.value) in
-    rw (← c.self.view_is) (c.in-Some.session.now.view, known, inr (search rules))
+    rw (← c.self.view_is) (c.in-Some.session.now.view, known, (record { unmapped = search rules; unwished = search rules }, inr (search rules)))
 
 pub returns : goal.returns
 returns g c =
@@ -35,8 +35,7 @@ returns g c =
       c.in-Some.session.now.view,
       known,
       record {
-        ended = search rules;
-        unwished = search rules;
+        ended = record { unmapped = search rules; unwished = search rules };
         gave_back = search rules;
         unrouted = search rules;
       },
