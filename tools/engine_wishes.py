@@ -216,6 +216,31 @@ def unknown_sessions(rows):
     rows.ask("run")
 
 
+def forgotten_sessions(rows):
+    """A handle outlives its session: then it says what one says of a session that was never begun."""
+    with_session(rows, "EndSent", "it is forgotten, and its outcome with it; the handles of another session stay as they were")
+    mapped(rows, 1)
+    rows.ask(recv(end(), 5), "done")
+    rows.ask("session end", NOTED)
+    rows.ask("forget 0", "err SessionInUse")
+    rows.ask("release 0", "done")
+    rows.ask("session end", NOTED)
+    rows.ask("forget 0", "done")
+    rows.ask("session is", "true")
+    for call in ("end", "close", "end " + CONDITION):
+        rows.ask("session " + call, ILLEGAL)
+    rows.ask("session try", NO_MORE)
+    rows.ask("session try", END_TOLD)
+    rows.ask("twin try", NO_MORE)
+    rows.ask("handle 0", "none")
+    rows.ask("handle 1", "some")
+    rows.ask("session is", "false")
+    rows.ask("session end", NOTED)
+    rows.ask("run", "done", out(end(), 1))
+    rows.ask(recv(end(), 11), "done")
+    rows.ask("session try", ANSWERED)
+
+
 # ---- wishes together
 
 def mapped(rows, *numbers):
@@ -262,4 +287,5 @@ def write(rows):
     each_session_state(rows)
     outcomes_of_ends(rows)
     unknown_sessions(rows)
+    forgotten_sessions(rows)
     in_order(rows)

@@ -199,6 +199,8 @@ fn input(alloc: Global, word: &str, rest: &str) -> anyhow::Result<Option<Input<R
         "close" => Ok(Some(Input::Close(reading::error(alloc, rest)?))),
         "begin" => Ok(Some(Input::Begin(number(rest)?, SessionSettings::new()))),
         "end" => Ok(Some(Input::End(number(rest)?, None))),
+        "release" => Ok(Some(Input::Release(number(rest)?))),
+        "forget" => Ok(Some(Input::Forget(number(rest)?))),
         "recv" => Ok(Some(Input::Received(reading::bytes(alloc, rest)?))),
         _ => Err(anyhow::anyhow!("no input")),
     }
