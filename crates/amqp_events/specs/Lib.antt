@@ -1,0 +1,5 @@
+pub mod Event
+pub mod Policy
+pub mod Queue
+pub mod Room
+pub mod Telling
