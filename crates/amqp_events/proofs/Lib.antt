@@ -1,1 +1,2 @@
 pub mod RoomLemmas
+pub mod RunLemmas

@@ -58,8 +58,13 @@ impl Policy {
     /// echoed, and flows and detaches are the owner's to answer.
     pub fn new(role: Role, rcv_settle_mode: ReceiverSettleMode) -> Policy
         ensures { result ≡ record {
-            role = role; rcv_settle_mode = rcv_settle_mode; recorded = OfModeSecond; echoed = Terminal;
-            answers_flows = false; answers_detaches = false } }
+          role = role;
+          rcv_settle_mode = rcv_settle_mode;
+          recorded = OfModeSecond;
+          echoed = Terminal;
+          answers_flows = false;
+          answers_detaches = false;
+        } }
     {
         Policy {
             role,

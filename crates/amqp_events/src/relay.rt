@@ -25,7 +25,10 @@ impl<S> EventRelay<S> {
     /// A relay of a link in the session with this number, which is the owner's choice and stands in each event.
     pub fn new(sink: S, session: u32, policy: Policy) -> EventRelay<S>
         ensures { result ≡ record {
-            sink = sink; link = record { session = session; input = None; output = None }; policy = policy } }
+          sink = sink;
+          link = record { session = session; input = None; output = None };
+          policy = policy;
+        } }
     {
         EventRelay {
             sink,
@@ -39,14 +42,12 @@ impl<S> EventRelay<S> {
     }
 
     /// A relay of a link that stands under this input handle from the start, as `Session::allocate_incoming_link` puts it: no attach is told.
-    pub fn attached(
-        sink: S,
-        session: u32,
-        input: InputHandle,
-        policy: Policy,
-    ) -> EventRelay<S>
+    pub fn attached(sink: S, session: u32, input: InputHandle, policy: Policy) -> EventRelay<S>
         ensures { result ≡ record {
-            sink = sink; link = record { session = session; input = Some input; output = None }; policy = policy } }
+          sink = sink;
+          link = record { session = session; input = Some input; output = None };
+          policy = policy;
+        } }
     {
         EventRelay {
             sink,
@@ -59,11 +60,11 @@ impl<S> EventRelay<S> {
         }
     }
 
-    /// The sink.
-    pub fn sink(&self) -> &S
-        ensures { result.now ≡ self.now.sink }
+    /// The sink. The rest of the relay ends here.
+    pub fn into_sink(self) -> S
+        ensures { result ≡ self.sink }
     {
-        &self.sink
+        self.sink
     }
 }
 

@@ -25,5 +25,5 @@ invariant_of-self c =
     let test = ap (λ (v : QueueView). has_room v k) c.self.view_is ∙ sym c.has_room.ensures ∙ c.if-not-has_room.false in
     let fits = fits_raised q.used q.room k c.self.invariant.1 (is_roomy q.used q.room q.events.items k c.self.invariant.0 test) in
     let counts = c.raise.ensures ∙ ap (λ (r : Room). raised r k) c.self.invariant.0 ∙ ap (λ (j : EventKind). raised (counted q.events.items) j) c.kind-kind.ensures
-        ∙ sym (counted_append q.events.items e) ∙ ap (λ (es : List Event). counted es) (sym c.push_back_reserved.ensures.items) in
+    ∙ sym (counted_append q.events.items e) ∙ ap (λ (es : List Event). counted es) (sym c.push_back_reserved.ensures.items) in
     (counts, subst (λ (r : Room). Fits r q.room) (sym c.raise.ensures) fits, subst (λ n. total q.room ≤ n) (sym c.push_back_reserved.ensures.capacity) c.self.invariant.2)
