@@ -101,6 +101,7 @@ impl EventQueue {
     pub fn miss(&mut self)
         ensures { Misses self.old self.new }
     {
-        self.missed = self.missed.saturating_add(1);
+        let missed = &mut self.missed;
+        *missed = missed.saturating_add(1);
     }
 }

@@ -49,15 +49,9 @@ impl<S> EventRelay<S> {
           policy = policy;
         } }
     {
-        EventRelay {
-            sink,
-            link: LinkNames {
-                session,
-                input: Some(input),
-                output: None,
-            },
-            policy,
-        }
+        let mut relay = EventRelay::new(sink, session, policy);
+        relay.link.input = Some(input);
+        relay
     }
 
     /// The sink. The rest of the relay ends here.
