@@ -1,5 +1,5 @@
 -- A run of a relay over a queue: its events come behind what the queue held.
-use Rattle.std.proofs.Common.{◌≡◌, ◌⊎◌, inl, inr, ℕ, zero, suc, ◌+◌, ◌-◌, ◌^◌, min, List, [], ◌∷◌, ◌++◌, Option, Result, Ok, Err, refl, ap, sym, ◌∙◌, subst}
+use Rattle.std.proofs.Common.{◌≡◌, ◌⊎◌, inl, inr, ℕ, suc, List, [], ◌∷◌, ◌++◌, Option, Result, Ok, Err, refl, ap, sym, ◌∙◌, subst}
 use Rattle.std.proofs.lemmas.List.{append_assoc, append-nil}
 use Rattle.amqp_types.specs.declared.definitions.Role.{Role}
 use Rattle.amqp_types.specs.declared.definitions.Role.TheVariants.{Sender, Receiver}
@@ -7,12 +7,11 @@ use Rattle.amqp_types.specs.declared.definitions.DeliveryTag.{DeliveryTag}
 use Rattle.amqp_types.specs.Transfer.{TransferSaid}
 use Rattle.amqp_session.specs.Relay.{Relays}
 use Rattle.amqp_session.specs.declared.error.LinkRelayError.{LinkRelayError}
-use Rattle.amqp_events.specs.declared.event.LinkNames.{LinkNames}
 use Rattle.amqp_events.specs.declared.event.Event.{Event}
 use Rattle.amqp_events.specs.Event.{attached, flowed, transferred, disposed, detached}
 use Rattle.amqp_events.specs.Queue.{QueueView, Pushes, Misses}
-use Rattle.amqp_events.specs.Telling.{outcome, names_after, Tells, Notes, Stays, AttachTold, FlowTold, TransferTold, TransferToldAt, DispositionTold, DetachTold}
-use Rattle.amqp_events.specs.Runs.{Told, ToldAttach, ToldFlow, ToldTransfer, ToldDisposition, ToldDetach, Queued, Step, Run, IfTaken, IfHeard, AreEventsOf, missed_after, queue_after, RunGives}
+use Rattle.amqp_events.specs.Telling.{outcome, Tells, Notes, AttachTold, FlowTold, TransferTold, TransferToldAt, DispositionTold, DetachTold}
+use Rattle.amqp_events.specs.Runs.{Told, ToldAttach, ToldFlow, ToldTransfer, ToldDisposition, ToldDetach, Queued, Run, IfTaken, IfHeard, AreEventsOf, missed_after, queue_after, RunGives}
 
 -- ---- one event before the others
 

@@ -6,7 +6,7 @@ use Rattle.amqp_types.specs.declared.definitions.DeliveryTag.{DeliveryTag}
 use Rattle.amqp_types.specs.declared.definitions.ReceiverSettleMode.{ReceiverSettleMode}
 use Rattle.amqp_types.specs.declared.definitions.ReceiverSettleMode.TheVariants.{First, Second}
 use Rattle.amqp_types.specs.declared.definitions.Role.{Role}
-use Rattle.amqp_types.specs.declared.definitions.Role.TheVariants.{Sender, Receiver}
+use Rattle.amqp_types.specs.declared.definitions.Role.TheVariants.{Receiver}
 use Rattle.amqp_session.specs.declared.numbers.OutputHandle.{OutputHandle}
 use Rattle.amqp_session.specs.declared.flow.LinkFlow.{LinkFlow}
 use Rattle.amqp_session.specs.Disposing.{HasTerminal}

@@ -39,7 +39,7 @@
 //! gives its room back. Each kind has its own room, so no flood of one kind takes that of another:
 //!
 //! - **Transfers.** A peer that keeps the incoming window sends no more than that before this side's next flow (AMQP 1.0 part 2, section
-//!   2.5.6). A session sends such a flow by itself, once half of the window is used up. So room for one window is enough where the owner empties
+//!   2.5.6). An engine sends such a flow by itself, once half of the window is used up. So room for one window is enough where the owner empties
 //!   the queue before it hands the session more transfers than that, as after each run of so many frames. A transfer past the room is refused
 //!   by name (`OutOfMemory`), and so is a peer that sends more than the window.
 //! - **Flows.** A peer may send any number. One past the room is refused by name.

@@ -1,6 +1,7 @@
 //! The queue of events, as a value.
 
-ghost use Rattle.std.specs.Prelude.{◌≡◌, ◌-◌, [], length, IfOk};
+ghost use Rattle.std.specs.Prelude.{◌≡◌, [], ◌∷◌, ◌++◌, length, true, IfOk};
+ghost use Rattle.amqp_events.specs.Event.{kind_of};
 ghost use Rattle.amqp_events.specs.Queue.{new_queue, has_room, Pushes, Pops, Misses};
 
 use crate::event::{Event, EventKind};
@@ -78,13 +79,11 @@ impl EventQueue {
     pub fn push(&mut self, event: Event) -> Result<(), LinkRelayError>
         ensures { Pushes self.old event result self.new }
     {
-        let kind = event.body.kind();
-        if !self.has_room(kind) {
+        if !self.has_room(event.body.kind()) {
             drop(event);
             return Err(LinkRelayError::OutOfMemory);
         }
-        self.events.push_back_reserved(event);
-        self.used.raise(kind);
+        self.append(event);
         Ok(())
     }
 
@@ -103,5 +102,15 @@ impl EventQueue {
     {
         let missed = &mut self.missed;
         *missed = missed.saturating_add(1);
+    }
+
+    /// Puts an event behind all that wait, where there is room for one more of its kind.
+    fn append(&mut self, event: Event)
+        requires { has_room self.old (kind_of event.body) ≡ true }
+        ensures { self.new ≡ record self.old { events = self.old.events ++ event ∷ [] } }
+    {
+        let kind = event.body.kind();
+        self.events.push_back_reserved(event);
+        self.used.raise(kind);
     }
 }
