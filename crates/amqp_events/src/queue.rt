@@ -1,0 +1,116 @@
+//! The queue of events, as a value.
+
+ghost use Rattle.std.specs.Prelude.{◌≡◌, [], ◌∷◌, ◌++◌, length, true, IfOk};
+ghost use Rattle.amqp_events.specs.Event.{kind_of};
+ghost use Rattle.amqp_events.specs.Queue.{new_queue, has_room, Pushes, Pops, Misses};
+
+use crate::event::{Event, EventKind};
+use crate::room::Room;
+use amqp_session::LinkRelayError;
+use std::alloc::{AllocError, Global};
+use std::collections::VecDeque;
+use std::marker::Model;
+
+/// The events that wait, in the order in which they came. Memory for as many of each kind as there is room for is taken when the queue is
+/// made; after that it asks for none. A contract sees the room, the list of the events, and how many were missed.
+#[derive(Drop)]
+pub struct EventQueue {
+    room: Room,
+    used: Room,
+    events: VecDeque<Event>,
+    missed: u64,
+}
+
+impl Model for EventQueue {
+    ghost use Rattle.std.specs.Prelude.{◌≡◌, ◌≤◌};
+    ghost use Rattle.std.specs.VecDeque.{deque_capacity};
+    ghost use Rattle.amqp_events.specs.Room.{total, counted, Fits};
+    ghost use Rattle.amqp_events.specs.Queue.{QueueView};
+
+    ghost Value = { QueueView };
+
+    ghost view = { λ q. record { room = q.room; events = q.events.items; missed = q.missed } };
+
+    ghost invariant = { λ q. (q.used ≡ counted q.events.items) × Fits q.used q.room × (total q.room ≤ deque_capacity q.events) };
+}
+
+impl EventQueue {
+    /// A queue of no events, with room for so many of each kind. Fails where memory for them is refused.
+    pub fn with_room(alloc: Global, room: Room) -> Result<EventQueue, AllocError>
+        ensures { IfOk result (λ q. q ≡ new_queue room) }
+    {
+        let events = VecDeque::with_capacity(alloc, room.total())?;
+        Ok(EventQueue {
+            room,
+            used: Room {
+                links: 0,
+                flows: 0,
+                transfers: 0,
+                dispositions: 0,
+            },
+            events,
+            missed: 0,
+        })
+    }
+
+    /// How many events wait.
+    pub fn len(&self) -> usize
+        ensures { result ≡ length self.now.events }
+    {
+        self.events.len()
+    }
+
+    /// How many events were missed since the queue was made, up to 18446744073709551615: an event that nobody can refuse, of a disposition
+    /// or a detach, for which there was no room.
+    pub fn missed(&self) -> u64
+        ensures { result ≡ self.now.missed }
+    {
+        self.missed
+    }
+
+    /// Whether there is room for one more event of the kind.
+    pub fn has_room(&self, kind: EventKind) -> bool
+        ensures { result ≡ has_room self.now kind }
+    {
+        self.used.of(kind) < self.room.of(kind)
+    }
+
+    /// Puts an event behind all that wait. `OutOfMemory` exactly where there is no room for one more of its kind: then nothing changes.
+    pub fn push(&mut self, event: Event) -> Result<(), LinkRelayError>
+        ensures { Pushes self.old event result self.new }
+    {
+        if !self.has_room(event.body.kind()) {
+            drop(event);
+            return Err(LinkRelayError::OutOfMemory);
+        }
+        self.append(event);
+        Ok(())
+    }
+
+    /// Takes the event that came first, and gives its room back. `None` where no event waits.
+    pub fn pop(&mut self) -> Option<Event>
+        ensures { Pops self.old result self.new }
+    {
+        let event = self.events.pop_front()?;
+        self.used.lower(event.body.kind());
+        Some(event)
+    }
+
+    /// Notes that an event was missed.
+    pub fn miss(&mut self)
+        ensures { Misses self.old self.new }
+    {
+        let missed = &mut self.missed;
+        *missed = missed.saturating_add(1);
+    }
+
+    /// Puts an event behind all that wait, where there is room for one more of its kind.
+    fn append(&mut self, event: Event)
+        requires { has_room self.old (kind_of event.body) ≡ true }
+        ensures { self.new ≡ record self.old { events = self.old.events ++ event ∷ [] } }
+    {
+        let kind = event.body.kind();
+        self.events.push_back_reserved(event);
+        self.used.raise(kind);
+    }
+}
