@@ -1,5 +1,5 @@
 -- How many blocks there are for so many items.
-use Rattle.std.proofs.Common.{ℕ, ◌+◌, ◌*◌, ◌<◌, ◌≤◌, arith, List, [], ◌∷◌, length, length-append}
+use Rattle.std.proofs.Common.{◌*◌, ◌≤◌, arith, List, [], ◌∷◌, length, length-append}
 use Rattle.amqp_blocks.specs.Chunked.{Block, items_of, EachSome}
 
 module _ {T : Type 0} where
