@@ -29,7 +29,7 @@ CRATE = Path(__file__).resolve().parent.parent / "crates" / "bench_engine"
 MEMORY = {"malloc", "calloc", "realloc", "aligned_alloc", "posix_memalign"}
 # The mode of the program for each order
 MODES = {"in order": "forward", "in reverse": "backward", "from the middle": "middle", "scattered": "scattered", "every second": "second"}
-WIDE, MANY = 1000000, 20000
+WIDE, MANY, LINKS = 1000000, 20000, 8000
 
 
 class Row:
@@ -101,6 +101,13 @@ def of_widths(widths):
         yield from of_received(width)
 
 
+def of_links():
+    """The rows of transfers through so many links: at handles from 1 on, and at handles that collide in a map whose hash has no key. What
+    one costs is to be the same. Each link has its turn once."""
+    for name, mode in ((f"{LINKS} links, receive one and settle it", "links"), (f"{LINKS} links whose handles collide, the same", "colliding")):
+        yield Row(name, mode, (LINKS // 8, LINKS + LINKS // 8), 1, LINKS, left=lambda _: 0)
+
+
 def rows():
     """All rows that are counted."""
     yield from of_batch(100)
@@ -112,6 +119,7 @@ def rows():
     yield Row("ten settled by 2^31 numbers", "wide", (0, 1), 10, 10, 20, largest=1)
     yield Row("settle one of ten, after 100000", "peak", (0, 10), 10, 100000)
     yield from of_widths(WIDTHS)
+    yield from of_links()
 
 
 def rows_to_time():

@@ -8,10 +8,11 @@ use Rattle.std.specs.declared.collections.VecDeque.{VecDeque}
 abbrev pub Block : Type 0 → Type 0
 Block T = VecDeque T Global
 
--- a list of items, and how many more are taken with no request for memory
+-- a list of items, how many more are taken with no request for memory, and how many blocks they are in
 pub record Sequence (T : Type 0) : Type 0 where
   pub items : List T
   pub room : ℕ
+  pub blocks : ℕ
 
 module _ {T : Type 0} where
   -- the items of a block

@@ -46,6 +46,21 @@ fn start(ends: &Vec<usize>, base: usize, block: usize) -> usize
     ends[block - 1]
 }
 
+/// A value comes into a vector that has room for it. At the end nothing has to move: that is so of a block that is alone.
+#[inline(always)]
+fn insert_reserved<U>(values: &mut Vec<U>, at: usize, value: U)
+    requires within { at ≤ length values.old.items }
+    requires room { length values.old.items < vec_capacity values.old }
+    ensures values { values.new.items ≡ insert values.old.items at value }
+    ensures capacity { vec_capacity values.old ≤ vec_capacity values.new }
+{
+    if at == values.len() {
+        values.push_reserved(value);
+    } else {
+        values.insert(at, value).unwrap();
+    }
+}
+
 /// A spare ring becomes a block of one item.
 pub(crate) fn put_alone<T>(
     blocks: &mut Vec<VecDeque<T>>,
@@ -72,8 +87,8 @@ pub(crate) fn put_alone<T>(
     ring.push_back_reserved(item);
     let end = start(ends, base, block) + 1;
     raise_from(ends, block);
-    ends.insert(block, end).unwrap();
-    blocks.insert(block, ring).unwrap();
+    insert_reserved(ends, block, end);
+    insert_reserved(blocks, block, ring);
 }
 
 /// A block is cut in two at a place in it or behind it, with a spare ring for the upper part. No item is lost.

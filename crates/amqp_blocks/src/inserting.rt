@@ -7,7 +7,7 @@ ghost use Rattle.amqp_blocks.specs.Changes.{KeepsPlaces};
 
 use crate::adding::{put_alone, put_in, split};
 use crate::cascade::{cascade, end_of, has_place};
-use crate::search::{Place, locate, total};
+use crate::search::{Place, locate_near, total};
 use std::collections::VecDeque;
 
 /// An item comes to a place in a full block, with a spare ring.
@@ -125,12 +125,13 @@ fn put_near<T>(
     put_at(blocks, ends, base, spare, place, item);
 }
 
-/// An item comes before that of a rank, or to the end.
+/// An item comes before that of a rank, which may be in the hinted block, or to the end.
 pub(crate) fn put_before<T>(
     blocks: &mut Vec<VecDeque<T>>,
     ends: &mut Vec<usize>,
     base: usize,
     spare: &mut Vec<VecDeque<T>>,
+    hint: usize,
     rank: usize,
     item: T,
 )
@@ -146,6 +147,6 @@ pub(crate) fn put_before<T>(
         put_last(blocks, ends, base, spare, item);
         return;
     }
-    let place = locate(ends, base, rank);
+    let place = locate_near(ends, base, hint, rank);
     put_near(blocks, ends, base, spare, place, item);
 }

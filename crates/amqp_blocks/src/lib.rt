@@ -2,10 +2,9 @@
 //!
 //! | Call | What it costs |
 //! |---|---|
-//! | `len`, `first`, `last` | constant |
+//! | `len`, `first`, `last`, `blocks` | constant |
 //! | `push_back`, `pop_front` | constant; where a block is emptied, a step for each block |
-//! | `get`, `seek` | a search of the running lengths of the blocks; constant in the block that was sought last |
-//! | `replace` | a search of the running lengths |
+//! | `get`, `seek`, `replace` | a search of the running lengths of the blocks; constant in the block that was sought last |
 //! | `insert`, `remove_range` | that, and at most a block that moves, and a step for each block behind; dropping what leaves |
 //! | `reserve` | constant, but for the memory that is asked for |
 #![tactic(auto)]

@@ -6,15 +6,17 @@ ghost use Rattle.amqp_blocks.specs.Chunked.{items_of, IsSound};
 use crate::cutting::cut_wide;
 use crate::joining::join_near;
 use crate::leaving::leave;
-use crate::search::{locate, locate_end};
+use crate::search::{locate_end, locate_near};
 use std::collections::VecDeque;
 
-/// The items of a stretch of ranks leave. Answers the base, and the block that the stretch began in.
+/// The items of a stretch of ranks leave. Answers the base, and the block that the stretch began in. What is left of the block that it
+/// ended in is joined with its neighbours, where they have few items together.
 fn cut_out<T: Drop>(
     blocks: &mut Vec<VecDeque<T>>,
     ends: &mut Vec<usize>,
     base: usize,
     spare: &mut Vec<VecDeque<T>>,
+    hint: usize,
     from: usize,
     to: usize,
 ) -> (usize, usize)
@@ -24,13 +26,14 @@ fn cut_out<T: Drop>(
     ensures sound { IsSound result.0 blocks.new ends.new spare.new }
     ensures items { items_of blocks.new.items ≡ take from (items_of blocks.old.items) ++ drop to (items_of blocks.old.items) }
 {
-    let first = locate(ends, base, from);
+    let first = locate_near(ends, base, hint, from);
     if to - from <= blocks[first.block].len() - first.at {
         let base = leave(blocks, ends, spare, base, first, to - from);
         return (base, first.block);
     }
     let last = locate_end(ends, base, to);
     let base = cut_wide(blocks, ends, base, first, last, from, to - from);
+    join_near(blocks, ends, base, spare, first.block + 1);
     (base, first.block)
 }
 
@@ -40,6 +43,7 @@ pub(crate) fn remove_some<T: Drop>(
     ends: &mut Vec<usize>,
     base: usize,
     spare: &mut Vec<VecDeque<T>>,
+    hint: usize,
     from: usize,
     to: usize,
 ) -> usize
@@ -49,7 +53,7 @@ pub(crate) fn remove_some<T: Drop>(
     ensures sound { IsSound result blocks.new ends.new spare.new }
     ensures items { items_of blocks.new.items ≡ take from (items_of blocks.old.items) ++ drop to (items_of blocks.old.items) }
 {
-    let (base, block) = cut_out(blocks, ends, base, spare, from, to);
+    let (base, block) = cut_out(blocks, ends, base, spare, hint, from, to);
     join_near(blocks, ends, base, spare, block);
     base
 }

@@ -1,6 +1,6 @@
 //! The sequence.
 
-ghost use Rattle.std.specs.Prelude.{◌≡◌, ◌==◌, ◌↔◌, ◌+◌, ◌-◌, ◌^◌, ◌<◌, ◌≤◌, [], ◌∷◌, ◌++◌, length, take, drop, slice_get, slice_set, slice_index_or, Some, IsSome, OnOk, option_copied};
+ghost use Rattle.std.specs.Prelude.{◌≡◌, ◌==◌, ◌↔◌, ◌+◌, ◌-◌, ◌*◌, ◌^◌, ◌<◌, ◌≤◌, [], ◌∷◌, ◌++◌, length, take, drop, slice_get, slice_set, slice_index_or, Some, IsSome, OnOk, option_copied};
 ghost use Rattle.std.specs.List.{insert};
 ghost use Rattle.std.specs.Option.{option_to_list};
 ghost use Rattle.amqp_blocks.specs.Chunked.{Block, items_of, start_of, HasItem};
@@ -11,7 +11,7 @@ use crate::leaving::pop;
 use crate::removing::remove_some;
 use crate::rings::write_at;
 use crate::room::make_room;
-use crate::search::{Place, locate, locate_near, total};
+use crate::search::{Place, locate_near, total};
 use std::alloc::{AllocError, Global};
 use std::collections::VecDeque;
 use std::marker::Model;
@@ -34,11 +34,12 @@ pub struct Blocks<T> {
 }
 
 impl<T> Model for Blocks<T> {
+    ghost use Rattle.std.specs.Prelude.{length};
     ghost use Rattle.amqp_blocks.specs.Chunked.{Sequence, items_of, room_of, IsSound};
 
     ghost Value = { Sequence T };
 
-    ghost view = { λ s. record { items = items_of s.blocks.items; room = room_of s.blocks.items s.spare.items } };
+    ghost view = { λ s. record { items = items_of s.blocks.items; room = room_of s.blocks.items s.spare.items; blocks = length s.blocks.items } };
 
     ghost invariant = { λ s. IsSound s.base s.blocks s.ends s.spare };
 }
@@ -81,6 +82,15 @@ impl<T> Blocks<T> {
         ensures { result ≡ (length self.now.items == 0) }
     {
         self.len() == 0
+    }
+
+    /// How many blocks the items are in. Neighbours that have few items together become one as items leave: so there are few where many left.
+    pub fn blocks(&self) -> usize
+        ensures count { result ≡ self.now.blocks }
+        ensures most { result ≤ length self.now.items }
+        ensures least { length self.now.items ≤ 256 * result }
+    {
+        self.blocks.len()
     }
 
     /// The item of a rank, which is below the length.
@@ -176,6 +186,7 @@ impl<T> Blocks<T> {
             &mut self.ends,
             self.base,
             &mut self.spare,
+            self.sought,
             rank,
             item,
         );
@@ -189,7 +200,7 @@ impl<T> Blocks<T> {
         ensures items { self.new.items ≡ slice_set self.old.items rank item }
         ensures room { self.new.room ≡ self.old.room }
     {
-        let place = locate(&self.ends, self.base, rank);
+        let place = locate_near(&self.ends, self.base, self.sought, rank);
         write_at(&mut self.blocks, place, item);
     }
 
@@ -223,6 +234,7 @@ impl<T> Blocks<T> {
             &mut self.ends,
             self.base,
             &mut self.spare,
+            self.sought,
             from,
             to,
         );

@@ -20,6 +20,7 @@ use Rattle.amqp_connection.specs.declared.error.AllocSessionError.{AllocSessionE
 use Rattle.amqp_connection.specs.declared.error.AllocSessionError.TheVariants as full
 use Rattle.amqp_connection.specs.declared.numbers.SessionNo.{SessionNo}
 use Rattle.amqp_connection.specs.Channels.{ChannelTable, IsLowestFree}
+use Rattle.amqp_connection.specs.RouteCounts.{IsLedTo}
 use Rattle.amqp_connection.specs.States.{sends_open, takes_open, sends_close, sends_close_with_error, takes_close}
 
 pub record ConnectionView : Type 0 where
@@ -182,8 +183,7 @@ RouteStep v channel (Err e) w = ⊥
 
 -- whether some channel of the peer's leads to the session
 abbrev pub IsRouted : ConnectionView → ℕ → Bool → Type 0
-IsRouted v number true = (c : ℕ) × (map.get v.session_by_incoming_channel c ≡ Some number)
-IsRouted v number false = (c : ℕ) → ¬ (map.get v.session_by_incoming_channel c ≡ Some number)
+IsRouted v number routed = IsLedTo v.session_by_incoming_channel number routed
 
 -- ---- what a call answered
 

@@ -37,14 +37,15 @@ impl BuildHasher for KeyHash {
 const HINTS: usize = 16;
 
 /// At which index of a map keys were last put or moved to: of the keys with the same lowest bits the one that was noted last.
-/// A hint may be wrong. Who takes it compares the key that stands there, and else asks the map.
+/// A hint may be wrong. Who takes it compares the key that stands there, and else asks the map. So nothing has to hold of a hint, and
+/// [`Hints::new`] and [`Hints::note`] have no clause: what stands on hints, as [`get`] and [`index_of`], is proved of all of them.
 #[derive(Clone, Copy)]
 pub struct Hints {
     places: [u32; HINTS],
 }
 
 impl Hints {
-    /// Nothing was noted.
+    /// Nothing was noted: each key may be at index 0, which is as good as another.
     pub fn new() -> Hints {
         Hints { places: [0; HINTS] }
     }
@@ -55,7 +56,7 @@ impl Hints {
         self.places[key as usize % HINTS] as usize
     }
 
-    /// The key was put at this index, or moved to it.
+    /// The key was put at this index, or moved to it. Of an index past 2^32 a wrong one is remembered.
     #[inline(always)]
     pub fn note(&mut self, key: u32, index: usize) {
         self.places[key as usize % HINTS] = (index % 0x1_0000_0000) as u32;

@@ -23,8 +23,9 @@ use bytes::Bytes;
 /// relay may have a choice. A session reserves memory for all that may follow before it asks.
 ///
 /// An open delivery has a record, which stays until the peer's settled disposition names it, or until this side lets it go by
-/// `Session::settle`, of which an engine is asked by `Input::Settle` (AMQP 1.0 part 2, section 2.6.12). Nothing else closes one: no disposition of this side, settled or not, no
-/// echo, no detach, no End. So a session keeps the record for ever where neither comes, unless its number comes again.
+/// `Session::settle`, of which an engine is asked by `Input::Settle` (AMQP 1.0 part 2, section 2.6.12). Nothing else closes one:
+/// no disposition of this side, settled or not, no echo, no detach, no End. So a session keeps the record for ever where neither
+/// comes, unless its number comes again.
 pub trait LinkRelay: Drop {
     /// What a relay may answer: for each call a relation of the relay before, the arguments, the answer and the relay after.
     ghost gives: { Relays Self };

@@ -22,6 +22,12 @@ const TRANSFER: [u8; 24] = [
     0x42,
 ];
 
+/// The same at a handle that takes four bytes.
+const TRANSFER_AT: [u8; 28] = [
+    2, 0, 0, 0, 0x00, 0x53, 0x14, 0xc0, 19, 5, 0x70, 0, 0, 0, 0, 0x70, 0, 0, 0, 0, 0xa0, 4, 0, 0,
+    0, 0, 0x43, 0x42,
+];
+
 /// A Disposition of the receiver's from 0 to 0: settled and accepted.
 const DISPOSITION: [u8; 26] = [
     2, 0, 0, 0, 0x00, 0x53, 0x15, 0xc0, 17, 5, 0x41, 0x70, 0, 0, 0, 0, 0x70, 0, 0, 0, 0, 0x41,
@@ -52,6 +58,22 @@ pub fn transfer(alloc: Global, channel: u16, number: u32) -> Result<Bytes, Alloc
     frame[2..4].copy_from_slice(&channel.to_be_bytes());
     frame[12..16].copy_from_slice(&number.to_be_bytes());
     frame[18..22].copy_from_slice(&number.to_be_bytes());
+    Bytes::copy_from_slice(alloc, &frame)
+}
+
+/// The same through the link at this handle.
+pub fn transfer_at(
+    alloc: Global,
+    channel: u16,
+    handle: u32,
+    number: u32,
+) -> Result<Bytes, AllocError> {
+    let mut frame = [b'x'; 92];
+    frame[0..28].copy_from_slice(&TRANSFER_AT);
+    frame[2..4].copy_from_slice(&channel.to_be_bytes());
+    frame[11..15].copy_from_slice(&handle.to_be_bytes());
+    frame[16..20].copy_from_slice(&number.to_be_bytes());
+    frame[22..26].copy_from_slice(&number.to_be_bytes());
     Bytes::copy_from_slice(alloc, &frame)
 }
 

@@ -26,6 +26,11 @@
 //! | `wrapped` | the same from the number 2^32 - OPEN / 2 on, so that half of those that are open are past 2^32 |
 //! | `arrivals` | COUNT times OPEN come by the numbers 7919 i mod OPEN, and received dispositions settle them from 0 on |
 //!
+//! | MODE | What is done through many links, whose input handles the peer chose |
+//! |---|---|
+//! | `links` | OPEN links are attached at the handles from 1 on; then COUNT times a transfer comes to one of them, and the peer settles it |
+//! | `colliding` | the same at handles that collide in a map whose hash has no key |
+//!
 //! COUNT is at most OPEN in the modes of sent deliveries that settle one after the other, and half of it in `middle` and `second`;
 //! of what is not open, nothing is settled.
 //!
@@ -45,7 +50,7 @@ use std::alloc::Global;
 use std::env;
 use std::io::{self, BufRead, BufReader, Write};
 
-const MODES: [&str; 16] = [
+const MODES: [&str; 18] = [
     "receive",
     "named",
     "send",
@@ -62,6 +67,8 @@ const MODES: [&str; 16] = [
     "oldest",
     "wrapped",
     "arrivals",
+    "links",
+    "colliding",
 ];
 
 /// Reads the lines of the input.

@@ -1,5 +1,6 @@
 //! The modes: what a session is given, and when.
 
+mod links;
 mod received;
 
 use crate::bench::{Bench, Plan};
@@ -97,6 +98,8 @@ impl<'a> Link<'a> {
             "oldest" => self.settle_oldest(bench, 0),
             "wrapped" => self.settle_oldest(bench, 0u32.wrapping_sub(self.plan.open / 2)),
             "arrivals" => self.receive_scattered(bench),
+            "links" => self.use_links(bench, false),
+            "colliding" => self.use_links(bench, true),
             _ => {
                 self.go_out(bench, self.plan.open)?;
                 self.settle(bench, mode)

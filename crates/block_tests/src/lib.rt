@@ -6,4 +6,6 @@ mod beside;
 #[cfg(test)]
 mod calls;
 #[cfg(test)]
+mod counts;
+#[cfg(test)]
 mod runs;

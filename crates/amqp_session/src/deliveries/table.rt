@@ -7,7 +7,7 @@ ghost use Rattle.amqp_session.specs.Deliveries.{IsRising, IsTable, IsMissing, co
 mod ranges;
 
 use super::{Delivery, ReadCount};
-use amqp_blocks::Blocks;
+use amqp_blocks::{BLOCK, Blocks};
 use std::alloc::{AllocError, Global};
 use std::marker::Model;
 
@@ -94,18 +94,33 @@ fn cut_out(rows: &mut Blocks<Delivery>, from: usize, count: usize)
     }
 }
 
+/// The number at a place, for a search of that width. The reads of a narrow one are near one another, so their block is remembered.
+#[inline(always)]
+fn number_in(rows: &mut Blocks<Delivery>, at: usize, width: usize) -> u32
+    requires within { at < length rows.old.items }
+    ensures value { result ≡ number_at rows.old.items at }
+    ensures kept { rows.new ≡ rows.old }
+{
+    if width > BLOCK {
+        return rows.get(at).number;
+    }
+    rows.seek(at);
+    rows.get(at).number
+}
+
 /// Where the numbers from `number` on begin.
-fn place_among(rows: &Blocks<Delivery>, number: u32) -> usize
-    requires rising { IsRising rows.now.items }
-    ensures within { result ≤ length rows.now.items }
-    ensures below { (i : ℕ) → i < result → number_at rows.now.items i < number }
-    ensures above { (i : ℕ) → result ≤ i → i < length rows.now.items → number ≤ number_at rows.now.items i }
+fn place_among(rows: &mut Blocks<Delivery>, number: u32) -> usize
+    requires rising { IsRising rows.old.items }
+    ensures within { result ≤ length rows.old.items }
+    ensures below { (i : ℕ) → i < result → number_at rows.old.items i < number }
+    ensures above { (i : ℕ) → result ≤ i → i < length rows.old.items → number ≤ number_at rows.old.items i }
+    ensures kept { rows.new ≡ rows.old }
 {
     let mut low = 0;
     let mut high = rows.len();
     while low < high {
         let middle = low + (high - low) / 2;
-        if rows.get(middle).number < number {
+        if number_in(rows, middle, high - low) < number {
             low = middle + 1;
         } else {
             high = middle;
@@ -236,17 +251,18 @@ impl Deliveries {
         ensures capacity { self.old.capacity ≤ self.new.capacity }
         ensures reads { self.new.reads ≡ self.old.reads }
     {
-        let place = place_among(&self.rows, delivery.number);
+        let place = place_among(&mut self.rows, delivery.number);
         put_at(&mut self.rows, place, delivery);
     }
 
     /// Where the numbers from `number` on begin. It is of this module alone, and counts nothing.
-    fn find(&self, number: u32) -> usize
-        ensures within { result ≤ length self.now.rows }
-        ensures below { (i : ℕ) → i < result → number_at self.now.rows i < number }
-        ensures above { (i : ℕ) → result ≤ i → i < length self.now.rows → number ≤ number_at self.now.rows i }
+    fn find(&mut self, number: u32) -> usize
+        ensures within { result ≤ length self.old.rows }
+        ensures below { (i : ℕ) → i < result → number_at self.old.rows i < number }
+        ensures above { (i : ℕ) → result ≤ i → i < length self.old.rows → number ≤ number_at self.old.rows i }
+        ensures kept { self.new ≡ self.old }
     {
-        place_among(&self.rows, number)
+        place_among(&mut self.rows, number)
     }
 
     /// Takes away `count` records from a place on; those past the end are the first ones. What moves is within a block.

@@ -77,7 +77,11 @@ impl<'a> Link<'a> {
     }
 
     /// The peer settles a received delivery.
-    fn give_peer_settled(&self, bench: &mut Bench, number: u32) -> Result<(), AllocError> {
+    pub(super) fn give_peer_settled(
+        &self,
+        bench: &mut Bench,
+        number: u32,
+    ) -> Result<(), AllocError> {
         let frame = frames::settled(self.alloc, self.channel, Role::Sender, number, number)?;
         bench.give(Input::Received(frame))
     }

@@ -14,8 +14,8 @@ returns-then-rank-total-clause-items g c =
     let same : length (items_of bs) ≡ c.args.rank = omega (arith, n, c.if-rank-total.true) in
     c.put_last.ensures.items ∙ ap (λ n. insert (items_of bs) n c.args.item) same
 
-pub locate-place-requires : goal.locate-place-requires
-locate-place-requires g c =
+pub locate_near-place-requires : goal.locate_near-place-requires
+locate_near-place-requires g c =
     let v = c.requires.sound.chunked in
     let n = total_is c.args.base c.total.result c.args.blocks.now.items c.args.ends.now.items v.stops c.total.ensures.none c.total.ensures.some in
     let within : c.args.rank < length (items_of c.args.blocks.now.items) = omega (arith, n, c.if-rank-total.false, c.requires.within) in
@@ -24,8 +24,8 @@ locate-place-requires g c =
 
 pub put_near-requires : goal.put_near-requires
 put_near-requires g c =
-    let e = c.locate-place.ensures in
-    let l = located c.args.base c.args.blocks.now.items c.args.ends.now.items c.locate-place.result.block c.locate-place.result.at c.args.rank c.requires.sound.chunked.stops e.block e.first e.other e.behind in
+    let e = c.locate_near-place.ensures in
+    let l = located c.args.base c.args.blocks.now.items c.args.ends.now.items c.locate_near-place.result.block c.locate_near-place.result.at c.args.rank c.requires.sound.chunked.stops e.block e.first e.other e.behind in
     record {
       sound = c.requires.sound;
       block = l.block_is;
@@ -36,6 +36,6 @@ put_near-requires g c =
 
 pub returns-clause-items : goal.returns-clause-items
 returns-clause-items g c =
-    let e = c.locate-place.ensures in
-    let l = located c.args.base c.args.blocks.now.items c.args.ends.now.items c.locate-place.result.block c.locate-place.result.at c.args.rank c.requires.sound.chunked.stops e.block e.first e.other e.behind in
+    let e = c.locate_near-place.ensures in
+    let l = located c.args.base c.args.blocks.now.items c.args.ends.now.items c.locate_near-place.result.block c.locate_near-place.result.at c.args.rank c.requires.sound.chunked.stops e.block e.first e.other e.behind in
     c.put_near.ensures.items ∙ ap (λ n. insert (items_of c.args.blocks.now.items) n c.args.item) (sym l.rank_is)

@@ -5,8 +5,8 @@ use Rattle.amqp_blocks.proofs.PlaceLemmas.{ends_long, reaches, located, last_end
 use Rattle.amqp_blocks.proofs.PutLemmas.{size_of}
 use Rattle.amqp_blocks.proofs.removing.cut_out.Goals as goal
 
-pub locate-first-requires : goal.locate-first-requires
-locate-first-requires g c =
+pub locate_near-first-requires : goal.locate_near-first-requires
+locate_near-first-requires g c =
     let v = c.requires.sound.chunked in
     let within : c.args.from < length (items_of c.args.blocks.now.items) = omega (arith, c.requires.order, c.requires.within) in
     let r = reaches c.args.base c.args.blocks.now.items c.args.ends.now.items c.args.from v.stops within in
@@ -14,21 +14,21 @@ locate-first-requires g c =
 
 pub index-requires : goal.index-requires
 index-requires g c =
-    let e = c.locate-first.ensures in
-    let l = located c.args.base c.args.blocks.now.items c.args.ends.now.items c.locate-first.result.block c.locate-first.result.at c.args.from c.requires.sound.chunked.stops e.block e.first e.other e.behind in
+    let e = c.locate_near-first.ensures in
+    let l = located c.args.base c.args.blocks.now.items c.args.ends.now.items c.locate_near-first.result.block c.locate_near-first.result.at c.args.from c.requires.sound.chunked.stops e.block e.first e.other e.behind in
     omega (arith, l.block_is, c.args.blocks.now.ok.0)
 
 pub overflow_sub-len : goal.overflow_sub-len
 overflow_sub-len g c =
-    let e = c.locate-first.ensures in
-    let l = located c.args.base c.args.blocks.now.items c.args.ends.now.items c.locate-first.result.block c.locate-first.result.at c.args.from c.requires.sound.chunked.stops e.block e.first e.other e.behind in
+    let e = c.locate_near-first.ensures in
+    let l = located c.args.base c.args.blocks.now.items c.args.ends.now.items c.locate_near-first.result.block c.locate_near-first.result.at c.args.from c.requires.sound.chunked.stops e.block e.first e.other e.behind in
     omega (arith, l.item c.index.result.now c.index.ensures, c.len.ensures, c.index.result.now.ok.0)
 
 pub leave-base-requires : goal.leave-base-requires
 leave-base-requires g c =
-    let e = c.locate-first.ensures in
+    let e = c.locate_near-first.ensures in
     let bs = c.args.blocks.now.items in
-    let first = c.locate-first.result in
+    let first = c.locate_near-first.result in
     let l = located c.args.base bs c.args.ends.now.items first.block first.at c.args.from c.requires.sound.chunked.stops e.block e.first e.other e.behind in
     record {
       chunked = c.requires.sound.chunked;
@@ -58,9 +58,9 @@ stretch from to r count xs e f h =
 
 pub returns-then-to-from-clause-items : goal.returns-then-to-from-clause-items
 returns-then-to-from-clause-items g c =
-    let e = c.locate-first.ensures in
+    let e = c.locate_near-first.ensures in
     let bs = c.args.blocks.now.items in
-    let first = c.locate-first.result in
+    let first = c.locate_near-first.result in
     let l = located c.args.base bs c.args.ends.now.items first.block first.at c.args.from c.requires.sound.chunked.stops e.block e.first e.other e.behind in
     c.leave-base.ensures.items ∙ stretch c.args.from c.args.to (start_of bs first.block + first.at) (c.args.to - c.args.from) (items_of bs) l.rank_is refl (omega (arith, c.requires.order))
 
@@ -70,7 +70,7 @@ locate_end-last-requires g c =
     let bs = c.args.blocks.now.items in
     let es = c.args.ends.now.items in
     let long = ends_long c.args.base bs es v.stops in
-    let some = c.locate-first.ensures.block in
+    let some = c.locate_near-first.ensures.block in
     let last = last_end c.args.base bs es (length es - 1) v.stops (omega (arith, long, some)) in
     record {
       some = omega (arith, some);
@@ -90,8 +90,8 @@ cut_wide-base-requires g c =
     let v = c.requires.sound.chunked in
     let bs = c.args.blocks.now.items in
     let es = c.args.ends.now.items in
-    let e = c.locate-first.ensures in
-    let first = c.locate-first.result in
+    let e = c.locate_near-first.ensures in
+    let first = c.locate_near-first.result in
     let l = located c.args.base bs es first.block first.at c.args.from v.stops e.block e.first e.other e.behind in
     let f = c.locate_end-last.ensures in
     let last = c.locate_end-last.result in
@@ -112,17 +112,19 @@ cut_wide-base-requires g c =
       count = omega (arith, r, c.requires.order);
     }
 
-pub returns-clause-sound : goal.returns-clause-sound
-returns-clause-sound g c =
+pub join_near-requires : goal.join_near-requires
+join_near-requires g c =
     let v = c.requires.sound in
     let e = c.cut_wide-base.ensures in
     record {
-      chunked = e.chunked;
-      spares = v.spares;
-      blocks_fit = omega (arith, e.rings, v.blocks_fit, e.capacity.0);
-      ends_fit = omega (arith, e.rings, v.ends_fit, e.capacity.1);
+      sound = record {
+        chunked = e.chunked;
+        spares = v.spares;
+        blocks_fit = omega (arith, e.rings, v.blocks_fit, e.capacity.0);
+        ends_fit = omega (arith, e.rings, v.ends_fit, e.capacity.1);
+      };
     }
 
 pub returns-clause-items : goal.returns-clause-items
 returns-clause-items g c =
-    c.cut_wide-base.ensures.items ∙ stretch c.args.from c.args.to c.args.from (c.args.to - c.args.from) (items_of c.args.blocks.now.items) refl refl (omega (arith, c.requires.order))
+    c.join_near.ensures.items ∙ c.cut_wide-base.ensures.items ∙ stretch c.args.from c.args.to c.args.from (c.args.to - c.args.from) (items_of c.args.blocks.now.items) refl refl (omega (arith, c.requires.order))

@@ -1,16 +1,23 @@
-use Rattle.std.proofs.Common.{ℕ, ◌+◌, ◌-◌, ◌<◌, ◌≤◌, ◌/◌, length, arith, subst, sym}
+use Rattle.std.proofs.Common.{◌≡◌, ℕ, ◌+◌, ◌-◌, ◌<◌, ◌≤◌, ◌/◌, ◌∙◌, length, arith, ap, subst}
 use Rattle.amqp_session.specs.Deliveries.{number_at}
-use Rattle.amqp_session.proofs.Rising.{below_place, above_place, number_read, stands}
+use Rattle.amqp_session.proofs.Rising.{below_place, above_place}
 use Rattle.amqp_session.proofs.deliveries.table.place_among.Goals as goal
 
-pub loop-low-preserved-then-get-number : goal.loop-low-preserved-then-get-number
-loop-low-preserved-then-get-number c =
+pub number_in-requires : goal.number_in-requires
+number_in-requires c =
+    let v = c.loop-low.invariant in
+    let same = ap (λ s. length s.items) v.kept in
+    record { within = omega (arith, v.within, same) }
+
+pub loop-low-preserved-then-number_in-number : goal.loop-low-preserved-then-number_in-number
+loop-low-preserved-then-number_in-number c =
     let v = c.loop-low.invariant in
     let middle : ℕ = c.loop-low.low + (c.loop-low.high - c.loop-low.low) / 2 in
     let within : middle < length c.args.rows.now.items = omega (arith, v.within) in
-    let value = number_read c.args.rows.now.items middle c.get.result.now within (stands c.args.rows.now.items middle c.get.result.now c.get.ensures.value) in
-    let less : number_at c.args.rows.now.items middle < c.args.number = subst (λ n. n < c.args.number) (sym value) c.if-get-number.true in
+    let value : c.number_in.result ≡ number_at c.args.rows.now.items middle = c.number_in.ensures.value ∙ ap (λ s. number_at s.items middle) v.kept in
+    let less : number_at c.args.rows.now.items middle < c.args.number = subst (λ n. n < c.args.number) value c.if-number_in-number.true in
     record {
+      kept = c.number_in.ensures.kept ∙ v.kept;
       order = omega arith;
       within = v.within;
       below = below_place _ middle c.args.number c.requires.rising within less;
@@ -21,10 +28,10 @@ pub loop-low-preserved : goal.loop-low-preserved
 loop-low-preserved c =
     let v = c.loop-low.invariant in
     let middle : ℕ = c.loop-low.low + (c.loop-low.high - c.loop-low.low) / 2 in
-    let within : middle < length c.args.rows.now.items = omega (arith, v.within) in
-    let value = number_read c.args.rows.now.items middle c.get.result.now within (stands c.args.rows.now.items middle c.get.result.now c.get.ensures.value) in
-    let more : c.args.number ≤ number_at c.args.rows.now.items middle = subst (λ n. c.args.number ≤ n) (sym value) c.if-get-number.false in
+    let value : c.number_in.result ≡ number_at c.args.rows.now.items middle = c.number_in.ensures.value ∙ ap (λ s. number_at s.items middle) v.kept in
+    let more : c.args.number ≤ number_at c.args.rows.now.items middle = subst (λ n. c.args.number ≤ n) value c.if-number_in-number.false in
     record {
+      kept = c.number_in.ensures.kept ∙ v.kept;
       order = omega arith;
       within = omega (arith, v.within);
       below = v.below;
