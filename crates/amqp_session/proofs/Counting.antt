@@ -16,10 +16,13 @@ not_compared t h = with_comparisons t t.reads.comparisons ((t.reads.comparisons 
 pub compared_rows : (t u : TableView) (k : ℕ) → u ≡ compared k t → u.rows ≡ t.rows
 compared_rows t u k e = ap (λ (s : TableView). s.rows) e
 
+pub compared_both : (t u v : TableView) (k n : ℕ) → u ≡ compared k t → v ≡ compared n u → v ≡ compared (k + n) t
+compared_both t u v k n e f =
+    let sum : ((t.reads.comparisons + k) % 2 ^ 64 + n) % 2 ^ 64 ≡ (t.reads.comparisons + (k + n)) % 2 ^ 64 = omega arith in
+    f ∙ ap (λ (s : TableView). compared n s) e ∙ with_comparisons t _ _ sum
+
 pub compared_more : (t u v : TableView) (k : ℕ) → u ≡ compared k t → v ≡ compared 1 u → v ≡ compared (k + 1) t
-compared_more t u v k e f =
-    let n : ((t.reads.comparisons + k) % 2 ^ 64 + 1) % 2 ^ 64 ≡ (t.reads.comparisons + (k + 1)) % 2 ^ 64 = omega arith in
-    f ∙ ap (λ (s : TableView). compared 1 s) e ∙ with_comparisons t _ _ n
+compared_more t u v k e f = compared_both t u v k 1 e f
 
 with_turns : (t : TableView) (m n : ℕ) → m ≡ n →
     (let s : TableView = record t { reads = record t.reads { turns = m } } in s) ≡ record t { reads = record t.reads { turns = n } }

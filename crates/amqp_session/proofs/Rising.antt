@@ -22,6 +22,12 @@ halved c w w' n some half left =
     let least = mul-le-mul_left (2 ^ c) one in
     rw e (omega (arith, below, left), omega (arith, least, left))
 
+-- a read more, where at most a quarter of the places is left
+pub one_spare : (k n : ℕ) → k ≤ 1 → k * 4 ≤ n → 0 < n → 2 ^ (1 + k) ≤ 2 * n + 1
+one_spare zero n le four some = omega (arith, some)
+one_spare (suc zero) n le four some = omega (arith, four)
+one_spare (suc (suc k)) n le four some = absurd (omega (arith, le))
+
 -- few comparisons are made
 pub few : (c n : ℕ) → n < 2 ^ 64 → 2 ^ c ≤ 2 * n + 1 → c < 2 ^ 32 - 1
 few c n small cost =

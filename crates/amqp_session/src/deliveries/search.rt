@@ -32,6 +32,9 @@ impl Deliveries {
                 high = middle;
             }
         }
+        if part.low < part.high {
+            self.note_front(low == part.low);
+        }
         low
     }
 
@@ -54,9 +57,44 @@ impl Deliveries {
             return Part { low: 0, high: len };
         }
         let far = first.saturating_sub(self.first_number()) as usize;
-        Part {
+        let part = Part {
             low: far.saturating_sub(missing).min(len),
             high: far.min(len),
+        };
+        self.narrowed(first, part)
+    }
+
+    /// The part, or less of it: where at most a quarter as many places are in it as there are records, and the last search ended at the first
+    /// place of its part, this one's first place is looked at. It is the one that is sought where the missing numbers are all below `first`, as
+    /// behind deliveries that were settled in order with others left between them.
+    #[inline(always)]
+    fn narrowed(&mut self, first: u32, part: Part) -> Part
+        requires order { part.low ≤ part.high }
+        requires within { part.high ≤ length self.old.rows }
+        requires below { (i : ℕ) → i < part.low → number_at self.old.rows i < first }
+        requires above { (i : ℕ) → part.high ≤ i → i < length self.old.rows → first ≤ number_at self.old.rows i }
+        requires half { 2 * (part.high - part.low) ≤ length self.old.rows }
+        ensures order { result.low ≤ result.high }
+        ensures within { result.high ≤ length self.old.rows }
+        ensures below { (i : ℕ) → i < result.low → number_at self.old.rows i < first }
+        ensures above { (i : ℕ) → result.high ≤ i → i < length self.old.rows → first ≤ number_at self.old.rows i }
+        ensures cost { (k : ℕ) × (self.new ≡ compared k self.old)
+            × (2 ^ (1 + k) * (result.high - result.low) ≤ length self.old.rows) × (k ≤ 1) × (k * 4 ≤ length self.old.rows) }
+    {
+        let len = self.len();
+        let width = part.high - part.low;
+        if width == 0 || len / 4 < width || !self.expects_front() {
+            return part;
+        }
+        if self.number(part.low) < first {
+            return Part {
+                low: part.low + 1,
+                high: part.high,
+            };
+        }
+        Part {
+            low: part.low,
+            high: part.low,
         }
     }
 }

@@ -19,6 +19,8 @@ use std::marker::Model;
 pub(crate) struct Deliveries {
     rows: Blocks<Delivery>,
     reads: ReadCount,
+    /// Whether the last search ended at the first place that it could: a guess for the next one, of which nothing has to hold.
+    at_front: bool,
 }
 
 impl Model for Deliveries {
@@ -140,6 +142,7 @@ impl Deliveries {
         Deliveries {
             rows: Blocks::new(alloc),
             reads: ReadCount::new(),
+            at_front: true,
         }
     }
 
@@ -195,6 +198,20 @@ impl Deliveries {
         self.reads.comparisons = self.reads.comparisons.wrapping_add(1);
         self.rows.seek(at);
         self.rows.get(at).number
+    }
+
+    /// Whether the last search ended at the first place that it could.
+    #[inline(always)]
+    pub(crate) fn expects_front(&self) -> bool {
+        self.at_front
+    }
+
+    /// Notes where a search ended, for the next one.
+    #[inline(always)]
+    pub(crate) fn note_front(&mut self, at_front: bool)
+        ensures { self.new ≡ self.old }
+    {
+        self.at_front = at_front;
     }
 
     /// The record at a place: one turn.
