@@ -77,5 +77,8 @@ fn an_end_is_recorded(rt: HostRuntime) {
 
 #[test]
 fn a_session_that_is_over_is_forgotten(rt: HostRuntime) {
-    assert_eq!(rt; first_wrong_opened(rt.alloc(), &[FULL, ENDED, FORGOTTEN]), None);
+    assert_eq!(rt;
+        first_wrong_opened(rt.alloc(), &[FULL, ENDED, FORGOTTEN]),
+        None
+    );
 }
