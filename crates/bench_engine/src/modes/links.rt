@@ -18,14 +18,15 @@ fn fixed_hash(handle: u32) -> u64 {
     hash ^ (hash >> 32)
 }
 
-/// The next handle behind this one whose hash is alike the hash of 0.
+/// The next handle behind this one whose hash is alike the hash of 0; the last of all, where there is none.
 fn colliding_behind(handle: u32) -> u32 {
     let wanted = fixed_hash(0);
-    let mut next = handle.wrapping_add(1);
-    while (fixed_hash(next) ^ wanted) & ALIKE != 0 {
-        next = next.wrapping_add(1);
+    for next in handle.saturating_add(1)..u32::MAX {
+        if (fixed_hash(next) ^ wanted) & ALIKE == 0 {
+            return next;
+        }
     }
-    next
+    u32::MAX
 }
 
 /// So many handles from 1 on; where they are to collide, only those that do.
