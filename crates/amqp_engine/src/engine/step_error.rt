@@ -39,8 +39,8 @@ pub enum StepError {
     /// Nothing has changed.
     #[error("session in use")]
     SessionInUse,
-    /// Room of the engine's own was refused: for a new session (`Begin`), for a number that stays used (`Forget`), or for the copy of the error of a received Close or End, which
-    /// is kept for handles. Nothing has changed, and what the input held is dropped.
+    /// Room of the engine's own was refused: for a new session (`Begin`), for a number that stays used (`Forget`), or for the copy of the
+    /// error of a received Close or End, which is kept for handles. Nothing has changed, and what the input held is dropped.
     #[error("out of memory")]
     OutOfMemory,
 }
