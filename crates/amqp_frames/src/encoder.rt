@@ -97,11 +97,11 @@ impl FrameEncoder {
         ensures { result ≡ room_beside (widest transfer.now) self.now }
     {
         let room = self.max_piece_len - 4;
-        let len = transfer.widest_len_in(TransferText::Whole);
-        if u128::from(room) < len {
+        let text = transfer.widest_len_in(TransferText::Whole);
+        if u128::from(room) < text {
             return None;
         }
-        Some(room - len as u32)
+        Some(room - text as u32)
     }
 
     /// The most bytes of a piece: at least four.
