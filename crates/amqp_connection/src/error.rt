@@ -161,6 +161,15 @@ impl From<ConnectionInnerError> for Error {
     }
 }
 
+impl AllocSessionError {
+    /// Why the session does not begin, as `BeginError::from` gives it to who names this crate in `crates.txt`.
+    pub fn begin_error(self) -> BeginError
+        ensures { result ≡ begin_of self }
+    {
+        BeginError::from(self)
+    }
+}
+
 impl From<AllocSessionError> for BeginError {
     ghost from_gives = { λ a e. e ≡ begin_of a };
 

@@ -24,6 +24,46 @@ pub struct OutputHandle(pub u32);
 #[derive(Clone, Copy, Debug, PartialEq, Eq, PartialOrd, Ord, Hash)]
 pub struct InputHandle(pub u32);
 
+impl OutgoingChannel {
+    /// The channel's number, as `u16::from` gives it to who names this crate in `crates.txt`.
+    pub fn number(self) -> u16
+        ensures { result ≡ self.0 }
+    {
+        let OutgoingChannel(number) = self;
+        number
+    }
+}
+
+impl IncomingChannel {
+    /// The channel's number, as `u16::from` gives it to who names this crate in `crates.txt`.
+    pub fn number(self) -> u16
+        ensures { result ≡ self.0 }
+    {
+        let IncomingChannel(number) = self;
+        number
+    }
+}
+
+impl OutputHandle {
+    /// The handle as frames have it, as `Handle::from` gives it to who names this crate in `crates.txt`.
+    pub fn handle(self) -> Handle
+        ensures { result ≡ record { 0 = self.0 } }
+    {
+        let OutputHandle(number) = self;
+        Handle(number)
+    }
+}
+
+impl InputHandle {
+    /// The handle as frames have it, as `Handle::from` gives it to who names this crate in `crates.txt`.
+    pub fn handle(self) -> Handle
+        ensures { result ≡ record { 0 = self.0 } }
+    {
+        let InputHandle(number) = self;
+        Handle(number)
+    }
+}
+
 impl From<OutgoingChannel> for u16 {
     ghost from_gives = { λ c n. n ≡ c.0 };
 

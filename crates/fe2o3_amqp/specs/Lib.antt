@@ -1,2 +1,4 @@
+pub mod Conditions
+pub mod Refusals
 pub mod ReplayRelay
 pub mod Transcript

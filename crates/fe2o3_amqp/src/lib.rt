@@ -6,10 +6,12 @@
 //! transcripts: an engine that is driven by lines of text.
 #![tactic(auto)]
 
+mod conditions;
 pub mod connection;
 pub mod definitions;
 pub mod frames;
 pub mod laws;
+mod refusals;
 pub mod session;
 mod settings;
 mod transcript;
@@ -36,5 +38,7 @@ pub use amqp_types::{
     Role, SenderSettleMode, SequenceNo, SessionState, Symbol, Transfer, TransferNumber,
     TransferText, Uint, ValueRef, WriteError, is_terminal,
 };
+pub use conditions::ErrorCondition;
+pub use refusals::{PeerAnswer, answer_to};
 pub use settings::{DEFAULT_CHANNEL_MAX, DEFAULT_MAX_FRAME_SIZE};
 pub use transcript::{ReplayRelay, err_name, hex_bytes, out_line, replay};

@@ -1,0 +1,93 @@
+-- What the peer is told of a refused frame: the condition, and the frame that carries it, an End (part 2, section 2.7.8) or a Close
+-- (section 2.7.9). What each condition means stands in sections 2.8.15 and 2.8.17.
+use Rattle.std.specs.Prelude.{Bool, true, false, Option, Some, None, if◌then◌else◌}
+use Rattle.amqp_types.specs.declared.states.ConnectionState.{ConnectionState}
+use Rattle.amqp_types.specs.declared.states.ConnectionState.TheVariants as its
+use Rattle.amqp_frames.specs.declared.error.Error.{Error}
+use Rattle.amqp_frames.specs.declared.error.Error.TheVariants as frame
+use Rattle.amqp_connection.specs.declared.error.ConnectionStateError.{ConnectionStateError}
+use Rattle.amqp_connection.specs.declared.error.ConnectionStateError.TheVariants as state
+use Rattle.amqp_connection.specs.declared.error.ConnectionInnerError.{ConnectionInnerError}
+use Rattle.amqp_connection.specs.declared.error.ConnectionInnerError.TheVariants as inner
+use Rattle.amqp_session.specs.declared.error.SessionStateError.{SessionStateError}
+use Rattle.amqp_session.specs.declared.error.SessionStateError.TheVariants as begun
+use Rattle.amqp_session.specs.declared.error.SessionInnerError.{SessionInnerError}
+use Rattle.amqp_session.specs.declared.error.SessionInnerError.TheVariants as session
+use Rattle.amqp_engine.specs.declared.engine.step_error.StepError.{StepError}
+use Rattle.amqp_engine.specs.declared.engine.step_error.StepError.TheVariants as no
+use Rattle.fe2o3_amqp.specs.declared.conditions.ErrorCondition.TheVariants as is
+use Rattle.fe2o3_amqp.specs.declared.refusals.PeerAnswer.{PeerAnswer}
+use Rattle.fe2o3_amqp.specs.declared.refusals.PeerAnswer.TheVariants as by
+
+-- the bytes: of a frame of this side's that is too large, and of a failed transport, the peer is told nothing
+abbrev pub frame_told : Error → Option PeerAnswer
+frame_told (frame.Io text) = None
+frame_told frame.DecodeError = Some (by.Close is.DecodeError)
+frame_told frame.NotImplemented = Some (by.Close is.NotImplemented)
+frame_told frame.TooLarge = None
+frame_told frame.OutOfMemory = Some (by.Close is.ResourceLimitExceeded)
+
+-- an Open or a Close: memory is asked for by this side's own Open alone
+abbrev pub state_told : ConnectionStateError → Option PeerAnswer
+state_told state.IllegalState = Some (by.Close is.IllegalState)
+state_told state.RemoteClosed = None
+state_told (state.RemoteClosedWithError e) = None
+state_told (state.TransportError text) = None
+state_told state.OutOfMemory = None
+
+-- a frame of a session, on the way to it
+abbrev pub inner_told : ConnectionInnerError → Option PeerAnswer
+inner_told (inner.TransportError text) = None
+inner_told inner.IllegalState = Some (by.Close is.IllegalState)
+inner_told (inner.NotImplemented text) = Some (by.Close is.NotImplemented)
+inner_told (inner.NotFound text) = Some (by.Close is.NotFound)
+inner_told inner.RemoteClosed = None
+inner_told (inner.RemoteClosedWithError e) = None
+inner_told inner.OutOfMemory = Some (by.Close is.ResourceLimitExceeded)
+
+-- a Begin or an End, at its session: memory is asked for by this side's own Begin alone
+abbrev pub session_state_told : SessionStateError → Option PeerAnswer
+session_state_told begun.IllegalState = Some (by.End is.IllegalState)
+session_state_told (begun.ConnectionStopped reason) = None
+session_state_told begun.RemoteEnded = None
+session_state_told (begun.RemoteEndedWithError e) = None
+session_state_told begun.OutOfMemory = None
+
+-- any other frame of a session: a transfer of this side's alone is in an illegal state
+abbrev pub session_told : SessionInnerError → Option PeerAnswer
+session_told session.UnattachedHandle = Some (by.End is.UnattachedHandle)
+session_told session.RemoteAttachingLinkNameNotFound = Some (by.End is.NotFound)
+session_told session.HandleInUse = Some (by.End is.HandleInUse)
+session_told session.IllegalState = None
+session_told (session.ConnectionStopped reason) = None
+session_told session.TransferFrameToSender = Some (by.End is.NotAllowed)
+session_told session.RemoteEnded = None
+session_told (session.RemoteEndedWithError e) = None
+session_told session.UnknownTxnId = Some (by.End is.UnknownTransaction)
+session_told session.OutOfMemory = Some (by.End is.ResourceLimitExceeded)
+
+-- all refusals: those without a row of their own above are of this side's requests
+abbrev pub told_of : StepError → Option PeerAnswer
+told_of no.OutputWaiting = None
+told_of (no.Frame e) = frame_told e
+told_of (no.ConnectionState e) = state_told e
+told_of (no.Connection e) = inner_told e
+told_of (no.AllocSession e) = None
+told_of (no.SessionState e) = session_state_told e
+told_of (no.Session e) = session_told e
+told_of (no.AllocLink e) = None
+told_of no.SessionInUse = None
+told_of no.NoSession = None
+told_of no.OutOfMemory = Some (by.Close is.ResourceLimitExceeded)
+
+-- The states in which this side's Close went out: nothing may follow it (sections 2.4.3 and 2.4.6).
+abbrev pub has_closed : ConnectionState → Bool
+has_closed its.ClosePipe = true
+has_closed its.OpenClosePipe = true
+has_closed its.CloseSent = true
+has_closed its.Discarding = true
+has_closed its.End = true
+has_closed s = false
+
+abbrev pub answer_of : StepError → ConnectionState → Option PeerAnswer
+answer_of e s = if has_closed s then None else told_of e

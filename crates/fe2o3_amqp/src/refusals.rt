@@ -1,0 +1,153 @@
+//! What the peer is told of a refused frame: the condition, and the frame that carries it.
+
+ghost use Rattle.std.specs.Prelude.{◌≡◌};
+ghost use Rattle.fe2o3_amqp.specs.Refusals.{answer_of, told_of, frame_told, state_told, inner_told, session_state_told, session_told, has_closed};
+
+use crate::conditions::ErrorCondition;
+use amqp_connection::{ConnectionInnerError, ConnectionStateError};
+use amqp_engine::StepError;
+use amqp_frames::Error as FrameError;
+use amqp_session::{SessionInnerError, SessionStateError};
+use amqp_types::ConnectionState;
+
+/// What the peer is told of a refused frame. [`ErrorCondition::to_error`] makes the error of it.
+#[derive(Clone, Copy, Debug, PartialEq, Eq)]
+pub enum PeerAnswer {
+    /// The session to which the frame went is ended with this condition: `Input::End` (AMQP 1.0 part 2, section 2.7.8).
+    End(ErrorCondition),
+    /// The connection is closed with this condition: `Input::Close` (part 2, section 2.7.9).
+    Close(ErrorCondition),
+}
+
+/// What the peer is told where a received frame was refused with this error, and the connection is in this state (AMQP 1.0 part 2,
+/// sections 2.7.8, 2.7.9 and 2.8.15 to 2.8.18). `docs/PROTOCOL.md` has it as a table.
+///
+/// `None` where there is nothing to tell: behind this side's Close, where what comes is passed over (section 2.4.6); where the peer ended
+/// the session or closed the connection, which wants this side's own End or Close, without an error; where the transport failed; and where only
+/// a request of this side's is refused so.
+///
+/// It is to be asked of frames that came. A request of this side's is refused with some of the same errors, and the peer is told of none.
+///
+/// The session of an `End` is that of the frame's channel: `Connection::session_tx_by_incoming_channel`. The engine refuses an End of a
+/// session that this side has ended, and a Close before this side's Open; nothing goes out then. So a side that has sent no Open asks for
+/// that first.
+pub fn answer_to(error: &StepError, state: ConnectionState) -> Option<PeerAnswer>
+    ensures { result ≡ answer_of error.now state }
+{
+    if has_closed(state) {
+        return None;
+    }
+    told_of(error)
+}
+
+fn told_of(error: &StepError) -> Option<PeerAnswer>
+    ensures { result ≡ told_of error.now }
+{
+    match error {
+        StepError::Frame(inner) => frame_told(inner),
+        StepError::ConnectionState(inner) => state_told(inner),
+        StepError::Connection(inner) => inner_told(inner),
+        StepError::SessionState(inner) => session_state_told(inner),
+        StepError::Session(inner) => session_told(inner),
+        StepError::OutOfMemory => Some(PeerAnswer::Close(ErrorCondition::ResourceLimitExceeded)),
+        StepError::OutputWaiting
+        | StepError::AllocSession(_)
+        | StepError::AllocLink(_)
+        | StepError::NoSession
+        | StepError::SessionInUse => None,
+    }
+}
+
+fn frame_told(error: &FrameError) -> Option<PeerAnswer>
+    ensures { result ≡ frame_told error.now }
+{
+    match error {
+        FrameError::DecodeError => Some(PeerAnswer::Close(ErrorCondition::DecodeError)),
+        FrameError::NotImplemented => Some(PeerAnswer::Close(ErrorCondition::NotImplemented)),
+        FrameError::OutOfMemory => Some(PeerAnswer::Close(ErrorCondition::ResourceLimitExceeded)),
+        FrameError::Io(_) | FrameError::TooLarge => None,
+    }
+}
+
+fn state_told(error: &ConnectionStateError) -> Option<PeerAnswer>
+    ensures { result ≡ state_told error.now }
+{
+    match error {
+        ConnectionStateError::IllegalState => Some(PeerAnswer::Close(ErrorCondition::IllegalState)),
+        ConnectionStateError::RemoteClosed
+        | ConnectionStateError::RemoteClosedWithError(_)
+        | ConnectionStateError::TransportError(_)
+        | ConnectionStateError::OutOfMemory => None,
+    }
+}
+
+fn inner_told(error: &ConnectionInnerError) -> Option<PeerAnswer>
+    ensures { result ≡ inner_told error.now }
+{
+    match error {
+        ConnectionInnerError::IllegalState => Some(PeerAnswer::Close(ErrorCondition::IllegalState)),
+        ConnectionInnerError::NotImplemented(_) => {
+            Some(PeerAnswer::Close(ErrorCondition::NotImplemented))
+        }
+        ConnectionInnerError::NotFound(_) => Some(PeerAnswer::Close(ErrorCondition::NotFound)),
+        ConnectionInnerError::OutOfMemory => {
+            Some(PeerAnswer::Close(ErrorCondition::ResourceLimitExceeded))
+        }
+        ConnectionInnerError::TransportError(_)
+        | ConnectionInnerError::RemoteClosed
+        | ConnectionInnerError::RemoteClosedWithError(_) => None,
+    }
+}
+
+fn session_state_told(error: &SessionStateError) -> Option<PeerAnswer>
+    ensures { result ≡ session_state_told error.now }
+{
+    match error {
+        SessionStateError::IllegalState => Some(PeerAnswer::End(ErrorCondition::IllegalState)),
+        SessionStateError::ConnectionStopped(_)
+        | SessionStateError::RemoteEnded
+        | SessionStateError::RemoteEndedWithError(_)
+        | SessionStateError::OutOfMemory => None,
+    }
+}
+
+fn session_told(error: &SessionInnerError) -> Option<PeerAnswer>
+    ensures { result ≡ session_told error.now }
+{
+    match error {
+        SessionInnerError::UnattachedHandle => {
+            Some(PeerAnswer::End(ErrorCondition::UnattachedHandle))
+        }
+        SessionInnerError::RemoteAttachingLinkNameNotFound => {
+            Some(PeerAnswer::End(ErrorCondition::NotFound))
+        }
+        SessionInnerError::HandleInUse => Some(PeerAnswer::End(ErrorCondition::HandleInUse)),
+        SessionInnerError::TransferFrameToSender => {
+            Some(PeerAnswer::End(ErrorCondition::NotAllowed))
+        }
+        SessionInnerError::UnknownTxnId => {
+            Some(PeerAnswer::End(ErrorCondition::UnknownTransaction))
+        }
+        SessionInnerError::OutOfMemory => {
+            Some(PeerAnswer::End(ErrorCondition::ResourceLimitExceeded))
+        }
+        SessionInnerError::IllegalState
+        | SessionInnerError::ConnectionStopped(_)
+        | SessionInnerError::RemoteEnded
+        | SessionInnerError::RemoteEndedWithError(_) => None,
+    }
+}
+
+/// Whether this side's Close went out, so that nothing more may.
+fn has_closed(state: ConnectionState) -> bool
+    ensures { result ≡ has_closed state }
+{
+    matches!(
+        state,
+        ConnectionState::ClosePipe
+            | ConnectionState::OpenClosePipe
+            | ConnectionState::CloseSent
+            | ConnectionState::Discarding
+            | ConnectionState::End
+    )
+}
