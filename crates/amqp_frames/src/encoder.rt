@@ -109,8 +109,8 @@ impl FrameEncoder {
         ensures value { result ≡ self.now }
         ensures header { 4 ≤ result }
     {
-        let FrameEncoder { max_piece_len } = self;
-        *max_piece_len
+        let limit = &self.max_piece_len;
+        *limit
     }
 
     /// The pieces of the frame, the head of one that is whole in this room.

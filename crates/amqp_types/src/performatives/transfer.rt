@@ -247,8 +247,7 @@ impl Transfer {
         match text {
             TransferText::Whole => self.parts_numbered(Some(u32::MAX), self.more),
             TransferText::First => self.parts_numbered(Some(u32::MAX), true),
-            TransferText::Middle => self.parts_continued(true),
-            TransferText::Last => self.parts_continued(self.more),
+            TransferText::Middle | TransferText::Last => self.parts_in(text),
         }
     }
 
