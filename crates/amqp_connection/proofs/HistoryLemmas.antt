@@ -21,7 +21,7 @@ use Rattle.amqp_connection.specs.Connection.{ConnectionView, new_connection, Sen
 use Rattle.amqp_connection.specs.Connection.{AllocateStep, DeallocateStep, BeginRouteStep, EndRouteStep}
 use Rattle.amqp_connection.specs.History.{Entry, SendOpen, SendClose, IncomingOpen, IncomingClose, Stop, Allocate, Deallocate, IncomingBegin}
 use Rattle.amqp_connection.specs.History.{IncomingEnd, OutgoingBegin, OutgoingEnd, Step, Chain, LeadsTo}
-use Rattle.amqp_connection.specs.ByHistory.{state_by, state_from, reason_by, reason_from, channel_max_by, channel_max_from, held_by, held_from, route_by, route_from, Stands}
+use Rattle.amqp_connection.specs.ByHistory.{state_by, state_from, reason_by, reason_from, remote_open_by, remote_open_from, channel_max_by, channel_max_from, held_by, held_from, route_by, route_from, Stands}
 use Rattle.amqp_session.proofs.AsMap.{same_test}
 
 -- ---- after a call
@@ -41,6 +41,7 @@ after v e = record {
   state = state_by v.state e;
   stop_reason = reason_by e v.stop_reason;
   local_open = v.local_open;
+  remote_open = remote_open_by e v.remote_open;
   agreed_channel_max = channel_max_by v.local_open e v.agreed_channel_max;
   session_by_outgoing_channel = held_after e v.session_by_outgoing_channel;
   session_by_incoming_channel = routes_after e v.session_by_incoming_channel;
@@ -58,7 +59,7 @@ sent_close v w error (Err state.IllegalState) s = s.1
 sent_close v w error (Err e) s = absurd s
 
 came_open : (v w : ConnectionView) (o : OpenSaid) (r : Option ConnectionStateError) → IncomingOpenStep v o r w → w ≡ after v (IncomingOpen o r)
-came_open v w o None s = s.2 ∙ ap (λ x. record v { state = unwrap_or x v.state; agreed_channel_max = channel_max_by v.local_open (IncomingOpen o None) v.agreed_channel_max }) (sym s.1)
+came_open v w o None s = s.2 ∙ ap (λ x. record v { state = unwrap_or x v.state; remote_open = Some o; agreed_channel_max = channel_max_by v.local_open (IncomingOpen o None) v.agreed_channel_max }) (sym s.1)
 came_open v w o (Some state.IllegalState) s = s.1
 came_open v w o (Some e) s = absurd s
 
@@ -137,6 +138,10 @@ all_open : (H : List Entry) (v : ConnectionView) → (after_all v H).local_open 
 all_open [] v = refl
 all_open (e ∷ H) v = all_open H (after v e)
 
+all_remote : (H : List Entry) (v : ConnectionView) → (after_all v H).remote_open ≡ remote_open_from v.remote_open H
+all_remote [] v = refl
+all_remote (e ∷ H) v = all_remote H (after v e)
+
 all_max : (H : List Entry) (v : ConnectionView) → (after_all v H).agreed_channel_max ≡ channel_max_from v.local_open v.agreed_channel_max H
 all_max [] v = refl
 all_max (e ∷ H) v = all_max H (after v e)
@@ -173,6 +178,7 @@ stands s o H v l =
       state_is = ap (λ (x : ConnectionView). x.state) is ∙ all_state H new;
       stop_reason_is = ap (λ (x : ConnectionView). x.stop_reason) is ∙ all_reason H new;
       local_open_is = ap (λ (x : ConnectionView). x.local_open) is ∙ all_open H new;
+      remote_open_is = ap (λ (x : ConnectionView). x.remote_open) is ∙ all_remote H new;
       channel_max_is = ap (λ (x : ConnectionView). x.agreed_channel_max) is ∙ all_max H new;
       held_is = λ c. ap (λ (x : ConnectionView). map.get x.session_by_outgoing_channel c) is ∙ all_held c H new ∙ ap (λ x. held_from c x H) (get-empty nat_cmp c);
       routes_are = λ c. ap (λ (x : ConnectionView). map.get x.session_by_incoming_channel c) is ∙ all_routes c H new ∙ ap (λ x. route_from c x H) (get-empty nat_cmp c);

@@ -36,6 +36,16 @@ abbrev pub reason_from : Option ConnectionStopReason → List Entry → Option C
 reason_from old [] = old
 reason_from old (e ∷ es) = reason_from (reason_by e old) es
 
+-- ---- the peer's Open that was accepted last
+
+abbrev pub remote_open_by : Entry → Option OpenSaid → Option OpenSaid
+remote_open_by (IncomingOpen o None) old = Some o
+remote_open_by e old = old
+
+abbrev pub remote_open_from : Option OpenSaid → List Entry → Option OpenSaid
+remote_open_from old [] = old
+remote_open_from old (e ∷ es) = remote_open_from (remote_open_by e old) es
+
 -- ---- the highest channel that both sides allow: that of this side's Open, until one of the peer's is accepted
 
 abbrev pub channel_max_by : OpenSaid → Entry → ℕ → ℕ
@@ -74,6 +84,7 @@ pub record Stands (s : ConnectionState) (o : OpenSaid) (H : List Entry) (v : Con
   pub state_is : v.state ≡ state_from s H
   pub stop_reason_is : v.stop_reason ≡ reason_from None H
   pub local_open_is : v.local_open ≡ o
+  pub remote_open_is : v.remote_open ≡ remote_open_from None H
   pub channel_max_is : v.agreed_channel_max ≡ channel_max_from o o.channel_max H
   pub held_is : (c : ℕ) → map.get v.session_by_outgoing_channel c ≡ held_from c None H
   pub routes_are : (c : ℕ) → map.get v.session_by_incoming_channel c ≡ route_from c None H

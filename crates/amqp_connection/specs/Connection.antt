@@ -29,6 +29,8 @@ pub record ConnectionView : Type 0 where
   pub stop_reason : Option ConnectionStopReason
   -- the Open of this side
   pub local_open : OpenSaid
+  -- the peer's Open that was accepted last
+  pub remote_open : Option OpenSaid
   -- the highest channel that both sides allow; that of this side until the peer's Open is accepted
   pub agreed_channel_max : ℕ
   -- the session of each channel that is held
@@ -41,6 +43,7 @@ new_connection s o = record {
   state = s;
   stop_reason = None;
   local_open = o;
+  remote_open = None;
   agreed_channel_max = o.channel_max;
   session_by_outgoing_channel = map.empty;
   session_by_incoming_channel = map.empty;
@@ -70,7 +73,7 @@ SendOpenStep v (Err e) w = ⊥
 abbrev pub IncomingOpenStep : ConnectionView → OpenSaid → Option ConnectionStateError → ConnectionView → Type 0
 IncomingOpenStep v o None w =
     (s : ConnectionState) × (takes_open v.state ≡ Some s)
-    × (w ≡ record v { state = s; agreed_channel_max = min v.local_open.channel_max o.channel_max })
+    × (w ≡ record v { state = s; remote_open = Some o; agreed_channel_max = min v.local_open.channel_max o.channel_max })
 IncomingOpenStep v o (Some state.IllegalState) w = (takes_open v.state ≡ None) × (w ≡ v)
 IncomingOpenStep v o (Some e) w = ⊥
 

@@ -1,6 +1,7 @@
 //! The connection: its state, its Opens, its channels and the routes of received frames.
 
 ghost use Rattle.std.specs.Prelude.{◌≡◌};
+ghost use Rattle.std.specs.Option.{option_map};
 ghost use Rattle.amqp_session.specs.declared.stop.ConnectionStopReason.{ConnectionStopReason};
 ghost use Rattle.amqp_connection.specs.Connection.{new_connection, stopped};
 
@@ -26,6 +27,7 @@ pub struct Connection {
     state: ConnectionState,
     stop_reason: Option<ConnectionStopReason>,
     local_open: Open,
+    remote_open: Option<Open>,
     agreed_channel_max: u16,
     session_by_outgoing_channel: ChannelTable,
     session_by_incoming_channel: RouteTable,
@@ -44,6 +46,7 @@ impl Model for Connection {
       state = c.state;
       stop_reason = c.stop_reason;
       local_open = c.local_open;
+      remote_open = c.remote_open;
       agreed_channel_max = c.agreed_channel_max;
       session_by_outgoing_channel = c.session_by_outgoing_channel;
       session_by_incoming_channel = c.session_by_incoming_channel;
@@ -73,6 +76,7 @@ impl Connection {
             stop_reason: None,
             agreed_channel_max: local_open.channel_max,
             local_open,
+            remote_open: None,
             session_by_outgoing_channel: ChannelTable::new(alloc),
             session_by_incoming_channel: RouteTable::new(alloc, hash),
         }
@@ -90,6 +94,14 @@ impl Connection {
         ensures { result.now ≡ self.now.local_open }
     {
         &self.local_open
+    }
+
+    /// The peer's Open that was accepted last, if one was: with its max-frame-size, channel-max and idle-time-out, and what it offers
+    /// (AMQP 1.0 part 2, section 2.7.1).
+    pub fn remote_open(&self) -> Option<&Open>
+        ensures { option_map (λ o. o.now) result ≡ self.now.remote_open }
+    {
+        self.remote_open.as_ref()
     }
 
     /// Why the connection stopped, where a reason is recorded.

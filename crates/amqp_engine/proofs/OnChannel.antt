@@ -21,7 +21,7 @@ use Rattle.amqp_engine.proofs.Beginning.{some_none}
 use Rattle.amqp_engine.proofs.Passages.{passage, chain_split}
 use Rattle.amqp_engine.proofs.Projection.{Legal, legal, same_some}
 
-of_both : {R : Type 0} (n : ℕ) (xs ys : List (Entry R)) → of_session n (xs ++ ys) ≡ of_session n xs ++ of_session n ys
+pub of_both : {R : Type 0} (n : ℕ) (xs ys : List (Entry R)) → of_session n (xs ++ ys) ≡ of_session n xs ++ of_session n ys
 of_both n [] ys = refl
 of_both n (e ∷ xs) ys = ap (λ (cs : List (session.Entry _)). calls_at n e ++ cs) (of_both n xs ys) ∙ sym (append_assoc (calls_at n e) (of_session n xs) (of_session n ys))
 
@@ -41,7 +41,7 @@ sent_on : (c : ℕ) (fs : List SessionFrame) → OnChannel c fs → AllOn c (sen
 sent_on c [] a = tt
 sent_on c (f ∷ fs) a = (a.0, sent_on c fs a.1)
 
-calls_here : {R : Type 0} (n : ℕ) (e : Entry R) → e.reached ≡ Some n → calls_at n e ≡ e.calls
+pub calls_here : {R : Type 0} (n : ℕ) (e : Entry R) → e.reached ≡ Some n → calls_at n e ≡ e.calls
 calls_here n e r =
     let yes : nat_eq n n ≡ true = grind (arith, nat_tests) in
     ap (λ o. cond (is_number n o) e.calls []) r ∙ ap (λ b. cond b e.calls []) yes

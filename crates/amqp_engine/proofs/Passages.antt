@@ -24,7 +24,7 @@ use Rattle.amqp_engine.specs.Engine.{Step}
 use Rattle.amqp_engine.specs.Entry.{Entry}
 use Rattle.amqp_engine.specs.Event.{Event, Quiet, SentOpen, SentClose, AcceptedOpen, CameClose, Began, Released, Forgot, Routed, Unrouted, event, event_by}
 use Rattle.amqp_engine.proofs.Apart.{Taken, Chain}
-use Rattle.amqp_engine.specs.ByHistory.{remote_close_reason, state_by, state_from, reason_by, reason_from, channel_max_by, channel_max_from, limit_by, limit_after, numbers_by, waiting_by, last_frames_from}
+use Rattle.amqp_engine.specs.ByHistory.{remote_close_reason, state_by, state_from, reason_by, reason_from, remote_open_by, remote_open_from, channel_max_by, channel_max_from, limit_by, limit_after, numbers_by, waiting_by, last_frames_from}
 use Rattle.amqp_engine.specs.Headline.{own_frames}
 use Rattle.amqp_engine.proofs.Beginning.{some_none}
 use Rattle.amqp_engine.proofs.Deeds.{Moved, NoneMoves, Effect, after_close, close_refusal, stops, quiet}
@@ -101,10 +101,11 @@ record Settled : Type 0 where
   state : ConnectionState
   stop_reason : Option ConnectionStopReason
   local_open : OpenSaid
+  remote_open : Option OpenSaid
   agreed_channel_max : ℕ
 
 abbrev settled : ConnectionView → Settled
-settled k = record { state = k.state; stop_reason = k.stop_reason; local_open = k.local_open; agreed_channel_max = k.agreed_channel_max }
+settled k = record { state = k.state; stop_reason = k.stop_reason; local_open = k.local_open; remote_open = k.remote_open; agreed_channel_max = k.agreed_channel_max }
 
 -- the connection after the peer's Close
 stopped_by : (next : Option ConnectionState) (error : Option ErrorSaid) (v : ConnectionView) → after_all v (stops next error) ≡ record v { stop_reason = remote_close_reason next error v.stop_reason }
@@ -119,6 +120,7 @@ settles : (v w : ConnectionView) (ev : Event) → Moved v ev w → ◌≡◌ {A 
   state = state_by v.state ev;
   stop_reason = reason_by v.state ev v.stop_reason;
   local_open = v.local_open;
+  remote_open = remote_open_by ev v.remote_open;
   agreed_channel_max = channel_max_by v.local_open ev v.agreed_channel_max;
 })
 settles v w Quiet m = ap settled (went v w m.calls _ m.happens m.chain)
@@ -174,12 +176,19 @@ reason_law g es v w c = ap (λ (x : Standing). x.1) (standing_law g es v w c)
 moved_open : (v w : ConnectionView) (ev : Event) → Moved v ev w → w.local_open ≡ v.local_open
 moved_open v w ev m = ap (λ (k : Settled). k.local_open) (settles v w ev m)
 
+moved_remote : (v w : ConnectionView) (ev : Event) → Moved v ev w → w.remote_open ≡ remote_open_by ev v.remote_open
+moved_remote v w ev m = ap (λ (k : Settled). k.remote_open) (settles v w ev m)
+
 moved_max : (v w : ConnectionView) (ev : Event) → Moved v ev w → w.agreed_channel_max ≡ channel_max_by v.local_open ev v.agreed_channel_max
 moved_max v w ev m = ap (λ (k : Settled). k.agreed_channel_max) (settles v w ev m)
 
 pub open_law : {R : Type 0} (g : Relays R) (es : List (Entry R)) (v w : EngineView R) → Chain g v es w → w.connection.local_open ≡ v.connection.local_open
 open_law g = by_history g (λ v. v.connection.local_open) (λ e o. o) (λ o es. o) (λ x. refl) (λ x e es. refl)
     (λ v w t. ap (λ (k : ConnectionView). k.local_open) t.connection_is) (λ v w e p. moved_open v.connection w.connection (event e) p.moved)
+
+pub remote_open_law : {R : Type 0} (g : Relays R) (es : List (Entry R)) (v w : EngineView R) → Chain g v es w → w.connection.remote_open ≡ remote_open_from v.connection.remote_open es
+remote_open_law g = by_history g (λ v. v.connection.remote_open) (λ e o. remote_open_by (event e) o) remote_open_from (λ x. refl) (λ x e es. refl)
+    (λ v w t. ap (λ (k : ConnectionView). k.remote_open) t.connection_is) (λ v w e p. moved_remote v.connection w.connection (event e) p.moved)
 
 pub channel_max_law : {R : Type 0} (g : Relays R) (own : OpenSaid) (es : List (Entry R)) (v w : EngineView R) → v.connection.local_open ≡ own → Chain g v es w → w.connection.agreed_channel_max ≡ channel_max_from own v.connection.agreed_channel_max es
 channel_max_law g own [] v w is c = ap (λ (k : ConnectionView). k.agreed_channel_max) c.connection_is

@@ -11,7 +11,7 @@ use Rattle.amqp_engine.proofs.Apart.{LeadsTo}
 use Rattle.amqp_engine.specs.ByHistory.{of_session, live}
 use Rattle.amqp_engine.specs.Views.{Stands}
 use Rattle.amqp_engine.proofs.Beginning.{some_none}
-use Rattle.amqp_engine.proofs.Passages.{state_law, reason_law, open_law, channel_max_law, limit_law, waiting_law}
+use Rattle.amqp_engine.proofs.Passages.{state_law, reason_law, open_law, remote_open_law, channel_max_law, limit_law, waiting_law}
 use Rattle.amqp_engine.proofs.Projection.{legal, lives, numbers_are, same_some}
 use Rattle.amqp_engine.proofs.Keeping.{holds, routes}
 use Rattle.amqp_engine.proofs.Telling.{ViewsLaw}
@@ -34,6 +34,7 @@ stands g law made o H w l = record {
   state_is = state_law g H (new_engine made o) w l;
   stop_reason_is = reason_law g H (new_engine made o) w l;
   local_open_is = open_law g H (new_engine made o) w l;
+  remote_open_is = remote_open_law g H (new_engine made o) w l;
   channel_max_is = channel_max_law g o H (new_engine made o) w refl l;
   held_is = λ c. holds g c made o H w l;
   routes_are = λ c. routes g c made o H w l;

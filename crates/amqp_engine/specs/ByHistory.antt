@@ -74,6 +74,19 @@ channel_max_from own old (e ∷ es) = channel_max_from own (channel_max_by own (
 abbrev pub channel_max : {R : Type 0} → OpenSaid → List (Entry R) → ℕ
 channel_max own H = channel_max_from own own.channel_max H
 
+-- ---- the peer's Open that was accepted last
+
+abbrev pub remote_open_by : Event → Option OpenSaid → Option OpenSaid
+remote_open_by (AcceptedOpen o) old = Some o
+remote_open_by ev old = old
+
+abbrev pub remote_open_from : {R : Type 0} → Option OpenSaid → List (Entry R) → Option OpenSaid
+remote_open_from old [] = old
+remote_open_from old (e ∷ es) = remote_open_from (remote_open_by (event e) old) es
+
+abbrev pub remote_open : {R : Type 0} → List (Entry R) → Option OpenSaid
+remote_open H = remote_open_from None H
+
 -- ---- the limit of a piece: that of the peer's Open that was accepted last
 
 abbrev pub limit_by : ℕ → Event → ℕ

@@ -1,9 +1,12 @@
 -- What contracts see of an engine.
-use Rattle.std.specs.Prelude.{◌-◌, ℕ, List, [], map, max}
+use Rattle.std.specs.Prelude.{◌-◌, ℕ, List, [], map, max, Option, Some, None}
+use Rattle.std.specs.Option.{option_map}
 use Rattle.amqp_types.specs.declared.states.ConnectionState.{ConnectionState}
 use Rattle.amqp_types.specs.Open.{OpenSaid}
 use Rattle.amqp_session.specs.declared.deliveries.WalkCount.{WalkCount}
 use Rattle.amqp_session.specs.Session.{SessionView, Observed}
+use Rattle.amqp_session.specs.declared.numbers.OutputHandle.{OutputHandle}
+use Rattle.amqp_session.specs.Linking.{named_at}
 use Rattle.amqp_frames.specs.declared.frame.Frame.{Frame}
 use Rattle.amqp_connection.specs.Connection.{ConnectionView, new_connection}
 use Rattle.std.specs.FinMap as map
@@ -53,3 +56,8 @@ new_engine s o = record {
   outcomes = no_outcomes;
   wishes = no_wishes;
 }
+
+-- the output handle of the live link of this name, in the session that was found
+abbrev pub output_handle_at : {R : Type 0} → List ℕ → Option (SessionView R) → Option OutputHandle
+output_handle_at name None = None
+output_handle_at name (Some s) = option_map (λ n. n.handle) (named_at name s.links)

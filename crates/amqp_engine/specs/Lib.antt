@@ -19,6 +19,7 @@ pub mod Views
 pub mod Stepped
 pub mod Ran
 pub mod TwoRuns
+pub mod OneFrame
 pub mod Handles
 pub mod HandledRun
 pub mod Inner

@@ -13,7 +13,7 @@ use Rattle.amqp_engine.specs.Kept.{Outcomes, outcomes_after}
 use Rattle.amqp_engine.specs.EngineView.{EngineView, own_limit}
 use Rattle.amqp_engine.specs.Entry.{Entry}
 use Rattle.amqp_engine.specs.Legal.{Legal}
-use Rattle.amqp_engine.specs.ByHistory.{of_session, live, is_forgotten, state_from, stop_reason, channel_max, limit_after, route, held, last_frames}
+use Rattle.amqp_engine.specs.ByHistory.{of_session, live, is_forgotten, state_from, stop_reason, remote_open, channel_max, limit_after, route, held, last_frames}
 
 pub record Stands {R : Type 0} (s : ConnectionState) (o : OpenSaid) (H : List (Entry R)) (v : EngineView R) : Type 0 where
   -- each session that was begun and not forgotten, and no other
@@ -25,6 +25,7 @@ pub record Stands {R : Type 0} (s : ConnectionState) (o : OpenSaid) (H : List (E
   pub state_is : v.connection.state ≡ state_from s H
   pub stop_reason_is : v.connection.stop_reason ≡ stop_reason s H
   pub local_open_is : v.connection.local_open ≡ o
+  pub remote_open_is : v.connection.remote_open ≡ remote_open H
   pub channel_max_is : v.connection.agreed_channel_max ≡ channel_max o H
   pub held_is : (c : ℕ) → map.get v.connection.session_by_outgoing_channel c ≡ held c H
   pub routes_are : (c : ℕ) → map.get v.connection.session_by_incoming_channel c ≡ route c H

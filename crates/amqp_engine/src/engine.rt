@@ -2,8 +2,10 @@
 
 ghost use Rattle.std.specs.Prelude.{◌≡◌, [], Some, IfSome, is_some, nat_eq};
 ghost use Rattle.std.specs.Map.{lookup};
+ghost use Rattle.std.specs.FinMap as map;
+ghost use Rattle.std.specs.Option.{option_map};
 ghost use Rattle.amqp_engine.specs.Waits.{has_frames};
-ghost use Rattle.amqp_engine.specs.EngineView.{new_engine, own_limit};
+ghost use Rattle.amqp_engine.specs.EngineView.{new_engine, output_handle_at, own_limit};
 ghost use Rattle.amqp_engine.specs.Stepped.{Stepped};
 ghost use Rattle.amqp_engine.specs.Legal.{Legal};
 ghost use Rattle.amqp_connection.specs.Connection.{refusal_of};
@@ -13,6 +15,7 @@ mod forgetting;
 mod handling;
 pub mod input;
 pub(crate) mod kept;
+mod limits;
 mod output;
 mod received;
 mod requested;
@@ -26,7 +29,7 @@ use crate::laws::law_of_histories;
 use amqp_connection::{Connection, SessionNo};
 use amqp_frames::{FrameDecoder, FrameEncoder, Heads};
 use amqp_numbers::NumberSet;
-use amqp_session::{KeyHash, LinkRelay, Session};
+use amqp_session::{IncomingChannel, KeyHash, LinkRelay, OutputHandle, Session};
 use amqp_types::{ConnectionState, Open};
 pub use answer::{Answer, OutputError, Stopped};
 use indexmap::IndexMap;
@@ -138,6 +141,21 @@ impl<R: LinkRelay> Engine<R> {
         ensures known { is_some result ≡ is_some (lookup (nat_eq number.0) self.now.sessions) }
     {
         self.sessions.get(&number.0)
+    }
+
+    /// The number of the session to which frames on this channel of the peer's go, if they go to one.
+    pub fn session_of(&self, channel: IncomingChannel) -> Option<SessionNo>
+        ensures { result ≡ option_map (λ n. record { 0 = n }) (map.get self.now.connection.session_by_incoming_channel channel.0) }
+    {
+        self.connection.session_tx_by_incoming_channel(channel)
+    }
+
+    /// The output handle of the live link of this name in a session: the one that its Attach, its transfers and its flows go out with.
+    /// `None` where there is no such session, or no such link.
+    pub fn output_handle(&self, number: SessionNo, name: &str) -> Option<OutputHandle>
+        ensures { result ≡ output_handle_at name.now (lookup (nat_eq number.0) self.now.sessions) }
+    {
+        self.session(number)?.output_handle(name)
     }
 
     /// Whether frames wait to be put out.

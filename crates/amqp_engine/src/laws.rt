@@ -9,6 +9,7 @@ ghost use Rattle.amqp_engine.specs.Legal.{Legal};
 ghost use Rattle.amqp_engine.specs.Headline.{Headline};
 ghost use Rattle.amqp_engine.specs.Views.{Stands};
 ghost use Rattle.amqp_engine.specs.TwoRuns.{TwoRunsAreOne};
+ghost use Rattle.amqp_engine.specs.OneFrame.{TransfersAreFrames};
 
 use amqp_session::{LinkRelay, laws as session};
 
@@ -38,5 +39,15 @@ pub fn law_of_two_runs<R: LinkRelay>()
     ensures { TwoRunsAreOne R.gives }
 {
     law_of_histories::<R>();
+    law_of_views::<R>();
+}
+
+/// Of every run: where each transfer that was accepted is one piece under some limit, whatever number its delivery gets, and no limit of
+/// the run is below that one, each transfer that the run puts out is one Transfer frame. So the Transfer frames of a session are the
+/// transfers of its headline: in order, each delivery numbered once, each inside the peer's latest window (AMQP 1.0 part 2, sections
+/// 2.5.6 and 2.6.14). [`split_delivery`](amqp_frames::split_delivery) makes such transfers.
+pub fn law_of_transfer_frames<R: LinkRelay>()
+    ensures { TransfersAreFrames R.gives }
+{
     law_of_views::<R>();
 }

@@ -1,5 +1,5 @@
 -- A transfer that says that more follow is no shorter than the same one that does not say it.
-use Rattle.std.proofs.Common.{◌≡◌, ℕ, ◌+◌, ◌≤◌, Bool, true, false, cond, eqb, nat_lt, List, [], ◌∷◌, ◌++◌, length, refl, ◌∙◌, arith}
+use Rattle.std.proofs.Common.{◌≡◌, ℕ, ◌+◌, ◌≤◌, Bool, true, false, cond, eqb, nat_lt, List, [], ◌∷◌, ◌++◌, length, Some, None, refl, ◌∙◌, arith}
 use Rattle.std.proofs.lemmas.Bool.{ne_eqb}
 use Rattle.std.proofs.lemmas.List.{length-append}
 use Rattle.amqp_values.specs.Slots.{null, is_null}
@@ -8,6 +8,8 @@ use Rattle.std.proofs.lemmas.Bool.Decides.{nat_tests}
 use Rattle.amqp_types.specs.Definitions.{flag_text, receiver_mode_text, value_text}
 use Rattle.amqp_values.specs.Writing.{binary_text, boolean_text, optional_text, uint_text, keep, trim, list_head, list_text}
 use Rattle.amqp_types.specs.Transfer.{TransferSaid, continuation, transfer_fields}
+use Rattle.std.specs.Int.{w32, to_be_bytes}
+use Rattle.amqp_frames.specs.Split.{numbered_widest}
 use Rattle.amqp_frames.specs.Cut.{transfer_text, first_text, middle_text, last_text}
 
 -- one list of parts is no longer than the other, which has parts
@@ -85,3 +87,41 @@ first_longer t = more_under t.more t
 
 pub middle_longer : (t : TransferSaid) → length (last_text t) ≤ length (middle_text t)
 middle_longer t = more_under t.more (continuation t)
+
+-- ---- the widest number
+
+wider_under : (p q : List ℕ) (post : List (List ℕ)) → length p ≤ length q → is_null q ≡ false → Under (trim (p ∷ post)) (trim (q ∷ post))
+wider_under p q post le other = go (trim post)
+  where
+    size : (b : Bool) → length (joined (cond b [] (p ∷ []))) ≤ length (q ++ [])
+    size true = omega arith
+    size false = let a = length-append p [] in let b = length-append q [] in let c : length (joined (p ∷ [])) ≡ length (p ++ []) = refl in omega arith
+
+    go : (ts : List (List ℕ)) → Under (keep p ts) (keep q ts)
+    go [] = rw other record { size = size (is_null p); some = omega arith }
+    go (t ∷ ts) = record {
+      size = let a = length-append p (joined (t ∷ ts)) in let b = length-append q (joined (t ∷ ts)) in omega arith;
+      some = omega arith;
+    }
+
+uint_short : (n : ℕ) → length (uint_text n) ≤ 5
+uint_short n = go (eqb n 0) (nat_lt n 256)
+  where
+    go : (a b : Bool) → length (cond a (0x43 ∷ []) (cond b (0x52 ∷ n ∷ []) (0x70 ∷ to_be_bytes w32 n))) ≤ 5
+    go true b = omega arith
+    go false true = omega arith
+    go false false = omega arith
+
+-- no number that a session gives makes the text longer than the widest one
+pub number_under : (n : ℕ) (first : Bool) (t : TransferSaid)
+    → length (transfer_text (record t { delivery_id = cond first (Some n) None })) ≤ length (transfer_text (numbered_widest first t))
+unfolding transfer_fields
+number_under n false t = omega arith
+number_under n true t =
+    let post : List (List ℕ) = optional_text binary_text t.delivery_tag ∷ optional_text uint_text t.message_format ∷ optional_text boolean_text t.settled ∷ flag_text t.more
+    ∷ optional_text receiver_mode_text t.rcv_settle_mode ∷ optional_text value_text t.state ∷ flag_text t.resume ∷ flag_text t.aborted ∷ flag_text t.batchable ∷ [] in
+    let pre : List (List ℕ) = uint_text t.handle ∷ [] in
+    let short : length (uint_text n) ≤ length (uint_text 4294967295) = uint_short n in
+    let h = text_under (trim (pre ++ uint_text n ∷ post)) (trim (pre ++ uint_text 4294967295 ∷ post))
+    (trim_under pre (uint_text n ∷ post) (uint_text 4294967295 ∷ post) (wider_under (uint_text n) (uint_text 4294967295) post short refl)) in
+    omega arith

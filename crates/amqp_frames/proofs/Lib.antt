@@ -5,3 +5,4 @@ pub mod Cutting
 pub mod RoundTripLaws
 pub mod DecodedAgain
 pub mod Rooms
+pub mod Splitting

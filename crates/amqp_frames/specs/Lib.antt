@@ -8,3 +8,5 @@ pub mod ReadBack
 pub mod Cut
 pub mod Pieces
 pub mod RoundTrip
+pub mod Split
+pub mod Parts

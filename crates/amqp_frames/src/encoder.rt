@@ -1,6 +1,7 @@
 //! The encoder: a frame as pieces that keep a limit.
 
 ghost use Rattle.std.specs.Prelude.{◌≡◌, ◌≤◌, ◌<◌, ◌+◌, ◌^◌, ℕ, [], ◌∷◌, IfOk, OnOk, length};
+ghost use Rattle.amqp_types.specs.Transfer.{widest};
 ghost use Rattle.amqp_frames.specs.Frame.{text_of, payload_of};
 ghost use Rattle.amqp_frames.specs.Cut.{Encodes, IsWholePiece, Whole, room_beside};
 ghost use Rattle.amqp_frames.specs.Heads.{CutsHead, CutsOff, CutsOrLeaves, RoomAfter};
@@ -14,7 +15,7 @@ use crate::head::whole_head;
 use crate::heads::{HeadRoom, Heads, OwnRoom};
 use crate::laws::whole_is_read;
 use crate::piece::Piece;
-use amqp_types::Transfer;
+use amqp_types::{Transfer, TransferText};
 use std::alloc::{AllocError, Global};
 use std::marker::Model;
 
@@ -88,6 +89,28 @@ impl FrameEncoder {
             return None;
         }
         Some(room - len as u32)
+    }
+
+    /// How many bytes of payload fit beside this transfer in one piece, whatever number its delivery gets: the widest takes five bytes,
+    /// where an absent one takes one. `None` where its own text does not fit then. Takes no memory.
+    pub fn widest_payload_room(&self, transfer: &Transfer) -> Option<u32>
+        ensures { result ≡ room_beside (widest transfer.now) self.now }
+    {
+        let room = self.max_piece_len - 4;
+        let text = transfer.widest_len_in(TransferText::Whole);
+        if u128::from(room) < text {
+            return None;
+        }
+        Some(room - text as u32)
+    }
+
+    /// The most bytes of a piece: at least four.
+    pub fn max_piece_len(&self) -> u32
+        ensures value { result ≡ self.now }
+        ensures header { 4 ≤ result }
+    {
+        let limit = &self.max_piece_len;
+        *limit
     }
 
     /// The pieces of the frame, the head of one that is whole in this room.

@@ -10,6 +10,7 @@ mod head;
 mod heads;
 pub mod laws;
 pub mod piece;
+pub mod split;
 mod text;
 
 pub use decoder::{FrameDecoder, FrameHead};
@@ -18,3 +19,4 @@ pub use error::Error;
 pub use frame::{Frame, FrameBody};
 pub use heads::Heads;
 pub use piece::Piece;
+pub use split::{DeliveryPart, split_delivery};

@@ -2,7 +2,7 @@
 
 ghost use Rattle.std.specs.Prelude.{◌≡◌};
 ghost use Rattle.std.specs.Result.{result_ok};
-ghost use Rattle.amqp_session.specs.LinkFlow.{link_flow_of, link_part};
+ghost use Rattle.amqp_session.specs.LinkFlow.{link_flow_of, link_part, plain_link_flow};
 
 use amqp_types::{Fields, Flow, Handle};
 
@@ -26,6 +26,21 @@ pub struct LinkFlow {
 }
 
 impl LinkFlow {
+    /// The flow of a link that says nothing of it but its handle: no credit, no count, nothing drained, no answer wanted.
+    pub fn new(handle: Handle) -> LinkFlow
+        ensures { result ≡ plain_link_flow handle.0 }
+    {
+        LinkFlow {
+            handle,
+            delivery_count: None,
+            link_credit: None,
+            available: None,
+            drain: false,
+            echo: false,
+            properties: None,
+        }
+    }
+
     /// The link's part of a flow that names this handle.
     pub(crate) fn of(handle: Handle, flow: Flow) -> LinkFlow
         ensures { result ≡ link_flow_of handle.0 flow }

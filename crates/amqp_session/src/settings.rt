@@ -70,8 +70,9 @@ impl SessionSettings {
         }
     }
 
-    /// The Begin that names these settings.
-    pub(crate) fn into_begin(self, remote_channel: Option<u16>, next_outgoing_id: u32) -> Begin
+    /// The Begin that names these settings, with the number of the first transfer that goes out. It answers the Begin that came on
+    /// `remote_channel`, if one is named (part 2, section 2.7.2). A session makes its own Begin, by [`Session::send_begin`](crate::Session).
+    pub fn into_begin(self, remote_channel: Option<u16>, next_outgoing_id: u32) -> Begin
         ensures { result ≡ begin_of self remote_channel next_outgoing_id }
     {
         Begin {

@@ -12,6 +12,7 @@ pub mod End
 pub mod Close
 pub mod Kinds
 pub mod Performatives
+pub mod Defaults
 pub mod Held
 pub mod Spelled
 pub mod Items

@@ -1,5 +1,5 @@
 -- Transfer: its fields, and how they stand in a list (AMQP 1.0 part 2, section 2.7.5).
-use Rattle.std.specs.Prelude.{ℕ, List, [], ◌∷◌, Option, None, Bool, true, false}
+use Rattle.std.specs.Prelude.{ℕ, List, [], ◌∷◌, Option, Some, None, Bool, true, false}
 use Rattle.amqp_types.specs.declared.definitions.ReceiverSettleMode.{ReceiverSettleMode}
 use Rattle.amqp_types.specs.declared.performatives.transfer.TransferText.{TransferText}
 use Rattle.amqp_types.specs.declared.performatives.transfer.TransferText.TheVariants as text
@@ -123,6 +123,10 @@ said_in text.Whole t = t
 said_in text.First t = record t { more = true }
 said_in text.Middle t = record (continuation t) { more = true }
 said_in text.Last t = continuation t
+
+-- with the widest number that its delivery can get: five bytes, where an absent one takes one
+abbrev pub widest : TransferSaid → TransferSaid
+widest t = record t { delivery_id = Some 4294967295 }
 
 -- ---- when two are the same
 

@@ -2,11 +2,13 @@
 #![tactic(auto)]
 
 mod copies;
+mod defaults;
 pub mod definitions;
 pub mod error;
 mod known;
 pub mod laws;
 mod leaf;
+pub mod outcomes;
 mod part;
 pub mod performatives;
 pub mod states;
@@ -17,6 +19,7 @@ pub use definitions::{
     TransferNumber, Uint,
 };
 pub use error::Error;
+pub use outcomes::rejected;
 pub use performatives::{
     Attach, Begin, Close, Detach, Disposition, End, Flow, Kind, Open, Performative, Transfer,
     TransferText,

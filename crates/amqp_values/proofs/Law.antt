@@ -41,7 +41,7 @@ null_reads : (d : ℕ) (bytes : List ℕ) → value_at d (0x40 ∷ bytes) ≡ So
 unfolding value_at value_of
 null_reads d bytes = no_data (under d) bytes
 
-null_alone : (d : ℕ) (others : List ℕ) → IsValue d (0x40 ∷ others) → others ≡ []
+pub null_alone : (d : ℕ) (others : List ℕ) → IsValue d (0x40 ∷ others) → others ≡ []
 null_alone d others v = sym (append-nil others) ∙ some_is (others ++ []) [] (sym (null_reads d (others ++ [])) ∙ value_is_read d (0x40 ∷ others) v [])
 
 -- the front that is cut off is the value

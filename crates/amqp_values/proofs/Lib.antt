@@ -17,6 +17,7 @@ pub mod Compounds
 pub mod Found
 pub mod Again
 pub mod Law
+pub mod Outcomes
 pub mod Deeper
 pub mod Cut
 pub mod Mapped

@@ -30,6 +30,10 @@ pub record IsTerminal (bytes : List ℕ) : Type 0 where
   pub stands : StandsFor number name descriptor
   pub outcome : IsOutcome number name
 
+-- the shortest text of the outcome of this number: its fields are all absent
+abbrev pub outcome_text : ℕ → List ℕ
+outcome_text n = 0x00 ∷ 0x53 ∷ n ∷ 0x45 ∷ []
+
 -- ---- how a descriptor is tested
 
 abbrev pub has_outcome_number : ℕ → Bool

@@ -1,7 +1,7 @@
 -- Raw values, and those of them that are maps.
 use Rattle.std.specs.Prelude.{◌≡◌, ◌≢◌, ℕ, ◌-◌, List, [], ◌∷◌, length, take, drop, Option, Some, None, Bool, false}
 use Rattle.std.specs.Prelude.{◌==◌, ◌||◌, if◌then◌else◌}
-use Rattle.amqp_values.specs.Reading.{◌>>=◌, byte_at}
+use Rattle.amqp_values.specs.Reading.{◌>>=◌, byte_at, is_empty}
 use Rattle.amqp_values.specs.Walk.{value_at}
 use Rattle.amqp_values.specs.Grammar.{IsValue}
 
@@ -13,6 +13,11 @@ pub record IsRaw (bytes : List ℕ) : Type 0 where
 -- a raw value is its own text
 abbrev pub SpellsRaw : List ℕ → List ℕ → Type 0
 SpellsRaw v text = IsRaw text × (v ≡ text)
+
+-- bytes are made a raw value exactly where they are one, and it is they
+abbrev pub MakesRaw : List ℕ → Option (List ℕ) → Type 0
+MakesRaw bytes (Some raw) = IsRaw bytes × (raw ≡ bytes)
+MakesRaw bytes None = IsRaw bytes → ⊥
 
 -- ---- maps
 
@@ -41,6 +46,17 @@ raw_at bytes = do
   rest ← value_at 64 bytes
   code ← byte_at bytes
   if code.0 == 0x40 then None else Some (take (length bytes - length rest) bytes, drop (length bytes - length rest) bytes)
+
+abbrev pub begins_null : List ℕ → Bool
+begins_null [] = false
+begins_null (code ∷ others) = code == 0x40
+
+abbrev pub is_end : Option (List ℕ) → Bool
+is_end None = false
+is_end (Some rest) = is_empty rest
+
+unfoldable pub is_raw_text : List ℕ → Bool
+is_raw_text bytes = if begins_null bytes then false else is_end (value_at 64 bytes)
 
 abbrev pub has_map_code : List ℕ → Bool
 has_map_code [] = false

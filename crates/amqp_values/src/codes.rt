@@ -1,5 +1,5 @@
 //! Codes: the constructor bytes that stand before a value's data (AMQP 1.0 part 1, section 1.6), and the numbers of the
-//! performatives' and the error's descriptors (part 2, sections 2.7 and 2.8.14).
+//! descriptors of the performatives and of the error (part 2, sections 2.7 and 2.8.14), and of outcomes (part 3, section 3.4).
 
 pub const DESCRIBED: u8 = 0x00;
 
@@ -72,3 +72,11 @@ pub const END: u8 = 0x17;
 pub const CLOSE: u8 = 0x18;
 
 pub const ERROR: u8 = 0x1d;
+
+pub const ACCEPTED: u8 = 0x24;
+
+pub const REJECTED: u8 = 0x25;
+
+pub const RELEASED: u8 = 0x26;
+
+pub const MODIFIED: u8 = 0x27;

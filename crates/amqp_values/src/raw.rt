@@ -2,7 +2,8 @@
 
 ghost use Rattle.std.specs.Prelude.{◌≡◌};
 ghost use Rattle.amqp_values.specs.Reading.{Answers, Gives, ReadsFront};
-ghost use Rattle.amqp_values.specs.Raw.{IsRaw, SpellsRaw, raw_at};
+ghost use Rattle.amqp_values.specs.Raw.{IsRaw, MakesRaw, SpellsRaw, begins_null, is_raw_text, raw_at};
+ghost use Rattle.amqp_values.specs.Outcome.{outcome_text};
 
 use crate::codes;
 use crate::error::ReadError;
@@ -60,6 +61,63 @@ impl Raw {
         Raw::front(bytes)
     }
 
+    /// The raw value that these bytes are. None where they are not exactly one value of a depth of at most 64, or are the null. Takes no
+    /// memory.
+    pub fn of_bytes(bytes: Bytes) -> Option<Raw>
+        ensures { MakesRaw bytes result }
+    {
+        if is_raw(bytes.as_slice()) {
+            Some(Raw { bytes })
+        } else {
+            None
+        }
+    }
+
+    /// The outcome accepted (part 3, section 3.4.2). Takes no memory.
+    #[tactic(auto, using(crate::proofs::Outcomes::outcome_is_raw))]
+    pub fn accepted() -> Raw
+        ensures { result ≡ outcome_text 0x24 }
+    {
+        Raw {
+            bytes: Bytes::from_static(&[
+                codes::DESCRIBED,
+                codes::SMALL_ULONG,
+                codes::ACCEPTED,
+                codes::LIST0,
+            ]),
+        }
+    }
+
+    /// The outcome released (part 3, section 3.4.4). Takes no memory.
+    #[tactic(auto, using(crate::proofs::Outcomes::outcome_is_raw))]
+    pub fn released() -> Raw
+        ensures { result ≡ outcome_text 0x26 }
+    {
+        Raw {
+            bytes: Bytes::from_static(&[
+                codes::DESCRIBED,
+                codes::SMALL_ULONG,
+                codes::RELEASED,
+                codes::LIST0,
+            ]),
+        }
+    }
+
+    /// The outcome modified, in which neither field is set (part 3, section 3.4.5): as released, by the standard. Takes no memory.
+    #[tactic(auto, using(crate::proofs::Outcomes::outcome_is_raw))]
+    pub fn modified() -> Raw
+        ensures { result ≡ outcome_text 0x27 }
+    {
+        Raw {
+            bytes: Bytes::from_static(&[
+                codes::DESCRIBED,
+                codes::SMALL_ULONG,
+                codes::MODIFIED,
+                codes::LIST0,
+            ]),
+        }
+    }
+
     /// The first value and the rest, as `take` gives them.
     fn front(bytes: Bytes) -> Result<(Raw, Bytes), ReadError>
         ensures { Answers (λ x. (x.0, x.1)) result (raw_at bytes) }
@@ -102,5 +160,29 @@ impl Raw {
         ensures { result ≡ self.now }
     {
         ValueRef::new(self.bytes.as_slice())
+    }
+}
+
+/// Whether the bytes are exactly one value, and not the null.
+#[tactic(auto, unfolding(crate::specs::Raw::is_raw_text))]
+fn is_raw(bytes: &[u8]) -> bool
+    ensures { result ≡ is_raw_text bytes.now }
+{
+    if begins_null(bytes) {
+        return false;
+    }
+    match value_rest(bytes, 64) {
+        Some(rest) => rest.is_empty(),
+        None => false,
+    }
+}
+
+/// Whether the first code is that of the null.
+fn begins_null(bytes: &[u8]) -> bool
+    ensures { result ≡ begins_null bytes.now }
+{
+    match first(bytes) {
+        Some((code, _)) => code == codes::NULL,
+        None => false,
     }
 }

@@ -93,7 +93,7 @@ impl Connection {
         Ok(Frame::new(0, FrameBody::Open(open)))
     }
 
-    /// Takes the peer's Open: moves the state, and agrees on the smaller channel-max. Takes no memory.
+    /// Takes the peer's Open: moves the state, agrees on the smaller channel-max, and keeps the Open. Takes no memory.
     ///
     /// `IllegalState` where the state takes no Open; nothing has then changed.
     pub fn on_incoming_open(
@@ -103,13 +103,14 @@ impl Connection {
     ) -> Result<(), ConnectionStateError>
         ensures { IncomingOpenStep self.old «open» (refusal_of result) self.new }
     {
-        let channel_max = open.channel_max;
-        drop(open);
         let Some(next) = after_incoming_open(self.state) else {
+            drop(open);
             return Err(ConnectionStateError::IllegalState);
         };
         self.state = next;
-        self.agreed_channel_max = self.local_open.channel_max.min(channel_max);
+        self.agreed_channel_max = self.local_open.channel_max.min(open.channel_max);
+        let earlier = self.remote_open.replace(open);
+        drop(earlier);
         Ok(())
     }
 

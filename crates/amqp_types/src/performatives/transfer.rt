@@ -2,7 +2,7 @@
 
 ghost use Rattle.std.specs.Prelude.{◌≡◌, ◌<◌, ◌≤◌, ◌+◌, ◌^◌, ◌++◌, length, List, ℕ, Option};
 ghost use Rattle.amqp_values.specs.Reading.{Gives};
-ghost use Rattle.amqp_types.specs.Transfer.{continuation, said_in, transfer_body_at};
+ghost use Rattle.amqp_types.specs.Transfer.{continuation, said_in, transfer_body_at, widest};
 ghost use Rattle.amqp_types.specs.Transfer.{transfer_fields, transfer_first_same, transfer_last_same};
 ghost use Rattle.amqp_types.specs.declared.performatives.Performative.TheVariants as performative;
 ghost use Rattle.amqp_types.specs.Performatives.{performative_text};
@@ -169,14 +169,22 @@ impl Transfer {
     }
 
     /// The fields with this `more`.
-    #[tactic(auto, unfolding(crate::specs::Transfer::transfer_fields))]
     #[inline(always)]
     fn parts_with(&self, more: bool) -> TransferRow<'_>
         ensures { result ≡ transfer_fields (record self.now { more = more }) }
     {
+        self.parts_numbered(self.delivery_id, more)
+    }
+
+    /// The fields with this number and this `more`.
+    #[tactic(auto, unfolding(crate::specs::Transfer::transfer_fields))]
+    #[inline(always)]
+    fn parts_numbered(&self, number: Option<u32>, more: bool) -> TransferRow<'_>
+        ensures { result ≡ transfer_fields (record self.now { delivery_id = number; more = more }) }
+    {
         row_of![
             self.handle.0,
-            self.delivery_id,
+            number,
             leaf::optional_tag(&self.delivery_tag),
             self.message_format,
             self.settled,
@@ -229,6 +237,27 @@ impl Transfer {
         ensures bound { result < 2 ^ 127 }
     {
         described_len(&self.parts_in(text))
+    }
+
+    /// The fields of one of the texts, with the widest number.
+    #[inline(always)]
+    fn widest_parts_in(&self, text: TransferText) -> TransferRow<'_>
+        ensures { result ≡ transfer_fields (said_in text (widest self.now)) }
+    {
+        match text {
+            TransferText::Whole => self.parts_numbered(Some(u32::MAX), self.more),
+            TransferText::First => self.parts_numbered(Some(u32::MAX), true),
+            TransferText::Middle | TransferText::Last => self.parts_in(text),
+        }
+    }
+
+    /// The length in bytes of one of the texts of the transfer with the widest number that its delivery can get: that takes five bytes
+    /// where it stands, and an absent one takes one. So the text is no longer whatever number a session gives it. Takes no memory.
+    pub fn widest_len_in(&self, text: TransferText) -> u128
+        ensures value { result ≡ length (performative_text (performative.Transfer (said_in text (widest self.now)))) }
+        ensures bound { result < 2 ^ 127 }
+    {
+        described_len(&self.widest_parts_in(text))
     }
 
     /// Appends one of the texts, whose length is `len`, to a buffer that has room for it.

@@ -1,0 +1,167 @@
+//! A delivery as transfers that are one frame each, for who keeps the peer's window on the wire (AMQP 1.0 part 2, sections 2.5.6
+//! and 2.6.14).
+
+ghost use Rattle.std.specs.Prelude.{◌≡◌, ◌≤◌, ◌<◌, ◌+◌, ◌*◌, IfOk, OnOk, length, vec_len, vec_capacity};
+ghost use Rattle.amqp_types.specs.Transfer.{said_in};
+ghost use Rattle.amqp_types.specs.declared.performatives.transfer.TransferText.TheVariants as text;
+ghost use Rattle.amqp_frames.specs.Parts.{AddsParts, TakesParts};
+ghost use Rattle.amqp_frames.specs.Split.{InOne, SplitsTo};
+
+use crate::error::Error;
+use amqp_types::{Transfer, TransferText};
+use bytes::Bytes;
+use std::alloc::{AllocError, Global};
+
+/// One transfer of a delivery, as a link asks a session to send it.
+#[derive(Debug, Drop)]
+pub struct DeliveryPart {
+    /// The transfer.
+    pub transfer: Transfer,
+    /// Its part of the payload, which shares the bytes of the whole.
+    pub payload: Bytes,
+    /// Whether it is the first one of the delivery.
+    pub is_first: bool,
+}
+
+/// The transfers of one delivery, in order. Each is one Transfer frame where a piece has at most `max_piece_len` bytes, whatever number
+/// its session gives the delivery; so each takes one from the peer's window, as the session counts. A delivery that fits is one
+/// transfer, as it is. Else each but the last is full; the first says that more follow, a later one says nothing again of the delivery,
+/// and the last one has the `more` of `transfer`.
+///
+/// `TooLarge` exactly where the delivery is not one piece, and the text of its first transfer does not fit, or a later one has no room
+/// for a byte of payload. `OutOfMemory` where memory is refused: for the list, whose length is known beforehand, or for one more
+/// owner of shared bytes. No byte of payload is copied. `transfer` and `payload` stay the caller's.
+pub fn split_delivery(
+    alloc: Global,
+    transfer: &Transfer,
+    payload: &Bytes,
+    max_piece_len: u32,
+) -> Result<Vec<DeliveryPart>, Error>
+    ensures { SplitsTo (λ v. v.items) transfer.now payload.now max_piece_len result }
+{
+    let room = u128::from(max_piece_len.saturating_sub(4));
+    let whole = transfer.widest_len_in(TransferText::Whole);
+    if whole + payload.len() as u128 <= room {
+        let parts = in_one(alloc, transfer, payload)?;
+        return Ok(parts);
+    }
+    let first = transfer.widest_len_in(TransferText::First);
+    let later = transfer.encoded_len_in(TransferText::Middle);
+    if room < first || room <= later {
+        return Err(Error::TooLarge);
+    }
+    let front = (room - first) as usize;
+    let step = (room - later) as usize;
+    let parts = in_parts(alloc, transfer, payload, front, step)?;
+    Ok(parts)
+}
+
+/// The whole delivery in one part.
+fn in_one(
+    alloc: Global,
+    transfer: &Transfer,
+    payload: &Bytes,
+) -> Result<Vec<DeliveryPart>, AllocError>
+    ensures { IfOk result (λ v. InOne transfer.now payload.now v.items) }
+{
+    let mut parts = Vec::with_capacity(alloc, 1)?;
+    parts.push_reserved(DeliveryPart {
+        transfer: begun(transfer, transfer.more)?,
+        payload: payload.clone()?,
+        is_first: true,
+    });
+    Ok(parts)
+}
+
+/// The first part takes `front` bytes of the payload, each one in the middle `step` bytes, and the last one what is left: at least one
+/// byte, and at most `step`.
+fn in_parts(
+    alloc: Global,
+    transfer: &Transfer,
+    payload: &Bytes,
+    front: usize,
+    step: usize,
+) -> Result<Vec<DeliveryPart>, AllocError>
+    requires some { front < length payload.now }
+    requires step { 0 < step }
+    ensures { IfOk result (λ v. TakesParts transfer.now payload.now front step v.items) }
+{
+    let count = (payload.len() - front - 1) / step;
+    let mut parts = Vec::with_capacity(alloc, count + 2)?;
+    let mut rest = payload.clone()?;
+    parts.push_reserved(DeliveryPart {
+        transfer: begun(transfer, true)?,
+        payload: rest.split_to(front)?,
+        is_first: true,
+    });
+    put_middle(transfer, &mut parts, &mut rest, step, count)?;
+    parts.push_reserved(DeliveryPart {
+        transfer: continued(transfer, transfer.more)?,
+        payload: rest,
+        is_first: false,
+    });
+    Ok(parts)
+}
+
+/// Appends `count` parts from the middle, each with the next `step` bytes of the payload.
+fn put_middle(
+    transfer: &Transfer,
+    parts: &mut Vec<DeliveryPart>,
+    rest: &mut Bytes,
+    step: usize,
+    count: usize,
+) -> Result<(), AllocError>
+    requires room { vec_len parts.old + count < vec_capacity parts.old }
+    requires long { step * count ≤ length rest.old }
+    ensures added { OnOk result (AddsParts (said_in text.Middle transfer.now) step parts.old.items parts.new.items rest.old rest.new (step * count)) }
+    ensures room_left { OnOk result (vec_len parts.new < vec_capacity parts.new) }
+{
+    for i in 0..count {
+        let transfer = continued(transfer, true)?;
+        let payload = rest.split_to(step)?;
+        parts.push_reserved(DeliveryPart {
+            transfer,
+            payload,
+            is_first: false,
+        });
+    }
+    Ok(())
+}
+
+/// The first transfer of the delivery, with this `more`.
+fn begun(transfer: &Transfer, more: bool) -> Result<Transfer, AllocError>
+    ensures { IfOk result (λ t. t ≡ record transfer.now { more = more }) }
+{
+    Ok(Transfer {
+        handle: transfer.handle,
+        delivery_id: transfer.delivery_id,
+        delivery_tag: transfer.delivery_tag.clone()?,
+        message_format: transfer.message_format,
+        settled: transfer.settled,
+        more,
+        rcv_settle_mode: transfer.rcv_settle_mode,
+        state: transfer.state.clone()?,
+        resume: transfer.resume,
+        aborted: transfer.aborted,
+        batchable: transfer.batchable,
+    })
+}
+
+/// A later transfer of the delivery, with this `more`: it says nothing again that the first one said of the delivery.
+fn continued(transfer: &Transfer, more: bool) -> Result<Transfer, AllocError>
+    ensures { IfOk result (λ t. t ≡ record (said_in text.Middle transfer.now) { more = more }) }
+{
+    Ok(Transfer {
+        handle: transfer.handle,
+        delivery_id: None,
+        delivery_tag: None,
+        message_format: None,
+        settled: None,
+        more,
+        rcv_settle_mode: None,
+        state: transfer.state.clone()?,
+        resume: transfer.resume,
+        aborted: transfer.aborted,
+        batchable: transfer.batchable,
+    })
+}

@@ -1,0 +1,48 @@
+//! The outcome of a delivery that was refused (AMQP 1.0 part 3, section 3.4.3).
+
+ghost use Rattle.std.specs.Prelude.{◌≡◌, ◌<◌, ◌^◌, IfOk, Err, length};
+ghost use Rattle.amqp_values.specs.declared.error.ReadError.TheVariants.{Malformed};
+ghost use Rattle.amqp_values.specs.Raw.{IsRaw};
+ghost use Rattle.amqp_types.specs.Defaults.{rejected_text};
+
+use crate::error::Error;
+use crate::part::Part;
+use amqp_values::writing::{described_len, put_described};
+use amqp_values::{Raw, ReadError, codes, row_of};
+use bytes::{Bytes, BytesMut};
+use std::alloc::{AllocError, Global};
+
+/// The outcome rejected, for this error. The other outcomes are [`Raw::accepted`], [`Raw::released`] and [`Raw::modified`].
+///
+/// `Malformed` where no value can hold it: the `info` of the error is nested too deeply inside it (a value has a depth of at most 64), or
+/// the text has more than 4294967295 bytes. `OutOfMemory` where memory is refused.
+pub fn rejected(alloc: Global, error: &Error) -> Result<Raw, ReadError>
+    ensures text { IfOk result (λ raw. raw ≡ rejected_text error.now) }
+    ensures malformed { result ≡ Err Malformed → length (rejected_text error.now) < 2 ^ 32 → IsRaw (rejected_text error.now) → ⊥ }
+{
+    let fields = row_of![Part::Error(error)];
+    let len = described_len(&fields);
+    if len > u128::from(u32::MAX) {
+        return Err(ReadError::Malformed);
+    }
+    match Raw::of_bytes(text_of(alloc, error, len as usize)?) {
+        Some(outcome) => Ok(outcome),
+        None => Err(ReadError::Malformed),
+    }
+}
+
+/// The text of the outcome, which has this length.
+fn text_of(alloc: Global, error: &Error, len: usize) -> Result<Bytes, AllocError>
+    requires len_is { len ≡ length (rejected_text error.now) }
+    requires fits { len < 2 ^ 32 }
+    ensures { IfOk result (λ text. text ≡ rejected_text error.now) }
+{
+    let mut text = BytesMut::with_capacity(alloc, len)?;
+    put_described(
+        codes::REJECTED,
+        &row_of![Part::Error(error)],
+        len,
+        &mut text,
+    );
+    Ok(text.freeze()?)
+}
