@@ -23,6 +23,7 @@ from pathlib import Path
 
 from bench import run
 from bench_proton import ORDERS, WIDTHS, figures, most, times
+from command import command
 from measured import TooLong, per_unit, seconds
 
 CRATE = Path(__file__).resolve().parent.parent / "crates" / "bench_engine"
@@ -209,4 +210,4 @@ def main():
 
 
 if __name__ == "__main__":
-    main()
+    command(main, __doc__)

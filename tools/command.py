@@ -8,11 +8,9 @@ from pathlib import Path
 
 def command(main, doc):
     """Runs the tool; `--help` as the first word prints the doc. What the system refuses is a line on standard error, and status 1."""
-    if sys.argv[1:2] in (["-h"], ["--help"]):
-        print(doc.strip())
-        return
+    asks_help = sys.argv[1:2] in (["-h"], ["--help"])
     try:
-        main()
+        print(doc.strip()) if asks_help else main()
         sys.stdout.flush()
     except BrokenPipeError:
         # whoever read the output has gone: what is left of it goes nowhere

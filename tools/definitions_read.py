@@ -17,6 +17,8 @@ import sys
 from functools import cache
 from pathlib import Path
 
+from command import command
+
 ROOT = Path(__file__).resolve().parent.parent
 PAGE = ROOT / "docs/READING.md"
 ENGINE = ROOT / "crates/amqp_engine/src"
@@ -242,4 +244,4 @@ def main():
 
 
 if __name__ == "__main__":
-    sys.exit(main())
+    command(lambda: sys.exit(main()), __doc__)

@@ -3,7 +3,7 @@
 import random
 
 from canonical import boolean, composite, string, symbol, tag, uint, ushort
-from frames import ATTACH, BEGIN, CLOSE, DETACH, END, FLOW, NULL, OPEN, TRANSFER
+from frames import ATTACH, BEGIN, CLOSE, DETACH, DISPOSITION, END, FLOW, NULL, OPEN, TRANSFER
 
 ENDED, CLOSED = "RemoteEnded (the peer ended)", "RemoteClosed (the peer ended)"
 FLEW = "(in flight behind this side's Close)"
@@ -119,6 +119,35 @@ def begun_too_early():
     return early, [*refused, "frame 5, A, Attach: NoSession", "frame 6, A, End (end): NoSession"]
 
 
+def malformed():
+    """The server sends what is no frame, or none by its performative's table; nothing changes by it, and the exchange goes on."""
+    high = composite(0x1D, [b"\xa3\x03a\xff:"])
+    before = [frame("B", 0, OPEN), ("B", b"\x02\x00"), frame("B", 0, 0x30, NULL), frame("B", 0, OPEN, symbol("B"))]
+    within = [
+        frame("B", 0, FLOW, *[uint(0)] * 12),
+        ("B", frame("B", 0, FLOW, uint(0), uint(100))[1][:-1]),
+        frame("B", 0, FLOW, NULL, uint(1), uint(1), uint(1), NULL, NULL, NULL, NULL, b"\x56\x02"),
+        frame("B", 0, TRANSFER, string("7")),
+        frame("B", 0, DISPOSITION, NULL, uint(0)),
+        frame("B", 0, CLOSE, high),
+    ]
+    return [opened()[0], *before, opened()[1], *begun(0, 0), *within, *ended(0, 0), *closed()]
+
+
+MALFORMED_A = [
+    "frame 2, B, Open: DecodeError (field 1 of Open, container-id: missing where it is mandatory; byte 8)",
+    "frame 3, B, no frame: DecodeError (2 bytes, where a header has 4)",
+    "frame 4, B, no frame: DecodeError (no performative has the descriptor 0x30; byte 5)",
+    "frame 5, B, Open: DecodeError (field 1 of Open, container-id: no string has the code a3; byte 10)",
+    "frame 9, B, Flow: DecodeError (12 fields, where Flow has 11; byte 9)",
+    "frame 10, B, no frame: DecodeError (4 bytes are said to follow, and 3 do; byte 9)",
+    "frame 11, B, Flow: DecodeError (field 9 of Flow, drain: no boolean is the byte 02; byte 22)",
+    "frame 12, B, Transfer: DecodeError (field 1 of Transfer, handle: no uint has the code a1; byte 10)",
+    "frame 13, B, Disposition: DecodeError (field 1 of Disposition, role: null where it is mandatory; byte 10)",
+    "frame 14, B, Close: DecodeError (field 1 of Close, error: field 1 of Error, condition: no symbol has the byte ff there; byte 19)",
+]
+
+
 def cases():
     """Each connection's name and frames, the side whose place the engine takes, and what it refuses."""
     again = channel_again()
@@ -130,4 +159,5 @@ def cases():
         yield f"many_lives {seed}", lives, "B", peer_ends(lives)
     yield "begun_too_early", begun_too_early()[0], "A", begun_too_early()[1]
     yield "in_flight", in_flight(), "A", FLIGHT_A
+    yield "malformed", malformed(), "A", MALFORMED_A
     yield "pipelined", pipelined(), "A", [f"frame 8, B, End: IllegalState {FLEW}"]

@@ -20,6 +20,7 @@ import threading
 from pathlib import Path
 
 import canonical as c
+from command import command
 
 CRATE = Path(__file__).resolve().parent.parent / "crates" / "amqp_replay"
 FEW, MANY, MORE = 1000, 1000000, 1024
@@ -225,4 +226,4 @@ def main():
 
 
 if __name__ == "__main__":
-    sys.exit(main())
+    command(lambda: sys.exit(main()), __doc__)

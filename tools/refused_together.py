@@ -35,6 +35,7 @@ from concurrent.futures import ThreadPoolExecutor
 from pathlib import Path
 
 import toolchain
+from command import command
 
 ROOT = Path(__file__).resolve().parent.parent
 FOLDER = "must-fail-together"
@@ -333,4 +334,4 @@ def main(words):
 
 
 if __name__ == "__main__":
-    main(sys.argv[1:])
+    command(lambda: main(sys.argv[1:]), __doc__)

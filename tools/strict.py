@@ -1,6 +1,6 @@
-"""A strict reading of frames, for expected_hostile.py: which performative stands in any bytes, or why there is none (AMQP 1.0 part 1,
-section 1.6; part 2, sections 2.3 and 2.7). It is written from the tables of the standard, apart from the decoder of expected_frames.py,
-which trusts its bytes.
+"""A strict reading of frames, for expected_hostile.py and transcript.py: which performative stands in any bytes, or why there is none (AMQP
+1.0 part 1, section 1.6; part 2, sections 2.3 and 2.7). It is written from the tables of the standard, apart from the decoder of
+expected_frames.py, which trusts its bytes.
 """
 
 from expected_frames import ERROR, TABLES, MUST
@@ -16,41 +16,61 @@ DEEPEST = 64
 
 
 class Malformed(Exception):
-    pass
+    """What is wrong, and at which byte of the frame, counted from 0 without its size."""
+
+    def __init__(self, what, at):
+        super().__init__(what)
+        self.what, self.at = what, at
+
+    def within(self, where):
+        return Malformed(f"{where}: {self.what}", self.at)
 
 
 class Bytes:
-    """Bytes that are read from the front."""
+    """Bytes that are read from the front; `start` is their place in the frame."""
 
-    def __init__(self, data):
-        self.data, self.at = data, 0
+    def __init__(self, data, start):
+        self.data, self.start, self.at = data, start, 0
+
+    def wrong(self, what, back=0):
+        """What is wrong with the bytes that follow, or with the last ones that were read."""
+        return Malformed(what, self.start + self.at - back)
+
+    def left(self):
+        return len(self.data) - self.at
 
     def take(self, count):
-        if self.at + count > len(self.data):
-            raise Malformed
+        if count > self.left():
+            raise self.wrong(f"{count} bytes are said to follow, and {self.left()} do")
         self.at += count
         return self.data[self.at - count : self.at]
 
     def number(self, width):
         return int.from_bytes(self.take(width), "big")
 
+    def code(self):
+        if not self.left():
+            raise self.wrong("the bytes end where a value is said to follow")
+        return self.number(1)
+
     def part(self, width):
         """The bytes behind a size of this width."""
-        return Bytes(self.take(self.number(width)))
+        size = self.number(width)
+        return Bytes(self.take(size), self.start + self.at - size)
 
     def end(self):
-        if self.at != len(self.data):
-            raise Malformed
+        if self.left():
+            raise self.wrong(f"{self.left()} bytes are left behind the last part")
 
 
 def constructor(of):
     """The code, the depths of the descriptors before it, and how many they are."""
-    code, depths = of.number(1), []
+    code, depths = of.code(), []
     while code == 0x00:
         depths.append(value(of))
-        code = of.number(1)
+        code = of.code()
     if code not in WIDTHS and code not in LENGTHS and code not in COMPOUNDS and code not in ARRAYS:
-        raise Malformed
+        raise of.wrong(f"no value has the code {code:02x}", 1)
     return code, depths
 
 
@@ -59,7 +79,7 @@ def data(of, code):
     if code in WIDTHS:
         found = of.take(WIDTHS[code])
         if code == 0x56 and found[0] > 1:
-            raise Malformed
+            raise of.wrong(f"no boolean is the byte {found[0]:02x}", 1)
         return 1 if code == 0x45 else 0
     if code in LENGTHS:
         of.take(of.number(LENGTHS[code]))
@@ -69,7 +89,7 @@ def data(of, code):
         inside = of.part(width)
         count = inside.number(width)
         if code & 1 and count % 2:
-            raise Malformed
+            raise inside.wrong(f"a map of {count} parts, an odd number", width)
         deepest = 0
         for _ in range(count):
             deepest = max(deepest, value(inside))
@@ -114,94 +134,109 @@ OF_TWO, OF_EIGHT = ("channel_max", "remote_channel"), ("max_message_size",)
 
 def whole(of, kind, code):
     if code not in WHOLE[kind]:
-        raise Malformed
+        raise of.wrong(f"no {kind} has the code {code:02x}", 1)
     return of.number(WHOLE[kind][code])
 
 
 def text(of, kind, code):
     if code not in TEXTS[kind]:
-        raise Malformed
+        raise of.wrong(f"no {kind} has the code {code:02x}", 1)
     found = of.take(of.number(TEXTS[kind][code]))
     try:
         return found.decode({"binary": "latin-1", "string": "utf-8", "symbol": "ascii"}[kind])
-    except UnicodeDecodeError:
-        raise Malformed from None
+    except UnicodeDecodeError as error:
+        raise of.wrong(f"no {kind} has the byte {found[error.start]:02x} there", len(found) - error.start) from None
 
 
 def symbols(of, code):
-    if code not in ARRAYS:
+    if code in TEXTS["symbol"]:
         return text(of, "symbol", code)
+    if code not in ARRAYS:
+        raise of.wrong(f"neither a symbol nor an array of them has the code {code:02x}", 1)
     width = ARRAYS[code]
     inside = of.part(width)
     count = inside.number(width)
     if count == 0 and inside.at == len(inside.data):
         return None
-    item = inside.number(1)
+    item = inside.code()
+    if item not in TEXTS["symbol"]:
+        raise inside.wrong(f"no symbol has the code {item:02x}", 1)
     for _ in range(count):
         text(inside, "symbol", item)
-    if item not in TEXTS["symbol"]:
-        raise Malformed
     inside.end()
 
 
-def described(of, code, names):
+def described(of, code, names, what):
     """Which of these composites the bytes hold behind their code: descriptor and list."""
     if code != 0x00:
-        raise Malformed
-    said = of.number(1)
+        raise of.wrong(f"no {what}, but the code {code:02x}", 1)
+    begun = of.at
+    said = of.code()
     if said in WHOLE["ulong"]:
-        number = whole(of, "ulong", said)
+        found = number = whole(of, "ulong", said)
     else:
-        name = text(of, "symbol", said)
-        number = {f"amqp:{table[0].lower()}:list": it for it, table in names.items()}.get(name)
+        found = text(of, "symbol", said)
+        number = {f"amqp:{table[0].lower()}:list": it for it, table in names.items()}.get(found)
     if number not in names:
-        raise Malformed
-    fields(of, names[number][1])
+        raise of.wrong(f"no {what} has the descriptor {found if isinstance(found, str) else hex(found)}", of.at - begun)
+    fields(of, *names[number])
     return names[number][0]
 
 
-def fields(of, table):
-    code = of.number(1)
+def fields(of, what, table):
+    code = of.code()
     if code == 0x45:
-        inside, count = Bytes(b""), 0
+        inside, count = Bytes(b"", of.start + of.at), 0
     elif code in (0xC0, 0xD0):
         width = COMPOUNDS[code]
         inside = of.part(width)
         count = inside.number(width)
     else:
-        raise Malformed
+        raise of.wrong(f"no list of the fields of {what} has the code {code:02x}", 1)
     if count > len(table):
-        raise Malformed
+        raise inside.wrong(f"{count} fields, where {what} has {len(table)}", COMPOUNDS[code])
     for n, (name, kind, need) in enumerate(table):
-        field(inside, name, kind, need, n < count)
+        try:
+            field(inside, name, kind, need, n < count)
+        except Malformed as wrong:
+            raise wrong.within(f"field {n + 1} of {what}, {name.replace('_', '-')}") from None
     inside.end()
 
 
 def field(of, name, kind, need, is_there):
-    code = of.number(1) if is_there else 0x40
+    code = of.code() if is_there else 0x40
     if code == 0x40:
         if need == MUST:
-            raise Malformed
+            raise of.wrong(f"{'null' if is_there else 'missing'} where it is mandatory", is_there)
     elif kind in ("number", "handle"):
         whole(of, "ushort" if name in OF_TWO else "ulong" if name in OF_EIGHT else "uint", code)
     elif kind in ("flag", "role"):
-        if code not in (0x41, 0x42) and (code != 0x56 or of.number(1) > 1):
-            raise Malformed
+        if code not in (0x41, 0x42, 0x56):
+            raise of.wrong(f"no boolean has the code {code:02x}", 1)
+        if code == 0x56 and of.number(1) > 1:
+            raise of.wrong(f"no boolean is the byte {of.data[of.at - 1]:02x}", 1)
     elif kind in ("sender", "receiver"):
         if whole(of, "ubyte", code) > {"sender": 2, "receiver": 1}[kind]:
-            raise Malformed
+            raise of.wrong(f"no settle mode of a {kind} is {of.data[of.at - 1]}", 1)
     elif kind in ("string", "symbol", "tag"):
         text(of, {"tag": "binary"}.get(kind, kind), code)
     elif kind == "symbols":
         symbols(of, code)
     elif kind == "error":
-        described(of, code, {0x1D: ERROR})
+        described(of, code, {0x1D: ERROR}, "error")
     else:
         of.at -= 1
         if kind == "map" and code not in (0xC1, 0xD1):
-            raise Malformed
+            raise of.wrong(f"no map has the code {code:02x}")
+        begun = of.at
         if value(of) > DEEPEST:
-            raise Malformed
+            raise of.wrong(f"a value deeper than {DEEPEST}", of.at - begun)
+
+
+def body(found):
+    """The name of the performative that stands behind the frame's header."""
+    of = Bytes(found[4:], 4)
+    return described(of, of.code(), TABLES, "performative")
 
 
 def frame(found):
@@ -212,10 +247,21 @@ def frame(found):
         return "NotImplemented"
     if len(found) == 4:
         return "Empty"
-    of = Bytes(found[4:])
     try:
-        return described(of, of.number(1), TABLES)
-    except Malformed:
+        return body(found)
+    except (Malformed, RecursionError):
         return "DecodeError"
+
+
+def why(found):
+    """Why the frame's bytes are `DecodeError`, in words: what is wrong, and at which byte; `None` of any other frame."""
+    if frame(found) != "DecodeError":
+        return None
+    if len(found) < 4:
+        return f"{len(found)} bytes, where a header has 4"
+    try:
+        body(found)
+    except Malformed as wrong:
+        return f"{wrong.what}; byte {wrong.at}"
     except RecursionError:
-        return "DecodeError"
+        return "values nested too deep"

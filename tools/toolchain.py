@@ -17,6 +17,8 @@ import sys
 from operator import attrgetter
 from pathlib import Path
 
+from command import command
+
 ROOT = Path(__file__).resolve().parent.parent
 # What is used of rt and rtlib, and of each crate that rtlib finds. 'rt help' promises none of it.
 USED = ["Crate.cuts_libraries", "checked", "processors", "rtlib.Crate", "rtlib.PARTS", "rtlib.crates_below", "rtlib.files_of", "rtlib.guarded"]
@@ -102,4 +104,4 @@ def main():
 
 
 if __name__ == "__main__":
-    main()
+    command(main, __doc__)

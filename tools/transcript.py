@@ -14,6 +14,8 @@ what this side sent is asked for. The engine gives its own channels, handles and
 What this side asks for before its session is mapped waits for the peer's Begin, and its Close waits for that. A detach that answers the
 peer's, a flow of the session alone, and empty frames are left out: the engine answers by itself, or has no need of them.
 What the peer had sent before it read this side's Close is no breach, also where the engine refuses it: it is shown as in flight.
+Behind a `DecodeError` stands what is wrong with the recorded frame, by a reader of its own (strict.py), since the engine does not say it: the
+field, and the byte of the frame, counted from 0 without its size.
 The status is 0 where all was read and run, whatever was refused; 1 where a file or the program cannot be read or run.
 """
 
@@ -27,6 +29,7 @@ from canonical import uint, ushort
 from command import command, told
 from frames import ATTACH, BEGIN, CLOSE, DETACH, DISPOSITION, END, FLOW, NAMES, NULL, OPEN, TRANSFER, Frame, Malformed, flag, integer, text
 from in_flight import OF_LAWFUL, InFlight
+from strict import why
 
 # Two lines that are always refused, and change nothing: no line of a transcript is answered so
 MARK, MARKED = "release 4294967295\nrecv \n", "err NoSession\nerr DecodeError\n"
@@ -345,6 +348,8 @@ def shown(transcript, at, line, name):
         mark = f" ({PEER_ENDED})"
     elif line.startswith("recv") and at in transcript.in_flight and name in OF_LAWFUL:
         mark = f" ({IN_FLIGHT})"
+    elif line.startswith("recv") and name == "DecodeError" and why(transcript.frames[at][1]):
+        mark = f" ({why(transcript.frames[at][1])})"
     return f"frame {at + 1}, {side}, {kind}{asked}: {name}{mark}"
 
 

@@ -6,7 +6,7 @@ ghost use Rattle.fe2o3_amqp.specs.Conditions.{condition_text, error_of};
 use amqp_types::{Error, Symbol};
 use std::alloc::{AllocError, Global};
 
-/// A condition that the standard names. A peer may name others too: then see the `condition` of its [`definitions::Error`](crate::definitions::Error).
+/// A condition that the standard names. A peer may name others too: its [`Error`](crate::definitions::Error) has the text.
 #[derive(Clone, Copy, Debug, PartialEq, Eq)]
 pub enum ErrorCondition {
     /// An internal error, `amqp:internal-error` (section 2.8.15, as all up to `FrameSizeTooSmall`).

@@ -1,9 +1,10 @@
 //! AMQP 1.0 without input or output: a connection and an engine from received bytes to sent bytes.
 //!
-//! What the crates below offer is offered here too, so that a user needs this crate alone; but the conversion of a refused channel
-//! into a `BeginError` is in scope only where `amqp_connection` is named too. Each name stands here at the root, but for the laws
+//! What the crates below offer is offered here too, so that a user needs this crate alone; but `From` is in scope only where the crate of
+//! its impl is named too: `amqp_session` for a handle's `Handle` and a channel's `u16`, `amqp_connection` for the `BeginError` of a
+//! refused channel. The methods `handle`, `number` and `begin_error` need neither. Each name stands here at the root, but for the laws
 //! and the four errors that are named `Error`: those stand in the modules. `Connection` stands in both. This crate's own part is
-//! transcripts: an engine that is driven by lines of text.
+//! what the peer is told of a refused frame, and transcripts: an engine that is driven by lines of text.
 #![tactic(auto)]
 
 mod conditions;

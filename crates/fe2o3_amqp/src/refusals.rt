@@ -20,17 +20,18 @@ pub enum PeerAnswer {
 }
 
 /// What the peer is told where a received frame was refused with this error, and the connection is in this state (AMQP 1.0 part 2,
-/// sections 2.7.8, 2.7.9 and 2.8.15 to 2.8.18). `docs/PROTOCOL.md` has it as a table.
+/// sections 2.7.8, 2.7.9 and 2.8.15 to 2.8.17). `docs/PROTOCOL.md` has it as a table.
 ///
-/// `None` where there is nothing to tell: behind this side's Close, where what comes is passed over (section 2.4.6); where the peer ended
-/// the session or closed the connection, which wants this side's own End or Close, without an error; where the transport failed; and where only
-/// a request of this side's is refused so.
+/// `None` where there is nothing to tell: behind this side's Close, where what comes is passed over (section 2.4.6); where the peer
+/// ended the session or closed the connection, which wants this side's own End or Close, without an error; where the transport failed;
+/// and where only a request of this side's is refused so.
 ///
-/// It is to be asked of frames that came. A request of this side's is refused with some of the same errors, and the peer is told of none.
+/// It is to be asked of frames that came. A request of this side's is refused with some of the same errors, and the peer is told of
+/// none of that.
 ///
-/// The session of an `End` is that of the frame's channel: `Connection::session_tx_by_incoming_channel`. The engine refuses an End of a
-/// session that this side has ended, and a Close before this side's Open; nothing goes out then. So a side that has sent no Open asks for
-/// that first.
+/// The session of an `End` is that of the frame's channel: `Connection::session_tx_by_incoming_channel`. The engine refuses an End of
+/// a session that this side has ended, and a Close before this side's Open; nothing goes out then. So a side that has sent no Open asks
+/// for that first.
 pub fn answer_to(error: &StepError, state: ConnectionState) -> Option<PeerAnswer>
     ensures { result ≡ answer_of error.now state }
 {
