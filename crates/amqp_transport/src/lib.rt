@@ -4,6 +4,7 @@
 //! the peer begins is served, and [`marked_name`], by which a sender and a receiver may share a link's name.
 #![tactic(auto)]
 
+pub mod laws;
 mod link_names;
 mod refused;
 mod running;
@@ -14,4 +15,4 @@ pub use link_names::{marked_name, plain_name};
 pub use refused::{Refusal, Refusals};
 pub use running::{close, push, receive, run};
 pub use stream::{exchange_headers, next_frame, write_frame, write_piece};
-pub use turning::{TurnError, Turned, begin_session, turn_begin};
+pub use turning::{BeginSessionError, TurnError, Turned, begin_session, turn_begin};

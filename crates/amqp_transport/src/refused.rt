@@ -1,5 +1,9 @@
 //! What an engine refused, and of which input.
 
+ghost use Rattle.std.specs.Prelude.{◌≡◌, [], ◌∷◌, None, MatchOption};
+ghost use Rattle.std.specs.Option.{option_map};
+ghost use Rattle.amqp_transport.specs.Refused.{next_input, refused_from, step_to, is_refusal};
+
 use fe2o3_amqp::Answer;
 
 /// A refusal among the answers of a run.
@@ -20,7 +24,9 @@ pub struct Refusals<'a> {
 
 impl<'a> Refusals<'a> {
     /// The refusals among these answers, as runs appended them to a list that was empty.
-    pub fn of(answers: &'a [Answer]) -> Refusals<'a> {
+    pub fn of(answers: &'a [Answer]) -> Refusals<'a>
+        ensures { refused_from result.input result.rest.now ≡ refused_from None answers.now }
+    {
         Refusals {
             rest: answers,
             input: None,
@@ -28,10 +34,14 @@ impl<'a> Refusals<'a> {
     }
 
     /// The next refusal, if there is one more.
-    pub fn next(&mut self) -> Option<Refusal<'a>> {
-        for _ in 0..self.rest.len() {
-            let (answer, rest) = self.rest.split_first()?;
-            self.rest = rest;
+    pub fn next(&mut self) -> Option<Refusal<'a>>
+        ensures { MatchOption result
+            (refused_from self.old.input self.old.rest.now ≡ [])
+            (λ r. refused_from self.old.input self.old.rest.now ≡ (r.input, r.answer.now) ∷ refused_from self.new.input self.new.rest.now) }
+    {
+        while !self.rest.is_empty() {
+            let answer = &self.rest[0];
+            self.rest = &self.rest[1..];
             self.input = input_of(answer, self.input);
             if is_refusal(answer) {
                 return Some(Refusal {
@@ -45,7 +55,9 @@ impl<'a> Refusals<'a> {
 }
 
 /// Which input an answer is of, where the one before it is of this input.
-fn input_of(answer: &Answer, before: Option<usize>) -> Option<usize> {
+fn input_of(answer: &Answer, before: Option<usize>) -> Option<usize>
+    ensures { result ≡ step_to before answer.now }
+{
     match answer {
         Answer::Done => next_of(before),
         Answer::Refused(_) => next_of(before),
@@ -54,14 +66,18 @@ fn input_of(answer: &Answer, before: Option<usize>) -> Option<usize> {
     }
 }
 
-fn next_of(before: Option<usize>) -> Option<usize> {
+fn next_of(before: Option<usize>) -> Option<usize>
+    ensures { result ≡ next_input before }
+{
     match before {
         None => Some(0),
         Some(input) => Some(input.saturating_add(1)),
     }
 }
 
-fn is_refusal(answer: &Answer) -> bool {
+fn is_refusal(answer: &Answer) -> bool
+    ensures { result ≡ is_refusal answer.now }
+{
     match answer {
         Answer::Done => false,
         Answer::Refused(_) => true,

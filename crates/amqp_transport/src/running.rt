@@ -1,5 +1,8 @@
 //! Running an engine over a reader and a writer: what it is to send is written, and what it refuses is the caller's to look at.
 
+ghost use Rattle.std.specs.Prelude.{◌≡◌, ◌++◌, ◌∷◌, [], OnOk, MatchResult};
+ghost use Rattle.amqp_engine.specs.Promise.{NoneLeft};
+
 use crate::stream::{next_frame, write_piece};
 use fe2o3_amqp::definitions::Error;
 use fe2o3_amqp::{Answer, Engine, Input, LinkRelay};
@@ -13,14 +16,17 @@ const TRIES: u32 = 3;
 /// Runs the inputs, and writes what is to be sent to `output`. The answers go behind those that `answers` holds: what was refused is among
 /// them, in the order of the inputs, and `Refusals` tells of each which input it is of. An `Out` that was written is left empty.
 ///
-/// Where memory is refused it goes on with the inputs that are left. After a few tries it answers `OutOfMemory`; those that were
-/// not taken are still in `inputs`, frames may wait in the engine, and a later call goes on.
+/// `Ok` means that no input is left and no frame waits in the engine. Where memory is refused it goes on with the inputs that are left. After a
+/// few tries it answers `OutOfMemory`; those that were not taken are still in `inputs`, frames may wait in the engine, and a later call goes on.
+/// After an error of `output` the stream is of no use.
 pub fn run<R: LinkRelay, O: Write>(
     engine: &mut Engine<R>,
     inputs: &mut VecDeque<Input<R>>,
     answers: &mut Vec<Answer>,
     output: &mut O,
-) -> io::Result<()> {
+) -> io::Result<()>
+    ensures { OnOk result (NoneLeft inputs.new.items engine.new) }
+{
     for _ in 0..TRIES {
         let told = answers.len();
         let outcome = engine.run(inputs, answers);
@@ -54,7 +60,9 @@ pub fn receive<R: LinkRelay, I: BufRead, O: Write>(
     answers: &mut Vec<Answer>,
     input: &mut I,
     output: &mut O,
-) -> io::Result<bool> {
+) -> io::Result<bool>
+    ensures { OnOk result (NoneLeft inputs.new.items engine.new) }
+{
     let max_frame_size = engine.connection().local_open().max_frame_size;
     let frame = next_frame(alloc, input, max_frame_size)?;
     let is_some = frame.is_some();
@@ -69,20 +77,24 @@ pub fn receive<R: LinkRelay, I: BufRead, O: Write>(
 /// The caller goes on to receive until the peer's Close has come, and closes the stream then. Transfers that a session holds back, since the
 /// peer's window is used up, do not go out: who wants them to waits for the peer's flow before this.
 ///
-/// Where it answers an error nothing is lost: what was not sent still waits, and a second call goes on.
+/// `Ok` means that all this went out. After `OutOfMemory` [`run`] goes on: what was not sent still waits, the Close too.
 pub fn close<R: LinkRelay, O: Write>(
     engine: &mut Engine<R>,
     inputs: &mut VecDeque<Input<R>>,
     answers: &mut Vec<Answer>,
     output: &mut O,
     error: Option<Error>,
-) -> io::Result<()> {
+) -> io::Result<()>
+    ensures { OnOk result (NoneLeft inputs.new.items engine.new) }
+{
     push(inputs, Input::Close(error))?;
     run(engine, inputs, answers, output)
 }
 
 /// Puts an input, or whatever it is, behind the others. `OutOfMemory` where memory is refused: the item is dropped then.
-pub fn push<T: Drop>(items: &mut VecDeque<T>, item: T) -> io::Result<()> {
+pub fn push<T: Drop>(items: &mut VecDeque<T>, item: T) -> io::Result<()>
+    ensures { MatchResult result (λ _. items.new.items ≡ items.old.items ++ item ∷ []) (λ _. items.new.items ≡ items.old.items) }
+{
     match items.push_back(item) {
         Ok(()) => Ok(()),
         Err(_) => Err(io::Error::from(ErrorKind::OutOfMemory)),

@@ -7,9 +7,7 @@ use crate::unsettled::give_back;
 use amqp_events::{EventRelay, LinkNames, Policy};
 use amqp_transport::{marked_name, push};
 use bytes::Bytes;
-use fe2o3_amqp::{
-    Attach, Detach, FrameBody, Handle, Input, InputHandle, Role, SessionNo,
-};
+use fe2o3_amqp::{Attach, Detach, FrameBody, Handle, Input, InputHandle, Role, SessionNo};
 use std::io::{self, Write};
 
 impl Broker {
@@ -20,9 +18,10 @@ impl Broker {
         frame: Bytes,
         output: &mut O,
     ) -> io::Result<Progress> {
-        let (Some(number), Some(FrameBody::Attach(theirs))) =
-            (self.session_of(channel), decoded(self.alloc, frame.clone()?))
-        else {
+        let (Some(number), Some(FrameBody::Attach(theirs))) = (
+            self.session_of(channel),
+            decoded(self.alloc, frame.clone()?),
+        ) else {
             // refused by name: no session, or no frame
             return self.receive(frame, output);
         };
@@ -41,8 +40,13 @@ impl Broker {
     }
 
     fn has_link(&self, session: u32, input: u32) -> bool {
-        self.senders.iter().any(|it| it.session == session && it.input == input)
-            || self.consumers.iter().any(|it| it.session == session && it.input == input)
+        self.senders
+            .iter()
+            .any(|it| it.session == session && it.input == input)
+            || self
+                .consumers
+                .iter()
+                .any(|it| it.session == session && it.input == input)
     }
 
     /// Allots a link for an Attach of the client's. `None` where that is refused, and the connection closed for it.
@@ -96,7 +100,10 @@ impl Broker {
                 theirs.initial_delivery_count.unwrap_or(0),
             ))?;
         }
-        push(&mut self.inputs, Input::Attach(number, answer_to(theirs, handle)))?;
+        push(
+            &mut self.inputs,
+            Input::Attach(number, answer_to(theirs, handle)),
+        )?;
         self.go_on(output)
     }
 
@@ -105,15 +112,25 @@ impl Broker {
         let (Some(input), Some(output)) = (link.input, link.output) else {
             return Ok(());
         };
-        self.senders.retain(|it| !is_link(link, it.session, it.input));
-        self.consumers.retain(|it| !is_link(link, it.session, it.input));
-        give_back(&mut self.unsettled, link.session, Some(input.0), &mut self.queue)?;
+        self.senders
+            .retain(|it| !is_link(link, it.session, it.input));
+        self.consumers
+            .retain(|it| !is_link(link, it.session, it.input));
+        give_back(
+            &mut self.unsettled,
+            link.session,
+            Some(input.0),
+            &mut self.queue,
+        )?;
         let detach = Detach {
             handle: Handle(output.0),
             closed,
             error: None,
         };
-        push(&mut self.inputs, Input::Detach(SessionNo(link.session), detach, false))
+        push(
+            &mut self.inputs,
+            Input::Detach(SessionNo(link.session), detach, false),
+        )
     }
 }
 
@@ -142,7 +159,11 @@ fn answer_to(theirs: Attach, handle: Handle) -> Attach {
         target: theirs.target,
         unsettled: None,
         incomplete_unsettled: false,
-        initial_delivery_count: if theirs.role == Role::Receiver { Some(0) } else { None },
+        initial_delivery_count: if theirs.role == Role::Receiver {
+            Some(0)
+        } else {
+            None
+        },
         max_message_size: None,
         offered_capabilities: None,
         desired_capabilities: None,

@@ -1,7 +1,7 @@
 //! The broker: what a client's frames ask of an engine, and the queue.
 
 use crate::consumers::Consumer;
-use crate::faults::{error_of, first_fault, turn_fault};
+use crate::faults::{begin_fault, error_of, first_fault};
 use crate::message::Message;
 use crate::senders::Sender;
 use crate::unsettled::{Unsettled, give_back};
@@ -87,11 +87,7 @@ impl Broker {
     }
 
     /// Opens, and takes frames until the client's Close, a fault of the client's, or the end of the input.
-    pub fn serve<I: BufRead, O: Write>(
-        &mut self,
-        input: &mut I,
-        output: &mut O,
-    ) -> io::Result<()> {
+    pub fn serve<I: BufRead, O: Write>(&mut self, input: &mut I, output: &mut O) -> io::Result<()> {
         exchange_headers(input, output)?;
         push(&mut self.inputs, Input::Open)?;
         self.run(output)?;
@@ -108,7 +104,12 @@ impl Broker {
 
     /// Runs what was asked. A fault closes the connection.
     pub fn run<O: Write>(&mut self, output: &mut O) -> io::Result<Progress> {
-        run(&mut self.engine, &mut self.inputs, &mut self.answers, output)?;
+        run(
+            &mut self.engine,
+            &mut self.inputs,
+            &mut self.answers,
+            output,
+        )?;
         let fault = first_fault(self.answers.as_slice());
         self.answers.clear();
         match fault {
@@ -120,7 +121,13 @@ impl Broker {
     /// Closes the connection for a fault.
     pub fn fail<O: Write>(&mut self, fault: &str, output: &mut O) -> io::Result<Progress> {
         let error = error_of(self.alloc, fault)?;
-        close(&mut self.engine, &mut self.inputs, &mut self.answers, output, error)?;
+        close(
+            &mut self.engine,
+            &mut self.inputs,
+            &mut self.answers,
+            output,
+            error,
+        )?;
         self.answers.clear();
         Ok(Progress::Over)
     }
@@ -131,26 +138,36 @@ impl Broker {
         let head = FrameDecoder::new().head(&mut fields);
         drop(fields);
         match head {
-            Ok(FrameHead {
-                channel: _,
-                kind: Some(Kind::Begin),
-            }) => self.take_begin(frame, output),
-            Ok(FrameHead {
-                channel,
-                kind: Some(Kind::Attach),
-            }) => self.take_attach(channel, frame, output),
-            Ok(FrameHead {
-                channel,
-                kind: Some(Kind::End),
-            }) => self.take_end(channel, frame, output),
-            Ok(FrameHead {
-                channel: _,
-                kind: Some(Kind::Open),
-            }) => self.take_open(frame, output),
-            Ok(FrameHead {
-                channel: _,
-                kind: Some(Kind::Close),
-            }) => self.take_close(frame, output),
+            Ok(
+                FrameHead {
+                    channel: _,
+                    kind: Some(Kind::Begin),
+                },
+            ) => self.take_begin(frame, output),
+            Ok(
+                FrameHead {
+                    channel,
+                    kind: Some(Kind::Attach),
+                },
+            ) => self.take_attach(channel, frame, output),
+            Ok(
+                FrameHead {
+                    channel,
+                    kind: Some(Kind::End),
+                },
+            ) => self.take_end(channel, frame, output),
+            Ok(
+                FrameHead {
+                    channel: _,
+                    kind: Some(Kind::Open),
+                },
+            ) => self.take_open(frame, output),
+            Ok(
+                FrameHead {
+                    channel: _,
+                    kind: Some(Kind::Close),
+                },
+            ) => self.take_close(frame, output),
             _ => self.take_other(frame, output),
         }
     }
@@ -179,11 +196,7 @@ impl Broker {
     }
 
     /// A session that the client begins is one that the engine begins: the two Begins are turned.
-    fn take_begin<O: Write>(
-        &mut self,
-        frame: Bytes,
-        output: &mut O,
-    ) -> io::Result<Progress> {
+    fn take_begin<O: Write>(&mut self, frame: Bytes, output: &mut O) -> io::Result<Progress> {
         let Ok(number) = u32::try_from(self.sessions.len()) else {
             return self.fail("OutOfMemory", output);
         };
@@ -194,11 +207,11 @@ impl Broker {
             SessionNo(number),
             SessionSettings::default(),
             frame,
-            self.max_piece_len,
+            self.max_piece_len.max(4),
         ) {
             Ok(turned) => self.answer_begin(turned, output),
             Err(error) => {
-                let fault = turn_fault(&error);
+                let fault = begin_fault(&error);
                 drop(error);
                 self.fail(fault, output)
             }

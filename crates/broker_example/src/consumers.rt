@@ -109,7 +109,7 @@ impl Consumer {
             more: true,
             ..self.first_transfer(alloc, u32::MAX)?
         };
-        let room = FrameEncoder::new(max_piece_len).payload_room(&probe);
+        let room = FrameEncoder::new(max_piece_len.max(4)).payload_room(&probe);
         drop(probe);
         match room {
             Some(room) if room > 0 => Ok(room as usize),

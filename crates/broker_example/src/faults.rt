@@ -1,11 +1,9 @@
 //! Faults: what a client did that the engine refuses, and the error that closes the connection for it.
 
-use amqp_transport::{Refusals, TurnError};
+use amqp_transport::{BeginSessionError, Refusals, TurnError};
 use fe2o3_amqp::definitions::Error;
 use fe2o3_amqp::frames::Error as FrameError;
-use fe2o3_amqp::{
-    Answer, ConnectionStateError, SessionStateError, StepError, Symbol, err_name,
-};
+use fe2o3_amqp::{Answer, ConnectionStateError, SessionStateError, StepError, Symbol, err_name};
 use std::alloc::{AllocError, Global};
 
 /// The name of the first refusal that is a fault; an End and a Close of the client's are none, though they are told as refusals.
@@ -62,13 +60,20 @@ pub fn error_of(alloc: Global, fault: &str) -> Result<Option<Error>, AllocError>
 }
 
 /// The name of what is wrong with a Begin.
-pub fn turn_fault(error: &TurnError) -> &'static str {
+pub fn begin_fault(error: &BeginSessionError) -> &'static str {
+    match error {
+        BeginSessionError::Unread(error) => turn_fault(error),
+        BeginSessionError::Refused(error) => err_name(error),
+        BeginSessionError::Unsent(error) => turn_fault(error),
+    }
+}
+
+fn turn_fault(error: &TurnError) -> &'static str {
     match error {
         TurnError::NoBegin => "IllegalState",
         TurnError::HasRemoteChannel => "NotFound",
         TurnError::Frame(FrameError::DecodeError) => "DecodeError",
         TurnError::Frame(FrameError::TooLarge) => "TooLarge",
         TurnError::Frame(_) => "OutOfMemory",
-        TurnError::Refused(error) => err_name(error),
     }
 }

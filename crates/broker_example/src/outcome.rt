@@ -1,7 +1,7 @@
 //! Outcomes of deliveries (AMQP 1.0 part 3, section 3.4), as far as a queue asks.
 
-use fe2o3_amqp::{Raw, ReadError};
 use bytes::Bytes;
+use fe2o3_amqp::{Raw, ReadError};
 
 /// The outcome "accepted".
 pub fn accepted() -> Result<Raw, ReadError> {

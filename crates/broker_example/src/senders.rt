@@ -5,8 +5,7 @@ use crate::outcome::accepted;
 use bytes::Bytes;
 use fe2o3_amqp::{Disposition, Handle, LinkFlow, ReceiverSettleMode, Role, Transfer};
 use std::alloc::Global;
-use std::io;
-use std::mem;
+use std::{io, mem};
 
 /// How many messages a sender may send before it waits.
 const CREDIT: u32 = 500;

@@ -9,9 +9,7 @@ use crate::unsettled::{Unsettled, number_of, put_first, take};
 use amqp_events::{Event, EventBody, LinkNames};
 use amqp_transport::push;
 use bytes::Bytes;
-use fe2o3_amqp::{
-    DeliveryTag, Input, LinkFlow, Raw, Role, SessionNo, Transfer, is_terminal,
-};
+use fe2o3_amqp::{DeliveryTag, Input, LinkFlow, Raw, Role, SessionNo, Transfer, is_terminal};
 use std::io::{self, ErrorKind, Write};
 
 impl Broker {
@@ -186,7 +184,13 @@ impl Broker {
         };
         let consumer = *consumer;
         let number = self.next_delivery(consumer.session);
-        let asked = consumer.send(self.alloc, number, &message, self.max_piece_len, &mut self.inputs);
+        let asked = consumer.send(
+            self.alloc,
+            number,
+            &message,
+            self.max_piece_len,
+            &mut self.inputs,
+        );
         if consumer.is_settled || asked.is_err() {
             drop(message);
             return asked;

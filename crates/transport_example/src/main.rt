@@ -11,8 +11,8 @@ use amqp_transport::{Refusals, exchange_headers, next_frame, push, receive, run}
 use bytes::Bytes;
 use chunks::Chunks;
 use fe2o3_amqp::{
-    Answer, ConnectionState, DEFAULT_CHANNEL_MAX, Engine, Input, KeyHash, Open, ReplayRelay, SessionNo,
-    SessionSettings, err_name, hex_bytes,
+    Answer, ConnectionState, DEFAULT_CHANNEL_MAX, Engine, Input, KeyHash, Open, ReplayRelay,
+    SessionNo, SessionSettings, err_name, hex_bytes,
 };
 use std::alloc::{AllocError, Global};
 use std::collections::VecDeque;
