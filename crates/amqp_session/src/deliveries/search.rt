@@ -18,14 +18,15 @@ impl Deliveries {
         ensures cost { (k : ℕ) × (self.new ≡ compared k self.old) × (2 ^ k ≤ 2 * length self.old.rows + 1) }
     {
         let len = self.len();
-        if len == 0 || len / 2 < self.missing() {
+        let missing = self.missing();
+        if len == 0 || len / 2 < missing {
             return self.place_among_all(first);
         }
         let front = self.first_number();
         if first <= front {
             return 0;
         }
-        self.place_behind(first, front)
+        self.place_behind(first, front, missing)
     }
 
     /// The same by a search of the whole table.
@@ -52,18 +53,18 @@ impl Deliveries {
 
     /// The same where the front was read, and its number is smaller.
     #[inline(never)]
-    fn place_behind(&mut self, first: u32, front: u32) -> usize
+    fn place_behind(&mut self, first: u32, front: u32, missing: usize) -> usize
         requires some { 0 < length self.old.rows }
         requires front { front ≡ number_at self.old.rows 0 }
         requires smaller { front < first }
-        requires few_missing { (m : ℕ) → IsMissing m self.old.rows → 2 * m ≤ length self.old.rows }
+        requires missing { IsMissing missing self.old.rows }
+        requires few_missing { 2 * missing ≤ length self.old.rows }
         ensures within { result ≤ length self.old.rows }
         ensures below { (i : ℕ) → i < result → number_at self.old.rows i < first }
         ensures above { (i : ℕ) → result ≤ i → i < length self.old.rows → first ≤ number_at self.old.rows i }
         ensures cost { (k : ℕ) × (self.new ≡ compared k self.old) × (2 ^ (k + 1) ≤ 2 * length self.old.rows + 1) }
     {
         let len = self.len();
-        let missing = self.missing();
         let far = (first - front) as usize;
         let low = far.saturating_sub(missing).min(len);
         let guess = expected(low, self.last_place(), far, len, missing);
@@ -95,16 +96,18 @@ impl Deliveries {
         ensures above { (i : ℕ) → result ≤ i → i < length self.old.rows → first ≤ number_at self.old.rows i }
         ensures cost { (k : ℕ) × (self.new ≡ compared k self.old) × (2 ^ k ≤ places) }
     {
-        let mut part = part;
-        let mut places = places;
-        while part.low < part.high {
-            places /= 2;
-            let at = probe(part, places);
+        // The proof reads what holds of a table.
+        let _len = self.len();
+        let mut left = part;
+        let mut half = places;
+        while left.low < left.high {
+            half /= 2;
+            let at = probe(left, half);
             let value = self.number(at);
-            part = closer(part, at, value, first);
+            left = closer(left, at, value, first);
         }
-        self.note_place(part.low);
-        part.low
+        self.note_place(left.low);
+        left.low
     }
 }
 

@@ -120,6 +120,11 @@ fn cut_wide(rows: &mut Blocks<Delivery>, from: usize, count: usize)
     }
 }
 
+/// Where a record stands once one comes in at a place.
+fn moved(at: usize, place: usize) -> usize {
+    if place <= at { at.wrapping_add(1) } else { at }
+}
+
 /// Where the numbers from `number` on begin. They are expected at the guess.
 fn place_among(rows: &mut Blocks<Delivery>, number: u32, guess: usize) -> usize
     requires rising { IsRising rows.old.items }
@@ -130,21 +135,21 @@ fn place_among(rows: &mut Blocks<Delivery>, number: u32, guess: usize) -> usize
     ensures kept { rows.new ≡ rows.old }
 {
     let high = rows.len();
-    let mut part = Part {
+    let mut left = Part {
         low: 0,
         high,
         guess,
     };
-    // Nothing is counted here: so there may be two reads more, which leaves the first reads free to be near the guess.
-    let mut places = (high + 1).next_power_of_two() * 4;
-    while part.low < part.high {
-        places /= 2;
-        let at = probe(part, places);
+    // Nothing is counted here: so there may be two reads more, which leave the first ones free to be near the guess.
+    let mut half = (high + 1).next_power_of_two() * 4;
+    while left.low < left.high {
+        half /= 2;
+        let at = probe(left, half);
         rows.seek(at);
         let value = rows.get(at).number;
-        part = closer(part, at, value, number);
+        left = closer(left, at, value, number);
     }
-    part.low
+    left.low
 }
 
 impl Deliveries {
@@ -286,10 +291,7 @@ impl Deliveries {
     {
         let place = place_among(&mut self.rows, delivery.number, self.last_place);
         put_at(&mut self.rows, place, delivery);
-        // What stands where the last search ended moves on.
-        if place <= self.last_place {
-            self.last_place = self.last_place.wrapping_add(1);
-        }
+        self.last_place = moved(self.last_place, place);
     }
 
     /// Where the numbers from `number` on begin, which are expected at the guess. It is of this module alone, and counts nothing.
