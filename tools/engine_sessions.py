@@ -83,6 +83,43 @@ def cut_transfers(rows):
     rows.ask(send("v", "fe"))
 
 
+def part_lens(first, later, length, room=504):
+    """How a payload is shared out: the first part takes what is left beside its text, each later one what is left beside its own."""
+    lens = [room - len(first) // 2]
+    while sum(lens) < length:
+        lens.append(min(room - len(later) // 2, length - sum(lens)))
+    return lens
+
+
+def frames_and_transfers(rows):
+    """The window counts transfers, and the peer counts frames: who splits a delivery beforehand keeps both alike."""
+    rows.row("A transfer that goes out as five frames passes the window of 1; the peer, which counted five, leaves no window for the next one")
+    rows.open(opening("a", 512))
+    rows.begin(0)
+    rows.ask(recv(begin(0, 0, 1, 8), 5))
+    first, middle, last = transfer(0, "t", more=True), transfer(more=True), transfer()
+    lens = part_lens(first, middle, 2400)
+    assert len(lens) == 5
+    texts = [first, middle, middle, middle, last]
+    rows.ask(send("t", "78" * 2400), *(out(text + "78" * length) for text, length in zip(texts, lens)))
+    rows.ask(recv(flow(5, 1), 5))
+    rows.ask(send("u", "ff"))
+    rows.ask(recv(flow(5, 1000), 5))
+    rows.row("The same delivery in five transfers, each with room for the widest number: each is one frame, and goes out as the window grants it")
+    rows.open(opening("a", 512))
+    rows.begin(0)
+    rows.ask(recv(begin(0, 0, 1, 8), 5))
+    lens = part_lens(transfer(4294967295, "t", more=True), middle, 2400)
+    assert len(lens) == 5
+    rows.ask(f"send 0 {transfer(text='t', more=True)}" + "78" * lens[0], out(first + "78" * lens[0]))
+    for text, length in zip(texts[1:], lens[1:]):
+        rows.ask(f"send 0 {text}" + "78" * length)
+    rows.ask(send("u", "ff"))
+    for count, (text, length) in enumerate(zip(texts[1:], lens[1:]), 1):
+        rows.ask(recv(flow(count, 1), 5), out(text + "78" * length))
+    rows.ask(recv(flow(5, 1), 5), sent(1, "u", "ff"))
+
+
 def channels(rows):
     rows.row("The peer allows channels 0 and 1: the lowest free one is used, and one that is given back is free again")
     rows.open(opening("a", None, 1))
@@ -245,6 +282,7 @@ def write(rows):
     windows(rows)
     second_begins(rows)
     cut_transfers(rows)
+    frames_and_transfers(rows)
     channels(rows)
     routes(rows)
     forgotten(rows)

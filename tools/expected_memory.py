@@ -182,6 +182,8 @@ def codec(rows):
     pieces = [first + "78" * rooms[0], middle + "78" * rooms[1], last + "78" * 5]
     long = transfer(0, "b") + "78" * (sum(rooms) + 5)
     rows.ask(f"call encode 40 02000000{long}", *(out(it) for it in pieces), "encode done")
+    rows.ask(f"call split 44 02000000{long}", "split three parts")
+    rows.ask("call reject amqp:not-allowed", "reject rejected")
 
 
 def replays(rows):

@@ -60,6 +60,10 @@ AT_MOST = {
     # the line as it grows, and the digits of head and payload
     "out_line": 3 * PLACE + 2 * TEXT,
     "read": TEXT,
+    # the text of the outcome
+    "reject": BUFFER,
+    # the list of the parts
+    "split": 1,
     # the name, and the place among the input handles
     "received Attach": ANSWER + TEXT + IN_MAP,
     # the place among the routes, and that of the session's count of them

@@ -1,12 +1,12 @@
 #!/usr/bin/env bash
 # Runs amqp_replay against two brokers on loopback, by tools/bridge.py: qpid-proton's example broker and RabbitMQ with its AMQP 1.0 plug-in, both
 # from Debian's packages, which it installs where they are missing (as root). Each is started in a folder of its own and stopped at the end.
-# It is no part of the gate.
+# Then qpid-proton's client in Python sends to broker_example and receives from it, by tools/try_server.py. It is no part of the gate.
 set -euo pipefail
 case "${1-}" in -h | --help) sed -n '2,/^set/{/^set/d;s/^# \{0,1\}//;p}' "$0" && exit 0 ;; esac
 command -v rt >/dev/null || [ -x "$(dirname "$0")/../crates/amqp_replay/out/amqp_replay" ] || { echo "try_brokers: no rt on the path, and no amqp_replay that it left" >&2; exit 1; }
 cd "$(dirname "$0")/.."
-program=crates/amqp_replay/out/amqp_replay
+program=crates/amqp_replay/out/amqp_replay server=crates/broker_example/out/broker_example
 folder=$(mktemp -d)
 running=()
 trap 'for it in "${running[@]}"; do kill "$it" 2>/dev/null || true; done; wait 2>/dev/null; rm -rf "$folder"' EXIT
@@ -63,9 +63,16 @@ rabbitmq() {
     python3 tools/bridge.py "$program" 127.0.0.1 "$port" /queue/messages --sasl guest:guest
 }
 
+client() {
+    install python3 python3-qpid-proton || return 1
+    echo "== broker_example, and the client of qpid-proton $(dpkg-query -f '${Version}' -W python3-qpid-proton)"
+    /usr/bin/python3 tools/try_server.py "$server"
+}
+
 [ -x "$program" ] || (cd crates/amqp_replay && rt run </dev/null >"$folder/build")
+[ -x "$server" ] || (cd crates/broker_example && rt run <stdin >"$folder/build")
 passed=0 failed=0
-for broker in proton rabbitmq; do
+for broker in proton rabbitmq client; do
     if "$broker"; then passed=$((passed + 1)); else failed=$((failed + 1)); fi
 done
 echo "$passed passed, $failed failed"

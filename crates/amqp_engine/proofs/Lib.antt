@@ -22,6 +22,7 @@ pub mod Reaching
 pub mod Naming
 pub mod Telling
 pub mod OnChannel
+pub mod Requested
 pub mod OneFrames
 pub mod Standing
 pub mod Outputs

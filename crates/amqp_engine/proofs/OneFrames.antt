@@ -25,11 +25,18 @@ use Rattle.amqp_engine.specs.Entry.{Entry}
 use Rattle.amqp_engine.specs.Event.{Event, SentOpen, SentClose, event}
 use Rattle.amqp_engine.specs.Headline.{Asked, Headline, own_frames}
 use Rattle.amqp_engine.specs.Legal.{Legal}
-use Rattle.amqp_engine.specs.OneFrame.{AllShort, AreInFrames, InOneFrame, KeepsShort, NoLimitBelow, SpeaksInFrames, TransfersAreFrames}
+use Rattle.amqp_engine.specs.OneFrame.{AllShort, AreInFrames, InOneFrame, NoLimitBelow, SpeaksInFrames, TransfersAreFrames}
 use Rattle.amqp_engine.specs.Output.{IsOut, IsOuts, Speaks}
 use Rattle.amqp_engine.specs.Views.{Stands}
 use Rattle.amqp_engine.specs.Waits as waits
+use Rattle.amqp_engine.proofs.Apart.{apart}
 use Rattle.amqp_engine.proofs.OnChannel.{calls_here, of_both}
+use Rattle.amqp_engine.proofs.Requested.{EachOnePiece, keeps_short}
+use Rattle.amqp_engine.specs.EngineView.{new_engine}
+
+-- each transfer that a session accepted is short
+abbrev Keeps : {R : Type 0} → ℕ → List (Entry R) → Type 0
+Keeps m T = (n : ℕ) → EachOnePiece m (single.accepted (of_session n T))
 
 -- ---- frames that are whole where they are transfers
 
@@ -85,13 +92,13 @@ session_back : (m : ℕ) (xs ys : List SessionFrame) → FromSession m (xs ++ ys
 session_back m [] ys s = s
 session_back m (f ∷ xs) ys s = session_back m xs ys s.1
 
-taken : (m k : ℕ) (hs : List RequestedTransfer) → AllShort m hs → AllShort m (take k hs)
+taken : (m k : ℕ) (hs : List RequestedTransfer) → EachOnePiece m hs → EachOnePiece m (take k hs)
 taken m zero hs a = tt
 taken m (suc k) [] a = tt
 taken m (suc k) (h ∷ hs) a = (a.0, taken m k hs a.1)
 
 -- whatever numbers they get
-numbered_short : (m c n : ℕ) (hs : List RequestedTransfer) → AllShort m hs → FromSession m (numbered c n hs)
+numbered_short : (m c n : ℕ) (hs : List RequestedTransfer) → EachOnePiece m hs → FromSession m (numbered c n hs)
 numbered_short m c n [] a = tt
 numbered_short m c n (h ∷ hs) a = (let u = number_under (n % 2 ^ 32) h.is_first h.transfer in let s = a.0 in omega arith, numbered_short m c (n + first_of h) hs a.1)
 
@@ -127,7 +134,7 @@ handed_both (c ∷ xs) ys =
 
 -- ---- the frames of an entry
 
-session_short : {R : Type 0} (m : ℕ) (s : ConnectionState) (o : OpenSaid) (T : List (Entry R)) → Headline s o T → KeepsShort m T → (n : ℕ) → FromSession m (single.handed (of_session n T))
+session_short : {R : Type 0} (m : ℕ) (s : ConnectionState) (o : OpenSaid) (T : List (Entry R)) → Headline s o T → Keeps m T → (n : ℕ) → FromSession m (single.handed (of_session n T))
 session_short m s o T head short n = go (begun s n T) refl
   where
     go : (b : Option session.Made) → begun s n T ≡ b → FromSession m (single.handed (of_session n T))
@@ -137,7 +144,7 @@ session_short m s o T head short n = go (begun s n T) refl
         subst (FromSession m) (sym a.handed_out) (numbered_short m made.channel 0 (take (length (single.handed (of_session n T))) (single.accepted (of_session n T)))
         (taken m (length (single.handed (of_session n T))) (single.accepted (of_session n T)) (short n)))
 
-part_short : {R : Type 0} (m : ℕ) (s : ConnectionState) (o : OpenSaid) (T : List (Entry R)) → Headline s o T → KeepsShort m T → (n : ℕ) (before after : List (Entry R)) (e : Entry R) → T ≡ before ++ e ∷ after → e.reached ≡ Some n → FromSession m (single.handed e.calls)
+part_short : {R : Type 0} (m : ℕ) (s : ConnectionState) (o : OpenSaid) (T : List (Entry R)) → Headline s o T → Keeps m T → (n : ℕ) (before after : List (Entry R)) (e : Entry R) → T ≡ before ++ e ∷ after → e.reached ≡ Some n → FromSession m (single.handed e.calls)
 part_short m s o T head short n before after e is r =
     let split : of_session n T ≡ of_session n before ++ of_session n (e ∷ after) = ap (of_session n) is ∙ of_both n before (e ∷ after) in
     let all = subst (λ (cs : List (session.Entry _)). FromSession m (single.handed cs)) split (session_short m s o T head short n) in
@@ -147,7 +154,7 @@ part_short m s o T head short n before after e is r =
     session_front m (single.handed e.calls) (single.handed (of_session n after))
     (subst (FromSession m) (ap single.handed cs ∙ handed_both e.calls (of_session n after)) rest)
 
-calls_short : {R : Type 0} (m : ℕ) (s : ConnectionState) (o : OpenSaid) (T : List (Entry R)) → Headline s o T → KeepsShort m T → (before after : List (Entry R)) (e : Entry R) → T ≡ before ++ e ∷ after → (r : Option ℕ) → e.reached ≡ r → Shorts m (waits.sent (calls_frames e.calls))
+calls_short : {R : Type 0} (m : ℕ) (s : ConnectionState) (o : OpenSaid) (T : List (Entry R)) → Headline s o T → Keeps m T → (before after : List (Entry R)) (e : Entry R) → T ≡ before ++ e ∷ after → (r : Option ℕ) → e.reached ≡ r → Shorts m (waits.sent (calls_frames e.calls))
 calls_short m s o T head short before after e is None r =
     let none : e.calls ≡ [] = subst (λ x. Asked before x e) r (head.all_asked before after e is) in
     subst (λ (cs : List (session.Entry _)). Shorts m (waits.sent (calls_frames cs))) (sym none) tt
@@ -158,7 +165,7 @@ own_short m o SentOpen = (tt, tt)
 own_short m o (SentClose error) = (tt, tt)
 own_short m o ev = tt
 
-entry_short : {R : Type 0} (m : ℕ) (s : ConnectionState) (o : OpenSaid) (T : List (Entry R)) → Headline s o T → KeepsShort m T → (before after : List (Entry R)) (e : Entry R) → T ≡ before ++ e ∷ after → Shorts m e.frames
+entry_short : {R : Type 0} (m : ℕ) (s : ConnectionState) (o : OpenSaid) (T : List (Entry R)) → Headline s o T → Keeps m T → (before after : List (Entry R)) (e : Entry R) → T ≡ before ++ e ∷ after → Shorts m e.frames
 entry_short m s o T head short before after e is =
     subst (Shorts m) (sym (head.frames_are before after e is))
     (both m (own_frames o (event e)) (waits.sent (calls_frames e.calls)) (own_short m o (event e)) (calls_short m s o T head short before after e is e.reached refl))
@@ -169,7 +176,7 @@ abbrev EachShort : {R : Type 0} → ℕ → List (Entry R) → Type 0
 EachShort m [] = Unit {0}
 EachShort m (e ∷ es) = Shorts m e.frames × EachShort m es
 
-each_short : {R : Type 0} (m : ℕ) (s : ConnectionState) (o : OpenSaid) (T : List (Entry R)) → Headline s o T → KeepsShort m T
+each_short : {R : Type 0} (m : ℕ) (s : ConnectionState) (o : OpenSaid) (T : List (Entry R)) → Headline s o T → Keeps m T
     → (before es : List (Entry R)) → T ≡ before ++ es → EachShort m es
 each_short m s o T head short before [] is = tt
 each_short m s o T head short before (e ∷ es) is =
@@ -203,7 +210,10 @@ abbrev pub ViewsLaw : {R : Type 0} → Relays R → Type 0
 ViewsLaw g = (s : ConnectionState) (o : OpenSaid) (H : List (Entry _)) (w : EngineView _) → Legal g s o H w → Stands s o H w
 
 pub are_frames : {R : Type 0} (g : Relays R) → ViewsLaw g → TransfersAreFrames g
-are_frames g views s o H wished entries v w inputs left answers after legal p m short le =
+unfolding Legal
+are_frames g views s o H wished entries v w inputs left answers after legal p m asked le =
+    let chain = apart g (H ++ (wished ++ entries)) (new_engine s o) w (p.goes_on s o H legal).0 in
+    let short : Keeps m (H ++ (wished ++ entries)) = λ n. keeps_short g m n (H ++ (wished ++ entries)) (new_engine s o) w chain asked in
     let head = (p.goes_on s o H legal).1 in
     let all = each_short m s o (H ++ (wished ++ entries)) head short [] (H ++ (wished ++ entries)) refl in
     let waiting = (views s o H v legal).waiting_is in

@@ -42,7 +42,7 @@ pub fn law_of_two_runs<R: LinkRelay>()
     law_of_views::<R>();
 }
 
-/// Of every run: where each transfer that was accepted is one piece under some limit, whatever number its delivery gets, and no limit of
+/// Of every run: where each transfer that was requested is one piece under some limit, whatever number its delivery gets, and no limit of
 /// the run is below that one, each transfer that the run puts out is one Transfer frame. So the Transfer frames of a session are the
 /// transfers of its headline: in order, each delivery numbered once, each inside the peer's latest window (AMQP 1.0 part 2, sections
 /// 2.5.6 and 2.6.14). [`split_delivery`](amqp_frames::split_delivery) makes such transfers.

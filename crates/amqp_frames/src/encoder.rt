@@ -79,7 +79,8 @@ impl FrameEncoder {
     }
 
     /// How many bytes of payload fit beside this transfer in one piece; `None` where its own text does not fit.
-    /// Takes no memory.
+    /// Takes no memory. It is that of the transfer as it is: a session gives it a number afterwards, which may take four bytes more, and
+    /// [`FrameEncoder::widest_payload_room`] leaves room for that.
     pub fn payload_room(&self, transfer: &Transfer) -> Option<u32>
         ensures { result ≡ room_beside transfer.now self.now }
     {

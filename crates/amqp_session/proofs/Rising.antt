@@ -1,6 +1,6 @@
 -- Sorted tables of deliveries.
-use Rattle.std.proofs.Common.{◌≡◌, ℕ, suc, zero, ◌+◌, ◌-◌, ◌*◌, ◌/◌, ◌^◌, ◌<◌, ◌≤◌, inl, inr, arith, add-one, List, [], ◌∷◌, ◌++◌, length, ap, sym, subst, ◌∙◌, refl, true, false, cond, nat_lt, nat_eq, Option, Some, None, set, slice_index_or, slice_get}
-use Rattle.std.proofs.Math.Nat.{mul-le-mul_left, pow-suc}
+use Rattle.std.proofs.Common.{◌≡◌, ℕ, suc, zero, ◌+◌, ◌-◌, ◌*◌, ◌/◌, ◌^◌, ◌<◌, ◌≤◌, min, max, inl, inr, arith, add-one, List, [], ◌∷◌, ◌++◌, length, ap, sym, subst, ◌∙◌, refl, true, false, cond, nat_lt, nat_eq, Option, Some, None, set, slice_index_or, slice_get}
+use Rattle.std.proofs.Math.Nat.{pow-suc, pow-le-pow_right}
 use Rattle.std.proofs.Math.Pow.{pow-lt}
 use Rattle.std.proofs.lemmas.Bool.{cases_lt, cases_order}
 use Rattle.std.proofs.lemmas.Bool.Decides.{nat_tests}
@@ -11,22 +11,6 @@ use Rattle.std.proofs.lemmas.List.{get_or-map}
 use Rattle.std.proofs.lemmas.List.Edits.{insert_end}
 use Rattle.amqp_session.specs.declared.deliveries.Delivery.{Delivery}
 use Rattle.amqp_session.specs.Deliveries.{recorded, with_record, EachNumber, Above, Under, IsRising, IsTable, IsMissing, number_at}
-
--- a comparison halves what is left
-pub halved : (c w w' n : ℕ) → 0 < w → w' ≤ w / 2 → 2 ^ c * w ≤ n → (2 ^ (c + 1) * w' ≤ n) × (2 ^ (c + 1) ≤ 2 * n + 1)
-halved c w w' n some half left =
-    let e : 2 ^ (c + 1) ≡ 2 ^ c * 2 = rw add-one (pow-suc 2 c) in
-    let twice : 2 * w' ≤ w = omega arith in
-    let below = mul-le-mul_left (2 ^ c) twice in
-    let one : 1 ≤ w = some in
-    let least = mul-le-mul_left (2 ^ c) one in
-    rw e (omega (arith, below, left), omega (arith, least, left))
-
--- a read more, where at most a quarter of the places is left
-pub one_spare : (k n : ℕ) → k ≤ 1 → k * 4 ≤ n → 0 < n → 2 ^ (1 + k) ≤ 2 * n + 1
-one_spare zero n le four some = omega (arith, some)
-one_spare (suc zero) n le four some = omega (arith, four)
-one_spare (suc (suc k)) n le four some = absurd (omega (arith, le))
 
 -- few comparisons are made
 pub few : (c n : ℕ) → n < 2 ^ 64 → 2 ^ c ≤ 2 * n + 1 → c < 2 ^ 32 - 1
@@ -236,3 +220,96 @@ pub read_missing : (rows : List Delivery) (n : ℕ) (first last : Delivery) → 
 read_missing rows n first last r e front back =
     subst (λ (k : ℕ). IsMissing (last.number - first.number - (k - 1)) rows) (sym e)
     (ends_missing rows (length rows) first last r refl (some_rows rows 0 first front) (stands rows 0 first front) (stands rows (length rows - 1) last back))
+
+-- ---- the search of a place
+
+-- A place is in this part: what is before it is smaller, and what is behind it is not.
+pub record IsPart (rows : List Delivery) (number low high : ℕ) : Type 0 where
+  pub order : low ≤ high
+  pub within : high ≤ length rows
+  pub below : (i : ℕ) → i < low → number_at rows i < number
+  pub above : (i : ℕ) → high ≤ i → i < length rows → number ≤ number_at rows i
+
+-- it is in the whole of a table
+pub whole_part : (rows : List Delivery) (number high : ℕ) → high ≡ length rows → IsPart rows number 0 high
+whole_part rows number high e = record { order = omega arith; within = omega (arith, e); below = λ i h. absurd (omega arith); above = λ i ge lt. absurd (omega (arith, e, ge, lt)) }
+
+part_behind : (rows : List Delivery) (number low high at value low' high' : ℕ) → IsRising rows → IsPart rows number low high → low ≤ at → at < high → value ≡ number_at rows at →
+    value < number → low' ≡ at + 1 → high' ≡ min high (at + (number - value)) → IsPart rows number low' high'
+part_behind rows number low high at value low' high' r p least most e less l h =
+    let within : at < length rows = omega (arith, p.within, most) in
+    let smaller : number_at rows at < number = subst (λ n. n < number) e less in
+    record {
+      order = omega (arith, l, h, most, less);
+      within = omega (arith, h, p.within);
+      below = λ i lt. below_place rows at number r within smaller i (omega (arith, l, lt));
+      above = λ i ge lt. elim (cases_lt i high) [
+        | inl inside ↦ let more = far_at rows r at (i - at) i (omega (arith, ge, h, inside)) lt in omega (arith, more, e, ge, h, inside, less)
+        | inr outside ↦ p.above i outside lt
+      ];
+    }
+
+part_before : (rows : List Delivery) (number low high at value low' high' : ℕ) → IsRising rows → IsPart rows number low high → low ≤ at → at < high → value ≡ number_at rows at →
+    number ≤ value → low' ≡ max low (at - (value - number)) → high' ≡ at → IsPart rows number low' high'
+part_before rows number low high at value low' high' r p least most e more l h =
+    let within : at < length rows = omega (arith, p.within, most) in
+    let larger : number ≤ number_at rows at = subst (λ n. number ≤ n) e more in
+    record {
+      order = omega (arith, l, h, least);
+      within = omega (arith, h, within);
+      below = λ i lt. elim (cases_lt i low) [
+        | inl outside ↦ p.below i outside
+        | inr inside ↦ let far = far_at rows r i (at - i) at (omega (arith, l, lt, inside)) within in omega (arith, far, e, l, lt, inside, more)
+      ];
+      above = λ i ge lt. above_place rows at number r larger i (omega (arith, h, ge)) lt;
+    }
+
+-- a number that was read narrows the part
+pub closer_part : (rows : List Delivery) (number low high at value low' high' : ℕ) → IsRising rows → IsPart rows number low high → low ≤ at → at < high → value ≡ number_at rows at →
+    (value < number → (low' ≡ at + 1) × (high' ≡ min high (at + (number - value)))) → (number ≤ value → (low' ≡ max low (at - (value - number))) × (high' ≡ at)) →
+    IsPart rows number low' high'
+closer_part rows number low high at value low' high' r p least most e less more =
+    elim (cases_lt value number) [
+      | inl lt ↦ let s = less lt in part_behind rows number low high at value low' high' r p least most e lt s.0 s.1
+      | inr ge ↦ let s = more ge in part_before rows number low high at value low' high' r p least most e ge s.0 s.1
+    ]
+
+-- so that few places are left
+pub closer_few : (number low high at value low' high' half : ℕ) → at < high → at - low < half → high - at ≤ half →
+    (value < number → (low' ≡ at + 1) × (high' ≡ min high (at + (number - value)))) → (number ≤ value → (low' ≡ max low (at - (value - number))) × (high' ≡ at)) →
+    high' - low' < half
+closer_few number low high at value low' high' half most before behind less more =
+    elim (cases_lt value number) [
+      | inl lt ↦ let s = less lt in omega (arith, most, behind, s.0, s.1)
+      | inr ge ↦ let s = more ge in omega (arith, before, s.0, s.1)
+    ]
+
+-- half of a power of two is one
+pub half_power : (c places : ℕ) → places ≡ 2 ^ c → 1 < places → (d : ℕ) × (c ≡ suc d) × (places / 2 ≡ 2 ^ d) × (2 * (places / 2) ≡ places)
+half_power zero places e h = absurd (omega (arith, e, h))
+half_power (suc d) places e h =
+    let twice : 2 ^ suc d ≡ 2 ^ d * 2 = pow-suc 2 d in
+    (d, refl, omega (arith, e, twice), omega (arith, e, twice))
+
+-- four times a power of two is one
+pub fourfold_power : (c places : ℕ) → places ≡ 2 ^ c → places * 4 ≡ 2 ^ suc (suc c)
+fourfold_power c places e =
+    let twice : 2 ^ suc c ≡ 2 ^ c * 2 = pow-suc 2 c in
+    let again : 2 ^ suc (suc c) ≡ 2 ^ suc c * 2 = pow-suc 2 (suc c) in
+    omega (arith, e, twice, again)
+
+-- more than half of the places is left of a power of two that is more than they are
+pub half_left : (c places n m : ℕ) → places ≡ 2 ^ c → n + 1 ≤ places → 0 < n → 2 * m ≤ n → m < places / 2
+half_left c places n m e more some few = let half = half_power c places e (omega (arith, more, some)) in omega (arith, half.3, more, few)
+
+-- a read more costs a half
+pub read_more_power : (k c d all : ℕ) → c ≡ suc d → 2 ^ (k + c) ≡ all → 2 ^ (k + 1 + d) ≡ all
+read_more_power k c d all e h =
+    let same : k + 1 + d ≡ k + c = omega (arith, e) in
+    ap (λ n. 2 ^ n) same ∙ h
+
+pub none_read : (c all : ℕ) → all ≡ 2 ^ c → 2 ^ (0 + c) ≡ all
+none_read c all e = let same : 0 + c ≡ c = omega arith in ap (λ n. 2 ^ n) same ∙ sym e
+
+pub spent : (k c all : ℕ) → 2 ^ (k + c) ≡ all → 2 ^ k ≤ all
+spent k c all h = let le : 2 ^ k ≤ 2 ^ (k + c) = pow-le-pow_right (omega arith) (omega arith) in omega (arith, le, h)

@@ -297,3 +297,14 @@ stops_at d order count x f r far near = record { near = near; far = far_all d (d
 pub stops_end : (d : DispositionSaid) (order : List Delivery) (count : ℕ) → length order ≤ count →
     EachMeant d true (take count order) → IsSplit d order count
 stops_end d order count h near = record { near = near; far = subst (EachMeant d false) (sym (drop_all count order h)) tt }
+
+-- or behind the one record of its number, where the range is that number alone
+pub stops_alone : (d : DispositionSaid) (order : List Delivery) (x : Delivery) → span d.first d.last ≡ 0 → Reads d order 0 x →
+    distance d.first x.number ≡ 0 → IsSplit d order 1
+stops_alone d order x alone r same =
+    let forward : span d.first d.last < 2 ^ 31 = omega (arith, alone) in
+    let behind = subst (Farther d.first (distance d.first x.number)) r.rest r.far in
+    record {
+      near = subst (EachMeant d true) (sym r.grow) (meant_is d x.number forward (omega (arith, same)), tt);
+      far = far_all d (distance d.first x.number + 1) (drop 1 order) forward (omega (arith, alone)) behind.1;
+    }

@@ -3,6 +3,7 @@
 ghost use Rattle.std.specs.Prelude.{◌≡◌, ◌^◌, ◌<◌};
 ghost use Rattle.amqp_session.specs.Deliveries.{nothing_counted, nothing_read, risen};
 
+mod part;
 mod search;
 mod table;
 

@@ -25,7 +25,10 @@ pub use amqp_engine::{
     Answer, ConnectionHandle, Engine, HandledEngine, Input, OutputError, SessionHandle, StepError,
     Stopped,
 };
-pub use amqp_frames::{Frame, FrameBody, FrameDecoder, FrameEncoder, FrameHead, Heads, Piece};
+pub use amqp_frames::{
+    DeliveryPart, Frame, FrameBody, FrameDecoder, FrameEncoder, FrameHead, Heads, Piece,
+    split_delivery,
+};
 pub use amqp_session::{
     AllocLinkError, BeginError, ConnectionStopReason, DEFAULT_WINDOW, IncomingChannel, InputHandle,
     KeyHash, LinkFlow, LinkRelay, LinkRelayError, OutgoingChannel, OutputHandle, Session,
@@ -37,7 +40,7 @@ pub use amqp_types::{
     Attach, Begin, Close, ConnectionState, DeliveryNumber, DeliveryTag, Detach, Disposition, End,
     Fields, Flow, Handle, Items, Kind, Open, Performative, Raw, ReadError, ReceiverSettleMode,
     Role, SenderSettleMode, SequenceNo, SessionState, Symbol, Transfer, TransferNumber,
-    TransferText, Uint, ValueRef, WriteError, is_terminal,
+    TransferText, Uint, ValueRef, WriteError, is_terminal, rejected,
 };
 pub use conditions::ErrorCondition;
 pub use refusals::{PeerAnswer, answer_to};

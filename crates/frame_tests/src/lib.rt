@@ -12,4 +12,6 @@ mod pieces;
 #[cfg(test)]
 mod plain;
 #[cfg(test)]
+mod split;
+#[cfg(test)]
 mod whole;

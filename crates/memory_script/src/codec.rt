@@ -1,7 +1,7 @@
 //! Calls of the codec, each once more where it is refused for memory.
 
 use crate::offer::out;
-use crate::{mark, print, reading, say};
+use crate::{making, mark, print, reading, say};
 use bytes::{Bytes, BytesMut};
 use fe2o3_amqp::{
     Frame, FrameDecoder, FrameEncoder, Performative, Piece, ReadError, WriteError, frames,
@@ -10,7 +10,7 @@ use std::alloc::Global;
 
 /// What a call came to.
 #[derive(Clone, Copy)]
-enum Came {
+pub enum Came {
     /// It answers so.
     To(&'static str),
     /// Memory is refused for what it is given.
@@ -46,6 +46,8 @@ fn once(rt: &HostRuntime, name: &str, rest: &str) -> anyhow::Result<Came> {
         "decode" => Ok(decode(rt, rest)),
         "bytes" => Ok(bytes(rt, rest)),
         "encode" => encode(rt, rest),
+        "split" => making::split(rt, rest),
+        "reject" => Ok(making::reject(rt, rest)),
         _ => Err(anyhow::anyhow!("no call")),
     }
 }
@@ -131,7 +133,7 @@ fn of_decoded(decoded: &Result<(Frame, Bytes), frames::Error>) -> Came {
 }
 
 /// The frame of these digits.
-fn frame(alloc: Global, digits: &str) -> Option<Frame> {
+pub fn frame(alloc: Global, digits: &str) -> Option<Frame> {
     let bytes = reading::bytes(alloc, digits).ok()?;
     match FrameDecoder::new().decode(alloc, bytes) {
         Ok((frame, rest)) => {
@@ -146,7 +148,7 @@ fn frame(alloc: Global, digits: &str) -> Option<Frame> {
 }
 
 /// A limit of at least 4, and what follows it.
-fn limited(text: &str) -> anyhow::Result<(u32, &str)> {
+pub fn limited(text: &str) -> anyhow::Result<(u32, &str)> {
     let (limit, digits) = reading::word(text);
     let limit = limit.parse::<u32>()?;
     Ok((limit.max(4), digits))

@@ -28,6 +28,7 @@
 mod codec;
 mod free;
 mod input;
+mod making;
 mod offer;
 mod reading;
 mod replays;

@@ -4,6 +4,8 @@
 #[cfg(test)]
 mod alone;
 #[cfg(test)]
+mod defaults;
+#[cfg(test)]
 mod digits;
 #[cfg(test)]
 mod fields;

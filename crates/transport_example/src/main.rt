@@ -6,19 +6,18 @@
 #![tactic(auto)]
 
 mod chunks;
-mod transport;
 
+use amqp_transport::{Refusals, exchange_headers, next_frame, push, receive, run};
 use bytes::Bytes;
 use chunks::Chunks;
 use fe2o3_amqp::{
-    ConnectionState, DEFAULT_CHANNEL_MAX, Engine, Input, KeyHash, Open, ReplayRelay, SessionNo,
-    SessionSettings, hex_bytes,
+    Answer, ConnectionState, DEFAULT_CHANNEL_MAX, Engine, Input, KeyHash, Open, ReplayRelay,
+    SessionNo, SessionSettings, err_name, hex_bytes,
 };
 use std::alloc::{AllocError, Global};
 use std::collections::VecDeque;
 use std::hash::RandomState;
 use std::io::{self, BufRead, BufReader, BufWriter, ErrorKind, Write};
-use transport::{exchange_headers, next_frame, push, run, serve};
 
 /// The largest frame that this side takes.
 const MAX_FRAME_SIZE: u32 = 65536;
@@ -167,12 +166,9 @@ fn engine(alloc: Global, hash: KeyHash) -> Result<Engine<ReplayRelay>, AllocErro
 }
 
 /// The first inputs: an Open, and a Begin, which goes out at once.
-fn push_requests(inputs: &mut VecDeque<Input<ReplayRelay>>) -> Result<(), AllocError> {
-    if push(inputs, Input::Open) && push(inputs, begin()) {
-        Ok(())
-    } else {
-        Err(AllocError)
-    }
+fn push_requests(inputs: &mut VecDeque<Input<ReplayRelay>>) -> io::Result<()> {
+    push(inputs, Input::Open)?;
+    push(inputs, begin())
 }
 
 fn begin() -> Input<ReplayRelay> {
@@ -183,8 +179,10 @@ fn begin() -> Input<ReplayRelay> {
 fn one_by_one(alloc: Global, hash: KeyHash, frames: &[Bytes]) -> anyhow::Result<Said> {
     let mut engine = engine(alloc, hash)?;
     let mut inputs = VecDeque::new(alloc);
+    let mut answers = Vec::new(alloc);
     let mut said = Said::nothing(alloc);
-    let outcome = take_each(alloc, &mut engine, &mut inputs, frames, &mut said);
+    let outcome = take_each(&mut engine, &mut inputs, &mut answers, frames, &mut said);
+    drop(answers);
     drop(inputs);
     drop(engine);
     match outcome {
@@ -194,19 +192,19 @@ fn one_by_one(alloc: Global, hash: KeyHash, frames: &[Bytes]) -> anyhow::Result<
 }
 
 fn take_each(
-    alloc: Global,
     engine: &mut Engine<ReplayRelay>,
     inputs: &mut VecDeque<Input<ReplayRelay>>,
+    answers: &mut Vec<Answer>,
     frames: &[Bytes],
     said: &mut Said,
 ) -> anyhow::Result<()> {
     push_requests(inputs)?;
-    run(alloc, engine, inputs, &mut said.sent, &mut said.log)?;
+    run(engine, inputs, answers, &mut said.sent)?;
+    log(answers, &mut said.log)?;
     for frame in frames.iter() {
-        if !push(inputs, Input::Received(frame.clone()?)) {
-            return Err(AllocError.into());
-        }
-        run(alloc, engine, inputs, &mut said.sent, &mut said.log)?;
+        push(inputs, Input::Received(frame.clone()?))?;
+        run(engine, inputs, answers, &mut said.sent)?;
+        log(answers, &mut said.log)?;
     }
     Ok(())
 }
@@ -215,9 +213,18 @@ fn take_each(
 fn streamed(alloc: Global, hash: KeyHash, stream: &[u8], size: usize) -> anyhow::Result<Said> {
     let mut engine = engine(alloc, hash)?;
     let mut inputs = VecDeque::new(alloc);
+    let mut answers = Vec::new(alloc);
     let mut said = Said::nothing(alloc);
     let mut chunks = Chunks::new(stream, size);
-    let outcome = take_stream(alloc, &mut engine, &mut inputs, &mut chunks, &mut said);
+    let outcome = take_stream(
+        alloc,
+        &mut engine,
+        &mut inputs,
+        &mut answers,
+        &mut chunks,
+        &mut said,
+    );
+    drop(answers);
     drop(inputs);
     drop(engine);
     match outcome {
@@ -230,13 +237,36 @@ fn take_stream(
     alloc: Global,
     engine: &mut Engine<ReplayRelay>,
     inputs: &mut VecDeque<Input<ReplayRelay>>,
+    answers: &mut Vec<Answer>,
     stream: &mut Chunks<'_>,
     said: &mut Said,
 ) -> anyhow::Result<()> {
     exchange_headers(stream, &mut io::sink())?;
     push_requests(inputs)?;
-    run(alloc, engine, inputs, &mut said.sent, &mut said.log)?;
-    serve(alloc, engine, stream, &mut said.sent, &mut said.log)?;
+    run(engine, inputs, answers, &mut said.sent)?;
+    log(answers, &mut said.log)?;
+    for _ in 0..u64::MAX {
+        if !receive(alloc, engine, inputs, answers, stream, &mut said.sent)? {
+            return Ok(());
+        }
+        log(answers, &mut said.log)?;
+    }
+    Ok(())
+}
+
+/// Logs what was refused, and lets the answers go.
+fn log<W: Write>(answers: &mut Vec<Answer>, log: &mut W) -> io::Result<()> {
+    let mut refusals = Refusals::of(answers.as_slice());
+    for _ in 0..answers.len() {
+        let Some(refusal) = refusals.next() else {
+            break;
+        };
+        match refusal.answer {
+            Answer::Refused(error) => writeln!(log, "refused: {}", err_name(error))?,
+            _ => writeln!(log, "a frame does not fit the peer's limit")?,
+        }
+    }
+    answers.clear();
     Ok(())
 }
 

@@ -79,3 +79,39 @@ fn other_values_are_not_terminal(rt: HostRuntime) {
         assert_eq!(rt; answer, Some(false), "{row:?}");
     }
 }
+
+#[test]
+fn outcomes_without_fields(rt: HostRuntime) {
+    for (outcome, number) in [
+        (Raw::accepted(), 0x24u8),
+        (Raw::released(), 0x26),
+        (Raw::modified(), 0x27),
+    ] {
+        let is_spelled = outcome.bytes() == [0x00, 0x53, number, 0x45].as_slice();
+        let ends = is_terminal(&outcome);
+        drop(outcome);
+        assert!(rt; is_spelled);
+        assert!(rt; ends);
+    }
+}
+
+/// How long the value is that these bytes are, if they are one.
+fn value_len(bytes: &'static [u8]) -> Option<usize> {
+    let value = Raw::of_bytes(Bytes::from_static(bytes));
+    let len = match &value {
+        Some(value) => Some(value.bytes().len()),
+        None => None,
+    };
+    drop(value);
+    len
+}
+
+#[test]
+fn bytes_that_are_one_value(rt: HostRuntime) {
+    assert_eq!(rt; value_len(b"\x43"), Some(1));
+    assert_eq!(rt; value_len(b"\xa1\x02ab"), Some(4));
+    assert_eq!(rt; value_len(b"\x43\x43"), None);
+    assert_eq!(rt; value_len(b"\x40"), None);
+    assert_eq!(rt; value_len(b"\xa1\x02a"), None);
+    assert_eq!(rt; value_len(b""), None);
+}

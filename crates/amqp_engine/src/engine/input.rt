@@ -31,7 +31,13 @@ pub enum Input<R> {
     /// A flow of a link of the session is to be sent.
     Flow(SessionNo, LinkFlow),
     /// A transfer of the link of the input handle is to be sent, with its payload: the first of its delivery, or a later
-    /// one.
+    /// one (`true` for the first).
+    ///
+    /// The peer's window counts transfers (AMQP 1.0 part 2, section 2.5.6), and so does the session: this input is one. Where the transfer
+    /// is longer than a piece it goes out as several Transfer frames, which a peer counts one by one: the window may then be passed, and
+    /// the peer's next Flow, which names a number further on, leaves this side none, so that the session stalls. A payload of at most
+    /// [`Engine::payload_room`](crate::Engine::payload_room) bytes is one frame; a longer delivery is split by
+    /// [`split_delivery`](amqp_frames::split_delivery), whose parts are inputs of their own.
     Transfer(SessionNo, InputHandle, Transfer, Bytes, bool),
     /// A disposition of deliveries of the session is to be sent.
     Disposition(SessionNo, Disposition),

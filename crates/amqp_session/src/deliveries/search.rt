@@ -1,19 +1,15 @@
-//! The search of a table of open deliveries. It reads numbers by the call that counts, and by no other.
+//! The search of a table of open deliveries. It reads numbers by the calls that count, and by no other.
 
 ghost use Rattle.std.specs.Prelude.{◌≡◌, ℕ, ◌+◌, ◌-◌, ◌*◌, ◌^◌, ◌<◌, ◌≤◌, length};
-ghost use Rattle.amqp_session.specs.Deliveries.{IsRising, compared, number_at};
+ghost use Rattle.amqp_session.specs.Deliveries.{compared, number_at, IsMissing};
 
 use super::Deliveries;
-
-/// A part of a table: the places from `low` on, and below `high`.
-#[derive(Clone, Copy)]
-struct Part {
-    low: usize,
-    high: usize,
-}
+use super::part::{Part, closer, probe};
 
 impl Deliveries {
-    /// Where the numbers from `first` on begin, by a binary search of the part that can hold the place.
+    /// Where the numbers from `first` on begin. Numbers are whole and rise: so the front tells the place, but for the missing numbers. Where
+    /// those are more than half of the records, to read the front could cost a read more than to halve the whole table.
+    #[inline(always)]
     pub(crate) fn place_of(&mut self, first: u32) -> usize
         ensures few { length self.old.rows ≤ 2 ^ 32 }
         ensures within { result ≤ length self.old.rows }
@@ -21,80 +17,109 @@ impl Deliveries {
         ensures above { (i : ℕ) → result ≤ i → i < length self.old.rows → first ≤ number_at self.old.rows i }
         ensures cost { (k : ℕ) × (self.new ≡ compared k self.old) × (2 ^ k ≤ 2 * length self.old.rows + 1) }
     {
-        let part = self.part_of(first);
-        let mut low = part.low;
-        let mut high = part.high;
-        while low < high {
-            let middle = low + (high - low) / 2;
-            if self.number(middle) < first {
-                low = middle + 1;
-            } else {
-                high = middle;
-            }
-        }
-        if part.low < part.high {
-            self.note_front(low == part.low);
-        }
-        low
-    }
-
-    /// The part that can hold the place where the numbers from `first` on begin. Numbers are whole and rise: so the front tells the
-    /// place, but for the missing numbers. Where those are more than half of the records, reading the front could cost a read more
-    /// than halving the whole table, and the part is the whole table.
-    fn part_of(&mut self, first: u32) -> Part
-        ensures rising { IsRising self.old.rows }
-        ensures few { length self.old.rows ≤ 2 ^ 32 }
-        ensures order { result.low ≤ result.high }
-        ensures within { result.high ≤ length self.old.rows }
-        ensures below { (i : ℕ) → i < result.low → number_at self.old.rows i < first }
-        ensures above { (i : ℕ) → result.high ≤ i → i < length self.old.rows → first ≤ number_at self.old.rows i }
-        ensures cost { (k : ℕ) × (self.new ≡ compared k self.old)
-            × (2 ^ k * (result.high - result.low) ≤ length self.old.rows) × (2 ^ k ≤ 2 * length self.old.rows + 1) }
-    {
         let len = self.len();
         let missing = self.missing();
-        if len / 2 < missing || len == 0 {
-            return Part { low: 0, high: len };
+        if len == 0 || len / 2 < missing {
+            return self.place_among_all(first);
         }
-        let far = first.saturating_sub(self.first_number()) as usize;
-        let part = Part {
-            low: far.saturating_sub(missing).min(len),
-            high: far.min(len),
-        };
-        self.narrowed(first, part)
+        let front = self.first_number();
+        if first <= front {
+            return 0;
+        }
+        self.place_behind(first, front, missing)
     }
 
-    /// The part, or less of it: where at most a quarter as many places are in it as there are records, and the last search ended at the first
-    /// place of its part, this one's first place is looked at. It is the one that is sought where the missing numbers are all below `first`, as
-    /// behind deliveries that were settled in order with others left between them.
+    /// The same by a search of the whole table.
+    #[inline(never)]
+    fn place_among_all(&mut self, first: u32) -> usize
+        ensures within { result ≤ length self.old.rows }
+        ensures below { (i : ℕ) → i < result → number_at self.old.rows i < first }
+        ensures above { (i : ℕ) → result ≤ i → i < length self.old.rows → first ≤ number_at self.old.rows i }
+        ensures cost { (k : ℕ) × (self.new ≡ compared k self.old) × (2 ^ k ≤ 2 * length self.old.rows + 1) }
+    {
+        let high = self.len();
+        let guess = self.last_place();
+        let places = (high + 1).next_power_of_two();
+        self.place_in(
+            first,
+            Part {
+                low: 0,
+                high,
+                guess,
+            },
+            places,
+        )
+    }
+
+    /// The same where the front was read, and its number is smaller.
+    #[inline(never)]
+    fn place_behind(&mut self, first: u32, front: u32, missing: usize) -> usize
+        requires some { 0 < length self.old.rows }
+        requires front { front ≡ number_at self.old.rows 0 }
+        requires smaller { front < first }
+        requires missing { IsMissing missing self.old.rows }
+        requires few_missing { 2 * missing ≤ length self.old.rows }
+        ensures within { result ≤ length self.old.rows }
+        ensures below { (i : ℕ) → i < result → number_at self.old.rows i < first }
+        ensures above { (i : ℕ) → result ≤ i → i < length self.old.rows → first ≤ number_at self.old.rows i }
+        ensures cost { (k : ℕ) × (self.new ≡ compared k self.old) × (2 ^ (k + 1) ≤ 2 * length self.old.rows + 1) }
+    {
+        let len = self.len();
+        let far = (first - front) as usize;
+        let low = far.saturating_sub(missing).min(len);
+        let guess = expected(low, self.last_place(), far, len, missing);
+        let places = (len + 1).next_power_of_two() / 2;
+        self.place_in(
+            first,
+            Part {
+                low,
+                high: far.min(len),
+                guess,
+            },
+            places,
+        )
+    }
+
+    /// The same by a search of the part that can hold the place. It reads numbers so often that two to that power is at most `places`, a
+    /// power of two that is more than the part has places.
     #[inline(always)]
-    fn narrowed(&mut self, first: u32, part: Part) -> Part
+    fn place_in(&mut self, first: u32, part: Part, places: usize) -> usize
         requires order { part.low ≤ part.high }
         requires within { part.high ≤ length self.old.rows }
         requires below { (i : ℕ) → i < part.low → number_at self.old.rows i < first }
         requires above { (i : ℕ) → part.high ≤ i → i < length self.old.rows → first ≤ number_at self.old.rows i }
-        requires half { 2 * (part.high - part.low) ≤ length self.old.rows }
-        ensures order { result.low ≤ result.high }
-        ensures within { result.high ≤ length self.old.rows }
-        ensures below { (i : ℕ) → i < result.low → number_at self.old.rows i < first }
-        ensures above { (i : ℕ) → result.high ≤ i → i < length self.old.rows → first ≤ number_at self.old.rows i }
-        ensures cost { (k : ℕ) × (self.new ≡ compared k self.old)
-            × (2 ^ (1 + k) * (result.high - result.low) ≤ length self.old.rows) × (k ≤ 1) × (k * 4 ≤ length self.old.rows) }
+        requires places { (c : ℕ) × (places ≡ 2 ^ c) }
+        requires enough { part.high - part.low < places }
+        requires few { places ≤ 2 ^ 34 }
+        ensures within { result ≤ length self.old.rows }
+        ensures below { (i : ℕ) → i < result → number_at self.old.rows i < first }
+        ensures above { (i : ℕ) → result ≤ i → i < length self.old.rows → first ≤ number_at self.old.rows i }
+        ensures cost { (k : ℕ) × (self.new ≡ compared k self.old) × (2 ^ k ≤ places) }
     {
-        let len = self.len();
-        let width = part.high - part.low;
-        if width == 0 || len / 4 < width || !self.expects_front() {
-            return part;
+        // The proof reads what holds of a table.
+        let _len = self.len();
+        let mut left = part;
+        let mut half = places;
+        while left.low < left.high {
+            half /= 2;
+            let at = probe(left, half);
+            let value = self.number(at);
+            left = closer(left, at, value, first);
         }
-        if self.number(part.low) < first {
-            return Part {
-                low: part.low + 1,
-                high: part.high,
-            };
-        }
-        Part {
-            low: part.low,
-            high: part.low,
-        }
+        self.note_place(left.low);
+        left.low
     }
+}
+
+/// Where a number is expected that is so far behind the front: near the place that was sought last, if it can be there, and else as far as
+/// the numbers of the table are apart on average.
+#[inline(always)]
+fn expected(low: usize, last: usize, far: usize, len: usize, missing: usize) -> usize
+    requires some { 0 < len + missing }
+    requires sum { len + missing < 2 ^ 64 }
+{
+    if low <= last.saturating_add(1) && last <= far {
+        return last;
+    }
+    far.wrapping_mul(len) / (len + missing)
 }

@@ -6,8 +6,9 @@ ghost use Rattle.amqp_session.specs.Deliveries.{IsRising, IsTable, IsMissing, co
 
 mod ranges;
 
+use super::part::{Part, closer, probe};
 use super::{Delivery, ReadCount};
-use amqp_blocks::{BLOCK, Blocks};
+use amqp_blocks::Blocks;
 use std::alloc::{AllocError, Global};
 use std::marker::Model;
 
@@ -19,8 +20,8 @@ use std::marker::Model;
 pub(crate) struct Deliveries {
     rows: Blocks<Delivery>,
     reads: ReadCount,
-    /// Whether the last search ended at the first place that it could: a guess for the next one, of which nothing has to hold.
-    at_front: bool,
+    /// Where the last search ended: a guess for the next one, of which nothing has to hold.
+    last_place: usize,
 }
 
 impl Model for Deliveries {
@@ -50,6 +51,18 @@ fn missing(rows: &Blocks<Delivery>) -> usize
     (last.number - first.number) as usize - (rows.len() - 1)
 }
 
+/// The number at the front.
+#[inline(always)]
+fn front_of(rows: &Blocks<Delivery>) -> u32
+    requires some { 0 < length rows.now.items }
+    ensures value { result ≡ number_at rows.now.items 0 }
+{
+    let Some(first) = rows.first() else {
+        unreachable!()
+    };
+    first.number
+}
+
 /// Whether the number stands at the place.
 fn stands_at(rows: &Blocks<Delivery>, place: usize, number: u32) -> bool
     ensures there { IsTrue result → (place < length rows.now.items) × (number_at rows.now.items place ≡ number) }
@@ -76,6 +89,7 @@ fn put_at(rows: &mut Blocks<Delivery>, place: usize, delivery: Delivery)
 }
 
 /// Takes away `count` records from a place on; those past the end are the first ones. What moves is within a block.
+#[inline(always)]
 fn cut_out(rows: &mut Blocks<Delivery>, from: usize, count: usize)
     requires from { from ≤ length rows.old.items }
     requires count { count ≤ length rows.old.items }
@@ -86,6 +100,16 @@ fn cut_out(rows: &mut Blocks<Delivery>, from: usize, count: usize)
         drop(rows.pop_front());
         return;
     }
+    cut_wide(rows, from, count);
+}
+
+/// The same of any range.
+#[inline(never)]
+fn cut_wide(rows: &mut Blocks<Delivery>, from: usize, count: usize)
+    requires from { from ≤ length rows.old.items }
+    requires count { count ≤ length rows.old.items }
+    ensures items { rows.new.items ≡ cut from count rows.old.items }
+{
     let len = rows.len();
     let rest = len - from;
     if count <= rest {
@@ -96,39 +120,36 @@ fn cut_out(rows: &mut Blocks<Delivery>, from: usize, count: usize)
     }
 }
 
-/// The number at a place, for a search of that width. The reads of a narrow one are near one another, so their block is remembered.
-#[inline(always)]
-fn number_in(rows: &mut Blocks<Delivery>, at: usize, width: usize) -> u32
-    requires within { at < length rows.old.items }
-    ensures value { result ≡ number_at rows.old.items at }
-    ensures kept { rows.new ≡ rows.old }
-{
-    if width > BLOCK {
-        return rows.get(at).number;
-    }
-    rows.seek(at);
-    rows.get(at).number
+/// Where a record stands once one comes in at a place.
+fn moved(at: usize, place: usize) -> usize {
+    if place <= at { at.wrapping_add(1) } else { at }
 }
 
-/// Where the numbers from `number` on begin.
-fn place_among(rows: &mut Blocks<Delivery>, number: u32) -> usize
+/// Where the numbers from `number` on begin. They are expected at the guess.
+fn place_among(rows: &mut Blocks<Delivery>, number: u32, guess: usize) -> usize
     requires rising { IsRising rows.old.items }
+    requires few { length rows.old.items ≤ 2 ^ 32 }
     ensures within { result ≤ length rows.old.items }
     ensures below { (i : ℕ) → i < result → number_at rows.old.items i < number }
     ensures above { (i : ℕ) → result ≤ i → i < length rows.old.items → number ≤ number_at rows.old.items i }
     ensures kept { rows.new ≡ rows.old }
 {
-    let mut low = 0;
-    let mut high = rows.len();
-    while low < high {
-        let middle = low + (high - low) / 2;
-        if number_in(rows, middle, high - low) < number {
-            low = middle + 1;
-        } else {
-            high = middle;
-        }
+    let high = rows.len();
+    let mut left = Part {
+        low: 0,
+        high,
+        guess,
+    };
+    // Nothing is counted here: so there may be two reads more, which leave the first ones free to be near the guess.
+    let mut half = (high + 1).next_power_of_two() * 4;
+    while left.low < left.high {
+        half /= 2;
+        let at = probe(left, half);
+        rows.seek(at);
+        let value = rows.get(at).number;
+        left = closer(left, at, value, number);
     }
-    low
+    left.low
 }
 
 impl Deliveries {
@@ -142,7 +163,7 @@ impl Deliveries {
         Deliveries {
             rows: Blocks::new(alloc),
             reads: ReadCount::new(),
-            at_front: true,
+            last_place: 0,
         }
     }
 
@@ -185,7 +206,7 @@ impl Deliveries {
         ensures counted { self.new ≡ compared 1 self.old }
     {
         self.reads.comparisons = self.reads.comparisons.wrapping_add(1);
-        self.rows.get(0).number
+        front_of(&self.rows)
     }
 
     /// The number at a place: one comparison. A search comes near to it next, so its block is remembered.
@@ -200,18 +221,18 @@ impl Deliveries {
         self.rows.get(at).number
     }
 
-    /// Whether the last search ended at the first place that it could.
+    /// Where the last search ended. Records that came or went since may have moved what stood there.
     #[inline(always)]
-    pub(crate) fn expects_front(&self) -> bool {
-        self.at_front
+    pub(crate) fn last_place(&self) -> usize {
+        self.last_place
     }
 
     /// Notes where a search ended, for the next one.
     #[inline(always)]
-    pub(crate) fn note_front(&mut self, at_front: bool)
+    pub(crate) fn note_place(&mut self, place: usize)
         ensures { self.new ≡ self.old }
     {
-        self.at_front = at_front;
+        self.last_place = place;
     }
 
     /// The record at a place: one turn.
@@ -268,21 +289,23 @@ impl Deliveries {
         ensures capacity { self.old.capacity ≤ self.new.capacity }
         ensures reads { self.new.reads ≡ self.old.reads }
     {
-        let place = place_among(&mut self.rows, delivery.number);
+        let place = place_among(&mut self.rows, delivery.number, self.last_place);
         put_at(&mut self.rows, place, delivery);
+        self.last_place = moved(self.last_place, place);
     }
 
-    /// Where the numbers from `number` on begin. It is of this module alone, and counts nothing.
-    fn find(&mut self, number: u32) -> usize
+    /// Where the numbers from `number` on begin, which are expected at the guess. It is of this module alone, and counts nothing.
+    fn find(&mut self, number: u32, guess: usize) -> usize
         ensures within { result ≤ length self.old.rows }
         ensures below { (i : ℕ) → i < result → number_at self.old.rows i < number }
         ensures above { (i : ℕ) → result ≤ i → i < length self.old.rows → number ≤ number_at self.old.rows i }
         ensures kept { self.new ≡ self.old }
     {
-        place_among(&mut self.rows, number)
+        place_among(&mut self.rows, number, guess)
     }
 
     /// Takes away `count` records from a place on; those past the end are the first ones. What moves is within a block.
+    #[inline(always)]
     pub(crate) fn remove(&mut self, from: usize, count: usize)
         requires from { from ≤ length self.old.rows }
         requires count { count ≤ length self.old.rows }

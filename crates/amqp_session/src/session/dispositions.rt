@@ -1,16 +1,16 @@
 //! Dispositions of a session's open deliveries (AMQP 1.0 part 2, sections 2.6.12 and 2.7.6).
 
-ghost use Rattle.std.specs.Prelude.{◌≡◌, ◌≤◌, ◌<◌, ◌+◌, ◌*◌, ◌^◌, ◌⊎◌, ℕ, List, [], Bool, true, false, Some, None, Result, if◌then◌else◌, length, map, OnOk, OnErr, IfOk, IsSome, IsTrue, ◌↔◌, vec_capacity};
+ghost use Rattle.std.specs.Prelude.{◌≡◌, ◌≤◌, ◌<◌, ◌+◌, ◌*◌, ◌^◌, ◌⊎◌, ℕ, List, [], Bool, true, false, Some, None, Result, if◌then◌else◌, length, map, take, OnOk, OnErr, IfOk, IsSome, IsTrue, ◌↔◌, vec_capacity};
 ghost use Rattle.std.specs.Option.{option_map};
 ghost use Rattle.std.specs.Result.{result_map_both};
-ghost use Rattle.amqp_session.specs.Deliveries.{AreCounts, nothing_read, read_more, risen, with_role};
+ghost use Rattle.amqp_session.specs.Deliveries.{AreCounts, nothing_read, read_more, risen, stepped, with_role};
 ghost use Rattle.amqp_session.specs.Relay.{DispositionQuestion};
-ghost use Rattle.amqp_session.specs.Walks.{IsWalked};
-ghost use Rattle.amqp_session.specs.Disposing.{span, is_forward, num_messages, meant, not_meant, agreed, AsksEach, AreRuns, SaysStateAgain, Echoes, echo_of, rows_of, IsBounded, HasTerminal, TakeDispositionStep, SendDispositionStep};
+ghost use Rattle.amqp_session.specs.Walks.{IsSplit, IsWalked, turned};
+ghost use Rattle.amqp_session.specs.Disposing.{span, is_forward, num_messages, in_order, meant, not_meant, agreed, AsksEach, AreRuns, SaysStateAgain, Echoes, echo_of, rows_of, IsBounded, HasTerminal, TakeDispositionStep, SendDispositionStep};
 
 use super::Session;
 use super::runs::with_state;
-use super::walk::ask_each;
+use super::walk::{ask_each, ask_one};
 use crate::deliveries::{Deliveries, WalkCount};
 use crate::error::SessionInnerError;
 use crate::frame::{SessionFrame, SessionFrameBody};
@@ -185,12 +185,59 @@ fn settle<R: LinkRelay>(
     ensures walk { IsWalked said.now rows.old.rows true walk.new }
     ensures reads { rows.new.reads ≡ risen walk.new rows.old.reads }
 {
-    let mut no_echoes = Vec::new(alloc);
     let before = rows.reads();
     let from = rows.place_of(said.first);
-    let count = ask_each(links, rows, said, from, &mut no_echoes);
+    let count = tell(alloc, links, rows, said, from);
     *walk = rows.reads().since(before);
     rows.remove(from, count);
+}
+
+/// Tells the relays of the deliveries that a settled disposition means, from the place of its first number on, and says how many are meant.
+#[inline(always)]
+fn tell<R: LinkRelay>(
+    alloc: Global,
+    links: &mut Links<R>,
+    rows: &mut Deliveries,
+    said: &Disposition,
+    from: usize,
+) -> usize
+    requires from { from ≤ length rows.old.rows }
+    requires order { in_order said.now.first rows.old.rows ≡ turned from rows.old.rows }
+    requires settled { said.now.settled ≡ true }
+    requires forward { span said.now.first said.now.last < 2 ^ 31 }
+    ensures within { result ≤ length rows.old.rows }
+    ensures split { IsSplit said.now (turned from rows.old.rows) result }
+    ensures asked { (asked : List (DispositionQuestion R))
+        × AsksEach R.gives.disposition_gives said.now (take result (turned from rows.old.rows)) asked links.old links.new }
+    ensures read { (k : ℕ) × (k ≤ result + 1) × (result ≤ k) × (rows.new ≡ stepped k rows.old) }
+{
+    if said.last.unwrap_or(said.first) == said.first {
+        return ask_one(links, rows, said, from);
+    }
+    tell_each(alloc, links, rows, said, from)
+}
+
+/// The same over a range of several numbers, or of any.
+#[inline(never)]
+fn tell_each<R: LinkRelay>(
+    alloc: Global,
+    links: &mut Links<R>,
+    rows: &mut Deliveries,
+    said: &Disposition,
+    from: usize,
+) -> usize
+    requires from { from ≤ length rows.old.rows }
+    requires order { in_order said.now.first rows.old.rows ≡ turned from rows.old.rows }
+    requires settled { said.now.settled ≡ true }
+    requires forward { span said.now.first said.now.last < 2 ^ 31 }
+    ensures within { result ≤ length rows.old.rows }
+    ensures split { IsSplit said.now (turned from rows.old.rows) result }
+    ensures asked { (asked : List (DispositionQuestion R))
+        × AsksEach R.gives.disposition_gives said.now (take result (turned from rows.old.rows)) asked links.old links.new }
+    ensures read { (k : ℕ) × (k ≤ result + 1) × (result ≤ k) × (rows.new ≡ stepped k rows.old) }
+{
+    let mut no_echoes = Vec::new(alloc);
+    ask_each(links, rows, said, from, &mut no_echoes)
 }
 
 /// Asks the relays of an unsettled disposition over a forward range, and gives the echoes. Room for them is taken before: what

@@ -41,6 +41,9 @@ impl<R: LinkRelay> Session<R> {
     /// lasts. A first transfer gets the number of the next delivery as it goes out, and the delivery is open from then on
     /// unless it is settled already. Any other transfer has no delivery-id, whatever it came with.
     ///
+    /// It counts once in the window, also where an encoder cuts it into several frames, which the peer counts one by one: who keeps the
+    /// window on the wire splits a delivery beforehand (`split_delivery` of `amqp_frames`; part 2, section 2.6.14).
+    ///
     /// `IllegalState` outside `Mapped`, and where the first transfer of a delivery has no tag. `OutOfMemory` where memory is
     /// refused. Nothing changes then.
     #[inline(always)]

@@ -14,6 +14,7 @@ use crate::relay::LinkRelay;
 use amqp_types::Disposition;
 
 /// The place `count` behind `from`, where the front is behind the end.
+#[inline(always)]
 fn around(from: usize, count: usize, len: usize) -> usize
     requires from { from ≤ len }
     requires count { count < len }
@@ -40,6 +41,36 @@ fn note(echoes: &mut Vec<Disposition>, number: u32, settled: bool, answer: bool)
     if !settled && answer {
         extend(echoes, number);
     }
+}
+
+/// Asks the relay of the delivery that a disposition of one number means, if it is open, and says how many are meant. No second record is
+/// read.
+#[inline(always)]
+pub(super) fn ask_one<R: LinkRelay>(
+    links: &mut Links<R>,
+    rows: &mut Deliveries,
+    said: &Disposition,
+    from: usize,
+) -> usize
+    requires from { from ≤ length rows.old.rows }
+    requires order { in_order said.now.first rows.old.rows ≡ turned from rows.old.rows }
+    requires alone { span said.now.first said.now.last ≡ 0 }
+    ensures within { result ≤ length rows.old.rows }
+    ensures split { IsSplit said.now (turned from rows.old.rows) result }
+    ensures asked { (asked : List (DispositionQuestion R))
+        × AsksEach R.gives.disposition_gives said.now (take result (turned from rows.old.rows)) asked links.old links.new }
+    ensures read { (k : ℕ) × (k ≤ result + 1) × (result ≤ k) × (rows.new ≡ stepped k rows.old) }
+{
+    let len = rows.len();
+    if len == 0 {
+        return 0;
+    }
+    let delivery = rows.delivery(around(from, 0, len));
+    if delivery.number != said.first {
+        return 0;
+    }
+    links.ask_disposition(said, delivery);
+    1
 }
 
 /// Asks the relays of the deliveries that a disposition means, in order, from the place of its first number on, and says how

@@ -26,8 +26,8 @@ impl Deliveries {
     {
         let len = self.len();
         let behind = first.wrapping_add(span).wrapping_add(1);
-        let from = self.find(first);
-        let to = self.find(behind);
+        let from = self.find(first, self.last_place);
+        let to = self.find(behind, from + span as usize + 1);
         let count = stretch(from, to, len, behind <= first);
         self.remove(from, count);
         count

@@ -1,39 +1,41 @@
-use Rattle.std.proofs.Common.{◌≡◌, ℕ, ◌+◌, ◌-◌, ◌<◌, ◌≤◌, ◌/◌, ◌∙◌, length, arith, ap, subst}
+use Rattle.std.proofs.Common.{◌≡◌, ◌/◌, ◌∙◌, arith, ap, refl, sym, slice_get, Some, suc, subst}
+use Rattle.amqp_blocks.specs.Chunked.{Sequence}
 use Rattle.amqp_session.specs.Deliveries.{number_at}
-use Rattle.amqp_session.proofs.Rising.{below_place, above_place}
+use Rattle.amqp_session.specs.declared.deliveries.Delivery.{Delivery}
+use Rattle.amqp_session.proofs.Rising.{closer_few, closer_part, fourfold_power, half_power, number_read, stands, whole_part}
 use Rattle.amqp_session.proofs.deliveries.table.place_among.Goals as goal
 
-pub number_in-requires : goal.number_in-requires
-number_in-requires c =
-    let v = c.loop-low.invariant in
-    let same = ap (λ s. length s.items) v.kept in
-    record { within = omega (arith, v.within, same) }
-
-pub loop-low-preserved-then-number_in-number : goal.loop-low-preserved-then-number_in-number
-loop-low-preserved-then-number_in-number c =
-    let v = c.loop-low.invariant in
-    let middle : ℕ = c.loop-low.low + (c.loop-low.high - c.loop-low.low) / 2 in
-    let within : middle < length c.args.rows.now.items = omega (arith, v.within) in
-    let value : c.number_in.result ≡ number_at c.args.rows.now.items middle = c.number_in.ensures.value ∙ ap (λ s. number_at s.items middle) v.kept in
-    let less : number_at c.args.rows.now.items middle < c.args.number = subst (λ n. n < c.args.number) value c.if-number_in-number.true in
+pub loop-left-init : goal.loop-left-init
+loop-left-init c =
+    let p = c.next_power_of_two-half.ensures in
     record {
-      kept = c.number_in.ensures.kept ∙ v.kept;
-      order = omega arith;
-      within = v.within;
-      below = below_place _ middle c.args.number c.requires.rising within less;
-      above = v.above;
+      kept = refl;
+      part = whole_part c.args.rows.now.items c.args.number c.len-high.result c.len-high.ensures;
+      enough = omega (arith, p.lower_bound);
+      few = omega (arith, p.upper_bound, c.len-high.ensures, c.requires.few);
+      power = (suc (suc p.power.0), fourfold_power p.power.0 c.next_power_of_two-half.result p.power.1);
     }
 
-pub loop-low-preserved : goal.loop-low-preserved
-loop-low-preserved c =
-    let v = c.loop-low.invariant in
-    let middle : ℕ = c.loop-low.low + (c.loop-low.high - c.loop-low.low) / 2 in
-    let value : c.number_in.result ≡ number_at c.args.rows.now.items middle = c.number_in.ensures.value ∙ ap (λ s. number_at s.items middle) v.kept in
-    let more : c.args.number ≤ number_at c.args.rows.now.items middle = subst (λ n. c.args.number ≤ n) value c.if-number_in-number.false in
+pub probe-at-requires-clause-half : goal.probe-at-requires-clause-half
+probe-at-requires-clause-half c =
+    let v = c.loop-left.invariant in
+    let half = half_power v.power.0 c.loop-left.half v.power.1 (omega (arith, v.enough)) in
+    omega (arith, v.enough, half.3)
+
+pub loop-left-preserved : goal.loop-left-preserved
+loop-left-preserved c =
+    let v = c.loop-left.invariant in
+    let half = half_power v.power.0 c.loop-left.half v.power.1 (omega (arith, v.enough)) in
+    let kept = c.seek.ensures ∙ v.kept in
+    let x = c.get.result.now in
+    let at : slice_get c.args.rows.now.items c.probe-at.result ≡ Some x = subst (λ (s : Sequence Delivery). slice_get s.items c.probe-at.result ≡ Some x) kept c.get.ensures.value in
+    let value : x.number ≡ number_at c.args.rows.now.items c.probe-at.result = sym (number_read c.args.rows.now.items c.probe-at.result x (omega (arith, c.probe-at.ensures.most, v.part.within)) (stands c.args.rows.now.items c.probe-at.result x at)) in
     record {
-      kept = c.number_in.ensures.kept ∙ v.kept;
-      order = omega arith;
-      within = omega (arith, v.within);
-      below = v.below;
-      above = above_place _ middle c.args.number c.requires.rising more;
+      kept = kept;
+      part = closer_part c.args.rows.now.items c.args.number c.loop-left.left.low c.loop-left.left.high c.probe-at.result x.number c.closer-left.result.low c.closer-left.result.high
+          c.requires.rising v.part c.probe-at.ensures.least c.probe-at.ensures.most value c.closer-left.ensures.less c.closer-left.ensures.more;
+      enough = closer_few c.args.number c.loop-left.left.low c.loop-left.left.high c.probe-at.result x.number c.closer-left.result.low c.closer-left.result.high (c.loop-left.half / 2)
+          c.probe-at.ensures.most c.probe-at.ensures.before c.probe-at.ensures.behind c.closer-left.ensures.less c.closer-left.ensures.more;
+      few = omega (arith, v.few);
+      power = (half.0, half.2);
     }

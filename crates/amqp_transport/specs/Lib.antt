@@ -1,0 +1,5 @@
+pub mod BeginSession
+pub mod LinkNames
+pub mod Refused
+pub mod Stream
+pub mod Turn

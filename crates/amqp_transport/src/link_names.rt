@@ -1,0 +1,41 @@
+//! Names of links, told apart by role (AMQP 1.0 part 2, section 2.6.1).
+
+ghost use Rattle.std.specs.Prelude.{◌≡◌, ◌∷◌, [], IfOk, string_bytes};
+ghost use Rattle.std.specs.Option.{option_map};
+ghost use Rattle.amqp_transport.specs.LinkNames.{mark, marked, IsPlain};
+
+use fe2o3_amqp::Role;
+use std::alloc::{AllocError, Global};
+
+/// The mark of a role.
+fn mark(role: Role) -> &'static str
+    ensures { result.now ≡ mark role ∷ [] }
+{
+    match role {
+        Role::Sender => "s",
+        Role::Receiver => "r",
+    }
+}
+
+/// The name under which a link of the peer's is kept, which has this role in its Attach: the role's mark, and the peer's name behind it.
+/// Two roles never give the same name, and neither do two names, whatever the peer chooses. Fails where memory is refused.
+pub fn marked_name(alloc: Global, role: Role, name: &str) -> Result<String, AllocError>
+    ensures { IfOk result (λ s. string_bytes s ≡ marked role name.now) }
+{
+    let mut marked = String::from_str(alloc, mark(role))?;
+    marked.push_str(name)?;
+    Ok(marked)
+}
+
+/// The role and the name that a marked name was made of. `None` where it was not made by [`marked_name`].
+pub fn plain_name(marked: &str) -> Option<(Role, &str)>
+    ensures { IsPlain marked.now (option_map (λ x. (x.0, x.1.now)) result) }
+{
+    if let Some(name) = marked.strip_prefix('s') {
+        return Some((Role::Sender, name));
+    }
+    match marked.strip_prefix('r') {
+        Some(name) => Some((Role::Receiver, name)),
+        None => None,
+    }
+}

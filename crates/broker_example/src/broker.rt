@@ -1,0 +1,283 @@
+//! The broker: what a client's frames ask of an engine, and the queue.
+
+use crate::consumers::Consumer;
+use crate::faults::{begin_fault, error_of, first_fault};
+use crate::message::Message;
+use crate::senders::Sender;
+use crate::unsettled::{Unsettled, give_back};
+use amqp_events::{EventRelay, Room, SharedQueue};
+use amqp_transport::{
+    Turned, begin_session, close, exchange_headers, next_frame, push, run, write_frame,
+};
+use bytes::Bytes;
+use fe2o3_amqp::{
+    Answer, ConnectionState, DEFAULT_CHANNEL_MAX, Engine, FrameBody, FrameDecoder, FrameHead,
+    IncomingChannel, Input, Kind, Open, SessionNo, SessionSettings,
+};
+use std::alloc::Global;
+use std::collections::VecDeque;
+use std::io::{self, BufRead, Write};
+
+/// The largest frame that this side takes.
+const MAX_FRAME_SIZE: u32 = 65536;
+
+/// How many messages may be sent and not settled. A disposition of the client's names no more, so the queue of events has room for so many.
+pub const MOST_UNSETTLED: usize = 2048;
+
+/// How many messages the queue holds before senders get no more credit.
+pub const MOST_QUEUED: usize = 16384;
+
+/// What is left in the queue of events behind each frame: nothing. So there is room for what one frame brings.
+const ROOM: Room = Room {
+    links: 1,
+    flows: 1,
+    transfers: 1,
+    dispositions: 2048,
+};
+
+pub type Relay = EventRelay<SharedQueue>;
+
+/// Whether the connection goes on.
+#[derive(Clone, Copy, PartialEq)]
+pub enum Progress {
+    On,
+    Over,
+}
+
+/// A session, by its number in the list: how many deliveries were sent on it.
+#[derive(Clone, Copy)]
+pub struct Served {
+    pub deliveries: u32,
+}
+
+/// A broker with one client.
+#[derive(Drop)]
+pub struct Broker {
+    pub alloc: Global,
+    pub engine: Engine<Relay>,
+    pub events: SharedQueue,
+    pub inputs: VecDeque<Input<Relay>>,
+    pub answers: Vec<Answer>,
+    pub sessions: Vec<Served>,
+    pub senders: Vec<Sender>,
+    pub consumers: Vec<Consumer>,
+    pub queue: VecDeque<Message>,
+    pub unsettled: VecDeque<Unsettled>,
+    pub max_piece_len: u32,
+}
+
+impl Broker {
+    /// A broker whose queue is empty.
+    pub fn new(alloc: Global) -> io::Result<Broker> {
+        let events = SharedQueue::with_room(alloc, ROOM)?;
+        let open = open(alloc)?;
+        Ok(Broker {
+            alloc,
+            engine: Engine::new(alloc, ConnectionState::HeaderExchange, open),
+            events,
+            inputs: VecDeque::new(alloc),
+            answers: Vec::new(alloc),
+            sessions: Vec::new(alloc),
+            senders: Vec::new(alloc),
+            consumers: Vec::new(alloc),
+            queue: VecDeque::new(alloc),
+            unsettled: VecDeque::new(alloc),
+            max_piece_len: 508,
+        })
+    }
+
+    /// Opens, and takes frames until the client's Close, a fault of the client's, or the end of the input.
+    pub fn serve<I: BufRead, O: Write>(&mut self, input: &mut I, output: &mut O) -> io::Result<()> {
+        exchange_headers(input, output)?;
+        push(&mut self.inputs, Input::Open)?;
+        self.run(output)?;
+        for _ in 0..u64::MAX {
+            let Some(frame) = next_frame(self.alloc, input, MAX_FRAME_SIZE)? else {
+                return Ok(());
+            };
+            if self.take(frame, output)? == Progress::Over {
+                return Ok(());
+            }
+        }
+        Ok(())
+    }
+
+    /// Runs what was asked. A fault closes the connection.
+    pub fn run<O: Write>(&mut self, output: &mut O) -> io::Result<Progress> {
+        run(
+            &mut self.engine,
+            &mut self.inputs,
+            &mut self.answers,
+            output,
+        )?;
+        let fault = first_fault(self.answers.as_slice());
+        self.answers.clear();
+        match fault {
+            None => Ok(Progress::On),
+            Some(fault) => self.fail(fault, output),
+        }
+    }
+
+    /// Closes the connection for a fault.
+    pub fn fail<O: Write>(&mut self, fault: &str, output: &mut O) -> io::Result<Progress> {
+        let error = error_of(self.alloc, fault)?;
+        close(
+            &mut self.engine,
+            &mut self.inputs,
+            &mut self.answers,
+            output,
+            error,
+        )?;
+        self.answers.clear();
+        Ok(Progress::Over)
+    }
+
+    /// Takes a frame of the client's: a Begin is turned, an Attach allots a link, and all else is the engine's.
+    fn take<O: Write>(&mut self, frame: Bytes, output: &mut O) -> io::Result<Progress> {
+        let mut fields = frame.clone()?;
+        let head = FrameDecoder::new().head(&mut fields);
+        drop(fields);
+        match head {
+            Ok(
+                FrameHead {
+                    channel: _,
+                    kind: Some(Kind::Begin),
+                },
+            ) => self.take_begin(frame, output),
+            Ok(
+                FrameHead {
+                    channel,
+                    kind: Some(Kind::Attach),
+                },
+            ) => self.take_attach(channel, frame, output),
+            Ok(
+                FrameHead {
+                    channel,
+                    kind: Some(Kind::End),
+                },
+            ) => self.take_end(channel, frame, output),
+            Ok(
+                FrameHead {
+                    channel: _,
+                    kind: Some(Kind::Open),
+                },
+            ) => self.take_open(frame, output),
+            Ok(
+                FrameHead {
+                    channel: _,
+                    kind: Some(Kind::Close),
+                },
+            ) => self.take_close(frame, output),
+            _ => self.take_other(frame, output),
+        }
+    }
+
+    /// The client's limit of a frame, which messages are cut by. (The engine keeps it too, and cuts frames by it.)
+    fn take_open<O: Write>(&mut self, frame: Bytes, output: &mut O) -> io::Result<Progress> {
+        if let Some(FrameBody::Open(open)) = decoded(self.alloc, frame.clone()?) {
+            self.max_piece_len = open.max_frame_size.saturating_sub(4);
+            drop(open);
+        }
+        self.receive(frame, output)
+    }
+
+    fn take_close<O: Write>(&mut self, frame: Bytes, output: &mut O) -> io::Result<Progress> {
+        if self.receive(frame, output)? == Progress::On {
+            push(&mut self.inputs, Input::Close(None))?;
+            self.run(output)?;
+        }
+        Ok(Progress::Over)
+    }
+
+    /// Gives the engine a frame.
+    pub fn receive<O: Write>(&mut self, frame: Bytes, output: &mut O) -> io::Result<Progress> {
+        push(&mut self.inputs, Input::Received(frame))?;
+        self.run(output)
+    }
+
+    /// A session that the client begins is one that the engine begins: the two Begins are turned.
+    fn take_begin<O: Write>(&mut self, frame: Bytes, output: &mut O) -> io::Result<Progress> {
+        let Ok(number) = u32::try_from(self.sessions.len()) else {
+            return self.fail("OutOfMemory", output);
+        };
+        self.sessions.push(Served { deliveries: 0 })?;
+        match begin_session(
+            self.alloc,
+            &mut self.engine,
+            SessionNo(number),
+            SessionSettings::default(),
+            frame,
+            self.max_piece_len.max(4),
+        ) {
+            Ok(turned) => self.answer_begin(turned, output),
+            Err(error) => {
+                let fault = begin_fault(&error);
+                drop(error);
+                self.fail(fault, output)
+            }
+        }
+    }
+
+    fn answer_begin<O: Write>(&mut self, turned: Turned, output: &mut O) -> io::Result<Progress> {
+        let Turned { to_send, to_take } = turned;
+        write_frame(&to_send, output)?;
+        drop(to_send);
+        self.receive(to_take, output)
+    }
+
+    /// The session is over on both sides: its number stays used, and messages that were sent on it and not settled go back.
+    fn take_end<O: Write>(
+        &mut self,
+        channel: u16,
+        frame: Bytes,
+        output: &mut O,
+    ) -> io::Result<Progress> {
+        let number = self.session_of(channel);
+        if self.receive(frame, output)? == Progress::Over {
+            return Ok(Progress::Over);
+        }
+        let Some(number) = number else {
+            return Ok(Progress::On);
+        };
+        push(&mut self.inputs, Input::End(number, None))?;
+        push(&mut self.inputs, Input::Release(number))?;
+        push(&mut self.inputs, Input::Forget(number))?;
+        self.senders.retain(|it| it.session != number.0);
+        self.consumers.retain(|it| it.session != number.0);
+        give_back(&mut self.unsettled, number.0, None, &mut self.queue)?;
+        self.go_on(output)
+    }
+
+    pub fn session_of(&self, channel: u16) -> Option<SessionNo> {
+        self.engine
+            .connection()
+            .session_tx_by_incoming_channel(IncomingChannel(channel))
+    }
+}
+
+/// This side's Open.
+fn open(alloc: Global) -> io::Result<Open> {
+    Ok(Open {
+        container_id: String::from_str(alloc, "broker_example")?,
+        hostname: None,
+        max_frame_size: MAX_FRAME_SIZE,
+        channel_max: DEFAULT_CHANNEL_MAX,
+        idle_time_out: None,
+        outgoing_locales: None,
+        incoming_locales: None,
+        offered_capabilities: None,
+        desired_capabilities: None,
+        properties: None,
+    })
+}
+
+/// The body of a frame, if it is one.
+pub fn decoded(alloc: Global, frame: Bytes) -> Option<FrameBody> {
+    match FrameDecoder::new().decode(alloc, frame) {
+        Ok((frame, rest)) => {
+            drop(rest);
+            Some(frame.into_body())
+        }
+        Err(_) => None,
+    }
+}

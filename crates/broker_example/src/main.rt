@@ -1,0 +1,28 @@
+//! A broker with one queue in memory, over framed bytes: standard input is what one client sends, standard output what it is sent.
+//!
+//! Both begin with the protocol header of AMQP 1.0. Whatever address a link names, its messages go to the one queue or come from it. The
+//! queue lives as long as the connection. `tools/try_server.py` puts a socket in front of it.
+#![tactic(auto)]
+
+mod attaching;
+mod broker;
+mod consumers;
+mod faults;
+mod message;
+mod outcome;
+mod senders;
+mod taking;
+mod unsettled;
+
+use broker::Broker;
+use std::io::{self, BufReader, BufWriter};
+
+fn main(rt: HostRuntime) -> anyhow::Result<()> {
+    let alloc = rt.alloc();
+    let mut output = BufWriter::new(alloc, io::writer(&rt))?;
+    let mut input = BufReader::new(alloc, rt.reader())?;
+    let mut broker = Broker::new(alloc)?;
+    let outcome = broker.serve(&mut input, &mut output);
+    drop(broker);
+    Ok(outcome?)
+}

@@ -1,0 +1,100 @@
+//! Performatives made by their mandatory fields, and the outcome rejected.
+
+use crate::digits::{dense, written};
+use amqp_types::{
+    Attach, Begin, Close, Detach, Disposition, Error, Fields, Flow, Handle, Open, Performative,
+    Raw, ReadError, Role, Symbol, Transfer, rejected,
+};
+use bytes::Bytes;
+use std::alloc::Global;
+use std::test::Fail;
+
+fn text(alloc: Global, text: &str) -> Result<String, Fail> {
+    Ok(String::from_str(alloc, text)?)
+}
+
+/// An error of the condition "x".
+fn error(alloc: Global) -> Result<Error, Fail> {
+    Ok(Error::new(Symbol::new(text(alloc, "x")?).ok_or("no symbol")?))
+}
+
+/// Whether this is written as the digits say.
+fn is_written(alloc: Global, performative: Performative, digits: &str) -> Result<bool, Fail> {
+    let written = written(alloc, &performative);
+    drop(performative);
+    let written = written?;
+    let want = dense(alloc, digits)?;
+    Ok(written == want)
+}
+
+#[test]
+fn fields_that_are_not_named_are_not_written(rt: HostRuntime) -> Result<(), Fail> {
+    let alloc = rt.alloc();
+    let open = Performative::Open(Open::new(text(alloc, "a")?));
+    assert!(rt; is_written(alloc, open, "005310 c00401 a10161")?);
+    let begin = Performative::Begin(Begin::new(0, 8, 9));
+    assert!(rt; is_written(alloc, begin, "005311 c00704 40 43 5208 5209")?);
+    let attach = Attach::new(text(alloc, "a")?, Handle(3), Role::Receiver);
+    let attach = Performative::Attach(attach);
+    assert!(rt; is_written(alloc, attach, "005312 c00703 a10161 5203 41")?);
+    let flow = Performative::Flow(Flow::new(None, 8, 0, 9));
+    assert!(rt; is_written(alloc, flow, "005313 c00704 40 5208 43 5209")?);
+    Ok(())
+}
+
+#[test]
+fn fields_of_deliveries_that_are_not_named_are_not_written(rt: HostRuntime) -> Result<(), Fail> {
+    let alloc = rt.alloc();
+    let transfer = Performative::Transfer(Transfer::new(Handle(3)));
+    assert!(rt; is_written(alloc, transfer, "005314 c00301 5203")?);
+    let disposition = Performative::Disposition(Disposition::new(Role::Sender, 5));
+    assert!(rt; is_written(alloc, disposition, "005315 c00402 42 5205")?);
+    let detach = Performative::Detach(Detach::new(Handle(3)));
+    assert!(rt; is_written(alloc, detach, "005316 c00301 5203")?);
+    let error = Some(error(alloc)?);
+    let close = Performative::Close(Close { error });
+    assert!(rt; is_written(alloc, close, "005318 c00a01 00531d c00401 a30178")?);
+    Ok(())
+}
+
+/// A map whose one value is a list inside so many lists.
+fn nested(alloc: Global, depth: u8) -> Result<Fields, Fail> {
+    let mut value = Vec::from_slice(alloc, &[0x45])?;
+    for _ in 0..depth {
+        let size = u8::try_from(value.len().saturating_add(1)).map_err(|_| "too long")?;
+        let mut outer = Vec::from_slice(alloc, &[0xc0, size, 1])?;
+        outer.extend_from_slice(value.as_slice())?;
+        value = outer;
+    }
+    let size = u8::try_from(value.len().saturating_add(4)).map_err(|_| "too long")?;
+    let mut map = Vec::from_slice(alloc, &[0xc1, size, 2, 0xa3, 1, 0x78])?;
+    map.extend_from_slice(value.as_slice())?;
+    let raw = Raw::of_bytes(Bytes::from_vec(map)?).ok_or("no value")?;
+    Ok(Fields::new(raw).ok_or("no map")?)
+}
+
+#[test]
+fn a_rejected_delivery_has_its_error(rt: HostRuntime) -> Result<(), Fail> {
+    let alloc = rt.alloc();
+    let error = error(alloc)?;
+    let outcome = rejected(alloc, &error)?;
+    let want = [
+        0x00, 0x53, 0x25, 0xc0, 0x0a, 1, 0x00, 0x53, 0x1d, 0xc0, 4, 1, 0xa3, 1, 0x78,
+    ];
+    assert_eq!(rt; outcome.bytes(), want.as_slice());
+    Ok(())
+}
+
+#[test]
+fn an_error_that_is_nested_too_deeply_is_refused(rt: HostRuntime) -> Result<(), Fail> {
+    let alloc = rt.alloc();
+    let mut error = error(alloc)?;
+    error.info = Some(nested(alloc, 57)?);
+    assert!(rt; rejected(alloc, &error).is_ok());
+    error.info = Some(nested(alloc, 60)?);
+    let refused = rejected(alloc, &error);
+    let is_malformed = matches!(&refused, Err(ReadError::Malformed));
+    drop(refused);
+    assert!(rt; is_malformed);
+    Ok(())
+}
