@@ -44,10 +44,10 @@ fn frame(rt: &HostRuntime, error: FrameError) -> io::Result<()> {
 }
 
 fn connection_states(rt: &HostRuntime) -> io::Result<()> {
-    let failed = ConnectionStateError::TransportError(String::new(rt.alloc()));
     connection_state(rt, ConnectionStateError::IllegalState)?;
     connection_state(rt, ConnectionStateError::RemoteClosed)?;
     connection_state(rt, ConnectionStateError::RemoteClosedWithError(error(rt)?))?;
+    let failed = ConnectionStateError::TransportError(String::new(rt.alloc()));
     connection_state(rt, failed)?;
     connection_state(rt, ConnectionStateError::OutOfMemory)
 }
