@@ -5,7 +5,7 @@ use Rattle.std.proofs.Math.Seq.{take-append-add, drop-append-add}
 use Rattle.std.proofs.lemmas.List.{take-append-le, drop-append-le}
 use Rattle.std.proofs.lemmas.Bool.{cases_lt}
 use Rattle.std.proofs.Common.{inl, inr, ◌^◌}
-use Rattle.amqp_blocks.specs.Changes.{IsSwept, EachSomeBut}
+use Rattle.amqp_blocks.specs.Changes.{IsSunk, IsSwept, EachSomeBut}
 use Rattle.amqp_blocks.specs.Chunked.{Block, in_block, items_of, start_of, ends_from, EachSome, without}
 
 module _ {T : Type 0} where
@@ -61,6 +61,27 @@ module _ {T : Type 0} where
       let k : n + count + length c.items ≡ n + length d.items = omega (arith, same, s) in
       ap (λ m. m ∷ ends_from m ds) k
   ends_risen n (d ∷ ds) (suc i) count b c z h e s = absurd (omega (arith, z))
+
+  -- or the base and the lengths before a block that loses items
+  pub ends_lifted : (n : ℕ) (bs : List (Block T)) (i count : ℕ) (b c : Block T) → i < length bs → b ≡ get_or bs i b → length c.items + count ≡ length b.items → ends_from (n + count) (set bs i c) ≡ map (λ e. e + count) (take i (ends_from n bs)) ++ drop i (ends_from n bs)
+  ends_lifted n [] i count b c h e s = absurd (omega arith)
+  ends_lifted n (d ∷ ds) zero count b c h e s =
+      let same : length b.items ≡ length d.items = ap (λ (x : Block T). length x.items) e in
+      let k : n + count + length c.items ≡ n + length d.items = omega (arith, same, s) in
+      ap (λ m. m ∷ ends_from m ds) k
+  ends_lifted n (d ∷ ds) (suc i) count b c h e s =
+      let k : n + count + length d.items ≡ n + length d.items + count = omega arith in
+      ap (λ m. m ∷ ends_from m (set ds i c)) k
+      ∙ ap (λ (ks : List ℕ). (n + length d.items + count) ∷ ks) (ends_lifted (n + length d.items) ds i count b c (omega arith) e s)
+
+  -- no end is above all items, counted from there
+  pub ends_high : (n : ℕ) (bs : List (Block T)) (k : ℕ) → k < length (ends_from n bs) → get_or (ends_from n bs) k 0 ≤ n + length (items_of bs)
+  ends_high n [] k h = absurd (omega arith)
+  ends_high n (b ∷ bs) zero h = let l = length-append b.items (items_of bs) in omega (arith, l)
+  ends_high n (b ∷ bs) (suc k) h =
+      let l = length-append b.items (items_of bs) in
+      let m = ends_high (n + length b.items) bs k (omega (arith, h)) in
+      omega (arith, l, m)
 
   -- no end is below what it is counted from
   pub ends_low : (n : ℕ) (bs : List (Block T)) (k : ℕ) → k < length (ends_from n bs) → n ≤ get_or (ends_from n bs) k 0
@@ -119,14 +140,13 @@ module _ {T : Type 0} where
 
   -- ---- the steps of a cut
 
-  pub sink_is : (base risen : ℕ) (bs : List (Block T)) (old new : List ℕ) (i count : ℕ) (b c : Block T) → i < length bs → b ≡ get_or bs i b → length c.items + count ≡ length b.items → old ≡ ends_from base bs → (i ≡ 0 → (new ≡ old) × (risen ≡ base + count)) → (0 < i → (risen ≡ base) × (new ≡ take i old ++ map (λ e. e - count) (drop i old))) → new ≡ ends_from risen (set bs i c)
-  sink_is base risen bs old new zero count b c h f s e first other =
-      let w = first refl in
-      w.0 ∙ e ∙ sym (ends_risen base bs 0 count b c refl h f s) ∙ ap (λ m. ends_from m (set bs 0 c)) (sym w.1)
-  sink_is base risen bs old new (suc i) count b c h f s e first other =
-      let w = other (omega arith) in
-      w.1 ∙ ap (λ (ks : List ℕ). take (suc i) ks ++ map (λ e. e - count) (drop (suc i) ks)) e
-      ∙ sym (ends_thinned base bs (suc i) count b c h f s) ∙ ap (λ m. ends_from m (set bs (suc i) c)) (sym w.0)
+  pub sunk_or_risen : (base risen : ℕ) (bs : List (Block T)) (old new : List ℕ) (i count : ℕ) (b c : Block T) → i < length bs → b ≡ get_or bs i b → length c.items + count ≡ length b.items → old ≡ ends_from base bs → IsSunk base old i count risen new → new ≡ ends_from risen (set bs i c)
+  sunk_or_risen base risen bs old new i count b c h f s e (inl w) =
+      w.1 ∙ ap (λ (ks : List ℕ). take i ks ++ map (λ e. e - count) (drop i ks)) e
+      ∙ sym (ends_thinned base bs i count b c h f s) ∙ ap (λ m. ends_from m (set bs i c)) (sym w.0)
+  sunk_or_risen base risen bs old new i count b c h f s e (inr w) =
+      w.1 ∙ ap (λ (ks : List ℕ). map (λ e. e + count) (take i ks) ++ drop i ks) e
+      ∙ sym (ends_lifted base bs i count b c h f s) ∙ ap (λ m. ends_from m (set bs i c)) (sym w.0)
 
   pub some_block : (bs : List (Block T)) (i : ℕ) → i < length bs → (b : Block T) × (b ≡ get_or bs i b)
   some_block [] i h = absurd (omega arith)

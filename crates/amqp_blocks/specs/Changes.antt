@@ -1,5 +1,5 @@
 -- Changes of one block.
-use Rattle.std.specs.Prelude.{ℕ, zero, suc, ◌<◌, ◌≤◌, ◌≡◌, ◌+◌, List, [], ◌∷◌, ◌++◌, length, take, drop, slice_index_or, slice_set}
+use Rattle.std.specs.Prelude.{ℕ, zero, suc, ◌<◌, ◌≤◌, ◌≡◌, ◌+◌, ◌-◌, ◌⊎◌, map, List, [], ◌∷◌, ◌++◌, length, take, drop, slice_index_or, slice_set}
 use Rattle.std.specs.List.{remove, insert}
 use Rattle.amqp_blocks.specs.Chunked.{Block, items_of, ends_from, EachSome, places_of}
 
@@ -123,3 +123,9 @@ module _ {T : Type 0} where
     pub upper_was : upper ≡ slice_index_or old (i + 1) upper
     pub set : new ≡ slice_set (remove old (i + 1)) i whole
     pub items : whole.items ≡ lower.items ++ upper.items
+
+-- Running lengths and their base, where so many items have left a block: those from it on are less, or the base and those before it are more.
+abbrev pub IsSunk : ℕ → List ℕ → ℕ → ℕ → ℕ → List ℕ → Type 0
+IsSunk base old i count risen new =
+    ((risen ≡ base) × (new ≡ take i old ++ map (λ e. e - count) (drop i old)))
+    ⊎ ((risen ≡ base + count) × (new ≡ map (λ e. e + count) (take i old) ++ drop i old))

@@ -4,7 +4,7 @@ ghost use Rattle.std.specs.Prelude.{◌≡◌, ◌+◌, ◌-◌, ◌^◌, ◌<�
 ghost use Rattle.amqp_blocks.specs.Chunked.{Block, items_of, start_of, ends_from, IsChunked, EachSpare, Within, without};
 ghost use Rattle.amqp_blocks.specs.Changes.{IsPopped, IsSwept, EachSomeBut};
 
-use crate::lengths::{settle, sink};
+use crate::lengths::{settle, sink_or_rise};
 use crate::rings::thin;
 use crate::search::Place;
 use crate::sequence::BLOCK;
@@ -95,7 +95,7 @@ pub(crate) fn leave<T: Drop>(
     ensures capacity { (vec_capacity blocks.new ≡ vec_capacity blocks.old) × (vec_capacity ends.new ≡ vec_capacity ends.old) }
 {
     thin(blocks, place, count);
-    let base = sink(ends, base, place.block, count);
+    let base = sink_or_rise(ends, base, place.block, count);
     tidy(blocks, ends, spare, base, place.block)
 }
 

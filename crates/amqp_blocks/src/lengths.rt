@@ -1,6 +1,7 @@
 //! Running lengths.
 
 ghost use Rattle.std.specs.Prelude.{◌≡◌, ℕ, ◌+◌, ◌-◌, ◌^◌, ◌<◌, ◌≤◌, ◌++◌, length, map, take, drop, slice_index, vec_capacity};
+ghost use Rattle.amqp_blocks.specs.Changes.{IsSunk};
 
 /// Lowers running lengths.
 fn lower(ends: &mut [usize], count: usize)
@@ -19,6 +20,17 @@ fn raise(ends: &mut [usize])
 {
     for i in 0..ends.len() {
         ends[i] += 1;
+    }
+}
+
+/// Raises the running lengths before a block.
+fn lift(ends: &mut [usize], block: usize, count: usize)
+    requires block { block ≤ length ends.old }
+    requires few { (i : ℕ) → i < length (take block ends.old) → slice_index (take block ends.old) i + count < 2 ^ 64 }
+    ensures lifted { ends.new ≡ map (λ e. e + count) (take block ends.old) ++ drop block ends.old }
+{
+    for i in 0..block {
+        ends[i] += count;
     }
 }
 
@@ -52,6 +64,24 @@ pub(crate) fn sink(ends: &mut Vec<usize>, base: usize, block: usize, count: usiz
     ensures capacity { vec_capacity ends.new ≡ vec_capacity ends.old }
 {
     if block == 0 {
+        return base + count;
+    }
+    lower_from(ends, block, count);
+    base
+}
+
+/// Tells the running lengths that items have left a block: those from it on sink, or the base and those before it rise, whichever are
+/// fewer. Answers the base.
+pub(crate) fn sink_or_rise(ends: &mut Vec<usize>, base: usize, block: usize, count: usize) -> usize
+    requires block { block ≤ length ends.old.items }
+    requires fits { base + count < 2 ^ 64 }
+    requires enough { (i : ℕ) → i < length (drop block ends.old.items) → count ≤ slice_index (drop block ends.old.items) i }
+    requires few { (i : ℕ) → i < length (take block ends.old.items) → slice_index (take block ends.old.items) i + count < 2 ^ 64 }
+    ensures either { IsSunk base ends.old.items block count result ends.new.items }
+    ensures capacity { vec_capacity ends.new ≡ vec_capacity ends.old }
+{
+    if block <= ends.len() / 2 {
+        lift(&mut ends[0..], block, count);
         return base + count;
     }
     lower_from(ends, block, count);
