@@ -79,18 +79,10 @@ fn main(rt: HostRuntime) -> anyhow::Result<()> {
 }
 
 fn open(alloc: Global) -> Result<Open, AllocError> {
-    Ok(Open {
-        container_id: String::from_str(alloc, "user")?,
-        hostname: None,
-        max_frame_size: 65536,
-        channel_max: 255,
-        idle_time_out: None,
-        outgoing_locales: None,
-        incoming_locales: None,
-        offered_capabilities: None,
-        desired_capabilities: None,
-        properties: None,
-    })
+    let mut open = Open::new(String::from_str(alloc, "user")?);
+    open.max_frame_size = 65536;
+    open.channel_max = 255;
+    Ok(open)
 }
 END
 holds "the libraries are put there" tools/vendor.sh "$dest"
