@@ -12,7 +12,7 @@ use amqp_transport::{
 use bytes::Bytes;
 use fe2o3_amqp::{
     Answer, ConnectionState, DEFAULT_CHANNEL_MAX, Engine, FrameBody, FrameDecoder, FrameHead,
-    IncomingChannel, Input, Kind, Open, SessionNo, SessionSettings,
+    IncomingChannel, Input, KeyHash, Kind, Open, SessionNo, SessionSettings,
 };
 use std::alloc::Global;
 use std::collections::VecDeque;
@@ -67,13 +67,13 @@ pub struct Broker {
 }
 
 impl Broker {
-    /// A broker whose queue is empty.
-    pub fn new(alloc: Global) -> io::Result<Broker> {
+    /// A broker whose queue is empty. By the hash its engine finds names, handles and channels that the client chooses.
+    pub fn new(alloc: Global, hash: KeyHash) -> io::Result<Broker> {
         let events = SharedQueue::with_room(alloc, ROOM)?;
         let open = open(alloc)?;
         Ok(Broker {
             alloc,
-            engine: Engine::new(alloc, ConnectionState::HeaderExchange, open),
+            engine: Engine::keyed(alloc, hash, ConnectionState::HeaderExchange, open),
             events,
             inputs: VecDeque::new(alloc),
             answers: Vec::new(alloc),
