@@ -124,7 +124,8 @@ module _ {T : Type 0} where
     pub set : new ≡ slice_set (remove old (i + 1)) i whole
     pub items : whole.items ≡ lower.items ++ upper.items
 
--- Running lengths and their base, where so many items have left a block: those from it on are less, or the base and those before it are more.
+-- Running lengths and their base, where so many items have left a block: those from it on are less, or the base and those before it
+-- are more.
 abbrev pub IsSunk : ℕ → List ℕ → ℕ → ℕ → ℕ → List ℕ → Type 0
 IsSunk base old i count risen new =
     ((risen ≡ base) × (new ≡ take i old ++ map (λ e. e - count) (drop i old)))

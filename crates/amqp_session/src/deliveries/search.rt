@@ -7,8 +7,8 @@ use super::Deliveries;
 use super::part::{Part, closer, probe};
 
 impl Deliveries {
-    /// Where the numbers from `first` on begin. Numbers are whole and rise: so the front tells the place, but for the missing numbers. Where
-    /// those are more than half of the records, to read the front could cost a read more than to halve the whole table.
+    /// Where the numbers from `first` on begin. Numbers are whole and rise: so the front tells the place, but for the missing numbers.
+    /// Where those are more than half of the records, to read the front could cost a read more than to halve the whole table.
     #[inline(always)]
     pub(crate) fn place_of(&mut self, first: u32) -> usize
         ensures few { length self.old.rows ≤ 2 ^ 32 }
@@ -80,8 +80,8 @@ impl Deliveries {
         )
     }
 
-    /// The same by a search of the part that can hold the place. It reads numbers so often that two to that power is at most `places`, a
-    /// power of two that is more than the part has places.
+    /// The same by a search of the part that can hold the place, which has fewer places than `places`, a power of two. Two to the power
+    /// of the numbers that it reads is at most that.
     #[inline(always)]
     fn place_in(&mut self, first: u32, part: Part, places: usize) -> usize
         requires order { part.low ≤ part.high }

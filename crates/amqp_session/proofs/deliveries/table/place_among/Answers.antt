@@ -1,4 +1,4 @@
-use Rattle.std.proofs.Common.{◌≡◌, ◌/◌, ◌∙◌, arith, ap, refl, sym, slice_get, Some, suc, subst}
+use Rattle.std.proofs.Common.{◌≡◌, ◌/◌, ◌∙◌, arith, refl, sym, slice_get, Some, suc, subst}
 use Rattle.amqp_blocks.specs.Chunked.{Sequence}
 use Rattle.amqp_session.specs.Deliveries.{number_at}
 use Rattle.amqp_session.specs.declared.deliveries.Delivery.{Delivery}

@@ -1,8 +1,8 @@
 use Rattle.std.proofs.Common.{◌≡◌, ◌<◌, ◌^◌, [], Some, refl, ap, subst, arith, length, slice_get}
 use Rattle.amqp_types.specs.Disposition.{DispositionSaid}
 use Rattle.amqp_session.specs.Disposing.{distance, span}
-use Rattle.amqp_session.specs.Walks.{around, turned}
-use Rattle.amqp_session.proofs.Walking.{Reads, asks_more, reads, stops_alone, stops_at}
+use Rattle.amqp_session.specs.Walks.{around}
+use Rattle.amqp_session.proofs.Walking.{asks_more, reads, stops_alone, stops_at}
 use Rattle.amqp_session.proofs.session.walk.ask_one.Goals as goal
 
 pub returns-then-delivery-said-clause-split : goal.returns-then-delivery-said-clause-split

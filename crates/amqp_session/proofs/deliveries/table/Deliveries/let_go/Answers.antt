@@ -1,4 +1,4 @@
-use Rattle.std.proofs.Common.{◌∙◌, arith, ap, subst, length}
+use Rattle.std.proofs.Common.{◌∙◌, arith, ap, subst}
 use Rattle.amqp_session.specs.Deliveries.{TableView, cut}
 use Rattle.amqp_session.proofs.Ranges.{Begins, Ranges, next, ranges}
 use Rattle.amqp_session.proofs.deliveries.table.Deliveries.let_go.Goals as goal

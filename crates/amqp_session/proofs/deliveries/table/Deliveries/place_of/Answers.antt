@@ -1,4 +1,4 @@
-use Rattle.std.proofs.Common.{◌≤◌, subst, arith}
+use Rattle.std.proofs.Common.{arith}
 use Rattle.amqp_session.proofs.Rising.{above_place}
 use Rattle.amqp_session.proofs.deliveries.table.Deliveries.place_of.Goals as goal
 
