@@ -70,10 +70,10 @@ def sized(channel, code, fields, payload):
 
 
 def in_frames(payload, limit):
-    """The parts of a message of the broker's, whose first transfer could have the widest number: each transfer is one frame."""
-    head = len(sized(OURS, TRANSFER, [uint(255), uint(1 << 31), tag({"bin": "00000000"}), uint(0), NO, YES], b""))
-    room = limit - head
-    return [payload[at : at + room] for at in range(0, len(payload), room)]
+    """The parts of a message of the broker's, each in a frame: the first one leaves room for the widest number, and a later one has none."""
+    first = limit - len(sized(OURS, TRANSFER, [uint(1), uint(1 << 31), tag({"bin": "00000000"}), uint(0), NO, YES], b""))
+    later = limit - len(sized(OURS, TRANSFER, [uint(1), *[NULL] * 4, YES], b""))
+    return [payload[:first], *[payload[at : at + later] for at in range(first, len(payload), later)]]
 
 
 def opened(it):

@@ -7,7 +7,9 @@ use crate::unsettled::give_back;
 use amqp_events::{EventRelay, LinkNames, Policy};
 use amqp_transport::{marked_name, push};
 use bytes::Bytes;
-use fe2o3_amqp::{Attach, Detach, FrameBody, Handle, Input, InputHandle, Role, SessionNo};
+use fe2o3_amqp::{
+    Attach, Detach, FrameBody, Handle, IncomingChannel, Input, InputHandle, Role, SessionNo,
+};
 use std::io::{self, Write};
 
 impl Broker {
@@ -19,7 +21,7 @@ impl Broker {
         output: &mut O,
     ) -> io::Result<Progress> {
         let (Some(number), Some(FrameBody::Attach(theirs))) = (
-            self.session_of(channel),
+            self.engine.session_of(IncomingChannel(channel)),
             decoded(self.alloc, frame.clone()?),
         ) else {
             // refused by name: no session, or no frame
@@ -67,12 +69,9 @@ impl Broker {
         if self.run(output)? == Progress::Over {
             return Ok(None);
         }
-        match self.engine.session(number) {
+        match self.engine.output_handle(number, name.as_str()) {
             None => Ok(None),
-            Some(session) => match session.output_handle(name.as_str()) {
-                None => Ok(None),
-                Some(handle) => Ok(Some(Handle(handle.0))),
-            },
+            Some(handle) => Ok(Some(Handle(handle.0))),
         }
     }
 
@@ -123,9 +122,8 @@ impl Broker {
             &mut self.queue,
         )?;
         let detach = Detach {
-            handle: Handle(output.0),
             closed,
-            error: None,
+            ..Detach::new(Handle(output.0))
         };
         push(
             &mut self.inputs,
@@ -149,24 +147,14 @@ fn other_end(role: Role) -> Role {
 
 /// The Attach that answers one of the client's: the same link, from its other end.
 fn answer_to(theirs: Attach, handle: Handle) -> Attach {
+    let role = other_end(theirs.role);
+    let initial_delivery_count = if role == Role::Sender { Some(0) } else { None };
     Attach {
-        name: theirs.name,
-        handle,
-        role: other_end(theirs.role),
         snd_settle_mode: theirs.snd_settle_mode,
         rcv_settle_mode: theirs.rcv_settle_mode,
         source: theirs.source,
         target: theirs.target,
-        unsettled: None,
-        incomplete_unsettled: false,
-        initial_delivery_count: if theirs.role == Role::Receiver {
-            Some(0)
-        } else {
-            None
-        },
-        max_message_size: None,
-        offered_capabilities: None,
-        desired_capabilities: None,
-        properties: None,
+        initial_delivery_count,
+        ..Attach::new(theirs.name, handle, role)
     }
 }

@@ -11,8 +11,8 @@ use amqp_transport::{
 };
 use bytes::Bytes;
 use fe2o3_amqp::{
-    Answer, ConnectionState, DEFAULT_CHANNEL_MAX, Engine, FrameBody, FrameDecoder, FrameHead,
-    IncomingChannel, Input, KeyHash, Kind, Open, SessionNo, SessionSettings,
+    Answer, ConnectionState, DEFAULT_CHANNEL_MAX, Engine, FrameBody, FrameDecoder, IncomingChannel,
+    Input, KeyHash, Kind, Open, SessionNo, SessionSettings,
 };
 use std::alloc::Global;
 use std::collections::VecDeque;
@@ -63,7 +63,6 @@ pub struct Broker {
     pub consumers: Vec<Consumer>,
     pub queue: VecDeque<Message>,
     pub unsettled: VecDeque<Unsettled>,
-    pub max_piece_len: u32,
 }
 
 impl Broker {
@@ -82,7 +81,6 @@ impl Broker {
             consumers: Vec::new(alloc),
             queue: VecDeque::new(alloc),
             unsettled: VecDeque::new(alloc),
-            max_piece_len: 508,
         })
     }
 
@@ -134,51 +132,14 @@ impl Broker {
 
     /// Takes a frame of the client's: a Begin is turned, an Attach allots a link, and all else is the engine's.
     fn take<O: Write>(&mut self, frame: Bytes, output: &mut O) -> io::Result<Progress> {
-        let mut fields = frame.clone()?;
-        let head = FrameDecoder::new().head(&mut fields);
-        drop(fields);
-        match head {
-            Ok(
-                FrameHead {
-                    channel: _,
-                    kind: Some(Kind::Begin),
-                },
-            ) => self.take_begin(frame, output),
-            Ok(
-                FrameHead {
-                    channel,
-                    kind: Some(Kind::Attach),
-                },
-            ) => self.take_attach(channel, frame, output),
-            Ok(
-                FrameHead {
-                    channel,
-                    kind: Some(Kind::End),
-                },
-            ) => self.take_end(channel, frame, output),
-            Ok(
-                FrameHead {
-                    channel: _,
-                    kind: Some(Kind::Open),
-                },
-            ) => self.take_open(frame, output),
-            Ok(
-                FrameHead {
-                    channel: _,
-                    kind: Some(Kind::Close),
-                },
-            ) => self.take_close(frame, output),
+        let (channel, kind) = head_of(frame.clone()?);
+        match kind {
+            Some(Kind::Begin) => self.take_begin(frame, output),
+            Some(Kind::Attach) => self.take_attach(channel, frame, output),
+            Some(Kind::End) => self.take_end(channel, frame, output),
+            Some(Kind::Close) => self.take_close(frame, output),
             _ => self.take_other(frame, output),
         }
-    }
-
-    /// The client's limit of a frame, which messages are cut by. (The engine keeps it too, and cuts frames by it.)
-    fn take_open<O: Write>(&mut self, frame: Bytes, output: &mut O) -> io::Result<Progress> {
-        if let Some(FrameBody::Open(open)) = decoded(self.alloc, frame.clone()?) {
-            self.max_piece_len = open.max_frame_size.saturating_sub(4);
-            drop(open);
-        }
-        self.receive(frame, output)
     }
 
     fn take_close<O: Write>(&mut self, frame: Bytes, output: &mut O) -> io::Result<Progress> {
@@ -201,13 +162,14 @@ impl Broker {
             return self.fail("OutOfMemory", output);
         };
         self.sessions.push(Served { deliveries: 0 })?;
+        let limit = self.engine.max_piece_len();
         match begin_session(
             self.alloc,
             &mut self.engine,
             SessionNo(number),
             SessionSettings::default(),
             frame,
-            self.max_piece_len.max(4),
+            limit,
         ) {
             Ok(turned) => self.answer_begin(turned, output),
             Err(error) => {
@@ -232,7 +194,7 @@ impl Broker {
         frame: Bytes,
         output: &mut O,
     ) -> io::Result<Progress> {
-        let number = self.session_of(channel);
+        let number = self.engine.session_of(IncomingChannel(channel));
         if self.receive(frame, output)? == Progress::Over {
             return Ok(Progress::Over);
         }
@@ -247,28 +209,27 @@ impl Broker {
         give_back(&mut self.unsettled, number.0, None, &mut self.queue)?;
         self.go_on(output)
     }
-
-    pub fn session_of(&self, channel: u16) -> Option<SessionNo> {
-        self.engine
-            .connection()
-            .session_tx_by_incoming_channel(IncomingChannel(channel))
-    }
 }
 
 /// This side's Open.
 fn open(alloc: Global) -> io::Result<Open> {
+    let name = String::from_str(alloc, "broker_example")?;
     Ok(Open {
-        container_id: String::from_str(alloc, "broker_example")?,
-        hostname: None,
         max_frame_size: MAX_FRAME_SIZE,
         channel_max: DEFAULT_CHANNEL_MAX,
-        idle_time_out: None,
-        outgoing_locales: None,
-        incoming_locales: None,
-        offered_capabilities: None,
-        desired_capabilities: None,
-        properties: None,
+        ..Open::new(name)
     })
+}
+
+/// The channel of a frame and what it says, if anything: the engine refuses by name what is no frame.
+fn head_of(frame: Bytes) -> (u16, Option<Kind>) {
+    let mut fields = frame;
+    let head = FrameDecoder::new().head(&mut fields);
+    drop(fields);
+    match head {
+        Ok(head) => (head.channel, head.kind),
+        Err(_) => (0, None),
+    }
 }
 
 /// The body of a frame, if it is one.

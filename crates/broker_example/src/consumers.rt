@@ -1,10 +1,12 @@
 //! Links on which the client receives: their credit, and the transfers of a message.
 
 use crate::message::Message;
+use amqp_transport::push;
 use bytes::Bytes;
+use fe2o3_amqp::frames::Error as FrameError;
 use fe2o3_amqp::{
-    DeliveryTag, FrameEncoder, Handle, Input, InputHandle, LinkFlow, SenderSettleMode, SessionNo,
-    Transfer,
+    DeliveryPart, DeliveryTag, Handle, Input, InputHandle, LinkFlow, SenderSettleMode, SessionNo,
+    Transfer, split_delivery,
 };
 use std::alloc::Global;
 use std::collections::VecDeque;
@@ -80,44 +82,15 @@ impl Consumer {
         self.is_drained = false;
         self.is_asked = false;
         Some(LinkFlow {
-            handle: Handle(self.output),
             delivery_count: Some(self.count),
             link_credit: Some(self.credit),
-            available: None,
             drain,
-            echo: false,
-            properties: None,
+            ..LinkFlow::new(Handle(self.output))
         })
     }
 
-    /// The first transfer of a delivery: those behind it say only whether more follow.
-    fn first_transfer(&self, alloc: Global, number: u32) -> io::Result<Transfer> {
-        let tag = Vec::from_array(alloc, number.to_be_bytes())?;
-        Ok(Transfer {
-            delivery_tag: Some(DeliveryTag(Bytes::from_vec(tag)?)),
-            message_format: Some(0),
-            settled: Some(self.is_settled),
-            ..later_transfer(self.output)
-        })
-    }
-
-    /// How many bytes of a message go into each transfer, so that each is one frame. The delivery's number, which the session fills in, has
-    /// at most so many digits. `InvalidData` where a frame has room for none.
-    fn room(&self, alloc: Global, max_piece_len: u32) -> io::Result<usize> {
-        let probe = Transfer {
-            delivery_id: Some(u32::MAX),
-            more: true,
-            ..self.first_transfer(alloc, u32::MAX)?
-        };
-        let room = FrameEncoder::new(max_piece_len.max(4)).payload_room(&probe);
-        drop(probe);
-        match room {
-            Some(room) if room > 0 => Ok(room as usize),
-            _ => Err(io::Error::from(ErrorKind::InvalidData)),
-        }
-    }
-
-    /// Asks for the transfers of a message.
+    /// Asks for the transfers of a message, each of which is one frame of the client's limit: so the engine counts as many against the
+    /// client's window as the client does. `InvalidData` where a frame has no room for a message.
     pub fn send<R: Drop>(
         &self,
         alloc: Global,
@@ -126,71 +99,70 @@ impl Consumer {
         max_piece_len: u32,
         inputs: &mut VecDeque<Input<R>>,
     ) -> io::Result<()> {
-        let room = self.room(alloc, max_piece_len)?;
-        let mut next = Some(self.first_transfer(alloc, number)?);
         let parts = message.parts();
         for i in 0..parts.len() {
-            let is_last = i + 1 == parts.len();
-            self.send_part(parts[i].clone()?, is_last, room, &mut next, inputs)?;
+            let more = i + 1 < parts.len();
+            let transfer = self.transfer(alloc, number, i == 0, more)?;
+            let cut = split_delivery(alloc, &transfer, &parts[i], max_piece_len);
+            drop(transfer);
+            self.ask(cut, i == 0, inputs)?;
         }
-        drop(next);
         Ok(())
     }
 
-    /// Asks for the transfers of a part of a message.
-    fn send_part<R: Drop>(
+    /// The transfer of a part of a message. The first one says what concerns the delivery.
+    fn transfer(
         &self,
-        part: Bytes,
-        is_last: bool,
-        room: usize,
-        next: &mut Option<Transfer>,
-        inputs: &mut VecDeque<Input<R>>,
-    ) -> io::Result<()> {
-        let mut rest = part;
-        for _ in 0..rest.len() {
-            if rest.len() <= room {
-                break;
-            }
-            let piece = rest.split_to(room)?;
-            self.ask(next.take(), piece, true, inputs)?;
+        alloc: Global,
+        number: u32,
+        is_first: bool,
+        more: bool,
+    ) -> io::Result<Transfer> {
+        let transfer = Transfer {
+            more,
+            ..Transfer::new(Handle(self.output))
+        };
+        if !is_first {
+            return Ok(transfer);
         }
-        self.ask(next.take(), rest, !is_last, inputs)
+        let tag = Bytes::from_vec(Vec::from_array(alloc, number.to_be_bytes())?)?;
+        Ok(Transfer {
+            delivery_tag: Some(DeliveryTag(tag)),
+            message_format: Some(0),
+            settled: Some(self.is_settled),
+            ..transfer
+        })
     }
 
-    /// Asks for a transfer: the first one, or a later one.
+    /// Asks for transfers, of which the first may begin the delivery.
     fn ask<R: Drop>(
         &self,
-        first: Option<Transfer>,
-        payload: Bytes,
-        more: bool,
+        cut: Result<Vec<DeliveryPart>, FrameError>,
+        begins: bool,
         inputs: &mut VecDeque<Input<R>>,
     ) -> io::Result<()> {
-        let is_first = first.is_some();
-        let mut transfer = match first {
-            Some(transfer) => transfer,
-            None => later_transfer(self.output),
+        let Ok(cut) = cut else {
+            return Err(io::Error::from(ErrorKind::InvalidData));
         };
-        transfer.more = more;
-        let (session, input) = (SessionNo(self.session), InputHandle(self.input));
-        amqp_transport::push(
-            inputs,
-            Input::Transfer(session, input, transfer, payload, is_first),
-        )
-    }
-}
-
-fn later_transfer(output: u32) -> Transfer {
-    Transfer {
-        handle: Handle(output),
-        delivery_id: None,
-        delivery_tag: None,
-        message_format: None,
-        settled: None,
-        more: false,
-        rcv_settle_mode: None,
-        state: None,
-        resume: false,
-        aborted: false,
-        batchable: false,
+        let (session, input) = (self.session, self.input);
+        for part in cut {
+            let DeliveryPart {
+                transfer,
+                payload,
+                is_first,
+            } = part;
+            let first = is_first && begins;
+            push(
+                inputs,
+                Input::Transfer(
+                    SessionNo(session),
+                    InputHandle(input),
+                    transfer,
+                    payload,
+                    first,
+                ),
+            )?;
+        }
+        Ok(())
     }
 }

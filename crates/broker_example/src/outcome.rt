@@ -1,14 +1,6 @@
 //! Outcomes of deliveries (AMQP 1.0 part 3, section 3.4), as far as a queue asks.
 
-use bytes::Bytes;
-use fe2o3_amqp::{Raw, ReadError};
-
-/// The outcome "accepted".
-pub fn accepted() -> Result<Raw, ReadError> {
-    let (state, rest) = Raw::read(Bytes::from_static(b"\x00\x53\x24\x45"))?;
-    drop(rest);
-    Ok(state)
-}
+use fe2o3_amqp::Raw;
 
 /// Whether the peer gave a message back, "released" or "modified", and somebody else may have it.
 pub fn is_given_back(state: Option<&Raw>) -> bool {

@@ -1,9 +1,8 @@
 //! Links on which the client sends: their credit, and the deliveries that come.
 
 use crate::message::Message;
-use crate::outcome::accepted;
 use bytes::Bytes;
-use fe2o3_amqp::{Disposition, Handle, LinkFlow, ReceiverSettleMode, Role, Transfer};
+use fe2o3_amqp::{Disposition, Handle, LinkFlow, Raw, ReceiverSettleMode, Role, Transfer};
 use std::alloc::Global;
 use std::{io, mem};
 
@@ -72,13 +71,9 @@ impl Sender {
         }
         self.credit = CREDIT;
         Some(LinkFlow {
-            handle: Handle(self.output),
             delivery_count: Some(self.count),
             link_credit: Some(CREDIT),
-            available: None,
-            drain: false,
-            echo: false,
-            properties: None,
+            ..LinkFlow::new(Handle(self.output))
         })
     }
 
@@ -104,7 +99,7 @@ impl Sender {
             drop(coming);
             return Ok(None);
         }
-        Ok(Some(coming.arrived()?))
+        Ok(Some(coming.arrived()))
     }
 }
 
@@ -136,7 +131,7 @@ impl Coming {
     }
 
     /// The message is accepted. It is settled at once, unless the client settles first.
-    fn arrived(self) -> io::Result<Arrived> {
+    fn arrived(self) -> Arrived {
         let Coming {
             message,
             number,
@@ -144,23 +139,17 @@ impl Coming {
             mode,
         } = self;
         let answer = match number {
-            Some(first) if !is_settled => Some(disposition(first, mode)?),
+            Some(first) if !is_settled => Some(disposition(first, mode)),
             _ => None,
         };
-        Ok(Arrived { message, answer })
+        Arrived { message, answer }
     }
 }
 
-fn disposition(first: u32, mode: ReceiverSettleMode) -> io::Result<Disposition> {
-    let Ok(state) = accepted() else {
-        return Err(io::Error::from(io::ErrorKind::OutOfMemory));
-    };
-    Ok(Disposition {
-        role: Role::Receiver,
-        first,
-        last: None,
+fn disposition(first: u32, mode: ReceiverSettleMode) -> Disposition {
+    Disposition {
         settled: mode == ReceiverSettleMode::First,
-        state: Some(state),
-        batchable: false,
-    })
+        state: Some(Raw::accepted()),
+        ..Disposition::new(Role::Receiver, first)
+    }
 }

@@ -184,13 +184,8 @@ impl Broker {
         };
         let consumer = *consumer;
         let number = self.next_delivery(consumer.session);
-        let asked = consumer.send(
-            self.alloc,
-            number,
-            &message,
-            self.max_piece_len,
-            &mut self.inputs,
-        );
+        let limit = self.engine.max_piece_len();
+        let asked = consumer.send(self.alloc, number, &message, limit, &mut self.inputs);
         if consumer.is_settled || asked.is_err() {
             drop(message);
             return asked;
