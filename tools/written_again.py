@@ -4,8 +4,8 @@
     tools/written_again.py
 
 Each of `tools/expected_*.py` that is a program writes the rows of a program of `crates/`, `tools/definitions_read.py` the tables of
-docs/READING.md, and `tools/wrong_bodies.py` docs/WRONG_BODIES.md. A file that comes out otherwise than it is stored is named, and put back as it
-was: then run its tool by hand, and see what changed. The last line is 'N passed, M failed', a tool each.
+docs/READING.md, and `tools/wrong_bodies.py` docs/WRONG_BODIES.md. A file that comes out otherwise than it is stored is named, and put
+back as it was: then run its tool by hand, and see what changed. The last line is 'N passed, M failed', a tool each.
 """
 
 import subprocess

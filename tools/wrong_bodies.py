@@ -4,10 +4,10 @@
     tools/wrong_bodies.py            says where docs/WRONG_BODIES.md differs from what the edits say; status 1 if it does
     tools/wrong_bodies.py --write    writes the page
 
-An edit is a file of crates/NAME/must-fail-together. Its line 'function:' names what it makes wrong, by its path in that crate, and the page has a
-line for each function that is named so. An edit in a folder of no library, one without that line, and one whose function no source of the crate
-has, stands in no line: it is named, nothing is written, and the status is 1. Below the lines of a crate stand its public functions that no edit
-names; those of traits are not among them.
+An edit is a file of crates/NAME/must-fail-together. Its line 'function:' names what it makes wrong, by its path in that crate, and the
+page has a line for each function that is named so. An edit in a folder of no library, one without that line, and one whose function no
+source of the crate has, stands in no line: it is named, nothing is written, and the status is 1. Below the lines of a crate stand its
+public functions that no edit names; those of traits are not among them.
 """
 
 import difflib
@@ -29,12 +29,12 @@ HEAD = """# Wrong bodies that the prover has to refuse
 Written by `tools/wrong_bodies.py --write` from the line `function:` of each edit: do not write here by hand.
 
 An edit puts a wrong body in the place of a function's, and its name says what is wrong with it. It stands in
-`crates/NAME/must-fail-together/EDIT.edit`. `tools/refused_together.py NAME/EDIT` tries it, and the gate tries all: it passes where a goal of
-that very function cannot be proved. Most laws have no code to change: an edit of one changes its statement, or a definition, whose file then stands
-behind the edit's name, and shows nothing of the code. What the contracts say is in [CLAIMS.md](CLAIMS.md).
+`crates/NAME/must-fail-together/EDIT.edit`. `tools/refused_together.py NAME/EDIT` tries it, and the gate tries all: it passes where a goal
+of that very function cannot be proved. Most laws have no code to change: an edit of one changes its statement, or a definition, whose file
+then stands behind the edit's name, and shows nothing of the code. What the contracts say is in [CLAIMS.md](CLAIMS.md).
 
-Below a table are the crate's public functions, those of traits left out, that no edit names. They are proved as all others are; that their contracts
-refuse a wrong body no edit shows, but for what they leave to a function that one names.
+Below a table stand the crate's public functions that no edit names, those of traits left out. They are proved as all others are; many of
+them only call functions that an edit names.
 """
 
 
