@@ -13,6 +13,7 @@ public functions that no edit names; those of traits are not among them.
 import difflib
 import re
 import sys
+import textwrap
 from pathlib import Path
 
 from api import methods
@@ -75,7 +76,8 @@ def section(crate, edits):
     lines = ["", f"## `{crate.name}`", "", f"{len(edits)} edits of {len(of)} functions.", "", "| Function or law | Edits |", "|---|---|"]
     lines += [f"| `{function}` | {', '.join(edit.told() for edit in them)} |" for function, them in of.items()]
     lacking = sorted({*public(crate)} - {*of})
-    return lines + (["", f"Named by none: {', '.join(f'`{it}`' for it in lacking)}."] if lacking else [])
+    said = f"Named by none: {', '.join(f'`{it}`' for it in lacking)}."
+    return lines + (["", *textwrap.wrap(said, 140, break_long_words=False)] if lacking else [])
 
 
 def without_line(edits, crates):
