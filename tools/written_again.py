@@ -3,9 +3,9 @@
 
     tools/written_again.py
 
-Each of `tools/expected_*.py` that is a program writes the rows of a program of `crates/`, and `tools/definitions_read.py` the tables of
-docs/READING.md. A file that comes out otherwise than it is stored is named, and put back as it was: then run its tool by hand, and see what
-changed. The last line is 'N passed, M failed', a tool each.
+Each of `tools/expected_*.py` that is a program writes the rows of a program of `crates/`, `tools/definitions_read.py` the tables of
+docs/READING.md, and `tools/wrong_bodies.py` docs/WRONG_BODIES.md. A file that comes out otherwise than it is stored is named, and put
+back as it was: then run its tool by hand, and see what changed. The last line is 'N passed, M failed', a tool each.
 """
 
 import subprocess
@@ -15,12 +15,13 @@ from pathlib import Path
 from command import command
 
 ROOT = Path(__file__).resolve().parent.parent
+PAGES = [ROOT / "docs" / "READING.md", ROOT / "docs" / "WRONG_BODIES.md"]
 
 
 def stored():
     """What is stored of the files that such tools write."""
-    files = [*ROOT.glob("crates/*/stdin"), *ROOT.glob("crates/*/stdout"), ROOT / "docs" / "READING.md"]
-    return {file: file.read_bytes() for file in files}
+    files = [*ROOT.glob("crates/*/stdin"), *ROOT.glob("crates/*/stdout"), *PAGES]
+    return {file: file.read_bytes() for file in files if file.exists()}
 
 
 def tools():
@@ -29,6 +30,7 @@ def tools():
         if "__main__" in tool.read_text():
             yield tool, []
     yield ROOT / "tools" / "definitions_read.py", ["--write"]
+    yield ROOT / "tools" / "wrong_bodies.py", ["--write"]
 
 
 def write_again(tool, words):

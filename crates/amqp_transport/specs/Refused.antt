@@ -1,5 +1,5 @@
 -- What was refused among answers, and of which input.
-use Rattle.std.specs.Prelude.{◌≡◌, ℕ, ◌+◌, ◌-◌, ◌^◌, min, List, [], ◌∷◌, Option, Some, None, Bool, true, false, if◌then◌else◌}
+use Rattle.std.specs.Prelude.{ℕ, ◌+◌, ◌-◌, ◌^◌, min, List, [], ◌∷◌, Option, Some, None, Bool, true, false, if◌then◌else◌}
 use Rattle.amqp_engine.specs.declared.engine.answer.Answer.{Answer}
 use Rattle.amqp_engine.specs.declared.engine.answer.Answer.TheVariants as answer
 

@@ -1,9 +1,11 @@
 //! Running an engine over a reader and a writer: what it is to send is written, and what it refuses is the caller's to look at.
 
-ghost use Rattle.std.specs.Prelude.{◌≡◌, ◌++◌, ◌∷◌, [], OnOk, MatchResult};
-ghost use Rattle.amqp_engine.specs.Promise.{NoneLeft};
+ghost use Rattle.std.specs.Prelude.{◌≡◌, ◌++◌, ◌∷◌, [], IfOk, OnOk, MatchResult};
+ghost use Rattle.amqp_engine.specs.declared.engine.input.Input.TheVariants as input;
+ghost use Rattle.amqp_transport.specs.Running.{ReceivesAll, TakesAll};
 
 use crate::stream::{next_frame, write_piece};
+use amqp_engine::laws::law_of_histories;
 use fe2o3_amqp::definitions::Error;
 use fe2o3_amqp::{Answer, Engine, Input, LinkRelay};
 use std::alloc::Global;
@@ -16,7 +18,7 @@ const TRIES: u32 = 3;
 /// Runs the inputs, and writes what is to be sent to `output`. The answers go behind those that `answers` holds: what was refused is among
 /// them, in the order of the inputs, and `Refusals` tells of each which input it is of. An `Out` that was written is left empty.
 ///
-/// `Ok` means that no input is left and no frame waits in the engine. Where memory is refused it goes on with the inputs that are left. After a
+/// `Ok` means that each input was taken, in order, that none is left, and that no frame waits in the engine. Where memory is refused it goes on with the inputs that are left. After a
 /// few tries it answers `OutOfMemory`; those that were not taken are still in `inputs`, frames may wait in the engine, and a later call goes on.
 /// After an error of `output` the stream is of no use.
 pub fn run<R: LinkRelay, O: Write>(
@@ -25,8 +27,9 @@ pub fn run<R: LinkRelay, O: Write>(
     answers: &mut Vec<Answer>,
     output: &mut O,
 ) -> io::Result<()>
-    ensures { OnOk result (NoneLeft inputs.new.items engine.new) }
+    ensures { OnOk result (TakesAll R.gives engine.old inputs.old.items engine.new inputs.new.items) }
 {
+    law_of_histories::<R>();
     for _ in 0..TRIES {
         let told = answers.len();
         let outcome = engine.run(inputs, answers);
@@ -61,16 +64,16 @@ pub fn receive<R: LinkRelay, I: BufRead, O: Write>(
     input: &mut I,
     output: &mut O,
 ) -> io::Result<bool>
-    ensures { OnOk result (NoneLeft inputs.new.items engine.new) }
+    ensures { IfOk result (ReceivesAll R.gives engine.old inputs.old.items engine.new inputs.new.items) }
 {
     let max_frame_size = engine.connection().local_open().max_frame_size;
-    let frame = next_frame(alloc, input, max_frame_size)?;
-    let is_some = frame.is_some();
-    if let Some(frame) = frame {
-        push(inputs, Input::Received(frame))?;
-    }
+    let Some(frame) = next_frame(alloc, input, max_frame_size)? else {
+        run(engine, inputs, answers, output)?;
+        return Ok(false);
+    };
+    push(inputs, Input::Received(frame))?;
     run(engine, inputs, answers, output)?;
-    Ok(is_some)
+    Ok(true)
 }
 
 /// Closes in order: the inputs that are left are run, what waits in the engine goes out, and then this side's Close, with an error or without.
@@ -85,7 +88,7 @@ pub fn close<R: LinkRelay, O: Write>(
     output: &mut O,
     error: Option<Error>,
 ) -> io::Result<()>
-    ensures { OnOk result (NoneLeft inputs.new.items engine.new) }
+    ensures { OnOk result (TakesAll R.gives engine.old (inputs.old.items ++ input.Close error ∷ []) engine.new inputs.new.items) }
 {
     push(inputs, Input::Close(error))?;
     run(engine, inputs, answers, output)
