@@ -184,6 +184,7 @@ def codec(rows):
     rows.ask(f"call encode 40 02000000{long}", *(out(it) for it in pieces), "encode done")
     rows.ask(f"call split 44 02000000{long}", "split three parts")
     rows.ask("call reject amqp:not-allowed", "reject rejected")
+    rows.ask("call events", "events have room")
 
 
 def replays(rows):

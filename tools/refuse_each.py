@@ -56,6 +56,8 @@ AT_MOST = {
     "decode": TEXT,
     "encode": ONE_PIECE,
     "encode cut": CUT,
+    # the room of the queue, and the count of those who hold it
+    "events": PLACE + 1,
     "next_output": sent(1),
     # the line as it grows, and the digits of head and payload
     "out_line": 3 * PLACE + 2 * TEXT,

@@ -48,6 +48,7 @@ fn once(rt: &HostRuntime, name: &str, rest: &str) -> anyhow::Result<Came> {
         "encode" => encode(rt, rest),
         "split" => making::split(rt, rest),
         "reject" => Ok(making::reject(rt, rest)),
+        "events" => Ok(making::events(rt)),
         _ => Err(anyhow::anyhow!("no call")),
     }
 }

@@ -1,7 +1,8 @@
-//! What is made for sending: the parts of a delivery, and the outcome rejected.
+//! What is made for links: the parts of a delivery, the outcome rejected, and the room for events.
 
 use crate::codec::{Came, frame, limited};
 use crate::mark;
+use amqp_events::{Room, SharedQueue};
 use fe2o3_amqp::definitions::Error;
 use fe2o3_amqp::{
     DeliveryPart, FrameBody, Raw, ReadError, Symbol, frames, rejected, split_delivery,
@@ -71,4 +72,23 @@ fn of_outcome(outcome: &Result<Raw, ReadError>) -> Came {
         Err(ReadError::OutOfMemory) => Came::Refused,
         Err(ReadError::Malformed) => Came::To("no outcome"),
     }
+}
+
+/// `SharedQueue::with_room`, for a few events of each kind.
+pub fn events(rt: &HostRuntime) -> Came {
+    let room = Room {
+        links: 2,
+        flows: 1,
+        transfers: 8,
+        dispositions: 8,
+    };
+    mark(rt, "@run\n");
+    let queue = SharedQueue::with_room(rt.alloc(), room);
+    mark(rt, "@print\n");
+    let came = match &queue {
+        Ok(_) => Came::To("have room"),
+        Err(_) => Came::Refused,
+    };
+    drop(queue);
+    came
 }
