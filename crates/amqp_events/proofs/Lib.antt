@@ -1,2 +1,3 @@
+pub mod AttachedLemmas
 pub mod RoomLemmas
 pub mod RunLemmas

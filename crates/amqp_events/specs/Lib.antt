@@ -1,3 +1,4 @@
+pub mod Attached
 pub mod Event
 pub mod Policy
 pub mod Queue

@@ -56,7 +56,8 @@
 //!
 //! No contract can say what a cell holds, so none says what is in a [`SharedQueue`]. Therefore a relay is proved for every [`EventSink`], by the
 //! sink's relations alone; and an [`EventQueue`], which contracts see as its list of events, is a sink. The law of such a relay is
-//! [`laws::law_of_runs`]: whatever it is told in a row, its queue holds what it held, and behind that the events of the calls, in order.
+//! [`laws::law_of_runs`]: whatever it is told in a row, its queue holds what it held, and behind that the events of the calls, in order. And
+//! what a session tells it is what the session's history says: [`laws::law_of_sessions`].
 //!
 //! A contract refuses a body of the queue or of the relay by which an event is dropped, two swap, a later one overwrites another, one names
 //! another link or carries another payload, one that was refused is half there, or all are refused. What is left to a test is the six lines by
