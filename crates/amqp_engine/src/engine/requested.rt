@@ -64,7 +64,25 @@ fn begun<R: LinkRelay>(
 }
 
 impl<R: LinkRelay> Engine<R> {
+    /// Carries an input out. What comes most often, received frames and transfers, is told apart here: a function pays at its entry for the
+    /// size of its locals, those of all arms.
+    #[inline(always)]
     pub(super) fn carry_out(&mut self, input: Input<R>) -> Result<(), StepError>
+        requires { self.old.waiting ≡ [] }
+        ensures { CarriedStep R.gives self.old input (refusal_of result) self.new }
+    {
+        match input {
+            Input::Received(bytes) => self.receive(bytes),
+            Input::Transfer(number, input, transfer, payload, is_first) => {
+                self.request_transfer(number, input, transfer, payload, is_first)
+            }
+            other => self.carry_out_any(other),
+        }
+    }
+
+    /// Carries any input out.
+    #[inline(never)]
+    fn carry_out_any(&mut self, input: Input<R>) -> Result<(), StepError>
         requires { self.old.waiting ≡ [] }
         ensures { CarriedStep R.gives self.old input (refusal_of result) self.new }
     {
