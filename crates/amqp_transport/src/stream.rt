@@ -4,7 +4,8 @@ ghost use Rattle.std.specs.Prelude.{◌≡◌, ◌+◌, ℕ, List, length, None,
 ghost use Rattle.std.specs.Int.{w32, to_be_bytes};
 ghost use Rattle.std.specs.Io.KnownBytes.{Appends, Consumes, Keeps, IsAtEnd};
 ghost use Rattle.amqp_frames.specs.Piece.{piece_bytes};
-ghost use Rattle.amqp_transport.specs.Stream.{header, sized, IsSize, TakesFrame};
+ghost use Rattle.amqp_frames.specs.Wire.{sized};
+ghost use Rattle.amqp_transport.specs.Stream.{header, IsSize, TakesFrame};
 
 use bytes::Bytes;
 use fe2o3_amqp::Piece;
