@@ -83,8 +83,8 @@ impl FrameEncoder {
         self.encode_in(alloc, heads, frame)
     }
 
-    /// Appends the frame to what is to be sent: the pieces of [`FrameEncoder::encode`] in order, each behind its four-byte size. There is
-    /// no list of pieces for a frame that is whole, and no memory is asked for where the buffer has room.
+    /// Appends the frame to what is to be sent: the pieces of [`FrameEncoder::encode`] in order, each behind its four-byte size. A frame
+    /// that is whole has no list of pieces, and where its payload is copied, memory is asked for only where the buffer has no room.
     ///
     /// The errors are those of [`FrameEncoder::encode`], and of each nothing is appended: what waits is always whole frames. It answers
     /// `OutOfMemory` too where the size of a piece does not fit its four bytes, which no max-frame-size allows.
@@ -92,8 +92,9 @@ impl FrameEncoder {
         ensures { EncodesTo frame.now self.now out.old result out.new }
     {
         let limit = self.max_piece_len;
+        let room = limit - 4;
         let len = frame.body.text_len();
-        if frame.body.is_within(len, limit - 4) {
+        if frame.body.is_within(len, room) {
             whole_is_read(frame);
             out.put_frame(frame, len as usize)?;
             return Ok(());
