@@ -88,7 +88,11 @@ fn a_long_payload_is_a_chunk_of_its_own(rt: HostRuntime) -> Result<(), Fail> {
     let again = payload.clone()?;
     let mut out = SendBuffer::copying_up_to(alloc, 3);
     assert!(rt; put(alloc, &mut out, delivery(0), payload) == 0);
-    assert!(rt; FrameEncoder::new(24).encode_to(alloc, &Frame::empty(), &mut out).is_ok());
+    assert!(rt;
+        FrameEncoder::new(24)
+            .encode_to(alloc, &Frame::empty(), &mut out)
+            .is_ok()
+    );
     let mut want = WHOLE.as_slice();
     assert!(rt; takes(&mut out, 4096, &mut want) && takes(&mut out, 4096, &mut want));
     assert!(rt; chunks(&mut out, 4096, &EMPTY) == Some(1));
