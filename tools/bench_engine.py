@@ -36,7 +36,7 @@ WIDE, MANY, LINKS = 1000000, 20000, 8000
 class Row:
     """Two counts of a mode, for batches of some size, with so many deliveries open in each of some sessions."""
 
-    def __init__(self, name, mode, counts, batch, open_before=0, sessions=1, each=1, proton=None, largest=None, left=None):
+    def __init__(self, name, mode, counts, batch, open_before=0, sessions=1, each=1, proton=None, largest=None, left=None, part=None):
         self.name, self.mode, self.counts, self.batch = name, mode, counts, batch
         self.open_before, self.sessions = open_before, sessions
         # what one count stands for
@@ -44,6 +44,8 @@ class Row:
         # the largest count, and how many deliveries are open behind each
         self.largest, self.left = largest or 10**6, left
         self.proton = proton
+        # the engine's part, where it is another than to give answers
+        self.part = [part] if part else []
 
     def sessions_to_time(self):
         """So many that some thousand units are timed, where the largest count is less."""
@@ -61,7 +63,9 @@ def of_batch(batch):
     yield Row(f"receive and accept, by {batch}", "receive", counts, batch, each=batch)
     yield Row(f"receive, keep, accept and settle, by {batch}", "named", counts, batch, each=batch, proton=f"receive {batch}", left=lambda _: 0)
     yield Row(f"send settled, by {batch}", "send", counts, batch, each=batch, proton=f"send {batch}")
+    yield Row(f"send settled, by {batch}, into a buffer", "send", counts, batch, each=batch, proton=f"send {batch}", part="into")
     yield Row(f"send and have settled, by {batch}", "unsettled", counts, batch, each=batch, proton=f"unsettled {batch}", left=lambda _: 0)
+    yield Row(f"the same, by {batch}, into a buffer", "unsettled", counts, batch, each=batch, proton=f"unsettled {batch}", left=lambda _: 0, part="into")
 
 
 def of_width(width):
@@ -81,6 +85,11 @@ def of_order(order, width):
     counts = (0, largest) if width == 10 or order == "every second" else (200, min(600, largest))
     return Row(f"settle one of {width}, {order}", MODES[order], counts, 1, width, sessions, proton=f"{order} {width}", largest=largest,
                left=lambda count: width - count)
+
+
+def into_a_buffer(row):
+    """The same row, by an engine that sends into a buffer."""
+    return Row(f"{row.name}, into a buffer", row.mode, row.counts, row.batch, row.open_before, row.sessions, row.each, row.proton, row.largest, row.left, "into")
 
 
 def of_received(width):
@@ -120,6 +129,7 @@ def rows():
     yield Row("ten settled by 2^31 numbers", "wide", (0, 1), 10, 10, 20, largest=1)
     yield Row("settle one of ten, after 100000", "peak", (0, 10), 10, 100000)
     yield from of_widths(WIDTHS)
+    yield into_a_buffer(of_order("in order", 1000))
     yield from of_links()
 
 
@@ -149,7 +159,7 @@ def counted(program, row, count, lines, more):
         profile = Path(folder) / "profile"
         under = ["valgrind", "--tool=callgrind", f"--callgrind-out-file={profile}"]
         out, said = run(program, row.mode, count, row.batch, lines, under, [str(row.open_before), str(row.sessions), *more])
-        if not more:
+        if more != ["idle"]:
             row.check(out, count)
         return int(re.search(r"Collected : (\d+)", said).group(1)), requests_in(profile)
 
@@ -163,7 +173,7 @@ def slope(program, row, lines, more):
 
 def write_counted(program, row, lines, proton):
     """Prints the cost of a unit: of the engine alone, and of its inputs, with qpid-proton's."""
-    whole, made = slope(program, row, lines, []), slope(program, row, lines, ["idle"])
+    whole, made = slope(program, row, lines, row.part), slope(program, row, lines, ["idle"])
     beside = proton[row.proton] if row.proton else ""
     print(f"{row.name:46}{whole[0] - made[0]:10.0f}{whole[1] - made[1]:10.2f}{made[0]:10.0f}{made[1]:10.2f}{beside:>10}", flush=True)
 
@@ -180,7 +190,7 @@ def timed(program, row, lines, more):
 def write_timed(program, row, lines, proton):
     """Prints the time of a unit, as `write_counted`."""
     try:
-        whole, made = timed(program, row, lines, []), timed(program, row, lines, ["idle"])
+        whole, made = timed(program, row, lines, row.part), timed(program, row, lines, ["idle"])
         said = f"{whole - made:10.0f}{made:10.0f}"
     except TooLong:
         said = f"{'over two minutes':>20}"

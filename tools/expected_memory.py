@@ -9,7 +9,7 @@ request for memory refused in turn. Nothing is taken from the program's output.
 
 from pathlib import Path
 
-from row import LAST, OUR_CLOSE, OUR_OPEN, Rows, attach, begin, closing, detach, disposition, echo, end, flow, opening, out, recv, transfer
+from row import LAST, OUR_CLOSE, OUR_OPEN, Rows, attach, begin, closing, detach, disposition, echo, end, flow, opening, out, recv, transfer, wire
 
 CRATE = Path(__file__).resolve().parent.parent / "crates" / "memory_script"
 
@@ -58,23 +58,24 @@ def links(rows):
         rows.ask(f"send 0 {attach(name, handle)}", out(attach(name, handle)))
         rows.ask(recv(attach(name, handle), 5))
     rows.ask("link 0 a", "err DuplicatedLinkName")
+    rows.ask("into link 0 a", "err DuplicatedLinkName")
     rows.ask("link-incoming 1 3 c")
     rows.ask(f"free send 1 {attach('c', 0)}", out(attach("c", 0), 1))
     rows.ask("free getters 0", "getters as ever")
 
 
 def sends(rows):
-    """Three go out, one of them cut; three wait; a flow with an echo lets two go, and another one the rest."""
+    """Three go out, one of them cut, and one into a buffer; three wait; a flow with an echo lets two go, and another one the rest."""
     rows.ask(f"send 0 {transfer(text='a', handle=0)}ff", out(transfer(0, "a") + "ff"))
     cut(rows, 1)
-    rows.ask(f"send 0 {transfer(text='c')}fe", out(transfer(2, "c") + "fe"))
+    rows.ask(f"into send 0 {transfer(text='c')}fe", "sent " + wire(transfer(2, "c") + "fe"))
     for tag in "def":
         rows.ask(f"send 0 {transfer(text=tag)}fd")
     answer = out(flow(0, 5000, 3, 5000, 0, 3, 4, 1))
     rows.ask(recv(flow(3, 2, 0, 8, 0, 3, 4, 1, echo=True), 5), answer, *(out(transfer(n, tag) + "fd") for n, tag in [(3, "d"), (4, "e")]))
     rows.ask(f"send 0 {transfer()}fc")
     rows.ask(recv(flow(5, 1), 5), out(transfer(5, "f") + "fd"))
-    rows.ask(recv(flow(6, 9), 5), out(transfer() + "fc"))
+    rows.ask("into " + recv(flow(6, 9), 5), "sent " + wire(transfer() + "fc"))
     rows.ask(f"free send 0 {flow(None, 0, 0, 0, 0, 1, 2)}", out(flow(0, 5000, 7, 5000, 0, 1, 2)))
     rows.ask("free " + recv(flow(7, 9), 5))
 
@@ -182,6 +183,9 @@ def codec(rows):
     pieces = [first + "78" * rooms[0], middle + "78" * rooms[1], last + "78" * 5]
     long = transfer(0, "b") + "78" * (sum(rooms) + 5)
     rows.ask(f"call encode 40 02000000{long}", *(out(it) for it in pieces), "encode done")
+    rows.ask(f"call encode-to 512 02000000{whole}ff {wire(whole + 'ff')}", "encode-to the same")
+    rows.ask(f"call encode-to 512 02000000{whole}{'78' * 9} {wire(whole + '78' * 9)}", "encode-to the same")
+    rows.ask(f"call encode-to 40 02000000{long} {''.join(wire(it) for it in pieces)}", "encode-to the same")
     rows.ask(f"call split 44 02000000{long}", "split three parts")
     rows.ask("call reject amqp:not-allowed", "reject rejected")
     rows.ask("call events", "events have room")

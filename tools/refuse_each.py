@@ -35,6 +35,8 @@ ROOT = Path(__file__).resolve().parent.parent
 ANSWER = PLACE = TEXT = 1
 IN_MAP = 4
 BUFFER = 2
+# What waits to be sent: the bytes of the buffer.
+BYTES = 1
 # A record of an open delivery: where its table is empty, a list of blocks, one of their ends, one of spare rings, and a ring.
 RECORD = 4 * PLACE
 # A frame alone: the list of pieces, and the bytes of the head. A cut one: the list, the first head, the one that all in the middle share, the last.
@@ -56,6 +58,9 @@ AT_MOST = {
     "decode": TEXT,
     "encode": ONE_PIECE,
     "encode cut": CUT,
+    # the buffer, or beside it the count of a shared payload's owners, and its place
+    "encode-to": BYTES + 1 + PLACE,
+    "encode-to cut": CUT + 1 + PLACE + BYTES,
     # the room of the queue, and the count of those who hold it
     "events": PLACE + 1,
     "next_output": sent(1),
@@ -79,6 +84,10 @@ AT_MOST = {
     "received End": ANSWER + 2 * TEXT,
     # the container's name
     "received Open": ANSWER + TEXT,
+    # by a run that sends into a buffer: the place of a refusal in place of the answer's, and the buffer
+    "into received Flow": PLACE + PLACE + RECORD + BYTES,
+    "into request AllocateLink": PLACE + TEXT + PLACE + IN_MAP,
+    "into request Transfer": PLACE + RECORD + BYTES,
     # the record, the tag of a long frame, and a session flow
     "received Transfer": ANSWER + RECORD + BUFFER + sent(1),
     # as a link of this side, and a place among the input handles
@@ -151,6 +160,8 @@ class Sweep:
 
 def name_of(line):
     """What a line of the script calls."""
+    if line.startswith("into "):
+        return "into " + name_of(line.removeprefix("into "))
     word, _, rest = line.removeprefix("wished ").partition(" ")
     if word == "run":
         return "run of wishes"
@@ -159,7 +170,7 @@ def name_of(line):
     if word in ("send", "detach"):
         return "request " + TABLES[int(rest.split(" ")[1][4:6], 16)][0]
     if word == "call":
-        return rest.split(" ")[0] + (" cut" if rest.startswith("encode 40 ") else "")
+        return rest.split(" ")[0] + (" cut" if rest.startswith(("encode 40 ", "encode-to 40 ")) else "")
     names = {"open": "Open", "close": "Close", "begin": "Begin", "end": "End", "release": "Release", "forget": "Forget", "link": "AllocateLink",
              "link-incoming": "AllocateIncomingLink", "settle": "Settle"}
     return "request " + names[word] if word in names else word

@@ -138,6 +138,12 @@ def out(body, channel=0):
     return f"out 020000{channel:02x}{body}"
 
 
+def wire(body, channel=0):
+    """The frame as it goes out, behind its size, which counts its own four bytes."""
+    frame = out(body, channel).removeprefix("out ")
+    return f"{len(frame) // 2 + 4:08x}{frame}"
+
+
 OUR_OPEN = out(opening("replay", 262144, 255))
 OUR_CLOSE = out(closing())
 

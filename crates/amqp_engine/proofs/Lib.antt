@@ -31,6 +31,7 @@ pub mod Staying
 pub mod KeptOutcomes
 pub mod RunLemmas
 pub mod Running
+pub mod Sending
 pub mod Refusing
 pub mod Hearing
 pub mod Viewed

@@ -18,6 +18,7 @@ pub mod Promise
 pub mod Views
 pub mod Stepped
 pub mod Ran
+pub mod RunInto
 pub mod TwoRuns
 pub mod OneFrame
 pub mod Handles

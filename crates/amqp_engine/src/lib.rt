@@ -5,5 +5,5 @@ mod engine;
 mod handles;
 pub mod laws;
 
-pub use engine::{Answer, Engine, Input, OutputError, StepError, Stopped};
+pub use engine::{Answer, Engine, Input, OutputError, Refusal, StepError, Stopped};
 pub use handles::{ConnectionHandle, HandledEngine, SessionHandle};

@@ -6,3 +6,5 @@ pub mod RoundTripLaws
 pub mod DecodedAgain
 pub mod Rooms
 pub mod Splitting
+pub mod Weaving
+pub mod Sent

@@ -10,3 +10,5 @@ pub mod Pieces
 pub mod RoundTrip
 pub mod Split
 pub mod Parts
+pub mod Woven
+pub mod Wire

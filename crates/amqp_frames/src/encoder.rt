@@ -7,6 +7,7 @@ ghost use Rattle.amqp_frames.specs.Cut.{Encodes, IsWholePiece, Whole, room_besid
 ghost use Rattle.amqp_frames.specs.Heads.{CutsHead, CutsOff, CutsOrLeaves, RoomAfter};
 ghost use Rattle.amqp_frames.specs.Piece.{piece_bytes};
 ghost use Rattle.amqp_frames.specs.ReadBack.{DecodesTo};
+ghost use Rattle.amqp_frames.specs.Wire.{EncodesTo};
 
 use crate::cut::cut;
 use crate::error::Error;
@@ -15,9 +16,13 @@ use crate::head::whole_head;
 use crate::heads::{HeadRoom, Heads, OwnRoom};
 use crate::laws::whole_is_read;
 use crate::piece::Piece;
+use crate::send_buffer::SendBuffer;
 use amqp_types::{Transfer, TransferText};
 use std::alloc::{AllocError, Global};
 use std::marker::Model;
+
+/// The most bytes of a piece whose size fits four bytes.
+const MOST_SIZED: u32 = u32::MAX - 4;
 
 /// Encodes frames for a peer, into pieces that are no longer than the peer takes.
 #[derive(Clone, Debug, Drop)]
@@ -76,6 +81,30 @@ impl FrameEncoder {
         ensures room { RoomAfter CutsHead heads.old frame.now self.now result heads.new }
     {
         self.encode_in(alloc, heads, frame)
+    }
+
+    /// Appends the frame to what is to be sent: the pieces of [`FrameEncoder::encode`] in order, each behind its four-byte size. A frame
+    /// that is whole has no list of pieces, and where its payload is copied, memory is asked for only where the buffer has no room.
+    ///
+    /// The errors are those of [`FrameEncoder::encode`], and of each nothing is appended: what waits is always whole frames. It answers
+    /// `OutOfMemory` too where the size of a piece does not fit its four bytes, which no max-frame-size allows.
+    pub fn encode_to(&self, alloc: Global, frame: &Frame, out: &mut SendBuffer) -> Result<(), Error>
+        ensures { EncodesTo frame.now self.now out.old result out.new }
+    {
+        let limit = self.max_piece_len;
+        let room = limit - 4;
+        let len = frame.body.text_len();
+        if frame.body.is_within(len, room) {
+            whole_is_read(frame);
+            out.put_frame(frame, len as usize)?;
+            return Ok(());
+        }
+        let pieces = in_pieces(alloc, frame, limit)?;
+        if limit > MOST_SIZED {
+            return Err(Error::OutOfMemory);
+        }
+        out.put_pieces(pieces)?;
+        Ok(())
     }
 
     /// How many bytes of payload fit beside this transfer in one piece; `None` where its own text does not fit.

@@ -9,9 +9,12 @@ pub mod frame;
 mod head;
 mod heads;
 pub mod laws;
+mod laying;
 pub mod piece;
+pub mod send_buffer;
 pub mod split;
 mod text;
+mod woven;
 
 pub use decoder::{FrameDecoder, FrameHead};
 pub use encoder::FrameEncoder;
@@ -19,4 +22,5 @@ pub use error::Error;
 pub use frame::{Frame, FrameBody};
 pub use heads::Heads;
 pub use piece::Piece;
+pub use send_buffer::SendBuffer;
 pub use split::{DeliveryPart, split_delivery};

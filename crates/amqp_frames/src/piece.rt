@@ -87,9 +87,17 @@ impl Piece {
         &self.payload
     }
 
+    /// The part of the payload, moved out.
+    pub(crate) fn into_payload(self) -> Bytes
+        ensures { result ≡ self.payload }
+    {
+        self.payload
+    }
+
     /// Its length in bytes: at most the limit of the encoder that made it. Takes no memory.
     pub fn len(&self) -> usize
-        ensures { result ≡ length (piece_bytes self.now) }
+        ensures value { result ≡ length (piece_bytes self.now) }
+        ensures bound { result < 2 ^ 32 }
     {
         self.head().len() + self.payload.len()
     }

@@ -1,5 +1,5 @@
 -- Runs of a transport, one behind the other: the inputs that they took, and the history that goes on by them.
-use Rattle.std.proofs.Common.{◌≡◌, List, [], ◌∷◌, ◌++◌, true, Result, Ok, Err, OnOk, refl, ap, sym, subst, ◌∙◌, append_assoc}
+use Rattle.std.proofs.Common.{◌≡◌, ℕ, List, [], ◌∷◌, ◌++◌, true, Result, Ok, Err, OnOk, refl, ap, sym, subst, ◌∙◌, append_assoc}
 use Rattle.std.proofs.lemmas.List.{append-nil}
 use Rattle.amqp_types.specs.declared.states.ConnectionState.{ConnectionState}
 use Rattle.amqp_types.specs.Open.{OpenSaid}
@@ -14,6 +14,8 @@ use Rattle.amqp_engine.specs.Headline.{Headline}
 use Rattle.amqp_engine.specs.Legal.{Legal}
 use Rattle.amqp_engine.specs.Promise.{Ends, GoesOn, NoneLeft, inputs_of}
 use Rattle.amqp_engine.specs.Ran.{Ran}
+use Rattle.amqp_engine.specs.RunInto.{RanInto}
+use Rattle.amqp_engine.specs.declared.engine.refusal.Refusal.{Refusal}
 use Rattle.amqp_transport.specs.Running.{TakesAll}
 
 -- a front of the inputs was taken
@@ -36,7 +38,7 @@ none g law v inputs = record {
   goes_on = λ s o H l. subst (λ T. Legal g s o T v × Headline s o T) (sym (append-nil H)) (l, law s o H v l);
 }
 
-pub more : {R : Type 0} (g : Relays R) (v u w : EngineView R) (inputs mid left : List (Input R)) (answers after : List Answer)
+more : {R : Type 0} (g : Relays R) (v u w : EngineView R) (inputs mid left : List (Input R)) (answers after : List Answer)
     → Took g v inputs u mid → Ran g [] u mid answers w left after → Took g v inputs w left
 more g v u w inputs mid left answers after t r = record {
   entries = t.entries ++ r.entries;
@@ -44,6 +46,11 @@ more g v u w inputs mid left answers after t r = record {
       ∙ ap (λ (is : List (Input _)). is ++ left) (sym (inputs_both t.entries r.entries));
   goes_on = λ s o H l. subst (λ T. Legal g s o T w × Headline s o T) (append_assoc H t.entries r.entries) (r.promise.goes_on s o (H ++ t.entries) (t.goes_on s o H l).0);
 }
+
+-- a run into a buffer is a run
+pub more_into : {R : Type 0} (g : Relays R) (v u w : EngineView R) (inputs mid left : List (Input R)) (out out' : List ℕ) (refusals refusals' : List Refusal)
+    → Took g v inputs u mid → RanInto g u mid out refusals w left out' refusals' → Took g v inputs w left
+more_into g v u w inputs mid left out out' refusals refusals' t r = more g v u w inputs mid left [] r.0 t r.1
 
 pub all : {R : Type 0} (g : Relays R) (v w : EngineView R) (inputs left : List (Input R)) → Took g v inputs w left → NoneLeft left w → TakesAll g v inputs w left
 all g v w inputs left t n = record {

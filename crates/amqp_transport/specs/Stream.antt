@@ -1,15 +1,11 @@
 -- The stream: the protocol header, and frames behind their sizes (AMQP 1.0 part 2, sections 2.2 and 2.3).
 use Rattle.std.specs.Prelude.{◌≡◌, ◌≤◌, ◌+◌, ℕ, List, [], ◌∷◌, ◌++◌, length, Option}
-use Rattle.std.specs.Int.{w32, to_be_bytes, from_be_bytes}
+use Rattle.std.specs.Int.{w32, from_be_bytes}
 use Rattle.std.specs.Io.KnownBytes.{Consumes}
 
 -- the protocol header: AMQP, then 0 1 0 0
 abbrev pub header : List ℕ
 header = 0x41 ∷ 0x4d ∷ 0x51 ∷ 0x50 ∷ 0 ∷ 1 ∷ 0 ∷ 0 ∷ []
-
--- a frame behind its size, which counts its own four bytes
-abbrev pub sized : List ℕ → List ℕ
-sized frame = to_be_bytes w32 (length frame + 4) ++ frame
 
 -- four bytes that spell a size
 pub record IsSize (size : List ℕ) (n : ℕ) : Type 0 where

@@ -1,4 +1,4 @@
-//! A transport for an engine, over any reader and any writer: protocol headers, sizes, and what the engine answers.
+//! A transport for an engine, over any reader and any writer: protocol headers, sizes, and runs whose output is written.
 //!
 //! Sockets, TLS, SASL and heartbeats are the caller's. For a server there are two things besides: [`turn_begin`], by which a session that
 //! the peer begins is served, and [`marked_name`], by which a sender and a receiver may share a link's name.
@@ -6,13 +6,11 @@
 
 pub mod laws;
 mod link_names;
-mod refused;
 mod running;
 mod stream;
 mod turning;
 
 pub use link_names::{marked_name, plain_name};
-pub use refused::{Refusal, Refusals};
 pub use running::{close, push, receive, run};
-pub use stream::{exchange_headers, next_frame, write_frame, write_piece};
+pub use stream::{exchange_headers, next_frame, write_frame, write_out, write_piece};
 pub use turning::{BeginSessionError, TurnError, Turned, begin_session, turn_begin};

@@ -2,12 +2,12 @@
 
 ghost use Rattle.std.specs.Prelude.{◌≡◌, ◌++◌, ◌∷◌, [], IfOk, OnOk, MatchResult};
 ghost use Rattle.amqp_engine.specs.declared.engine.input.Input.TheVariants as input;
-ghost use Rattle.amqp_transport.specs.Running.{ReceivesAll, TakesAll};
+ghost use Rattle.amqp_transport.specs.Running.{ReceivesAll, TakesAll, counted_on, place_on};
 
-use crate::stream::{next_frame, write_piece};
+use crate::stream::{next_frame, write_out};
 use amqp_engine::laws::law_of_histories;
 use fe2o3_amqp::definitions::Error;
-use fe2o3_amqp::{Answer, Engine, Input, LinkRelay};
+use fe2o3_amqp::{Engine, Input, LinkRelay, Refusal, SendBuffer};
 use std::alloc::Global;
 use std::collections::VecDeque;
 use std::io::{self, BufRead, ErrorKind, Write};
@@ -15,8 +15,8 @@ use std::io::{self, BufRead, ErrorKind, Write};
 /// How often a run that met refused memory is tried again.
 const TRIES: u32 = 3;
 
-/// Runs the inputs, and writes what is to be sent to `output`. The answers go behind those that `answers` holds: what was refused is among
-/// them, in the order of the inputs, and `Refusals` tells of each which input it is of. An `Out` that was written is left empty.
+/// Runs the inputs, and writes what is to be sent to `output`, by way of `out`, which is empty before and behind a run that is `Ok`. What is
+/// refused goes behind what `refusals` holds; the place that a refusal tells counts the inputs of this call, from 0.
 ///
 /// `Ok` means that each input was taken, in order, that none is left, and that no frame waits in the engine. Where memory is refused it goes on with the inputs that are left. After a
 /// few tries it answers `OutOfMemory`; those that were not taken are still in `inputs`, frames may wait in the engine, and a later call goes on.
@@ -24,18 +24,22 @@ const TRIES: u32 = 3;
 pub fn run<R: LinkRelay, O: Write>(
     engine: &mut Engine<R>,
     inputs: &mut VecDeque<Input<R>>,
-    answers: &mut Vec<Answer>,
+    out: &mut SendBuffer,
+    refusals: &mut Vec<Refusal>,
     output: &mut O,
 ) -> io::Result<()>
     ensures { OnOk result (TakesAll R.gives engine.old inputs.old.items engine.new inputs.new.items) }
 {
     law_of_histories::<R>();
+    let total = inputs.len();
     for _ in 0..TRIES {
-        let told = answers.len();
-        let outcome = engine.run(inputs, answers);
-        for answer in answers.iter_mut().skip(told) {
-            write_answer(answer, output)?;
+        let taken = total.saturating_sub(inputs.len());
+        let told = refusals.len();
+        let outcome = engine.run_into(inputs, out, refusals);
+        for refusal in refusals.iter_mut().skip(told) {
+            count_on(refusal, taken);
         }
+        write_out(out, output)?;
         if outcome.is_ok() {
             return output.flush();
         }
@@ -43,15 +47,24 @@ pub fn run<R: LinkRelay, O: Write>(
     Err(io::Error::from(ErrorKind::OutOfMemory))
 }
 
-/// Writes the pieces of an answer, and lets them go.
-fn write_answer<O: Write>(answer: &mut Answer, output: &mut O) -> io::Result<()> {
-    if let Answer::Out(pieces) = answer {
-        for piece in pieces.iter() {
-            write_piece(piece, output)?;
-        }
-        pieces.clear();
+/// The refusal of a try, before which so many inputs were taken, tells its place among all of them.
+fn count_on(refusal: &mut Refusal, taken: usize)
+    ensures { refusal.new ≡ counted_on taken refusal.old }
+{
+    match refusal {
+        Refusal::Input { place, error: _ } => *place = place.saturating_add(taken),
+        Refusal::Frame { place, frame: _ } => *place = place_on(*place, taken),
     }
-    Ok(())
+}
+
+/// A frame that waited from before a try was handed out by the last input that was taken before it, if any was.
+fn place_on(place: Option<usize>, taken: usize) -> Option<usize>
+    ensures { result ≡ place_on taken place }
+{
+    match place {
+        Some(place) => Some(place.saturating_add(taken)),
+        None => taken.checked_sub(1),
+    }
 }
 
 /// Reads a frame, behind the inputs that are left, and runs as [`run`] does. `false` where the input ended in front of one: then too what
@@ -60,7 +73,8 @@ pub fn receive<R: LinkRelay, I: BufRead, O: Write>(
     alloc: Global,
     engine: &mut Engine<R>,
     inputs: &mut VecDeque<Input<R>>,
-    answers: &mut Vec<Answer>,
+    out: &mut SendBuffer,
+    refusals: &mut Vec<Refusal>,
     input: &mut I,
     output: &mut O,
 ) -> io::Result<bool>
@@ -68,11 +82,11 @@ pub fn receive<R: LinkRelay, I: BufRead, O: Write>(
 {
     let max_frame_size = engine.connection().local_open().max_frame_size;
     let Some(frame) = next_frame(alloc, input, max_frame_size)? else {
-        run(engine, inputs, answers, output)?;
+        run(engine, inputs, out, refusals, output)?;
         return Ok(false);
     };
     push(inputs, Input::Received(frame))?;
-    run(engine, inputs, answers, output)?;
+    run(engine, inputs, out, refusals, output)?;
     Ok(true)
 }
 
@@ -84,14 +98,15 @@ pub fn receive<R: LinkRelay, I: BufRead, O: Write>(
 pub fn close<R: LinkRelay, O: Write>(
     engine: &mut Engine<R>,
     inputs: &mut VecDeque<Input<R>>,
-    answers: &mut Vec<Answer>,
+    out: &mut SendBuffer,
+    refusals: &mut Vec<Refusal>,
     output: &mut O,
     error: Option<Error>,
 ) -> io::Result<()>
     ensures { OnOk result (TakesAll R.gives engine.old (inputs.old.items ++ input.Close error ∷ []) engine.new inputs.new.items) }
 {
     push(inputs, Input::Close(error))?;
-    run(engine, inputs, answers, output)
+    run(engine, inputs, out, refusals, output)
 }
 
 /// Puts an input, or whatever it is, behind the others. `OutOfMemory` where memory is refused: the item is dropped then.

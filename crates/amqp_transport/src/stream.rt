@@ -1,13 +1,14 @@
 //! The stream: the protocol header, and the size before each frame (AMQP 1.0 part 2, sections 2.2 and 2.3).
 
-ghost use Rattle.std.specs.Prelude.{◌≡◌, ◌+◌, ℕ, List, length, None, IfSome, IfOk, OnOk, IsTrue};
+ghost use Rattle.std.specs.Prelude.{◌≡◌, ◌+◌, ◌<◌, ◌++◌, ℕ, List, [], length, None, IfSome, IfOk, OnOk, IsTrue};
 ghost use Rattle.std.specs.Int.{w32, to_be_bytes};
 ghost use Rattle.std.specs.Io.KnownBytes.{Appends, Consumes, Keeps, IsAtEnd};
 ghost use Rattle.amqp_frames.specs.Piece.{piece_bytes};
-ghost use Rattle.amqp_transport.specs.Stream.{header, sized, IsSize, TakesFrame};
+ghost use Rattle.amqp_frames.specs.Wire.{sized};
+ghost use Rattle.amqp_transport.specs.Stream.{header, IsSize, TakesFrame};
 
 use bytes::Bytes;
-use fe2o3_amqp::Piece;
+use fe2o3_amqp::{Piece, SendBuffer};
 use std::alloc::Global;
 use std::io::{self, BufRead, ErrorKind, Read, Write};
 
@@ -76,6 +77,30 @@ fn read_bytes<I: Read>(alloc: Global, input: &mut I, len: usize) -> io::Result<B
     let mut frame = vec![in alloc; 0; len]?;
     input.read_exact(frame.as_mut_slice())?;
     Ok(Bytes::from_vec(frame)?)
+}
+
+/// Writes what waits to be sent, and takes it off. After an error the stream is of no use: part of it may be written.
+pub fn write_out<O: Write>(out: &mut SendBuffer, output: &mut O) -> io::Result<()>
+    ensures written { OnOk result (Appends (O.contents output.old) (O.contents output.new) out.old) }
+    ensures empty { OnOk result (out.new ≡ []) }
+{
+    while !out.is_empty() {
+        write_chunk(out, output)?;
+    }
+    Ok(())
+}
+
+/// Writes the bytes that lie together at the front, and takes them off.
+fn write_chunk<O: Write>(out: &mut SendBuffer, output: &mut O) -> io::Result<()>
+    requires { 0 < length out.old }
+    ensures { OnOk result ((chunk : List ℕ) × (0 < length chunk) × (out.old ≡ chunk ++ out.new)
+        × Appends (O.contents output.old) (O.contents output.new) chunk) }
+{
+    let chunk = out.chunk();
+    let len = chunk.len();
+    output.write_all(chunk)?;
+    out.advance(len);
+    Ok(())
 }
 
 /// Writes a piece behind its size, which counts its own four bytes. The payload is not copied.

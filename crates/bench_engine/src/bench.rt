@@ -2,9 +2,22 @@
 
 use crate::relay::Relay;
 use bytes::Bytes;
-use fe2o3_amqp::{Answer, ConnectionState, Engine, Input, Open, Piece, SessionNo};
+use fe2o3_amqp::{
+    Answer, ConnectionState, Engine, Input, Open, Piece, Refusal, SendBuffer, SessionNo,
+};
 use std::alloc::{AllocError, Global};
 use std::collections::VecDeque;
+
+/// What the engine does with the inputs that are measured.
+#[derive(Clone, Copy, PartialEq)]
+pub enum Part {
+    /// It runs them, and gives a list of answers.
+    Answers,
+    /// It runs them, and sends into one buffer.
+    Into,
+    /// It drops them.
+    Idle,
+}
 
 /// What is to be done.
 #[derive(Drop)]
@@ -13,7 +26,7 @@ pub struct Plan {
     pub batch: u32,
     pub open: u32,
     pub sessions: u16,
-    pub is_idle: bool,
+    pub part: Part,
     pub peer_open: Bytes,
     pub transfer: Bytes,
     pub payload: Bytes,
@@ -27,9 +40,9 @@ pub struct Seen {
     pub done: u64,
     /// How many were refused.
     pub refused: u64,
-    /// How many frames came out.
+    /// How many frames came out, in answers.
     pub frames: u64,
-    /// A sum over their pieces.
+    /// A sum over their pieces; of a buffer, how many bytes it was sent.
     pub sum: u64,
 }
 
@@ -39,8 +52,10 @@ pub struct Bench {
     engine: Engine<Relay>,
     inputs: VecDeque<Input<Relay>>,
     answers: Vec<Answer>,
+    out: SendBuffer,
+    refusals: Vec<Refusal>,
     seen: Seen,
-    is_idle: bool,
+    part: Part,
 }
 
 impl Seen {
@@ -107,13 +122,15 @@ fn open(alloc: Global) -> Open {
 
 impl Bench {
     /// An engine without sessions. An idle one is only set up.
-    pub fn new(alloc: Global, is_idle: bool) -> Bench {
+    pub fn new(alloc: Global, part: Part) -> Bench {
         Bench {
             engine: Engine::new(alloc, ConnectionState::HeaderExchange, open(alloc)),
             inputs: VecDeque::new(alloc),
             answers: Vec::new(alloc),
+            out: SendBuffer::new(alloc),
+            refusals: Vec::new(alloc),
             seen: Seen::new(),
-            is_idle,
+            part,
         }
     }
 
@@ -141,18 +158,47 @@ impl Bench {
         self.inputs.len()
     }
 
+    /// Runs the inputs, and looks at what comes of them.
+    pub fn run(&mut self) -> anyhow::Result<()> {
+        match self.part {
+            Part::Into => self.run_into(),
+            _ => self.run_to_answers(),
+        }
+    }
+
     /// Runs the inputs, and looks at the answers where they stand.
     #[inline(never)]
-    pub fn run(&mut self) -> anyhow::Result<()> {
+    fn run_to_answers(&mut self) -> anyhow::Result<()> {
         self.engine.run(&mut self.inputs, &mut self.answers)?;
         self.seen.see_all(self.answers.as_slice());
         self.answers.clear();
         Ok(())
     }
 
+    /// Runs the inputs, and takes the chunks off that are to be sent.
+    #[inline(never)]
+    fn run_into(&mut self) -> anyhow::Result<()> {
+        let given = self.inputs.len() as u64;
+        self.engine
+            .run_into(&mut self.inputs, &mut self.out, &mut self.refusals)?;
+        let refused = self.refusals.len() as u64;
+        self.seen.done = self.seen.done.wrapping_add(given.wrapping_sub(refused));
+        self.seen.refused = self.seen.refused.wrapping_add(refused);
+        self.refusals.clear();
+        for _ in 0..u64::MAX {
+            let len = self.out.chunk().len();
+            if len == 0 {
+                return Ok(());
+            }
+            self.seen.sum = self.seen.sum.wrapping_add(len as u64);
+            self.out.advance(len);
+        }
+        Ok(())
+    }
+
     /// Runs the inputs that are measured; an idle engine drops them.
     pub fn take(&mut self) -> anyhow::Result<()> {
-        if !self.is_idle {
+        if self.part != Part::Idle {
             return self.run();
         }
         self.inputs.clear();

@@ -34,8 +34,8 @@
 //! COUNT is at most OPEN in the modes of sent deliveries that settle one after the other, and half of it in `middle` and `second`;
 //! of what is not open, nothing is settled.
 //!
-//! With `idle` for the engine's part, as `bench_engine MODE COUNT BATCH OPEN SESSIONS idle`, the inputs are made and dropped.
-//! `all` does all of these. For each mode it prints what the engine answered, and how many deliveries of the first session are then
+//! With `idle` for the engine's part, as `bench_engine MODE COUNT BATCH OPEN SESSIONS idle`, the inputs are made and dropped; with `into` the
+//! engine sends into one buffer, whose chunks are taken off. `all` does all of these, and the first four into a buffer too. For each mode it prints what the engine answered, and how many deliveries of the first session are then
 //! open. `tools/bench_engine.py` counts the instructions.
 #![tactic(auto)]
 
@@ -44,7 +44,7 @@ mod frames;
 mod modes;
 mod relay;
 
-use bench::{Bench, Plan, Seen};
+use bench::{Bench, Part, Plan, Seen};
 use bytes::Bytes;
 use std::alloc::Global;
 use std::env;
@@ -110,6 +110,15 @@ fn counts(words: &[String]) -> anyhow::Result<(u32, u32, u32)> {
     Ok((count, batch, open))
 }
 
+/// The engine's part.
+fn part(word: &str) -> Part {
+    match word {
+        "idle" => Part::Idle,
+        "into" => Part::Into,
+        _ => Part::Answers,
+    }
+}
+
 fn plan(alloc: Global, words: &[String], lines: &[Bytes]) -> anyhow::Result<Plan> {
     let (count, batch, open) = counts(words)?;
     let sessions = word(words, 5).parse::<u16>()?;
@@ -118,7 +127,7 @@ fn plan(alloc: Global, words: &[String], lines: &[Bytes]) -> anyhow::Result<Plan
         batch,
         open,
         sessions,
-        is_idle: word(words, 6) == "idle",
+        part: part(word(words, 6)),
         peer_open: line(lines, 0)?,
         transfer: line(lines, 1)?,
         payload: line(lines, 2)?,
@@ -127,8 +136,8 @@ fn plan(alloc: Global, words: &[String], lines: &[Bytes]) -> anyhow::Result<Plan
 }
 
 /// Does what one mode says, and prints what was answered.
-fn measure(rt: &HostRuntime, mode: &str, plan: &Plan) -> anyhow::Result<()> {
-    let mut bench = Bench::new(rt.alloc(), plan.is_idle);
+fn measure(rt: &HostRuntime, mode: &str, part: Part, plan: &Plan) -> anyhow::Result<()> {
+    let mut bench = Bench::new(rt.alloc(), part);
     let outcome = modes::run(rt.alloc(), &mut bench, mode, plan);
     let (seen, open) = (bench.seen(), bench.open());
     drop(bench);
@@ -181,10 +190,13 @@ fn by_plan(rt: &HostRuntime, words: &[String], lines: &[Bytes]) -> anyhow::Resul
 
 fn measure_all(rt: &HostRuntime, mode: &str, plan: &Plan) -> anyhow::Result<()> {
     if mode != "all" {
-        return measure(rt, mode, plan);
+        return measure(rt, mode, plan.part, plan);
     }
     for mode in &MODES {
-        measure(rt, mode, plan)?;
+        measure(rt, mode, plan.part, plan)?;
+    }
+    for mode in MODES.iter().take(4) {
+        measure(rt, mode, Part::Into, plan)?;
     }
     Ok(())
 }

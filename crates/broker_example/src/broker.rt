@@ -11,8 +11,8 @@ use amqp_transport::{
 };
 use bytes::Bytes;
 use fe2o3_amqp::{
-    Answer, ConnectionState, DEFAULT_CHANNEL_MAX, Engine, FrameBody, FrameDecoder, IncomingChannel,
-    Input, KeyHash, Kind, Open, SessionNo, SessionSettings,
+    ConnectionState, DEFAULT_CHANNEL_MAX, Engine, FrameBody, FrameDecoder, IncomingChannel, Input,
+    KeyHash, Kind, Open, Refusal, SendBuffer, SessionNo, SessionSettings,
 };
 use std::alloc::Global;
 use std::collections::VecDeque;
@@ -57,7 +57,8 @@ pub struct Broker {
     pub engine: Engine<Relay>,
     pub events: SharedQueue,
     pub inputs: VecDeque<Input<Relay>>,
-    pub answers: Vec<Answer>,
+    pub out: SendBuffer,
+    pub refusals: Vec<Refusal>,
     pub sessions: Vec<Served>,
     pub senders: Vec<Sender>,
     pub consumers: Vec<Consumer>,
@@ -75,7 +76,8 @@ impl Broker {
             engine: Engine::keyed(alloc, hash, ConnectionState::HeaderExchange, open),
             events,
             inputs: VecDeque::new(alloc),
-            answers: Vec::new(alloc),
+            out: SendBuffer::new(alloc),
+            refusals: Vec::new(alloc),
             sessions: Vec::new(alloc),
             senders: Vec::new(alloc),
             consumers: Vec::new(alloc),
@@ -105,11 +107,12 @@ impl Broker {
         run(
             &mut self.engine,
             &mut self.inputs,
-            &mut self.answers,
+            &mut self.out,
+            &mut self.refusals,
             output,
         )?;
-        let fault = first_fault(self.answers.as_slice());
-        self.answers.clear();
+        let fault = first_fault(self.refusals.as_slice());
+        self.refusals.clear();
         match fault {
             None => Ok(Progress::On),
             Some(fault) => self.fail(fault, output),
@@ -122,11 +125,12 @@ impl Broker {
         close(
             &mut self.engine,
             &mut self.inputs,
-            &mut self.answers,
+            &mut self.out,
+            &mut self.refusals,
             output,
             error,
         )?;
-        self.answers.clear();
+        self.refusals.clear();
         Ok(Progress::Over)
     }
 

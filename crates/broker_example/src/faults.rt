@@ -1,23 +1,21 @@
 //! Faults: what a client did that the engine refuses, and the error that closes the connection for it.
 
-use amqp_transport::{BeginSessionError, Refusals, TurnError};
+use amqp_transport::{BeginSessionError, TurnError};
 use fe2o3_amqp::definitions::Error;
 use fe2o3_amqp::frames::Error as FrameError;
-use fe2o3_amqp::{Answer, ConnectionStateError, SessionStateError, StepError, Symbol, err_name};
+use fe2o3_amqp::{ConnectionStateError, Refusal, SessionStateError, StepError, Symbol, err_name};
 use std::alloc::{AllocError, Global};
 
 /// The name of the first refusal that is a fault; an End and a Close of the client's are none, though they are told as refusals.
-pub fn first_fault(answers: &[Answer]) -> Option<&'static str> {
-    let mut refusals = Refusals::of(answers);
-    for _ in 0..answers.len() {
-        let refusal = refusals.next()?;
-        match refusal.answer {
-            Answer::Refused(error) => {
+pub fn first_fault(refusals: &[Refusal]) -> Option<&'static str> {
+    for refusal in refusals.iter() {
+        match refusal {
+            Refusal::Input { place: _, error } => {
                 if !is_an_end(error) {
                     return Some(err_name(error));
                 }
             }
-            _ => return Some("TooLarge"),
+            Refusal::Frame { place: _, frame: _ } => return Some("TooLarge"),
         }
     }
     None

@@ -22,12 +22,12 @@ pub use amqp_connection::{
     OpenError, SessionNo, TryCloseError,
 };
 pub use amqp_engine::{
-    Answer, ConnectionHandle, Engine, HandledEngine, Input, OutputError, SessionHandle, StepError,
-    Stopped,
+    Answer, ConnectionHandle, Engine, HandledEngine, Input, OutputError, Refusal, SessionHandle,
+    StepError, Stopped,
 };
 pub use amqp_frames::{
     DeliveryPart, Frame, FrameBody, FrameDecoder, FrameEncoder, FrameHead, Heads, Piece,
-    split_delivery,
+    SendBuffer, split_delivery,
 };
 pub use amqp_session::{
     AllocLinkError, BeginError, ConnectionStopReason, DEFAULT_WINDOW, IncomingChannel, InputHandle,

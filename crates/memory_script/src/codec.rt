@@ -1,7 +1,7 @@
 //! Calls of the codec, each once more where it is refused for memory.
 
 use crate::offer::out;
-use crate::{making, mark, print, reading, say};
+use crate::{making, mark, print, reading, say, sending};
 use bytes::{Bytes, BytesMut};
 use fe2o3_amqp::{
     Frame, FrameDecoder, FrameEncoder, Performative, Piece, ReadError, WriteError, frames,
@@ -46,6 +46,7 @@ fn once(rt: &HostRuntime, name: &str, rest: &str) -> anyhow::Result<Came> {
         "decode" => Ok(decode(rt, rest)),
         "bytes" => Ok(bytes(rt, rest)),
         "encode" => encode(rt, rest),
+        "encode-to" => sending::encode_to(rt, rest),
         "split" => making::split(rt, rest),
         "reject" => Ok(making::reject(rt, rest)),
         "events" => Ok(making::events(rt)),
@@ -184,7 +185,8 @@ fn printed(rt: &HostRuntime, pieces: &Vec<Piece>) -> anyhow::Result<Came> {
     Ok(Came::To("done"))
 }
 
-fn refusal(error: &frames::Error) -> Came {
+/// What a call came to that is refused so.
+pub fn refusal(error: &frames::Error) -> Came {
     match error {
         frames::Error::OutOfMemory => Came::Refused,
         _ => Came::To("no frame"),

@@ -11,16 +11,17 @@
 //! | `settle N ROLE FIRST LAST` | `Settle`, as the receiver or the sender |
 //! | `recv HEX` | a received frame, without its size |
 //! | `take HEX` | a received transfer: where its session refuses it for memory it is not offered again |
+//! | `into LINE` | the input of that line, by a run that sends into a buffer |
 //! | `free LINE` | the input of that line, by `step`, while every request for memory is refused; then what goes out |
 //! | `free getters N`, `free values`, `free session`, `free connection` | calls that take none, while every request is refused |
-//! | `call NAME HEX` | a call of the codec: `read`, `write`, `decode`, `encode`, `bytes` |
+//! | `call NAME HEX` | a call of the codec: `read`, `write`, `decode`, `encode`, `encode-to`, `bytes` |
 //! | `wished LINE` | the input of that line, for an engine whose handles are used; of none (`wished run`), where wishes alone are to be heard |
 //! | `wished end N`, `wished end N CONDITION`, `wished close CONDITION` | a wish of a handle, noted while every request is refused |
 //! | `wished ended N`, `wished closed` | what became of it, told while every request is refused |
 //! | `replays` | `replay` of a transcript, with a reader and a writer that fail at each call in turn |
 //! | `show N` | the numbers of a session that received transfers move |
 //!
-//! A line of the output is `out` and a piece, `err` and a refusal, or what a call answers. Behind `~` stands a refusal for memory.
+//! A line of the output is `out` and a piece, `sent` and pieces behind their sizes, `err` and a refusal, or what a call answers. Behind `~` stands a refusal for memory.
 //! Marks on standard error, `@make`, `@run`, `@print`, say to `tools/refuse_nth.c` what asks for memory from then on, and
 //! `@refuse`, `@grant` that every request is to be refused, or none.
 #![tactic(auto)]
@@ -32,6 +33,7 @@ mod making;
 mod offer;
 mod reading;
 mod replays;
+mod sending;
 mod wishes;
 
 use std::io::Write;

@@ -2,7 +2,7 @@
 
 use crate::input::{ScriptInput, of_line};
 use crate::wishes::WishedEngine;
-use crate::{codec, free, mark, print, reading, replays, say, wishes};
+use crate::{codec, free, mark, print, reading, replays, say, sending, wishes};
 use fe2o3_amqp::{
     Answer, ConnectionState, DEFAULT_CHANNEL_MAX, DEFAULT_MAX_FRAME_SIZE, Engine, HandledEngine,
     Open, Piece, ReplayRelay, Session, SessionInnerError, StepError, err_name, out_line,
@@ -100,6 +100,7 @@ fn line(
         ("#", _) => begins(rt, engine, text),
         ("call", rest) => codec::called(rt, rest),
         ("free", rest) => free::called(rt, engine, rest),
+        ("into", rest) => sending::offered(rt, engine, rest),
         ("replays", _) => {
             mark(rt, "@replays\n");
             replays::called(rt)
@@ -140,7 +141,7 @@ fn is_answered<E: Runs>(rt: &HostRuntime, engine: &mut E, line: &str) -> anyhow:
 }
 
 /// Puts the input of a line into the queue; whether the line says one, or is a run of none. `AllocError` where memory is refused.
-fn queued(
+pub fn queued(
     alloc: Global,
     inputs: &mut VecDeque<ScriptInput>,
     line: &str,
@@ -204,7 +205,7 @@ fn printed(rt: &HostRuntime, answers: &Vec<Answer>, is_transfer: bool) -> anyhow
 }
 
 /// Prints a refusal; whether the input is not to come again.
-fn refused(rt: &HostRuntime, error: &StepError, is_transfer: bool) -> anyhow::Result<bool> {
+pub fn refused(rt: &HostRuntime, error: &StepError, is_transfer: bool) -> anyhow::Result<bool> {
     let name = err_name(error);
     if name != "OutOfMemory" {
         say(rt, "err ")?;

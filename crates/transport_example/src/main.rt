@@ -7,12 +7,12 @@
 
 mod chunks;
 
-use amqp_transport::{Refusals, exchange_headers, next_frame, push, receive, run};
+use amqp_transport::{exchange_headers, next_frame, push, receive, run};
 use bytes::Bytes;
 use chunks::Chunks;
 use fe2o3_amqp::{
-    Answer, ConnectionState, DEFAULT_CHANNEL_MAX, Engine, Input, KeyHash, Open, ReplayRelay,
-    SessionNo, SessionSettings, err_name, hex_bytes,
+    ConnectionState, DEFAULT_CHANNEL_MAX, Engine, Input, KeyHash, Open, Refusal, ReplayRelay,
+    SendBuffer, SessionNo, SessionSettings, err_name, hex_bytes,
 };
 use std::alloc::{AllocError, Global};
 use std::collections::VecDeque;
@@ -39,6 +39,22 @@ impl Said {
 
     fn is_same(&self, other: &Said) -> bool {
         self.sent == other.sent && self.log == other.log
+    }
+}
+
+/// Where runs of an engine put what is to be sent and what was refused.
+#[derive(Drop)]
+struct Told {
+    out: SendBuffer,
+    refusals: Vec<Refusal>,
+}
+
+impl Told {
+    fn nothing(alloc: Global) -> Told {
+        Told {
+            out: SendBuffer::new(alloc),
+            refusals: Vec::new(alloc),
+        }
     }
 }
 
@@ -179,10 +195,10 @@ fn begin() -> Input<ReplayRelay> {
 fn one_by_one(alloc: Global, hash: KeyHash, frames: &[Bytes]) -> anyhow::Result<Said> {
     let mut engine = engine(alloc, hash)?;
     let mut inputs = VecDeque::new(alloc);
-    let mut answers = Vec::new(alloc);
+    let mut told = Told::nothing(alloc);
     let mut said = Said::nothing(alloc);
-    let outcome = take_each(&mut engine, &mut inputs, &mut answers, frames, &mut said);
-    drop(answers);
+    let outcome = take_each(&mut engine, &mut inputs, &mut told, frames, &mut said);
+    drop(told);
     drop(inputs);
     drop(engine);
     match outcome {
@@ -194,17 +210,29 @@ fn one_by_one(alloc: Global, hash: KeyHash, frames: &[Bytes]) -> anyhow::Result<
 fn take_each(
     engine: &mut Engine<ReplayRelay>,
     inputs: &mut VecDeque<Input<ReplayRelay>>,
-    answers: &mut Vec<Answer>,
+    told: &mut Told,
     frames: &[Bytes],
     said: &mut Said,
 ) -> anyhow::Result<()> {
     push_requests(inputs)?;
-    run(engine, inputs, answers, &mut said.sent)?;
-    log(answers, &mut said.log)?;
+    run(
+        engine,
+        inputs,
+        &mut told.out,
+        &mut told.refusals,
+        &mut said.sent,
+    )?;
+    log(&mut told.refusals, &mut said.log)?;
     for frame in frames.iter() {
         push(inputs, Input::Received(frame.clone()?))?;
-        run(engine, inputs, answers, &mut said.sent)?;
-        log(answers, &mut said.log)?;
+        run(
+            engine,
+            inputs,
+            &mut told.out,
+            &mut told.refusals,
+            &mut said.sent,
+        )?;
+        log(&mut told.refusals, &mut said.log)?;
     }
     Ok(())
 }
@@ -213,18 +241,18 @@ fn take_each(
 fn streamed(alloc: Global, hash: KeyHash, stream: &[u8], size: usize) -> anyhow::Result<Said> {
     let mut engine = engine(alloc, hash)?;
     let mut inputs = VecDeque::new(alloc);
-    let mut answers = Vec::new(alloc);
+    let mut told = Told::nothing(alloc);
     let mut said = Said::nothing(alloc);
     let mut chunks = Chunks::new(stream, size);
     let outcome = take_stream(
         alloc,
         &mut engine,
         &mut inputs,
-        &mut answers,
+        &mut told,
         &mut chunks,
         &mut said,
     );
-    drop(answers);
+    drop(told);
     drop(inputs);
     drop(engine);
     match outcome {
@@ -237,36 +265,48 @@ fn take_stream(
     alloc: Global,
     engine: &mut Engine<ReplayRelay>,
     inputs: &mut VecDeque<Input<ReplayRelay>>,
-    answers: &mut Vec<Answer>,
+    told: &mut Told,
     stream: &mut Chunks<'_>,
     said: &mut Said,
 ) -> anyhow::Result<()> {
     exchange_headers(stream, &mut io::sink())?;
     push_requests(inputs)?;
-    run(engine, inputs, answers, &mut said.sent)?;
-    log(answers, &mut said.log)?;
+    run(
+        engine,
+        inputs,
+        &mut told.out,
+        &mut told.refusals,
+        &mut said.sent,
+    )?;
+    log(&mut told.refusals, &mut said.log)?;
     for _ in 0..u64::MAX {
-        if !receive(alloc, engine, inputs, answers, stream, &mut said.sent)? {
+        if !receive(
+            alloc,
+            engine,
+            inputs,
+            &mut told.out,
+            &mut told.refusals,
+            stream,
+            &mut said.sent,
+        )? {
             return Ok(());
         }
-        log(answers, &mut said.log)?;
+        log(&mut told.refusals, &mut said.log)?;
     }
     Ok(())
 }
 
-/// Logs what was refused, and lets the answers go.
-fn log<W: Write>(answers: &mut Vec<Answer>, log: &mut W) -> io::Result<()> {
-    let mut refusals = Refusals::of(answers.as_slice());
-    for _ in 0..answers.len() {
-        let Some(refusal) = refusals.next() else {
-            break;
-        };
-        match refusal.answer {
-            Answer::Refused(error) => writeln!(log, "refused: {}", err_name(error))?,
-            _ => writeln!(log, "a frame does not fit the peer's limit")?,
+/// Logs what was refused, and lets it go.
+fn log<W: Write>(refusals: &mut Vec<Refusal>, log: &mut W) -> io::Result<()> {
+    for refusal in refusals.iter() {
+        match refusal {
+            Refusal::Input { place: _, error } => writeln!(log, "refused: {}", err_name(error))?,
+            Refusal::Frame { place: _, frame: _ } => {
+                writeln!(log, "a frame does not fit the peer's limit")?
+            }
         }
     }
-    answers.clear();
+    refusals.clear();
     Ok(())
 }
 

@@ -1,0 +1,151 @@
+//! Runs whose output goes to one buffer: what is to be sent is appended there, and what was refused to a list.
+
+ghost use Rattle.std.specs.Prelude.{◌≡◌, ◌++◌, ◌<◌, [], List, true, OnOk, OnErr, vec_len, vec_capacity};
+ghost use Rattle.amqp_connection.specs.Connection.{refusal_of};
+ghost use Rattle.amqp_frames.specs.Wire.{EncodesTo};
+ghost use Rattle.amqp_frames.specs.declared.frame.Frame.{Frame};
+ghost use Rattle.amqp_engine.specs.declared.engine.answer.Answer.{Answer};
+ghost use Rattle.amqp_engine.specs.History.{OnlyLeft};
+ghost use Rattle.amqp_engine.specs.Waits.{FirstIs, has_frames};
+ghost use Rattle.amqp_engine.specs.Output.{PutOut};
+ghost use Rattle.amqp_engine.specs.Promise.{Ends, NoneLeft};
+ghost use Rattle.amqp_engine.specs.Putting.{FirstUnfit};
+ghost use Rattle.amqp_engine.specs.RunInto.{HandsBack, RanInto, SendsFirst, Tells, refusal_at};
+
+use super::Engine;
+use super::answer::Stopped;
+use super::input::Input;
+use super::refusal::Refusal;
+use super::step_error::StepError;
+use crate::laws::{law_of_histories, law_of_views};
+use amqp_frames::{Error, SendBuffer};
+use amqp_session::LinkRelay;
+use std::alloc::AllocError;
+use std::collections::VecDeque;
+
+/// Appends the refusal of an input, if it was refused.
+#[inline(always)]
+fn note(refusals: &mut Vec<Refusal>, place: usize, outcome: Result<(), StepError>)
+    requires { vec_len refusals.old < vec_capacity refusals.old }
+    ensures { refusals.new.items ≡ refusals.old.items ++ refusal_at place (refusal_of outcome) }
+{
+    match outcome {
+        Ok(()) => {}
+        Err(error) => refusals.push_reserved(Refusal::Input { place, error }),
+    }
+}
+
+impl<R: LinkRelay> Engine<R> {
+    /// Runs the inputs as [`Engine::run`] does, and appends what is to be sent to `out`, each piece behind its four-byte size, and what is
+    /// refused to `refusals`. An input that is accepted has no entry, and a frame no list of its own: where `out` has room, none of this
+    /// asks for memory.
+    ///
+    /// It stops where memory is refused, and says how many inputs it took; the others stay in `inputs`. What stands in `out` is always
+    /// whole frames. A second call goes on: nothing is sent twice, and nothing is left out.
+    pub fn run_into(
+        &mut self,
+        inputs: &mut VecDeque<Input<R>>,
+        out: &mut SendBuffer,
+        refusals: &mut Vec<Refusal>,
+    ) -> Result<(), Stopped>
+        ensures ran { RanInto R.gives self.old inputs.old.items out.old refusals.old.items self.new inputs.new.items out.new refusals.new.items }
+        ensures ends { Ends (NoneLeft inputs.new.items self.new) inputs.old.items inputs.new.items result }
+        ensures wishes { self.new.wishes ≡ self.old.wishes }
+    {
+        law_of_histories::<R>();
+        law_of_views::<R>();
+        let total = inputs.len();
+        let Ok(()) = self.send_out(None, out, refusals) else {
+            return Err(Stopped { done: 0 });
+        };
+        while !inputs.is_empty() {
+            // The room for a refusal comes first: what is taken is told.
+            let Ok(()) = refusals.reserve(1) else {
+                return Err(Stopped {
+                    done: total - inputs.len(),
+                });
+            };
+            let place = total - inputs.len();
+            let input = inputs.pop_front().unwrap();
+            let outcome = self.step(input);
+            note(refusals, place, outcome);
+            let Ok(()) = self.send_out(Some(place), out, refusals) else {
+                return Err(Stopped {
+                    done: total - inputs.len(),
+                });
+            };
+        }
+        Ok(())
+    }
+
+    /// Sends what waits. A frame that does not fit is handed back as one of this place.
+    fn send_out(
+        &mut self,
+        place: Option<usize>,
+        out: &mut SendBuffer,
+        refusals: &mut Vec<Refusal>,
+    ) -> Result<(), AllocError>
+        ensures said { (outs : List Answer) × PutOut self.old.limit self.old.waiting self.new.waiting outs
+            × Tells place outs out.old refusals.old.items out.new refusals.new.items }
+        ensures taken { OnlyLeft self.old self.new }
+        ensures ok { OnOk result (self.new.waiting ≡ []) }
+        ensures err { OnErr result (¬ (self.new.waiting ≡ [])) }
+    {
+        while self.has_output() {
+            let Ok(()) = self.send_first(place, out, refusals) else {
+                return Err(AllocError);
+            };
+        }
+        Ok(())
+    }
+
+    /// Sends the first frame that waits. Where memory is refused it still waits, and nothing was appended.
+    #[inline(always)]
+    fn send_first(
+        &mut self,
+        place: Option<usize>,
+        out: &mut SendBuffer,
+        refusals: &mut Vec<Refusal>,
+    ) -> Result<(), AllocError>
+        requires { has_frames self.old.waiting ≡ true }
+        ensures ok { OnOk result (SendsFirst place self.old out.old refusals.old.items self.new out.new refusals.new.items) }
+        ensures err { OnErr result (self.new ≡ self.old) }
+        ensures err_out { OnErr result (out.new ≡ out.old) }
+        ensures err_refusals { OnErr result (refusals.new.items ≡ refusals.old.items) }
+    {
+        refusals.reserve(1)?;
+        match self.encode_first_to(out) {
+            Ok(()) => {
+                self.waiting.discard();
+                Ok(())
+            }
+            Err(Error::TooLarge) => {
+                self.refuse_first(place, refusals);
+                Ok(())
+            }
+            Err(_) => Err(AllocError),
+        }
+    }
+
+    /// Appends the first frame that waits to what is to be sent. The frame still waits.
+    #[inline(always)]
+    fn encode_first_to(&self, out: &mut SendBuffer) -> Result<(), Error>
+        requires { has_frames self.now.waiting ≡ true }
+        ensures { (f : Frame) × FirstIs f self.now.waiting × EncodesTo f self.now.limit out.old result out.new }
+    {
+        let frame = self.waiting.first().unwrap();
+        self.encoder.encode_to(self.alloc, frame, out)
+    }
+
+    /// The first frame that waits is handed back, since it does not fit.
+    // No part of `send_first`, which would pay at its entry for the size of these locals.
+    #[inline(never)]
+    fn refuse_first(&mut self, place: Option<usize>, refusals: &mut Vec<Refusal>)
+        requires unfit { FirstUnfit self.old }
+        requires room { vec_len refusals.old < vec_capacity refusals.old }
+        ensures { HandsBack place self.old refusals.old.items self.new refusals.new.items }
+    {
+        let frame = self.waiting.take().unwrap();
+        refusals.push_reserved(Refusal::Frame { place, frame });
+    }
+}

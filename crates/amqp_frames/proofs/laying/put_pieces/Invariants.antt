@@ -1,0 +1,14 @@
+use Rattle.std.proofs.Common.{◌≡◌, ◌++◌, ◌≤◌, length}
+use Rattle.amqp_frames.specs.Wire.{wire_of}
+use Rattle.amqp_frames.specs.Woven.{pieces_room}
+use Rattle.amqp_frames.proofs.laying.put_pieces.Given as goal
+
+-- what was appended, and what the rest will append; and there is room for that
+abbrev pub invariant-loop-rest : goal.invariant-loop-rest
+invariant-loop-rest l =
+    (l.out.waits ++ wire_of l.rest.items ≡ l.fn.out.waits ++ wire_of l.fn.pieces.items)
+    × (pieces_room l.most l.rest.items ≤ l.out.spare)
+    × (length l.rest.items ≤ l.out.places)
+
+abbrev pub decreases-loop-rest : goal.decreases-loop-rest
+decreases-loop-rest l = length l.rest.items
