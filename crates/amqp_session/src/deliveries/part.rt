@@ -47,10 +47,12 @@ impl Clues {
         }
     }
 
-    /// How many places off a number is that is so far off: one at least.
+    /// How many places off a number is that is so far off: one at least, and one where it would be more than `most`, since numbers are
+    /// missing then which this does not know of.
     #[inline(always)]
-    fn places_to(self, far: usize) -> usize {
-        (far.wrapping_mul(self.places) / self.numbers.max(1)).max(1)
+    fn steps(self, far: usize, most: usize) -> usize {
+        let steps = (far.wrapping_mul(self.places) / self.numbers.max(1)).max(1);
+        if steps <= most { steps } else { 1 }
     }
 
     /// Where a place is expected between these: where the last search ended, if that is there, and else at the other one.
@@ -107,7 +109,8 @@ fn behind(part: Part, at: usize, far: usize, clues: Clues) -> Part
     ensures high { result.high ≡ min part.high (at + far) }
 {
     let (low, high) = (at + 1, part.high.min(at + far));
-    let guess = clues.guess(low, high, at.saturating_add(clues.places_to(far)));
+    let steps = clues.steps(far, high.saturating_sub(at));
+    let guess = clues.guess(low, high, at.saturating_add(steps));
     Part { low, high, guess }
 }
 
@@ -118,6 +121,7 @@ fn before(part: Part, at: usize, far: usize, clues: Clues) -> Part
     ensures high { result.high ≡ at }
 {
     let (low, high) = (part.low.max(at.saturating_sub(far)), at);
-    let guess = clues.guess(low, high, at.saturating_sub(clues.places_to(far)));
+    let steps = clues.steps(far, at.saturating_sub(low));
+    let guess = clues.guess(low, high, at.saturating_sub(steps));
     Part { low, high, guess }
 }
