@@ -81,6 +81,7 @@ pub(crate) fn put_alone<T>(
     ensures spares { EachSpare spare.new.items }
     ensures items { items_of blocks.new.items ≡ insert (items_of blocks.old.items) (start_of blocks.old.items block) item }
     ensures kept { KeepsPlaces blocks.old.items spare.old.items blocks.new.items spare.new.items }
+    ensures count { length blocks.new.items ≡ length blocks.old.items + 1 }
     ensures capacity { (vec_capacity blocks.old ≤ vec_capacity blocks.new) × (vec_capacity ends.old ≤ vec_capacity ends.new) }
 {
     let mut ring = spare.pop().unwrap();
@@ -111,6 +112,7 @@ pub(crate) fn split<T>(
     ensures spares { EachSpare spare.new.items }
     ensures items { items_of blocks.new.items ≡ items_of blocks.old.items }
     ensures kept { KeepsPlaces blocks.old.items spare.old.items blocks.new.items spare.new.items }
+    ensures count { length blocks.new.items ≡ length blocks.old.items + 1 }
     ensures block { place.block < length blocks.new.items }
     ensures start { start_of blocks.new.items place.block ≡ start_of blocks.old.items place.block }
     ensures within { Within blocks.new.items place.block place.at }

@@ -63,6 +63,7 @@ returns g c =
         rings = omega (arith, s.count, ap length sp, length-append left (ring ∷ []));
         places = omega (arith, s.places, ap places_of sp, places_append left (ring ∷ []), u.upper_places);
       };
+      count = omega (arith, s.count);
       block = omega (arith, s.count, c.requires.block);
       start = s.start;
       within = λ b e. let l = s.lower b e in omega (arith, l, c.max-half.ensures);
