@@ -38,7 +38,7 @@ fn put_with_spare<T>(
         put_alone(blocks, ends, base, spare, place.block + 1, item);
         return;
     }
-    split(blocks, ends, base, spare, place);
+    let place = split(blocks, ends, base, spare, place);
     put_in(blocks, ends, base, place, item);
 }
 
