@@ -1,11 +1,12 @@
 -- Blocks that are cut in two, and blocks of one item.
-use Rattle.std.proofs.Common.{◌≡◌, ℕ, suc, zero, ◌+◌, ◌-◌, ◌<◌, ◌≤◌, ◌^◌, arith, List, [], ◌∷◌, ◌++◌, length, take, drop, map, min, ap, sym, subst, ◌∙◌, refl, get_or, set, length-append, length-take, length-drop, append_assoc}
+use Rattle.std.proofs.Common.{◌≡◌, ℕ, suc, zero, ◌+◌, ◌-◌, ◌<◌, ◌≤◌, ◌^◌, arith, List, [], ◌∷◌, ◌++◌, length, take, drop, map, min, ap, sym, subst, ◌∙◌, refl, add-one, inl, inr, get_or, set, length-append, length-take, length-drop, append_assoc}
 use Rattle.std.specs.List.{insert}
 use Rattle.std.proofs.lemmas.List.{take-append-drop}
 use Rattle.std.proofs.lemmas.List.Edits.{insert-append_right, length-insert}
-use Rattle.amqp_blocks.specs.Chunked.{Block, in_block, items_of, start_of, ends_from, IsChunked, EachSome, places_of, HasPlace}
+use Rattle.std.proofs.lemmas.Bool.{cases_lt}
+use Rattle.amqp_blocks.specs.Chunked.{Block, in_block, items_of, start_of, ends_from, IsChunked, EachSome, places_of, HasPlace, Within}
 use Rattle.amqp_blocks.specs.Changes.{IsHalved}
-use Rattle.amqp_blocks.proofs.PlaceLemmas.{start_few}
+use Rattle.amqp_blocks.proofs.PlaceLemmas.{start_few, start_more}
 use Rattle.amqp_blocks.proofs.LeaveLemmas.{some_at}
 use Rattle.amqp_blocks.proofs.PutLemmas.{size_of, risen}
 
@@ -67,6 +68,11 @@ module _ {T : Type 0} where
   at_in_two (b ∷ bs) zero lower upper d h = refl
   at_in_two (b ∷ bs) (suc i) lower upper d h = at_in_two bs i lower upper d (omega arith)
 
+  pub upper_in_two : (bs : List (Block T)) (i : ℕ) (lower upper d : Block T) → i < length bs → get_or (in_two bs i lower upper) (suc i) d ≡ upper
+  upper_in_two [] i lower upper d h = absurd (omega arith)
+  upper_in_two (b ∷ bs) zero lower upper d h = refl
+  upper_in_two (b ∷ bs) (suc i) lower upper d h = upper_in_two bs i lower upper d (omega arith)
+
   -- what is known once a block is in two
   pub record Split (base : ℕ) (bs ds : List (Block T)) (ends : List ℕ) (i half : ℕ) (upper : Block T) : Type 0 where
     pub chunked : IsChunked base ds ends
@@ -76,6 +82,8 @@ module _ {T : Type 0} where
     pub start : start_of ds i ≡ start_of bs i
     pub lower : (b : Block T) → b ≡ get_or ds i b → length b.items ≡ half
     pub place : HasPlace ds i
+    pub upper_start : start_of ds (suc i) ≡ start_of bs i + half
+    pub upper_is : (b : Block T) → b ≡ get_or ds (suc i) b → b ≡ upper
 
   pub split_is : (base : ℕ) (bs cs ds : List (Block T)) (ends new : List ℕ) (i k half end size : ℕ) (spare upper : Block T) → i < length bs → (u : IsHalved bs i half cs spare upper) → 0 < half → half < length u.from.items → k ≡ suc i → ds ≡ insert cs k upper → size ≡ length upper.items → end ≡ get_or ends i end → new ≡ insert ends i (end - size) → IsChunked base bs ends → Split base bs ds new i half upper
   split_is base bs cs ds ends new i k half end size spare upper h u x y ki e z n f v =
@@ -86,6 +94,10 @@ module _ {T : Type 0} where
       let s : length u.lower.items + length upper.items ≡ length u.from.items = omega (arith, l, r, y) in
       let big = some_at bs i u.from v.some h u.was in
       let lower : (b : Block T) → b ≡ get_or ds i b → b ≡ u.lower = λ b q. q ∙ ap (λ (xs : List (Block T)). get_or xs i b) whole ∙ at_in_two bs i u.lower upper b h in
+      let count = ap (λ (xs : List (Block T)). length xs) whole ∙ length_in_two bs i u.lower upper h in
+      let start = ap (λ (xs : List (Block T)). start_of xs i) whole ∙ start_in_two bs i u.lower upper h in
+      let first : u.lower ≡ get_or ds i u.lower = sym (ap (λ (xs : List (Block T)). get_or xs i u.lower) whole ∙ at_in_two bs i u.lower upper u.lower h) in
+      let more = start_more ds i u.lower (omega (arith, count, h)) first in
       let end_is : end ≡ get_or (ends_from base bs) i 0 = n ∙ ap (λ (ks : List ℕ). get_or ks i end) v.stops ∙ default_same base bs i end h in
       record {
         chunked = record {
@@ -96,11 +108,42 @@ module _ {T : Type 0} where
         };
         items = items;
         places = ap places_of whole ∙ places_in_two bs i u.from u.lower upper h u.was u.places;
-        count = ap (λ (xs : List (Block T)). length xs) whole ∙ length_in_two bs i u.lower upper h;
-        start = ap (λ (xs : List (Block T)). start_of xs i) whole ∙ start_in_two bs i u.lower upper h;
+        count = count;
+        start = start;
+        upper_start = omega (arith, more, start, l, y);
+        upper_is = λ b q. q ∙ ap (λ (xs : List (Block T)). get_or xs (suc i) b) whole ∙ upper_in_two bs i u.lower upper b h;
         lower = λ b q. size_of b u.lower (lower b q) ∙ l ∙ (omega (arith, y));
         place = λ b q. let c = ap (λ (w : Block T). w.cap) (lower b q) ∙ u.places in omega (arith, size_of b u.lower (lower b q), l, y, c, u.from.small, u.from.ok.0, big.1);
       }
+
+  -- where a place of the block is now
+  pub record Sided (bs ds : List (Block T)) (i at j k : ℕ) : Type 0 where
+    pub block : j < length ds
+    pub start : start_of ds j + k ≡ start_of bs i + at
+    pub within : Within ds j k
+    pub place : HasPlace ds j
+
+  pub sided : (base : ℕ) (bs ds : List (Block T)) (ends : List ℕ) (i at half j k : ℕ) (upper : Block T) → i < length bs → Split base bs ds ends i half upper → at ≤ half + length upper.items → (half < at → length upper.items < min upper.cap 256) → (at ≤ half → (j ≡ i) × (k ≡ at)) → (half < at → (j ≡ i + 1) × (k + half ≡ at)) → Sided bs ds i at j k
+  sided base bs ds ends i at half j k upper h s w room l u =
+      elim (cases_lt half at) [
+        | inl lt ↦
+            let e = u lt in
+            let ji : j ≡ suc i = e.0 ∙ add-one i in
+            record {
+              block = omega (arith, ji, s.count, h);
+              start = omega (arith, ap (start_of ds) ji, s.upper_start, e.1);
+              within = λ b q. let c = size_of b upper (s.upper_is b (q ∙ ap (λ n. get_or ds n b) ji)) in omega (arith, c, e.1, w);
+              place = λ b q. let c = s.upper_is b (q ∙ ap (λ n. get_or ds n b) ji) in omega (arith, size_of b upper c, ap (λ (x : Block T). x.cap) c, room lt);
+            }
+        | inr ge ↦
+            let e = l ge in
+            record {
+              block = omega (arith, e.0, s.count, h);
+              start = omega (arith, ap (start_of ds) e.0, s.start, e.1);
+              within = λ b q. let c = s.lower b (q ∙ ap (λ n. get_or ds n b) e.0) in omega (arith, c, e.1, ge);
+              place = λ b q. s.place b (q ∙ ap (λ n. get_or ds n b) e.0);
+            }
+      ]
 
   -- ---- a block of one item
 

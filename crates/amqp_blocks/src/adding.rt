@@ -1,6 +1,6 @@
 //! An item comes into the sequence: into a block that has a place, or with a new block for it.
 
-ghost use Rattle.std.specs.Prelude.{◌≡◌, ◌+◌, ◌-◌, ◌^◌, ◌<◌, ◌≤◌, length, slice_index, slice_index_or, vec_capacity, min};
+ghost use Rattle.std.specs.Prelude.{◌≡◌, ◌+◌, ◌-◌, ◌/◌, ◌^◌, ◌<◌, ◌≤◌, length, slice_index, slice_index_or, vec_capacity, min};
 ghost use Rattle.std.specs.List.{insert};
 ghost use Rattle.amqp_blocks.specs.Chunked.{Block, items_of, start_of, places_of, IsChunked, EachSpare, Within, HasItem, HasPlace};
 ghost use Rattle.amqp_blocks.specs.Changes.{KeepsPlaces};
@@ -8,6 +8,7 @@ ghost use Rattle.amqp_blocks.specs.Changes.{KeepsPlaces};
 use crate::lengths::raise_from;
 use crate::rings::{halve, put};
 use crate::search::Place;
+use crate::sequence::BLOCK;
 use std::collections::VecDeque;
 
 /// An item comes into a block that has a place for it.
@@ -81,6 +82,7 @@ pub(crate) fn put_alone<T>(
     ensures spares { EachSpare spare.new.items }
     ensures items { items_of blocks.new.items ≡ insert (items_of blocks.old.items) (start_of blocks.old.items block) item }
     ensures kept { KeepsPlaces blocks.old.items spare.old.items blocks.new.items spare.new.items }
+    ensures count { length blocks.new.items ≡ length blocks.old.items + 1 }
     ensures capacity { (vec_capacity blocks.old ≤ vec_capacity blocks.new) × (vec_capacity ends.old ≤ vec_capacity ends.new) }
 {
     let mut ring = spare.pop().unwrap();
@@ -91,14 +93,49 @@ pub(crate) fn put_alone<T>(
     insert_reserved(blocks, block, ring);
 }
 
-/// A block is cut in two at a place in it or behind it, with a spare ring for the upper part. No item is lost.
+/// Where a full block is cut in two for an item that comes to a place in it: there, but with a quarter of the block at least on each side.
+/// Else items that come in falling order before its last one would get a block each.
+fn cut_point(most: usize, at: usize, places: usize) -> usize
+    requires some { 0 < at }
+    requires within { at < most }
+    requires most { most ≤ 256 }
+    requires places { 0 < places }
+    ensures some { 0 < result }
+    ensures less { result < most }
+    ensures fits { most - result ≤ places }
+    ensures room { result < at → most - result < min places 256 }
+    ensures quarter { 256 ≤ places → (most / 4 ≤ result) × (result + most / 4 ≤ most) }
+{
+    if places < BLOCK {
+        return at.max(most.saturating_sub(places));
+    }
+    at.max(most / 4).min(most - most / 4)
+}
+
+/// Where a place of a block is once that is cut in two.
+fn side_of(place: Place, half: usize) -> Place
+    requires { place.block < 2 ^ 64 - 1 }
+    ensures lower { place.at ≤ half → (result.block ≡ place.block) × (result.at ≡ place.at) }
+    ensures upper { half < place.at → (result.block ≡ place.block + 1) × (result.at + half ≡ place.at) }
+{
+    if place.at <= half {
+        return place;
+    }
+    Place {
+        block: place.block + 1,
+        at: place.at - half,
+    }
+}
+
+/// A block is cut in two near a place in it, with a spare ring for the upper part. No item is lost. Answers where the place is now, in a
+/// block that has a place for an item more.
 pub(crate) fn split<T>(
     blocks: &mut Vec<VecDeque<T>>,
     ends: &mut Vec<usize>,
     base: usize,
     spare: &mut Vec<VecDeque<T>>,
     place: Place,
-)
+) -> Place
     requires chunked { IsChunked base blocks.old.items ends.old.items }
     requires spares { EachSpare spare.old.items }
     requires spare { 0 < length spare.old.items }
@@ -111,17 +148,19 @@ pub(crate) fn split<T>(
     ensures spares { EachSpare spare.new.items }
     ensures items { items_of blocks.new.items ≡ items_of blocks.old.items }
     ensures kept { KeepsPlaces blocks.old.items spare.old.items blocks.new.items spare.new.items }
-    ensures block { place.block < length blocks.new.items }
-    ensures start { start_of blocks.new.items place.block ≡ start_of blocks.old.items place.block }
-    ensures within { Within blocks.new.items place.block place.at }
-    ensures place { HasPlace blocks.new.items place.block }
+    ensures count { length blocks.new.items ≡ length blocks.old.items + 1 }
+    ensures block { result.block < length blocks.new.items }
+    ensures start { start_of blocks.new.items result.block + result.at ≡ start_of blocks.old.items place.block + place.at }
+    ensures within { Within blocks.new.items result.block result.at }
+    ensures place { HasPlace blocks.new.items result.block }
     ensures capacity { (vec_capacity blocks.old ≤ vec_capacity blocks.new) × (vec_capacity ends.old ≤ vec_capacity ends.new) }
 {
     let ring = spare.pop().unwrap();
     let most = blocks[place.block].len();
-    let half = place.at.max(most.saturating_sub(ring.capacity()));
+    let half = cut_point(most, place.at, ring.capacity());
     let upper = halve(blocks, place.block, half, ring);
     let end = ends[place.block] - upper.len();
     ends.insert(place.block, end).unwrap();
     blocks.insert(place.block + 1, upper).unwrap();
+    side_of(place, half)
 }

@@ -28,6 +28,7 @@ fn put_with_spare<T>(
     ensures sound { IsSound base blocks.new ends.new spare.new }
     ensures items { items_of blocks.new.items ≡ insert (items_of blocks.old.items) (start_of blocks.old.items place.block + place.at) item }
     ensures kept { KeepsPlaces blocks.old.items spare.old.items blocks.new.items spare.new.items }
+    ensures count { length blocks.new.items ≤ length blocks.old.items + 1 }
 {
     if place.at == 0 {
         put_alone(blocks, ends, base, spare, place.block, item);
@@ -37,7 +38,7 @@ fn put_with_spare<T>(
         put_alone(blocks, ends, base, spare, place.block + 1, item);
         return;
     }
-    split(blocks, ends, base, spare, place);
+    let place = split(blocks, ends, base, spare, place);
     put_in(blocks, ends, base, place, item);
 }
 
@@ -60,6 +61,7 @@ pub(crate) fn put_at<T>(
     ensures sound { IsSound base blocks.new ends.new spare.new }
     ensures items { items_of blocks.new.items ≡ insert (items_of blocks.old.items) (start_of blocks.old.items place.block + place.at) item }
     ensures kept { KeepsPlaces blocks.old.items spare.old.items blocks.new.items spare.new.items }
+    ensures count { length blocks.new.items ≤ length blocks.old.items + 1 }
 {
     if has_place(blocks, place.block) {
         put_in(blocks, ends, base, place, item);
@@ -87,6 +89,7 @@ pub(crate) fn put_last<T>(
     ensures sound { IsSound base blocks.new ends.new spare.new }
     ensures items { items_of blocks.new.items ≡ insert (items_of blocks.old.items) (length (items_of blocks.old.items)) item }
     ensures kept { KeepsPlaces blocks.old.items spare.old.items blocks.new.items spare.new.items }
+    ensures count { length blocks.new.items ≤ length blocks.old.items + 1 }
 {
     let count = blocks.len();
     if count == 0 {
@@ -115,6 +118,7 @@ fn put_near<T>(
     ensures sound { IsSound base blocks.new ends.new spare.new }
     ensures items { items_of blocks.new.items ≡ insert (items_of blocks.old.items) (start_of blocks.old.items place.block + place.at) item }
     ensures kept { KeepsPlaces blocks.old.items spare.old.items blocks.new.items spare.new.items }
+    ensures count { length blocks.new.items ≤ length blocks.old.items + 1 }
 {
     if place.at == 0 && place.block > 0 {
         let end = end_of(blocks, place.block - 1);
@@ -142,6 +146,7 @@ pub(crate) fn put_before<T>(
     ensures sound { IsSound base blocks.new ends.new spare.new }
     ensures items { items_of blocks.new.items ≡ insert (items_of blocks.old.items) rank item }
     ensures kept { KeepsPlaces blocks.old.items spare.old.items blocks.new.items spare.new.items }
+    ensures count { length blocks.new.items ≤ length blocks.old.items + 1 }
 {
     if rank == total(ends, base) {
         put_last(blocks, ends, base, spare, item);

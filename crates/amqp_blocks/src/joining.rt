@@ -60,6 +60,7 @@ fn join<T>(
     requires sound { IsSound base blocks.old ends.old spare.old }
     ensures sound { IsSound base blocks.new ends.new spare.new }
     ensures items { items_of blocks.new.items ≡ items_of blocks.old.items }
+    ensures count { length blocks.new.items ≤ length blocks.old.items }
 {
     if block >= blocks.len().saturating_sub(1) {
         return;
@@ -83,6 +84,7 @@ pub(crate) fn join_near<T>(
     requires sound { IsSound base blocks.old ends.old spare.old }
     ensures sound { IsSound base blocks.new ends.new spare.new }
     ensures items { items_of blocks.new.items ≡ items_of blocks.old.items }
+    ensures count { length blocks.new.items ≤ length blocks.old.items }
 {
     join(blocks, ends, base, spare, block);
     join(blocks, ends, base, spare, block.saturating_sub(1));

@@ -41,6 +41,7 @@ fn sweep<T>(
     requires spares { EachSpare spare.old.items }
     ensures swept { IsSwept blocks.old.items ends.old.items block blocks.new.items ends.new.items }
     ensures spares { EachSpare spare.new.items }
+    ensures count { length blocks.new.items ≤ length blocks.old.items }
     ensures rings { length blocks.new.items + length spare.new.items ≤ length blocks.old.items + length spare.old.items }
     ensures capacity { (vec_capacity blocks.new ≡ vec_capacity blocks.old) × (vec_capacity ends.new ≡ vec_capacity ends.old) }
 {
@@ -68,6 +69,7 @@ fn tidy<T>(
     ensures chunked { IsChunked result blocks.new.items ends.new.items }
     ensures items { items_of blocks.new.items ≡ items_of blocks.old.items }
     ensures spares { EachSpare spare.new.items }
+    ensures count { length blocks.new.items ≤ length blocks.old.items }
     ensures rings { length blocks.new.items + length spare.new.items ≤ length blocks.old.items + length spare.old.items }
     ensures capacity { (vec_capacity blocks.new ≡ vec_capacity blocks.old) × (vec_capacity ends.new ≡ vec_capacity ends.old) }
 {
@@ -91,6 +93,7 @@ pub(crate) fn leave<T: Drop>(
     ensures chunked { IsChunked result blocks.new.items ends.new.items }
     ensures items { items_of blocks.new.items ≡ without (start_of blocks.old.items place.block + place.at) count (items_of blocks.old.items) }
     ensures spares { EachSpare spare.new.items }
+    ensures count { length blocks.new.items ≤ length blocks.old.items }
     ensures rings { length blocks.new.items + length spare.new.items ≤ length blocks.old.items + length spare.old.items }
     ensures capacity { (vec_capacity blocks.new ≡ vec_capacity blocks.old) × (vec_capacity ends.new ≡ vec_capacity ends.old) }
 {
@@ -131,6 +134,7 @@ pub(crate) fn pop<T>(
     ensures chunked { IsChunked result.1 blocks.new.items ends.new.items }
     ensures items { items_of blocks.old.items ≡ result.0 ∷ items_of blocks.new.items }
     ensures spares { EachSpare spare.new.items }
+    ensures count { length blocks.new.items ≤ length blocks.old.items }
     ensures rings { length blocks.new.items + length spare.new.items ≤ length blocks.old.items + length spare.old.items }
     ensures capacity { (vec_capacity blocks.new ≡ vec_capacity blocks.old) × (vec_capacity ends.new ≡ vec_capacity ends.old) }
 {

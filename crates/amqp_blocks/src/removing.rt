@@ -25,6 +25,7 @@ fn cut_out<T: Drop>(
     requires within { to ≤ length (items_of blocks.old.items) }
     ensures sound { IsSound result.0 blocks.new ends.new spare.new }
     ensures items { items_of blocks.new.items ≡ take from (items_of blocks.old.items) ++ drop to (items_of blocks.old.items) }
+    ensures count { length blocks.new.items ≤ length blocks.old.items }
 {
     let first = locate_near(ends, base, hint, from);
     if to - from <= blocks[first.block].len() - first.at {
@@ -52,6 +53,7 @@ pub(crate) fn remove_some<T: Drop>(
     requires within { to ≤ length (items_of blocks.old.items) }
     ensures sound { IsSound result blocks.new ends.new spare.new }
     ensures items { items_of blocks.new.items ≡ take from (items_of blocks.old.items) ++ drop to (items_of blocks.old.items) }
+    ensures count { length blocks.new.items ≤ length blocks.old.items }
 {
     let (base, block) = cut_out(blocks, ends, base, spare, hint, from, to);
     join_near(blocks, ends, base, spare, block);

@@ -1,7 +1,7 @@
 //! Changes of one block's ring.
 
 ghost use Rattle.std.specs.Prelude.{◌≡◌, ◌+◌, ◌-◌, ◌<◌, ◌≤◌, [], ◌∷◌, ◌++◌, length, slice_index_or, slice_set, take, drop, vec_capacity};
-ghost use Rattle.std.specs.List.{insert};
+ghost use Rattle.std.specs.List.{insert, remove};
 ghost use Rattle.std.specs.VecDeque.{deque_capacity};
 ghost use Rattle.amqp_blocks.specs.Chunked.{Block, items_of, Within, HasItem};
 ghost use Rattle.amqp_blocks.specs.Changes.{IsThinned, IsPut, IsShifted, IsUnshifted, IsReplaced, IsHalved};
@@ -9,11 +9,23 @@ ghost use Rattle.amqp_blocks.specs.Changes.{IsThinned, IsPut, IsShifted, IsUnshi
 use crate::search::Place;
 use std::collections::VecDeque;
 
-/// Takes items out of a ring. The shorter side moves.
+/// Takes one item out of a ring, and drops it. The shorter side moves.
+fn cut_one<T: Drop>(ring: &mut VecDeque<T>, at: usize)
+    requires within { at < length ring.old.items }
+    ensures items { ring.new.items ≡ remove ring.old.items at }
+{
+    drop(ring.remove(at).unwrap());
+}
+
+/// Takes items out of a ring, and drops them.
 fn cut_ring<T: Drop>(ring: &mut VecDeque<T>, at: usize, count: usize)
     requires within { at + count ≤ length ring.old.items }
     ensures items { ring.new.items ≡ take at ring.old.items ++ drop (at + count) ring.old.items }
 {
+    // A drain would turn the ring twice.
+    if count == 1 {
+        return cut_one(ring, at);
+    }
     ring.drain(at..at + count);
 }
 

@@ -163,6 +163,7 @@ impl<T> Blocks<T> {
         requires few { length self.old.items < 2 ^ 33 }
         ensures items { self.new.items ≡ self.old.items ++ item ∷ [] }
         ensures room { self.old.room ≤ self.new.room + 1 }
+        ensures blocks { self.new.blocks ≤ self.old.blocks + 1 }
     {
         put_last(
             &mut self.blocks,
@@ -180,6 +181,7 @@ impl<T> Blocks<T> {
         requires within { rank ≤ length self.old.items }
         ensures items { self.new.items ≡ insert self.old.items rank item }
         ensures room { self.old.room ≤ self.new.room + 1 }
+        ensures blocks { self.new.blocks ≤ self.old.blocks + 1 }
     {
         put_before(
             &mut self.blocks,
@@ -209,6 +211,7 @@ impl<T> Blocks<T> {
     pub fn pop_front(&mut self) -> Option<T>
         ensures items { self.old.items ≡ option_to_list result ++ self.new.items }
         ensures variant { IsSome result ↔ (0 < length self.old.items) }
+        ensures blocks { self.new.blocks ≤ self.old.blocks }
     {
         if self.blocks.len() == 0 {
             return None;
@@ -225,6 +228,7 @@ impl<T> Blocks<T> {
         requires order { from ≤ to }
         requires within { to ≤ length self.old.items }
         ensures items { self.new.items ≡ take from self.old.items ++ drop to self.old.items }
+        ensures blocks { self.new.blocks ≤ self.old.blocks }
     {
         if from == to {
             return;

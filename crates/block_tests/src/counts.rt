@@ -89,6 +89,18 @@ fn blocks_are_few_where_items_come_in_falling_and_rising_order(
 }
 
 #[test]
+fn blocks_are_few_where_items_come_in_falling_order_before_the_last_of_a_block(
+    rt: HostRuntime,
+) -> Result<(), Fail> {
+    let mut blocks = filled(&rt, rt.alloc(), 2_000)?;
+    for _ in 0..2_000 {
+        insert(&rt, &mut blocks, 1_023)?;
+    }
+    are_few(&rt, &blocks);
+    Ok(())
+}
+
+#[test]
 fn blocks_are_few_where_every_second_item_left(rt: HostRuntime) -> Result<(), Fail> {
     let mut blocks = filled(&rt, rt.alloc(), 10_000)?;
     for rank in 0..5_000 {

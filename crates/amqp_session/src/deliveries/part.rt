@@ -1,4 +1,4 @@
-//! The part of a table in which a place is sought, and how a number that was read in it narrows it.
+//! The part of a table in which a place is sought, how a number that was read in it narrows it, and what tells where to read next.
 
 ghost use Rattle.std.specs.Prelude.{◌+◌, ◌-◌, ◌*◌, ◌^◌, ◌<◌, ◌≤◌, min, max, ◌≡◌};
 
@@ -8,6 +8,61 @@ pub(super) struct Part {
     pub(super) low: usize,
     pub(super) high: usize,
     pub(super) guess: usize,
+}
+
+/// What tells where a place is expected: where the last search ended, that so many numbers took so many places, and the place and the
+/// number that were read last. Nothing has to hold of them.
+#[derive(Clone, Copy)]
+pub(super) struct Clues {
+    hint: usize,
+    places: usize,
+    numbers: usize,
+    last: Option<(usize, u32)>,
+}
+
+impl Clues {
+    /// Those of a table with so many records, and so many numbers missing between them, of which one may have been read.
+    #[inline(always)]
+    pub(super) fn of(hint: usize, len: usize, missing: usize, last: Option<(usize, u32)>) -> Clues {
+        Clues {
+            hint,
+            places: len,
+            numbers: len.saturating_add(missing),
+            last,
+        }
+    }
+
+    /// These, and a number that was read. From there on numbers are thought to be as far apart as between it and the one before.
+    #[inline(always)]
+    pub(super) fn learned(self, at: usize, value: u32) -> Clues {
+        let (places, numbers) = match self.last {
+            Some((place, number)) => (at.abs_diff(place), value.abs_diff(number) as usize),
+            None => (self.places, self.numbers),
+        };
+        Clues {
+            hint: self.hint,
+            places,
+            numbers,
+            last: Some((at, value)),
+        }
+    }
+
+    /// How many places off a number is that is so far off: one at least, and one where it would be more than `most`, since numbers are
+    /// missing then which this does not know of.
+    #[inline(always)]
+    fn steps(self, far: usize, most: usize) -> usize {
+        let steps = (far.wrapping_mul(self.places) / self.numbers.max(1)).max(1);
+        if steps <= most { steps } else { 1 }
+    }
+
+    /// Where a place is expected between these: where the last search ended, if that is there, and else at the other one.
+    #[inline(always)]
+    fn guess(self, low: usize, high: usize, other: usize) -> usize {
+        if low <= self.hint && self.hint < high {
+            return self.hint;
+        }
+        other
+    }
 }
 
 /// The place to be read next: the expected one, or the nearest to it that has fewer than `half` places of the part before it, and
@@ -30,9 +85,9 @@ pub(super) fn probe(part: Part, half: usize) -> usize
 }
 
 /// What is left of a part in which numbers rise, where `number` is sought and `value` was read at a place. Numbers are whole: so the place
-/// is no farther from this one than the two numbers are apart. It is expected just so far, or next to this place where that is outside.
+/// is no farther from this one than the two numbers are apart. Clues tell where it is expected.
 #[inline(always)]
-pub(super) fn closer(part: Part, at: usize, value: u32, number: u32) -> Part
+pub(super) fn closer(part: Part, at: usize, value: u32, number: u32, clues: Clues) -> Part
     requires least { part.low ≤ at }
     requires most { at < part.high }
     requires fits { part.high ≤ 2 ^ 33 }
@@ -40,51 +95,33 @@ pub(super) fn closer(part: Part, at: usize, value: u32, number: u32) -> Part
     ensures more { number ≤ value → (result.low ≡ max part.low (at - (value - number))) × (result.high ≡ at) }
 {
     if value < number {
-        return behind(part, at, (number - value) as usize);
+        return behind(part, at, (number - value) as usize, clues);
     }
-    before(part, at, (value - number) as usize)
+    before(part, at, (value - number) as usize, clues)
 }
 
 /// The part behind a place, up to one that is so far behind it.
 #[inline(always)]
-fn behind(part: Part, at: usize, far: usize) -> Part
+fn behind(part: Part, at: usize, far: usize, clues: Clues) -> Part
     requires most { at < part.high }
     requires fits { at + far < 2 ^ 64 }
     ensures low { result.low ≡ at + 1 }
     ensures high { result.high ≡ min part.high (at + far) }
 {
-    let (low, end) = (at + 1, at + far);
-    if end <= part.high {
-        return Part {
-            low,
-            high: end,
-            guess: end,
-        };
-    }
-    Part {
-        low,
-        high: part.high,
-        guess: low,
-    }
+    let (low, high) = (at + 1, part.high.min(at + far));
+    let steps = clues.steps(far, high.saturating_sub(at));
+    let guess = clues.guess(low, high, at.saturating_add(steps));
+    Part { low, high, guess }
 }
 
 /// The part up to a place, from one that is so far before it.
 #[inline(always)]
-fn before(part: Part, at: usize, far: usize) -> Part
+fn before(part: Part, at: usize, far: usize, clues: Clues) -> Part
     ensures low { result.low ≡ max part.low (at - far) }
     ensures high { result.high ≡ at }
 {
-    let begin = at.saturating_sub(far);
-    if part.low <= begin {
-        return Part {
-            low: begin,
-            high: at,
-            guess: begin,
-        };
-    }
-    Part {
-        low: part.low,
-        high: at,
-        guess: at,
-    }
+    let (low, high) = (part.low.max(at.saturating_sub(far)), at);
+    let steps = clues.steps(far, at.saturating_sub(low));
+    let guess = clues.guess(low, high, at.saturating_sub(steps));
+    Part { low, high, guess }
 }

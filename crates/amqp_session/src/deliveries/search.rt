@@ -4,7 +4,7 @@ ghost use Rattle.std.specs.Prelude.{◌≡◌, ℕ, ◌+◌, ◌-◌, ◌*◌, �
 ghost use Rattle.amqp_session.specs.Deliveries.{compared, number_at, IsMissing};
 
 use super::Deliveries;
-use super::part::{Part, closer, probe};
+use super::part::{Clues, Part, closer, probe};
 
 impl Deliveries {
     /// Where the numbers from `first` on begin. Numbers are whole and rise: so the front tells the place, but for the missing numbers.
@@ -20,7 +20,7 @@ impl Deliveries {
         let len = self.len();
         let missing = self.missing();
         if len == 0 || len / 2 < missing {
-            return self.place_among_all(first);
+            return self.place_among_all(first, missing);
         }
         let front = self.first_number();
         if first <= front {
@@ -31,7 +31,7 @@ impl Deliveries {
 
     /// The same by a search of the whole table.
     #[inline(never)]
-    fn place_among_all(&mut self, first: u32) -> usize
+    fn place_among_all(&mut self, first: u32, missing: usize) -> usize
         ensures within { result ≤ length self.old.rows }
         ensures below { (i : ℕ) → i < result → number_at self.old.rows i < first }
         ensures above { (i : ℕ) → result ≤ i → i < length self.old.rows → first ≤ number_at self.old.rows i }
@@ -47,6 +47,7 @@ impl Deliveries {
                 high,
                 guess,
             },
+            Clues::of(guess, high, missing, None),
             places,
         )
     }
@@ -67,7 +68,8 @@ impl Deliveries {
         let len = self.len();
         let far = (first - front) as usize;
         let low = far.saturating_sub(missing).min(len);
-        let guess = expected(low, self.last_place(), far, len, missing);
+        let last = self.last_place();
+        let guess = expected(low, last, far, len, missing);
         let places = (len + 1).next_power_of_two() / 2;
         self.place_in(
             first,
@@ -76,6 +78,7 @@ impl Deliveries {
                 high: far.min(len),
                 guess,
             },
+            Clues::of(last, len, missing, Some((0, front))),
             places,
         )
     }
@@ -83,7 +86,7 @@ impl Deliveries {
     /// The same by a search of the part that can hold the place, which has fewer places than `places`, a power of two. Two to the power
     /// of the numbers that it reads is at most that.
     #[inline(always)]
-    fn place_in(&mut self, first: u32, part: Part, places: usize) -> usize
+    fn place_in(&mut self, first: u32, part: Part, clues: Clues, places: usize) -> usize
         requires order { part.low ≤ part.high }
         requires within { part.high ≤ length self.old.rows }
         requires below { (i : ℕ) → i < part.low → number_at self.old.rows i < first }
@@ -98,13 +101,14 @@ impl Deliveries {
     {
         // The proof reads what holds of a table.
         let _len = self.len();
-        let mut left = part;
+        let (mut left, mut clues) = (part, clues);
         let mut half = places;
         while left.low < left.high {
             half /= 2;
             let at = probe(left, half);
             let value = self.number(at);
-            left = closer(left, at, value, first);
+            clues = clues.learned(at, value);
+            left = closer(left, at, value, first, clues);
         }
         self.note_place(left.low);
         left.low

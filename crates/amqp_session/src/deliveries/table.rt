@@ -6,7 +6,7 @@ ghost use Rattle.amqp_session.specs.Deliveries.{IsRising, IsTable, IsMissing, co
 
 mod ranges;
 
-use super::part::{Part, closer, probe};
+use super::part::{Clues, Part, closer, probe};
 use super::{Delivery, ReadCount};
 use amqp_blocks::Blocks;
 use std::alloc::{AllocError, Global};
@@ -125,8 +125,8 @@ fn moved(at: usize, place: usize) -> usize {
     if place <= at { at.wrapping_add(1) } else { at }
 }
 
-/// Where the numbers from `number` on begin. They are expected at the guess.
-fn place_among(rows: &mut Blocks<Delivery>, number: u32, guess: usize) -> usize
+/// Where the numbers from `number` on begin. They are expected at the guess, and so many numbers are thought to be missing.
+fn place_among(rows: &mut Blocks<Delivery>, number: u32, guess: usize, missing: usize) -> usize
     requires rising { IsRising rows.old.items }
     requires few { length rows.old.items ≤ 2 ^ 32 }
     ensures within { result ≤ length rows.old.items }
@@ -140,6 +140,7 @@ fn place_among(rows: &mut Blocks<Delivery>, number: u32, guess: usize) -> usize
         high,
         guess,
     };
+    let mut clues = Clues::of(guess, high, missing, None);
     // Nothing is counted here: so there may be two reads more, which leave the first ones free to be near the guess.
     let mut half = (high + 1).next_power_of_two() * 4;
     while left.low < left.high {
@@ -147,7 +148,8 @@ fn place_among(rows: &mut Blocks<Delivery>, number: u32, guess: usize) -> usize
         let at = probe(left, half);
         rows.seek(at);
         let value = rows.get(at).number;
-        left = closer(left, at, value, number);
+        clues = clues.learned(at, value);
+        left = closer(left, at, value, number, clues);
     }
     left.low
 }
@@ -289,7 +291,8 @@ impl Deliveries {
         ensures capacity { self.old.capacity ≤ self.new.capacity }
         ensures reads { self.new.reads ≡ self.old.reads }
     {
-        let place = place_among(&mut self.rows, delivery.number, self.last_place);
+        let missing = self.missing();
+        let place = place_among(&mut self.rows, delivery.number, self.last_place, missing);
         put_at(&mut self.rows, place, delivery);
         self.last_place = moved(self.last_place, place);
     }
@@ -301,7 +304,8 @@ impl Deliveries {
         ensures above { (i : ℕ) → result ≤ i → i < length self.old.rows → number ≤ number_at self.old.rows i }
         ensures kept { self.new ≡ self.old }
     {
-        place_among(&mut self.rows, number, guess)
+        let missing = self.missing();
+        place_among(&mut self.rows, number, guess, missing)
     }
 
     /// Takes away `count` records from a place on; those past the end are the first ones. What moves is within a block.

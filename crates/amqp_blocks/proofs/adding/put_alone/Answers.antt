@@ -70,5 +70,6 @@ returns g c =
         rings = omega (arith, ap length ds, length-insert bs k full c.requires.block, ap length sp, length-append left (ring ∷ []));
         places = omega (arith, ap places_of ds, places_insert bs k full c.requires.block, ap places_of sp, places_append left (ring ∷ []), c.push_back_reserved.ensures.capacity);
       };
+      count = omega (arith, ap length ds, length-insert bs k full c.requires.block);
       capacity = (c.insert_reserved-2.ensures.capacity, omega (arith, c.insert_reserved.ensures.capacity, c.raise_from.ensures.capacity));
     }

@@ -3,14 +3,25 @@ use Rattle.std.specs.List.{insert}
 use Rattle.amqp_blocks.specs.Chunked.{EachSpare, places_of}
 use Rattle.amqp_blocks.proofs.PlaceLemmas.{ends_long, same_at}
 use Rattle.amqp_blocks.proofs.PutLemmas.{end_covers, size_of}
+use Rattle.amqp_blocks.proofs.LeaveLemmas.{some_at}
 use Rattle.amqp_blocks.proofs.RoomLemmas.{popped, spares_front, spares_last, places_append}
-use Rattle.amqp_blocks.proofs.SplitLemmas.{split_is}
+use Rattle.amqp_blocks.proofs.SplitLemmas.{split_is, sided}
 use Rattle.amqp_blocks.proofs.adding.split.Goals as goal
 
 pub halve-upper-requires-clause-empty : goal.halve-upper-requires-clause-empty
 halve-upper-requires-clause-empty g c =
     let sp = popped c.pop.result c.unwrap-ring.result c.args.spare.now.items c.pop.new.self.items c.unwrap-ring.ensures c.pop.ensures.items in
     (spares_last c.pop.new.self.items c.unwrap-ring.result (subst EachSpare sp c.requires.spares)).0
+
+pub cut_point-half-requires-clause-most : goal.cut_point-half-requires-clause-most
+cut_point-half-requires-clause-most g c =
+    let size = some_at c.args.blocks.now.items c.args.place.block c.index.result.now c.requires.chunked.some c.requires.block c.index.ensures in
+    omega (arith, size.1, c.len-most.ensures, c.index.result.now.ok.0)
+
+pub cut_point-half-requires-clause-places : goal.cut_point-half-requires-clause-places
+cut_point-half-requires-clause-places g c =
+    let sp = popped c.pop.result c.unwrap-ring.result c.args.spare.now.items c.pop.new.self.items c.unwrap-ring.ensures c.pop.ensures.items in
+    omega (arith, (spares_last c.pop.new.self.items c.unwrap-ring.result (subst EachSpare sp c.requires.spares)).1, c.capacity.ensures)
 
 pub index-requires-2 : goal.index-requires-2
 index-requires-2 g c =
@@ -24,7 +35,7 @@ overflow_sub-end g c =
     let upper = c.halve-upper.result in
     let cover = end_covers c.args.base bs c.args.place.block u.from c.index-2.result.now c.requires.block u.was in
     let end = c.index-2.ensures ∙ ap (λ (ks : List ℕ). get_or ks c.args.place.block c.index-2.result.now) c.requires.chunked.stops in
-    omega (arith, cover, end, c.len.ensures, upper.ok.0, ap length u.rest, length-drop c.max-half.result u.from.items)
+    omega (arith, cover, end, c.len.ensures, upper.ok.0, ap length u.rest, length-drop c.cut_point-half.result u.from.items)
 
 pub insert-requires : goal.insert-requires
 insert-requires g c =
@@ -48,13 +59,18 @@ returns g c =
     let empty = spares_last left ring spares in
     let u = c.halve-upper.ensures.halved in
     let upper = c.halve-upper.result in
-    let half = c.max-half.result in
+    let half = c.cut_point-half.result in
     let within = c.requires.within u.from u.was in
     let same = size_of c.index.result.now u.from (same_at bs i c.index.result.now u.from c.requires.block c.index.ensures u.was) in
-    let low : half < length u.from.items = omega (arith, within, same, c.index.result.now.ok.0, c.len-most.ensures, c.capacity.ensures, c.saturating_sub.ensures, c.max-half.ensures, empty.1) in
+    let cut = c.cut_point-half.ensures in
+    let long : c.len-most.result ≡ length u.from.items = omega (arith, same, c.index.result.now.ok.0, c.len-most.ensures) in
+    let low : half < length u.from.items = omega (arith, long, cut.less) in
+    let rest : length upper.items ≡ length u.from.items - half = ap length u.rest ∙ length-drop half u.from.items in
     let fs : c.insert.new.self.items ≡ insert es i (c.index-2.result.now - c.len.result) = rw c.unwrap.ensures at c.insert.ensures.items in
     let ds : c.insert-2.new.self.items ≡ insert c.halve-upper.new.blocks.items (i + 1) upper = rw c.unwrap-2.ensures at c.insert-2.ensures.items in
-    let s = split_is c.args.base bs c.halve-upper.new.blocks.items c.insert-2.new.self.items es c.insert.new.self.items i (i + 1) half c.index-2.result.now c.len.result ring upper c.requires.block u (omega (arith, c.max-half.ensures, c.requires.some)) low (add-one i) ds (c.len.ensures ∙ upper.ok.0) c.index-2.ensures fs c.requires.chunked in
+    let s = split_is c.args.base bs c.halve-upper.new.blocks.items c.insert-2.new.self.items es c.insert.new.self.items i (i + 1) half c.index-2.result.now c.len.result ring upper c.requires.block u cut.some low (add-one i) ds (c.len.ensures ∙ upper.ok.0) c.index-2.ensures fs c.requires.chunked in
+    let side = sided c.args.base bs c.insert-2.new.self.items c.insert.new.self.items i c.args.place.at half c.side_of.result.block c.side_of.result.at upper c.requires.block s
+    (omega (arith, rest, low, within)) (λ lt. let r = cut.room lt in omega (arith, r, rest, long, u.upper_places, c.capacity.ensures)) c.side_of.ensures.lower c.side_of.ensures.upper in
     record {
       chunked = s.chunked;
       spares = spares_front left ring spares;
@@ -63,9 +79,10 @@ returns g c =
         rings = omega (arith, s.count, ap length sp, length-append left (ring ∷ []));
         places = omega (arith, s.places, ap places_of sp, places_append left (ring ∷ []), u.upper_places);
       };
-      block = omega (arith, s.count, c.requires.block);
-      start = s.start;
-      within = λ b e. let l = s.lower b e in omega (arith, l, c.max-half.ensures);
-      place = s.place;
+      count = omega (arith, s.count);
+      block = side.block;
+      start = side.start;
+      within = side.within;
+      place = side.place;
       capacity = (omega (arith, c.insert-2.ensures.capacity, c.halve-upper.ensures.capacity), c.insert.ensures.capacity);
     }

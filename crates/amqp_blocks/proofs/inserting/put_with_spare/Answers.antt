@@ -43,20 +43,20 @@ returns-then-place-len-clause-items g c =
     omega (arith, r, c.if-place-len.true, c.len.ensures, c.index.result.now.ok.0)) in
     c.put_alone-then-place-len.ensures.items ∙ ap (λ n. insert (items_of bs) n c.args.item) (sym same)
 
-pub split-requires-clause-within : goal.split-requires-clause-within
-split-requires-clause-within g c = λ b e.
+pub split-place-requires-clause-within : goal.split-place-requires-clause-within
+split-place-requires-clause-within g c = λ b e.
     let i = c.args.place.block in
     let r = size_of c.index.result.now b (same_at c.args.blocks.now.items i c.index.result.now b c.requires.block c.index.ensures e) in
     let w = c.requires.within b e in
     omega (arith, w, r, c.if-place-len.false, c.len.ensures, c.index.result.now.ok.0)
 
 pub put_in-requires-clause-few : goal.put_in-requires-clause-few
-put_in-requires-clause-few g c = omega (arith, ap length c.split.ensures.items, c.requires.few)
+put_in-requires-clause-few g c = omega (arith, ap length c.split-place.ensures.items, c.requires.few)
 
 pub returns-clause-sound : goal.returns-clause-sound
 returns-clause-sound g c =
     let v = c.requires.sound in
-    let s = c.split.ensures in
+    let s = c.split-place.ensures in
     let e = c.put_in.ensures in
     record {
       chunked = e.chunked;
@@ -67,14 +67,13 @@ returns-clause-sound g c =
 
 pub returns-clause-items : goal.returns-clause-items
 returns-clause-items g c =
-    let s = c.split.ensures in
-    let i = c.args.place.block in
-    let at = c.args.place.at in
-    c.put_in.ensures.items ∙ ap (λ xs. insert xs (start_of c.split.new.blocks.items i + at) c.args.item) s.items
-    ∙ ap (λ n. insert (items_of c.args.blocks.now.items) (n + at) c.args.item) s.start
+    let s = c.split-place.ensures in
+    let p = c.split-place.result in
+    c.put_in.ensures.items ∙ ap (λ xs. insert xs (start_of c.split-place.new.blocks.items p.block + p.at) c.args.item) s.items
+    ∙ ap (λ n. insert (items_of c.args.blocks.now.items) n c.args.item) s.start
 
 pub returns-clause-kept : goal.returns-clause-kept
 returns-clause-kept g c =
-    let s = c.split.ensures.kept in
+    let s = c.split-place.ensures.kept in
     let e = c.put_in.ensures in
     record { rings = omega (arith, s.rings, e.count); places = omega (arith, s.places, e.places) }

@@ -37,4 +37,5 @@ returns g c =
         ends_fit = omega (arith, j.count, k.count, v.ends_fit, c.remove.ensures.capacity);
       };
       items = j.items;
+      count = omega (arith, j.count);
     }

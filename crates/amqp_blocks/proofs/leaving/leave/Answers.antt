@@ -70,6 +70,7 @@ returns g c =
       chunked = e.chunked;
       items = e.items ∙ ap items_of t.set ∙ items_thinned bs i c.args.place.at c.args.count _ t.from t.to c.requires.block t.was w t.items refl;
       spares = e.spares;
+      count = omega (arith, e.count, count);
       rings = omega (arith, e.rings, count);
       capacity = (e.capacity.0 ∙ c.thin.ensures.capacity, e.capacity.1 ∙ c.sink_or_rise-base.ensures.capacity);
     }

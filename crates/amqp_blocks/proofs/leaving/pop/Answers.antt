@@ -37,6 +37,7 @@ returns g c =
       chunked = e.chunked;
       items = items ∙ ap (λ xs. c.pop_first-item.result ∷ xs) (sym (e.items ∙ ap items_of t.set));
       spares = e.spares;
+      count = omega (arith, e.count, count);
       rings = omega (arith, e.rings, count);
       capacity = (e.capacity.0 ∙ c.pop_first-item.ensures.capacity, e.capacity.1);
     }

@@ -24,6 +24,7 @@ returns g c =
       };
       items = s.items;
       spares = c.sweep.ensures.spares;
+      count = c.sweep.ensures.count;
       rings = c.sweep.ensures.rings;
       capacity = (c.sweep.ensures.capacity.0, c.settle.ensures.capacity ∙ c.sweep.ensures.capacity.1);
     }
