@@ -15,7 +15,7 @@ use Rattle.amqp_engine.specs.declared.engine.step_error.StepError.{StepError}
 use Rattle.amqp_engine.specs.EngineView.{EngineView}
 use Rattle.amqp_engine.specs.Engine.{Steps}
 use Rattle.amqp_engine.specs.History.{OnlyLeft}
-use Rattle.amqp_engine.specs.Output.{IsOut, IsOuts, NextAnswer, PutOut, answer_of}
+use Rattle.amqp_engine.specs.Output.{IsOut, IsOuts, PutOut, answer_of}
 use Rattle.amqp_engine.specs.Putting.{DropsFirst}
 use Rattle.amqp_engine.specs.Waits.{FirstIs, TakesFirst}
 use Rattle.amqp_engine.specs.RunInto.{HandsBack, RanInto, SendsFirst, Tells, next_place, refusal_at, refusals_of, sent_of}

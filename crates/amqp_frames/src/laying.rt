@@ -1,6 +1,6 @@
 //! Frames and pieces laid into a buffer that has room for them, each behind its size (AMQP 1.0 part 2, section 2.3).
 
-ghost use Rattle.std.specs.Prelude.{◌≡◌, ◌+◌, ◌≤◌, ◌<◌, ◌^◌, ◌++◌, List, IfSome, length};
+ghost use Rattle.std.specs.Prelude.{◌≡◌, ◌+◌, ◌≤◌, ◌<◌, ◌^◌, ◌++◌, IfSome, length};
 ghost use Rattle.std.specs.Int.{w32, to_be_bytes};
 ghost use Rattle.amqp_frames.specs.Frame.{header_text, text_of, payload_of};
 ghost use Rattle.amqp_frames.specs.Piece.{piece_bytes};

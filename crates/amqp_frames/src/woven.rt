@@ -1,6 +1,6 @@
 //! Bytes that wait to be sent, in one buffer, with parts between them that are shared and not copied.
 
-ghost use Rattle.std.specs.Prelude.{◌≡◌, ℕ, ◌+◌, ◌-◌, ◌≤◌, ◌<◌, ◌^◌, ◌++◌, ◌↔◌, [], ◌∷◌, List, IsTrue, OnOk, length, drop, min, ◌==◌};
+ghost use Rattle.std.specs.Prelude.{◌≡◌, ℕ, ◌+◌, ◌-◌, ◌≤◌, ◌<◌, ◌^◌, ◌++◌, [], List, OnOk, length, drop, min, ◌==◌};
 ghost use Rattle.std.specs.VecDeque.{deque_capacity, deque_len};
 ghost use Rattle.amqp_frames.specs.declared.woven.SharedPart.{SharedPart};
 ghost use Rattle.amqp_frames.specs.Frame.{text_of};
