@@ -1,5 +1,6 @@
 //! A sequence in blocks beside a plain list, which gets the same changes.
 
+use crate::same::{holds, same};
 use amqp_blocks::Blocks;
 use std::alloc::Global;
 use std::process::Abort;
@@ -31,7 +32,7 @@ impl Beside {
 
     /// Puts an item behind the last.
     pub fn push_back(&mut self, rt: &impl Abort, item: u64) -> Result<(), Fail> {
-        assert!(rt; self.blocks.len() < MOST);
+        holds(rt, self.blocks.len() < MOST);
         self.blocks.reserve(1)?;
         self.blocks.push_back(item);
         self.plain.push(item)?;
@@ -41,9 +42,9 @@ impl Beside {
     /// Puts an item before that of a rank.
     pub fn insert(&mut self, rt: &impl Abort, rank: usize, item: u64) -> Result<(), Fail> {
         self.blocks.reserve(1)?;
-        assert!(rt; self.blocks.len() < MOST && rank <= self.blocks.len());
+        holds(rt, self.blocks.len() < MOST && rank <= self.blocks.len());
         self.blocks.insert(rank, item);
-        assert!(rt; rank < self.blocks.len() && rank <= self.plain.len());
+        holds(rt, rank < self.blocks.len() && rank <= self.plain.len());
         self.blocks.seek(rank);
         self.plain.insert(rank, item)?;
         Ok(())
@@ -56,7 +57,7 @@ impl Beside {
 
     /// Puts an item in the place of another.
     pub fn replace(&mut self, rt: &impl Abort, rank: usize, item: u64) {
-        assert!(rt; rank < self.blocks.len() && rank < self.plain.len());
+        holds(rt, rank < self.blocks.len() && rank < self.plain.len());
         self.blocks.replace(rank, item);
         self.plain[rank] = item;
     }
@@ -64,28 +65,37 @@ impl Beside {
     /// Takes the first item out.
     pub fn pop_front(&mut self, rt: &impl Abort) {
         let item = self.blocks.pop_front();
-        assert!(rt; self.plain.len() > 0);
-        assert_eq!(rt; item, Some(self.plain.remove(0)));
+        holds(rt, self.plain.len() > 0);
+        same(rt, item, Some(self.plain.remove(0)));
     }
 
     /// Takes a stretch out.
     pub fn remove_range(&mut self, rt: &impl Abort, from: usize, to: usize) {
-        assert!(rt; from <= to && to <= self.blocks.len() && to <= self.plain.len());
+        holds(
+            rt,
+            from <= to && to <= self.blocks.len() && to <= self.plain.len(),
+        );
         self.blocks.remove_range(from, to);
         self.plain.drain(from..to);
     }
 
     /// Whether both have the same items, their ends and lengths among them.
     pub fn are_equal(&self, rt: &impl Abort) {
-        assert_eq!(rt; self.blocks.len(), self.plain.len());
-        assert_eq!(rt; self.blocks.is_empty(), self.plain.is_empty());
-        assert_eq!(rt; self.blocks.first(), self.plain.first());
-        assert_eq!(rt; self.blocks.last(), self.plain.last());
-        for (rank, item) in self.plain.iter().enumerate() {
-            assert!(rt; rank < self.blocks.len());
-            assert_eq!(rt; self.blocks.get(rank), item, "at {rank}");
+        same(rt, self.blocks.len(), self.plain.len());
+        same(rt, self.blocks.is_empty(), self.plain.is_empty());
+        same(rt, self.blocks.first(), self.plain.first());
+        same(rt, self.blocks.last(), self.plain.last());
+        for rank in 0..self.plain.len() {
+            let item = item_of(rt, &self.blocks, rank);
+            same(rt, (rank, item), (rank, self.plain[rank]));
         }
     }
+}
+
+/// The item of a rank.
+fn item_of(rt: &impl Abort, blocks: &Blocks<u64>, rank: usize) -> u64 {
+    holds(rt, rank < blocks.len());
+    *blocks.get(rank)
 }
 
 /// Makes room for items, then puts them in at scattered ranks, with no call in between.
@@ -98,11 +108,11 @@ fn insert_many(
 ) -> Result<(), Fail> {
     blocks.reserve(count)?;
     for i in 0..count {
-        assert!(rt; blocks.len() < MOST);
+        holds(rt, blocks.len() < MOST);
         let rank = i.wrapping_mul(step) % (blocks.len() + 1);
         let item = i as u64;
         blocks.insert(rank, item);
-        assert!(rt; rank <= plain.len());
+        holds(rt, rank <= plain.len());
         plain.insert(rank, item)?;
     }
     Ok(())

@@ -1,5 +1,6 @@
 //! How many blocks there are after orders that leave few items in each.
 
+use crate::same::{holds, same};
 use amqp_blocks::Blocks;
 use std::alloc::Global;
 use std::process::Abort;
@@ -19,20 +20,20 @@ fn filled(rt: &impl Abort, alloc: Global, count: usize) -> Result<Blocks<usize>,
 
 fn push_back(rt: &impl Abort, blocks: &mut Blocks<usize>, item: usize) -> Result<(), Fail> {
     blocks.reserve(1)?;
-    assert!(rt; blocks.len() < 100_000);
+    holds(rt, blocks.len() < 100_000);
     blocks.push_back(item);
     Ok(())
 }
 
 fn insert(rt: &impl Abort, blocks: &mut Blocks<usize>, rank: usize) -> Result<(), Fail> {
     blocks.reserve(1)?;
-    assert!(rt; blocks.len() < 100_000 && rank <= blocks.len());
+    holds(rt, blocks.len() < 100_000 && rank <= blocks.len());
     blocks.insert(rank, rank);
     Ok(())
 }
 
 fn remove_range(rt: &impl Abort, blocks: &mut Blocks<usize>, from: usize, to: usize) {
-    assert!(rt; from <= to && to <= blocks.len());
+    holds(rt, from <= to && to <= blocks.len());
     blocks.remove_range(from, to);
 }
 
@@ -46,19 +47,19 @@ fn are_few(rt: &impl Abort, blocks: &Blocks<usize>) {
 #[test]
 fn blocks_are_counted(rt: HostRuntime) -> Result<(), Fail> {
     let mut blocks = Blocks::new(rt.alloc());
-    assert_eq!(rt; blocks.blocks(), 0);
+    same(&rt, blocks.blocks(), 0);
     push_back(&rt, &mut blocks, 7)?;
-    assert_eq!(rt; blocks.blocks(), 1);
+    same(&rt, blocks.blocks(), 1);
     for item in 0..256 {
         push_back(&rt, &mut blocks, item)?;
     }
-    assert_eq!(rt; blocks.blocks(), 2);
+    same(&rt, blocks.blocks(), 2);
     blocks.pop_front();
-    assert_eq!(rt; blocks.blocks(), 2);
+    same(&rt, blocks.blocks(), 2);
     remove_range(&rt, &mut blocks, 0, 255);
-    assert_eq!(rt; blocks.blocks(), 1);
+    same(&rt, blocks.blocks(), 1);
     blocks.pop_front();
-    assert_eq!(rt; blocks.blocks(), 0);
+    same(&rt, blocks.blocks(), 0);
     Ok(())
 }
 
@@ -118,7 +119,7 @@ fn blocks_are_few_where_all_left_but_each_200th(rt: HostRuntime) -> Result<(), F
             remove_range(&rt, &mut blocks, rank + 1, rank + 2);
         }
     }
-    assert_eq!(rt; blocks.len(), 200);
+    same(&rt, blocks.len(), 200);
     are_few(&rt, &blocks);
     Ok(())
 }
@@ -129,7 +130,7 @@ fn blocks_are_few_where_stretches_left(rt: HostRuntime) -> Result<(), Fail> {
     for rank in 0..200 {
         remove_range(&rt, &mut blocks, rank + 1, rank + 200);
     }
-    assert_eq!(rt; blocks.len(), 200);
+    same(&rt, blocks.len(), 200);
     are_few(&rt, &blocks);
     Ok(())
 }
@@ -141,7 +142,7 @@ fn blocks_are_few_where_items_left_from_the_last_on(rt: HostRuntime) -> Result<(
         let rank = (99 - step) * 200;
         remove_range(&rt, &mut blocks, rank, rank + 199);
     }
-    assert_eq!(rt; blocks.len(), 100);
+    same(&rt, blocks.len(), 100);
     are_few(&rt, &blocks);
     Ok(())
 }

@@ -9,3 +9,5 @@ mod calls;
 mod counts;
 #[cfg(test)]
 mod runs;
+#[cfg(test)]
+mod same;
