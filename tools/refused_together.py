@@ -15,13 +15,13 @@ the same. An edit that such a check does not refuse is tried again alone, and th
 (specs/) are tried alone, in a copy with all bodies.
 
 That a crate is proved as it stands is for 'rt ci' to say, which the gate calls before; a note names each crate that was changed since its
-rlib was made. Before the edits a check of such a copy with no edit in it, for one in eight of the functions that the edits name, has to
-leave no goal open; with 'control' as the first word it is for all of them. The last line is 'N passed, M failed'.
+rlib was made. Beside the edits of a check stand functions as they are, whose edits are in other checks: no goal of theirs may be open, which
+shows that such a copy leaves proved what was proved. They are one in eight of the functions that edits name, and with 'control' as the first
+word all of them. The last line is 'N passed, M failed'.
 
 'fit' checks nothing: it only says which edits do not find their old text in the code.
 """
 
-import contextlib
 import copy
 import json
 import os
@@ -41,8 +41,8 @@ ROOT = Path(__file__).resolve().parent.parent
 FOLDER = "must-fail-together"
 ANY_GOAL = re.compile(r"(?:\./)?\S+\.(?:rt|antt):\d+:\d+: error: |\S.*: no proof: .*did not prove ")
 # At most so many edits in one check, so that none takes long.
-MOST = 25
-# The control is of one in so many functions.
+MOST = 40
+# One in so many functions is checked as it stands too.
 ONE_IN = 8
 # How a function begins, as 'rt fmt' sets it, and the other lines of its head that stand as far out.
 BEGINS = re.compile(r"( *)(?:pub(?:\([\w:]+\))? )?(?:const )?fn (\w+)")
@@ -72,6 +72,17 @@ def open_goal(crate, function, said):
     noted = re.compile(rf"note: src/{re.escape('/'.join(module))}\.rt:\d+:\d+: it is not proved .*\(`{re.escape(name)}-returns")
     is_goal = lambda line: any(it.match(line) for it in (unanswered, own, cycle, noted)) and not MISSES_A_NAME.search(line)
     return next(filter(is_goal, said.splitlines()), None)
+
+
+def is_left_proved(crate, function, said):
+    """Whether a check came to its end, spoke of this function, and left none of its goals open."""
+    came_to_an_end = re.search(r"^only=\d+ proved=\d+$", said, re.M)
+    return came_to_an_end and f"\nfn {crate}::{function}: " in f"\n{said}" and not open_goal(crate, function, said)
+
+
+def is_free(function, edits):
+    """Whether a check of these edits shows of a function whether it is proved as it stands: no definition is edited, nor the function."""
+    return not edits[0].is_alone() and function not in [it.function for it in edits]
 
 
 class Edit:
@@ -181,15 +192,16 @@ def file_of(module):
 
 
 class Trial:
-    """The edits of one crate, each check of them over what those before it proved, which is kept in folders of this run."""
+    """The edits of one crate. Each check begins anew: to keep what one proved, and to read it in the next, costs more than it saves."""
 
-    def __init__(self, crate, edits, room):
-        self.crate, self.edits, self.room, self.free = crate, edits, room, []
-        self.folder, self.lines, self.checks = Path(crate.folder), {}, 0
+    def __init__(self, crate, edits):
+        self.crate, self.edits = crate, edits
+        self.folder, self.lines, self.checks, self.unproved = Path(crate.folder), {}, 0, []
 
     def check(self, names, texts, is_bare=True):
-        """Checks these functions in a copy of the crate: a bare one, in which no other function has a proof, or a whole one."""
-        with LANES, self.borrowed() as kept, tempfile.TemporaryDirectory(prefix="rt-together-") as room:
+        """What the check of these functions says in a copy of the crate: a bare one, in which no other function has a proof, or a whole one."""
+        with LANES, tempfile.TemporaryDirectory(prefix="rt-together-") as room:
+            self.checks += 1
             crate = copy.copy(self.crate)
             crate.folder = room
             for part in RT.rtlib.PARTS:
@@ -200,7 +212,7 @@ class Trial:
                 proof.mkdir(parents=True)
                 proof.joinpath("Proof.antt").touch()
             own = [word for name in names for word in ("--only", name)]
-            return RT.checked(crate, {**texts, **self.bare(others, texts)}, ["--jobs", "1", *own], kept)
+            return RT.checked(crate, {**texts, **self.bare(others, texts)}, ["--jobs", "1", *own], None).stdout
 
     def bare(self, others, texts):
         """The texts of the crate's files in which the other functions have no bodies."""
@@ -214,44 +226,32 @@ class Trial:
                 bare[path] = without_bodies(texts.get(path, whole), whole, names(others) - names(kept))
         return bare
 
-    @contextlib.contextmanager
-    def borrowed(self):
-        """A folder of what checks of this crate have proved, for one check at a time, which adds to it."""
-        kept = self.free.pop() if self.free else tempfile.mkdtemp(dir=self.room)
-        yield kept
-        self.free.append(kept)
-
-    def spread(self, number):
-        """Gives so many checks at a time what the control proved."""
-        [first] = self.free
-        for _ in range(1, number):
-            self.free.append(tempfile.mkdtemp(dir=self.room))
-            shutil.copytree(first, self.free[-1], dirs_exist_ok=True)
-
-    def control(self, one_in):
-        """Why the edits would show nothing, if so: a goal that is open as the crate stands, or the last words of a check without an end."""
-        names = sorted({it.function for it in self.edits})[::one_in]
-        said = self.check(names, {}).stdout
-        came_to_an_end = re.search(r"^only=\d+ proved=\d+$", said, re.M)
-        return any_goal(said) if came_to_an_end else said[-300:] or "nothing"
+    def control(self, names, said):
+        """Notes which of these functions, which stand as they are in a check, are not proved there, nor by themselves."""
+        for name in names:
+            if not is_left_proved(self.crate.name, name, said):
+                alone = self.check([name], {})
+                if not is_left_proved(self.crate.name, name, alone):
+                    self.unproved.append(f"{name}: {any_goal(alone) or alone[-300:] or 'nothing'}")
 
     def tell(self, edit, is_well, text):
         self.lines[edit.name] = is_well, f"{self.crate.name}/{edit.name}: {text}"
 
-    def judge(self, edits, texts, is_bare=True):
-        """Notes which of the edits a check refuses, and tries each of the others alone, and at last in a whole copy."""
-        ran = self.check([it.function for it in edits], texts, is_bare)
-        self.checks += 1
+    def judge(self, edits, texts, names=(), is_bare=True):
+        """Notes which of the edits a check refuses, in which functions of these names stand as they are, and tries each of the others alone, and
+        at last in a whole copy."""
+        said = self.check([*(it.function for it in edits), *names], texts, is_bare)
+        self.control(names, said)
         for edit in edits:
-            goal = edit.goal(self.crate.name, ran.stdout)
+            goal = edit.goal(self.crate.name, said)
             if goal:
                 self.tell(edit, True, f"refused, as it must be: {goal[:160]}")
-            elif len(edits) > 1:
+            elif len(edits) > 1 or names:
                 self.judge([edit], edit.texts(self.folder))
             elif is_bare:
                 self.judge(edits, texts, is_bare=False)
             else:
-                last = (ran.stdout.strip().splitlines() or ["nothing"])[-1]
+                last = (said.strip().splitlines() or ["nothing"])[-1]
                 self.tell(edit, False, f"NOT REFUSED: no goal of {edit.function} is left unproved; the check ended in: {last[:160]}")
 
     def batches(self):
@@ -274,22 +274,31 @@ class Trial:
         edits.append(edit)
         return True
 
+    def controls(self, one_in, batches):
+        """The functions that stand as they are in each of these checks, none of which edits them, and those for which there is no such check."""
+        names, without = [[] for _ in batches], []
+        for function in sorted({it.function for it in self.edits})[::one_in]:
+            free = [at for at, (edits, _) in enumerate(batches) if is_free(function, edits)]
+            place = min(free, key=lambda at: len(batches[at][0]) + len(names[at]), default=None)
+            (without if place is None else names[place]).append(function)
+        return names, without
+
     def run(self, one_in):
         """Whether each edit is refused, and what to say of it."""
-        why = self.control(one_in)
-        if why:
-            return [(False, f"{self.crate.name}: NOT PROVED without an edit: {why}")]
         batches = self.batches()
-        self.spread(min(len(batches), RT.processors()))
-        with ThreadPoolExecutor(len(batches) or 1) as pool:
-            list(pool.map(lambda it: self.judge(*it), batches))
+        names, without = self.controls(one_in, batches)
+        with ThreadPoolExecutor(len(batches) + 1) as pool:
+            alone = pool.submit(lambda: self.control(without, self.check(without, {})) if without else None)
+            list(pool.map(lambda it, names: self.judge(*it, names), batches, names))
+            alone.result()
+        if self.unproved:
+            return [(False, f"{self.crate.name}: NOT PROVED without an edit: {why}") for why in self.unproved]
         return [self.lines[edit.name] for edit in self.edits]
 
 
 def tried(crate, edits, one_in):
-    with tempfile.TemporaryDirectory(prefix="rt-together-") as room:
-        trial = Trial(crate, edits, room)
-        lines = trial.run(one_in)
+    trial = Trial(crate, edits)
+    lines = trial.run(one_in)
     said = [text for _, text in lines] + [f"{crate.name}: {len(edits)} edits in {trial.checks} checks"]
     print("\n".join(said), flush=True)
     return [is_well for is_well, _ in lines]
