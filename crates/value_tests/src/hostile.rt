@@ -1,6 +1,7 @@
 //! Untrusted values: deep ones, and sizes and counts that promise more than there is.
 
 use crate::reading::{Answer, WHOLE, read};
+use crate::same::same;
 use bytes::{Bytes, BytesMut};
 use std::alloc::Global;
 use std::test::Fail;
@@ -57,10 +58,10 @@ fn maps(alloc: Global, around: u8) -> Result<Bytes, Fail> {
 #[test]
 fn described_values_nest_64_times(rt: HostRuntime) -> Result<(), Fail> {
     for (depth, want) in [(63, WHOLE), (64, WHOLE), (65, Answer::Malformed)] {
-        let text = described(rt.alloc(), depth)?;
-        assert_eq!(rt; read(text), want, "depth {depth}");
-        let text = in_descriptors(rt.alloc(), depth)?;
-        assert_eq!(rt; read(text), want, "depth {depth}");
+        let found = read(described(rt.alloc(), depth)?);
+        same(&rt, (depth, found), (depth, want));
+        let found = read(in_descriptors(rt.alloc(), depth)?);
+        same(&rt, (depth, found), (depth, want));
     }
     Ok(())
 }
@@ -68,10 +69,10 @@ fn described_values_nest_64_times(rt: HostRuntime) -> Result<(), Fail> {
 #[test]
 fn arrays_and_maps_nest_64_times(rt: HostRuntime) -> Result<(), Fail> {
     for (around, want) in [(62, WHOLE), (63, WHOLE), (64, Answer::Malformed)] {
-        let text = arrays(rt.alloc(), around)?;
-        assert_eq!(rt; read(text), want, "arrays round {around}");
-        let text = maps(rt.alloc(), around)?;
-        assert_eq!(rt; read(text), want, "maps round {around}");
+        let found = read(arrays(rt.alloc(), around)?);
+        same(&rt, ("arrays", around, found), ("arrays", around, want));
+        let found = read(maps(rt.alloc(), around)?);
+        same(&rt, ("maps", around, found), ("maps", around, want));
     }
     Ok(())
 }
@@ -98,6 +99,7 @@ const TOO_LONG: [&'static [u8]; 12] = [
 #[test]
 fn lengths_of_32_bits_against_short_input(rt: HostRuntime) {
     for bytes in TOO_LONG {
-        assert_eq!(rt; read(Bytes::from_static(bytes)), Answer::Malformed);
+        let found = read(Bytes::from_static(bytes));
+        same(&rt, (bytes, found), (bytes, Answer::Malformed));
     }
 }

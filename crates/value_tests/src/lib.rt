@@ -12,4 +12,6 @@ mod raw_values;
 #[cfg(test)]
 mod reading;
 #[cfg(test)]
+mod same;
+#[cfg(test)]
 mod symbols;

@@ -1,5 +1,6 @@
 //! Which delivery states are terminal.
 
+use crate::same::same;
 use amqp_values::{Raw, is_terminal};
 use bytes::{Bytes, BytesMut};
 use std::alloc::Global;
@@ -35,10 +36,10 @@ fn states_by_number(rt: HostRuntime) -> Result<(), Fail> {
     for number in 0x20u8..0x2c {
         let want = Some(0x24 <= number && number <= 0x27);
         let small = is_terminal_text(rt.alloc(), &[0x00, 0x53], &[number], &[0x45])?;
-        assert_eq!(rt; small, want, "53 {number:02x}");
+        same(&rt, (0x53, number, small), (0x53, number, want));
         let code = [0x00, 0x80, 0, 0, 0, 0, 0, 0, 0];
         let large = is_terminal_text(rt.alloc(), &code, &[number], &[0x45])?;
-        assert_eq!(rt; large, want, "80 {number:02x}");
+        same(&rt, (0x80, number, large), (0x80, number, want));
     }
     Ok(())
 }
@@ -56,10 +57,10 @@ fn states_by_name(rt: HostRuntime) -> Result<(), Fail> {
     ];
     for (name, want) in rows {
         let short = is_terminal_text(rt.alloc(), &[0x00, 0xa3, 18], name, &[0x45])?;
-        assert_eq!(rt; short, Some(want), "a3 {name:?}");
+        same(&rt, (0xa3, name, short), (0xa3, name, Some(want)));
         let head = [0x00, 0xb3, 0, 0, 0, 18];
         let long = is_terminal_text(rt.alloc(), &head, name, &[0xc0, 1, 0])?;
-        assert_eq!(rt; long, Some(want), "b3 {name:?}");
+        same(&rt, (0xb3, name, long), (0xb3, name, Some(want)));
     }
     Ok(())
 }
@@ -76,7 +77,7 @@ fn other_values_are_not_terminal(rt: HostRuntime) {
     ];
     for row in rows {
         let answer = is_terminal_value(Bytes::from_static(row));
-        assert_eq!(rt; answer, Some(false), "{row:?}");
+        same(&rt, (row, answer), (row, Some(false)));
     }
 }
 
@@ -90,8 +91,7 @@ fn outcomes_without_fields(rt: HostRuntime) {
         let is_spelled = outcome.bytes() == [0x00, 0x53, number, 0x45].as_slice();
         let ends = is_terminal(&outcome);
         drop(outcome);
-        assert!(rt; is_spelled);
-        assert!(rt; ends);
+        same(&rt, (number, is_spelled, ends), (number, true, true));
     }
 }
 
@@ -108,10 +108,10 @@ fn value_len(bytes: &'static [u8]) -> Option<usize> {
 
 #[test]
 fn bytes_that_are_one_value(rt: HostRuntime) {
-    assert_eq!(rt; value_len(b"\x43"), Some(1));
-    assert_eq!(rt; value_len(b"\xa1\x02ab"), Some(4));
-    assert_eq!(rt; value_len(b"\x43\x43"), None);
-    assert_eq!(rt; value_len(b"\x40"), None);
-    assert_eq!(rt; value_len(b"\xa1\x02a"), None);
-    assert_eq!(rt; value_len(b""), None);
+    same(&rt, value_len(b"\x43"), Some(1));
+    same(&rt, value_len(b"\xa1\x02ab"), Some(4));
+    same(&rt, value_len(b"\x43\x43"), None);
+    same(&rt, value_len(b"\x40"), None);
+    same(&rt, value_len(b"\xa1\x02a"), None);
+    same(&rt, value_len(b""), None);
 }

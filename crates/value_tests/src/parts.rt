@@ -1,5 +1,6 @@
 //! The code, the descriptor and the parts of a value.
 
+use crate::same::{holds, same};
 use amqp_values::{Raw, ValueRef};
 use bytes::Bytes;
 use std::test::Fail;
@@ -48,8 +49,8 @@ fn a_map_gives_its_keys_and_values_in_turn(rt: HostRuntime) -> Result<(), Fail> 
     let shown = shows_a_map(&map);
     let given = gives_a_key_and_a_value(&map);
     drop(map);
-    assert!(rt; shown == [true; 4]);
-    assert!(rt; given == [true; 4]);
+    same(&rt, shown, [true; 4]);
+    same(&rt, given, [true; 4]);
     Ok(())
 }
 
@@ -90,9 +91,9 @@ fn a_described_value_has_a_descriptor_and_a_value_inside(rt: HostRuntime) -> Res
     let descriptor = has_its_descriptor(&accepted);
     let inside = has_a_list_inside(&accepted);
     drop(accepted);
-    assert!(rt; shown == [true; 2]);
-    assert!(rt; descriptor == [true; 2]);
-    assert!(rt; inside == [true; 2]);
+    same(&rt, shown, [true; 2]);
+    same(&rt, descriptor, [true; 2]);
+    same(&rt, inside, [true; 2]);
     Ok(())
 }
 
@@ -110,31 +111,42 @@ fn lists_and_maps_alone_have_items(rt: HostRuntime) -> Result<(), Fail> {
         (&[0x53, 7], None),
     ];
     for (bytes, want) in rows {
-        let (raw, _) = Raw::read(Bytes::from_static(bytes))?;
-        let count = raw.view().items().map(|items| items.count());
-        assert_eq!(rt; count, want, "{bytes:?}");
+        let value = raw(bytes)?;
+        let count = value.view().items().map(|items| items.count());
+        drop(value);
+        same(&rt, (bytes, count), (bytes, want));
     }
     Ok(())
 }
 
-/// Whether a value is like another one with the same bytes and like its own copy, and unlike one that is spelled otherwise.
-fn is_like_the_first_two(values: [&Raw; 3]) -> Result<[bool; 3], Fail> {
-    let [first, same, other] = values;
-    let copy = first.view().clone()?;
-    Ok([
-        first.view() == same.view(),
-        first.view() == copy,
-        first.view() != other.view(),
-    ])
+/// Whether the values of two spellings are alike.
+fn are_alike(one: &'static [u8], other: &'static [u8]) -> Result<bool, Fail> {
+    let one = raw(one)?;
+    let answer = is_like(&one, other);
+    drop(one);
+    answer
+}
+
+fn is_like(one: &Raw, other: &'static [u8]) -> Result<bool, Fail> {
+    let other = raw(other)?;
+    let is_same = one.view() == other.view() && !(one.view() != other.view());
+    drop(other);
+    Ok(is_same)
+}
+
+fn is_like_its_copy(value: &Raw) -> Result<bool, Fail> {
+    let copy = value.view().clone()?;
+    Ok(value.view() == copy)
 }
 
 #[test]
 fn values_are_compared_by_their_spelling(rt: HostRuntime) -> Result<(), Fail> {
+    holds(&rt, are_alike(&[0x52, 5], &[0x52, 5])?);
+    holds(&rt, !are_alike(&[0x52, 5], &[0x70, 0, 0, 0, 5])?);
     let five = raw(&[0x52, 5])?;
-    let same = raw(&[0x52, 5])?;
-    let wide = raw(&[0x70, 0, 0, 0, 5])?;
-    let alike = is_like_the_first_two([&five, &same, &wide])?;
-    assert!(rt; alike == [true; 3]);
+    let is_copied = is_like_its_copy(&five);
+    drop(five);
+    holds(&rt, is_copied?);
     Ok(())
 }
 
@@ -155,7 +167,7 @@ fn is_like_a_copy_in_step(list: &Raw) -> Result<[bool; 3], Fail> {
 fn parts_are_compared_by_what_is_left(rt: HostRuntime) -> Result<(), Fail> {
     let list = raw(&[0xc0, 3, 2, 0x40, 0x40])?;
     let alike = is_like_a_copy_in_step(&list)?;
-    assert!(rt; alike == [true; 3]);
+    same(&rt, alike, [true; 3]);
     Ok(())
 }
 
@@ -171,7 +183,7 @@ fn parts_are_the_same_in_a_short_list_and_in_a_long_one(rt: HostRuntime) -> Resu
     let other = raw(&[0xc0, 3, 2, 0x41, 0x40])?;
     let alike = have_the_same_parts(&short, &long);
     let unlike = have_the_same_parts(&short, &other);
-    assert!(rt; alike);
-    assert!(rt; !unlike);
+    holds(&rt, alike);
+    holds(&rt, !unlike);
     Ok(())
 }

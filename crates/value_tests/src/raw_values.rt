@@ -3,6 +3,7 @@
 ghost use Rattle.std.specs.Prelude.{◌<◌};
 
 use crate::reading::{Answer, WHOLE, read};
+use crate::same::{holds, same};
 use amqp_values::{Fields, Raw};
 use bytes::{Bytes, BytesMut};
 use std::alloc::Global;
@@ -51,7 +52,8 @@ fn values_are_told_from_other_bytes(rt: HostRuntime) -> Result<(), Fail> {
         (&[0xe0, 4, 2, 0x50, 7, 8, 0xff], Answer::Value { left: 1 }),
     ];
     for (bytes, want) in rows {
-        assert_eq!(rt; read(Bytes::from_static(bytes)), want, "{bytes:?}");
+        let found = read(Bytes::from_static(bytes));
+        same(&rt, (bytes, found), (bytes, want));
     }
     Ok(())
 }
@@ -71,31 +73,31 @@ fn nested(alloc: Global, lists: u8) -> Result<Bytes, Fail>
 
 #[test]
 fn a_depth_of_64_is_the_deepest(rt: HostRuntime) -> Result<(), Fail> {
-    let deepest = nested(rt.alloc(), 63)?;
-    assert_eq!(rt; deepest.len(), 190);
-    assert_eq!(rt; read(deepest), WHOLE);
-    let deeper = nested(rt.alloc(), 64)?;
-    assert_eq!(rt; deeper.len(), 193);
-    assert_eq!(rt; read(deeper), Answer::Malformed);
+    let deepest = read_nested(rt.alloc(), 63)?;
+    same(&rt, deepest, (190, WHOLE));
+    let deeper = read_nested(rt.alloc(), 64)?;
+    same(&rt, deeper, (193, Answer::Malformed));
     Ok(())
+}
+
+/// How long so many lists are, and what they are read as.
+fn read_nested(alloc: Global, lists: u8) -> Result<(usize, Answer), Fail>
+    requires { lists < 80 }
+{
+    let text = nested(alloc, lists)?;
+    let len = text.len();
+    Ok((len, read(text)))
 }
 
 #[test]
 fn the_rest_is_given_back(rt: HostRuntime) -> Result<(), Fail> {
     let bytes = Bytes::from_static(&[0x53, 7, 0x40, 0xff]);
     let (raw, rest) = Raw::read(bytes)?;
-    assert_eq!(rt; raw.bytes(), [0x53, 7].as_slice());
-    assert_eq!(rt; rest.as_slice(), [0x40, 0xff].as_slice());
-    Ok(())
-}
-
-#[test]
-fn values_are_equal_where_their_bytes_are(rt: HostRuntime) -> Result<(), Fail> {
-    let (seven, _) = Raw::read(Bytes::from_static(&[0x53, 7]))?;
-    let (wide_seven, _) = Raw::read(Bytes::from_static(&[0x80, 0, 0, 0, 0, 0, 0, 0, 7]))?;
-    let copy = seven.clone()?;
-    assert!(rt; copy == seven);
-    assert!(rt; seven != wide_seven);
+    let is_seven = raw.bytes() == [0x53, 7].as_slice();
+    let is_rest = rest.as_slice() == [0x40, 0xff].as_slice();
+    drop(raw);
+    drop(rest);
+    same(&rt, (is_seven, is_rest), (true, true));
     Ok(())
 }
 
@@ -103,6 +105,40 @@ fn values_are_equal_where_their_bytes_are(rt: HostRuntime) -> Result<(), Fail> {
 fn raw(bytes: &'static [u8]) -> Result<Raw, Fail> {
     let (raw, _) = Raw::read(Bytes::from_static(bytes))?;
     Ok(raw)
+}
+
+/// Whether the values of two spellings are equal.
+fn are_equal(one: &'static [u8], other: &'static [u8]) -> Result<bool, Fail> {
+    let one = raw(one)?;
+    let answer = is_equal(&one, other);
+    drop(one);
+    answer
+}
+
+fn is_equal(one: &Raw, other: &'static [u8]) -> Result<bool, Fail> {
+    let other = raw(other)?;
+    let is_same = *one == other && !(*one != other);
+    drop(other);
+    Ok(is_same)
+}
+
+fn is_its_copy(value: &Raw) -> Result<bool, Fail> {
+    let copy = value.clone()?;
+    let is_same = copy == *value;
+    drop(copy);
+    Ok(is_same)
+}
+
+#[test]
+fn values_are_equal_where_their_bytes_are(rt: HostRuntime) -> Result<(), Fail> {
+    let wide = &[0x80, 0, 0, 0, 0, 0, 0, 0, 7];
+    holds(&rt, are_equal(&[0x53, 7], &[0x53, 7])?);
+    holds(&rt, !are_equal(&[0x53, 7], wide)?);
+    let seven = raw(&[0x53, 7])?;
+    let is_copied = is_its_copy(&seven);
+    drop(seven);
+    holds(&rt, is_copied?);
+    Ok(())
 }
 
 /// Whether the fields of a map are there, give the map back, and are the same as their copy.
@@ -133,8 +169,8 @@ fn fields_are_maps(rt: HostRuntime) -> Result<(), Fail> {
     let map = are_the_map(raw(&[0xc1, 6, 2, 0xa3, 1, 0x78, 0x52, 5])?)?;
     let wide = are_fields(raw(&[0xd1, 0, 0, 0, 4, 0, 0, 0, 0])?);
     let list = are_fields(raw(&[0xc0, 3, 2, 0x40, 0x40])?);
-    assert!(rt; map == [true; 2]);
-    assert!(rt; wide);
-    assert!(rt; !list);
+    same(&rt, map, [true; 2]);
+    holds(&rt, wide);
+    holds(&rt, !list);
     Ok(())
 }

@@ -1,5 +1,6 @@
 //! Symbols, one and many, and the error for refused memory.
 
+use crate::same::{holds, same};
 use amqp_values::{Field, ReadError, Symbol};
 use bytes::Bytes;
 use std::alloc::{AllocError, Global};
@@ -30,7 +31,8 @@ fn symbols_are_texts_of_ascii_bytes(rt: HostRuntime) -> Result<(), Fail> {
         ("x\u{e9}", false),
     ];
     for (text, want) in rows {
-        assert_eq!(rt; is_symbol(rt.alloc(), text)?, want);
+        let found = is_symbol(rt.alloc(), text)?;
+        same(&rt, (text, found), (text, want));
     }
     Ok(())
 }
@@ -39,7 +41,10 @@ fn symbols_are_texts_of_ascii_bytes(rt: HostRuntime) -> Result<(), Fail> {
 fn symbols_of_other_texts_are_others(rt: HostRuntime) -> Result<(), Fail> {
     let one = symbol(rt.alloc(), "amqp:accepted:list")?.ok_or("a symbol")?;
     let other = symbol(rt.alloc(), "amqp:accepted:lisp")?.ok_or("a symbol")?;
-    assert!(rt; one != other);
+    let are_others = one != other;
+    drop(one);
+    drop(other);
+    holds(&rt, are_others);
     Ok(())
 }
 
@@ -98,17 +103,17 @@ fn many_symbols_are_read_into_a_list_of_their_number(rt: HostRuntime) {
         left: 1,
     };
     let short = b"\xe0\x08\x03\xa3\x00\x02ab\x01c\x40";
-    assert_eq!(rt; read(rt.alloc(), short), three);
+    same(&rt, read(rt.alloc(), short), three);
     let long =
         b"\xf0\x00\x00\x00\x14\x00\x00\x00\x03\xb3\x00\x00\x00\x00\x00\x00\x00\x02ab\x00\x00\x00\x01c\x40";
-    assert_eq!(rt; read(rt.alloc(), long), three);
+    same(&rt, read(rt.alloc(), long), three);
     let alone = Many::Symbols {
         count: 1,
         len: 2,
         room: 1,
         left: 1,
     };
-    assert_eq!(rt; read(rt.alloc(), b"\xa3\x02ab\x40"), alone);
+    same(&rt, read(rt.alloc(), b"\xa3\x02ab\x40"), alone);
 }
 
 /// Also where the first request for memory is refused.
@@ -120,8 +125,8 @@ fn symbols_of_a_wrong_count_are_malformed(rt: HostRuntime) {
         b"\xe0\x08\x03\xa3\x00\x02ab\x02c",
         b"\xe0\x08\x03\xa3\x00\x02ab\x01\xff",
     ] {
-        assert_eq!(rt; read(rt.alloc(), bytes), Many::Malformed);
+        same(&rt, read(rt.alloc(), bytes), Many::Malformed);
     }
     let many = b"\xf0\x00\x00\x00\x08\xff\xff\xff\xff\xa3\x00\x00\x00";
-    assert_eq!(rt; read(rt.alloc(), many), Many::Malformed);
+    same(&rt, read(rt.alloc(), many), Many::Malformed);
 }
