@@ -5,7 +5,7 @@
 
 Each side of each recording (crates/codec_tests/captures) is the peer of an engine that has sent its Open and one Begin and asks for nothing
 else. What the engine then refuses is worked out here from the recorded fields (AMQP 1.0 part 2, sections 2.4 and 2.5): it has one session
-and no link. Behind the recordings stand streams with which something is wrong.
+and no link. Behind the recordings stand streams with which something is wrong, and transfers in pieces of at most 24 bytes.
 """
 
 import json
@@ -81,12 +81,14 @@ class Engine:
 
 
 def told(frames):
-    """What is sent, what is refused, and that each way of splitting the stream gives the same."""
+    """What is sent, what is refused, and that each way of splitting the stream gives the same; then the places of the refusals in one run, in
+    which the Open and the Begin stand before the frames."""
     engine = Engine()
     names = [engine.refuses(*it) for it in frames]
     sent = sized(bytes([2, 0, 0, 0]) + OUR_OPEN) + sized(bytes([2, 0, 0, 0]) + OUR_BEGIN)
     refused = [f"refused: {name}" for name in names if name]
-    return [f"sent {sent.hex()}", *refused, *[f"chunks of {size}: the same" for size in (1, 7, 4096)]]
+    places = [f"at {place}: {name}" for place, name in enumerate(names, 2) if name]
+    return [f"sent {sent.hex()}", *refused, *[f"chunks of {size}: the same" for size in (1, 7, 4096)], "one run: the same", *places]
 
 
 def recording(name):
@@ -118,6 +120,27 @@ STREAMS = [
     (HEADER + b"\xff\xff\xff\xff" + b"\2\0\0\0", "invalid data"),
 ]
 
+# transfers, and the frames that each is sent in: the head of a piece, and how much of the payload it has
+HEAD = bytes.fromhex("02000000005314")
+ALONE, FIRST = HEAD + bytes.fromhex("c00b054343a004000000014342"), HEAD + bytes.fromhex("c00c064343a00400000001434241")
+MIDDLE, LAST = HEAD + bytes.fromhex("c00706434040404041"), HEAD + bytes.fromhex("c0020143")
+PIECES = [
+    [(ALONE, 0)],
+    [(ALONE, 4)],
+    [(FIRST, 3), (LAST, 2)],
+    [(FIRST, 3), (MIDDLE, 8), (LAST, 8)],
+    [(FIRST, 3), (MIDDLE, 8), (MIDDLE, 8), (LAST, 6)],
+]
+
+
+def in_pieces(pieces):
+    """The transfer as one frame, and its pieces, each behind its size. The payload counts up from 0."""
+    lens = [length for _, length in pieces]
+    payload = bytes(range(sum(lens)))
+    ends = [sum(lens[: at + 1]) for at in range(len(lens))]
+    cut = [head + payload[end - length : end] for (head, length), end in zip(pieces, ends)]
+    return ALONE + payload, b"".join(map(sized, cut))
+
 
 def main():
     given, wanted = [], []
@@ -129,6 +152,9 @@ def main():
     for stream, end in STREAMS:
         given.append(f"stream {stream.hex()}")
         wanted.append(end)
+    for frame, sent in map(in_pieces, PIECES):
+        given.append(f"pieces {frame.hex()}")
+        wanted.append(sent.hex())
     for file, lines in ("stdin", given), ("stdout", wanted):
         CRATE.joinpath(file).write_text("".join(line + "\n" for line in lines))
 

@@ -1,11 +1,14 @@
 //! Frames of a recorded peer come as a stream of bytes, in chunks of several sizes, and alone: an engine answers the same.
 //!
 //! A line `-- NAME` begins a recording; each line behind it is one frame in hexadecimal, without its size. For each recording it
-//! prints what the engine sent and what it refused. A line `stream HEX` is a stream that something is wrong with: it prints how
-//! reading it ends.
+//! prints what the engine sent and what it refused, and of all frames in one run into one buffer at which place each refusal stands. A line
+//! `stream HEX` is a stream that something is wrong with: it prints how reading it ends. A line `pieces HEX` is a frame: it prints its pieces
+//! under a limit of 24 bytes, each as it is written.
 #![tactic(auto)]
 
 mod chunks;
+mod one_run;
+mod pieces;
 
 use amqp_transport::{exchange_headers, next_frame, push, receive, run};
 use bytes::Bytes;
@@ -95,6 +98,10 @@ fn take_line<O: Write>(
             tell(alloc, hash, frames, out)?;
             tell_end(alloc, digits, out)
         }
+        Some(("pieces", digits)) => {
+            tell(alloc, hash, frames, out)?;
+            pieces::tell(alloc, bytes_of(alloc, digits)?, out)
+        }
         Some(_) => {
             tell(alloc, hash, frames, out)?;
             Ok(writeln!(out, "{line}")?)
@@ -138,6 +145,7 @@ fn tell<O: Write>(
     for size in [1, 7, 4096] {
         tell_streamed(alloc, hash, stream.as_slice(), size, &alone, out)?;
     }
+    one_run::tell(alloc, hash, frames.as_slice(), alone.sent.as_slice(), out)?;
     frames.clear();
     Ok(())
 }
