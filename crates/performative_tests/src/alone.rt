@@ -4,6 +4,7 @@ ghost use Rattle.std.specs.Prelude.{◌≡◌, ◌≤◌, ◌<◌, ◌^◌, leng
 ghost use Rattle.amqp_types.specs.Performatives.{performative_text};
 
 use crate::digits::{dense, read};
+use crate::same::same;
 use amqp_types::laws::text_is_read;
 use amqp_types::{DeliveryTag, Handle, Performative, Transfer, TransferText};
 use bytes::{Bytes, BytesMut};
@@ -87,7 +88,7 @@ fn is_put_as(alloc: Global, performative: &Performative, want: &str) -> Result<b
 #[test]
 fn each_performative_puts_its_text(rt: HostRuntime) -> Result<(), Fail> {
     for digits in TEXTS {
-        assert!(rt; is_put(rt.alloc(), digits)?, "{digits}");
+        same(&rt, (digits, is_put(rt.alloc(), digits)?), (digits, true));
     }
     Ok(())
 }
@@ -138,7 +139,11 @@ fn the_texts_of_a_transfer_that_is_cut(rt: HostRuntime) -> Result<(), Fail> {
         (TransferText::Last, "005314c0020143"),
     ];
     for (text, want) in rows {
-        assert!(rt; is_cut_as(rt.alloc(), text, want)?, "{want}");
+        same(
+            &rt,
+            (want, is_cut_as(rt.alloc(), text, want)?),
+            (want, true),
+        );
     }
     Ok(())
 }

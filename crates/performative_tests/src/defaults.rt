@@ -1,12 +1,13 @@
 //! Performatives made by their mandatory fields, and the outcome rejected.
 
 use crate::digits::{dense, written};
+use crate::same::{holds, same};
 use amqp_types::{
     Attach, Begin, Close, Detach, Disposition, Error, Fields, Flow, Handle, Open, Performative,
     Raw, ReadError, Role, Symbol, Transfer, rejected,
 };
 use bytes::Bytes;
-use std::alloc::Global;
+use std::alloc::{AllocError, Global};
 use std::test::Fail;
 
 fn text(alloc: Global, text: &str) -> Result<String, Fail> {
@@ -31,14 +32,23 @@ fn is_written(alloc: Global, performative: Performative, digits: &str) -> Result
 fn fields_that_are_not_named_are_not_written(rt: HostRuntime) -> Result<(), Fail> {
     let alloc = rt.alloc();
     let open = Performative::Open(Open::new(text(alloc, "a")?));
-    assert!(rt; is_written(alloc, open, "005310 c00401 a10161")?);
+    holds(&rt, is_written(alloc, open, "005310 c00401 a10161")?);
     let begin = Performative::Begin(Begin::new(0, 8, 9));
-    assert!(rt; is_written(alloc, begin, "005311 c00704 40 43 5208 5209")?);
+    holds(
+        &rt,
+        is_written(alloc, begin, "005311 c00704 40 43 5208 5209")?,
+    );
     let attach = Attach::new(text(alloc, "a")?, Handle(3), Role::Receiver);
     let attach = Performative::Attach(attach);
-    assert!(rt; is_written(alloc, attach, "005312 c00703 a10161 5203 41")?);
+    holds(
+        &rt,
+        is_written(alloc, attach, "005312 c00703 a10161 5203 41")?,
+    );
     let flow = Performative::Flow(Flow::new(None, 8, 0, 9));
-    assert!(rt; is_written(alloc, flow, "005313 c00704 40 5208 43 5209")?);
+    holds(
+        &rt,
+        is_written(alloc, flow, "005313 c00704 40 5208 43 5209")?,
+    );
     Ok(())
 }
 
@@ -46,31 +56,43 @@ fn fields_that_are_not_named_are_not_written(rt: HostRuntime) -> Result<(), Fail
 fn fields_of_deliveries_that_are_not_named_are_not_written(rt: HostRuntime) -> Result<(), Fail> {
     let alloc = rt.alloc();
     let transfer = Performative::Transfer(Transfer::new(Handle(3)));
-    assert!(rt; is_written(alloc, transfer, "005314 c00301 5203")?);
+    holds(&rt, is_written(alloc, transfer, "005314 c00301 5203")?);
     let disposition = Performative::Disposition(Disposition::new(Role::Sender, 5));
-    assert!(rt; is_written(alloc, disposition, "005315 c00402 42 5205")?);
+    holds(
+        &rt,
+        is_written(alloc, disposition, "005315 c00402 42 5205")?,
+    );
     let detach = Performative::Detach(Detach::new(Handle(3)));
-    assert!(rt; is_written(alloc, detach, "005316 c00301 5203")?);
+    holds(&rt, is_written(alloc, detach, "005316 c00301 5203")?);
     let error = Some(error(alloc)?);
     let close = Performative::Close(Close { error });
-    assert!(rt; is_written(alloc, close, "005318 c00a01 00531d c00401 a30178")?);
+    holds(
+        &rt,
+        is_written(alloc, close, "005318 c00a01 00531d c00401 a30178")?,
+    );
     Ok(())
 }
 
 /// A map whose one value is a list inside so many lists.
 fn nested(alloc: Global, depth: u8) -> Result<Fields, Fail> {
     let mut value = Vec::from_slice(alloc, &[0x45])?;
-    for _ in 0..depth {
-        let size = u8::try_from(value.len().saturating_add(1)).map_err(|_| "too long")?;
-        let mut outer = Vec::from_slice(alloc, &[0xc0, size, 1])?;
-        outer.extend_from_slice(value.as_slice())?;
-        value = outer;
+    for level in 0..depth {
+        let size = level.saturating_mul(3).saturating_add(2);
+        value = behind(alloc, &[0xc0, size, 1], value)?;
     }
-    let size = u8::try_from(value.len().saturating_add(4)).map_err(|_| "too long")?;
-    let mut map = Vec::from_slice(alloc, &[0xc1, size, 2, 0xa3, 1, 0x78])?;
-    map.extend_from_slice(value.as_slice())?;
+    let size = depth.saturating_mul(3).saturating_add(5);
+    let map = behind(alloc, &[0xc1, size, 2, 0xa3, 1, 0x78], value)?;
     let raw = Raw::of_bytes(Bytes::from_vec(map)?).ok_or("no value")?;
     Ok(Fields::new(raw).ok_or("no map")?)
+}
+
+/// A head, and the value behind it.
+fn behind(alloc: Global, head: &[u8], value: Vec<u8>) -> Result<Vec<u8>, AllocError> {
+    let mut whole = Vec::from_slice(alloc, head)?;
+    let outcome = whole.extend_from_slice(value.as_slice());
+    drop(value);
+    outcome?;
+    Ok(whole)
 }
 
 #[test]
@@ -81,7 +103,9 @@ fn a_rejected_delivery_has_its_error(rt: HostRuntime) -> Result<(), Fail> {
     let want = [
         0x00, 0x53, 0x25, 0xc0, 0x0a, 1, 0x00, 0x53, 0x1d, 0xc0, 4, 1, 0xa3, 1, 0x78,
     ];
-    assert_eq!(rt; outcome.bytes(), want.as_slice());
+    same(&rt, outcome.bytes(), want.as_slice());
+    drop(outcome);
+    drop(error);
     Ok(())
 }
 
@@ -90,11 +114,14 @@ fn an_error_that_is_nested_too_deeply_is_refused(rt: HostRuntime) -> Result<(), 
     let alloc = rt.alloc();
     let mut error = error(alloc)?;
     error.info = Some(nested(alloc, 57)?);
-    assert!(rt; rejected(alloc, &error).is_ok());
+    let shallow = rejected(alloc, &error);
+    let is_accepted = shallow.is_ok();
+    drop(shallow);
     error.info = Some(nested(alloc, 60)?);
     let refused = rejected(alloc, &error);
     let is_malformed = matches!(&refused, Err(ReadError::Malformed));
     drop(refused);
-    assert!(rt; is_malformed);
+    drop(error);
+    same(&rt, (is_accepted, is_malformed), (true, true));
     Ok(())
 }

@@ -2,19 +2,25 @@
 
 use amqp_types::{Performative, ReadError};
 use bytes::{Bytes, BytesMut};
-use std::alloc::Global;
+use std::alloc::{AllocError, Global};
 use std::test::Fail;
 
 /// The bytes of these digits; spaces are left out.
 pub fn bytes(alloc: Global, digits: &str) -> Result<Bytes, Fail> {
+    let dense = without_spaces(alloc, digits)?;
+    let bytes = hex::decode(alloc, dense.as_str());
+    drop(dense);
+    Ok(Bytes::from_vec(bytes?)?)
+}
+
+fn without_spaces(alloc: Global, digits: &str) -> Result<String, AllocError> {
     let mut dense = String::new(alloc);
     for digit in digits.chars() {
         if digit != ' ' {
             dense.push(digit)?;
         }
     }
-    let bytes = hex::decode(alloc, dense.as_str())?;
-    Ok(Bytes::copy_from_slice(alloc, bytes.as_slice())?)
+    Ok(dense)
 }
 
 /// The performative that the digits spell, with nothing behind it.
@@ -46,6 +52,21 @@ pub fn rewritten(alloc: Global, digits: &str) -> Result<String, Fail> {
     };
     drop(read);
     text
+}
+
+/// Whether that is this text.
+pub fn is_rewritten(alloc: Global, digits: &str, want: &str) -> Result<bool, Fail> {
+    let text = rewritten(alloc, digits)?;
+    let is_so = text.as_str() == want;
+    drop(text);
+    Ok(is_so)
+}
+
+/// The same of two performatives.
+pub fn are_rewritten(alloc: Global, digits: [&str; 2], want: &str) -> Result<[bool; 2], Fail> {
+    let [one, other] = digits;
+    let first = is_rewritten(alloc, one, want)?;
+    Ok([first, is_rewritten(alloc, other, want)?])
 }
 
 fn refused(alloc: Global, error: &ReadError) -> Result<String, Fail> {

@@ -1,6 +1,7 @@
 //! The fields of each performative, and when two are the same.
 
 use crate::digits::{read, written};
+use crate::same::same;
 use amqp_types::Performative;
 use std::alloc::Global;
 use std::test::Fail;
@@ -61,11 +62,8 @@ fn has_this_copy(alloc: Global, one: &Performative) -> Result<bool, Fail> {
 fn a_performative_is_the_same_as_itself_alone(rt: HostRuntime) -> Result<(), Fail> {
     for (i, left) in TEXTS.iter().enumerate() {
         for (k, right) in TEXTS.iter().enumerate() {
-            assert_eq!(rt;
-                are_same(rt.alloc(), left, right)?,
-                i == k,
-                "{left} and {right}"
-            );
+            let found = are_same(rt.alloc(), left, right)?;
+            same(&rt, (i, k, found), (i, k, i == k));
         }
     }
     Ok(())
@@ -74,7 +72,7 @@ fn a_performative_is_the_same_as_itself_alone(rt: HostRuntime) -> Result<(), Fai
 #[test]
 fn a_copy_is_the_same(rt: HostRuntime) -> Result<(), Fail> {
     for text in TEXTS {
-        assert!(rt; is_its_copy(rt.alloc(), text)?, "{text}");
+        same(&rt, (text, is_its_copy(rt.alloc(), text)?), (text, true));
     }
     Ok(())
 }
@@ -116,7 +114,9 @@ fn fields_have_their_values_and_defaults(rt: HostRuntime) -> Result<(), Fail> {
         ),
     ];
     for (text, want) in rows {
-        assert_eq!(rt; shown(rt.alloc(), text)?.as_str(), want);
+        let shown = shown(rt.alloc(), text)?;
+        same(&rt, shown.as_str(), want);
+        drop(shown);
     }
     Ok(())
 }

@@ -1,6 +1,7 @@
 //! Untrusted bytes: each is answered, and none makes memory run out.
 
-use crate::digits::{bytes, rewritten};
+use crate::digits::{bytes, is_rewritten};
+use crate::same::same;
 use amqp_types::{Performative, ReadError};
 use bytes::{Bytes, BytesMut};
 use std::alloc::Global;
@@ -47,15 +48,28 @@ fn a_changed_byte_is_answered(rt: HostRuntime) -> Result<(), Fail> {
     let alloc = rt.alloc();
     for digits in BODIES {
         let body = bytes(alloc, digits)?;
-        let text = body.as_slice();
-        assert!(rt; is_read(alloc, text)?, "{digits}");
-        for (place, byte) in text.iter().enumerate() {
-            for new in [0x00, 0xff, !*byte] {
-                is_read(alloc, with(alloc, text, place, new)?.as_slice())?;
-            }
-        }
+        let found = is_answered(alloc, body.as_slice());
+        drop(body);
+        same(&rt, (digits, found?), (digits, true));
     }
     Ok(())
+}
+
+/// Whether these bytes are a performative. They are read with each byte changed, three times, too.
+fn is_answered(alloc: Global, text: &[u8]) -> Result<bool, Fail> {
+    for (place, byte) in text.iter().enumerate() {
+        for new in [0x00, 0xff, !*byte] {
+            is_read_with(alloc, text, place, new)?;
+        }
+    }
+    is_read(alloc, text)
+}
+
+fn is_read_with(alloc: Global, text: &[u8], place: usize, byte: u8) -> Result<bool, Fail> {
+    let changed = with(alloc, text, place, byte)?;
+    let answer = is_read(alloc, changed.as_slice());
+    drop(changed);
+    answer
 }
 
 /// Whether no proper front of these bytes is a performative.
@@ -84,13 +98,20 @@ fn leaves_a_byte_behind(alloc: Global, text: &[u8]) -> Result<bool, Fail> {
     Ok(is_left)
 }
 
+/// Whether no proper front of these bytes is a performative, and a byte behind them is left.
+fn is_one_alone(alloc: Global, text: &[u8]) -> Result<[bool; 2], Fail> {
+    let fronts = no_front_is_read(alloc, text)?;
+    Ok([fronts, leaves_a_byte_behind(alloc, text)?])
+}
+
 #[test]
 fn a_proper_front_is_malformed_and_a_byte_behind_is_left(rt: HostRuntime) -> Result<(), Fail> {
     let alloc = rt.alloc();
     for digits in BODIES {
         let body = bytes(alloc, digits)?;
-        assert!(rt; no_front_is_read(alloc, body.as_slice())?, "{digits}");
-        assert!(rt; leaves_a_byte_behind(alloc, body.as_slice())?, "{digits}");
+        let found = is_one_alone(alloc, body.as_slice());
+        drop(body);
+        same(&rt, (digits, found?), (digits, [true; 2]));
     }
     Ok(())
 }
@@ -131,11 +152,9 @@ fn nested(alloc: Global, depth: u8) -> Result<Vec<u8>, Fail> {
 fn a_state_has_a_depth_of_at_most_64(rt: HostRuntime) -> Result<(), Fail> {
     for (depth, want) in [(1, true), (63, true), (64, true), (65, false), (80, false)] {
         let text = nested(rt.alloc(), depth)?;
-        assert_eq!(rt;
-            is_read(rt.alloc(), text.as_slice())?,
-            want,
-            "depth {depth}"
-        );
+        let found = is_read(rt.alloc(), text.as_slice());
+        drop(text);
+        same(&rt, (depth, found?), (depth, want));
     }
     Ok(())
 }
@@ -159,11 +178,8 @@ fn numbers_of_32_bits_against_short_input_are_malformed(rt: HostRuntime) -> Resu
         "00b3ffffffff 616d71703a636c6f73653a6c697374 45",
     ];
     for digits in rows {
-        assert_eq!(rt;
-            rewritten(rt.alloc(), digits)?.as_str(),
-            "malformed",
-            "{digits}"
-        );
+        let found = is_rewritten(rt.alloc(), digits, "malformed")?;
+        same(&rt, (digits, found), (digits, true));
     }
     Ok(())
 }

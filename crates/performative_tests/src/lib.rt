@@ -12,6 +12,8 @@ mod fields;
 #[cfg(test)]
 mod hostile;
 #[cfg(test)]
+mod same;
+#[cfg(test)]
 mod spellings;
 #[cfg(test)]
 mod widths;

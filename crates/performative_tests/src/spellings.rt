@@ -1,6 +1,7 @@
 //! Each spelling of each type of field, and the one that is written (AMQP 1.0 part 1, section 1.6).
 
-use crate::digits::{dense, rewritten};
+use crate::digits::{are_rewritten, dense, is_rewritten};
+use crate::same::same;
 use std::alloc::Global;
 use std::process::Abort;
 use std::test::Fail;
@@ -8,20 +9,24 @@ use std::test::Fail;
 /// Each row's first text reads as what its second spells, which is what is written.
 fn is_written_as(rt: &impl Abort, alloc: Global, rows: &[(&str, &str)]) -> Result<(), Fail> {
     for (spelled, canonical) in rows {
-        let want = dense(alloc, canonical)?;
-        assert_eq!(rt; rewritten(alloc, spelled)?, want, "{spelled}");
-        assert_eq!(rt; rewritten(alloc, canonical)?, want, "{canonical}");
+        let found = is_written(alloc, spelled, canonical)?;
+        same(rt, (*spelled, found), (*spelled, [true; 2]));
     }
     Ok(())
 }
 
+/// Whether both texts are written as the second spells it.
+fn is_written(alloc: Global, spelled: &str, canonical: &str) -> Result<[bool; 2], Fail> {
+    let want = dense(alloc, canonical)?;
+    let answer = are_rewritten(alloc, [spelled, canonical], want.as_str());
+    drop(want);
+    answer
+}
+
 fn are_malformed(rt: &impl Abort, alloc: Global, rows: &[&str]) -> Result<(), Fail> {
     for spelled in rows {
-        assert_eq!(rt;
-            rewritten(alloc, spelled)?.as_str(),
-            "malformed",
-            "{spelled}"
-        );
+        let found = is_rewritten(alloc, spelled, "malformed")?;
+        same(rt, (*spelled, found), (*spelled, true));
     }
     Ok(())
 }
