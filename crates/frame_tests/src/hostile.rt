@@ -1,5 +1,6 @@
 //! Untrusted bytes as frames: each is answered.
 
+use crate::same::{holds, same};
 use amqp_frames::{Error, FrameBody, FrameDecoder};
 use bytes::Bytes;
 use std::alloc::Global;
@@ -147,12 +148,20 @@ fn may_be_changed(alloc: Global, digits: &str) -> Result<bool, Fail> {
 
 #[test]
 fn a_changed_byte_is_answered(rt: HostRuntime) -> Result<(), Fail> {
-    assert!(rt; may_be_changed(rt.alloc(), "02000000")?);
+    holds(&rt, may_be_changed(rt.alloc(), "02000000")?);
     for (digits, _) in FRAMES {
-        assert!(rt; may_be_changed(rt.alloc(), digits)?, "{digits}");
+        same(
+            &rt,
+            (digits, may_be_changed(rt.alloc(), digits)?),
+            (digits, true),
+        );
     }
     for (digits, _) in OTHERS {
-        assert!(rt; may_be_changed(rt.alloc(), digits)?, "{digits}");
+        same(
+            &rt,
+            (digits, may_be_changed(rt.alloc(), digits)?),
+            (digits, true),
+        );
     }
     Ok(())
 }
@@ -185,10 +194,18 @@ fn has_fronts(alloc: Global, digits: &str, behind: usize) -> Result<bool, Fail> 
 #[test]
 fn fronts_of_frames(rt: HostRuntime) -> Result<(), Fail> {
     for (digits, behind) in FRAMES {
-        assert!(rt; has_fronts(rt.alloc(), digits, behind)?, "{digits}");
+        same(
+            &rt,
+            (digits, has_fronts(rt.alloc(), digits, behind)?),
+            (digits, true),
+        );
     }
     for (digits, behind) in OTHERS {
-        assert!(rt; has_fronts(rt.alloc(), digits, behind)?, "{digits}");
+        same(
+            &rt,
+            (digits, has_fronts(rt.alloc(), digits, behind)?),
+            (digits, true),
+        );
     }
     Ok(())
 }
@@ -210,6 +227,6 @@ const TOO_LONG: [&'static [u8]; 8] = [
 fn lengths_of_32_bits_against_short_input(rt: HostRuntime) {
     for bytes in TOO_LONG {
         let answer = decoded(rt.alloc(), Bytes::from_static(bytes));
-        assert!(rt; answer == Answer::Malformed);
+        holds(&rt, answer == Answer::Malformed);
     }
 }

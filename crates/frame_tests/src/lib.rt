@@ -12,6 +12,8 @@ mod pieces;
 #[cfg(test)]
 mod plain;
 #[cfg(test)]
+mod same;
+#[cfg(test)]
 mod sending;
 #[cfg(test)]
 mod split;

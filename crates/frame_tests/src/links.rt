@@ -1,6 +1,7 @@
 //! Frames that are whole and speak of links: their bytes.
 
 use crate::given::is_said;
+use crate::same::holds;
 use amqp_frames::{Frame, FrameBody};
 use amqp_types::{
     Attach, Disposition, End, Flow, Handle, ReceiverSettleMode, Role, SenderSettleMode,
@@ -31,7 +32,7 @@ fn an_attach(rt: HostRuntime) -> Result<(), Fail> {
         0x40, 0x40, 0x43,
     ];
     let frame = Frame::new(1, FrameBody::Attach(attach));
-    assert!(rt; is_said(alloc, frame, [2, 0, 0, 1], &text)?);
+    holds(&rt, is_said(alloc, frame, [2, 0, 0, 1], &text)?);
     Ok(())
 }
 
@@ -55,7 +56,7 @@ fn a_flow(rt: HostRuntime) -> Result<(), Fail> {
         0x2c, 0x40, 0x40, 0x40, 0x40, 0x40, 0x41,
     ];
     let frame = Frame::new(1, FrameBody::Flow(flow));
-    assert!(rt; is_said(rt.alloc(), frame, [2, 0, 0, 1], &text)?);
+    holds(&rt, is_said(rt.alloc(), frame, [2, 0, 0, 1], &text)?);
     Ok(())
 }
 
@@ -71,8 +72,11 @@ fn a_disposition_and_an_end(rt: HostRuntime) -> Result<(), Fail> {
     };
     let text = [0x00, 0x53, 0x15, 0xc0, 0x05, 0x04, 0x41, 0x43, 0x40, 0x41];
     let frame = Frame::new(1, FrameBody::Disposition(disposition));
-    assert!(rt; is_said(rt.alloc(), frame, [2, 0, 0, 1], &text)?);
+    holds(&rt, is_said(rt.alloc(), frame, [2, 0, 0, 1], &text)?);
     let end = Frame::new(1, FrameBody::End(End { error: None }));
-    assert!(rt; is_said(rt.alloc(), end, [2, 0, 0, 1], &[0x00, 0x53, 0x17, 0x45])?);
+    holds(
+        &rt,
+        is_said(rt.alloc(), end, [2, 0, 0, 1], &[0x00, 0x53, 0x17, 0x45])?,
+    );
     Ok(())
 }

@@ -3,6 +3,7 @@
 ghost use Rattle.std.specs.Prelude.{◌≤◌};
 
 use crate::given::{continuation, delivery, payload, pieces};
+use crate::same::{holds, same};
 use amqp_frames::{Error, FrameEncoder, Piece};
 use amqp_types::Transfer;
 use bytes::Bytes;
@@ -78,29 +79,37 @@ fn is_cut(
 fn a_transfer_is_whole_or_cut(rt: HostRuntime) -> Result<(), Fail> {
     let alloc = rt.alloc();
     let whole: &[(&[u8], usize)] = &[(&ALONE, 4)];
-    assert!(rt; is_cut(alloc, 24, payload(alloc, 4)?, delivery(0), (whole, &[24])));
+    holds(
+        &rt,
+        is_cut(alloc, 24, payload(alloc, 4)?, delivery(0), (whole, &[24])),
+    );
     let four: &[(&[u8], usize)] = &[(&FIRST, 3), (&MIDDLE, 8), (&MIDDLE, 8), (&LAST, 6)];
     let lens = &[24, 24, 24, 17];
-    assert!(rt; is_cut(alloc, 24, payload(alloc, 25)?, delivery(0), (four, lens)));
+    holds(
+        &rt,
+        is_cut(alloc, 24, payload(alloc, 25)?, delivery(0), (four, lens)),
+    );
     let three: &[(&[u8], usize)] = &[(&FIRST, 3), (&MIDDLE, 8), (&LAST, 8)];
-    assert!(rt;
+    holds(
+        &rt,
         is_cut(
             alloc,
             24,
             payload(alloc, 19)?,
             delivery(0),
-            (three, &[24, 24, 19])
-        )
+            (three, &[24, 24, 19]),
+        ),
     );
     let bare: &[(&[u8], usize)] = &[(&FIRST, 0), (&LAST, 2)];
-    assert!(rt;
+    holds(
+        &rt,
         is_cut(
             alloc,
             21,
             payload(alloc, 2)?,
             delivery(0),
-            (bare, &[21, 13])
-        )
+            (bare, &[21, 13]),
+        ),
     );
     Ok(())
 }
@@ -119,11 +128,23 @@ fn is_too_large(alloc: Global, limit: u32, payload: Bytes, transfer: Transfer) -
 fn a_cut_that_does_not_fit_is_refused(rt: HostRuntime) -> Result<(), Fail> {
     let alloc = rt.alloc();
     let middle: &[(&[u8], usize)] = &[(&MIDDLE, 0)];
-    assert!(rt; is_cut(alloc, 16, Bytes::new(), continuation(true), (middle, &[16])));
-    assert!(rt; is_too_large(alloc, 16, payload(alloc, 1)?, continuation(true)));
+    holds(
+        &rt,
+        is_cut(alloc, 16, Bytes::new(), continuation(true), (middle, &[16])),
+    );
+    holds(
+        &rt,
+        is_too_large(alloc, 16, payload(alloc, 1)?, continuation(true)),
+    );
     let whole: &[(&[u8], usize)] = &[(&ALONE, 0)];
-    assert!(rt; is_cut(alloc, 20, Bytes::new(), delivery(0), (whole, &[20])));
-    assert!(rt; is_too_large(alloc, 20, payload(alloc, 1)?, delivery(0)));
+    holds(
+        &rt,
+        is_cut(alloc, 20, Bytes::new(), delivery(0), (whole, &[20])),
+    );
+    holds(
+        &rt,
+        is_too_large(alloc, 20, payload(alloc, 1)?, delivery(0)),
+    );
     Ok(())
 }
 
@@ -139,16 +160,19 @@ fn room(limit: u32, number: u32) -> Option<u32>
 
 #[test]
 fn the_room_beside_a_transfer(rt: HostRuntime) {
-    assert_eq!(rt; room(24, 0), Some(4));
-    assert_eq!(rt; room(20, 0), Some(0));
-    assert_eq!(rt; room(19, 0), None);
-    assert_eq!(rt; room(24, 4294967295), Some(0));
+    same(&rt, room(24, 0), Some(4));
+    same(&rt, room(20, 0), Some(0));
+    same(&rt, room(19, 0), None);
+    same(&rt, room(24, 4294967295), Some(0));
 }
 
 #[test]
 fn a_copy_of_an_encoder_has_its_limit(rt: HostRuntime) -> Result<(), Fail> {
     let copy = FrameEncoder::new(24).clone()?;
-    assert_eq!(rt; copy.payload_room(&delivery(0)), Some(4));
+    let transfer = delivery(0);
+    let room = copy.payload_room(&transfer);
+    drop(transfer);
+    same(&rt, room, Some(4));
     Ok(())
 }
 
@@ -157,13 +181,22 @@ fn a_piece_as_one_run_of_bytes(rt: HostRuntime) -> Result<(), Fail> {
     let alloc = rt.alloc();
     let payload = payload(alloc, 2)?;
     let pieces = pieces(alloc, 24, continuation(false), payload)?;
-    for piece in &pieces {
-        assert_eq!(rt; piece.len(), 13);
-        let bytes = piece.to_bytes(alloc)?;
-        let want = [2u8, 0, 0, 0, 0x00, 0x53, 0x14, 0xc0, 0x02, 0x01, 0x43, 0, 1];
-        assert_eq!(rt; bytes.as_slice(), want.as_slice());
-    }
+    let found = are_one_run(alloc, &pieces);
+    drop(pieces);
+    holds(&rt, found?);
     Ok(())
+}
+
+/// Whether each piece is this run of thirteen bytes.
+fn are_one_run(alloc: Global, pieces: &Vec<Piece>) -> Result<bool, Fail> {
+    let want = [2u8, 0, 0, 0, 0x00, 0x53, 0x14, 0xc0, 0x02, 0x01, 0x43, 0, 1];
+    for piece in pieces {
+        let bytes = piece.to_bytes(alloc)?;
+        if piece.len() != 13 || bytes.as_slice() != want.as_slice() {
+            return Ok(false);
+        }
+    }
+    Ok(true)
 }
 
 /// Whether the pieces of a transfer with this payload are those of one with the other.
@@ -178,7 +211,7 @@ fn pieces_are_compared_by_their_bytes(rt: HostRuntime) -> Result<(), Fail> {
     let alloc = rt.alloc();
     let alike = have_the_same_pieces(alloc, payload(alloc, 25)?, payload(alloc, 25)?)?;
     let unlike = have_the_same_pieces(alloc, payload(alloc, 25)?, payload(alloc, 24)?)?;
-    assert!(rt; alike);
-    assert!(rt; !unlike);
+    holds(&rt, alike);
+    holds(&rt, !unlike);
     Ok(())
 }

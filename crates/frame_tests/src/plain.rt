@@ -3,6 +3,7 @@
 ghost use Rattle.std.specs.Prelude.{◌≤◌};
 
 use crate::given::{continuation, delivery, payload, pieces};
+use crate::same::same;
 use amqp_frames::{Error, Piece};
 use amqp_types::{Performative, Transfer};
 use bytes::BytesMut;
@@ -135,7 +136,8 @@ fn every_short_payload_at_every_small_limit(rt: HostRuntime) -> Result<(), Fail>
     let texts = write_texts(alloc)?;
     for limit in 16u32..65 {
         for len in 0u8..201 {
-            assert!(rt; agree(alloc, limit, &texts, len)?, "{len} bytes at {limit}");
+            let found = agree(alloc, limit, &texts, len)?;
+            same(&rt, (len, limit, found), (len, limit, true));
         }
     }
     Ok(())

@@ -1,6 +1,7 @@
 //! How a delivery is split into transfers of one frame each.
 
 use crate::given::{delivery, payload};
+use crate::same::{holds, same};
 use amqp_frames::{DeliveryPart, Error, Frame, FrameBody, FrameEncoder, split_delivery};
 use bytes::Bytes;
 use std::alloc::Global;
@@ -61,19 +62,19 @@ fn is_too_large(alloc: Global, limit: u32, payload: &Bytes) -> bool {
 fn a_delivery_is_split_with_room_for_its_number(rt: HostRuntime) -> Result<(), Fail> {
     let alloc = rt.alloc();
     let one: &[Seen] = &[(4, true, true, false)];
-    assert!(rt; is_split(alloc, 28, &payload(alloc, 4)?, one));
+    holds(&rt, is_split(alloc, 28, &payload(alloc, 4)?, one));
     let two: &[Seen] = &[(3, true, true, true), (2, false, false, false)];
-    assert!(rt; is_split(alloc, 28, &payload(alloc, 5)?, two));
+    holds(&rt, is_split(alloc, 28, &payload(alloc, 5)?, two));
     let three: &[Seen] = &[
         (3, true, true, true),
         (12, false, false, true),
         (10, false, false, false),
     ];
-    assert!(rt; is_split(alloc, 28, &payload(alloc, 25)?, three));
+    holds(&rt, is_split(alloc, 28, &payload(alloc, 25)?, three));
     let full: &[Seen] = &[(3, true, true, true), (12, false, false, false)];
-    assert!(rt; is_split(alloc, 28, &payload(alloc, 15)?, full));
+    holds(&rt, is_split(alloc, 28, &payload(alloc, 15)?, full));
     let bare: &[Seen] = &[(0, true, true, true), (2, false, false, false)];
-    assert!(rt; is_split(alloc, 25, &payload(alloc, 2)?, bare));
+    holds(&rt, is_split(alloc, 25, &payload(alloc, 2)?, bare));
     Ok(())
 }
 
@@ -81,10 +82,10 @@ fn a_delivery_is_split_with_room_for_its_number(rt: HostRuntime) -> Result<(), F
 fn a_delivery_without_room_is_refused(rt: HostRuntime) -> Result<(), Fail> {
     let alloc = rt.alloc();
     let empty: &[Seen] = &[(0, true, true, false)];
-    assert!(rt; is_split(alloc, 24, &Bytes::new(), empty));
-    assert!(rt; is_too_large(alloc, 24, &payload(alloc, 1)?));
-    assert!(rt; is_too_large(alloc, 23, &Bytes::new()));
-    assert!(rt; is_too_large(alloc, 3, &Bytes::new()));
+    holds(&rt, is_split(alloc, 24, &Bytes::new(), empty));
+    holds(&rt, is_too_large(alloc, 24, &payload(alloc, 1)?));
+    holds(&rt, is_too_large(alloc, 23, &Bytes::new()));
+    holds(&rt, is_too_large(alloc, 3, &Bytes::new()));
     Ok(())
 }
 
@@ -121,11 +122,20 @@ fn each_part_is_one_piece_with_the_greatest_number(rt: HostRuntime) -> Result<()
     let parts = split_delivery(alloc, &transfer, &payload, 28);
     drop(transfer);
     let parts = parts?;
-    for (part, want) in parts.iter().zip(&[28, 28, 21]) {
-        assert_eq!(rt; piece_len(alloc, part)?, *want);
-    }
-    assert_eq!(rt; parts.len(), 3);
+    let found = are_pieces(alloc, &parts, &[28, 28, 21]);
+    drop(parts);
+    holds(&rt, found?);
     Ok(())
+}
+
+/// Whether each part is a piece, of these lengths.
+fn are_pieces(alloc: Global, parts: &Vec<DeliveryPart>, want: &[usize]) -> Result<bool, Fail> {
+    for (part, want) in parts.iter().zip(want) {
+        if piece_len(alloc, part)? != *want {
+            return Ok(false);
+        }
+    }
+    Ok(parts.len() == want.len())
 }
 
 #[test]
@@ -134,6 +144,6 @@ fn the_room_with_the_greatest_number(rt: HostRuntime) {
     let transfer = delivery(7);
     let room = encoder.widest_payload_room(&transfer);
     drop(transfer);
-    assert_eq!(rt; room, Some(4));
-    assert_eq!(rt; encoder.max_piece_len(), 28);
+    same(&rt, room, Some(4));
+    same(&rt, encoder.max_piece_len(), 28);
 }

@@ -1,6 +1,7 @@
 //! Frames that are whole: their bytes, and what is read from bytes.
 
 use crate::given::{delivery, is_read_as, is_said};
+use crate::same::{holds, same};
 use amqp_frames::{Error, Frame, FrameBody, FrameDecoder};
 use amqp_types::{Begin, Close, Detach, Error as Reason, Handle, Open, ReadError, Symbol};
 use bytes::Bytes;
@@ -54,35 +55,45 @@ fn detach(alloc: Global) -> Result<Detach, Fail> {
 #[test]
 fn frames_and_their_bytes(rt: HostRuntime) -> Result<(), Fail> {
     let alloc = rt.alloc();
-    assert!(rt; is_said(alloc, Frame::empty(), [2, 0, 0, 0], &[])?);
+    holds(&rt, is_said(alloc, Frame::empty(), [2, 0, 0, 0], &[])?);
     let close = FrameBody::Close(Close { error: None });
-    assert!(rt;
+    holds(
+        &rt,
         is_said(
             alloc,
             Frame::new(0, close),
             [2, 0, 0, 0],
             &[0x00, 0x53, 0x18, 0x45],
-        )?
+        )?,
     );
     let open = FrameBody::Open(open(alloc)?);
     let text = [
         0x00, 0x53, 0x10, 0xc0, 0x0d, 0x04, 0xa1, 0x01, 0x61, 0x40, 0x70, 0x00, 0x04, 0x00, 0x00,
         0x60, 0x00, 0xff,
     ];
-    assert!(rt; is_said(alloc, Frame::new(0, open), [2, 0, 0, 0], &text)?);
+    holds(
+        &rt,
+        is_said(alloc, Frame::new(0, open), [2, 0, 0, 0], &text)?,
+    );
     let begin = FrameBody::Begin(begin());
     let text = [
         0x00, 0x53, 0x11, 0xc0, 0x0d, 0x04, 0x40, 0x43, 0x70, 0x00, 0x00, 0x13, 0x88, 0x70, 0x00,
         0x00, 0x13, 0x88,
     ];
-    assert!(rt; is_said(alloc, Frame::new(258, begin), [2, 0, 1, 2], &text)?);
+    holds(
+        &rt,
+        is_said(alloc, Frame::new(258, begin), [2, 0, 1, 2], &text)?,
+    );
     let detach = FrameBody::Detach(detach(alloc)?);
     let text = [
         0x00, 0x53, 0x16, 0xc0, 0x1a, 0x03, 0x52, 0x01, 0x41, 0x00, 0x53, 0x1d, 0xc0, 0x11, 0x01,
         0xa3, 0x0e, 0x61, 0x6d, 0x71, 0x70, 0x3a, 0x6e, 0x6f, 0x74, 0x2d, 0x66, 0x6f, 0x75, 0x6e,
         0x64,
     ];
-    assert!(rt; is_said(alloc, Frame::new(65535, detach), [2, 0, 0xff, 0xff], &text)?);
+    holds(
+        &rt,
+        is_said(alloc, Frame::new(65535, detach), [2, 0, 0xff, 0xff], &text)?,
+    );
     Ok(())
 }
 
@@ -104,10 +115,10 @@ fn other_spellings_are_read(rt: HostRuntime) -> Result<(), Fail> {
         2, 0, 0, 0, 0x00, 0x53, 0x10, 0xd0, 0, 0, 0, 0x13, 0, 0, 0, 4, 0xb1, 0, 0, 0, 1, 0x61,
         0x40, 0x70, 0, 4, 0, 0, 0x60, 0, 0xff,
     ];
-    assert!(rt; is_read(&rt, text, Frame::new(0, open)));
+    holds(&rt, is_read(&rt, text, Frame::new(0, open)));
     let close = FrameBody::Close(Close { error: None });
     let text = b"\x02\x00\x00\x00\x00\xa3\x0famqp:close:list\x45".as_slice();
-    assert!(rt; is_read(&rt, text, Frame::new(0, close)));
+    holds(&rt, is_read(&rt, text, Frame::new(0, close)));
     Ok(())
 }
 
@@ -166,14 +177,17 @@ fn is_transfer_with_a_payload(alloc: Global, bytes: Bytes) -> [bool; 3] {
 
 #[test]
 fn what_is_behind_a_performative(rt: HostRuntime) -> Result<(), Fail> {
-    assert!(rt; is_close_on_channel_7(&rt) == [true; 3]);
-    assert!(rt; is_close_body(&rt));
+    holds(&rt, is_close_on_channel_7(&rt) == [true; 3]);
+    holds(&rt, is_close_body(&rt));
     let transfer = [
         2u8, 0, 0, 0, 0x00, 0x53, 0x14, 0xc0, 0x0b, 0x05, 0x43, 0x43, 0xa0, 0x04, 0, 0, 0, 1, 0x43,
         0x42, 9, 8, 7,
     ];
     let bytes = Bytes::copy_from_slice(rt.alloc(), &transfer)?;
-    assert!(rt; is_transfer_with_a_payload(rt.alloc(), bytes) == [true; 3]);
+    holds(
+        &rt,
+        is_transfer_with_a_payload(rt.alloc(), bytes) == [true; 3],
+    );
     Ok(())
 }
 
@@ -192,7 +206,11 @@ fn is_refused(rt: &HostRuntime, bytes: &'static [u8], want: &Error) -> bool {
 fn bytes_that_are_no_frame(rt: HostRuntime) {
     let others: [&'static [u8]; 3] = [&[2, 1, 0, 0], &[3, 0, 0, 0, 0, 0, 0, 0], &[3, 1, 0, 0]];
     for bytes in others {
-        assert!(rt; is_refused(&rt, bytes, &Error::NotImplemented), "{bytes:?}");
+        same(
+            &rt,
+            (bytes, is_refused(&rt, bytes, &Error::NotImplemented)),
+            (bytes, true),
+        );
     }
     let malformed: [&'static [u8]; 4] = [
         &[2, 0, 0],
@@ -201,15 +219,29 @@ fn bytes_that_are_no_frame(rt: HostRuntime) {
         &[2, 0, 0, 0, 0x00],
     ];
     for bytes in malformed {
-        assert!(rt; is_refused(&rt, bytes, &Error::DecodeError), "{bytes:?}");
+        same(
+            &rt,
+            (bytes, is_refused(&rt, bytes, &Error::DecodeError)),
+            (bytes, true),
+        );
     }
+}
+
+fn are_equal<T: PartialEq + Drop>(told: T, want: T) -> bool {
+    told == want
 }
 
 #[test]
 fn errors_of_reading_and_of_memory(rt: HostRuntime) {
-    assert_eq!(rt; Error::from(ReadError::Malformed), Error::DecodeError);
-    assert_eq!(rt; Error::from(ReadError::OutOfMemory), Error::OutOfMemory);
-    assert_eq!(rt; Error::from(AllocError), Error::OutOfMemory);
+    holds(
+        &rt,
+        are_equal(ReadError::Malformed.into(), Error::DecodeError),
+    );
+    holds(
+        &rt,
+        are_equal(ReadError::OutOfMemory.into(), Error::OutOfMemory),
+    );
+    holds(&rt, are_equal(AllocError.into(), Error::OutOfMemory));
 }
 
 fn shown_transfer(alloc: Global) -> Result<String, Fail> {
@@ -241,11 +273,11 @@ fn how_frames_are_shown(rt: HostRuntime) -> Result<(), Fail> {
     let alloc = rt.alloc();
     let performative = shown_transfer(alloc)?;
     let want = format!(in alloc; "Transfer {{ performative: {performative}, payload.len: 3 }}")?;
-    assert_eq!(rt; shown_body(alloc)?, want);
-    assert_eq!(rt;
-        shown_frame(alloc)?.as_str(),
-        "Frame { channel: 0, body: Empty }"
-    );
+    drop(performative);
+    holds(&rt, are_equal(shown_body(alloc)?, want));
+    let frame = shown_frame(alloc)?;
+    same(&rt, frame.as_str(), "Frame { channel: 0, body: Empty }");
+    drop(frame);
     Ok(())
 }
 
@@ -256,9 +288,18 @@ fn is_shown_as(alloc: Global, error: &Error, want: &str) -> Result<bool, Fail> {
 #[test]
 fn how_errors_are_shown(rt: HostRuntime) -> Result<(), Fail> {
     let alloc = rt.alloc();
-    assert!(rt; is_shown_as(alloc, &Error::DecodeError, "Decode Error")?);
-    assert!(rt; is_shown_as(alloc, &Error::NotImplemented, "AmqpError: NotImplemented")?);
-    assert!(rt; is_shown_as(alloc, &Error::TooLarge, "too large")?);
-    assert!(rt; is_shown_as(alloc, &Error::OutOfMemory, "out of memory")?);
+    holds(
+        &rt,
+        is_shown_as(alloc, &Error::DecodeError, "Decode Error")?,
+    );
+    holds(
+        &rt,
+        is_shown_as(alloc, &Error::NotImplemented, "AmqpError: NotImplemented")?,
+    );
+    holds(&rt, is_shown_as(alloc, &Error::TooLarge, "too large")?);
+    holds(
+        &rt,
+        is_shown_as(alloc, &Error::OutOfMemory, "out of memory")?,
+    );
     Ok(())
 }
