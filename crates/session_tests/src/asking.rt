@@ -4,6 +4,7 @@ use crate::counting::{Asked, Counting};
 use crate::link_calls::{
     Answer, allot, allot_incoming, send_detach, session, take_attach, take_detach,
 };
+use crate::same::{holds, same};
 use amqp_session::OutputHandle;
 
 #[test]
@@ -18,8 +19,11 @@ fn a_detach_is_asked_once(rt: HostRuntime) {
         take_detach(&mut one, 5),
     ];
     drop(one);
-    assert!(rt; answers == [Answer::Handle(0), Answer::Done, Answer::Done, Answer::Done]);
-    assert_eq!(rt; asked.counts(), [1, 1, 0]);
+    holds(
+        &rt,
+        answers == [Answer::Handle(0), Answer::Done, Answer::Done, Answer::Done],
+    );
+    same(&rt, asked.counts(), [1, 1, 0]);
 }
 
 #[test]
@@ -35,7 +39,8 @@ fn a_replaced_relay_is_not_asked(rt: HostRuntime) {
         allot_incoming(alloc, &mut one, "c", Counting { asked: &third }, 5),
     ];
     drop(one);
-    assert!(rt;
+    holds(
+        &rt,
         answers
             == [
                 Answer::Handle(0),
@@ -43,11 +48,11 @@ fn a_replaced_relay_is_not_asked(rt: HostRuntime) {
                 Answer::Handle(1),
                 Answer::Done,
                 Answer::Handle(2),
-            ]
+            ],
     );
-    assert_eq!(rt; first.counts(), [1, 0, 0]);
-    assert_eq!(rt; second.counts(), [1, 0, 0]);
-    assert_eq!(rt; third.counts(), [0, 0, 0]);
+    same(&rt, first.counts(), [1, 0, 0]);
+    same(&rt, second.counts(), [1, 0, 0]);
+    same(&rt, third.counts(), [0, 0, 0]);
 }
 
 #[test]
@@ -65,8 +70,9 @@ fn a_released_relay_is_not_asked(rt: HostRuntime) {
         send_detach(&mut one, 0, true),
     ];
     drop(one);
-    assert!(rt; was_live);
-    assert!(rt;
+    holds(&rt, was_live);
+    holds(
+        &rt,
         answers
             == [
                 Answer::Handle(0),
@@ -74,9 +80,9 @@ fn a_released_relay_is_not_asked(rt: HostRuntime) {
                 Answer::Frame(0),
                 Answer::Handle(0),
                 Answer::Frame(0),
-            ]
+            ],
     );
-    assert_eq!(rt; asked.counts(), [0, 0, 0]);
+    same(&rt, asked.counts(), [0, 0, 0]);
 }
 
 #[test]
@@ -91,7 +97,10 @@ fn the_relay_of_a_refused_allotment_is_not_asked(rt: HostRuntime) {
         take_attach(alloc, &mut one, "a", 5),
     ];
     drop(one);
-    assert!(rt; answers == [Answer::Handle(0), Answer::Live, Answer::Live, Answer::Done]);
-    assert_eq!(rt; first.counts(), [1, 0, 0]);
-    assert_eq!(rt; second.counts(), [0, 0, 0]);
+    holds(
+        &rt,
+        answers == [Answer::Handle(0), Answer::Live, Answer::Live, Answer::Done],
+    );
+    same(&rt, first.counts(), [1, 0, 0]);
+    same(&rt, second.counts(), [0, 0, 0]);
 }

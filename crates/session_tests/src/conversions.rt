@@ -1,6 +1,7 @@
 //! Each conversion of numbers, flows, reasons and errors.
 
 use crate::made::flow;
+use crate::same::{holds, same};
 use amqp_session::{
     BeginError, ConnectionStopReason, Error, IncomingChannel, InputHandle, LinkFlow,
     LinkRelayError, OutgoingChannel, OutputHandle, SessionFrame, SessionFrameBody,
@@ -9,30 +10,31 @@ use amqp_session::{
 use amqp_types::Handle;
 use bytes::Bytes;
 use std::alloc::{AllocError, Global};
+use std::fmt::Display;
 use std::test::Fail;
 
 #[test]
 fn numbers_keep_their_value(rt: HostRuntime) {
-    assert_eq!(rt; u16::from(OutgoingChannel(3)), 3);
-    assert_eq!(rt; u16::from(IncomingChannel(4)), 4);
-    assert!(rt; OutputHandle::from(Handle(5)) == OutputHandle(5));
-    assert!(rt; Handle::from(OutputHandle(6)) == Handle(6));
-    assert!(rt; InputHandle::from(Handle(7)) == InputHandle(7));
-    assert!(rt; Handle::from(InputHandle(8)) == Handle(8));
-    assert!(rt; InputHandle(1) < InputHandle(2));
+    same(&rt, u16::from(OutgoingChannel(3)), 3);
+    same(&rt, u16::from(IncomingChannel(4)), 4);
+    holds(&rt, OutputHandle::from(Handle(5)) == OutputHandle(5));
+    holds(&rt, Handle::from(OutputHandle(6)) == Handle(6));
+    holds(&rt, InputHandle::from(Handle(7)) == InputHandle(7));
+    holds(&rt, Handle::from(InputHandle(8)) == Handle(8));
+    holds(&rt, InputHandle(1) < InputHandle(2));
 }
 
 #[test]
 fn a_link_flow_needs_a_handle(rt: HostRuntime) -> Result<(), Fail> {
-    assert!(rt; LinkFlow::try_from(flow(None, 1)).is_err());
+    holds(&rt, LinkFlow::try_from(flow(None, 1)).is_err());
     let mut of_link = flow(None, 1);
     of_link.handle = Some(Handle(2));
     of_link.link_credit = Some(9);
     let Ok(link_flow) = LinkFlow::try_from(of_link) else {
         return Err(Fail::from("a link flow"));
     };
-    assert!(rt; link_flow.handle == Handle(2));
-    assert_eq!(rt; link_flow.link_credit, Some(9));
+    holds(&rt, link_flow.handle == Handle(2));
+    same(&rt, link_flow.link_credit, Some(9));
     Ok(())
 }
 
@@ -44,37 +46,46 @@ fn are_same<T: PartialEq + Drop>(told: T, want: T) -> bool {
 #[test]
 fn errors_go_on_under_their_names(rt: HostRuntime) {
     let told = SessionInnerError::from(SessionStateError::RemoteEnded);
-    assert!(rt; are_same(told, SessionInnerError::RemoteEnded));
+    holds(&rt, are_same(told, SessionInnerError::RemoteEnded));
     let told = SessionInnerError::from(LinkRelayError::TransferFrameToSender);
-    assert!(rt; are_same(told, SessionInnerError::TransferFrameToSender));
+    holds(
+        &rt,
+        are_same(told, SessionInnerError::TransferFrameToSender),
+    );
 }
 
 #[test]
 fn errors_are_told_as_those_of_a_session(rt: HostRuntime) {
     let told = Error::from(LinkRelayError::UnattachedHandle);
-    assert!(rt; are_same(told, Error::UnattachedHandle));
+    holds(&rt, are_same(told, Error::UnattachedHandle));
     let told = Error::from(SessionInnerError::HandleInUse);
-    assert!(rt; are_same(told, Error::HandleInUse));
+    holds(&rt, are_same(told, Error::HandleInUse));
     let told = Error::from(SessionStateError::OutOfMemory);
-    assert!(rt; are_same(told, Error::OutOfMemory));
+    holds(&rt, are_same(told, Error::OutOfMemory));
 }
 
 #[test]
 fn a_begin_is_refused_and_a_session_stops_under_the_same_names(rt: HostRuntime) {
     let told = BeginError::from(SessionStateError::IllegalState);
-    assert!(rt; are_same(told, BeginError::IllegalState));
+    holds(&rt, are_same(told, BeginError::IllegalState));
     let stopped = SessionStopReason::from(ConnectionStopReason::Closed);
     let want = SessionStopReason::ConnectionStopped(ConnectionStopReason::Closed);
-    assert!(rt; stopped == want);
+    holds(&rt, stopped == want);
+}
+
+fn shown<T: Display + Drop>(alloc: Global, error: T) -> Result<String, AllocError> {
+    format!(in alloc; "{error}")
 }
 
 #[test]
 fn errors_are_printed(rt: HostRuntime) -> Result<(), Fail> {
-    let text = format!(in rt.alloc(); "{}", SessionStateError::IllegalState)?;
-    assert_eq!(rt; text.as_str(), "Illegal session state");
+    let text = shown(rt.alloc(), SessionStateError::IllegalState)?;
+    same(&rt, text.as_str(), "Illegal session state");
+    drop(text);
     let stopped = SessionInnerError::ConnectionStopped(ConnectionStopReason::Closed);
-    let text = format!(in rt.alloc(); "{stopped}")?;
-    assert_eq!(rt; text.as_str(), "The connection stopped: Closed");
+    let text = shown(rt.alloc(), stopped)?;
+    same(&rt, text.as_str(), "The connection stopped: Closed");
+    drop(text);
     Ok(())
 }
 
@@ -98,6 +109,6 @@ fn frames_are_printed(rt: HostRuntime) -> Result<(), Fail> {
     let text = printed(rt.alloc(), &frame);
     drop(frame);
     let text = text?;
-    assert!(rt; text.as_str().ends_with("payload.len: 5 } }"));
+    holds(&rt, text.as_str().ends_with("payload.len: 5 } }"));
     Ok(())
 }

@@ -3,6 +3,7 @@
 ghost use Rattle.std.specs.Prelude.{⊤};
 
 use crate::made::{begin, transfer};
+use crate::same::{holds, same};
 use amqp_session::{
     IncomingChannel, InputHandle, LinkFlow, LinkRelay, LinkRelayError, OutgoingChannel,
     OutputHandle, Session, SessionFrameBody, SessionSettings, num_messages_settled_by_disposition,
@@ -167,11 +168,11 @@ fn is_unanswered(session: &mut Session<Marked>, disposition: Disposition) -> boo
 fn echoes_are_maximal_runs(rt: HostRuntime) -> Result<(), Fail> {
     let mut session = mapped(rt.alloc())?;
     for number in 1..6 {
-        assert!(rt; receive(&mut session, number, number != 4));
+        holds(&rt, receive(&mut session, number, number != 4));
     }
-    assert!(rt; two_echoes(&mut session, (1, 5), (1, 3), (5, 5)));
-    assert_eq!(rt; session.open_deliveries(), 5);
-    assert_eq!(rt; session.last_walk().turns, 5);
+    holds(&rt, two_echoes(&mut session, (1, 5), (1, 3), (5, 5)));
+    same(&rt, session.open_deliveries(), 5);
+    same(&rt, session.last_walk().turns, 5);
     drop(session);
     Ok(())
 }
@@ -193,8 +194,8 @@ fn a_tag_of_a_long_frame_stays_the_same(rt: HostRuntime) -> Result<(), Fail> {
         );
     let are_echoed = two_echoes(&mut session, (1, 4), (1, 1), (3, 3));
     drop(session);
-    assert!(rt; are_taken);
-    assert!(rt; are_echoed);
+    holds(&rt, are_taken);
+    holds(&rt, are_echoed);
     Ok(())
 }
 
@@ -224,10 +225,10 @@ fn a_range_passes_the_wrap(rt: HostRuntime) -> Result<(), Fail> {
     ];
     let turns = session.last_walk().turns;
     drop(session);
-    assert!(rt; are_taken);
-    assert!(rt; are_echoed);
-    assert!(rt; behind == [(true, 2), (true, 2)]);
-    assert_eq!(rt; turns, 0);
+    holds(&rt, are_taken);
+    holds(&rt, are_echoed);
+    holds(&rt, behind == [(true, 2), (true, 2)]);
+    same(&rt, turns, 0);
     Ok(())
 }
 
@@ -235,16 +236,19 @@ fn a_range_passes_the_wrap(rt: HostRuntime) -> Result<(), Fail> {
 fn a_walk_reads_what_is_meant(rt: HostRuntime) -> Result<(), Fail> {
     let mut session = mapped(rt.alloc())?;
     drop(session.on_incoming_disposition(said(7, None, true, ACCEPTED)));
-    assert!(rt; session.last_walk().turns <= 1 && session.last_walk().comparisons <= 1);
+    holds(
+        &rt,
+        session.last_walk().turns <= 1 && session.last_walk().comparisons <= 1,
+    );
     let mut all = true;
     for number in 0..1000 {
         all = receive(&mut session, number, false) && all;
     }
-    assert!(rt; all);
+    holds(&rt, all);
     drop(session.on_incoming_disposition(said(10, Some(19), true, ACCEPTED)));
-    assert_eq!(rt; session.open_deliveries(), 990);
+    same(&rt, session.open_deliveries(), 990);
     let walk = session.last_walk();
-    assert!(rt; walk.turns == 11 && walk.comparisons <= 11);
+    holds(&rt, walk.turns == 11 && walk.comparisons <= 11);
     drop(session);
     Ok(())
 }
@@ -269,19 +273,28 @@ fn a_terminal_state_opens_the_window_again(rt: HostRuntime) -> Result<(), Fail> 
         window_after(&mut session, RECEIVED),
     ];
     drop(session);
-    assert!(rt; windows == [Some(11), Some(11)]);
+    holds(&rt, windows == [Some(11), Some(11)]);
     Ok(())
 }
 
 #[test]
 fn messages_are_counted_along_the_circle(rt: HostRuntime) {
-    assert_eq!(rt; num_messages_settled_by_disposition(1, Some(3)), 3);
-    assert_eq!(rt; num_messages_settled_by_disposition(1, None), 1);
-    assert_eq!(rt; num_messages_settled_by_disposition(3, Some(1)), 1);
-    assert_eq!(rt; num_messages_settled_by_disposition(0, Some(4294967295)), 1);
-    assert_eq!(rt; num_messages_settled_by_disposition(4294967295, Some(0)), 2);
-    assert_eq!(rt;
+    same(&rt, num_messages_settled_by_disposition(1, Some(3)), 3);
+    same(&rt, num_messages_settled_by_disposition(1, None), 1);
+    same(&rt, num_messages_settled_by_disposition(3, Some(1)), 1);
+    same(
+        &rt,
+        num_messages_settled_by_disposition(0, Some(4294967295)),
+        1,
+    );
+    same(
+        &rt,
+        num_messages_settled_by_disposition(4294967295, Some(0)),
+        2,
+    );
+    same(
+        &rt,
         num_messages_settled_by_disposition(0, Some(2147483647)),
-        2147483648
+        2147483648,
     );
 }

@@ -1,6 +1,7 @@
 //! The laws at types of their own: both kinds of relay, and a hasher.
 
 use crate::relays::{Choosing, Quiet};
+use crate::same::{holds, same};
 use amqp_session::laws::{
     Compared, law_of_incoming_channels, law_of_input_handles, law_of_links,
     law_of_outgoing_channels, law_of_output_handles, law_of_session_flows, law_of_views,
@@ -33,24 +34,24 @@ fn compared(order: Ordering) -> Compared {
 fn channels_compare_as_their_numbers(rt: HostRuntime) {
     let mut state = DefaultHasher::new();
     let sent = law_of_outgoing_channels(OutgoingChannel(1), OutgoingChannel(2), &mut state);
-    assert!(rt; sent == compared(Ordering::Less));
+    holds(&rt, sent == compared(Ordering::Less));
     let came = law_of_incoming_channels(IncomingChannel(3), IncomingChannel(3), &mut state);
-    assert!(rt; came == compared(Ordering::Equal));
+    holds(&rt, came == compared(Ordering::Equal));
     let mut plain = DefaultHasher::new();
     1u16.hash(&mut plain);
     3u16.hash(&mut plain);
-    assert_eq!(rt; state.finish(), plain.finish());
+    same(&rt, state.finish(), plain.finish());
 }
 
 #[test]
 fn handles_compare_as_their_numbers(rt: HostRuntime) {
     let mut state = DefaultHasher::new();
     let sent = law_of_output_handles(OutputHandle(4294967295), OutputHandle(0), &mut state);
-    assert!(rt; sent == compared(Ordering::Greater));
+    holds(&rt, sent == compared(Ordering::Greater));
     let came = law_of_input_handles(InputHandle(7), InputHandle(8), &mut state);
-    assert!(rt; came == compared(Ordering::Less));
+    holds(&rt, came == compared(Ordering::Less));
     let mut plain = DefaultHasher::new();
     4294967295u32.hash(&mut plain);
     7u32.hash(&mut plain);
-    assert_eq!(rt; state.finish(), plain.finish());
+    same(&rt, state.finish(), plain.finish());
 }

@@ -25,4 +25,6 @@ mod relay_answers;
 #[cfg(test)]
 mod relays;
 #[cfg(test)]
+mod same;
+#[cfg(test)]
 mod settling;

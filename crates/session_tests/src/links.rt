@@ -4,6 +4,7 @@ use crate::link_calls::{
     Answer, allot, allot_incoming, send_attach, send_detach, session, take_attach, take_detach,
 };
 use crate::relays::{Choosing, Quiet};
+use crate::same::holds;
 use amqp_session::{LinkRelay, OutputHandle, Session};
 use std::alloc::Global;
 
@@ -11,17 +12,17 @@ use std::alloc::Global;
 fn a_link_is_named_attached_and_released(rt: HostRuntime) {
     let alloc = rt.alloc();
     let mut one = session(alloc);
-    assert!(rt; allot(alloc, &mut one, "a", Quiet) == Answer::Handle(0));
-    assert!(rt; allot(alloc, &mut one, "a", Quiet) == Answer::Live);
-    assert!(rt; one.output_handle("a") == Some(OutputHandle(0)));
-    assert!(rt; one.output_handle("b").is_none());
-    assert!(rt; take_attach(alloc, &mut one, "b", 5) == Answer::Unknown);
-    assert!(rt; take_attach(alloc, &mut one, "a", 5) == Answer::Done);
-    assert!(rt; take_attach(alloc, &mut one, "a", 6) == Answer::InUse);
-    assert!(rt; send_attach(alloc, &one, "a", 0) == Answer::Frame(0));
-    assert!(rt; one.deallocate_link(OutputHandle(0)));
-    assert!(rt; !one.deallocate_link(OutputHandle(0)));
-    assert!(rt; allot(alloc, &mut one, "a", Quiet) == Answer::Handle(0));
+    holds(&rt, allot(alloc, &mut one, "a", Quiet) == Answer::Handle(0));
+    holds(&rt, allot(alloc, &mut one, "a", Quiet) == Answer::Live);
+    holds(&rt, one.output_handle("a") == Some(OutputHandle(0)));
+    holds(&rt, one.output_handle("b").is_none());
+    holds(&rt, take_attach(alloc, &mut one, "b", 5) == Answer::Unknown);
+    holds(&rt, take_attach(alloc, &mut one, "a", 5) == Answer::Done);
+    holds(&rt, take_attach(alloc, &mut one, "a", 6) == Answer::InUse);
+    holds(&rt, send_attach(alloc, &one, "a", 0) == Answer::Frame(0));
+    holds(&rt, one.deallocate_link(OutputHandle(0)));
+    holds(&rt, !one.deallocate_link(OutputHandle(0)));
+    holds(&rt, allot(alloc, &mut one, "a", Quiet) == Answer::Handle(0));
     drop(one);
 }
 
@@ -29,14 +30,14 @@ fn a_link_is_named_attached_and_released(rt: HostRuntime) {
 fn a_handle_is_free_when_its_detach_is_answered(rt: HostRuntime) {
     let alloc = rt.alloc();
     let mut one = session(alloc);
-    assert!(rt; allot(alloc, &mut one, "a", Quiet) == Answer::Handle(0));
-    assert!(rt; take_attach(alloc, &mut one, "a", 5) == Answer::Done);
-    assert!(rt; send_detach(&mut one, 0, true) == Answer::Frame(0));
-    assert!(rt; send_detach(&mut one, 0, true) == Answer::Done);
-    assert!(rt; allot(alloc, &mut one, "a", Quiet) == Answer::Handle(1));
-    assert!(rt; take_detach(&mut one, 9) == Answer::Done);
-    assert!(rt; take_detach(&mut one, 5) == Answer::Done);
-    assert!(rt; allot(alloc, &mut one, "b", Quiet) == Answer::Handle(0));
+    holds(&rt, allot(alloc, &mut one, "a", Quiet) == Answer::Handle(0));
+    holds(&rt, take_attach(alloc, &mut one, "a", 5) == Answer::Done);
+    holds(&rt, send_detach(&mut one, 0, true) == Answer::Frame(0));
+    holds(&rt, send_detach(&mut one, 0, true) == Answer::Done);
+    holds(&rt, allot(alloc, &mut one, "a", Quiet) == Answer::Handle(1));
+    holds(&rt, take_detach(&mut one, 9) == Answer::Done);
+    holds(&rt, take_detach(&mut one, 5) == Answer::Done);
+    holds(&rt, allot(alloc, &mut one, "b", Quiet) == Answer::Handle(0));
     drop(one);
 }
 
@@ -86,10 +87,13 @@ fn a_relay_is_told_of_the_answer_to_a_detach(rt: HostRuntime) {
         Answer::Done,
     ];
     let mut one = session(alloc);
-    assert!(rt; detached_here(alloc, &mut one, Quiet) == all);
+    holds(&rt, detached_here(alloc, &mut one, Quiet) == all);
     drop(one);
     let mut other = session(alloc);
-    assert!(rt; detached_here(alloc, &mut other, Choosing { credit: 1 }) == all);
+    holds(
+        &rt,
+        detached_here(alloc, &mut other, Choosing { credit: 1 }) == all,
+    );
     drop(other);
 }
 
@@ -104,11 +108,14 @@ fn a_relay_may_answer_a_detach_of_the_peer(rt: HostRuntime) {
         Answer::Done,
     ];
     let mut one = session(alloc);
-    assert!(rt; detached_there(alloc, &mut one, Quiet) == all);
+    holds(&rt, detached_there(alloc, &mut one, Quiet) == all);
     drop(one);
     all[3] = Answer::Reply(5);
     let mut other = session(alloc);
-    assert!(rt; detached_there(alloc, &mut other, Choosing { credit: 1 }) == all);
+    holds(
+        &rt,
+        detached_there(alloc, &mut other, Choosing { credit: 1 }) == all,
+    );
     drop(other);
 }
 
@@ -123,10 +130,13 @@ fn an_incoming_link_is_attached_at_once(rt: HostRuntime) {
         Answer::Done,
     ];
     let mut one = session(alloc);
-    assert!(rt; incoming(alloc, &mut one, Quiet) == all);
+    holds(&rt, incoming(alloc, &mut one, Quiet) == all);
     drop(one);
     all[3] = Answer::Reply(6);
     let mut other = session(alloc);
-    assert!(rt; incoming(alloc, &mut other, Choosing { credit: 1 }) == all);
+    holds(
+        &rt,
+        incoming(alloc, &mut other, Choosing { credit: 1 }) == all,
+    );
     drop(other);
 }

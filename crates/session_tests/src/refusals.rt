@@ -2,6 +2,7 @@
 
 use crate::made::{ABSENT, Answer, NONE, NOTHING, begin, grant, grant_link, send};
 use crate::relays::Quiet;
+use crate::same::{holds, same};
 use amqp_session::{
     IncomingChannel, LinkRelay, OutgoingChannel, Session, SessionSettings, SessionStateError,
 };
@@ -155,9 +156,9 @@ fn want_of_memory_changes_nothing(rt: HostRuntime) -> Result<(), Fail> {
     ];
     let after = view(&one);
     drop(one);
-    assert!(rt; are_right == [true; 5]);
-    assert_eq!(rt; after.held_back, 0);
-    assert_eq!(rt; after.numbers.0, 14);
-    assert_eq!(rt; after.open, 13);
+    holds(&rt, are_right == [true; 5]);
+    same(&rt, after.held_back, 0);
+    same(&rt, after.numbers.0, 14);
+    same(&rt, after.open, 13);
     Ok(())
 }

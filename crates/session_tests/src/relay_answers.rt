@@ -2,6 +2,7 @@
 
 use crate::made::transfer;
 use crate::relays::{Choosing, Quiet};
+use crate::same::holds;
 use amqp_session::{LinkFlow, LinkRelay, LinkRelayError, OutputHandle};
 use amqp_types::{DeliveryTag, Handle, Role};
 use bytes::Bytes;
@@ -42,17 +43,20 @@ fn wants_echo<R: LinkRelay>(relay: &mut R) -> bool {
 #[test]
 fn a_quiet_relay_takes_what_comes(rt: HostRuntime) {
     let mut quiet = Quiet;
-    assert!(rt; credit_of_answer(&mut quiet).is_none());
-    assert!(rt; takes_transfer(&mut quiet) == Ok(true));
-    assert!(rt; wants_echo(&mut quiet));
+    holds(&rt, credit_of_answer(&mut quiet).is_none());
+    holds(&rt, takes_transfer(&mut quiet) == Ok(true));
+    holds(&rt, wants_echo(&mut quiet));
 }
 
 #[test]
 fn a_choosing_relay_answers_while_it_has_credit(rt: HostRuntime) {
     let mut choosing = Choosing { credit: 1 };
-    assert!(rt; wants_echo(&mut choosing));
-    assert!(rt; credit_of_answer(&mut choosing) == Some(20));
-    assert!(rt; credit_of_answer(&mut choosing).is_none());
-    assert!(rt; takes_transfer(&mut choosing) == Err(LinkRelayError::TransferFrameToSender));
-    assert!(rt; !wants_echo(&mut choosing));
+    holds(&rt, wants_echo(&mut choosing));
+    holds(&rt, credit_of_answer(&mut choosing) == Some(20));
+    holds(&rt, credit_of_answer(&mut choosing).is_none());
+    holds(
+        &rt,
+        takes_transfer(&mut choosing) == Err(LinkRelayError::TransferFrameToSender),
+    );
+    holds(&rt, !wants_echo(&mut choosing));
 }

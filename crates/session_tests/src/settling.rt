@@ -3,6 +3,7 @@
 use crate::counting::{Asked, Counting};
 use crate::link_calls::{allot_incoming, session};
 use crate::made::{grant, send, transfer};
+use crate::same::{holds, same};
 use amqp_session::{LinkRelay, Session, WalkCount};
 use amqp_types::{Disposition, Role};
 use bytes::Bytes;
@@ -66,12 +67,12 @@ fn what_was_received_is_let_go(rt: HostRuntime) {
     ];
     let at_last = session.open_deliveries();
     drop(session);
-    assert!(rt; are_taken);
-    assert!(rt; gone == [0, 0, 2, 0, 1, 0]);
-    assert_eq!(rt; open, 2);
-    assert!(rt; rest == [1, 1]);
-    assert_eq!(rt; at_last, 0);
-    assert_eq!(rt; asked.counts(), [0, 0, 5]);
+    holds(&rt, are_taken);
+    holds(&rt, gone == [0, 0, 2, 0, 1, 0]);
+    same(&rt, open, 2);
+    holds(&rt, rest == [1, 1]);
+    same(&rt, at_last, 0);
+    same(&rt, asked.counts(), [0, 0, 5]);
 }
 
 #[test]
@@ -90,11 +91,11 @@ fn what_was_sent_is_let_go(rt: HostRuntime) {
     let numbers = (session.next_outgoing_id(), session.remote_incoming_window());
     let at_last = session.open_deliveries();
     drop(session);
-    assert_eq!(rt; open, 3);
-    assert!(rt; gone == [0, 2, 1]);
-    assert!(rt; numbers == (3, 97));
-    assert_eq!(rt; at_last, 0);
-    assert_eq!(rt; asked.counts(), [0, 0, 0]);
+    same(&rt, open, 3);
+    holds(&rt, gone == [0, 2, 1]);
+    holds(&rt, numbers == (3, 97));
+    same(&rt, at_last, 0);
+    same(&rt, asked.counts(), [0, 0, 0]);
 }
 
 #[test]
@@ -107,9 +108,9 @@ fn the_latest_walk_stays(rt: HostRuntime) {
     let gone = session.settle(Role::Receiver, 4294967294, Some(5));
     let after = session.last_walk();
     drop(session);
-    assert!(rt; are_taken);
-    assert!(rt; walk.turns == 3);
-    assert_eq!(rt; gone, 5);
-    assert!(rt; walk == after);
-    assert!(rt; asked.counts() == before);
+    holds(&rt, are_taken);
+    holds(&rt, walk.turns == 3);
+    same(&rt, gone, 5);
+    holds(&rt, walk == after);
+    holds(&rt, asked.counts() == before);
 }
