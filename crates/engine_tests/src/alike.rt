@@ -2,6 +2,7 @@
 
 use crate::given::{ReplayEngine, unnamed_open};
 use crate::running::push;
+use crate::same::holds;
 use amqp_connection::laws::law_of_session_numbers;
 use fe2o3_amqp::{Answer, ConnectionState, Input, SessionNo, StepError};
 use std::alloc::Global;
@@ -32,8 +33,8 @@ fn answers_of_two_engines_are_alike(rt: HostRuntime) {
     let len = first.len();
     drop(first);
     drop(second);
-    assert!(rt; is_alike);
-    assert!(rt; len == 2);
+    holds(&rt, is_alike);
+    holds(&rt, len == 2);
 }
 
 #[test]
@@ -44,18 +45,18 @@ fn a_refusal_is_another_answer(rt: HostRuntime) {
     let is_other = refused == other;
     drop(refused);
     drop(other);
-    assert!(rt; !is_done);
-    assert!(rt; !is_other);
+    holds(&rt, !is_done);
+    holds(&rt, !is_other);
 }
 
 #[test]
 fn numbers_of_sessions_compare_as_numbers(rt: HostRuntime) {
     let mut state = DefaultHasher::new();
     let told = law_of_session_numbers(SessionNo(4294967295), SessionNo(7), &mut state);
-    assert!(rt; !told.equal && !told.less);
-    assert!(rt; told.order == Ordering::Greater);
-    assert!(rt; told.partial_order == Some(Ordering::Greater));
+    holds(&rt, !told.equal && !told.less);
+    holds(&rt, told.order == Ordering::Greater);
+    holds(&rt, told.partial_order == Some(Ordering::Greater));
     let mut plain = DefaultHasher::new();
     4294967295u32.hash(&mut plain);
-    assert!(rt; state.finish() == plain.finish());
+    holds(&rt, state.finish() == plain.finish());
 }

@@ -3,6 +3,7 @@
 use crate::asking::opened;
 use crate::example::closing;
 use crate::given::peer_close;
+use crate::same::holds;
 use bytes::Bytes;
 use fe2o3_amqp::connection::Error;
 use fe2o3_amqp::{ConnectionHandle, HandledEngine, ReplayRelay};
@@ -52,6 +53,6 @@ fn a_close_is_told_once_the_peer_answered(rt: HostRuntime) {
     drop(engine);
     drop(handle);
     drop(sent);
-    assert!(rt; is_wished);
-    assert!(rt; [first, second] == [("nothing", 8), ("closed", 8)]);
+    holds(&rt, is_wished);
+    holds(&rt, [first, second] == [("nothing", 8), ("closed", 8)]);
 }

@@ -5,6 +5,7 @@ use crate::given::{ReplayEngine, ReplayInput};
 use crate::linking::allot_incoming;
 use crate::rows::{Ask, Row, first_wrong, first_wrong_opened};
 use crate::running::{push, received_frame, runs_to};
+use crate::same::{holds, same};
 use fe2o3_amqp::{Input, ReplayRelay, SessionNo, SessionState};
 use std::alloc::Global;
 use std::collections::VecDeque;
@@ -116,29 +117,37 @@ const SETTLED_BEHIND_THE_PEERS: &[Row] = &[
 #[test]
 fn what_this_side_settles_is_let_go_and_nothing_goes_out(rt: HostRuntime) {
     let parts: &[&[Row]] = &[SETTLED_EARLY, SENT, SETTLED_IN_MAPPED];
-    assert_eq!(rt; first_wrong_opened(rt.alloc(), parts), None);
+    same(&rt, first_wrong_opened(rt.alloc(), parts), None);
 }
 
 #[test]
 fn this_side_settles_behind_its_own_end(rt: HostRuntime) {
     let parts: &[&[Row]] = &[MAPPED, SENT, SETTLED_BEHIND_OUR_END];
-    assert_eq!(rt; first_wrong_opened(rt.alloc(), parts), None);
+    same(&rt, first_wrong_opened(rt.alloc(), parts), None);
 }
 
 #[test]
 fn this_side_settles_behind_the_peers_end(rt: HostRuntime) {
     let parts: &[&[Row]] = &[MAPPED, SENT, SETTLED_BEHIND_THE_PEERS];
-    assert_eq!(rt; first_wrong_opened(rt.alloc(), parts), None);
+    same(&rt, first_wrong_opened(rt.alloc(), parts), None);
 }
 
 #[test]
 fn a_disposition_gives_one_frame_and_moves_the_window(rt: HostRuntime) {
-    assert_eq!(rt; first_wrong_opened(rt.alloc(), &[MAPPED, ACCEPTED]), None);
+    same(
+        &rt,
+        first_wrong_opened(rt.alloc(), &[MAPPED, ACCEPTED]),
+        None,
+    );
 }
 
 #[test]
 fn a_state_that_is_not_terminal_leaves_the_window(rt: HostRuntime) {
-    assert_eq!(rt; first_wrong_opened(rt.alloc(), &[MAPPED, RECEIVED]), None);
+    same(
+        &rt,
+        first_wrong_opened(rt.alloc(), &[MAPPED, RECEIVED]),
+        None,
+    );
 }
 
 /// Where rows are wrong, those before a link of input handle 0 is allotted and those behind, and what its request is answered.
@@ -179,8 +188,8 @@ out 0200000000531745
         want,
     );
     drop(engine);
-    assert!(rt; received == (None, "done", None));
-    assert!(rt; is_right);
+    holds(&rt, received == (None, "done", None));
+    holds(&rt, is_right);
 }
 
 #[test]
@@ -188,5 +197,5 @@ fn half_of_the_window_is_followed_by_a_flow(rt: HostRuntime) {
     let mut engine = opened(rt.alloc());
     let received = linked(rt.alloc(), &mut engine, SMALL, HALF);
     drop(engine);
-    assert!(rt; received == (None, "done", None));
+    holds(&rt, received == (None, "done", None));
 }

@@ -1,5 +1,6 @@
 //! Another program drives a transcript: it reads the output of a line before it writes the next one.
 
+use crate::same::same;
 use fe2o3_amqp::replay;
 use std::io::{self, BufReader, ErrorKind, Read, Write};
 use std::sync::atomic::{AtomicUsize, Ordering};
@@ -65,7 +66,7 @@ fn each_line_is_answered_before_the_next_is_read(rt: HostRuntime) -> Result<(), 
     drop(errors);
     drop(output);
     drop(input);
-    assert_eq!(rt; status, 0);
-    assert_eq!(rt; flushed.load(Ordering::SeqCst), 68);
+    same(&rt, status, 0);
+    same(&rt, flushed.load(Ordering::SeqCst), 68);
     Ok(())
 }

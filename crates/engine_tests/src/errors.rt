@@ -1,6 +1,7 @@
 //! Conversions of errors of the connection.
 
 use crate::given::error;
+use crate::same::holds;
 use bytes::Bytes;
 use fe2o3_amqp::connection::Error;
 use fe2o3_amqp::{
@@ -19,17 +20,17 @@ fn are_same<T: PartialEq + Drop>(told: T, want: T) -> bool {
 #[test]
 fn states_are_told_as_inner_errors(rt: HostRuntime) {
     let told = ConnectionInnerError::from(ConnectionStateError::IllegalState);
-    assert!(rt; are_same(told, ConnectionInnerError::IllegalState));
+    holds(&rt, are_same(told, ConnectionInnerError::IllegalState));
     let told = ConnectionInnerError::from(ConnectionStateError::RemoteClosed);
-    assert!(rt; are_same(told, ConnectionInnerError::RemoteClosed));
+    holds(&rt, are_same(told, ConnectionInnerError::RemoteClosed));
 }
 
 #[test]
 fn states_are_told_as_errors(rt: HostRuntime) {
     let told = Error::from(ConnectionStateError::RemoteClosed);
-    assert!(rt; are_same(told, Error::RemoteClosed));
+    holds(&rt, are_same(told, Error::RemoteClosed));
     let told = Error::from(ConnectionStateError::OutOfMemory);
-    assert!(rt; are_same(told, Error::OutOfMemory));
+    holds(&rt, are_same(told, Error::OutOfMemory));
 }
 
 #[test]
@@ -39,16 +40,16 @@ fn an_error_of_the_peers_is_kept(rt: HostRuntime) -> Result<(), Fail> {
     let is_right =
         matches!(&told, Error::RemoteClosedWithError(e) if e.condition.as_str() == "a:b");
     drop(told);
-    assert!(rt; is_right);
+    holds(&rt, is_right);
     Ok(())
 }
 
 #[test]
 fn inner_errors_are_told_as_errors(rt: HostRuntime) {
     let told = Error::from(ConnectionInnerError::NotFound(None));
-    assert!(rt; are_same(told, Error::NotFound(None)));
+    holds(&rt, are_same(told, Error::NotFound(None)));
     let told = Error::from(ConnectionInnerError::NotImplemented(None));
-    assert!(rt; are_same(told, Error::NotImplemented(None)));
+    holds(&rt, are_same(told, Error::NotImplemented(None)));
 }
 
 #[test]
@@ -56,7 +57,7 @@ fn negotiation_errors_are_told_as_those_of_an_open(rt: HostRuntime) {
     let header = Bytes::from_static(b"HTTP");
     let told = OpenError::from(NegotiationError::ProtocolHeaderMismatch(header));
     let want = OpenError::ProtocolHeaderMismatch(Bytes::from_static(b"HTTP"));
-    assert!(rt; are_same(told, want));
+    holds(&rt, are_same(told, want));
     let told = OpenError::from(NegotiationError::SaslError {
         code: 1,
         additional_data: None,
@@ -65,25 +66,25 @@ fn negotiation_errors_are_told_as_those_of_an_open(rt: HostRuntime) {
         code: 1,
         additional_data: None,
     };
-    assert!(rt; are_same(told, want));
+    holds(&rt, are_same(told, want));
 }
 
 #[test]
 fn states_are_told_as_those_of_an_open(rt: HostRuntime) {
     let told = OpenError::from(ConnectionStateError::IllegalState);
-    assert!(rt; are_same(told, OpenError::IllegalState));
+    holds(&rt, are_same(told, OpenError::IllegalState));
     let told = OpenError::from(ConnectionStateError::RemoteClosed);
-    assert!(rt; are_same(told, OpenError::RemoteClosed));
+    holds(&rt, are_same(told, OpenError::RemoteClosed));
 }
 
 #[test]
 fn refused_channels_are_told_as_those_of_a_begin(rt: HostRuntime) {
     let told = BeginError::from(AllocSessionError::ChannelMaxReached);
-    assert!(rt; are_same(told, BeginError::LocalChannelMaxReached));
+    holds(&rt, are_same(told, BeginError::LocalChannelMaxReached));
     let stopped = AllocSessionError::ConnectionStopped(ConnectionStopReason::Closed);
     let told = BeginError::from(stopped);
     let want = BeginError::ConnectionStopped(ConnectionStopReason::Closed);
-    assert!(rt; are_same(told, want));
+    holds(&rt, are_same(told, want));
 }
 
 /// Whether an error is displayed as this text.
@@ -97,8 +98,11 @@ fn is_displayed<E: Display>(alloc: Global, error: &E, want: &str) -> bool {
 #[test]
 fn errors_are_displayed(rt: HostRuntime) {
     let closed = TryCloseError::AlreadyClosed;
-    assert!(rt; is_displayed(rt.alloc(), &closed, "Illegal local state"));
+    holds(
+        &rt,
+        is_displayed(rt.alloc(), &closed, "Illegal local state"),
+    );
     let refused = AllocSessionError::ChannelMaxReached;
     let text = "Reached connection channel max";
-    assert!(rt; is_displayed(rt.alloc(), &refused, text));
+    holds(&rt, is_displayed(rt.alloc(), &refused, text));
 }

@@ -2,6 +2,7 @@
 
 use crate::asking::{pieces, receive, send};
 use crate::linking::{allot, mapped_by, send_attach, send_flow};
+use crate::same::{holds, same};
 use crate::telling::{Telling, Told};
 use bytes::Bytes;
 use fe2o3_amqp::{Engine, LinkRelay, Piece, ReplayRelay};
@@ -86,9 +87,9 @@ fn an_attach_that_goes_out_attaches_the_link_that_waits(rt: HostRuntime) {
     let is_passed = two_pass(rt.alloc(), &mut from, &mut to);
     drop(to);
     drop(from);
-    assert!(rt; is_there);
-    assert_eq!(rt; before, [1, 0, 0, 0]);
-    assert!(rt; is_here);
-    assert!(rt; is_passed);
-    assert_eq!(rt; told.counts(), [1, 3, 0, 0]);
+    holds(&rt, is_there);
+    same(&rt, before, [1, 0, 0, 0]);
+    holds(&rt, is_here);
+    holds(&rt, is_passed);
+    same(&rt, told.counts(), [1, 3, 0, 0]);
 }

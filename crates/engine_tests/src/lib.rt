@@ -35,6 +35,8 @@ mod running;
 #[cfg(test)]
 mod runs;
 #[cfg(test)]
+mod same;
+#[cfg(test)]
 mod sessions;
 #[cfg(test)]
 mod several;

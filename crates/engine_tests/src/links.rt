@@ -2,6 +2,7 @@
 
 use crate::linking::{Why, allot, allot_incoming, mapped};
 use crate::rows::{Ask, Row, first_wrong, first_wrong_opened, first_wrong_part};
+use crate::same::{holds, same};
 use crate::telling::{Telling, Told};
 use fe2o3_amqp::{LinkRelay, ReplayRelay, SessionStopReason};
 use std::alloc::Global;
@@ -103,21 +104,21 @@ fn told_by(
 #[test]
 fn a_relay_is_told_once_that_its_detach_is_answered(rt: HostRuntime) {
     let before = told_by(rt.alloc(), 0, &[ATTACHED]);
-    assert!(rt; before == ("done", None, [1, 0, 0, 0]));
+    holds(&rt, before == ("done", None, [1, 0, 0, 0]));
     let after = told_by(rt.alloc(), 0, &[ATTACHED, DETACHED]);
-    assert!(rt; after == ("done", None, [1, 0, 0, 1]));
+    holds(&rt, after == ("done", None, [1, 0, 0, 1]));
 }
 
 #[test]
 fn a_relay_that_refuses_an_attach_is_asked_of_the_next(rt: HostRuntime) {
     let told = told_by(rt.alloc(), 1, &[REFUSED_ONCE]);
-    assert!(rt; told == ("done", None, [2, 0, 0, 0]));
+    holds(&rt, told == ("done", None, [2, 0, 0, 0]));
 }
 
 #[test]
 fn a_relay_is_told_of_a_detach_that_the_peer_began(rt: HostRuntime) {
     let told = told_by(rt.alloc(), 0, &[ATTACHED, DETACHED_BY_THE_PEER]);
-    assert!(rt; told == ("done", None, [1, 0, 1, 0]));
+    holds(&rt, told == ("done", None, [1, 0, 1, 0]));
 }
 
 /// What the request of "c" is answered, whose attach came on handle 6, and the place of the first row that is wrong then.
@@ -131,7 +132,10 @@ fn takes_incoming<R: LinkRelay>(alloc: Global, relay: R) -> (&'static str, Optio
 
 #[test]
 fn an_incoming_link_is_attached_at_once(rt: HostRuntime) {
-    assert!(rt; takes_incoming(rt.alloc(), ReplayRelay) == ("done", None));
+    holds(
+        &rt,
+        takes_incoming(rt.alloc(), ReplayRelay) == ("done", None),
+    );
 }
 
 #[test]
@@ -141,16 +145,16 @@ fn a_relay_of_an_incoming_link_is_asked_of_no_attach(rt: HostRuntime) {
         told: &told,
         refusals: 0,
     };
-    assert!(rt; takes_incoming(rt.alloc(), relay) == ("done", None));
-    assert_eq!(rt; told.counts(), [0, 0, 0, 0]);
+    holds(&rt, takes_incoming(rt.alloc(), relay) == ("done", None));
+    same(&rt, told.counts(), [0, 0, 0, 0]);
 }
 
 #[test]
 fn a_link_that_is_not_allotted_is_told_why(rt: HostRuntime) {
-    assert_eq!(rt; first_wrong_opened(rt.alloc(), &[STOPPED]), None);
+    same(&rt, first_wrong_opened(rt.alloc(), &[STOPPED]), None);
 }
 
 #[test]
 fn a_link_of_an_ended_session_is_told_so(rt: HostRuntime) {
-    assert_eq!(rt; first_wrong_opened(rt.alloc(), &[ENDED]), None);
+    same(&rt, first_wrong_opened(rt.alloc(), &[ENDED]), None);
 }

@@ -3,6 +3,7 @@
 use crate::asking::{numbers_of, opened, receive};
 use crate::given::ReplayEngine;
 use crate::rows::{Ask, Row, first_wrong, first_wrong_opened};
+use crate::same::{holds, same};
 use bytes::Bytes;
 use fe2o3_amqp::{SessionState, SessionStopReason};
 use std::alloc::Global;
@@ -51,13 +52,13 @@ const BEGUN: &[Row] = &[Row::Begins(0), Row::Asked(Ask::Receive(FOR_ZERO), "done
 #[test]
 fn an_end_takes_the_route_away(rt: HostRuntime) {
     let wrong = first_wrong_opened(rt.alloc(), &[ZERO_ENDED, WITHOUT_A_ROUTE]);
-    assert_eq!(rt; wrong, None);
+    same(&rt, wrong, None);
 }
 
 #[test]
 fn the_first_stop_reason_of_a_session_stays(rt: HostRuntime) {
     let wrong = first_wrong_opened(rt.alloc(), &[ZERO_ENDED, STOPPED]);
-    assert_eq!(rt; wrong, None);
+    same(&rt, wrong, None);
 }
 
 /// The answer to the peer's Begin on a channel, which names channel 0 and grants a window of 100.
@@ -89,7 +90,7 @@ fn begins_on_every_channel_change_no_session(rt: HostRuntime) {
     let are_refused = all_refused(rt.alloc(), &mut engine);
     let numbers = numbers_of(&engine, 0);
     drop(engine);
-    assert_eq!(rt; wrong, None);
-    assert!(rt; are_refused);
-    assert_eq!(rt; numbers, (0, 8, 0));
+    same(&rt, wrong, None);
+    holds(&rt, are_refused);
+    same(&rt, numbers, (0, 8, 0));
 }

@@ -3,6 +3,7 @@
 use crate::asking::answer;
 use crate::given::{ReplayEngine, ReplayInput, unnamed_open};
 use crate::running::{push, received_frame, runs_to};
+use crate::same::same;
 use bytes::Bytes;
 use fe2o3_amqp::{ConnectionState, Engine, Input};
 use std::alloc::{AllocError, Global};
@@ -63,6 +64,6 @@ fn the_peer_limits_what_goes_out(rt: HostRuntime) {
         b"\x02\0\0\0\0\x53\x10\xc0\x0a\x03\xa1\x01p\x40\x70\0\0\0\x10",
     ];
     for peer in peers {
-        assert!(rt; is_limited(rt.alloc(), peer), "{peer:?}");
+        same(&rt, (peer, is_limited(rt.alloc(), peer)), (peer, true));
     }
 }

@@ -1,6 +1,7 @@
 //! Sessions in an engine, as they are read from it: their state, their numbers, and why they stopped.
 
 use crate::rows::{Ask, Row, first_wrong_opened};
+use crate::same::same;
 use fe2o3_amqp::{SessionState, SessionStopReason};
 
 /// The peer's Begin on channel 5, which names channel 0 and grants a window of 1.
@@ -62,23 +63,24 @@ const FORGOTTEN: &[Row] = &[
 
 #[test]
 fn a_begin_goes_out(rt: HostRuntime) {
-    assert_eq!(rt; first_wrong_opened(rt.alloc(), &[BEGUN]), None);
+    same(&rt, first_wrong_opened(rt.alloc(), &[BEGUN]), None);
 }
 
 #[test]
 fn a_transfer_waits_for_the_window(rt: HostRuntime) {
-    assert_eq!(rt; first_wrong_opened(rt.alloc(), &[FULL, LET_OUT]), None);
+    same(&rt, first_wrong_opened(rt.alloc(), &[FULL, LET_OUT]), None);
 }
 
 #[test]
 fn an_end_is_recorded(rt: HostRuntime) {
-    assert_eq!(rt; first_wrong_opened(rt.alloc(), &[FULL, ENDED]), None);
+    same(&rt, first_wrong_opened(rt.alloc(), &[FULL, ENDED]), None);
 }
 
 #[test]
 fn a_session_that_is_over_is_forgotten(rt: HostRuntime) {
-    assert_eq!(rt;
+    same(
+        &rt,
         first_wrong_opened(rt.alloc(), &[FULL, ENDED, FORGOTTEN]),
-        None
+        None,
     );
 }

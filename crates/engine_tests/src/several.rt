@@ -4,6 +4,7 @@ use crate::asking::{first_transfer, opened};
 use crate::given::ReplayInput;
 use crate::rows::{Ask, Row, first_wrong};
 use crate::running::{push, received_frame, runs_to};
+use crate::same::holds;
 use bytes::Bytes;
 use fe2o3_amqp::{Input, InputHandle, SessionNo, SessionSettings};
 use std::alloc::Global;
@@ -82,7 +83,7 @@ done
 out 0200000000531845
 ";
     let ran = runs_behind(rt.alloc(), &[], with_refusals(rt.alloc()), want);
-    assert!(rt; ran == (None, true));
+    holds(&rt, ran == (None, true));
 }
 
 /// Three Begins and a Close: each hands out a frame.
@@ -110,7 +111,7 @@ out 0200000000531845
 fn each_input_is_answered_before_the_next(rt: HostRuntime) {
     let inputs = all_hand_out(rt.alloc());
     let ran = runs_behind(rt.alloc(), &[], inputs, ALL_HANDED_OUT);
-    assert!(rt; ran == (None, true));
+    holds(&rt, ran == (None, true));
 }
 
 /// Three transfers for a window of two, and an End behind the flow that lets two of them out.
@@ -136,7 +137,7 @@ done
 out 0200000000531745
 ";
     let ran = runs_behind(rt.alloc(), MAPPED, let_out_at_once(rt.alloc()), want);
-    assert!(rt; ran == (None, true));
+    holds(&rt, ran == (None, true));
 }
 
 /// A Begin and a Close.
@@ -155,5 +156,5 @@ done
 out 0200000000531845
 ";
     let ran = runs_behind(rt.alloc(), BEGUN, begin_and_close(rt.alloc()), want);
-    assert!(rt; ran == (None, true));
+    holds(&rt, ran == (None, true));
 }

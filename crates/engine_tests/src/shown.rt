@@ -1,6 +1,7 @@
 //! What `{:?}` shows of an engine, with and without handles, and of a session.
 
 use crate::given::{ReplayEngine, unnamed_open};
+use crate::same::holds;
 use fe2o3_amqp::{
     ConnectionState, HandledEngine, OutgoingChannel, ReplayRelay, Session, SessionSettings,
     SessionState,
@@ -27,7 +28,7 @@ fn an_engine_shows_its_connection(rt: HostRuntime) {
     let engine = ReplayEngine::new(alloc, ConnectionState::HeaderExchange, unnamed_open(alloc));
     let is_right = shows(alloc, &engine, ENGINE);
     drop(engine);
-    assert!(rt; is_right);
+    holds(&rt, is_right);
 }
 
 #[test]
@@ -40,7 +41,7 @@ fn an_engine_with_handles_shows_the_engine(rt: HostRuntime) {
         Err(_) => false,
     };
     drop(handled);
-    assert!(rt; is_right);
+    holds(&rt, is_right);
 }
 
 #[test]
@@ -61,5 +62,5 @@ fn a_session_shows_its_state_and_its_numbers(rt: HostRuntime) {
          remote_outgoing_window: 0, held_back: 0, open_deliveries: 0, .. }",
     );
     drop(session);
-    assert!(rt; is_right);
+    holds(&rt, is_right);
 }

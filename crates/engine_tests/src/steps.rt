@@ -1,6 +1,7 @@
 //! Single inputs of an engine.
 
 use crate::rows::{Ask, Row, first_wrong_in};
+use crate::same::same;
 use fe2o3_amqp::{ConnectionState, ConnectionStopReason};
 
 /// An Open of the peer's: container-id `p`, max-frame-size 512, channel-max 3.
@@ -43,18 +44,18 @@ const CLOSED: &[Row] = &[
 #[test]
 fn an_open_goes_out(rt: HostRuntime) {
     let wrong = first_wrong_in(rt.alloc(), ConnectionState::HeaderExchange, &[OPENING]);
-    assert_eq!(rt; wrong, None);
+    same(&rt, wrong, None);
 }
 
 #[test]
 fn received_frames_move_the_state(rt: HostRuntime) {
     let wrong = first_wrong_in(rt.alloc(), ConnectionState::OpenSent, &[RECEIVED]);
-    assert_eq!(rt; wrong, None);
+    same(&rt, wrong, None);
 }
 
 /// The peer's Close has an error; it answers one of this side.
 #[test]
 fn the_reason_of_the_first_close_stays(rt: HostRuntime) {
     let wrong = first_wrong_in(rt.alloc(), ConnectionState::Opened, &[CLOSED]);
-    assert_eq!(rt; wrong, None);
+    same(&rt, wrong, None);
 }

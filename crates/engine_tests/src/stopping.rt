@@ -2,6 +2,7 @@
 
 use crate::asking::opened;
 use crate::given::{ReplayEngine, ReplayInput, said};
+use crate::same::holds;
 use crate::several::{ALL_HANDED_OUT, all_hand_out};
 use fe2o3_amqp::Answer;
 use std::alloc::{AllocError, Global};
@@ -70,5 +71,5 @@ fn a_stopped_run_goes_on(rt: HostRuntime) {
         Err(_) => false,
     };
     drop(engine);
-    assert!(rt; is_right);
+    holds(&rt, is_right);
 }

@@ -3,6 +3,7 @@
 
 use crate::asking::refusal_name;
 use crate::replaying::replays;
+use crate::same::{holds, same};
 use fe2o3_amqp::frames::Error as FrameError;
 use fe2o3_amqp::{ConnectionInnerError, ConnectionStateError, StepError, hex_bytes};
 use std::alloc::Global;
@@ -23,10 +24,8 @@ fn lines_end_at_a_line_feed(rt: HostRuntime) {
         (b"close\n\xff\n", b"err IllegalState\n", b"", 3),
     ];
     for (lines, output, errors, status) in rows {
-        assert!(rt;
-            replays(rt.alloc(), lines, output, errors, status),
-            "{lines:?}"
-        );
+        let found = replays(rt.alloc(), lines, output, errors, status);
+        same(&rt, (lines, found), (lines, true));
     }
 }
 
@@ -48,10 +47,10 @@ fn says_none(alloc: Global, text: &str) -> bool {
 
 #[test]
 fn digits_are_read(rt: HostRuntime) {
-    assert!(rt; says(rt.alloc(), "00fFA9", b"\x00\xff\xa9"));
-    assert!(rt; says(rt.alloc(), "", b""));
-    assert!(rt; says_none(rt.alloc(), "0"));
-    assert!(rt; says_none(rt.alloc(), "0g"));
+    holds(&rt, says(rt.alloc(), "00fFA9", b"\x00\xff\xa9"));
+    holds(&rt, says(rt.alloc(), "", b""));
+    holds(&rt, says_none(rt.alloc(), "0"));
+    holds(&rt, says_none(rt.alloc(), "0g"));
 }
 
 #[test]
@@ -70,5 +69,5 @@ fn names_are_those_of_the_innermost_variant(rt: HostRuntime) {
         "RemoteClosed",
         "NotFound",
     ];
-    assert!(rt; names == want);
+    holds(&rt, names == want);
 }

@@ -1,5 +1,6 @@
 //! A bad line that cannot be told: the writer of errors fails.
 
+use crate::same::{holds, same};
 use fe2o3_amqp::replay;
 use std::io::{self, ErrorKind, Write};
 
@@ -33,7 +34,7 @@ fn a_bad_line_that_cannot_be_told_is_a_failure(rt: HostRuntime) {
         drop(errors);
         let stands = output.as_slice() == b"err IllegalState\n".as_slice();
         drop(output);
-        assert_eq!(rt; status, 3);
-        assert!(rt; stands);
+        same(&rt, status, 3);
+        holds(&rt, stands);
     }
 }
