@@ -275,11 +275,14 @@ class Trial:
         return True
 
     def controls(self, one_in, batches):
-        """The functions that stand as they are in each of these checks, none of which edits them, and those for which there is no such check."""
+        """The functions that stand as they are in each of these checks, none of which edits them, and those for which there is no such check:
+        of one in so many none, where others can stand in a check."""
+        free = {it.function: [at for at, (edits, _) in enumerate(batches) if is_free(it.function, edits)] for it in self.edits}
+        all_of_them = sorted(free)
+        beside = [it for it in all_of_them if free[it]]
         names, without = [[] for _ in batches], []
-        for function in sorted({it.function for it in self.edits})[::one_in]:
-            free = [at for at, (edits, _) in enumerate(batches) if is_free(function, edits)]
-            place = min(free, key=lambda at: len(batches[at][0]) + len(names[at]), default=None)
+        for function in (beside if one_in > 1 and beside else all_of_them)[::one_in]:
+            place = min(free[function], key=lambda at: len(batches[at][0]) + len(names[at]), default=None)
             (without if place is None else names[place]).append(function)
         return names, without
 
