@@ -1,0 +1,86 @@
+-- What bytes ask for, where parts of them were read.
+use Rattle.std.proofs.Common.{◌≡◌, ℕ, List, [], Bool, Option, Some, None, Result, Ok, Err, refl, ap, sym, subst, ◌∙◌}
+use Rattle.std.specs.Int.{w32}
+use Rattle.amqp_values.specs.Reading.{number_at, byte_at}
+use Rattle.amqp_values.specs.declared.error.ReadError.{ReadError}
+use Rattle.amqp_values.specs.declared.error.ReadError.TheVariants.{Malformed, OutOfMemory}
+use Rattle.amqp_types.specs.Begin.{BeginSaid}
+use Rattle.amqp_types.specs.Flow.{FlowSaid}
+use Rattle.amqp_types.specs.Detach.{DetachSaid}
+use Rattle.amqp_types.specs.Transfer.{TransferSaid}
+use Rattle.amqp_types.specs.Performatives.{IsPerformative}
+use Rattle.amqp_types.specs.declared.performatives.Performative.TheVariants as its
+use Rattle.amqp_session.specs.LinkFlow.{link_part}
+use Rattle.amqp_session.specs.declared.flow.LinkFlow.{LinkFlow}
+use Rattle.amqp_engine.specs.declared.engine.input.Input.{Input}
+use Rattle.amqp_client.specs.declared.operation.Operation.{Operation}
+use Rattle.amqp_client.specs.declared.operation.Operation.TheVariants as op
+use Rattle.amqp_client.specs.Asking.{Asks, AsksBegin, AsksDetach, AsksFlow, AsksTransfer, AsksInSession, AsksOfSession, HasByte, HasNumber, IsBegun}
+use Rattle.amqp_client.specs.Reading.{IsTransfer, Reads, ReadsOne}
+
+abbrev pub pair_of : ℕ × List ℕ → Option (ℕ × List ℕ) → ℕ × List ℕ
+pair_of d None = d
+pair_of d (Some x) = x
+
+pub same_rest : (o : Option (ℕ × List ℕ)) (n m : ℕ) (rest rest' : List ℕ) → o ≡ Some (n, rest) → o ≡ Some (m, rest') → rest' ≡ rest
+same_rest o n m rest rest' e f = ap (λ o. (pair_of (n, rest) o).1) (sym f ∙ e)
+
+pub same_number : (o : Option (ℕ × List ℕ)) (n m : ℕ) (rest rest' : List ℕ) → o ≡ Some (n, rest) → o ≡ Some (m, rest') → m ≡ n
+same_number o n m rest rest' e f = ap (λ o. (pair_of (n, rest) o).0) (sym f ∙ e)
+
+-- what was not read is not asked for
+pub none_asked : {X Y : Type 0} (P : X → Type 0) (Q : Y → Type 0) (e : ReadError) → ((y : Y) → Q y → (x : X) × P x) → ReadsOne P (Err e) → Reads Q (Err e)
+none_asked P Q Malformed f h = λ y q. let x = f y q in h x.0 x.1
+none_asked P Q OutOfMemory f h = tt
+
+pub none_of : {X Y : Type 0} (P : X → Type 0) (Q : Y → Type 0) (e : ReadError) → ((y : Y) → Q y → (x : X) × P x) → Reads P (Err e) → Reads Q (Err e)
+none_of P Q Malformed f h = λ y q. let x = f y q in h x.0 x.1
+none_of P Q OutOfMemory f h = tt
+
+-- a session, by what follows its number
+pub in_session : {R : Type 0} (o : Operation) (bytes : List ℕ) (n : ℕ) (rest : List ℕ) (r : Result (Input R) ReadError) → HasNumber bytes n rest
+    → Reads (AsksOfSession o n rest) r → Reads (AsksInSession o bytes) r
+in_session o bytes n rest (Ok i) e h = (n, rest, e, h)
+in_session o bytes n rest (Err Malformed) e h = λ i a.
+    h i (subst (λ k. AsksOfSession o k rest i) (same_number (number_at w32 bytes) n a.0 rest a.1 e a.2)
+    (subst (λ t. AsksOfSession o a.0 t i) (same_rest (number_at w32 bytes) n a.0 rest a.1 e a.2) a.3))
+in_session o bytes n rest (Err OutOfMemory) e h = tt
+
+-- a Begin that answers none
+pub begun : {R : Type 0} (n : ℕ) (bytes : List ℕ) (b : BeginSaid) (r : Result (Input R) ReadError) → ReadsOne (λ x. IsPerformative (its.Begin x) bytes) (Ok b)
+    → IsBegun n b r → Reads (AsksBegin n bytes) r
+begun n bytes b (Ok i) h g = (b, h.0, g.0, g.1)
+begun n bytes b (Err Malformed) h g = λ i a. g (subst (λ (x : BeginSaid). x.remote_channel ≡ None) (h.1 a.0 a.1) a.2)
+begun n bytes b (Err OutOfMemory) h g = absurd g
+
+no_some : {X : Type 0} (x : X) → Some x ≡ None → ⊥
+no_some x e = absurd cc
+
+-- a Flow that names no link
+pub no_flow : {R : Type 0} (n : ℕ) (bytes : List ℕ) (f : FlowSaid) → ReadsOne (λ x. IsPerformative (its.Flow x) bytes) (Ok f) → link_part f ≡ None
+    → (i : Input R) → ¬ AsksFlow n bytes i
+no_flow n bytes f h e i a =
+    no_some a.1 (sym a.3 ∙ ap link_part (h.1 a.0 a.2) ∙ e)
+
+-- a Detach and a Transfer behind their flags
+pub detach_behind : {R : Type 0} (n : ℕ) (bytes : List ℕ) (flag : ℕ) (rest : List ℕ) → HasByte bytes flag rest → (i : Input R) → AsksDetach n bytes i
+    → (d : DetachSaid) × IsPerformative (its.Detach d) rest
+detach_behind n bytes flag rest e i a =
+    (a.detach, subst (IsPerformative (its.Detach a.detach)) (same_rest (byte_at bytes) flag a.flag rest a.rest e a.has_flag) a.is_detach)
+
+pub transfer_behind : {R : Type 0} (n : ℕ) (bytes : List ℕ) (handle flag : ℕ) (behind rest : List ℕ) → HasNumber bytes handle behind → HasByte behind flag rest
+    → (i : Input R) → AsksTransfer n bytes i → (x : TransferSaid × List ℕ) × IsTransfer rest x
+transfer_behind n bytes handle flag behind rest e f i a =
+    let b : a.behind ≡ behind = same_rest (number_at w32 bytes) handle a.handle behind a.behind e a.has_handle in
+    let g : HasByte behind a.flag a.rest = subst (λ t. HasByte t a.flag a.rest) b a.has_flag in
+    (a.transfer, subst (λ t. IsTransfer t a.transfer) (same_rest (byte_at behind) flag a.flag rest a.rest f g) a.is_transfer)
+
+-- an operation that is none of these five is of a session
+pub plain_or_session : {R : Type 0} (o : Operation) (bytes : List ℕ) (r : Result (Input R) ReadError) → ¬ (o ≡ op.Open) → ¬ (o ≡ op.Close) → ¬ (o ≡ op.Release)
+    → ¬ (o ≡ op.Forget) → ¬ (o ≡ op.Settle) → Reads (AsksInSession o bytes) r → Reads (Asks o bytes) r
+plain_or_session op.Open bytes r a b c d e h = absurd (a refl)
+plain_or_session op.Close bytes r a b c d e h = absurd (b refl)
+plain_or_session op.Release bytes r a b c d e h = absurd (c refl)
+plain_or_session op.Forget bytes r a b c d e h = absurd (d refl)
+plain_or_session op.Settle bytes r a b c d e h = absurd (e refl)
+plain_or_session o bytes r a b c d e h = h

@@ -1,0 +1,14 @@
+pub mod Asked
+pub mod Asking
+pub mod Client
+pub mod Kinds
+pub mod Linking
+pub mod Machine
+pub mod Operation
+pub mod Reading
+pub mod Receiving
+pub mod Record
+pub mod Refused
+pub mod Status
+pub mod Telling
+pub mod Writing

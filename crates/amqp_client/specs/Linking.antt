@@ -1,0 +1,101 @@
+-- Links: what allots a handle to one, with a relay that tells events.
+use Rattle.std.specs.Prelude.{◌≡◌, ◌⊎◌, ℕ, List, Option, Some, None, false, string_bytes}
+use Rattle.std.specs.Str.{IsUtf8}
+use Rattle.amqp_types.specs.declared.definitions.ReceiverSettleMode.{ReceiverSettleMode}
+use Rattle.amqp_types.specs.declared.definitions.Role.{Role}
+use Rattle.amqp_session.specs.declared.numbers.InputHandle.{InputHandle}
+use Rattle.amqp_engine.specs.declared.engine.input.Input.{Input}
+use Rattle.amqp_engine.specs.declared.engine.input.Input.TheVariants as input
+use Rattle.amqp_events.specs.declared.policy.Policy.{Policy}
+use Rattle.amqp_events.specs.declared.policy.Recorded.TheVariants.{OfModeSecond}
+use Rattle.amqp_events.specs.declared.policy.Echoed.TheVariants.{Terminal}
+use Rattle.amqp_events.specs.declared.relay.EventRelay.{EventRelay}
+use Rattle.amqp_events.specs.declared.shared.SharedQueue.{SharedQueue}
+use Rattle.amqp_client.specs.declared.operation.Operation.{Operation}
+use Rattle.amqp_client.specs.declared.operation.Operation.TheVariants as op
+use Rattle.amqp_client.specs.declared.linking.LinkAsked.{LinkAsked}
+use Rattle.amqp_session.specs.Relay.{Relays}
+use Rattle.amqp_client.specs.declared.status.Status.{Status}
+use Rattle.amqp_client.specs.Asking.{HasByte, HasNumber}
+use Rattle.amqp_client.specs.Machine.{MachineView, NoneGranted, RunsSome}
+use Rattle.amqp_client.specs.Reading.{mode_of, role_of}
+
+abbrev pub Relay : Type 0
+Relay = EventRelay SharedQueue
+
+-- a link: its session, the peer's handle where its attach came, this side's role, how the receiver settles, and its name
+pub record LinkSaid : Type 0 where
+  pub session : ℕ
+  pub input : Option ℕ
+  pub role : Role
+  pub mode : ReceiverSettleMode
+  pub name : List ℕ
+
+-- the role, the mode, and the name, which is all the rest
+pub record HasPolicy (bytes : List ℕ) (l : LinkSaid) : Type 0 where
+  pub role_byte : ℕ
+  pub mode_byte : ℕ
+  pub behind : List ℕ
+  pub has_role : HasByte bytes role_byte behind
+  pub has_mode : HasByte behind mode_byte l.name
+  pub role_is : role_of role_byte ≡ Some l.role
+  pub mode_is : mode_of mode_byte ≡ Some l.mode
+  pub utf8 : IsUtf8 l.name
+
+-- the link that the bytes of an operation name
+abbrev pub AsksLink : Operation → List ℕ → LinkSaid → Type 0
+AsksLink op.Link bytes l = (rest : List ℕ) × HasNumber bytes l.session rest × (l.input ≡ None) × HasPolicy rest l
+AsksLink op.LinkOn bytes l = (h : ℕ) × (behind : List ℕ) × (rest : List ℕ) × HasNumber bytes l.session behind × HasNumber behind h rest
+    × (l.input ≡ Some h) × HasPolicy rest l
+AsksLink o bytes l = ⊥
+
+-- ---- the engine's input
+
+abbrev pub policy_of : LinkSaid → Policy
+policy_of l = record {
+  role = l.role;
+  rcv_settle_mode = l.mode;
+  recorded = OfModeSecond;
+  echoed = Terminal;
+  answers_flows = false;
+  answers_detaches = false;
+}
+
+abbrev pub handle_of : Option ℕ → Option InputHandle
+handle_of None = None
+handle_of (Some h) = Some (record { 0 = h })
+
+-- a relay of this link, over some hold on the queue
+abbrev pub IsRelay : LinkSaid → Relay → Type 0
+IsRelay l r = (sink : SharedQueue) × (r ≡ record {
+  sink = sink;
+  link = record { session = l.session; input = handle_of l.input; output = None };
+  policy = policy_of l;
+})
+
+-- a handle for a link of this name, with such a relay: it waits for the peer's attach, or stands on the handle on which that came
+abbrev pub Allots : LinkSaid → Input Relay → Type 0
+Allots l (input.AllocateLink n name (Some r)) =
+    (n ≡ record { 0 = l.session }) × (string_bytes name ≡ l.name) × (l.input ≡ None) × IsRelay l r
+Allots l (input.AllocateIncomingLink n name r h) =
+    (n ≡ record { 0 = l.session }) × (string_bytes name ≡ l.name) × (l.input ≡ Some h.0) × IsRelay l r
+Allots l i = ⊥
+
+-- memory was refused; or that is run
+abbrev pub AllotsOn : Relays Relay → LinkSaid → MachineView Relay → Status → MachineView Relay → Type 0
+AllotsOn g l m s n = NoneGranted m s n ⊎ RunsSome g (Allots l) m s n
+
+-- ---- parts
+
+abbrev pub link_said : LinkAsked → LinkSaid
+link_said a = record { session = a.session; input = a.input; role = a.role; mode = a.mode; name = a.name.now }
+
+-- the link is the one that the bytes name, or they name none
+abbrev pub FindsLink : Operation → List ℕ → Option LinkAsked → Type 0
+FindsLink o bytes None = (l : LinkSaid) → ¬ AsksLink o bytes l
+FindsLink o bytes (Some a) = AsksLink o bytes (link_said a)
+
+-- one of this session, and with this handle of the peer's
+abbrev pub FindsPolicy : ℕ → Option ℕ → List ℕ → Option LinkAsked → Type 0
+FindsPolicy n h bytes None = (l : LinkSaid) → ¬ HasPolicy bytes l
+FindsPolicy n h bytes (Some a) = (a.session ≡ n) × (a.input ≡ h) × HasPolicy bytes (link_said a)

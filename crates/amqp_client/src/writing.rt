@@ -1,0 +1,48 @@
+//! Answers: bytes that go to the front of the output, or the length that they need.
+
+ghost use Rattle.std.specs.Prelude.{◌≡◌, ◌≤◌, ◌<◌, ◌+◌, ◌++◌, ◌^◌, length};
+ghost use Rattle.amqp_client.specs.Writing.{Writes, fills};
+
+use crate::status::Status;
+
+/// Writes bytes at a place of the output, in which there is room for them.
+pub(crate) fn fill(output: &mut [u8], at: usize, bytes: &[u8])
+    requires { at + length bytes.now ≤ length output.old }
+    ensures { output.new ≡ fills at bytes.now output.old }
+{
+    output[at..at + bytes.len()].copy_from_slice(bytes);
+}
+
+/// Writes the bytes to the front of the output. `TooSmall` where they do not fit: the output stays, and their length is told.
+pub(crate) fn write(output: &mut [u8], bytes: &[u8]) -> (Status, usize)
+    ensures { Writes bytes.now output.old result.0 result.1 output.new }
+{
+    let len = bytes.len();
+    if output.len() < len {
+        return (Status::TooSmall, len);
+    }
+    fill(output, 0, bytes);
+    (Status::Done, len)
+}
+
+/// Writes three runs of bytes, one behind the other, as [`write`] does.
+pub(crate) fn write_three(
+    output: &mut [u8],
+    first: &[u8],
+    second: &[u8],
+    third: &[u8],
+) -> (Status, usize)
+    requires { length first.now + length second.now + length third.now < 2 ^ 64 }
+    ensures { Writes (first.now ++ (second.now ++ third.now)) output.old result.0 result.1 output.new }
+{
+    let second_at = first.len();
+    let third_at = second_at + second.len();
+    let len = third_at + third.len();
+    if output.len() < len {
+        return (Status::TooSmall, len);
+    }
+    fill(output, 0, first);
+    fill(output, second_at, second);
+    fill(output, third_at, third);
+    (Status::Done, len)
+}
