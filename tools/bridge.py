@@ -1,9 +1,9 @@
 #!/usr/bin/env python3
-"""Connects the program amqp_replay with a broker: sends messages to an address, receives them back, settles, and closes.
+"""Connects an engine with a broker: sends messages to an address, receives them back, settles, and closes.
 
     tools/bridge.py PROGRAM HOST PORT ADDRESS [--sasl USER:PASSWORD] [--messages N]
 
-This is all that a transport has to do: the protocol headers, SASL (ANONYMOUS, or PLAIN with --sasl; part 5 of the standard, section 5.3), the
+PROGRAM is the program amqp_replay, or the library libamqp.so of `tools/build_c.sh`: then no program is started. This is all that a transport has to do: the protocol headers, SASL (ANONYMOUS, or PLAIN with --sasl; part 5 of the standard, section 5.3), the
 four bytes of size before each frame, and an empty frame where the peer's idle time-out asks for one (part 2, sections 2.2, 2.3 and 2.4.5).
 All else is the engine's: each line that the program is given, and what it answers, is a step. Prints what it did; a refusal by its name.
 Where nobody listens, the peer hangs up or the program ends, a line on standard error says so, and the status is 1.
@@ -14,6 +14,7 @@ import subprocess
 import sys
 import time
 
+from by_library import LineEngine, Open
 from canonical import boolean, composite, string, symbol, tag, ubyte, uint
 from command import command, told
 from frames import ATTACH, BEGIN, CLOSE, DETACH, DISPOSITION, END, FLOW, NAMES, NULL, OPEN, TRANSFER, Frame, Malformed, end_of, flag, integer, parts
@@ -54,6 +55,23 @@ class Engine:
         except BrokenPipeError:
             pass
         return self.run.wait()
+
+
+class Library:
+    """The same by the library."""
+
+    def __init__(self, path):
+        self.run, self.refused = LineEngine(Open("bridge", max_frame_size=262144, channel_max=255), library=path), []
+
+    def step(self, line):
+        for refusal in self.run.ask(line):
+            self.refused.append((line, refusal.name))
+            print(f"refused: {refusal.name}, at {line[:60]}")
+        return self.run.pieces()
+
+    def end(self):
+        self.run.engine.free()
+        return 0
 
 
 class Transport:
@@ -123,7 +141,8 @@ class Transport:
 
 class Bridge:
     def __init__(self, program, host, port, login):
-        self.engine, self.transport = Engine(program), Transport(host, port)
+        self.engine = Library(program) if program.endswith(".so") else Engine(program)
+        self.transport = Transport(host, port)
         self.transport.sasl(login)
         self.transport.header(0)
 
@@ -198,7 +217,7 @@ class Bridge:
         self.until(END)
         self.ask("close")
         self.until(CLOSE)
-        print(f"closed; the program ended with status {self.engine.end()}; {len(self.engine.refused)} refused")
+        print(f"closed; the engine ended with status {self.engine.end()}; {len(self.engine.refused)} refused")
 
 
 def read():

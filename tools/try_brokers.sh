@@ -1,7 +1,10 @@
 #!/usr/bin/env bash
-# Runs amqp_replay against two brokers on loopback, by tools/bridge.py: qpid-proton's example broker and RabbitMQ with its AMQP 1.0 plug-in, both
-# from Debian's packages, which it installs where they are missing (as root). Each is started in a folder of its own and stopped at the end.
-# Then qpid-proton's client in Python sends to broker_example and receives from it, by tools/try_server.py. It is no part of the gate.
+# Tries the programs of this repository against real peers on loopback: qpid-proton's example broker and RabbitMQ with its AMQP 1.0 plug-in serve
+# amqp_replay (tools/bridge.py), the client in C and the client in Python; qpid-proton's clients in Python and in C++ are served by broker_example and by the
+# broker in Python; and tools/watch.py looks on. All are Debian's packages, which it installs where they are missing (as root). Each peer is
+# started in a folder of its own and stopped at the end. It is no part of the gate. The last line is 'N passed, M failed'.
+#
+# Programs that an earlier run left are used; AMQP_PREFIX names the folder where tools/build_c.sh put the library, if that was done.
 set -euo pipefail
 case "${1-}" in -h | --help) sed -n '2,/^set/{/^set/d;s/^# \{0,1\}//;p}' "$0" && exit 0 ;; esac
 command -v rt >/dev/null || [ -x "$(dirname "$0")/../crates/amqp_replay/out/amqp_replay" ] || { echo "try_brokers: no rt on the path, and no amqp_replay that it left" >&2; exit 1; }
@@ -29,27 +32,26 @@ await_port() {
     return 1
 }
 
-proton() {
+start_proton() {
     install gcc libc6-dev libqpid-proton11-dev libqpid-proton11-dev-examples || return 1
-    local examples=/usr/share/proton/examples/c port
-    port=$(free_port)
+    local examples=/usr/share/proton/examples/c
+    proton=$(free_port)
     gcc -I"$examples" "$examples/broker.c" -o "$folder/broker" -l:libqpid-proton-core.so.10 -l:libqpid-proton-proactor.so.1 -lpthread
-    "$folder/broker" 127.0.0.1 "$port" >"$folder/proton.out" 2>&1 &
+    "$folder/broker" 127.0.0.1 "$proton" >"$folder/proton.out" 2>&1 &
     running+=($!)
-    await_port "$port"
+    await_port "$proton"
     echo "== qpid-proton $(dpkg-query -f '${Version}' -W libqpid-proton11-dev)"
-    python3 tools/bridge.py "$program" 127.0.0.1 "$port" messages
 }
 
-rabbitmq() {
+start_rabbitmq() {
     install rabbitmq-server || return 1
-    local port names home=$folder/rabbitmq
-    port=$(free_port) names=$(free_port)
+    local names home=$folder/rabbitmq
+    rabbitmq=$(free_port) names=$(free_port)
     # Erlang's server of names, which RabbitMQ would start by itself and leave behind
     epmd -port "$names" -address 127.0.0.1 &
     running+=($!)
     mkdir -p "$home/log"
-    printf '%s\n' "listeners.tcp.1 = 127.0.0.1:$port" 'default_user = guest' 'default_pass = guest' >"$home/rabbitmq.conf"
+    printf '%s\n' "listeners.tcp.1 = 127.0.0.1:$rabbitmq" 'default_user = guest' 'default_pass = guest' >"$home/rabbitmq.conf"
     echo '[rabbitmq_amqp1_0].' >"$home/enabled_plugins"
     HOME=$home ERL_EPMD_PORT=$names ERL_EPMD_ADDRESS=127.0.0.1 RABBITMQ_NODENAME=bridge@localhost RABBITMQ_DIST_PORT=$(free_port) \
         RABBITMQ_MNESIA_BASE=$home/mnesia RABBITMQ_LOG_BASE=$home/log RABBITMQ_CONFIG_FILE=$home/rabbitmq.conf \
@@ -57,23 +59,89 @@ rabbitmq() {
         RABBITMQ_SERVER_ADDITIONAL_ERL_ARGS='-kernel inet_dist_use_interface {127,0,0,1}' \
         setsid "$(ls /usr/lib/rabbitmq/lib/*/sbin/rabbitmq-server | head -1)" >"$home/out" 2>&1 &
     running+=($!)
-    await_port "$port"
+    await_port "$rabbitmq"
     running+=("$(cat "$home/pid")")
     echo "== RabbitMQ $(dpkg-query -f '${Version}' -W rabbitmq-server)"
-    python3 tools/bridge.py "$program" 127.0.0.1 "$port" /queue/messages --sasl guest:guest
 }
 
-client() {
-    install python3 python3-qpid-proton || return 1
-    echo "== broker_example, and the client of qpid-proton $(dpkg-query -f '${Version}' -W python3-qpid-proton)"
-    /usr/bin/python3 tools/try_server.py "$server"
+start_broker() {
+    install python3-qpid-proton || return 1
+    served=$(free_port)
+    python3 examples/python/broker.py "$served" >"$folder/broker.out" 2>&1 &
+    running+=($!)
+    await_port "$served"
+    echo "== examples/python/broker.py"
+}
+
+# What is tried: each prints what it did
+replay() { python3 tools/bridge.py "$program" 127.0.0.1 "$@"; }
+by_library() { python3 tools/bridge.py "$AMQP_LIBRARY" 127.0.0.1 "$@"; }
+in_c() { echo "the client in C:" && timeout 60 "$folder/send_receive" 127.0.0.1 "$@"; }
+in_python() { echo "the client in Python:" && timeout 60 python3 examples/python/send_receive.py 127.0.0.1 "$@"; }
+proton_in_python() { echo "qpid-proton's client in Python $(dpkg-query -f '${Version}' -W python3-qpid-proton):" && timeout 300 /usr/bin/python3 tools/try_server.py "$1"; }
+
+# qpid-proton's examples in C++, as they come
+proton_in_cpp() {
+    install g++ libqpid-proton-cpp12-dev libqpid-proton11-dev-examples || return 1
+    local examples=/usr/share/proton/examples/cpp it
+    echo "qpid-proton's examples in C++ $(dpkg-query -f '${Version}' -W libqpid-proton-cpp12-dev):"
+    for it in simple_send simple_recv; do
+        g++ -std=c++17 -I"$examples" "$examples/$it.cpp" -o "$folder/$it" -lqpid-proton-cpp || return 1
+    done
+    timeout 60 "$folder/simple_send" -a "127.0.0.1:$1/examples" -m 100 && timeout 60 "$folder/simple_recv" -a "127.0.0.1:$1/examples" -m 100 | tail -n 1
+}
+
+# Two clients and a broker that keep the protocol: nothing is told of them but that they came and went
+watched() {
+    local port
+    port=$(free_port)
+    # the look whether it listens is a connection of its own
+    python3 tools/watch.py "$port" 127.0.0.1 "$1" --connections 3 >"$folder/watched" &
+    local watcher=$!
+    await_port "$port"
+    in_c "$port" looked_at >"$folder/through" && in_python "$port" looked_at >>"$folder/through" || { cat "$folder/through" && kill "$watcher" && return 1; }
+    wait "$watcher"
+    echo "tools/watch.py, between these clients and this broker:" && cat "$folder/watched"
+    ! grep -v "^listens\|, over, " "$folder/watched"
 }
 
 [ -x "$program" ] || (cd crates/amqp_replay && rt run </dev/null >"$folder/build")
 [ -x "$server" ] || (cd crates/broker_example && rt run <stdin >"$folder/build")
+prefix=${AMQP_PREFIX:-$folder/library}
+[ -e "$prefix/lib/libamqp.a" ] || tools/build_c.sh "$prefix" >"$folder/build"
+export AMQP_LIBRARY=$prefix/lib/libamqp.so
+cc -std=c99 -O2 -I"$prefix/include" examples/c/send_receive.c "$prefix/lib/libamqp.a" -o "$folder/send_receive"
+
 passed=0 failed=0
-for broker in proton rabbitmq client; do
-    if "$broker"; then passed=$((passed + 1)); else failed=$((failed + 1)); fi
-done
+tried() {
+    if "$@"; then passed=$((passed + 1)); else failed=$((failed + 1)) && echo "FAILED: $*"; fi
+}
+if start_proton; then
+    tried replay "$proton" messages
+    tried by_library "$proton" messages
+    tried in_c "$proton" messages
+    tried in_python "$proton" messages
+    tried in_python "$proton" messages --messages 20 --size 100000
+    tried watched "$proton"
+else
+    failed=$((failed + 1))
+fi
+if start_rabbitmq; then
+    tried replay "$rabbitmq" /queue/messages --sasl guest:guest
+    tried by_library "$rabbitmq" /queue/messages --sasl guest:guest
+    tried in_c "$rabbitmq" /queue/messages guest guest
+    tried in_python "$rabbitmq" /queue/messages --sasl guest:guest
+else
+    failed=$((failed + 1))
+fi
+if start_broker; then
+    echo "== broker_example" && tried proton_in_python "$server"
+    echo "== examples/python/broker.py" && tried proton_in_python "$served"
+    tried proton_in_cpp "$served"
+    tried in_python "$served" other
+    tried in_c "$served" another
+else
+    failed=$((failed + 1))
+fi
 echo "$passed passed, $failed failed"
 [ "$failed" = 0 ]

@@ -1,10 +1,11 @@
 #!/usr/bin/env python3
-"""Has qpid-proton's client send messages to the program broker_example and receive them back, over sockets on loopback.
+"""Has qpid-proton's client send messages to a broker and receive them back, over sockets on loopback.
 
-    tools/try_server.py PROGRAM
+    tools/try_server.py PROGRAM      starts PROGRAM, as broker_example, for each connection, with the socket as its standard input and output
+    tools/try_server.py PORT         tries a broker that listens on 127.0.0.1:PORT
 
-For each connection it starts PROGRAM with the socket as its standard input and output. The client is Debian's package python3-qpid-proton, as it
-comes: a sender and a receiver of one address share a link's name. The last line is 'N passed, M failed'.
+The client is Debian's package python3-qpid-proton, as it comes: a sender and a receiver of one address share a link's name. The last line is
+'N passed, M failed'.
 """
 
 import socket
@@ -47,6 +48,19 @@ class Server:
         for it in self.running:
             if it.poll() is None:
                 it.kill()
+
+
+class Listening:
+    """A broker that listens already."""
+
+    def __init__(self, port):
+        self.port = port
+
+    def statuses(self):
+        return [0]
+
+    def end(self):
+        pass
 
 
 def connected(server, **settings):
@@ -135,7 +149,7 @@ TESTS = [
 
 
 def tried(program, what, test):
-    server = Server(program)
+    server = Listening(int(program)) if program.isdigit() else Server(program)
     try:
         good = test(server) and set(server.statuses()) == {0}
         why = "" if good else "other messages came back, or a status is not 0"

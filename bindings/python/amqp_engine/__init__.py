@@ -1,0 +1,25 @@
+"""AMQP 1.0 for Python, by a proved engine: frames, connection and sessions (AMQP 1.0 part 2), over the library `libamqp.so`.
+
+    from amqp_engine import Engine, Open
+
+    engine = Engine(Open("me"))
+    engine.open()
+    socket.sendall(engine.to_send())
+    for event in engine.receive(socket.recv(65536)):
+        print(event)
+
+`Engine` does no input or output itself; `connect` and `serve` are a transport by `asyncio`. Protocol headers and SASL are the transport's.
+"""
+
+from .engine import BadArgument, Engine, NoMemory, Room
+from .events import AnyEvent, Attached, Detached, Disposed, Event, Flowed, Refusal, Transferred
+from .performatives import (
+    ACCEPTED, FIRST, MIXED, RECEIVER, RELEASED, SECOND, SENDER, SETTLED, UNSETTLED, Attach, Begin, Close, Detach, Disposition, End, Error, Flow, Open,
+    Transfer, address_of, body_of, data, rejected, source, target,
+)  # fmt: skip
+from .sasl import Anonymous, LoginRefused, Plain
+from .serving import Closed, Server, SessionBegan, SessionEnded
+from .transport import Connection, HeaderRefused, PeerSilent, connect, serve
+from .values import Array, Described, Malformed, Symbol, Ubyte, Uint, Ulong, Ushort
+
+__version__ = "0.1.0"

@@ -1,0 +1,224 @@
+"""A server's side: sessions that the client begins, and names of links that a client gives to a sender and to a receiver.
+
+The engine takes only the answer to a Begin of its own, and lets a link's name serve one direction in a session. So for each session that the client
+begins the engine begins one, and the two Begins are turned: only their `remote-channel` changes. And names of links are kept with the role of the
+client in front, which goes in when an Attach comes and is taken off when one goes out.
+"""
+
+from __future__ import annotations
+
+import contextlib
+from dataclasses import dataclass, replace
+from typing import Dict, Iterator, Optional, Tuple, Union
+
+from .engine import Engine
+from .events import AnyEvent, Attached, Detached, Event, Refusal
+from .performatives import FIRST, RECEIVER, Attach, Begin
+from .values import Malformed, read
+
+_BEGIN, _ATTACH, _END, _CLOSE = 0x11, 0x12, 0x17, 0x18
+_NAMES = {"amqp:begin:list": _BEGIN, "amqp:attach:list": _ATTACH, "amqp:end:list": _END, "amqp:close:list": _CLOSE}
+
+
+@dataclass
+class SessionBegan(Event):
+    """The client began a session; it is mapped."""
+
+    begin: Begin
+
+
+@dataclass
+class SessionEnded(Event):
+    """The client ended the session, and was answered. Its links are gone, and its number is not used again."""
+
+
+@dataclass
+class Closed(Event):
+    """The client closed the connection, and was answered."""
+
+
+ServerEvent = Union[AnyEvent, SessionBegan, SessionEnded, Closed, Refusal]
+
+
+def mark(role: bool, name: str) -> str:
+    """The name under which the engine keeps a client's link of this role."""
+    return ("r" if role == RECEIVER else "s") + name
+
+
+def code_of(frame: bytes) -> Optional[int]:
+    """The code of a frame's performative; `None` where it is empty, or no frame."""
+    if frame[4:6] == b"\x00\x53":
+        return frame[6] if len(frame) > 6 else None
+    with contextlib.suppress(Malformed, IndexError):
+        if frame[4] == 0:
+            descriptor, _ = read(frame, 5)
+            return _NAMES.get(descriptor) if isinstance(descriptor, str) else descriptor
+    return None
+
+
+def frames_of(data: bytes) -> Iterator[bytes]:
+    """The frames, without their sizes, of bytes that are whole frames."""
+    at = 0
+    while at < len(data):
+        size = int.from_bytes(data[at : at + 4], "big")
+        yield data[at + 4 : at + size]
+        at += size
+
+
+def sized(frame: bytes) -> bytes:
+    """A frame behind its size."""
+    return (len(frame) + 4).to_bytes(4, "big") + frame
+
+
+class Server:
+    """An engine that serves one client. Requests of links are those of `engine`, but for `attach`, which takes the client's name of the link."""
+
+    def __init__(self, engine: Engine, *, begin: Optional[Begin] = None) -> None:
+        """`begin` is how this side begins each session. A link settles as the client's Attach says."""
+        self.engine = engine
+        self._begin = begin or Begin()
+        # received bytes, of which those before `_at` were taken
+        self._rest, self._at = bytearray(), 0
+        self._turned, self._next, self._is_broken = b"", 0, False
+        # the links that the client attached: this side's handles, by session and the client's handle
+        self._outputs: Dict[Tuple[int, int], int] = {}
+
+    # ---- what comes
+
+    def receive(self, data: bytes) -> Iterator[ServerEvent]:
+        """Takes received bytes, in any splitting, and gives what they bring, in order. After the refusal `BadSize` the stream is of no use."""
+        if self._is_broken:
+            return
+        self._rest += data
+        while (frame := self._next_frame()) is not None:
+            yield from self._take(frame)
+        del self._rest[: self._at]
+        self._at = 0
+
+    def _next_frame(self) -> Optional[bytes]:
+        """The next frame, with its size, once it is whole. One of no lawful size is given to the engine at once, which refuses it, and nothing behind it."""
+        left = len(self._rest) - self._at
+        if left < 4 or self._is_broken:
+            return None
+        size = int.from_bytes(self._rest[self._at : self._at + 4], "big")
+        self._is_broken = not 8 <= size <= self.engine.max_frame_size
+        size = 4 if self._is_broken else size
+        if left < size:
+            return None
+        self._at += size
+        return bytes(self._rest[self._at - size : self._at])
+
+    def _take(self, sized_frame: bytes) -> Iterator[ServerEvent]:
+        frame = sized_frame[4:]
+        code, channel = code_of(frame), int.from_bytes(frame[2:4], "big")
+        if code == _BEGIN:
+            yield from self._take_begin(frame, channel)
+        elif code == _ATTACH:
+            yield from self._take_attach(frame, channel)
+        elif code == _END:
+            yield from self._take_end(sized_frame, channel)
+        elif code == _CLOSE:
+            yield from self._take_close(sized_frame)
+        else:
+            yield from self._given(sized_frame)
+
+    def _given(self, sized_frame: bytes) -> Iterator[ServerEvent]:
+        """What the engine makes of a frame, with the names that the client knows."""
+        for event in self.engine.receive(sized_frame):
+            if isinstance(event, Attached):
+                event.attach.name = event.attach.name[1:]
+            elif isinstance(event, Detached):
+                self._outputs.pop((event.session, event.detach.handle), None)
+            yield event
+
+    def _take_begin(self, frame: bytes, channel: int) -> Iterator[ServerEvent]:
+        try:
+            theirs = Begin.decode(frame[4:])
+        except Malformed:
+            yield from self.engine.receive(sized(frame))
+            return
+        self._turned += self._unmarked(self.engine.to_send())
+        number, self._next = self._next, self._next + 1
+        try:
+            self.engine.begin(number, self._begin)
+        except Refusal as refusal:
+            yield refusal
+            return
+        own = next(frames_of(self.engine.to_send()))
+        self._turned += sized(own[:4] + replace(Begin.decode(own[4:]), remote_channel=channel).encode())
+        turned = replace(theirs, remote_channel=int.from_bytes(own[2:4], "big"))
+        came = list(self.engine.receive(sized(frame[:4] + turned.encode())))
+        yield from came
+        if not came:
+            yield SessionBegan(number, None, None, theirs)
+
+    def _take_attach(self, frame: bytes, channel: int) -> Iterator[ServerEvent]:
+        number = self.engine.session_of(channel)
+        try:
+            attach = Attach.decode(frame[4:])
+        except Malformed:
+            number = None
+        if number is None:
+            yield from self.engine.receive(sized(frame))
+            return
+        if (number, attach.handle) in self._outputs:
+            yield Refusal("HandleInUse", "amqp:session:handle-in-use")
+            return
+        name = mark(attach.role, attach.name)
+        try:
+            self._outputs[number, attach.handle] = self.engine.link(number, name, not attach.role, attach.rcv_settle_mode or FIRST)
+        except Refusal as refusal:
+            yield refusal
+            return
+        turned = frame[:4] + replace(attach, name=name).encode()
+        yield from self._given(sized(turned))
+
+    def _take_end(self, sized_frame: bytes, channel: int) -> Iterator[ServerEvent]:
+        number = self.engine.session_of(channel)
+        came = list(self.engine.receive(sized_frame))
+        yield from (it for it in came if not (isinstance(it, Refusal) and it.name.startswith("RemoteEnded")))
+        if number is None:
+            return
+        with contextlib.suppress(Refusal):
+            self.engine.end(number)
+        self._turned += self._unmarked(self.engine.to_send())
+        with contextlib.suppress(Refusal):
+            self.engine.release(number)
+            self.engine.forget(number)
+        self._outputs = {key: its for key, its in self._outputs.items() if key[0] != number}
+        yield SessionEnded(number, None, None)
+
+    def _take_close(self, sized_frame: bytes) -> Iterator[ServerEvent]:
+        came = list(self.engine.receive(sized_frame))
+        yield from (it for it in came if not (isinstance(it, Refusal) and it.name.startswith("RemoteClosed")))
+        if self.engine.state == "CLOSE_RCVD":
+            self.engine.close()
+        yield Closed(0, None, None)
+
+    # ---- what goes
+
+    def output_of(self, event: Event) -> int:
+        """This side's handle of the link that an event names."""
+        return self._outputs[event.session, event.input_handle]  # type: ignore[index]
+
+    def attach(self, session: int, attach: Attach) -> None:
+        """An Attach is to be sent: the answer to the client's, with the client's name of the link."""
+        self.engine.attach(session, replace(attach, name=mark(not attach.role, attach.name)))
+
+    def to_send(self) -> bytes:
+        """All bytes that wait to be sent, with their sizes; they are taken."""
+        waiting, self._turned = self._turned + self._unmarked(self.engine.to_send()), b""
+        return waiting
+
+    def _unmarked(self, data: bytes) -> bytes:
+        if b"\x00\x53\x12" not in data:
+            return data
+        return b"".join(sized(_unmark(frame)) for frame in frames_of(data))
+
+
+def _unmark(frame: bytes) -> bytes:
+    if code_of(frame) != _ATTACH:
+        return frame
+    attach = Attach.decode(frame[4:])
+    return frame[:4] + replace(attach, name=attach.name[1:]).encode()
+
