@@ -1,7 +1,5 @@
 -- Engines that are the same in each field.
 use Rattle.std.proofs.Common.{◌≡◌, ℕ, List, [], ◌∷◌, ◌++◌, Option, true, false, refl, ap, ◌∙◌, nat_eq}
-use Rattle.amqp_types.specs.declared.states.ConnectionState.{ConnectionState}
-use Rattle.amqp_session.specs.declared.stop.ConnectionStopReason.{ConnectionStopReason}
 use Rattle.amqp_frames.specs.declared.frame.Frame.{Frame}
 use Rattle.amqp_connection.specs.Connection.{ConnectionView}
 use Rattle.std.specs.Map.{set_value}
@@ -10,7 +8,6 @@ use Rattle.amqp_engine.specs.Waits.{has_frames}
 use Rattle.amqp_engine.specs.Kept.{Outcomes, Wishes}
 use Rattle.amqp_numbers.specs.Ranges.{Numbers}
 use Rattle.amqp_engine.specs.EngineView.{EngineView, views_of, walks_of}
-use Rattle.amqp_engine.specs.Engine.{recorded}
 use Rattle.amqp_engine.proofs.Viewed.{viewed_set, viewed_push, walked_set, walked_push}
 
 -- the engine of these sessions
@@ -44,9 +41,6 @@ pub same_keeping : {R : Type 0} {p : Numbers} {o o' : Outcomes} {q q' : Wishes} 
     parts p o q k es limit fs ≡ parts p o' q' k' es' limit fs
 same_keeping {p = p} {o = o} {o' = o'} {q = q} {q' = q'} k k' es es' limit fs e f i j =
     same_engine k k' es es' limit fs fs e f refl ∙ ap (λ x. parts p x q k' es' limit fs) i ∙ ap (λ x. parts p o' x k' es' limit fs) j
-
-pub recorded_as : (next next' : Option ConnectionState) (r r' : ConnectionStopReason) (k : ConnectionView) → next ≡ next' → r ≡ r' → recorded next r k ≡ recorded next' r' k
-recorded_as next next' r r' k e f = ap (λ x. recorded x r k) e ∙ ap (λ x. recorded next' x k) f
 
 -- frames wait, or none does
 pub idle : (fs : List Frame) → has_frames fs ≡ false → fs ≡ []

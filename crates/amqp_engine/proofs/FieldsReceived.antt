@@ -17,13 +17,10 @@ use Rattle.amqp_frames.proofs.Decoded.{failed}
 use Rattle.amqp_frames.proofs.Headed.{fields_found, no_fields, not_decoded}
 use Rattle.amqp_engine.specs.declared.engine.step_error.StepError.{StepError}
 use Rattle.amqp_engine.specs.declared.engine.step_error.StepError.TheVariants as no
-use Rattle.amqp_connection.specs.Connection.{RouteStep, refusal_of}
+use Rattle.amqp_connection.specs.Connection.{refusal_of}
 use Rattle.amqp_engine.specs.EngineView.{EngineView}
-use Rattle.amqp_engine.specs.Calls.{Calls}
-use Rattle.amqp_engine.specs.Sessions.{Acts, AsksAlong, Reaches}
 use Rattle.amqp_engine.specs.Engine.{ReceivedFrame, ReceivedOf, FieldsStep, FieldsKept, ReceivedStep, NoneReceivedOf, NoneReceived, named_error, kept}
 use Rattle.amqp_engine.specs.Kept.{Outcomes, outcomes_with}
-use Rattle.amqp_engine.proofs.Asking.{Answers, passes}
 use Rattle.amqp_engine.proofs.KindFields.{Reads}
 
 abbrev pub SomeReceivedFrame : {R : Type 0} → Relays R → EngineView R → ℕ → FrameBody → Option StepError → EngineView R → Type 0
@@ -59,16 +56,6 @@ was_read g r v w c fields left p refusal a h =
     let rest = (r.says p left).1 in
     let is = r.is_body b fields rest (fields_found r.IsText r.reader r.law r.says fields left p b rest a refl) in
     (Some (record { channel = c; body = b }), h.0, h.1, inr (b, rest, is, refl, h.2))
-
--- it goes along its channel's route
-pub was_passed : {R : Type 0} (g : Relays R) {k : Kind} {V : Type 0} (r : Reads k V) (asks : Calls R) (acts : Acts R) (v w : EngineView R) (c : ℕ)
-    (fields left : List ℕ) (p : V) (refusal : Option StepError) → composite_at r.reader fields ≡ Some (p, left) →
-    ((reached : Option ℕ) (calls : List (session.Entry R)) → Reaches g (RouteStep v.connection c) v asks reached calls refusal w →
-    ReceivedFrame g v c (r.says p left).0 reached calls refusal w) →
-    Answers g asks acts → AsksAlong acts v c refusal w → FieldsStep g v c (Some k) fields refusal w
-was_passed g r asks acts v w c fields left p refusal a carry answers asked =
-    let h = passes g asks acts v w c refusal answers asked in
-    was_read g r v w c fields left p refusal a (h.0, h.1, carry h.0 h.1 h.2)
 
 -- ---- with what is kept of it
 

@@ -19,7 +19,7 @@ use Rattle.amqp_session.specs.Step.{TakeEndStep}
 use Rattle.amqp_session.specs.History as session
 use Rattle.amqp_connection.specs.declared.error.ConnectionStateError.{ConnectionStateError}
 use Rattle.amqp_connection.specs.declared.error.ConnectionStateError.TheVariants as closed
-use Rattle.amqp_connection.specs.declared.error.ConnectionInnerError.{ConnectionInnerError}
+use Rattle.amqp_frames.specs.declared.frame.Frame.{Frame}
 use Rattle.amqp_engine.specs.declared.engine.step_error.StepError.{StepError}
 use Rattle.amqp_engine.specs.declared.engine.step_error.StepError.TheVariants as no
 use Rattle.amqp_connection.specs.Connection.{ConnectionView, IncomingCloseStep, told}
@@ -27,7 +27,7 @@ use Rattle.amqp_engine.specs.Kept.{Outcomes, Wishes, CloseOutcome, EndOutcome, c
 use Rattle.amqp_engine.specs.Places.{IsCloseCopy, IsEndCopy, Seated}
 use Rattle.amqp_engine.specs.EngineView.{EngineView, views_of}
 use Rattle.amqp_engine.specs.Calls.{ReceivedEndCalls, state_refusal}
-use Rattle.amqp_engine.specs.Sessions.{Called, Unknown, Reaches, Acts, Asks}
+use Rattle.amqp_engine.specs.Sessions.{Answered}
 use Rattle.amqp_engine.specs.Engine.{ReceivedCloseStep, kept}
 use Rattle.amqp_session.proofs.AsMap.{same_test}
 use Rattle.amqp_connection.proofs.Lowest.{tested}
@@ -70,36 +70,12 @@ ended_copy v w e (Err ended.RemoteEnded) s = tt
 ended_copy v w e (Err ended.IllegalState) s = tt
 ended_copy v w e (Err x) s = absurd s
 
-called_copy : {R : Type 0} (g : Relays R) (v w : EngineView R) (n c : ℕ) (e : EndSaid) (calls : List (session.Entry R)) (r : Option StepError) → Called g v n (ReceivedEndCalls c e) calls r w → IsEndCopy r e.error
-called_copy {R} g v w n c e calls r h =
-    let steps = subst (λ (cs : List (session.Entry R)). session.Chain g h.before cs h.after) h.asked.1 h.steps in
-    subst (λ x. IsEndCopy x e.error) (sym h.asked.2) (ended_copy h.before steps.0 e h.asked.0 steps.1)
-
-unknown_copy : (r : Option StepError) (error : Option ErrorSaid) → r ≡ Some no.NoSession → IsEndCopy r error
-unknown_copy r error is = subst (λ x. IsEndCopy x error) (sym is) tt
-
 -- the error that the answer names is that of the End
-pub end_copy : {R : Type 0} (g : Relays R) (finds : Result ℕ ConnectionInnerError → ConnectionView → Type 0) (v w : EngineView R) (c : ℕ) (e : EndSaid) (reached : Option ℕ) (calls : List (session.Entry R)) (r : Option StepError) (copy : Option ErrorSaid) →
-    copy ≡ e.error → Reaches g finds v (ReceivedEndCalls c e) reached calls r w → IsEndCopy r copy
-end_copy g finds v w c e reached calls r copy same (inl s) = subst (λ x. IsEndCopy x copy) (sym s.5) tt
-end_copy g finds v w c e reached calls r copy same (inr s) = by s.4
-  where
-    by : Called g (record v { connection = s.1 }) s.0 (ReceivedEndCalls c e) calls r w ⊎ Unknown (record v { connection = s.1 }) s.0 calls r w → IsEndCopy r copy
-    by (inl h) = subst (λ x. IsEndCopy r x) (sym same) (called_copy g (record v { connection = s.1 }) w s.0 c e calls r h)
-    by (inr u) = unknown_copy r copy u.refused
-
--- where something is kept of an End, the session is there
-some_answer : (r : Option StepError) → r ≡ Some no.NoSession → IsSome (end_answer r) → ⊥
-some_answer r is h = let x = subst (λ y. IsSome (end_answer y)) is h in cc
-
-still : {X : Type 0} (es : List (ℕ × X)) (n : ℕ) (x : X) → IsSome (lookup (nat_eq n) es) → IsSome (lookup (nat_eq n) (set_value (nat_eq n) es x))
-still es n x there =
-    subst IsSome (sym (writes es n x there n ∙ ap (λ b. cond b (Some x) (lookup (nat_eq n) es)) (tested n n refl))) refl
-
-pub end_known : {R : Type 0} (acts : Acts R) (v w : EngineView R) (n : ℕ) (r : Option StepError) (answer : Option EndOutcome) → answer ≡ end_answer r → Asks acts v n r w → IsSome answer → IsSome (lookup (nat_eq n) w.sessions)
-end_known acts v w n r answer is (inl t) h =
-    subst (λ (x : EngineView _). IsSome (lookup (nat_eq n) x.sessions)) (sym t.put) (still v.sessions n t.after.view (subst IsSome (sym t.known) refl))
-end_known acts v w n r answer is (inr t) h = absurd (some_answer r t.1 (subst IsSome is h))
+pub end_copy : {R : Type 0} (g : Relays R) (v w : SessionView R) (c : ℕ) (e : EndSaid) (r : Option StepError) (frames : List Frame) (copy : Option ErrorSaid) →
+    copy ≡ e.error → Answered g v (ReceivedEndCalls c e) r frames w → IsEndCopy r copy
+end_copy {R} g v w c e r frames copy same a =
+    let steps = subst (λ (cs : List (session.Entry R)). session.Chain g v cs w) a.asked.1 a.steps in
+    subst (λ x. IsEndCopy r x) (sym same) (subst (λ x. IsEndCopy x e.error) (sym a.asked.2) (ended_copy v steps.0 e a.asked.0 steps.1))
 
 -- ---- sessions have places
 

@@ -3,8 +3,7 @@ pub mod Picked
 pub mod Queue
 pub mod Placed
 pub mod Clearing
-pub mod Asked
-pub mod Asking
+pub mod Recorded
 pub mod Handing
 pub mod HandedAlong
 pub mod Passing

@@ -63,6 +63,11 @@ recorded None r k = k
 recorded (Some CloseReceived) r k = stopped k r
 recorded (Some s) r k = k
 
+-- the state that a call of the connection moved to; none where that is how it stood after a Close before
+abbrev pub moved : ConnectionState → ConnectionState → Option ConnectionState
+moved CloseReceived after = None
+moved before after = Some after
+
 abbrev pub ReceivedCloseStep : ConnectionView → CloseSaid → Option ConnectionStateError → ConnectionView → Type 0
 ReceivedCloseStep v c refusal w =
     (k : ConnectionView) × IncomingCloseStep v c refusal k × (w ≡ recorded (takes_close v.state) (remote_reason c.error) k)

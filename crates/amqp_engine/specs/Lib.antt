@@ -4,7 +4,6 @@ pub mod EngineView
 pub mod Places
 pub mod Calls
 pub mod Sessions
-pub mod Handed
 pub mod Entry
 pub mod Engine
 pub mod Legal

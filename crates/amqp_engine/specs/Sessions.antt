@@ -4,6 +4,7 @@ use Rattle.std.specs.Prelude.{◌≡◌, ◌⊎◌, ◌<◌, ◌^◌, ℕ, List,
 use Rattle.std.specs.Prelude.{true, false}
 use Rattle.std.specs.Map.{lookup, set_value}
 use Rattle.std.specs.FinMap.{get, insert}
+use Rattle.amqp_types.specs.declared.states.SessionState.{SessionState}
 use Rattle.amqp_types.specs.declared.states.SessionState.TheVariants as at
 use Rattle.amqp_session.specs.declared.frame.SessionFrame.{SessionFrame}
 use Rattle.amqp_session.specs.declared.error.SessionStateError.{SessionStateError}
@@ -32,18 +33,19 @@ abbrev pub RecordedEnd : {R : Type 0} → SessionView R → SessionStopReason �
 RecordedEnd v reason true w = StopStep v reason w
 RecordedEnd v reason false w = w ≡ v
 
--- the frames that wait with an answer
-abbrev pub frames_with : Result (List Frame) StepError → List Frame
-frames_with (Ok frames) = frames
-frames_with (Err e) = []
+-- the peer's End moved the state from the one to the other: this side sent none before
+abbrev pub comes_to_end : SessionState → SessionState → Bool
+comes_to_end at.EndReceived after = false
+comes_to_end before at.EndReceived = true
+comes_to_end before after = false
 
--- the session was asked, made these calls, and answered
-pub record Answered {R : Type 0} (g : Relays R) (v : SessionView R) (asks : Calls R) (result : Result (List Frame) StepError)
-    (w : SessionView R) : Type 0 where
+-- The session was asked, made these calls, and answered. What it handed out waits.
+pub record Answered {R : Type 0} (g : Relays R) (v : SessionView R) (asks : Calls R) (refusal : Option StepError)
+    (waiting : List Frame) (w : SessionView R) : Type 0 where
   pub calls : List (session.Entry R)
-  pub asked : asks v.state calls (refusal_of result)
+  pub asked : asks v.state calls refusal
   pub steps : session.Chain g v calls w
-  pub frames : sent (calls_frames calls) ≡ frames_with result
+  pub handed_out : waiting ≡ sent (calls_frames calls)
 
 -- Each disposition goes out, in order; the session's channel stays, and each frame is on it.
 abbrev pub SendsAll : {R : Type 0} → Relays R → SessionView R → List DispositionSaid → SessionView R → Type 0
@@ -51,34 +53,6 @@ SendsAll {R} g v ds w = (calls : List (session.Entry R)) × SentEach ds calls ×
     × (calls_frames calls ≡ map (disposition_frame v.outgoing_channel) ds) × (w.outgoing_channel ≡ v.outgoing_channel)
 
 -- ---- one session, among those of an engine
-
--- what a call does: the session as it stands, what it answers, and the session then
-abbrev pub Acts : Type 0 → Type 1
-Acts R = Observed R → Result (List Frame) StepError → Observed R → Type 0
-
--- Session n took the call, and all else stayed. What it handed out waits.
-pub record Took {R : Type 0} (acts : Acts R) (v : EngineView R) (n : ℕ) (refusal : Option StepError) (w : EngineView R) : Type 0 where
-  pub before : Observed R
-  pub after : Observed R
-  pub answer : Result (List Frame) StepError
-  pub known : lookup (nat_eq n) v.sessions ≡ Some before.view
-  pub acted : acts before answer after
-  pub refused : refusal ≡ refusal_of answer
-  pub put : w ≡ record v {
-    sessions = set_value (nat_eq n) v.sessions after.view;
-    walks = set_value (nat_eq n) v.walks after.last_walk;
-    waiting = frames_with answer;
-  }
-
--- the call goes to session n, if there is one
-abbrev pub Asks : {R : Type 0} → Acts R → EngineView R → ℕ → Option StepError → EngineView R → Type 0
-Asks acts v n refusal w = Took acts v n refusal w ⊎ ((lookup (nat_eq n) v.sessions ≡ None) × (refusal ≡ Some no.NoSession) × (w ≡ v))
-
--- the call goes to the session that the channel's route leads to, if there is a route
-abbrev pub AsksAlong : {R : Type 0} → Acts R → EngineView R → ℕ → Option StepError → EngineView R → Type 0
-AsksAlong acts v channel refusal w =
-    ((n : ℕ) × (get v.connection.session_by_incoming_channel channel ≡ Some n) × Asks acts v n refusal w)
-    ⊎ ((get v.connection.session_by_incoming_channel channel ≡ None) × (refusal ≡ Some (no.Connection not_found)) × (w ≡ v))
 
 -- Session n made these calls, and went on to another view and another walk; all else stayed. What it handed out waits.
 pub record Called {R : Type 0} (g : Relays R) (v : EngineView R) (n : ℕ) (asks : Calls R) (calls : List (session.Entry R))

@@ -6,7 +6,8 @@ ghost use Rattle.std.specs.FinMap as map;
 ghost use Rattle.amqp_session.specs.declared.frame.SessionFrameBody.TheVariants as said;
 ghost use Rattle.amqp_frames.specs.declared.frame.FrameBody.TheVariants as body;
 ghost use Rattle.amqp_connection.specs.declared.error.ConnectionInnerError.{ConnectionInnerError};
-ghost use Rattle.amqp_connection.specs.Connection.{BeginRouteStep, EndRouteStep, IsRouted, RouteStep, passed_on};
+ghost use Rattle.amqp_connection.specs.declared.numbers.SessionNo.{SessionNo};
+ghost use Rattle.amqp_connection.specs.Connection.{BeginRouteStep, EndRouteStep, IsRouted, RouteStep, passed_on, result_map};
 
 use super::Connection;
 use crate::error::ConnectionInnerError;
@@ -30,9 +31,9 @@ impl Connection {
         ensures { (found : Result ℕ ConnectionInnerError) × BeginRouteStep self.old channel.0 begin.remote_channel found self.new
             × (result ≡ passed_on (record { channel = channel.0; body = said.Begin begin }) found) }
     {
-        match self.begin_route(channel, begin.remote_channel) {
+        match self.route_begin(channel, begin.remote_channel) {
             Ok(number) => Ok((
-                SessionNo(number),
+                number,
                 SessionFrame::new(channel.0, SessionFrameBody::Begin(begin)),
             )),
             Err(error) => Err(error),
@@ -51,9 +52,9 @@ impl Connection {
         ensures { (found : Result ℕ ConnectionInnerError) × EndRouteStep self.old channel.0 found self.new
             × (result ≡ passed_on (record { channel = channel.0; body = said.End end }) found) }
     {
-        match self.end_route(channel) {
+        match self.route_end(channel) {
             Ok(number) => Ok((
-                SessionNo(number),
+                number,
                 SessionFrame::new(channel.0, SessionFrameBody::End(end)),
             )),
             Err(error) => {
@@ -97,18 +98,19 @@ impl Connection {
         Frame::new(channel.0, FrameBody::End(end))
     }
 
-    /// A received Begin that names the channel `remote` of this side's: its channel leads to the session that holds that.
-    fn begin_route(
+    /// What [`Connection::on_incoming_begin`] does, for a caller that holds the Begin itself: of the peer's Begin it takes the
+    /// `remote-channel` alone, and gives no frame. The same errors.
+    pub fn route_begin(
         &mut self,
         channel: IncomingChannel,
-        remote: Option<u16>,
-    ) -> Result<u32, ConnectionInnerError>
-        ensures { BeginRouteStep self.old channel.0 remote result self.new }
+        remote_channel: Option<u16>,
+    ) -> Result<SessionNo, ConnectionInnerError>
+        ensures { BeginRouteStep self.old channel.0 remote_channel (result_map (λ (n : SessionNo). n.0) result) self.new }
     {
         let ConnectionState::Opened = self.state else {
             return Err(ConnectionInnerError::IllegalState);
         };
-        let Some(held) = remote else {
+        let Some(held) = remote_channel else {
             return Err(ConnectionInnerError::NotImplemented(None));
         };
         let Some(number) = self
@@ -120,12 +122,12 @@ impl Connection {
         let Ok(()) = self.session_by_incoming_channel.put(channel, number) else {
             return Err(ConnectionInnerError::OutOfMemory);
         };
-        Ok(number)
+        Ok(SessionNo(number))
     }
 
-    /// A received End: the route goes.
-    fn end_route(&mut self, channel: IncomingChannel) -> Result<u32, ConnectionInnerError>
-        ensures { EndRouteStep self.old channel.0 result self.new }
+    /// What [`Connection::on_incoming_end`] does, for a caller that holds the End itself: it gives no frame. The same errors.
+    pub fn route_end(&mut self, channel: IncomingChannel) -> Result<SessionNo, ConnectionInnerError>
+        ensures { EndRouteStep self.old channel.0 (result_map (λ (n : SessionNo). n.0) result) self.new }
     {
         let ConnectionState::Opened = self.state else {
             return Err(ConnectionInnerError::IllegalState);
@@ -134,6 +136,6 @@ impl Connection {
             return Err(ConnectionInnerError::NotFound(None));
         };
         self.session_by_incoming_channel.take(channel);
-        Ok(number)
+        Ok(SessionNo(number))
     }
 }

@@ -4,29 +4,22 @@
 ghost use Rattle.std.specs.Prelude.{◌≡◌, ℕ, Option, Some, None, List, []};
 ghost use Rattle.std.specs.Option.{option_map};
 ghost use Rattle.amqp_types.specs.declared.performatives.kind.Kind.TheVariants as kind;
-ghost use Rattle.amqp_types.specs.Begin.{BeginSaid};
-ghost use Rattle.amqp_types.specs.End.{EndSaid};
-ghost use Rattle.amqp_session.specs.declared.frame.SessionFrameBody.TheVariants as said;
 ghost use Rattle.amqp_connection.specs.Connection.{refusal_of};
 ghost use Rattle.amqp_session.specs.History as session;
 ghost use Rattle.amqp_engine.specs.EngineView.{peer_limit};
-ghost use Rattle.std.specs.Fn.{FnOnceReturnsAtMut};
-ghost use Rattle.amqp_engine.specs.Sessions.{AsksAlong};
-ghost use Rattle.amqp_engine.specs.Engine.{ReceivedStep, FieldsStep, FieldsKept, ReceivedCloseStep, recorded};
+ghost use Rattle.amqp_engine.specs.Engine.{ReceivedStep, FieldsStep, FieldsKept, ReceivedCloseStep, moved, recorded};
 ghost use Rattle.amqp_engine.specs.ByHistory.{remote_reason};
 
 use super::Engine;
 use super::kept::{close_answer, copy_of, end_answer};
 use super::sessions::{
-    Outgoing, attach_received, begin_received, detach_received, disposition_received, end_received,
+    attach_received, begin_received, detach_received, disposition_received, end_received,
     flow_received, transfer_received,
 };
 use super::step_error::StepError;
 use amqp_connection::{Connection, ConnectionInnerError, ConnectionStateError};
 use amqp_frames::FrameEncoder;
-use amqp_session::{
-    ConnectionStopReason, IncomingChannel, LinkRelay, Session, SessionFrame, SessionFrameBody,
-};
+use amqp_session::{ConnectionStopReason, IncomingChannel, LinkRelay};
 use amqp_types::{
     Attach, Begin, Close, ConnectionState, Detach, Disposition, End, Error, Flow, Kind, Open,
     Transfer,
@@ -51,12 +44,14 @@ fn limit_of(open: &Open) -> u32
     open.max_frame_size.max(512) - 4
 }
 
-/// Records how the peer closed, where its Close moves the state to `CloseReceived`.
-fn record(connection: &mut Connection, next: Option<ConnectionState>, reason: ConnectionStopReason)
-    ensures { connection.new ≡ recorded next reason connection.old }
+/// Records how the peer closed, where its Close moved the state to `CloseReceived`.
+fn record(connection: &mut Connection, before: ConnectionState, reason: ConnectionStopReason)
+    ensures { connection.new ≡ recorded (moved before connection.old.state) reason connection.old }
 {
-    if let Some(ConnectionState::CloseReceived) = next {
-        connection.set_connection_stop_reason(reason);
+    match (before, *connection.local_state()) {
+        (ConnectionState::CloseReceived, _) => {},
+        (_, ConnectionState::CloseReceived) => connection.set_connection_stop_reason(reason),
+        _ => {},
     }
 }
 
@@ -69,32 +64,10 @@ fn take_close(
     ensures { ReceivedCloseStep connection.old close (refusal_of result) connection.new }
 {
     let reason = reason_of(&close.error);
-    let next = connection.state_after_incoming_close();
-    let told = connection.on_incoming_close(channel, close);
-    record(connection, next, reason);
-    told
-}
-
-/// The Begin that the connection passes on.
-fn begin_in(frame: SessionFrame) -> Begin
-    requires { (b : BeginSaid) × (frame.body ≡ said.Begin b) }
-    ensures { frame.body ≡ said.Begin result }
-{
-    match frame.body {
-        SessionFrameBody::Begin(begin) => begin,
-        _ => unreachable!(),
-    }
-}
-
-/// The End that the connection passes on.
-fn end_in(frame: SessionFrame) -> End
-    requires { (e : EndSaid) × (frame.body ≡ said.End e) }
-    ensures { frame.body ≡ said.End result }
-{
-    match frame.body {
-        SessionFrameBody::End(end) => end,
-        _ => unreachable!(),
-    }
+    let before = *connection.local_state();
+    let answer = connection.on_incoming_close(channel, close);
+    record(connection, before, reason);
+    answer
 }
 
 impl<R: LinkRelay> Engine<R> {
@@ -118,21 +91,6 @@ impl<R: LinkRelay> Engine<R> {
             Some(Kind::Open) => self.receive_open(channel, fields),
             Some(Kind::Close) => self.receive_close(channel, fields),
         }
-    }
-
-    /// Calls the session to which the channel's route leads, and lets what it hands out wait.
-    #[inline(always)]
-    fn ask_along<F>(&mut self, channel: IncomingChannel, call: F) -> Result<(), StepError>
-    where
-        F: FnOnce(&mut Session<R>) -> Outgoing + Drop,
-        requires idle { self.old.waiting ≡ [] }
-        requires callable { F.IsAlwaysCallable call }
-        ensures { AsksAlong (FnOnceReturnsAtMut F.FnOnce call) self.old channel.0 (refusal_of result) self.new }
-    {
-        let Some(number) = self.connection.session_tx_by_incoming_channel(channel) else {
-            return Err(StepError::Connection(ConnectionInnerError::NotFound(None)));
-        };
-        self.ask_session(number.0, call)
     }
 
     #[inline(never)]
@@ -162,7 +120,15 @@ impl<R: LinkRelay> Engine<R> {
     {
         let mut rest = fields;
         let flow: Flow = read_list(self.alloc, &mut rest)?;
-        self.ask_along(channel, |session| flow_received(session, flow))
+        let Some(number) = self.connection.session_tx_by_incoming_channel(channel) else {
+            drop(flow);
+            return Err(StepError::Connection(ConnectionInnerError::NotFound(None)));
+        };
+        let Some(session) = self.sessions.get_mut(&number.0) else {
+            drop(flow);
+            return Err(StepError::NoSession);
+        };
+        flow_received(session, &mut self.waiting, flow)
     }
 
     #[inline(never)]
@@ -194,7 +160,15 @@ impl<R: LinkRelay> Engine<R> {
     {
         let mut rest = fields;
         let attach: Attach = read_list(self.alloc, &mut rest)?;
-        self.ask_along(channel, |session| attach_received(session, attach))
+        let Some(number) = self.connection.session_tx_by_incoming_channel(channel) else {
+            drop(attach);
+            return Err(StepError::Connection(ConnectionInnerError::NotFound(None)));
+        };
+        let Some(session) = self.sessions.get_mut(&number.0) else {
+            drop(attach);
+            return Err(StepError::NoSession);
+        };
+        attach_received(session, attach)
     }
 
     #[inline(never)]
@@ -204,7 +178,15 @@ impl<R: LinkRelay> Engine<R> {
     {
         let mut rest = fields;
         let detach: Detach = read_list(self.alloc, &mut rest)?;
-        self.ask_along(channel, |session| detach_received(session, detach))
+        let Some(number) = self.connection.session_tx_by_incoming_channel(channel) else {
+            drop(detach);
+            return Err(StepError::Connection(ConnectionInnerError::NotFound(None)));
+        };
+        let Some(session) = self.sessions.get_mut(&number.0) else {
+            drop(detach);
+            return Err(StepError::NoSession);
+        };
+        detach_received(session, &mut self.waiting, detach)
     }
 
     /// The connection's acceptance decides the route, also where the session then refuses.
@@ -215,9 +197,12 @@ impl<R: LinkRelay> Engine<R> {
     {
         let mut rest = fields;
         let begin: Begin = read_list(self.alloc, &mut rest)?;
-        let (number, frame) = self.connection.on_incoming_begin(channel, begin)?;
-        let begin = begin_in(frame);
-        self.ask_session(number.0, |session| begin_received(session, channel, begin))
+        let number = self.connection.route_begin(channel, begin.remote_channel)?;
+        let Some(session) = self.sessions.get_mut(&number.0) else {
+            drop(begin);
+            return Err(StepError::NoSession);
+        };
+        begin_received(session, channel, begin)
     }
 
     #[inline(never)]
@@ -231,11 +216,15 @@ impl<R: LinkRelay> Engine<R> {
             drop(end);
             return Err(StepError::OutOfMemory);
         };
-        let (number, frame) = self.connection.on_incoming_end(channel, end)?;
-        let end = end_in(frame);
-        let told = self.ask_session(number.0, |session| end_received(session, channel, end));
-        self.kept.keep_end(number.0, end_answer(&told, copy));
-        told
+        let number = self.connection.route_end(channel)?;
+        let Some(session) = self.sessions.get_mut(&number.0) else {
+            drop(end);
+            drop(copy);
+            return Err(StepError::NoSession);
+        };
+        let answer = end_received(session, channel, end);
+        self.kept.keep_end(number.0, end_answer(&answer, copy));
+        answer
     }
 
     #[inline(never)]
@@ -262,9 +251,9 @@ impl<R: LinkRelay> Engine<R> {
             drop(close);
             return Err(StepError::OutOfMemory);
         };
-        let told = take_close(&mut self.connection, channel, close);
-        self.kept.keep_close(close_answer(&told, copy));
-        told?;
+        let answer = take_close(&mut self.connection, channel, close);
+        self.kept.keep_close(close_answer(&answer, copy));
+        answer?;
         Ok(())
     }
 }

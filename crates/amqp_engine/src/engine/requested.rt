@@ -8,16 +8,15 @@ ghost use Rattle.amqp_session.specs.declared.stop.ConnectionStopReason.{Connecti
 ghost use Rattle.amqp_session.specs.History as session;
 ghost use Rattle.amqp_engine.specs.declared.engine.input.Input.TheVariants as given;
 ghost use Rattle.amqp_connection.specs.Connection.{refusal_of};
-ghost use Rattle.amqp_engine.specs.Sessions.{Asks, BeginRequest, BegunStep, ReleaseRequest};
-ghost use Rattle.std.specs.Fn.{FnOnceReturnsAtMut};
+ghost use Rattle.amqp_engine.specs.Sessions.{BeginRequest, BegunStep, ReleaseRequest};
 ghost use Rattle.amqp_engine.specs.Engine.{OpenRequest, CloseRequest, CarriedStep};
 ghost use Rattle.amqp_engine.specs.ByHistory.{close_reason};
 
 use super::Engine;
 use super::input::Input;
 use super::sessions::{
-    Outgoing, allocate_incoming_link, allocate_link, end, send_attach, send_detach,
-    send_disposition, send_flow, send_transfer, settle, stop,
+    allocate_incoming_link, allocate_link, end, send_attach, send_detach, send_disposition,
+    send_flow, send_transfer, settle, stop,
 };
 use super::step_error::StepError;
 use super::waiting::Waiting;
@@ -90,7 +89,7 @@ impl<R: LinkRelay> Engine<R> {
             Input::Received(bytes) => self.receive(bytes),
             Input::Open => self.request_open(),
             Input::Close(error) => self.request_close(error),
-            Input::Begin(number, settings) => self.request_begin(number.0, settings),
+            Input::Begin(number, settings) => self.request_begin(number, settings),
             Input::End(number, error) => self.request_end(number, error),
             Input::AllocateLink(number, name, relay) => self.request_link(number, name, relay),
             Input::AllocateIncomingLink(number, name, relay, input) => {
@@ -111,7 +110,7 @@ impl<R: LinkRelay> Engine<R> {
             Input::Settle(number, role, first, last) => self.request_settle(
                 number, role, first, last,
             ),
-            Input::Release(number) => self.request_release(number.0),
+            Input::Release(number) => self.request_release(number),
             Input::Forget(number) => self.request_forget(number),
             Input::Stop(number, reason) => self.request_stop(number, reason),
         }
@@ -125,7 +124,11 @@ impl<R: LinkRelay> Engine<R> {
         requires { self.old.waiting ≡ [] }
         ensures { CarriedStep R.gives self.old (given.End number error) (refusal_of result) self.new }
     {
-        self.ask_session(number.0, |session| end(session, error))
+        let Some(session) = self.sessions.get_mut(&number.0) else {
+            drop(error);
+            return Err(StepError::NoSession);
+        };
+        end(session, &mut self.waiting, error)
     }
 
     #[inline(never)]
@@ -138,7 +141,12 @@ impl<R: LinkRelay> Engine<R> {
         requires { self.old.waiting ≡ [] }
         ensures { CarriedStep R.gives self.old (given.AllocateLink number name relay) (refusal_of result) self.new }
     {
-        self.ask_session(number.0, |session| allocate_link(session, name, relay))
+        let Some(session) = self.sessions.get_mut(&number.0) else {
+            drop(name);
+            drop(relay);
+            return Err(StepError::NoSession);
+        };
+        allocate_link(session, name, relay)
     }
 
     #[inline(never)]
@@ -152,10 +160,12 @@ impl<R: LinkRelay> Engine<R> {
         requires { self.old.waiting ≡ [] }
         ensures { CarriedStep R.gives self.old (given.AllocateIncomingLink number name relay input) (refusal_of result) self.new }
     {
-        self.ask_session(
-            number.0,
-            |session| allocate_incoming_link(session, name, relay, input),
-        )
+        let Some(session) = self.sessions.get_mut(&number.0) else {
+            drop(name);
+            drop(relay);
+            return Err(StepError::NoSession);
+        };
+        allocate_incoming_link(session, name, relay, input)
     }
 
     #[inline(never)]
@@ -163,7 +173,12 @@ impl<R: LinkRelay> Engine<R> {
         requires { self.old.waiting ≡ [] }
         ensures { CarriedStep R.gives self.old (given.Attach number attach) (refusal_of result) self.new }
     {
-        self.ask_session(number.0, |session| send_attach(session, attach))
+        let Some(session) = self.sessions.get_mut(&number.0) else {
+            drop(attach);
+            return Err(StepError::NoSession);
+        };
+        send_attach(session, &mut self.waiting, attach);
+        Ok(())
     }
 
     #[inline(never)]
@@ -176,10 +191,11 @@ impl<R: LinkRelay> Engine<R> {
         requires { self.old.waiting ≡ [] }
         ensures { CarriedStep R.gives self.old (given.Detach number detach expects_echo) (refusal_of result) self.new }
     {
-        self.ask_session(
-            number.0,
-            |session| send_detach(session, detach, expects_echo),
-        )
+        let Some(session) = self.sessions.get_mut(&number.0) else {
+            drop(detach);
+            return Err(StepError::NoSession);
+        };
+        send_detach(session, &mut self.waiting, detach, expects_echo)
     }
 
     #[inline(never)]
@@ -187,7 +203,12 @@ impl<R: LinkRelay> Engine<R> {
         requires { self.old.waiting ≡ [] }
         ensures { CarriedStep R.gives self.old (given.Flow number flow) (refusal_of result) self.new }
     {
-        self.ask_session(number.0, |session| send_flow(session, flow))
+        let Some(session) = self.sessions.get_mut(&number.0) else {
+            drop(flow);
+            return Err(StepError::NoSession);
+        };
+        send_flow(session, &mut self.waiting, flow);
+        Ok(())
     }
 
     #[inline(never)]
@@ -226,7 +247,12 @@ impl<R: LinkRelay> Engine<R> {
         requires { self.old.waiting ≡ [] }
         ensures { CarriedStep R.gives self.old (given.Disposition number disposition) (refusal_of result) self.new }
     {
-        self.ask_session(number.0, |session| send_disposition(session, disposition))
+        let Some(session) = self.sessions.get_mut(&number.0) else {
+            drop(disposition);
+            return Err(StepError::NoSession);
+        };
+        send_disposition(session, &mut self.waiting, disposition);
+        Ok(())
     }
 
     #[inline(never)]
@@ -240,7 +266,11 @@ impl<R: LinkRelay> Engine<R> {
         requires { self.old.waiting ≡ [] }
         ensures { CarriedStep R.gives self.old (given.Settle number role first last) (refusal_of result) self.new }
     {
-        self.ask_session(number.0, |session| settle(session, role, first, last))
+        let Some(session) = self.sessions.get_mut(&number.0) else {
+            return Err(StepError::NoSession);
+        };
+        settle(session, role, first, last);
+        Ok(())
     }
 
     #[inline(never)]
@@ -252,7 +282,11 @@ impl<R: LinkRelay> Engine<R> {
         requires { self.old.waiting ≡ [] }
         ensures { CarriedStep R.gives self.old (given.Stop number reason) (refusal_of result) self.new }
     {
-        self.ask_session(number.0, |session| stop(session, reason))
+        let Some(session) = self.sessions.get_mut(&number.0) else {
+            return Err(StepError::NoSession);
+        };
+        stop(session, reason);
+        Ok(())
     }
 
     #[inline(never)]
@@ -277,31 +311,18 @@ impl<R: LinkRelay> Engine<R> {
         Ok(())
     }
 
-    /// Calls the session with this number, and lets what it hands out wait.
-    #[inline(always)]
-    pub(super) fn ask_session<F>(&mut self, number: u32, call: F) -> Result<(), StepError>
-    where
-        F: FnOnce(&mut Session<R>) -> Outgoing + Drop,
-        requires idle { self.old.waiting ≡ [] }
-        requires callable { F.IsAlwaysCallable call }
-        ensures { Asks (FnOnceReturnsAtMut F.FnOnce call) self.old number (refusal_of result) self.new }
-    {
-        let Some(session) = self.sessions.get_mut(&number) else {
-            return Err(StepError::NoSession);
-        };
-        let waiting = call(session)?;
-        self.waiting.put(waiting);
-        Ok(())
-    }
-
     /// Makes a session on the lowest free channel, and sends its Begin. When memory is refused nothing changes.
     #[inline(never)]
-    fn request_begin(&mut self, number: u32, settings: SessionSettings) -> Result<(), StepError>
+    fn request_begin(
+        &mut self,
+        number: SessionNo,
+        settings: SessionSettings,
+    ) -> Result<(), StepError>
         requires { self.old.waiting ≡ [] }
         ensures { (reached : Option ℕ) × (calls : List (session.Entry R))
-            × BeginRequest R.gives self.old number settings reached calls (refusal_of result) self.new }
+            × BeginRequest R.gives self.old number.0 settings reached calls (refusal_of result) self.new }
     {
-        if self.is_used(number) {
+        if self.is_used(number.0) {
             drop(settings);
             return Err(StepError::SessionInUse);
         }
@@ -313,7 +334,7 @@ impl<R: LinkRelay> Engine<R> {
             drop(settings);
             return Err(StepError::OutOfMemory);
         };
-        let channel = match self.connection.allocate_session(SessionNo(number)) {
+        let channel = match self.connection.allocate_session(number) {
             Ok(channel) => channel,
             Err(error) => {
                 drop(settings);
@@ -323,9 +344,9 @@ impl<R: LinkRelay> Engine<R> {
         let stop = self.connection.connection_stop_reason();
         match begun(self.alloc, self.hash, settings, channel, stop) {
             Ok((session, frame)) => {
-                drop(self.sessions.insert(number, session).unwrap());
-                self.kept.add(number);
-                self.waiting.put(Waiting::alone(Some(frame)));
+                drop(self.sessions.insert(number.0, session).unwrap());
+                self.kept.add(number.0);
+                self.waiting.put_frame(frame);
                 Ok(())
             }
             Err(error) => {
@@ -337,15 +358,15 @@ impl<R: LinkRelay> Engine<R> {
 
     /// Gives the session's channel back, where it still holds it.
     #[inline(never)]
-    fn request_release(&mut self, number: u32) -> Result<(), StepError>
+    fn request_release(&mut self, number: SessionNo) -> Result<(), StepError>
         ensures { (reached : Option ℕ) × (calls : List (session.Entry R))
-            × ReleaseRequest self.old number reached calls (refusal_of result) self.new }
+            × ReleaseRequest self.old number.0 reached calls (refusal_of result) self.new }
     {
-        let Some(session) = self.sessions.get(&number) else {
+        let Some(session) = self.sessions.get(&number.0) else {
             return Err(StepError::NoSession);
         };
         let held = session.outgoing_channel();
-        if self.connection.session_tx_by_outgoing_channel(held) != Some(SessionNo(number)) {
+        if self.connection.session_tx_by_outgoing_channel(held) != Some(number) {
             return Err(StepError::Connection(ConnectionInnerError::NotFound(None)));
         }
         self.connection.deallocate_session(held);

@@ -1,12 +1,11 @@
 //! What is asked of one session: by a request, or by a frame that reached it.
 
-ghost use Rattle.std.specs.Prelude.{◌≡◌, [], string_bytes};
-ghost use Rattle.amqp_session.specs.States.{takes_end};
-ghost use Rattle.amqp_engine.specs.Calls.{is_end_received, end_reason, remote_end_reason, EndCalls, AllocateLinkCalls, AllocateIncomingCalls, AttachCalls, DetachCalls, ReceivedAttachCalls, ReceivedDetachCalls, FlowCalls, TransferCalls, SettleCalls, StopCalls, ReceivedBeginCalls, ReceivedEndCalls, ReceivedFlowCalls, ReceivedTransferCalls, DispositionCalls, ReceivedDispositionCalls};
+ghost use Rattle.std.specs.Prelude.{◌≡◌, None, [], string_bytes};
+ghost use Rattle.amqp_engine.specs.Calls.{end_reason, remote_end_reason, EndCalls, AllocateLinkCalls, AllocateIncomingCalls, AttachCalls, DetachCalls, ReceivedAttachCalls, ReceivedDetachCalls, FlowCalls, TransferCalls, SettleCalls, StopCalls, ReceivedBeginCalls, ReceivedEndCalls, ReceivedFlowCalls, ReceivedTransferCalls, DispositionCalls, ReceivedDispositionCalls};
 ghost use Rattle.amqp_types.specs.Disposition.{DispositionSaid};
 ghost use Rattle.amqp_session.specs.declared.frame.SessionFrameBody.TheVariants as said;
-ghost use Rattle.amqp_engine.specs.Sessions.{Answered, SendsAll, RecordedEnd};
-ghost use Rattle.amqp_engine.specs.Handed.{AnsweredThere};
+ghost use Rattle.amqp_connection.specs.Connection.{refusal_of};
+ghost use Rattle.amqp_engine.specs.Sessions.{Answered, SendsAll, RecordedEnd, comes_to_end};
 
 use super::step_error::StepError;
 use super::waiting::Waiting;
@@ -20,9 +19,6 @@ use amqp_types::{
 };
 use bytes::Bytes;
 use std::collections::VecDeque;
-
-/// The frames that wait for what a session hands out, or why it refuses.
-pub(crate) type Outgoing = Result<Waiting, StepError>;
 
 /// Why a session stops with an End of this side.
 fn end_reason(error: &Option<Error>) -> SessionStopReason
@@ -44,34 +40,41 @@ fn remote_end_reason(end: &End) -> SessionStopReason
     }
 }
 
-/// Whether the peer's End is unsolicited in this state: this side sent none.
-fn is_unsolicited(state: SessionState) -> bool
-    ensures { result ≡ is_end_received (takes_end state) }
+/// Whether the peer's End moved the state from the one to the other: this side sent none before.
+fn comes_to_end(before: SessionState, after: SessionState) -> bool
+    ensures { result ≡ comes_to_end before after }
 {
-    matches!(
-        state,
-        SessionState::BeginSent | SessionState::BeginReceived | SessionState::Mapped
-    )
+    match (before, after) {
+        (SessionState::EndReceived, _) => false,
+        (_, SessionState::EndReceived) => true,
+        _ => false,
+    }
 }
 
-pub(crate) fn end<R: LinkRelay>(session: &mut Session<R>, error: Option<Error>) -> Outgoing
-    ensures { Answered R.gives session.old.view (EndCalls error) result session.new.view }
+pub(crate) fn end<R: LinkRelay>(
+    session: &mut Session<R>,
+    waiting: &mut Waiting,
+    error: Option<Error>,
+) -> Result<(), StepError>
+    requires { waiting.old ≡ [] }
+    ensures { Answered R.gives session.old.view (EndCalls error) (refusal_of result) waiting.new session.new.view }
 {
     let reason = end_reason(&error);
     let frame = session.send_end(error)?;
     session.set_session_stop_reason(reason);
-    Ok(Waiting::alone(Some(frame)))
+    waiting.put_frame(frame);
+    Ok(())
 }
 
 pub(crate) fn allocate_link<R: LinkRelay>(
     session: &mut Session<R>,
     name: String,
     relay: Option<R>,
-) -> Outgoing
-    ensures { Answered R.gives session.old.view (AllocateLinkCalls (string_bytes name) relay) result session.new.view }
+) -> Result<(), StepError>
+    ensures { Answered R.gives session.old.view (AllocateLinkCalls (string_bytes name) relay) (refusal_of result) [] session.new.view }
 {
     session.allocate_link(name, relay)?;
-    Ok(Waiting::none())
+    Ok(())
 }
 
 pub(crate) fn allocate_incoming_link<R: LinkRelay>(
@@ -79,33 +82,44 @@ pub(crate) fn allocate_incoming_link<R: LinkRelay>(
     name: String,
     relay: R,
     input: InputHandle,
-) -> Outgoing
-    ensures { Answered R.gives session.old.view (AllocateIncomingCalls (string_bytes name) relay input) result session.new.view }
+) -> Result<(), StepError>
+    ensures { Answered R.gives session.old.view (AllocateIncomingCalls (string_bytes name) relay input) (refusal_of result) [] session.new.view }
 {
     session.allocate_incoming_link(name, relay, input)?;
-    Ok(Waiting::none())
+    Ok(())
 }
 
-pub(crate) fn send_attach<R: LinkRelay>(session: &mut Session<R>, attach: Attach) -> Outgoing
-    ensures { Answered R.gives session.old.view (AttachCalls attach) result session.new.view }
+pub(crate) fn send_attach<R: LinkRelay>(
+    session: &mut Session<R>,
+    waiting: &mut Waiting,
+    attach: Attach,
+)
+    ensures { Answered R.gives session.old.view (AttachCalls attach) None waiting.new session.new.view }
 {
-    Ok(Waiting::alone(Some(session.on_outgoing_attach(attach))))
+    waiting.put_frame(session.on_outgoing_attach(attach));
 }
 
 pub(crate) fn send_detach<R: LinkRelay>(
     session: &mut Session<R>,
+    waiting: &mut Waiting,
     detach: Detach,
     expects_echo: bool,
-) -> Outgoing
-    ensures { Answered R.gives session.old.view (DetachCalls detach expects_echo) result session.new.view }
+) -> Result<(), StepError>
+    requires { waiting.old ≡ [] }
+    ensures { Answered R.gives session.old.view (DetachCalls detach expects_echo) (refusal_of result) waiting.new session.new.view }
 {
-    Ok(Waiting::alone(session.on_outgoing_detach(detach, expects_echo)?))
+    waiting.put_first(session.on_outgoing_detach(detach, expects_echo)?);
+    Ok(())
 }
 
-pub(crate) fn send_flow<R: LinkRelay>(session: &mut Session<R>, flow: LinkFlow) -> Outgoing
-    ensures { Answered R.gives session.old.view (FlowCalls flow) result session.new.view }
+pub(crate) fn send_flow<R: LinkRelay>(
+    session: &mut Session<R>,
+    waiting: &mut Waiting,
+    flow: LinkFlow,
+)
+    ensures { Answered R.gives session.old.view (FlowCalls flow) None waiting.new session.new.view }
 {
-    Ok(Waiting::alone(Some(session.on_outgoing_flow(flow))))
+    waiting.put_frame(session.on_outgoing_flow(flow));
 }
 
 #[inline(always)]
@@ -118,9 +132,9 @@ pub(crate) fn send_transfer<R: LinkRelay>(
     is_first: bool,
 ) -> Result<(), StepError>
     requires { waiting.old ≡ [] }
-    ensures { AnsweredThere R.gives session.old.view
+    ensures { Answered R.gives session.old.view
         (TransferCalls (record { input_handle = input.0; transfer = transfer; payload = payload; is_first = is_first }))
-        result waiting.new session.new.view }
+        (refusal_of result) waiting.new session.new.view }
 {
     match session.on_outgoing_transfer(input, transfer, payload, is_first) {
         Ok(item) => {
@@ -133,11 +147,12 @@ pub(crate) fn send_transfer<R: LinkRelay>(
 
 pub(crate) fn send_disposition<R: LinkRelay>(
     session: &mut Session<R>,
+    waiting: &mut Waiting,
     disposition: Disposition,
-) -> Outgoing
-    ensures { Answered R.gives session.old.view (DispositionCalls disposition) result session.new.view }
+)
+    ensures { Answered R.gives session.old.view (DispositionCalls disposition) None waiting.new session.new.view }
 {
-    Ok(Waiting::alone(Some(session.on_outgoing_disposition(disposition))))
+    waiting.put_frame(session.on_outgoing_disposition(disposition));
 }
 
 /// What this side settles by itself. No frame goes out, whatever was let go.
@@ -146,32 +161,30 @@ pub(crate) fn settle<R: LinkRelay>(
     role: Role,
     first: DeliveryNumber,
     last: Option<DeliveryNumber>,
-) -> Outgoing
-    ensures { Answered R.gives session.old.view (SettleCalls role first last) result session.new.view }
+)
+    ensures { Answered R.gives session.old.view (SettleCalls role first last) None [] session.new.view }
 {
     session.settle(role, first, last);
-    Ok(Waiting::none())
 }
 
-pub(crate) fn stop<R: LinkRelay>(session: &mut Session<R>, reason: SessionStopReason) -> Outgoing
-    ensures { Answered R.gives session.old.view (StopCalls reason) result session.new.view }
+pub(crate) fn stop<R: LinkRelay>(session: &mut Session<R>, reason: SessionStopReason)
+    ensures { Answered R.gives session.old.view (StopCalls reason) None [] session.new.view }
 {
     session.set_session_stop_reason(reason);
-    Ok(Waiting::none())
 }
 
 pub(crate) fn begin_received<R: LinkRelay>(
     session: &mut Session<R>,
     channel: IncomingChannel,
     begin: Begin,
-) -> Outgoing
-    ensures { Answered R.gives session.old.view (ReceivedBeginCalls channel.0 begin) result session.new.view }
+) -> Result<(), StepError>
+    ensures { Answered R.gives session.old.view (ReceivedBeginCalls channel.0 begin) (refusal_of result) [] session.new.view }
 {
     session.on_incoming_begin(channel, begin)?;
-    Ok(Waiting::none())
+    Ok(())
 }
 
-/// Records why the peer ended the session, where its End is unsolicited.
+/// Records why the peer ended the session, where its End came before one of this side.
 fn record_end<R: LinkRelay>(session: &mut Session<R>, ends: bool, reason: SessionStopReason)
     ensures { RecordedEnd session.old.view reason ends session.new.view }
 {
@@ -185,38 +198,56 @@ pub(crate) fn end_received<R: LinkRelay>(
     session: &mut Session<R>,
     channel: IncomingChannel,
     end: End,
-) -> Outgoing
-    ensures { Answered R.gives session.old.view (ReceivedEndCalls channel.0 end) result session.new.view }
+) -> Result<(), StepError>
+    ensures { Answered R.gives session.old.view (ReceivedEndCalls channel.0 end) (refusal_of result) [] session.new.view }
 {
     let reason = remote_end_reason(&end);
-    let ends = is_unsolicited(*session.local_state());
-    let told = session.on_incoming_end(channel, end);
+    let before = *session.local_state();
+    let answer = session.on_incoming_end(channel, end);
+    let ends = comes_to_end(before, *session.local_state());
     record_end(session, ends, reason);
-    told?;
-    Ok(Waiting::none())
+    answer?;
+    Ok(())
 }
 
-pub(crate) fn attach_received<R: LinkRelay>(session: &mut Session<R>, attach: Attach) -> Outgoing
-    ensures { Answered R.gives session.old.view (ReceivedAttachCalls attach) result session.new.view }
+pub(crate) fn attach_received<R: LinkRelay>(
+    session: &mut Session<R>,
+    attach: Attach,
+) -> Result<(), StepError>
+    ensures { Answered R.gives session.old.view (ReceivedAttachCalls attach) (refusal_of result) [] session.new.view }
 {
     session.on_incoming_attach(attach)?;
-    Ok(Waiting::none())
+    Ok(())
 }
 
 /// The peer's detach. What the link's relay answers goes out, and is answered no more.
-pub(crate) fn detach_received<R: LinkRelay>(session: &mut Session<R>, detach: Detach) -> Outgoing
-    ensures { Answered R.gives session.old.view (ReceivedDetachCalls detach) result session.new.view }
+pub(crate) fn detach_received<R: LinkRelay>(
+    session: &mut Session<R>,
+    waiting: &mut Waiting,
+    detach: Detach,
+) -> Result<(), StepError>
+    requires { waiting.old ≡ [] }
+    ensures { Answered R.gives session.old.view (ReceivedDetachCalls detach) (refusal_of result) waiting.new session.new.view }
 {
     match session.on_incoming_detach(detach)? {
-        None => Ok(Waiting::none()),
-        Some(answer) => Ok(Waiting::alone(session.on_outgoing_detach(answer, false)?)),
+        None => Ok(()),
+        Some(answer) => {
+            waiting.put_first(session.on_outgoing_detach(answer, false)?);
+            Ok(())
+        }
     }
 }
 
-pub(crate) fn flow_received<R: LinkRelay>(session: &mut Session<R>, flow: Flow) -> Outgoing
-    ensures { Answered R.gives session.old.view (ReceivedFlowCalls flow) result session.new.view }
+pub(crate) fn flow_received<R: LinkRelay>(
+    session: &mut Session<R>,
+    waiting: &mut Waiting,
+    flow: Flow,
+) -> Result<(), StepError>
+    requires { waiting.old ≡ [] }
+    ensures { Answered R.gives session.old.view (ReceivedFlowCalls flow) (refusal_of result) waiting.new session.new.view }
 {
-    Ok(Waiting::of(session.on_incoming_flow(flow)?))
+    waiting.put_item(session.on_incoming_flow(flow)?);
+    Ok(())
 }
 
 /// Sends each disposition, in order. As frames they are on the session's channel, and wait as they are: that takes no memory.
@@ -256,7 +287,7 @@ pub(crate) fn disposition_received<R: LinkRelay>(
     disposition: Disposition,
 ) -> Result<(), StepError>
     requires { waiting.old ≡ [] }
-    ensures { AnsweredThere R.gives session.old.view (ReceivedDispositionCalls disposition) result waiting.new session.new.view }
+    ensures { Answered R.gives session.old.view (ReceivedDispositionCalls disposition) (refusal_of result) waiting.new session.new.view }
 {
     match session.on_incoming_disposition(disposition) {
         Ok(None) => Ok(()),
@@ -278,7 +309,7 @@ pub(crate) fn transfer_received<R: LinkRelay>(
     payload: Bytes,
 ) -> Result<(), StepError>
     requires { waiting.old ≡ [] }
-    ensures { AnsweredThere R.gives session.old.view (ReceivedTransferCalls transfer payload) result waiting.new session.new.view }
+    ensures { Answered R.gives session.old.view (ReceivedTransferCalls transfer payload) (refusal_of result) waiting.new session.new.view }
 {
     match session.on_incoming_transfer(transfer, payload) {
         Ok(_none) => {

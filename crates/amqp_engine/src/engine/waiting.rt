@@ -147,31 +147,6 @@ impl Waiting {
         }
     }
 
-    /// The frame waits that a session hands out, if any.
-    #[inline(always)]
-    pub(crate) fn alone(frame: Option<SessionFrame>) -> Waiting
-        ensures { result ≡ sent (first_frame frame) }
-    {
-        match frame {
-            None => Waiting::none(),
-            Some(frame) => Waiting::one(frame_of(frame)),
-        }
-    }
-
-    /// The frames wait that a session hands out.
-    #[inline(always)]
-    pub(crate) fn of(item: Option<SessionOutgoingItem>) -> Waiting
-        ensures { result ≡ sent (item_frames item) }
-    {
-        match item {
-            None => Waiting::none(),
-            Some(SessionOutgoingItem::SingleFrame(frame)) => Waiting::one(frame_of(frame)),
-            Some(SessionOutgoingItem::MultipleFrames(frames)) => {
-                Waiting::from_first(Behind::Frames(VecDeque::from(frames)))
-            }
-        }
-    }
-
     /// These frames wait.
     #[inline(never)]
     fn from_first(frames: Behind) -> Waiting
@@ -249,8 +224,21 @@ impl Waiting {
         }
     }
 
+    /// Where none waits, the frame waits that a session hands out, if any.
     #[inline(always)]
-    fn put_frame(&mut self, frame: SessionFrame)
+    pub(crate) fn put_first(&mut self, frame: Option<SessionFrame>)
+        requires { self.old ≡ [] }
+        ensures { self.new ≡ sent (first_frame frame) }
+    {
+        match frame {
+            None => {},
+            Some(frame) => self.put_frame(frame),
+        }
+    }
+
+    /// From now on this frame of a session waits, and no other.
+    #[inline(always)]
+    pub(crate) fn put_frame(&mut self, frame: SessionFrame)
         ensures { self.new ≡ frame_of frame ∷ [] }
     {
         place(&mut self.front, frame);

@@ -20,28 +20,28 @@ returns-in_default g c =
 
 pub close_answer-requires : goal.close_answer-requires
 close_answer-requires g c = record {
-  copied = close_copy _ _ c.in_ok-close.close _ _ (c.in-Ok.ensures.same ∙ ap (λ x. x.error) c.close.view_is) c.take_close-told.ensures;
+  copied = close_copy _ _ c.in_ok-close.close _ _ (c.in-Ok.ensures.same ∙ ap (λ x. x.error) c.close.view_is) c.take_close-answer.ensures;
 }
 
 pub returns : goal.returns
 returns g c =
     let close = c.in_ok-close.close in
-    let k = c.take_close-told.new.connection in
-    let step = rw c.in_ok-told.was at c.take_close-told.ensures in
-    let answer = rw c.in_ok-told.was at c.close_answer.ensures in
+    let k = c.take_close-answer.new.connection in
+    let step = rw c.in_ok-answer.was at c.take_close-answer.ensures in
+    let answer = rw c.in_ok-answer.was at c.close_answer.ensures in
     was_kept g.R.LinkRelay.gives close_fields c.args.self.now (record c.args.self.now { connection = k }) _ c.args.channel.0 c.args.fields c.read_list.new.bytes close None
     c.in_ok-close.ensures
     (None, [], ((refl, refl), subst (λ (u : EngineView _). ReceivedClose u close None (record u { connection = k })) c.self.view_is (None, k, step, refl, refl)))
     (kept_close _ c.args.self.now k _ _ c.args.channel.0 close c.close_answer.result None c.self.view_is answer c.keep_close.ensures.outcomes c.keep_close.ensures.wishes)
 
-pub returns-in_err-told : goal.returns-in_err-told
-returns-in_err-told g c =
+pub returns-in_err-answer : goal.returns-in_err-answer
+returns-in_err-answer g c =
     let close = c.in_ok-close.close in
-    let k = c.take_close-told.new.connection in
-    let e = c.in_err-told.field-0.0 in
-    let step = rw c.in_err-told.was at c.take_close-told.ensures in
-    let answer = rw c.in_err-told.was at c.close_answer.ensures in
-    let is : refusal_of c.from_residual-in_err-told.result ≡ Some (no.ConnectionState e) = search rules in
+    let k = c.take_close-answer.new.connection in
+    let e = c.in_err-answer.field-0.0 in
+    let step = rw c.in_err-answer.was at c.take_close-answer.ensures in
+    let answer = rw c.in_err-answer.was at c.close_answer.ensures in
+    let is : refusal_of c.from_residual-in_err-answer.result ≡ Some (no.ConnectionState e) = search rules in
     rw is
     (was_kept g.R.LinkRelay.gives close_fields c.args.self.now (record c.args.self.now { connection = k }) _ c.args.channel.0 c.args.fields c.read_list.new.bytes close (Some (no.ConnectionState e))
     c.in_ok-close.ensures

@@ -1,7 +1,12 @@
-use Rattle.std.proofs.Common.{rules}
+use Rattle.std.proofs.Common.{sym, ap, ◌∙◌, refl}
+use Rattle.std.specs.Option.{option_copied_mut}
+use Rattle.std.specs.HashMap.{HashMap}
 use Rattle.amqp_engine.specs.Calls.{ReceivedDetachCalls}
 use Rattle.amqp_engine.proofs.KindFields.{detach_fields}
-use Rattle.amqp_engine.proofs.FieldsReceived.{unread, was_passed}
+use Rattle.amqp_engine.proofs.FieldsReceived.{unread}
+use Rattle.amqp_engine.proofs.HandedAlong.{unrouted, unknown, handed}
+use Rattle.amqp_engine.proofs.Passing.{route_found, route_missing}
+use Rattle.amqp_engine.proofs.Viewed.{viewed_some, viewed_none}
 use Rattle.amqp_engine.proofs.engine.Engine.receive_detach.Goals as goal
 
 pub returns-in_err-detach : goal.returns-in_err-detach
@@ -9,8 +14,27 @@ returns-in_err-detach g c =
     unread g.R.LinkRelay.gives detach_fields c.args.self.now c.args.channel.0 c.args.fields c.read_list.new.bytes c.in_err-detach.field-0.0
     c.from_residual.result c.in_err-detach.ensures c.from_residual.ensures.1
 
+pub returns-in_default : goal.returns-in_default
+returns-in_default g c =
+    unrouted g.R.LinkRelay.gives detach_fields (ReceivedDetachCalls c.in_ok-detach.detach) c.args.self.now c.args.channel.0 c.args.fields c.read_list.new.bytes c.in_ok-detach.detach
+    c.in_ok-detach.ensures (λ refusal w reached calls h. h)
+    _ c.self.view_is (route_missing _ _ c.session_tx_by_incoming_channel.ensures c.in_default.is)
+
+pub returns-in_default-get_mut : goal.returns-in_default-get_mut
+returns-in_default-get_mut g c =
+    unknown g.R.LinkRelay.gives detach_fields (ReceivedDetachCalls c.in_ok-detach.detach) c.args.self.now c.args.channel.0 c.args.fields c.read_list.new.bytes c.in_ok-detach.detach
+    c.in_ok-detach.ensures (λ refusal w reached calls h. h)
+    _ _ _ _ c.in-Some.number.0 _ c.self.view_is (route_found _ _ c.in-Some.number c.session_tx_by_incoming_channel.ensures c.in-Some.is)
+    (viewed_none c.in-Some.number.0 c.self.inside.sessions.entries (sym c.get_mut.ensures.value ∙ ap option_copied_mut c.in_default-get_mut.is))
+    (ap (λ (m : HashMap _ _ _). m.entries) c.get_mut.follows.holds-at-none)
+
 pub returns : goal.returns
 returns g c =
-    was_passed g.R.LinkRelay.gives detach_fields (ReceivedDetachCalls c.in_ok-detach.detach) _ c.args.self.now _ c.args.channel.0
-    c.args.fields c.read_list.new.bytes c.in_ok-detach.detach _ c.in_ok-detach.ensures (λ reached calls h. h) (λ s t a h. search rules)
-    c.ask_along.ensures
+    handed g.R.LinkRelay.gives detach_fields (ReceivedDetachCalls c.in_ok-detach.detach) c.args.self.now c.args.channel.0 c.args.fields c.read_list.new.bytes c.in_ok-detach.detach
+    c.in_ok-detach.ensures (λ refusal w reached calls h. h)
+    _ _ _ _ c.in-Some.number.0 _ c.detach_received.new.waiting _ c.in-Some-get_mut.session.now c.detach_received.new.session _
+    c.self.view_is (route_found _ _ c.in-Some.number c.session_tx_by_incoming_channel.ensures c.in-Some.is)
+    (viewed_some c.in-Some.number.0 c.self.inside.sessions.entries c.in-Some-get_mut.session.now (sym c.in-Some-get_mut.ensures.value))
+    c.detach_received.ensures
+    refl
+    (c.get_mut.follows.holds c.detach_received.new.session).0

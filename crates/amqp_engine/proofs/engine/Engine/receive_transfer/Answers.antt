@@ -1,4 +1,4 @@
-use Rattle.std.proofs.Common.{sym, ap, ◌∙◌}
+use Rattle.std.proofs.Common.{sym, ap, ◌∙◌, refl}
 use Rattle.std.specs.Option.{option_copied_mut}
 use Rattle.std.specs.HashMap.{HashMap}
 use Rattle.amqp_engine.specs.Calls.{ReceivedTransferCalls}
@@ -32,8 +32,9 @@ pub returns : goal.returns
 returns g c =
     handed g.R.LinkRelay.gives transfer_fields (ReceivedTransferCalls c.in_ok-transfer.transfer c.read_list.new.bytes) c.args.self.now c.args.channel.0 c.args.fields c.read_list.new.bytes c.in_ok-transfer.transfer
     c.in_ok-transfer.ensures (λ refusal w reached calls h. h)
-    _ _ _ _ c.in-Some.number.0 _ c.transfer_received.new.waiting c.in-Some-get_mut.session.now c.transfer_received.new.session c.transfer_received.result
+    _ _ _ _ c.in-Some.number.0 _ c.transfer_received.new.waiting _ c.in-Some-get_mut.session.now c.transfer_received.new.session _
     c.self.view_is (route_found _ _ c.in-Some.number c.session_tx_by_incoming_channel.ensures c.in-Some.is)
     (viewed_some c.in-Some.number.0 c.self.inside.sessions.entries c.in-Some-get_mut.session.now (sym c.in-Some-get_mut.ensures.value))
     c.transfer_received.ensures
+    refl
     (c.get_mut.follows.holds c.transfer_received.new.session).0

@@ -21,15 +21,15 @@ use Rattle.amqp_engine.proofs.engine.Engine.request_begin.Goals as goal
 pub returns-in-Ok-begun : goal.returns-in-Ok-begun
 returns-in-Ok-begun g c =
     let same_room = c.reserve-2.ensures.same in
-    let fresh = subst (λ b. Used c.args.self.now c.args.number b) c.if-is_used.false c.is_used.ensures in
-    let none = unviewed c.args.number c.self.inside.sessions.entries (ap (λ v. lookup (nat_eq c.args.number) v.sessions) c.self.view_is ∙ fresh.0) in
+    let fresh = subst (λ b. Used c.args.self.now c.args.number.0 b) c.if-is_used.false c.is_used.ensures in
+    let none = unviewed c.args.number.0 c.self.inside.sessions.entries (ap (λ v. lookup (nat_eq c.args.number.0) v.sessions) c.self.view_is ∙ fresh.0) in
     let put = rw c.unwrap.ensures at c.insert.ensures.entries in
-    let entries = put ∙ ap (λ es. insert_entry nat_eq es c.args.number c.in-Ok-begun.session) c.reserve.ensures.entries ∙ appended _ c.args.number c.in-Ok-begun.session none in
+    let entries = put ∙ ap (λ es. insert_entry nat_eq es c.args.number.0 c.in-Ok-begun.session) c.reserve.ensures.entries ∙ appended _ c.args.number.0 c.in-Ok-begun.session none in
     let a = c.in-Ok-allocate_session.ensures in
     let stop = c.connection_stop_reason-stop.ensures ∙ ap (λ (k : ConnectionView). k.stop_reason) a.3 in
     let began = subst (λ s. SendBeginStep (new_session c.args.settings c.in-Ok-allocate_session.channel.0 Unmapped s) (Ok c.in-Ok-begun.frame) c.in-Ok-begun.session.view) stop c.in-Ok-begun.ensures.begun in
     rw (← c.self.view_is) (
-      Some c.args.number,
+      Some c.args.number.0,
       session.SendsBegin (Ok c.in-Ok-begun.frame) ∷ [],
       (
         refl,
@@ -38,13 +38,13 @@ returns-in-Ok-begun g c =
           connection = c.allocate_session.new.self;
           after = c.in-Ok-begun.session.view;
           walk = c.in-Ok-begun.session.last_walk;
-          unknown = viewed_none c.args.number c.self.inside.sessions.entries none;
-          unused = ap (λ v. map.get v.forgotten c.args.number) c.self.view_is ∙ fresh.1;
+          unknown = viewed_none c.args.number.0 c.self.inside.sessions.entries none;
+          unused = ap (λ v. map.get v.forgotten c.args.number.0) c.self.view_is ∙ fresh.1;
           fits = c.in-Ok-begun.ensures.fits;
           allocated = a;
           asked = (c.in-Ok-begun.frame, refl, refl);
           steps = (c.in-Ok-begun.session.view, began, refl);
-          put = one_more _ c.self.inside.sessions.entries _ _ c.args.number c.in-Ok-begun.session _ _ entries (c.put.ensures ∙ c.alone.ensures) (c.add.ensures.outcomes ∙ same_room.outcomes_are) (c.add.ensures.wishes ∙ same_room.wishes_are);
+          put = one_more _ c.self.inside.sessions.entries _ _ c.args.number.0 c.in-Ok-begun.session _ _ entries c.put_frame.ensures (c.add.ensures.outcomes ∙ same_room.outcomes_are) (c.add.ensures.wishes ∙ same_room.wishes_are);
         },
       ),
     )
@@ -52,40 +52,40 @@ returns-in-Ok-begun g c =
 pub returns-in-Err-begun : goal.returns-in-Err-begun
 returns-in-Err-begun g c =
     let gives = g.R.LinkRelay.gives in
-    let fresh = subst (λ b. Used c.args.self.now c.args.number b) c.if-is_used.false c.is_used.ensures in
+    let fresh = subst (λ b. Used c.args.self.now c.args.number.0 b) c.if-is_used.false c.is_used.ensures in
     let a = c.in-Ok-allocate_session.ensures in
-    let same = given_back_again c.self.inside.connection c.allocate_session.new.self c.deallocate_session.new.self c.in-Ok-allocate_session.channel.0 c.args.number c.deallocate_session.result a.1.free a.3 c.deallocate_session.ensures in
+    let same = given_back_again c.self.inside.connection c.allocate_session.new.self c.deallocate_session.new.self c.in-Ok-allocate_session.channel.0 c.args.number.0 c.deallocate_session.result a.1.free a.3 c.deallocate_session.ensures in
     let now : EngineView _ = record { connection = c.deallocate_session.new.self; sessions = views_of c.reserve.new.self.entries; walks = walks_of c.reserve.new.self.entries; forgotten = c.self.inside.forgotten; limit = c.self.inside.encoder; waiting = c.self.inside.waiting; outcomes = c.reserve-2.new.self.outcomes; wishes = c.reserve-2.new.self.wishes } in
     let before : EngineView _ = record { connection = c.self.inside.connection; sessions = views_of c.self.inside.sessions.entries; walks = walks_of c.self.inside.sessions.entries; forgotten = c.self.inside.forgotten; limit = c.self.inside.encoder; waiting = c.self.inside.waiting; outcomes = c.self.inside.kept.outcomes; wishes = c.self.inside.kept.wishes } in (
       None,
       [],
-      subst (λ (v : EngineView _). BeginRequest gives v c.args.number c.args.settings None [] (Some (SessionState c.in-Err-begun.error)) now) c.self.view_is
-          (subst (λ (e : SessionStateError). BeginRequest gives before c.args.number c.args.settings None [] (Some (SessionState e)) now) (sym c.in-Err-begun.ensures.begun) (((refl, refl), same_keeping _ _ _ _ _ _ same c.reserve.ensures.entries c.reserve-2.ensures.same.outcomes_are c.reserve-2.ensures.same.wishes_are), subst (λ (v : EngineView _). IsFresh v c.args.number) (sym c.self.view_is) fresh, (c.in-Ok-allocate_session.channel.0, c.allocate_session.new.self, a))),
+      subst (λ (v : EngineView _). BeginRequest gives v c.args.number.0 c.args.settings None [] (Some (SessionState c.in-Err-begun.error)) now) c.self.view_is
+          (subst (λ (e : SessionStateError). BeginRequest gives before c.args.number.0 c.args.settings None [] (Some (SessionState e)) now) (sym c.in-Err-begun.ensures.begun) (((refl, refl), same_keeping _ _ _ _ _ _ same c.reserve.ensures.entries c.reserve-2.ensures.same.outcomes_are c.reserve-2.ensures.same.wishes_are), subst (λ (v : EngineView _). IsFresh v c.args.number.0) (sym c.self.view_is) fresh, (c.in-Ok-allocate_session.channel.0, c.allocate_session.new.self, a))),
     )
 
 pub returns-then-is_used : goal.returns-then-is_used
-returns-then-is_used g c = (None, [], (((refl, refl), refl), subst (λ b. Used c.args.self.now c.args.number b) c.if-is_used.true c.is_used.ensures))
+returns-then-is_used g c = (None, [], (((refl, refl), refl), subst (λ b. Used c.args.self.now c.args.number.0 b) c.if-is_used.true c.is_used.ensures))
 
 pub returns-in_default : goal.returns-in_default
 returns-in_default g c =
-    let none = subst (λ (v : EngineView _). IsFresh v c.args.number) (sym c.self.view_is) (subst (λ b. Used c.args.self.now c.args.number b) c.if-is_used.false c.is_used.ensures) in
+    let none = subst (λ (v : EngineView _). IsFresh v c.args.number.0) (sym c.self.view_is) (subst (λ b. Used c.args.self.now c.args.number.0 b) c.if-is_used.false c.is_used.ensures) in
     rw (← c.self.view_is) (None, [], (((refl, refl), same_engine _ _ _ _ _ _ _ refl c.reserve.ensures.entries refl), none))
 
 pub returns-in-Err : goal.returns-in-Err
 returns-in-Err g c =
-    let none = subst (λ (v : EngineView _). IsFresh v c.args.number) (sym c.self.view_is) (subst (λ b. Used c.args.self.now c.args.number b) c.if-is_used.false c.is_used.ensures) in
-    let same = unallocated c.self.inside.connection c.allocate_session.new.self c.args.number c.in-Err.error c.in-Err.ensures in
-    let step = subst (λ k. AllocateStep c.self.inside.connection c.args.number (Err c.in-Err.error) k) same c.in-Err.ensures in
+    let none = subst (λ (v : EngineView _). IsFresh v c.args.number.0) (sym c.self.view_is) (subst (λ b. Used c.args.self.now c.args.number.0 b) c.if-is_used.false c.is_used.ensures) in
+    let same = unallocated c.self.inside.connection c.allocate_session.new.self c.args.number.0 c.in-Err.error c.in-Err.ensures in
+    let step = subst (λ k. AllocateStep c.self.inside.connection c.args.number.0 (Err c.in-Err.error) k) same c.in-Err.ensures in
     let now : EngineView _ = record { connection = c.allocate_session.new.self; sessions = views_of c.reserve.new.self.entries; walks = walks_of c.reserve.new.self.entries; forgotten = c.self.inside.forgotten; limit = c.self.inside.encoder; waiting = c.self.inside.waiting; outcomes = c.reserve-2.new.self.outcomes; wishes = c.reserve-2.new.self.wishes } in (
       None,
       [],
-      subst (λ (v : EngineView _). BeginRequest g.R.LinkRelay.gives v c.args.number c.args.settings None [] (Some (AllocSession c.in-Err.error)) now) c.self.view_is
+      subst (λ (v : EngineView _). BeginRequest g.R.LinkRelay.gives v c.args.number.0 c.args.settings None [] (Some (AllocSession c.in-Err.error)) now) c.self.view_is
           (((refl, refl), same_keeping _ _ _ _ _ _ same c.reserve.ensures.entries c.reserve-2.ensures.same.outcomes_are c.reserve-2.ensures.same.wishes_are), none, step),
     )
 
 pub returns-in_default-reserve : goal.returns-in_default-reserve
 returns-in_default-reserve g c =
-    let none = subst (λ (v : EngineView _). IsFresh v c.args.number) (sym c.self.view_is) (subst (λ b. Used c.args.self.now c.args.number b) c.if-is_used.false c.is_used.ensures) in
+    let none = subst (λ (v : EngineView _). IsFresh v c.args.number.0) (sym c.self.view_is) (subst (λ b. Used c.args.self.now c.args.number.0 b) c.if-is_used.false c.is_used.ensures) in
     rw (← c.self.view_is) (
       None,
       [],
@@ -98,13 +98,13 @@ returns-in_default-reserve g c =
 pub add-requires : goal.add-requires
 add-requires g c = record {
   room = c.in-Ok-reserve.ensures.ok;
-  fresh = ap (λ m. map.get m c.args.number) c.reserve-2.ensures.same.places_are
-      ∙ seat_free c.self.inside.sessions.entries c.args.number c.self.inside.kept.places c.self.invariant
-      (unviewed c.args.number c.self.inside.sessions.entries (ap (λ v. lookup (nat_eq c.args.number) v.sessions) c.self.view_is ∙ (subst (λ b. Used c.args.self.now c.args.number b) c.if-is_used.false c.is_used.ensures).0));
+  fresh = ap (λ m. map.get m c.args.number.0) c.reserve-2.ensures.same.places_are
+      ∙ seat_free c.self.inside.sessions.entries c.args.number.0 c.self.inside.kept.places c.self.invariant
+      (unviewed c.args.number.0 c.self.inside.sessions.entries (ap (λ v. lookup (nat_eq c.args.number.0) v.sessions) c.self.view_is ∙ (subst (λ b. Used c.args.self.now c.args.number.0 b) c.if-is_used.false c.is_used.ensures).0));
 }
 
 pub invariant_of-self-in-Ok-begun : goal.invariant_of-self-in-Ok-begun
 invariant_of-self-in-Ok-begun g c =
-    seated_more c.reserve.new.self.entries c.insert.new.self.entries c.args.number c.in-Ok-begun.session c.reserve-2.new.self.places c.add.new.self.places
+    seated_more c.reserve.new.self.entries c.insert.new.self.entries c.args.number.0 c.in-Ok-begun.session c.reserve-2.new.self.places c.add.new.self.places
     (rw c.unwrap.ensures at c.insert.ensures.updates).0 c.add.ensures.places
     (subst (λ m. Seated c.reserve.new.self.entries m) (sym c.reserve-2.ensures.same.places_are) (seated_same c.self.inside.sessions.entries c.reserve.new.self.entries c.self.inside.kept.places c.reserve.ensures.entries c.self.invariant))

@@ -1,8 +1,23 @@
-use Rattle.std.proofs.Common.{rules, None, refl}
+use Rattle.std.proofs.Common.{None, refl, sym, ap, ◌∙◌}
+use Rattle.std.specs.Option.{option_copied_mut}
+use Rattle.std.specs.HashMap.{HashMap}
 use Rattle.amqp_engine.specs.Calls.{DispositionCalls}
-use Rattle.amqp_engine.proofs.Asking.{does}
+use Rattle.amqp_engine.proofs.Handing.{did, did_not}
+use Rattle.amqp_engine.proofs.Viewed.{viewed_some, viewed_none}
 use Rattle.amqp_engine.proofs.engine.Engine.request_disposition.Goals as goal
 
 pub returns : goal.returns
 returns g c =
-    let d = does g.R.LinkRelay.gives (DispositionCalls c.args.disposition) _ _ _ _ _ (λ s t a h. search rules) c.ask_session.ensures in (None, d.0, d.1, c.ask_session.new.self, (refl, d.2), refl)
+    let n = c.args.number.0 in
+    let asks = DispositionCalls c.args.disposition in
+    let known = viewed_some n c.self.inside.sessions.entries c.in-Some.session.now (sym c.in-Some.ensures.value) in
+    let set = (c.get_mut.follows.holds c.send_disposition.new.session).0 in
+    let d = did g.R.LinkRelay.gives asks c.args.self.now _ _ _ _ n _ c.send_disposition.new.waiting _ c.in-Some.session.now c.send_disposition.new.session _ c.self.view_is known c.send_disposition.ensures refl set in (None, d.0, d.1, _, (refl, d.2), refl)
+
+pub returns-in_default : goal.returns-in_default
+returns-in_default g c =
+    let n = c.args.number.0 in
+    let asks = DispositionCalls c.args.disposition in
+    let none = viewed_none n c.self.inside.sessions.entries (sym c.get_mut.ensures.value ∙ ap option_copied_mut c.in_default.is) in
+    let stays = ap (λ (m : HashMap _ _ _). m.entries) c.get_mut.follows.holds-at-none in
+    let d = did_not g.R.LinkRelay.gives asks c.args.self.now _ _ _ _ n _ c.self.view_is none stays in (None, d.0, d.1, _, (refl, d.2), refl)

@@ -2,28 +2,22 @@ use Rattle.std.proofs.Common.{None, refl, sym, ap, ◌∙◌}
 use Rattle.std.specs.Option.{option_copied_mut}
 use Rattle.std.specs.HashMap.{HashMap}
 use Rattle.amqp_engine.specs.Calls.{TransferCalls}
-use Rattle.amqp_engine.specs.Handed.{Answering}
-use Rattle.amqp_engine.proofs.Asking.{does}
-use Rattle.amqp_engine.proofs.Handing.{took, no_session}
+use Rattle.amqp_engine.proofs.Handing.{did, did_not}
 use Rattle.amqp_engine.proofs.Viewed.{viewed_some, viewed_none}
 use Rattle.amqp_engine.proofs.engine.Engine.request_transfer.Goals as goal
 
 pub returns : goal.returns
 returns g c =
     let n = c.args.number.0 in
-    let entries = c.self.inside.sessions.entries in
     let asks = TransferCalls (record { input_handle = c.args.input.0; transfer = c.args.transfer; payload = c.args.payload; is_first = c.args.is_first }) in
-    let known = viewed_some n entries c.in-Some.session.now (sym c.in-Some.ensures.value) in
+    let known = viewed_some n c.self.inside.sessions.entries c.in-Some.session.now (sym c.in-Some.ensures.value) in
     let set = (c.get_mut.follows.holds c.send_transfer.new.session).0 in
-    let asked = took g.R.LinkRelay.gives asks c.args.self.now _ _ _ _ n _ c.send_transfer.new.waiting c.in-Some.session.now c.send_transfer.new.session c.send_transfer.result c.self.view_is known c.send_transfer.ensures set in
-    let d = does g.R.LinkRelay.gives asks (Answering g.R.LinkRelay.gives asks) c.args.self.now _ n _ (λ s t a h. h) asked in (None, d.0, d.1, _, (refl, d.2), refl)
+    let d = did g.R.LinkRelay.gives asks c.args.self.now _ _ _ _ n _ c.send_transfer.new.waiting _ c.in-Some.session.now c.send_transfer.new.session _ c.self.view_is known c.send_transfer.ensures refl set in (None, d.0, d.1, _, (refl, d.2), refl)
 
 pub returns-in_default : goal.returns-in_default
 returns-in_default g c =
     let n = c.args.number.0 in
-    let entries = c.self.inside.sessions.entries in
     let asks = TransferCalls (record { input_handle = c.args.input.0; transfer = c.args.transfer; payload = c.args.payload; is_first = c.args.is_first }) in
-    let none = viewed_none n entries (sym c.get_mut.ensures.value ∙ ap option_copied_mut c.in_default.is) in
+    let none = viewed_none n c.self.inside.sessions.entries (sym c.get_mut.ensures.value ∙ ap option_copied_mut c.in_default.is) in
     let stays = ap (λ (m : HashMap _ _ _). m.entries) c.get_mut.follows.holds-at-none in
-    let asked = no_session g.R.LinkRelay.gives asks c.args.self.now _ _ _ _ n _ c.self.view_is none stays in
-    let d = does g.R.LinkRelay.gives asks (Answering g.R.LinkRelay.gives asks) c.args.self.now _ n _ (λ s t a h. h) asked in (None, d.0, d.1, _, (refl, d.2), refl)
+    let d = did_not g.R.LinkRelay.gives asks c.args.self.now _ _ _ _ n _ c.self.view_is none stays in (None, d.0, d.1, _, (refl, d.2), refl)

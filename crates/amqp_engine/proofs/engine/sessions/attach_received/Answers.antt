@@ -9,7 +9,7 @@ returns g c =
       calls = session.TakesAttach c.args.attach received.0 (Ok tt) ∷ [];
       asked = (received.0, Ok tt, refl, refl);
       steps = (c.on_incoming_attach.new.self.view, received.1, refl);
-      frames = sym c.none.ensures;
+      handed_out = refl;
     }
 
 pub returns-in_err-on_incoming_attach : goal.returns-in_err-on_incoming_attach
@@ -19,5 +19,5 @@ returns-in_err-on_incoming_attach g c =
       calls = session.TakesAttach c.args.attach received.0 (Err c.in_err-on_incoming_attach.field-0.0) ∷ [];
       asked = (received.0, Err c.in_err-on_incoming_attach.field-0.0, refl, search rules);
       steps = (c.on_incoming_attach.new.self.view, received.1, refl);
-      frames = search rules;
+      handed_out = refl;
     }

@@ -7,7 +7,7 @@ returns g c = record {
   calls = session.TakesBegin c.args.channel.0 c.args.begin (Ok tt) ∷ [];
   asked = (Ok tt, refl, refl);
   steps = (c.on_incoming_begin.new.self.view, c.in_ok-on_incoming_begin.ensures.step, refl);
-  frames = sym c.none.ensures;
+  handed_out = refl;
 }
 
 pub returns-in_err-on_incoming_begin : goal.returns-in_err-on_incoming_begin
@@ -15,5 +15,5 @@ returns-in_err-on_incoming_begin g c = record {
   calls = session.TakesBegin c.args.channel.0 c.args.begin (Err c.in_err-on_incoming_begin.field-0.0) ∷ [];
   asked = (Err c.in_err-on_incoming_begin.field-0.0, refl, search rules);
   steps = (c.on_incoming_begin.new.self.view, c.in_err-on_incoming_begin.ensures.step, refl);
-  frames = search rules;
+  handed_out = refl;
 }

@@ -14,7 +14,7 @@ returns-in-None g c =
       calls = session.TakesDetach c.args.detach received.0 (Ok None) ∷ [];
       asked = (received.0, Ok None, Ok None, refl, refl);
       steps = (c.on_incoming_detach.new.self.view, step, refl);
-      frames = sym c.none.ensures;
+      handed_out = c.requires;
     }
 
 pub returns-in_ok-on_outgoing_detach-in-Some : goal.returns-in_ok-on_outgoing_detach-in-Some
@@ -26,5 +26,5 @@ returns-in_ok-on_outgoing_detach-in-Some g c =
       calls = session.TakesDetach c.args.detach received.0 (Ok (Some c.in-Some.answer)) ∷ session.SendsDetach c.in-Some.answer false (Ok out) ∷ [];
       asked = (received.0, Ok (Some c.in-Some.answer), Ok out, refl, refl);
       steps = (c.on_incoming_detach.new.self.view, step, (c.on_outgoing_detach.new.self.view, c.in_ok-on_outgoing_detach-in-Some.ensures.step, refl));
-      frames = ap sent (append-nil (first_frame out)) ∙ sym c.alone.ensures;
+      handed_out = c.put_first.ensures ∙ sym (ap sent (append-nil (first_frame out)));
     }

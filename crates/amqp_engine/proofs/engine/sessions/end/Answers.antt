@@ -11,7 +11,7 @@ returns g c =
       calls = session.SendsEnd c.args.error (Ok c.in_ok-frame.frame) ∷ session.RecordsStop (end_reason c.args.error) ∷ [];
       asked = (Ok c.in_ok-frame.frame, refl, refl);
       steps = (c.send_end.new.self.view, c.in_ok-frame.ensures.step, (c.set_session_stop_reason.new.self.view, stops, refl));
-      frames = sym c.alone.ensures;
+      handed_out = c.put_frame.ensures;
     }
 
 pub returns-in_err-frame : goal.returns-in_err-frame
@@ -19,5 +19,5 @@ returns-in_err-frame g c = record {
   calls = session.SendsEnd c.args.error (Err c.in_err-frame.field-0.0) ∷ [];
   asked = (Err c.in_err-frame.field-0.0, refl, search rules);
   steps = (c.send_end.new.self.view, c.in_err-frame.ensures.step, refl);
-  frames = search rules;
+  handed_out = c.requires;
 }

@@ -12,7 +12,7 @@ returns g c =
       calls = session.TakesFlow c.args.flow received.0 (Ok c.in_ok-on_incoming_flow.field-0) ∷ [];
       asked = (received.0, Ok c.in_ok-on_incoming_flow.field-0, refl, refl);
       steps = (c.on_incoming_flow.new.self.view, received.1, refl);
-      frames = ap sent (append-nil (item_frames c.in_ok-on_incoming_flow.field-0)) ∙ sym c.of.ensures;
+      handed_out = c.put_item.ensures ∙ sym (ap sent (append-nil (item_frames c.in_ok-on_incoming_flow.field-0)));
     }
 
 pub returns-in_err-on_incoming_flow : goal.returns-in_err-on_incoming_flow
@@ -22,5 +22,5 @@ returns-in_err-on_incoming_flow g c =
       calls = session.TakesFlow c.args.flow received.0 (Err c.in_err-on_incoming_flow.field-0.0) ∷ [];
       asked = (received.0, Err c.in_err-on_incoming_flow.field-0.0, refl, search rules);
       steps = (c.on_incoming_flow.new.self.view, received.1, refl);
-      frames = search rules;
+      handed_out = c.requires;
     }

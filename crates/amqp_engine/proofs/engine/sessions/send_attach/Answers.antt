@@ -7,5 +7,5 @@ returns g c = record {
   calls = session.SendsAttach c.args.attach c.on_outgoing_attach.result ∷ [];
   asked = (c.on_outgoing_attach.result, refl, refl);
   steps = (c.args.session.now.view, c.on_outgoing_attach.ensures, refl);
-  frames = sym c.alone.ensures;
+  handed_out = c.put_frame.ensures;
 }

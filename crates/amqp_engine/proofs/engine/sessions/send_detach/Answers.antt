@@ -10,7 +10,7 @@ returns g c = record {
   calls = session.SendsDetach c.args.detach c.args.expects_echo (Ok c.in_ok-on_outgoing_detach.field-0) ∷ [];
   asked = (Ok c.in_ok-on_outgoing_detach.field-0, refl, refl);
   steps = (c.on_outgoing_detach.new.self.view, c.in_ok-on_outgoing_detach.ensures.step, refl);
-  frames = ap sent (append-nil (first_frame c.in_ok-on_outgoing_detach.field-0)) ∙ sym c.alone.ensures;
+  handed_out = c.put_first.ensures ∙ sym (ap sent (append-nil (first_frame c.in_ok-on_outgoing_detach.field-0)));
 }
 
 pub returns-in_err-on_outgoing_detach : goal.returns-in_err-on_outgoing_detach

@@ -9,5 +9,5 @@ returns g c =
       calls = session.SendsDisposition c.args.disposition sent.0 c.on_outgoing_disposition.result ∷ [];
       asked = (sent.0, c.on_outgoing_disposition.result, refl, refl);
       steps = (c.on_outgoing_disposition.new.self.view, sent.1, refl);
-      frames = sym c.alone.ensures;
+      handed_out = c.put_frame.ensures;
     }

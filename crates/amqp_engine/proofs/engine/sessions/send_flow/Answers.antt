@@ -7,5 +7,5 @@ returns g c = record {
   calls = session.SendsFlow c.args.flow c.on_outgoing_flow.result ∷ [];
   asked = (c.on_outgoing_flow.result, refl, refl);
   steps = (c.args.session.now.view, c.on_outgoing_flow.ensures, refl);
-  frames = sym c.alone.ensures;
+  handed_out = c.put_frame.ensures;
 }

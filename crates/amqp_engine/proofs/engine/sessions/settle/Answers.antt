@@ -7,5 +7,5 @@ returns g c = record {
   calls = session.Settles c.args.role c.args.first c.args.last c.settle.result ∷ [];
   asked = (c.settle.result, refl, refl);
   steps = (c.settle.new.self.view, c.settle.ensures.step, refl);
-  frames = sym c.none.ensures;
+  handed_out = refl;
 }

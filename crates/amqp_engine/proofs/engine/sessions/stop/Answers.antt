@@ -7,5 +7,5 @@ returns g c = record {
   calls = session.RecordsStop c.args.reason ∷ [];
   asked = (refl, refl);
   steps = (c.set_session_stop_reason.new.self.view, c.set_session_stop_reason.ensures.step, refl);
-  frames = sym c.none.ensures;
+  handed_out = refl;
 }

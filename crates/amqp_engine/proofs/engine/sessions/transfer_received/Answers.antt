@@ -8,24 +8,20 @@ use Rattle.amqp_engine.proofs.engine.sessions.transfer_received.Goals as goal
 pub returns-in-Ok : goal.returns-in-Ok
 returns-in-Ok g c =
     let received = c.in-Ok.ensures.step in
-    let item = c.maybe_outgoing_session_flow.result in (
-      record {
-        calls = session.TakesTransfer c.args.transfer c.args.payload received.0 (Ok c.in-Ok._none) ∷ session.SendsSessionFlow item ∷ [];
-        asked = (received.0, Ok c.in-Ok._none, item, refl, refl);
-        steps = (c.on_incoming_transfer.new.self.view, received.1, (c.maybe_outgoing_session_flow.new.self.view, c.maybe_outgoing_session_flow.ensures.step, refl));
-        frames = ap sent (append-nil (item_frames item)) ∙ sym c.put_item.ensures;
-      },
-      refl,
-    )
+    let item = c.maybe_outgoing_session_flow.result in
+    record {
+      calls = session.TakesTransfer c.args.transfer c.args.payload received.0 (Ok c.in-Ok._none) ∷ session.SendsSessionFlow item ∷ [];
+      asked = (received.0, Ok c.in-Ok._none, item, refl, refl);
+      steps = (c.on_incoming_transfer.new.self.view, received.1, (c.maybe_outgoing_session_flow.new.self.view, c.maybe_outgoing_session_flow.ensures.step, refl));
+      handed_out = c.put_item.ensures ∙ sym (ap sent (append-nil (item_frames item)));
+    }
 
 pub returns-in-Err : goal.returns-in-Err
 returns-in-Err g c =
-    let received = c.in-Err.ensures.step in (
-      record {
-        calls = session.TakesTransfer c.args.transfer c.args.payload received.0 (Err c.in-Err.error) ∷ [];
-        asked = (received.0, Err c.in-Err.error, None, refl, ap Some c.from.ensures);
-        steps = (c.on_incoming_transfer.new.self.view, received.1, refl);
-        frames = refl;
-      },
-      sym c.requires,
-    )
+    let received = c.in-Err.ensures.step in
+    record {
+      calls = session.TakesTransfer c.args.transfer c.args.payload received.0 (Err c.in-Err.error) ∷ [];
+      asked = (received.0, Err c.in-Err.error, None, refl, ap Some c.from.ensures);
+      steps = (c.on_incoming_transfer.new.self.view, received.1, refl);
+      handed_out = c.requires;
+    }
