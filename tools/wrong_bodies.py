@@ -34,7 +34,7 @@ An edit puts a wrong body in the place of a function's, and its name says what i
 of that very function cannot be proved. Most laws have no code to change: an edit of one changes its statement, or a definition, whose file
 then stands behind the edit's name, and shows nothing of the code. What the contracts say is in [CLAIMS.md](CLAIMS.md).
 
-The static library `amqp_c` has its edits in a folder of its own, `crates/amqp_c/must-fail`: `rt ci` tries each by itself, and so does `rt must-fail amqp_c`.
+The static library `amqp_c` has its edits in a folder of its own, `crates/amqp_c/must-fail`: `rt ci` tries each by itself, and so does `rt must-fail amqp_c`. `raw_box` has none: the proofs of its two functions are written by hand along the steps of their bodies, and refuse every other body, a right one too.
 
 Below a table stand the crate's public functions that no edit names, those of traits left out. They are proved as all others are; many of
 them only call functions that an edit names.
