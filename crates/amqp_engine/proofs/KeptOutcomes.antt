@@ -1,6 +1,6 @@
 -- The outcomes that are kept of a Close and of an End.
-use Rattle.std.proofs.Common.{◌≡◌, ◌⊎◌, ℕ, List, Option, Some, None, IsSome, is_some, Result, Ok, Err, refl, ap, sym, subst, ◌∙◌, inl, inr, nat_eq, Bool, true, false, cond}
-use Rattle.std.specs.Map.{lookup, set_value}
+use Rattle.std.proofs.Common.{◌≡◌, ℕ, List, Option, Some, None, IsSome, is_some, Result, Ok, Err, refl, ap, sym, subst, ◌∙◌, nat_eq, Bool, true, false, cond}
+use Rattle.std.specs.Map.{lookup}
 use Rattle.std.specs.Ordering.{nat_cmp}
 use Rattle.std.specs.Cmp.{nat_cmp_total, eq_by_cmp_equiv}
 use Rattle.std.specs.Option.{option_map}
@@ -21,7 +21,6 @@ use Rattle.amqp_connection.specs.declared.error.ConnectionStateError.{Connection
 use Rattle.amqp_connection.specs.declared.error.ConnectionStateError.TheVariants as closed
 use Rattle.amqp_frames.specs.declared.frame.Frame.{Frame}
 use Rattle.amqp_engine.specs.declared.engine.step_error.StepError.{StepError}
-use Rattle.amqp_engine.specs.declared.engine.step_error.StepError.TheVariants as no
 use Rattle.amqp_connection.specs.Connection.{ConnectionView, IncomingCloseStep, told}
 use Rattle.amqp_engine.specs.Kept.{Outcomes, Wishes, CloseOutcome, EndOutcome, close_answer, end_answer, close_kept, end_kept}
 use Rattle.amqp_engine.specs.Places.{IsCloseCopy, IsEndCopy, Seated}
@@ -30,8 +29,7 @@ use Rattle.amqp_engine.specs.Calls.{ReceivedEndCalls, state_refusal}
 use Rattle.amqp_engine.specs.Sessions.{Answered}
 use Rattle.amqp_engine.specs.Engine.{ReceivedCloseStep, kept}
 use Rattle.amqp_session.proofs.AsMap.{same_test}
-use Rattle.amqp_connection.proofs.Lowest.{tested}
-use Rattle.amqp_engine.proofs.Picked.{Writes, writes}
+use Rattle.amqp_engine.proofs.Picked.{Writes}
 use Rattle.amqp_engine.proofs.Viewed.{viewed}
 
 -- ---- a Close

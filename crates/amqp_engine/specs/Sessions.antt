@@ -21,7 +21,7 @@ use Rattle.amqp_session.specs.History as session
 use Rattle.amqp_connection.specs.declared.error.ConnectionInnerError.{ConnectionInnerError}
 use Rattle.amqp_engine.specs.declared.engine.step_error.StepError.{StepError}
 use Rattle.amqp_engine.specs.declared.engine.step_error.StepError.TheVariants as no
-use Rattle.amqp_connection.specs.Connection.{ConnectionView, AllocateStep, Holds, IsRouted, given_back, not_found, refusal_of}
+use Rattle.amqp_connection.specs.Connection.{ConnectionView, AllocateStep, Holds, IsRouted, given_back, not_found}
 use Rattle.amqp_engine.specs.EngineView.{EngineView}
 use Rattle.amqp_engine.specs.Waits.{sent, disposition_frame}
 use Rattle.amqp_engine.specs.Calls.{Calls, BeginCalls, SentEach}

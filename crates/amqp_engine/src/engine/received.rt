@@ -1,8 +1,7 @@
 //! Received frames: who handles what. Nothing happens for an empty frame; the connection takes Open and Close; all others go
 //! along their channel's route to a session.
 
-ghost use Rattle.std.specs.Prelude.{◌≡◌, ℕ, Option, Some, None, List, []};
-ghost use Rattle.std.specs.Option.{option_map};
+ghost use Rattle.std.specs.Prelude.{◌≡◌, Option, Some, None, []};
 ghost use Rattle.amqp_types.specs.declared.performatives.kind.Kind.TheVariants as kind;
 ghost use Rattle.amqp_connection.specs.Connection.{refusal_of};
 ghost use Rattle.amqp_session.specs.History as session;

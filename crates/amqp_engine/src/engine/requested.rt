@@ -3,7 +3,6 @@
 ghost use Rattle.std.specs.Prelude.{◌≡◌, ℕ, Option, Some, None, List, [], ◌<◌, ◌^◌};
 ghost use Rattle.amqp_types.specs.declared.states.SessionState.TheVariants.{Unmapped};
 ghost use Rattle.amqp_session.specs.Session.{new_session};
-ghost use Rattle.amqp_frames.specs.declared.frame.Frame.{Frame};
 ghost use Rattle.amqp_session.specs.declared.stop.ConnectionStopReason.{ConnectionStopReason};
 ghost use Rattle.amqp_session.specs.History as session;
 ghost use Rattle.amqp_engine.specs.declared.engine.input.Input.TheVariants as given;

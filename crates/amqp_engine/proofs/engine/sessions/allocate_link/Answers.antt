@@ -1,4 +1,4 @@
-use Rattle.std.proofs.Common.{sym, rules, string_bytes, Ok, Err, refl, [], ◌∷◌}
+use Rattle.std.proofs.Common.{rules, string_bytes, Ok, Err, refl, [], ◌∷◌}
 use Rattle.amqp_session.specs.History as session
 use Rattle.amqp_engine.proofs.engine.sessions.allocate_link.Goals as goal
 

@@ -1,4 +1,4 @@
-use Rattle.std.proofs.Common.{sym, rules, Ok, Err, refl, [], ◌∷◌}
+use Rattle.std.proofs.Common.{rules, Ok, Err, refl, [], ◌∷◌}
 use Rattle.amqp_session.specs.History as session
 use Rattle.amqp_engine.proofs.engine.sessions.begin_received.Goals as goal
 

@@ -1,4 +1,4 @@
-use Rattle.std.proofs.Common.{sym, rules, Ok, Err, refl, subst, [], ◌∷◌}
+use Rattle.std.proofs.Common.{rules, Ok, Err, refl, subst, [], ◌∷◌}
 use Rattle.amqp_session.specs.Step.{StopStep}
 use Rattle.amqp_session.specs.History as session
 use Rattle.amqp_engine.specs.Calls.{end_reason}

@@ -1,4 +1,4 @@
-use Rattle.std.proofs.Common.{sym, refl, [], ◌∷◌}
+use Rattle.std.proofs.Common.{refl, [], ◌∷◌}
 use Rattle.amqp_session.specs.History as session
 use Rattle.amqp_engine.proofs.engine.sessions.send_flow.Goals as goal
 
