@@ -1,11 +1,11 @@
 #!/usr/bin/env python3
 """Writes docs/bench/DATE.md: what the codec and the engine cost, counted and timed, with qpid-proton beside them.
 
-    tools/bench_page.py DATE ENGINE CODEC
+    tools/bench_page.py DATE ENGINE CODEC [--time]
 
-ENGINE and CODEC are the programs of `crates/bench_engine` and `crates/bench_codec`, as `rt run` builds them. It runs `tools/bench.py`,
-and `tools/bench_engine.py` without `--time` and with it, one after the other, and weighs what an open delivery and a session keep. Let nothing else run meanwhile:
-instructions do not depend on it, times do.
+ENGINE and CODEC are the programs of `crates/bench_engine` and `crates/bench_codec`, as `rt run` builds them. It runs `tools/bench.py` and
+`tools/bench_engine.py`, and weighs what an open delivery and a session keep. With `--time` it runs `tools/bench_engine.py --time` too: let nothing
+else run meanwhile. Instructions do not depend on that.
 """
 
 import os
@@ -45,33 +45,31 @@ def peak(program, *words):
     return usage.ru_maxrss * 1024
 
 
-def weighed(program, few, many, sessions=None):
-    """What one more holds: the slope of the peaks of so many open deliveries, or of sessions that have one each."""
-    if sessions:
-        low, high = (peak(program, "forward", 0, 1, 1, it) for it in sessions)
-        return (high - low) / (sessions[1] - sessions[0])
-    low, high = (peak(program, "forward", 0, 1, it, 1) for it in (few, many))
-    return (high - low) / (many - few)
+def weighed(program, few, many):
+    """What one more holds, in bytes: the slope between the peaks of two runs, each of so many open deliveries in so many sessions."""
+    low, high = (peak(program, "forward", 0, 1, *counts) for counts in (few, many))
+    return (high - low) / (many[0] * many[1] - few[0] * few[1])
 
 
-def sections(engine, codec):
+def sections(engine, codec, is_timed):
     """The page's sections: a title, and what stands under it."""
     yield "The codec, in instructions", said(ROOT / "tools" / "bench.py", codec)
     yield "The engine, in instructions and requests for memory", said(ROOT / "tools" / "bench_engine.py", engine)
-    yield "The engine, in nanoseconds of processor time", said(ROOT / "tools" / "bench_engine.py", "--time", engine)
-    delivery = weighed(engine, 500000, 1000000)
-    session = weighed(engine, 0, 0, (20000, 60000))
-    yield "What is kept, in bytes", f"an open delivery {delivery:10.0f}\na session with a link and an open delivery {session:10.0f}"
+    if is_timed:
+        yield "The engine, in nanoseconds of processor time", said(ROOT / "tools" / "bench_engine.py", "--time", engine)
+    delivery = weighed(engine, (500000, 1), (1000000, 1))
+    session = weighed(engine, (1, 20000), (1, 60000))
+    yield "What is held, in bytes", f"{'an open delivery, of a million':46}{delivery:10.0f}\n{'a session with a link and an open delivery':46}{session:10.0f}"
 
 
 def main():
-    if len(sys.argv) != 4:
+    if len(sys.argv) not in (4, 5) or sys.argv[4:] not in ([], ["--time"]):
         sys.exit(__doc__)
-    date, engine, codec = sys.argv[1:]
+    date, engine, codec = sys.argv[1:4]
     page = [f"# What the codec and the engine cost, {date}", "",
             f"Written by `tools/bench_page.py`, of proved programs, with the kit {toolchain.wanted()[0]}, on {processor()}. How the rows are made stands in",
             "[SPEED.md](../SPEED.md). Nothing here is a clause, and the gate compares nothing with these figures.", ""]
-    for title, text in sections(engine, codec):
+    for title, text in sections(engine, codec, bool(sys.argv[4:])):
         page += [f"## {title}", "", "```text", text, "```", ""]
     (ROOT / "docs" / "bench" / f"{date}.md").write_text("\n".join(page))
 

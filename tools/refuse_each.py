@@ -30,7 +30,7 @@ from expected_frames import TABLES
 
 ROOT = Path(__file__).resolve().parent.parent
 
-# What asks for memory, as docs/CLAIMS.md has it. A place in a list, a queue, a heap or a slab is one request where there is no room; one in an
+# What asks for memory, as docs/MEMORY.md has it. A place in a list, a queue, a heap or a slab is one request where there is no room; one in an
 # index map is four: two of its table, one for the keys and one for the values. A buffer is its bytes and the count of its owners.
 ANSWER = PLACE = TEXT = 1
 IN_MAP = 4
