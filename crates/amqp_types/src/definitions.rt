@@ -16,21 +16,21 @@ use std::alloc::Global;
 /// A number of four bytes.
 pub type Uint = u32;
 
-/// The number of a delivery in its session, modulo 2^32 (part 2, section 2.8.7).
+/// The number of a delivery in its session, modulo 2^32 (part 2, section 2.8.8).
 pub type DeliveryNumber = u32;
 
-/// The number of a transfer in its session, modulo 2^32 (part 2, section 2.8.8).
+/// The number of a transfer in its session, modulo 2^32 (part 2, section 2.8.9).
 pub type TransferNumber = u32;
 
 /// A number in a sequence, modulo 2^32 (part 2, section 2.8.10).
 pub type SequenceNo = u32;
 
-/// The handle of a link in its session (part 2, section 2.8.5).
+/// The handle of a link in its session (part 2, section 2.8.4).
 #[derive(Clone, Copy, Debug, PartialEq, Eq, PartialOrd, Ord, Hash)]
 pub struct Handle(pub u32);
 
 /// The tag of a delivery on its link: any bytes, also more than the 32 that the standard allows (part 2,
-/// section 2.8.6). A tag that was read shares the received bytes; none is copied.
+/// section 2.8.7). A tag that was read shares the received bytes; none is copied.
 #[derive(Clone, Debug, Drop, PartialEq, Eq)]
 pub struct DeliveryTag(pub Bytes);
 
