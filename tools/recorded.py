@@ -4,7 +4,8 @@ import json
 from pathlib import Path
 
 from canonical import boolean, composite, string, symbol, tag, ubyte, uint, ulong, ushort
-from expected_frames import TABLES, number, parts, value
+from decoder import number, parts, value
+from tables import TABLES
 
 CAPTURES = Path(__file__).resolve().parent.parent / "crates" / "codec_tests" / "captures"
 

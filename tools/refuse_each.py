@@ -26,7 +26,7 @@ from pathlib import Path
 import expected_exchange
 import expected_memory
 from command import command
-from expected_frames import TABLES
+from tables import TABLES
 
 ROOT = Path(__file__).resolve().parent.parent
 

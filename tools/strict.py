@@ -1,9 +1,9 @@
 """A strict reading of frames, for expected_hostile.py and transcript.py: which performative stands in any bytes, or why there is none (AMQP
-1.0 part 1, section 1.6; part 2, sections 2.3 and 2.7). It is written from the tables of the standard, apart from the decoder of
-expected_frames.py, which trusts its bytes.
+1.0 part 1, section 1.6; part 2, sections 2.3 and 2.7). It is written from the tables of the standard, apart from decoder.py,
+which trusts its bytes.
 """
 
-from expected_frames import ERROR, TABLES, MUST
+from tables import ERROR, MUST, TABLES
 
 # data of a fixed width, by codes; the five without data
 WIDTHS = {0x40: 0, 0x41: 0, 0x42: 0, 0x43: 0, 0x44: 0, 0x45: 0}

@@ -10,7 +10,7 @@ A line is `exchange NAME`, then what is done: `call OPERATION INPUT` with the op
 
 import expected_exchange
 from canonical import composite, uint
-from expected_frames import parts, value
+from decoder import parts, value
 from recorded import ATTACH, BEGIN, DETACH, DISPOSITION, FLOW, TRANSFER
 
 OPERATIONS = {"open": 2, "close": 3, "begin": 4, "end": 5, "link": 8, ATTACH: 10, DETACH: 11, FLOW: 12, TRANSFER: 13, DISPOSITION: 14}
