@@ -16,10 +16,10 @@ from collections import defaultdict
 from html import escape, unescape
 from pathlib import Path
 
-from api_page import linked, page, prose, search
-from api_source import libraries
-from api_specs import Definition, modules
-from command import command
+from reference.page import linked, page, prose, search
+from reference.source import libraries
+from reference.specs import Definition, modules
+from shared.command import command
 
 ROOT = Path(__file__).resolve().parent.parent
 WORD = re.compile(r"[^\W\d][\w']*(?:\.[^\W\d][\w']*)*")

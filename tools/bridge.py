@@ -14,10 +14,10 @@ import subprocess
 import sys
 import time
 
-from by_library import LineEngine, Open
-from canonical import boolean, composite, string, symbol, tag, ubyte, uint
-from command import command, told
-from frames import ATTACH, BEGIN, CLOSE, DETACH, DISPOSITION, END, FLOW, NAMES, NULL, OPEN, TRANSFER, Frame, Malformed, end_of, flag, integer, parts
+from amqp.canonical import boolean, composite, string, symbol, tag, ubyte, uint
+from amqp.frames import ATTACH, BEGIN, CLOSE, DETACH, DISPOSITION, END, FLOW, NAMES, NULL, OPEN, TRANSFER, Frame, Malformed, end_of, flag, integer, parts
+from shared.by_library import LineEngine, Open
+from shared.command import command, told
 
 MARK, MARKED = "release 4294967295\n", "err NoSession\n"
 SENDER, RECEIVER = boolean(False), boolean(True)

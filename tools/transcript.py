@@ -25,11 +25,11 @@ import sys
 from itertools import count
 from pathlib import Path
 
-from canonical import uint, ushort
-from command import command, told
-from frames import ATTACH, BEGIN, CLOSE, DETACH, DISPOSITION, END, FLOW, NAMES, NULL, OPEN, TRANSFER, Frame, Malformed, flag, integer, text
-from in_flight import OF_LAWFUL, InFlight
-from strict import why
+from amqp.canonical import uint, ushort
+from amqp.frames import ATTACH, BEGIN, CLOSE, DETACH, DISPOSITION, END, FLOW, NAMES, NULL, OPEN, TRANSFER, Frame, Malformed, flag, integer, text
+from amqp.in_flight import OF_LAWFUL, InFlight
+from amqp.strict import why
+from shared.command import command, told
 
 # Two lines that are always refused, and change nothing: no line of a transcript is answered so
 MARK, MARKED = "release 4294967295\nrecv \n", "err NoSession\nerr DecodeError\n"

@@ -13,7 +13,7 @@ import subprocess
 import sys
 import threading
 
-from command import command, told
+from shared.command import command, told
 
 try:
     from proton import Message

@@ -19,12 +19,12 @@ import contextlib
 import sys
 import time
 
-from by_library import Engine, LineEngine, Open, Room
-from canonical import string
-from command import command, told
-from frames import ATTACH, BEGIN, NAMES, NULL, OPEN, flag, integer, text
-from in_flight import OF_LAWFUL
-from strict import why
+from amqp.canonical import string
+from amqp.frames import ATTACH, BEGIN, NAMES, NULL, OPEN, flag, integer, text
+from amqp.in_flight import OF_LAWFUL
+from amqp.strict import why
+from shared.by_library import Engine, LineEngine, Open, Room
+from shared.command import command, told
 from transcript import PEER_ENDED, Session, Transcript, split
 
 ROOM = Room(links=1024, flows=4096, transfers=65536, dispositions=65536)

@@ -11,7 +11,7 @@
 //! | `encode` | `FrameEncoder::encode`, into pieces of at most LIMIT bytes |
 //! | `all` | all of these, one after the other |
 //!
-//! For each mode it prints how many answers it saw, and a sum over them. `tools/bench.py` counts the instructions.
+//! For each mode it prints how many answers it saw, and a sum over them. `tools/bench/bench.py` counts the instructions.
 #![tactic(auto)]
 
 mod modes;

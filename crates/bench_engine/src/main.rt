@@ -36,7 +36,7 @@
 //!
 //! With `idle` for the engine's part, as `bench_engine MODE COUNT BATCH OPEN SESSIONS idle`, the inputs are made and dropped; with `into` the
 //! engine sends into one buffer, whose chunks are taken off. `all` does all of these, and the first four into a buffer too. For each mode it prints what the engine answered, and how many deliveries of the first session are then
-//! open. `tools/bench_engine.py` counts the instructions.
+//! open. `tools/bench/bench_engine.py` counts the instructions.
 #![tactic(auto)]
 
 mod bench;

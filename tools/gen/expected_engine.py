@@ -1,0 +1,32 @@
+#!/usr/bin/env python3
+"""Writes the rows of the program engine_rows: its input, and the output that the standard wants.
+
+    tools/gen/expected_engine.py            writes crates/engine_rows/{stdin,stdout}
+
+Each row is a transcript for an engine of its own in HeaderExchange, whose Open is named `replay`, or calls of a connection alone, or of handles
+with the runs of their engine. Beside each line stands what it has to print (AMQP 1.0 part 2, sections 2.4 to 2.6; docs/PROTOCOL.md for the
+tables). Behind them stand whole recorded exchanges. Nothing is taken from the program's output.
+"""
+
+import sys
+from pathlib import Path
+
+sys.path.insert(0, str(Path(__file__).resolve().parents[1]))
+
+from gen import engine_alone, engine_connections, engine_dispositions, engine_handles, engine_lines, engine_links, engine_sessions, engine_wishes
+from gen import expected_exchange
+from gen.row import EngineRows
+
+CRATE = Path(__file__).resolve().parents[2] / "crates" / "engine_rows"
+
+
+def main():
+    rows = EngineRows()
+    for part in (engine_alone, engine_connections, engine_sessions, engine_links, engine_handles, engine_dispositions, engine_lines, engine_wishes):
+        part.write(rows)
+    expected_exchange.write(rows)
+    rows.write(CRATE)
+
+
+if __name__ == "__main__":
+    main()

@@ -1,0 +1,32 @@
+#!/usr/bin/env python3
+"""Writes the rows of the program session_rows: its input, and the output that the standard wants.
+
+    tools/gen/expected_session.py           writes crates/session_rows/{stdin,stdout}
+
+Each row is a new session, calls, and beside each call what it has to answer (AMQP 1.0 part 2, sections 2.5 to 2.7; docs/PROTOCOL.md for
+the states). The answers stand here as a person wrote them, or follow from the tables below, or are those of the plain model in
+session_model.py; nothing is taken from the program's output.
+"""
+
+import sys
+from pathlib import Path
+
+sys.path.insert(0, str(Path(__file__).resolve().parents[1]))
+
+from gen import session_dispositions, session_flows, session_links, session_model, session_states, session_transfers, session_windows
+from gen.row import SessionRows
+
+PARTS = [session_states, session_windows, session_transfers, session_flows, session_links, session_dispositions, session_model]
+
+CRATE = Path(__file__).resolve().parents[2] / "crates" / "session_rows"
+
+
+def main():
+    rows = SessionRows()
+    for part in PARTS:
+        part.write(rows)
+    rows.write(CRATE)
+
+
+if __name__ == "__main__":
+    main()

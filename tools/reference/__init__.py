@@ -1,0 +1,1 @@
+"""The parts of api.py: sources, definitions, pages."""

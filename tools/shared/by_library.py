@@ -1,0 +1,80 @@
+"""The engine of the library `libamqp.so`, driven by the lines of amqp_replay, for bridge.py and watch.py."""
+
+import sys
+from pathlib import Path
+
+sys.path.insert(0, str(Path(__file__).resolve().parents[2] / "bindings" / "python"))
+
+from amqp.frames import ATTACH, DETACH, DISPOSITION, FLOW, TRANSFER, Frame, integer
+from amqp_engine import Attach, Begin, Detach, Detached, Disposition, Engine, Flow, Malformed, Open, Refusal, Room, Transfer
+from amqp_engine.serving import frames_of
+
+__all__ = ["Detach", "Detached", "Engine", "LineEngine", "Malformed", "Open", "Refusal", "Room"]
+
+ASKS = {ATTACH: ("attach", Attach), FLOW: ("flow", Flow), DISPOSITION: ("disposition", Disposition), DETACH: ("detach", Detach)}
+
+
+class LineEngine:
+    """An engine that takes lines: `open`, `close`, `recv HEX`, `begin N`, `end N`, `release N`, `forget N`, `link N NAME`, `send N HEX`."""
+
+    def __init__(self, open, **how):
+        self.engine = Engine(open, **how)
+
+    def ask(self, line):
+        """Asks what the line says. Gives each refusal, in order; events are heard."""
+        word, _, rest = line.partition(" ")
+        try:
+            if word == "recv":
+                of = bytes.fromhex(rest)
+                for event in self.receive((len(of) + 4).to_bytes(4, "big") + of):
+                    if isinstance(event, Refusal):
+                        yield event
+                    else:
+                        self.hear(event)
+            else:
+                self.request(word, rest)
+        except Refusal as refusal:
+            yield refusal
+        for event in self.engine.events():
+            self.hear(event)
+
+    def receive(self, data):
+        """What received bytes bring."""
+        return self.engine.receive(data)
+
+    def pieces(self):
+        """The frames that are to be sent, each without its size."""
+        return list(frames_of(self.engine.to_send()))
+
+    def request(self, word, rest):
+        if word in ("open", "close"):
+            return getattr(self.engine, word)()
+        number, _, said = rest.partition(" ")
+        if word == "begin":
+            self.engine.begin(int(number), Begin(incoming_window=5000, outgoing_window=5000))
+        elif word == "link":
+            self.engine.link(int(number), said, self.role_of(said), 1)
+        elif word == "send":
+            self.send(int(number), Frame(b"\x02\x00\x00\x00" + bytes.fromhex(said)))
+        else:
+            getattr(self.engine, word)(int(number))
+
+    def send(self, number, frame):
+        body = frame.body()[: len(frame.body()) - len(frame.payload)]
+        if frame.code == TRANSFER:
+            handle = self.input_of(number, integer(frame[0]))
+            self.engine.transfer(number, handle, Transfer.decode(body), frame.payload, frame[2] != b"\x40")
+        else:
+            name, kind = ASKS[frame.code]
+            getattr(self.engine, name)(number, kind.decode(body))
+
+    def hear(self, event):
+        """What an event asks for: nothing."""
+
+    def role_of(self, name):
+        """This side's end of a link of this name."""
+        return name != "to"
+
+    def input_of(self, number, handle):
+        """The peer's handle of the link that has this one here."""
+        return handle

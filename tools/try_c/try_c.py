@@ -1,0 +1,358 @@
+#!/usr/bin/env python3
+"""Tries the package `amqp_engine` over a library: tools/try_c/try_c.py LIBRARY. The last line is 'N passed, M failed'.
+
+Two engines talk in memory, and over sockets on loopback; each call is made once with the values compared; then what is refused, and what has no form.
+"""
+
+import os
+import sys
+import uuid
+from pathlib import Path
+
+sys.path.insert(0, str(Path(__file__).resolve().parents[1]))
+sys.path.insert(0, str(Path(__file__).resolve().parents[2] / "bindings" / "python"))
+
+from amqp_engine import (
+    ACCEPTED, FIRST, RECEIVER, RELEASED, SECOND, SENDER, SETTLED, Array, Attach, BadArgument, Begin, Close, Closed, Described, Detach, Detached,
+    Disposed, Disposition, Engine, Error, Flow, Flowed, Malformed, Open, Refusal, Room, Server, SessionBegan, SessionEnded, Symbol, Transfer,
+    Transferred, Ubyte, Uint, Ulong, Ushort, address_of, body_of, data, rejected, source, target,
+)  # fmt: skip
+from amqp_engine.values import Byte, Char, Float, Int, Short, Timestamp, read, write
+from shared.command import command
+from try_c.try_c_sockets import OPEN, TESTS as OVER_SOCKETS
+
+TESTS = []
+
+
+def test(function):
+    TESTS.append(function)
+    return function
+
+
+class Pair:
+    """A client's engine and a server's, and the bytes between them."""
+
+    def __init__(self, room=None):
+        self.client = Engine(OPEN, room=room)
+        self.server = Server(Engine(Open("server", max_frame_size=512, channel_max=7)), begin=Begin(incoming_window=8))
+        self.client.open()
+        self.server.engine.open()
+
+    def carry(self, cut=None):
+        """Hands on what waits, until nothing does; answers what came on each side."""
+        came = ([], [])
+        while True:
+            there, back = self.client.to_send(), self.server.to_send()
+            if not there and not back:
+                return came
+            for data, side, found in ((there, self.server, came[1]), (back, self.client, came[0])):
+                for at in range(0, len(data), cut or len(data) or 1):
+                    found += side.receive(data[at : at + (cut or len(data))])
+
+    def attached(self, role=SENDER, settle_mode=FIRST, name="link", snd=None):
+        """A link that both sides attached: the client's handle, what it came as on the server, the server's handle, what came back."""
+        handle = self.client.link(0, name, role, settle_mode)
+        ends = (source("from"), target("to"))
+        self.client.attach(0, Attach(name, handle, role, snd, settle_mode, *ends, initial_delivery_count=None if role else 0))
+        (event,) = self.carry()[1]
+        mine = self.server.output_of(event)
+        self.server.attach(event.session, Attach(name, mine, not role, snd, settle_mode, *ends, initial_delivery_count=0 if role else None))
+        (answer,) = self.carry()[0]
+        return handle, event, mine, answer
+
+
+def mapped(**how):
+    pair = Pair(**how)
+    pair.client.begin(0, Begin(next_outgoing_id=0, incoming_window=8, outgoing_window=8))
+    came = pair.carry()
+    assert came == ([], [SessionBegan(0, None, None, Begin(None, 0, 8, 8))]), came
+    return pair
+
+
+# ---- values
+
+
+@test
+def values_are_read_as_they_were_written():
+    for value in [
+        None, True, False, Ubyte(3), Ushort(300), Uint(0), Uint(255), Uint(256), Ulong(0), Ulong(7), Ulong(2**63), Byte(-1), Short(-300), Int(-1),
+        Int(70000), -5, 2**40, Timestamp(12345), 1.5, Float(1.5), uuid.uuid4(), Symbol("abc"), "x" * 300, b"a" * 255, b"b" * 256, [], [1, "a", [None]],
+        {Symbol("k"): 3}, Described(Ulong(0x24), []), Array([Symbol("a"), Symbol("b" * 300)]), Array([Uint(1), Uint(2)]), Char("x"), ["x" * 252],
+        ["x" * 253],
+    ]:  # fmt: skip
+        of = write(value)
+        assert read(of) == (value, len(of)) and type(read(of)[0]) is type(value), (value, of)
+
+
+@test
+def what_is_no_value_is_malformed():
+    for of in [b"", b"\x56\x02", b"\xa1\x05ab", b"\xc0\x02\x01", b"\xff\x00\x00\x00\x00", b"\x00" * 100, b"\xc1\x03\x01\x40\x40", b"\xa1\x01\xff", b"\xe0\x02\x05\x52", b"\xf0\x00\x00\x00\x05\xff\xff\xff\xff\x40"]:
+        try:
+            read(of)
+        except Malformed:
+            continue
+        raise AssertionError(of)
+
+
+@test
+def performatives_are_read_as_they_were_written():
+    for it in [
+        Open("me", "host", 1024, 7, 1000, None, None, ["a", "b"], "c", {Symbol("x"): "y"}), Begin(3, 1, 2, 4, 5), Flow(1, 2, 3, 4, 5, 6, 7, 8, True, False),
+        Attach("q", 0, SENDER, SETTLED, SECOND, source("a"), target(), {}, True, 9, 2**40), Transfer(0, 1, b"t", 0, True, True, SECOND, ACCEPTED, False, False, True),
+        Disposition(RECEIVER, 3, 5, True, rejected(Error("amqp:not-found"))), Detach(3, True, Error("amqp:internal-error", "no", {})), Close(Error("a:b")),
+    ]:  # fmt: skip
+        assert type(it).decode(it.encode()) == it, it
+    assert Open("a").encode() == bytes.fromhex("005310c00401a10161") and Close().encode() == bytes.fromhex("00531845")
+    assert body_of(data(b"hello")) == b"hello" and address_of(target("q")) == "q" and address_of(source()) is None
+
+
+# ---- two engines
+
+
+@test
+def a_connection_opens_and_closes():
+    pair = Pair()
+    assert (pair.client.state, pair.client.remote_open, pair.client.max_piece_len) == ("OPEN_SENT", None, 508)
+    assert pair.carry() == ([], [])
+    assert pair.client.state == pair.server.engine.state == "OPENED"
+    theirs = pair.server.engine.remote_open
+    assert (theirs.container_id, theirs.hostname, theirs.max_frame_size, theirs.channel_max) == ("client", "here", 512, 7), theirs
+    pair.client.close(Error("amqp:connection:forced", "enough"))
+    came = pair.carry()
+    assert came == ([], [Closed(0, None, None)]), came
+    assert pair.client.state == pair.server.engine.state == "END"
+
+
+@test
+def a_peers_close_is_told_with_its_error():
+    pair = Pair()
+    pair.carry()
+    pair.server.engine.close(Error("amqp:connection:forced", "enough"))
+    told = pair.carry()[0]
+    assert told == [Refusal("RemoteClosedWithError", "amqp:connection:forced", "enough")], told
+    assert pair.client.state == "CLOSE_RCVD"
+    pair.client.close()
+    pair.carry()
+    assert pair.client.state == pair.server.engine.state == "END"
+
+
+@test
+def a_session_begins_ends_and_is_forgotten():
+    pair = mapped()
+    assert pair.client.session_of(0) == 0 and pair.client.session_of(1) is None
+    assert (pair.client.session_state(0), pair.client.session_state(1)) == ("MAPPED", None)
+    pair.client.end(0, Error("amqp:session:errant-link"))
+    assert pair.carry() == ([], [SessionEnded(0, None, None)])
+    assert pair.client.session_state(0) == "UNMAPPED"
+    pair.client.release(0)
+    pair.client.forget(0)
+    assert pair.client.session_state(0) is None
+    refused(lambda: pair.client.begin(0), "SessionInUse")
+    pair.client.begin(1)
+    assert pair.carry()[1] == [SessionBegan(1, None, None, Begin(None, 0, 2048, 2048))]
+
+
+def refused(call, name):
+    try:
+        call()
+    except Refusal as refusal:
+        assert refusal.name == name, refusal
+    else:
+        raise AssertionError(f"not refused: {name}")
+
+
+@test
+def a_link_is_attached_and_detached():
+    pair = mapped()
+    handle, event, mine, answer = pair.attached()
+    assert (event.session, event.input_handle, event.attach.name, event.attach.role) == (0, handle, "link", SENDER)
+    assert address_of(event.attach.target) == "to" and event.attach.initial_delivery_count == 0
+    assert (answer.input_handle, answer.attach.name, answer.attach.role) == (mine, "link", RECEIVER)
+    refused(lambda: pair.client.link(0, "link", SENDER), "DuplicatedLinkName")
+    pair.client.detach(0, Detach(handle, True, Error("amqp:link:stolen")))
+    (gone,) = pair.carry()[1]
+    assert isinstance(gone, Detached) and gone.detach == Detach(handle, True, Error("amqp:link:stolen")) and gone.remote_initiated, gone
+    pair.server.engine.detach(0, Detach(mine, True), expects_answer=False)
+    (gone,) = pair.carry()[0]
+    assert isinstance(gone, Detached) and not gone.remote_initiated and gone.detach.handle == mine, gone
+    assert pair.attached()[0] == handle
+
+
+@test
+def a_name_serves_a_sender_and_a_receiver_of_a_client():
+    pair = mapped()
+    first, second = pair.client.link(0, "a", SENDER), pair.client.link(0, "b", RECEIVER)
+    pair.client.attach(0, Attach("one", first, SENDER, initial_delivery_count=0))
+    pair.client.attach(0, Attach("one", second, RECEIVER))
+    names = [(it.attach.name, it.attach.role) for it in pair.carry()[1]]
+    assert names == [("one", SENDER), ("one", RECEIVER)], names
+
+
+@test
+def deliveries_go_there_and_are_settled():
+    pair = mapped()
+    handle, event, mine, answer = pair.attached()
+    pair.server.engine.flow(0, Flow(handle=mine, delivery_count=0, link_credit=2))
+    (flow,) = pair.carry()[0]
+    assert isinstance(flow, Flowed) and (flow.output_handle, flow.flow.handle, flow.flow.link_credit) == (handle, mine, 2), flow
+    for tag, message in ((b"a", b"short"), (b"b", bytes(1500))):
+        pair.client.deliver(0, answer.input_handle, Transfer(handle, delivery_tag=tag, message_format=0, settled=False), message)
+    came = pair.carry()[1]
+    assert [type(it) for it in came] == [Transferred] * len(came) and len(came) == 5, came
+    assert [(it.transfer.delivery_id, it.transfer.delivery_tag, it.transfer.more) for it in came[:2]] == [(0, b"a", None), (1, b"b", True)], came
+    assert b"".join(it.payload for it in came[1:]) == bytes(1500) and not came[-1].transfer.more
+    assert all(len(it.transfer.encode()) + len(it.payload) <= 504 for it in came)
+    pair.server.engine.disposition(0, Disposition(RECEIVER, 0, 1, settled=True, state=ACCEPTED))
+    told = pair.carry()[0]
+    assert told == [Disposed(0, answer.input_handle, handle, RECEIVER, True, ACCEPTED, tag) for tag in (b"a", b"b")], told
+
+
+@test
+def a_delivery_settled_second_is_settled_by_both():
+    pair = mapped()
+    handle, event, mine, answer = pair.attached(settle_mode=SECOND)
+    pair.server.engine.flow(0, Flow(handle=mine, delivery_count=0, link_credit=1))
+    pair.carry()
+    pair.client.transfer(0, answer.input_handle, Transfer(handle, delivery_tag=b"t", message_format=0, settled=False), b"x")
+    pair.carry()
+    pair.server.engine.disposition(0, Disposition(RECEIVER, 0, settled=False, state=RELEASED))
+    first, second = pair.carry()
+    assert [(it.settled, it.state) for it in first] == [(False, RELEASED)], first
+    assert [(it.role, it.settled, it.state, it.tag) for it in second] == [(SENDER, True, RELEASED, b"t")], second
+
+
+@test
+def what_this_side_settles_is_let_go():
+    pair = mapped()
+    handle, event, mine, answer = pair.attached()
+    pair.server.engine.flow(0, Flow(handle=mine, delivery_count=0, link_credit=1))
+    pair.carry()
+    pair.client.transfer(0, answer.input_handle, Transfer(handle, delivery_tag=b"t", settled=False), b"x")
+    pair.carry()
+    pair.client.settle(0, SENDER, 0)
+    pair.server.engine.disposition(0, Disposition(RECEIVER, 0, settled=True, state=ACCEPTED))
+    assert pair.carry()[0] == []
+
+
+@test
+def the_peers_window_holds_transfers_back():
+    pair = mapped()
+    handle, event, mine, answer = pair.attached()
+    for at in range(12):
+        pair.client.transfer(0, answer.input_handle, Transfer(handle, delivery_tag=bytes([at]), settled=True), b"x")
+    assert len([it for it in frames(pair.client.to_send()) if it[6] == 0x14]) == 8
+
+
+def frames(data):
+    found = []
+    while data:
+        size = int.from_bytes(data[:4], "big")
+        found.append(data[4:size])
+        data = data[size:]
+    return found
+
+
+@test
+def bytes_come_in_any_splitting():
+    pair = Pair()
+    pair.client.begin(0)
+    pair.client.close()
+    assert len(pair.carry(cut=1)[1]) == 2 and pair.client.state == "END"
+
+
+@test
+def events_past_their_room_are_refused_or_counted():
+    pair = mapped(room=Room(links=2, flows=1, transfers=1, dispositions=1))
+    handle, event, mine, answer = pair.attached()
+    pair.server.engine.flow(0, Flow(handle=mine, delivery_count=0, link_credit=9))
+    pair.carry()
+    for tag in (b"a", b"b"):
+        pair.client.transfer(0, answer.input_handle, Transfer(handle, delivery_tag=tag, settled=False), b"x")
+    pair.carry()
+    pair.server.engine.disposition(0, Disposition(RECEIVER, 0, 1, settled=True, state=ACCEPTED))
+    assert [it.tag for it in pair.carry()[0]] == [b"a"]
+    assert pair.client.missed == 1 and pair.server.engine.missed == 0
+
+
+@test
+def frames_of_no_lawful_size_are_refused_for_good():
+    for size in (b"\x00\x00\x00\x07", b"\x00\x00\x02\x01"):
+        engine = Engine(OPEN)
+        assert [it.name for it in engine.receive(size + b"\x02\x00\x00\x00")] == ["BadSize"]
+        assert [it.name for it in engine.receive(b"\x00\x00\x00\x08\x02\x00\x00\x00")] == ["BadSize"]
+        engine.open()
+        assert frames(engine.to_send())[0][4:7] == b"\x00\x53\x10"
+
+
+@test
+def a_server_waits_for_no_frame_of_no_lawful_size():
+    for size in (b"\x00\x00\x00\x07", b"\x00\x00\x02\x01"):
+        server = Server(Engine(OPEN))
+        assert [it.name for it in server.receive(size)] == ["BadSize"]
+        assert list(server.receive(b"\x00\x00\x00\x08\x02\x00\x00\x00")) == []
+
+
+@test
+def a_call_goes_on_after_a_refusal():
+    pair = mapped()
+    broken = b"\x00\x00\x00\x0c\x02\x00\x00\x00\x00\x53\x99\x45"
+    assert [it.name for it in pair.client.receive(broken)] == ["DecodeError"]
+    assert [it.name for it in pair.client.receive(broken[:-4] + b"\x00\x53\x13\x45" + b"\x00\x00\x00\x08\x02\x00\x00\x00")] == ["DecodeError"]
+    pair.attached()
+
+
+@test
+def requests_without_their_form_are_no_requests():
+    pair = mapped()
+    for call in [
+        lambda: pair.client._ask(99), lambda: pair.client._ask(0), lambda: pair.client._ask(2, b"x"), lambda: pair.client._ask(4, b""),
+        lambda: pair.client._ask(10, b"\x00\x00\x00\x00" + Detach(0).encode()), lambda: pair.client._ask(6, bytes(5)),
+        lambda: pair.client._ask(8, b"\x00\x00\x00\x00\x02\x00a"), lambda: pair.client._ask(8, b"\x00\x00\x00\x00\x00\x00\xff"),
+        lambda: pair.client._ask(14, bytes(10 * 1024 * 1024)), lambda: pair.client.begin(-1), lambda: pair.client.begin(5, Begin(remote_channel=0)),
+    ]:  # fmt: skip
+        try:
+            call()
+        except BadArgument:
+            continue
+        raise AssertionError("taken")
+    assert pair.carry() == ([], [])
+
+
+@test
+def a_freed_engine_answers():
+    with Engine(OPEN) as engine:
+        engine.open()
+    engine.free()
+    try:
+        engine.open()
+    except RuntimeError:
+        return
+    raise AssertionError
+
+
+@test
+def an_open_that_is_none_makes_no_engine():
+    for given in (b"", bytes(31), bytes(32), bytes(32) + b"\x00\x53\x11\x45"):
+        engine = Engine.__new__(Engine)
+        engine._library, engine._place, engine._written = Engine(OPEN)._library, Engine(OPEN)._place.__class__(), None
+        assert engine._library.amqp_new(engine._place, given, len(given)) == 4, given
+        assert engine._place.full == 0
+
+
+def main():
+    if len(sys.argv) != 2:
+        sys.exit(__doc__.strip())
+    os.environ["AMQP_LIBRARY"] = str(Path(sys.argv[1]).resolve())
+    failed, tests = 0, TESTS + OVER_SOCKETS
+    for it in tests:
+        try:
+            it()
+        except Exception as error:
+            failed += 1
+            print(f"FAILED: {it.__name__}: {type(error).__name__}: {error}")
+    print(f"{len(tests) - failed} passed, {failed} failed")
+    sys.exit(failed > 0)
+
+
+if __name__ == "__main__":
+    command(main, __doc__)

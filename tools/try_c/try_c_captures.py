@@ -1,0 +1,81 @@
+#!/usr/bin/env python3
+"""Has the library for C take either side of each recorded connection, and of those that made_connections.py makes, in pieces of 1, 7 and 4096 bytes, and
+compares what it refuses with what refused_of_captures.py compares amqp_replay with.
+
+    tools/try_c/try_c_captures.py LIBRARY
+
+LIBRARY is libamqp.so. A recording with a frame of less than four bytes, which no stream can carry, is left out. The last line is 'N passed, M failed', a test for each connection, side and size.
+"""
+
+import os
+import sys
+from pathlib import Path
+
+sys.path.insert(0, str(Path(__file__).resolve().parents[1]))
+
+from gate.refused_of_captures import connections
+from shared.by_library import Detach, Detached, LineEngine, Malformed, Open
+from shared.command import command
+from transcript import Transcript, shown
+
+
+class Replay(LineEngine):
+    """An engine as amqp_replay makes one. Its links take what comes, whichever end they are."""
+
+    def __init__(self, size):
+        super().__init__(Open("replay", max_frame_size=262144, channel_max=255), key=bytes(16))
+        self.size = size
+
+    def role_of(self, name):
+        return True
+
+    def names(self, line):
+        """The names of what a line is refused by; of one that amqp_replay cannot read, that it is no line."""
+        word, _, rest = line.partition(" ")
+        if word == "link" and not rest.partition(" ")[2]:
+            return ["bad line"]
+        try:
+            return [it.name for it in self.ask(line)]
+        except Malformed:
+            return ["bad line"]
+        finally:
+            self.pieces()
+
+    def hear(self, event):
+        """A detach of the peer's is answered, as amqp_replay's relay answers it."""
+        if isinstance(event, Detached) and event.remote_initiated and event.output_handle is not None:
+            self.engine.detach(event.session, Detach(event.output_handle, event.detach.closed), expects_answer=False)
+
+    def receive(self, data):
+        for at in range(0, len(data), self.size):
+            yield from self.engine.receive(data[at : at + self.size])
+
+
+def refused(frames, side, size):
+    """What the library refuses of a connection, as texts."""
+    transcript, replay = Transcript(frames, side), Replay(size)
+    lines = transcript.run()
+    told = [shown(transcript, at, line, name) for at, line in lines for name in replay.names(line)]
+    replay.engine.free()
+    return told
+
+
+def main():
+    if len(sys.argv) != 2:
+        sys.exit(__doc__.strip())
+    os.environ["AMQP_LIBRARY"] = os.path.abspath(sys.argv[1])
+    passed = failed = 0
+    for name, frames, side, wanted in connections():
+        if any(len(of) < 4 for _, of in frames):
+            continue
+        for size in (1, 7, 4096):
+            told = refused(frames, side, size)
+            passed, failed = passed + (told == wanted), failed + (told != wanted)
+            if told != wanted:
+                print(f"{name} {side}, pieces of {size}: refused\n" + "\n".join(told) + "\nwanted\n" + "\n".join(wanted))
+    print(f"{passed} passed, {failed} failed")
+    sys.exit(failed > 0)
+
+
+if __name__ == "__main__":
+    command(main, __doc__)

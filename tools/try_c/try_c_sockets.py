@@ -1,0 +1,156 @@
+"""What try_c.py tries over sockets on loopback: the transport by `asyncio`, logins, idle time-outs, and tools/watch.py."""
+
+import asyncio
+import subprocess
+import sys
+from pathlib import Path
+
+ROOT = Path(__file__).resolve().parents[2]
+sys.path.insert(0, str(ROOT / "bindings" / "python"))
+
+from amqp_engine import (
+    ACCEPTED, RECEIVER, SENDER, Anonymous, Attach, Attached, Begin, Disposed, Disposition, Flow, Flowed, HeaderRefused, LoginRefused, Open, PeerSilent,
+    Plain, Refusal, Transfer, Transferred, connect, serve,
+)  # fmt: skip
+
+OPEN = Open("client", hostname="here", max_frame_size=512, channel_max=7)
+TESTS = []
+
+
+def test(function):
+    TESTS.append(function)
+    return function
+
+
+async def echo(connection):
+    """A server whose links give back what they take."""
+    connection.engine.open()
+    async for event in connection:
+        if isinstance(event, Attached):
+            theirs, mine = event.attach, connection.server.output_of(event)
+            answer = Attach(theirs.name, mine, not theirs.role, initial_delivery_count=0 if theirs.role else None)
+            connection.server.attach(event.session, answer)
+            if not theirs.role:
+                connection.engine.flow(event.session, Flow(handle=mine, delivery_count=0, link_credit=1000))
+        elif isinstance(event, Transferred) and not event.transfer.settled:
+            said = Disposition(RECEIVER, event.transfer.delivery_id, settled=True, state=ACCEPTED)
+            connection.engine.disposition(event.session, said)
+
+
+async def talk(port, **how):
+    async with connect("127.0.0.1", port, OPEN, **how) as connection:
+        engine, settled, link = connection.engine, 0, None
+        engine.open()
+        await connection.session(0)
+        handle = engine.link(0, "l", SENDER)
+        engine.attach(0, Attach("l", handle, SENDER, initial_delivery_count=0))
+        async for event in connection:
+            assert not isinstance(event, Refusal), event
+            if isinstance(event, Flowed):
+                for at in range(100):
+                    engine.transfer(0, event.input_handle, Transfer(handle, delivery_tag=bytes([at]), settled=False), b"x" * at)
+            settled += isinstance(event, Disposed)
+            if settled == 100:
+                break
+        await connection.close()
+        return engine.state
+
+
+def over_sockets(client, **how):
+    async def both():
+        server = await serve("127.0.0.1", 0, lambda: Open("server", max_frame_size=512), echo, **how)
+        async with server:
+            return await client(server.sockets[0].getsockname()[1])
+
+    return asyncio.run(both())
+
+
+@test
+def a_hundred_messages_go_over_a_socket():
+    assert over_sockets(talk) == "END"
+    assert over_sockets(lambda port: talk(port, login=None)) == "END"
+
+
+@test
+def a_login_is_judged():
+    def check(user, password):
+        return (user, password) == ("me", "right")
+
+    assert over_sockets(lambda port: talk(port, login=Plain("me", "right")), check=check) == "END"
+    for login, wanted in ((Plain("me", "wrong"), LoginRefused), (Anonymous(), LoginRefused), (None, HeaderRefused)):
+        try:
+            over_sockets(lambda port: talk(port, login=login), check=check)
+        except wanted:
+            continue
+        raise AssertionError(login)
+
+
+@test
+def a_silent_peer_is_ended_and_a_quiet_one_is_kept():
+    async def quiet(connection):
+        connection.engine.open()
+        async for _ in connection:
+            pass
+
+    async def both(limit):
+        """A server whose Open asks for frames, and a client that asks for some itself."""
+        server = await serve("127.0.0.1", 0, lambda: Open("s", idle_time_out=limit), quiet)
+        async with server, connect("127.0.0.1", server.sockets[0].getsockname()[1], Open("c", idle_time_out=200)) as connection:
+            connection.engine.open()
+            waited = asyncio.ensure_future(connection.__anext__())
+            done, _ = await asyncio.wait([waited], timeout=1)
+            return [type(it.exception()) for it in done] or waited.cancel()
+
+    # the client is kept alive by its own empty frames, and hears the server's as long as that beats too
+    assert asyncio.run(both(200)) is True
+    assert asyncio.run(both(None)) is True
+
+    async def mute():
+        async def hold(reader, writer):
+            while await reader.read(1000):
+                pass
+
+        async def answer(reader, writer):
+            await reader.readexactly(8)
+            writer.write(b"AMQP\x00\x01\x00\x00")
+            await hold(reader, writer)
+
+        server = await asyncio.start_server(answer, "127.0.0.1", 0)
+        async with server, connect("127.0.0.1", server.sockets[0].getsockname()[1], Open("c", idle_time_out=200), login=None) as connection:
+            connection.engine.open()
+            async for _ in connection:
+                pass
+
+    try:
+        asyncio.run(mute())
+    except PeerSilent:
+        return
+    raise AssertionError("a silent peer was waited for")
+
+
+@test
+def a_watcher_tells_what_breaks_the_protocol():
+    async def rogue(port):
+        reader, writer = await asyncio.open_connection("127.0.0.1", port)
+        writer.write(b"AMQP\x00\x01\x00\x00")
+        for of in (OPEN, Begin(), Flow(0, 8, 0, 8, handle=5)):
+            body = b"\x02\x00\x00\x00" + of.encode()
+            writer.write((len(body) + 4).to_bytes(4, "big") + body)
+            await asyncio.sleep(0.3)
+        writer.close()
+
+    async def both():
+        server = await serve("127.0.0.1", 0, lambda: Open("server"), echo)
+        async with server:
+            words = [sys.executable, str(ROOT / "tools" / "watch.py"), "0", "127.0.0.1", str(server.sockets[0].getsockname()[1]), "--connections", "1"]
+            watcher = await asyncio.create_subprocess_exec(*words, stdout=subprocess.PIPE)
+            try:
+                line = (await watcher.stdout.readline()).decode()
+                await rogue(int(line.rpartition(":")[2]))
+                return (await asyncio.wait_for(watcher.stdout.read(), 10)).decode()
+            finally:
+                if watcher.returncode is None:
+                    watcher.kill()
+
+    told = asyncio.run(both())
+    assert "connection 1, client, frame 5, Flow: UnattachedHandle\n" in told, told
