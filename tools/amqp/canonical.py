@@ -1,4 +1,4 @@
-"""The canonical spelling of fields and performatives (AMQP 1.0 part 1, section 1.6), for the scripts beside it."""
+"""The canonical spelling of fields and performatives (AMQP 1.0 part 1, section 1.6), as the tools write it."""
 
 
 def uint(value):

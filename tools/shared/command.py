@@ -1,4 +1,4 @@
-"""How the tools of this folder are called: what --help prints, and the one line where a file, a program or a peer is missing."""
+"""How the tools are called: what --help prints, and the one line where a file, a program or a peer is missing."""
 
 import os
 import subprocess
