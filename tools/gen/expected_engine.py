@@ -25,6 +25,7 @@ def main():
     for part in (engine_alone, engine_connections, engine_sessions, engine_links, engine_handles, engine_dispositions, engine_lines, engine_wishes):
         part.write(rows)
     expected_exchange.write(rows)
+    rows.note()
     rows.write(CRATE)
 
 

@@ -16,7 +16,7 @@ sys.path.insert(0, str(Path(__file__).resolve().parents[1]))
 from gen import session_dispositions, session_flows, session_links, session_model, session_states, session_transfers, session_windows
 from gen.row import SessionRows
 
-PARTS = [session_states, session_windows, session_transfers, session_flows, session_links, session_dispositions, session_model]
+PARTS = [session_states, session_windows, session_transfers, session_flows, session_links, session_dispositions]
 
 CRATE = Path(__file__).resolve().parents[2] / "crates" / "session_rows"
 
@@ -25,6 +25,9 @@ def main():
     rows = SessionRows()
     for part in PARTS:
         part.write(rows)
+    rows.note()
+    # the rows of the model are for no reader
+    session_model.write(rows)
     rows.write(CRATE)
 
 

@@ -1,5 +1,6 @@
 """Rows of text and the performatives that they name, for expected_session.py, expected_engine.py and the scripts beside them."""
 
+from amqp import readable
 from amqp.canonical import boolean, composite, string, symbol, tag, uint, ushort
 
 OPEN, BEGIN, ATTACH, FLOW, TRANSFER, DISPOSITION, DETACH, END, CLOSE = range(0x10, 0x19)
@@ -24,10 +25,33 @@ class Rows:
         self.asked.append(line)
         self.said.extend(answers)
 
+    def note(self):
+        """Puts behind each line so far, for readers, what its hexadecimal says. The programs read no further than ` ;`."""
+        self.asked = [noted(line) for line in self.asked]
+
     def write(self, crate):
         """Writes the files of a program."""
         crate.joinpath("stdin").write_text("\n".join(self.asked) + "\n")
         crate.joinpath("stdout").write_text("\n".join(self.said) + "\n")
+
+
+# the lines that end with a performative in hexadecimal, by their first word, and how many words they have
+PERFORMATIVES = {"recv": 3, "send": 3, "first": 3, "later": 3} | dict.fromkeys(["flow", "attach", "detach", "detach-awaited", "disposition", "each-channel"], 2)
+
+
+def noted(line):
+    """The line, and behind it what its frame or performative says."""
+    words = line.split(" ")
+    if words[0] == "times":
+        words = words[2:]
+    is_frame = words[0] == "recv" and len(words) == 2
+    if not words[-1] or not is_frame and PERFORMATIVES.get(words[0]) != len(words):
+        return line
+    try:
+        of = bytes.fromhex(words[-1])
+    except ValueError:
+        return line
+    return f"{line}   ; {(readable.frame if is_frame else readable.performative)(of)}"
 
 
 class SessionRows(Rows):

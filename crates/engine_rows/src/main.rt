@@ -1,6 +1,6 @@
 //! Rows of an engine: a line `-- TITLE` begins one, and is repeated; the lines behind it are a transcript, as `amqp_replay`
 //! reads it, for an engine of its own. What the transcript prints follows, then what it says of a line that it cannot read,
-//! and its status where that is not 0.
+//! and its status where that is not 0. What stands in a line behind ` ;` is a note for readers: what its hexadecimal says.
 //!
 //! Behind `each-channel HEX` a transcript goes on with that performative on each channel from 0 to 65535, and what is the same
 //! several times in a row is printed once, behind its count.

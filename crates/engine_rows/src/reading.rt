@@ -5,6 +5,14 @@ use fe2o3_amqp::definitions::Error;
 use fe2o3_amqp::{ConnectionState, ConnectionStopReason, Open, Performative, Symbol};
 use std::alloc::Global;
 
+/// The line without the note that stands for readers behind ` ;`.
+pub fn without_note(line: &str) -> &str {
+    match line.split_once(';') {
+        Some((call, _)) => call.trim_end(),
+        None => line,
+    }
+}
+
 /// A number to 4294967295.
 pub fn number(text: &str) -> anyhow::Result<u32> {
     Ok(text.parse::<u32>()?)

@@ -5,6 +5,14 @@ use amqp_types::{Error, Performative, Role, SessionState, Symbol};
 use bytes::Bytes;
 use std::alloc::Global;
 
+/// The line without the note that stands for readers behind ` ;`.
+pub fn without_note(line: &str) -> &str {
+    match line.split_once(';') {
+        Some((call, _)) => call.trim_end(),
+        None => line,
+    }
+}
+
 /// A word, and what follows it behind one space.
 pub fn word(line: &str) -> (&str, &str) {
     line.split_once(' ').unwrap_or((line, ""))

@@ -15,8 +15,8 @@ pub fn answer(
     match reading::word(line) {
         ("", _) => Ok(String::new(alloc)),
         ("#", _) => answer::line(alloc, line),
-        ("times", rest) => times(alloc, session, rest),
-        _ => once(alloc, session, line),
+        ("times", rest) => times(alloc, session, reading::without_note(rest)),
+        _ => once(alloc, session, reading::without_note(line)),
     }
 }
 
