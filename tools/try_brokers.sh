@@ -1,6 +1,6 @@
 #!/usr/bin/env bash
 # Tries the programs of this repository against real peers on loopback: qpid-proton's example broker and RabbitMQ with its AMQP 1.0 plug-in serve
-# amqp_replay (tools/bridge.py), the client in C and the client in Python; qpid-proton's clients in Python and in C++ are served by broker_example and by the
+# amqp_replay (tools/bridge.py), the client in C and the client in Python; qpid-proton's clients in Python and in C++ are served by example_broker and by the
 # broker in Python; and tools/watch.py looks on. All are Debian's packages, which it installs where they are missing (as root). Each peer is
 # started in a folder of its own and stopped at the end. It is no part of the gate. The last line is 'N passed, M failed'.
 #
@@ -9,7 +9,7 @@ set -euo pipefail
 case "${1-}" in -h | --help) sed -n '2,/^set/{/^set/d;s/^# \{0,1\}//;p}' "$0" && exit 0 ;; esac
 command -v rt >/dev/null || [ -x "$(dirname "$0")/../crates/amqp_replay/out/amqp_replay" ] || { echo "try_brokers: no rt on the path, and no amqp_replay that it left" >&2; exit 1; }
 cd "$(dirname "$0")/.."
-program=crates/amqp_replay/out/amqp_replay server=crates/broker_example/out/broker_example
+program=crates/amqp_replay/out/amqp_replay server=crates/example_broker/out/example_broker
 folder=$(mktemp -d)
 running=()
 trap 'for it in "${running[@]}"; do kill "$it" 2>/dev/null || true; done; wait 2>/dev/null; rm -rf "$folder"' EXIT
@@ -106,7 +106,7 @@ watched() {
 }
 
 [ -x "$program" ] || (cd crates/amqp_replay && rt run </dev/null >"$folder/build")
-[ -x "$server" ] || (cd crates/broker_example && rt run <stdin >"$folder/build")
+[ -x "$server" ] || (cd crates/example_broker && rt run <stdin >"$folder/build")
 prefix=${AMQP_PREFIX:-$folder/library}
 [ -e "$prefix/lib/libamqp.a" ] || tools/build_c.sh "$prefix" >"$folder/build"
 export AMQP_LIBRARY=$prefix/lib/libamqp.so
@@ -135,7 +135,7 @@ else
     failed=$((failed + 1))
 fi
 if start_broker; then
-    echo "== broker_example" && tried proton_in_python "$server"
+    echo "== example_broker" && tried proton_in_python "$server"
     echo "== examples/python/broker.py" && tried proton_in_python "$served"
     tried proton_in_cpp "$served"
     tried in_python "$served" other

@@ -1,7 +1,7 @@
 #!/usr/bin/env python3
 """Has qpid-proton's client send messages to a broker and receive them back, over sockets on loopback.
 
-    tools/try_server.py PROGRAM      starts PROGRAM, as broker_example, for each connection, with the socket as its standard input and output
+    tools/try_server.py PROGRAM      starts PROGRAM, as example_broker, for each connection, with the socket as its standard input and output
     tools/try_server.py PORT         tries a broker that listens on 127.0.0.1:PORT
 
 The client is Debian's package python3-qpid-proton, as it comes: a sender and a receiver of one address share a link's name. The last line is

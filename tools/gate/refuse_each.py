@@ -3,10 +3,10 @@
 
     tools/gate/refuse_each.py
 
-It compiles refuse_nth.c with the machine's compiler (and installs gcc where there is none), and takes the programs memory_script and
+It compiles refuse_nth.c with the machine's compiler (and installs gcc where there is none), and takes the programs oom_script and
 amqp_replay as `rt run` or `rt ci` left them in out/; where one is missing it has `rt run` make it. Nothing of this is proved.
 
-memory_script runs once undisturbed, and then once for each N with the N-th request refused, until a run meets no refusal. But for the lines
+oom_script runs once undisturbed, and then once for each N with the N-th request refused, until a run meets no refusal. But for the lines
 behind `~`, which tell the refusals, it has to print what it prints undisturbed: each piece in its order, nothing twice and nothing left out.
 In the second script a transfer that its session refuses is not offered again: the numbers are counted once, and nothing is recorded.
 Calls that take no memory are made while every request is refused, and have to make none. amqp_replay has to end with the whole output, or
@@ -232,12 +232,12 @@ def as_wanted(whole, said):
 
 
 def each_of_script(sweep, program, library):
-    """memory_script, with each request refused; the calls, and the refusals of each."""
+    """oom_script, with each request refused; the calls, and the refusals of each."""
     script = (program.parent.parent / "stdin").read_text().splitlines()
     given = "\n".join(script).encode() + b"\n"
     whole = Run(program, library, given)
     wanted = (program.parent.parent / "stdout").read_text()
-    sweep.check(whole.status == 0 and whole.said == wanted, "memory_script undisturbed prints what it has to")
+    sweep.check(whole.status == 0 and whole.said == wanted, "oom_script undisturbed prints what it has to")
     refuses_none(sweep, whole, 0)
     met = {}
     found = calls(whole, script)
@@ -289,10 +289,10 @@ def main():
     sweep = Sweep()
     with tempfile.TemporaryDirectory(prefix="refuse-") as room:
         library = compiled(Path(room))
-        found, met, requests = each_of_script(sweep, made("memory_script"), library)
+        found, met, requests = each_of_script(sweep, made("oom_script"), library)
         replayed, ended = each_of_replay(sweep, made("amqp_replay"), library)
     table(sweep, found, met)
-    print(f"memory_script: {requests} requests, each refused once; amqp_replay: {replayed}, of which {ended} ended it with status 3")
+    print(f"oom_script: {requests} requests, each refused once; amqp_replay: {replayed}, of which {ended} ended it with status 3")
     print(f"{sweep.passed} passed, {sweep.failed} failed")
     sys.exit(sweep.failed != 0)
 

@@ -1,7 +1,7 @@
 #!/usr/bin/env python3
-"""Writes the input and the expected output of the program broker_example: what one client sends, and what it has to be sent.
+"""Writes the input and the expected output of the program example_broker: what one client sends, and what it has to be sent.
 
-    tools/gen/expected_broker.py          writes crates/broker_example/{stdin,stdout}
+    tools/gen/expected_broker.py          writes crates/example_broker/{stdin,stdout}
 
 Both are streams of bytes as they stand on a socket. What the broker answers is worked out here by hand, frame by frame (AMQP 1.0 part 2,
 sections 2.5 to 2.7, and part 3, section 3.4), and does not depend on when it reads.
@@ -15,7 +15,7 @@ sys.path.insert(0, str(Path(__file__).resolve().parents[1]))
 from amqp.canonical import boolean, composite, string, symbol, tag, ubyte, uint, ushort
 from amqp.frames import ATTACH, BEGIN, CLOSE, DETACH, DISPOSITION, END, FLOW, NULL, OPEN, TRANSFER
 
-CRATE = Path(__file__).resolve().parents[2] / "crates" / "broker_example"
+CRATE = Path(__file__).resolve().parents[2] / "crates" / "example_broker"
 HEADER = b"AMQP\0\1\0\0"
 SENDER, RECEIVER, YES, NO = boolean(False), boolean(True), boolean(True), boolean(False)
 SECOND = ubyte(1)
@@ -80,7 +80,7 @@ def in_frames(payload, limit):
 
 
 def opened(it):
-    it.broker(OPEN, [string("broker_example"), NULL, uint(65536), ushort(255)])
+    it.broker(OPEN, [string("example_broker"), NULL, uint(65536), ushort(255)])
     it.client(OPEN, [string("client"), NULL, uint(512), ushort(7)], channel=0)
     # a session of the client's, whose answer names the client's channel
     it.client(BEGIN, [NULL, uint(0), uint(5000), uint(5000)])

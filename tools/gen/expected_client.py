@@ -1,7 +1,7 @@
 #!/usr/bin/env python3
-"""Writes the input and the expected output of the program client_rows: calls of a client, with the wanted answer beside each.
+"""Writes the input and the expected output of the program rows_client: calls of a client, with the wanted answer beside each.
 
-    tools/gen/expected_client.py          writes crates/client_rows/{stdin,stdout}
+    tools/gen/expected_client.py          writes crates/rows_client/{stdin,stdout}
 
 What is wanted is worked out from the standard (AMQP 1.0 part 2, sections 2.2 to 2.8) and from the page of `amqp_client`, with the spellings
 of `canonical.py`; nothing is taken from what the program prints.
@@ -16,7 +16,7 @@ from amqp.canonical import composite, string, symbol, uint
 from gen.row import ACCEPTED, ERROR, Rows, attach, begin, closing, detach, disposition, end, flow, opening, transfer, wire
 from shared.command import command
 
-CRATE = Path(__file__).resolve().parents[2] / "crates" / "client_rows"
+CRATE = Path(__file__).resolve().parents[2] / "crates" / "rows_client"
 
 DONE, REFUSED, NO_MEMORY, TOO_SMALL, BAD_ARGUMENT, NO_ENGINE, EVENTS_WAIT = range(7)
 
@@ -50,7 +50,7 @@ def record(kind, flags, session, given, taken, first, rest=""):
 
 
 class ClientRows(Rows):
-    """Rows of the program client_rows."""
+    """Rows of the program rows_client."""
 
     def client(self, our_open=OUR_OPEN, room=(8, 8, 8, 8)):
         """A new client."""

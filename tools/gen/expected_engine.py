@@ -1,7 +1,7 @@
 #!/usr/bin/env python3
-"""Writes the rows of the program engine_rows: its input, and the output that the standard wants.
+"""Writes the rows of the program rows_engine: its input, and the output that the standard wants.
 
-    tools/gen/expected_engine.py            writes crates/engine_rows/{stdin,stdout}
+    tools/gen/expected_engine.py            writes crates/rows_engine/{stdin,stdout}
 
 Each row is a transcript for an engine of its own in HeaderExchange, whose Open is named `replay`, or calls of a connection alone, or of handles
 with the runs of their engine. Beside each line stands what it has to print (AMQP 1.0 part 2, sections 2.4 to 2.6; docs/PROTOCOL.md for the
@@ -17,7 +17,7 @@ from gen import engine_alone, engine_connections, engine_dispositions, engine_ha
 from gen import expected_exchange
 from gen.row import EngineRows
 
-CRATE = Path(__file__).resolve().parents[2] / "crates" / "engine_rows"
+CRATE = Path(__file__).resolve().parents[2] / "crates" / "rows_engine"
 
 
 def main():

@@ -1,7 +1,7 @@
 #!/usr/bin/env python3
-"""Writes the input and the expected output of the program codec_tests from the recorded frames.
+"""Writes the input and the expected output of the program rows_codec from the recorded frames.
 
-    tools/gen/expected_frames.py            writes crates/codec_tests/{stdin,stdout}
+    tools/gen/expected_frames.py            writes crates/rows_codec/{stdin,stdout}
 
 Each value comes from what another implementation's decoder said of the frame (captures/NAME.fields.jsonl). Only the
 spellings of raw values and maps, which the decoder does not give, are cut from the frame's bytes (captures/NAME.txt);
@@ -19,7 +19,7 @@ from amqp.decoder import parts, value
 from amqp.tables import ERROR, MAY, MUST, TABLES
 from gen import expected_hostile, expected_messages
 
-CRATE = Path(__file__).resolve().parents[2] / "crates" / "codec_tests"
+CRATE = Path(__file__).resolve().parents[2] / "crates" / "rows_codec"
 
 
 class Refused(Exception):

@@ -1,7 +1,7 @@
 #!/usr/bin/env python3
-"""Writes the script of the program memory_script, and what it prints where no memory is refused.
+"""Writes the script of the program oom_script, and what it prints where no memory is refused.
 
-    tools/gen/expected_memory.py            writes crates/memory_script/{stdin,stdout}
+    tools/gen/expected_memory.py            writes crates/oom_script/{stdin,stdout}
 
 Beside each line stands what it has to print (AMQP 1.0 part 2, sections 2.4 to 2.7). tools/gate/refuse_each.py runs the same script with each
 request for memory refused in turn. Nothing is taken from the program's output.
@@ -14,7 +14,7 @@ sys.path.insert(0, str(Path(__file__).resolve().parents[1]))
 
 from gen.row import LAST, OUR_CLOSE, OUR_OPEN, Rows, attach, begin, closing, detach, disposition, echo, end, flow, opening, out, recv, transfer, wire
 
-CRATE = Path(__file__).resolve().parents[2] / "crates" / "memory_script"
+CRATE = Path(__file__).resolve().parents[2] / "crates" / "oom_script"
 
 # the titles of the scripts
 EXCHANGE, REFUSED, CODEC = "An exchange", "Transfers that a session refuses", "Calls of the codec"

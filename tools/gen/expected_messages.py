@@ -12,7 +12,7 @@ from pathlib import Path
 from amqp.canonical import boolean, composite, tag, uint
 
 CRATES = Path(__file__).resolve().parents[2] / "crates"
-CAPTURES = CRATES / "codec_tests" / "captures"
+CAPTURES = CRATES / "rows_codec" / "captures"
 OPEN, TRANSFER = 0x10, 0x14
 HANDLE, DELIVERY_ID, TAG, FORMAT, SETTLED, MORE, RECEIVER, STATE = range(8)
 

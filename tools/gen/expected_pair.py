@@ -1,7 +1,7 @@
 #!/usr/bin/env python3
-"""Writes the rows of the program pair_rows: its input, and the output that the standard wants.
+"""Writes the rows of the program rows_pair: its input, and the output that the standard wants.
 
-    tools/gen/expected_pair.py              writes crates/pair_rows/{stdin,stdout}
+    tools/gen/expected_pair.py              writes crates/rows_pair/{stdin,stdout}
 
 The answers of the short rows stand here as a person wrote them. Those of the 100,000 random calls, drawn from a fixed seed, are the plain
 model's in pair_model.py, which counts the facts of the window after each call. Nothing is taken from the program's output.
@@ -15,7 +15,7 @@ sys.path.insert(0, str(Path(__file__).resolve().parents[1]))
 
 from gen.pair_model import LAST, Pair
 
-CRATE = Path(__file__).resolve().parents[2] / "crates" / "pair_rows"
+CRATE = Path(__file__).resolve().parents[2] / "crates" / "rows_pair"
 
 WINDOWS = [0, 1, 2, 5000, LAST]
 SEED = 2026

@@ -1,7 +1,7 @@
 #!/usr/bin/env python3
-"""Writes the rows of the program session_rows: its input, and the output that the standard wants.
+"""Writes the rows of the program rows_session: its input, and the output that the standard wants.
 
-    tools/gen/expected_session.py           writes crates/session_rows/{stdin,stdout}
+    tools/gen/expected_session.py           writes crates/rows_session/{stdin,stdout}
 
 Each row is a new session, calls, and beside each call what it has to answer (AMQP 1.0 part 2, sections 2.5 to 2.7; docs/PROTOCOL.md for
 the states). The answers stand here as a person wrote them, or follow from the tables below, or are those of the plain model in
@@ -18,7 +18,7 @@ from gen.row import SessionRows
 
 PARTS = [session_states, session_windows, session_transfers, session_flows, session_links, session_dispositions]
 
-CRATE = Path(__file__).resolve().parents[2] / "crates" / "session_rows"
+CRATE = Path(__file__).resolve().parents[2] / "crates" / "rows_session"
 
 
 def main():

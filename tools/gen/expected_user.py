@@ -1,7 +1,7 @@
 #!/usr/bin/env python3
-"""Writes what the program user_example prints; what the peer is told of each refusal it reads off the table in docs/PROTOCOL.md.
+"""Writes what the program example_user prints; what the peer is told of each refusal it reads off the table in docs/PROTOCOL.md.
 
-    tools/gen/expected_user.py            writes crates/user_example/stdout
+    tools/gen/expected_user.py            writes crates/example_user/stdout
 """
 
 import re
@@ -14,7 +14,7 @@ from amqp.canonical import composite, symbol
 from amqp.frames import END
 
 ROOT = Path(__file__).resolve().parents[2]
-OUT = ROOT / "crates" / "user_example" / "stdout"
+OUT = ROOT / "crates" / "example_user" / "stdout"
 
 CONVERSIONS = """OutputHandle(7) is Handle(7)
 InputHandle(4294967295) is Handle(4294967295)

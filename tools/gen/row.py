@@ -55,7 +55,7 @@ def noted(line):
 
 
 class SessionRows(Rows):
-    """Rows of the program session_rows."""
+    """Rows of the program rows_session."""
 
     def new(self, words):
         """A session is made: its state, and what is not the default."""
@@ -173,7 +173,7 @@ OUR_CLOSE = out(closing())
 
 
 class EngineRows(Rows):
-    """Rows of the program engine_rows."""
+    """Rows of the program rows_engine."""
 
     def __init__(self):
         super().__init__("--")

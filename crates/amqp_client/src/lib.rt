@@ -72,7 +72,7 @@
 //!
 //! No contract can say that memory is granted, nor what the queue of events holds (see `amqp_events`). So these bodies would meet the contracts: one
 //! that always answers `NoMemory`; one that always answers `EventsWait`, that never tells an event, or counts the missed ones wrongly; one that
-//! leaves the key or the room aside; and one that stops behind each frame. The rows of the program `client_rows` refuse all but that which
+//! leaves the key or the room aside; and one that stops behind each frame. The rows of the program `rows_client` refuse all but that which
 //! leaves the key aside.
 #![tactic(auto)]
 

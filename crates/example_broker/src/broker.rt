@@ -217,7 +217,7 @@ impl Broker {
 
 /// This side's Open.
 fn open(alloc: Global) -> io::Result<Open> {
-    let name = String::from_str(alloc, "broker_example")?;
+    let name = String::from_str(alloc, "example_broker")?;
     Ok(Open {
         max_frame_size: MAX_FRAME_SIZE,
         channel_max: DEFAULT_CHANNEL_MAX,

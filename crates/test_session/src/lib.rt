@@ -1,5 +1,5 @@
 //! Tests of sessions that need their types, by public calls alone: kinds of relay, how often they are asked, refused memory, laws,
-//! conversions. The rows of the session's calls are those of the program `session_rows`.
+//! conversions. The rows of the session's calls are those of the program `rows_session`.
 #![tactic(auto)]
 
 #[cfg(test)]

@@ -1,5 +1,5 @@
 //! Transcripts: where a line ends, the digits of bytes, and the names of refusals. The rows of transcripts are those of the
-//! program `engine_rows`.
+//! program `rows_engine`.
 
 use crate::asking::refusal_name;
 use crate::replaying::replays;

@@ -1,4 +1,4 @@
-//! Dispositions and session flows of an engine, as they need its types. The rows of dispositions are those of `engine_rows`.
+//! Dispositions and session flows of an engine, as they need its types. The rows of dispositions are those of `rows_engine`.
 
 use crate::asking::opened;
 use crate::given::{ReplayEngine, ReplayInput};

@@ -1,6 +1,6 @@
 //! Tests of an engine that need its types, by public calls alone: single inputs and runs, links with two kinds of relay, a close
 //! by a handle, refused memory, conversions, and a transcript that another program drives. The rows of a connection, of handles
-//! and of transcripts are those of the program `engine_rows`.
+//! and of transcripts are those of the program `rows_engine`.
 #![tactic(auto)]
 
 #[cfg(test)]
