@@ -7,7 +7,7 @@ from amqp.canonical import boolean, composite, string, symbol, tag, ubyte, uint,
 from amqp.decoder import number, parts, value
 from amqp.tables import TABLES
 
-CAPTURES = Path(__file__).resolve().parents[2] / "crates" / "rows_codec" / "captures"
+CAPTURES = Path(__file__).resolve().parents[2] / "captures"
 
 OPEN, BEGIN, ATTACH, FLOW, TRANSFER, DISPOSITION, DETACH, END, CLOSE = range(0x10, 0x19)
 

@@ -5,7 +5,7 @@ made_connections.py makes. Each recording is also read as tshark shows a followe
     tools/gate/refused_of_captures.py [PROGRAM]
 
 PROGRAM is crates/amqp_replay/out/amqp_replay where it is left out, as the gate builds it. The recordings and the wanted refusals,
-refused.rows, are in crates/rows_codec/captures. The last line is 'N passed, M failed', a test for each connection and side, and for each
+refused.rows, are in captures. The last line is 'N passed, M failed', a test for each connection and side, and for each
 recording and size.
 """
 
@@ -14,12 +14,12 @@ from pathlib import Path
 
 sys.path.insert(0, str(Path(__file__).resolve().parents[1]))
 
+from amqp.recorded import CAPTURES
 from gate.made_connections import cases
 from shared.command import command
 from transcript import Transcript, followed, recorded, refusals
 
 ROOT = Path(__file__).resolve().parents[2]
-CAPTURES = ROOT / "crates" / "rows_codec" / "captures"
 
 
 def wanted():

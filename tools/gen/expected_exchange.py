@@ -1,6 +1,6 @@
 """Recorded exchanges as rows of the program rows_engine, for expected_engine.py.
 
-The recordings (crates/rows_codec/captures) are of a qpid-proton client: with a qpid-proton server, frames of 512 bytes and a session
+The recordings (captures) are of a qpid-proton client: with a qpid-proton server, frames of 512 bytes and a session
 window of 4 (proton-duo-window); with RabbitMQ, three sessions and five links (proton-rmq-frames); with a qpid-proton server that refuses,
 redirects, and ends a session, where links go and come back under their names (proton-duo-errors); and with one that gives every outcome,
 over ranges, to links of each settle mode (proton-duo-outcomes). The name of the recording is the title of the row.

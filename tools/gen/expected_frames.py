@@ -16,6 +16,7 @@ from pathlib import Path
 sys.path.insert(0, str(Path(__file__).resolve().parents[1]))
 
 from amqp.decoder import parts, value
+from amqp.recorded import CAPTURES
 from amqp.tables import ERROR, MAY, MUST, TABLES
 from gen import expected_hostile, expected_messages
 
@@ -120,7 +121,7 @@ def expected(frame, said):
 
 def main():
     given, wanted = [], []
-    for frames in sorted((CRATE / "captures").glob("*.txt")):
+    for frames in sorted(CAPTURES.glob("*.txt")):
         lines = frames.read_text().splitlines()
         said = [json.loads(line) for line in frames.with_suffix(".fields.jsonl").read_text().splitlines()]
         assert len(lines) == len(said), frames

@@ -7,12 +7,10 @@ payload's bytes: the transfer's texts are spelled here, and the payload is cut b
 
 import hashlib
 import json
-from pathlib import Path
 
 from amqp.canonical import boolean, composite, tag, uint
+from amqp.recorded import CAPTURES
 
-CRATES = Path(__file__).resolve().parents[2] / "crates"
-CAPTURES = CRATES / "rows_codec" / "captures"
 OPEN, TRANSFER = 0x10, 0x14
 HANDLE, DELIVERY_ID, TAG, FORMAT, SETTLED, MORE, RECEIVER, STATE = range(8)
 

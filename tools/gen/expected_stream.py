@@ -3,7 +3,7 @@
 
     tools/gen/expected_stream.py          writes crates/example_transport/{stdin,stdout}
 
-Each side of each recording (crates/rows_codec/captures) is the peer of an engine that has sent its Open and one Begin and asks for nothing
+Each side of each recording (captures) is the peer of an engine that has sent its Open and one Begin and asks for nothing
 else. What the engine then refuses is worked out here from the recorded fields (AMQP 1.0 part 2, sections 2.4 and 2.5): it has one session
 and no link. Behind the recordings stand streams with which something is wrong, and transfers in pieces of at most 24 bytes.
 """
@@ -18,7 +18,7 @@ from amqp.canonical import composite, string, uint, ushort
 from amqp.recorded import ATTACH, BEGIN, CAPTURES, CLOSE, END, FLOW, OPEN, TRANSFER, Frame
 from gen.expected_frames import expected
 
-CRATE = CAPTURES.parent.parent / "example_transport"
+CRATE = Path(__file__).resolve().parents[2] / "crates" / "example_transport"
 HEADER = b"AMQP\0\1\0\0"
 NULL = b"\x40"
 
