@@ -1,3 +1,4 @@
+-- Part: other calls; inner.
 -- A list of items in blocks.
 use Rattle.std.specs.Prelude.{ℕ, ◌<◌, ◌≤◌, ◌^◌, ◌≡◌, ◌+◌, ◌-◌, List, [], ◌∷◌, ◌++◌, length, take, drop, slice_index, slice_index_or, vec_capacity, min}
 use Rattle.std.specs.List.{flat_map}

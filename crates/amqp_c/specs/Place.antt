@@ -1,3 +1,4 @@
+-- Part: other calls.
 -- What the exports do to a place, by what lies there before and afterwards. Assumes nothing: these are definitions.
 use Rattle.std.specs.Prelude.{◌≡◌, ◌⊎◌, ℕ, ℤ, pos, List, Option, Some, Ok, Err}
 use Rattle.amqp_session.specs.Relay.{Relays}

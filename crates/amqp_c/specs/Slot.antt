@@ -1,3 +1,4 @@
+-- Part: inner.
 -- What a `Slot` owns: a box's block where a client lies in it, else nothing. Assumes nothing: this is a definition.
 use Rattle.std.specs.declared.option.Option.{Option}
 use Rattle.std.specs.declared.option.Option.TheVariants.{None, Some}

@@ -8,7 +8,7 @@ use Rattle.amqp_types.specs.Transfer.{TransferSaid}
 use Rattle.amqp_types.specs.Performatives.{IsPerformative}
 use Rattle.amqp_types.specs.declared.performatives.Performative.{Performative}
 use Rattle.amqp_types.specs.declared.performatives.Performative.TheVariants as its
-use Rattle.amqp_client.specs.Kinds.{whole_of, with_payload, as_open, as_begin, as_attach, as_detach, as_flow, as_disposition}
+use Rattle.amqp_client.specs.Inner.Kinds.{whole_of, with_payload, as_open, as_begin, as_attach, as_detach, as_flow, as_disposition}
 use Rattle.amqp_client.specs.Reading.{IsTransfer, Reads, ReadsOne}
 
 abbrev said : Performative × List ℕ → Option (Performative × List ℕ) → Performative × List ℕ

@@ -1,3 +1,4 @@
+-- Part: other calls.
 -- What is done of what bytes ask for.
 use Rattle.std.specs.Prelude.{◌≡◌, ◌⊎◌, ℕ, List}
 use Rattle.amqp_session.specs.Relay.{Relays}

@@ -1,3 +1,4 @@
+-- Part: other calls; inner.
 -- Requests: the input of the engine that an operation's bytes ask for.
 use Rattle.std.specs.Prelude.{◌≡◌, [], ℕ, Bool, List, Option, Some, None, Result, Ok, Err}
 use Rattle.std.specs.Int.{w32}

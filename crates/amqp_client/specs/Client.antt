@@ -1,3 +1,4 @@
+-- Part: other calls; inner.
 -- What each operation of a client does, from what contracts see of it before, its input and its output, to its answer, and both afterwards.
 use Rattle.std.specs.Prelude.{◌≡◌, ◌⊎◌, ◌≤◌, ◌<◌, ◌∷◌, [], ℕ, ℤ, pos, Bool, true, false, List, Option, Some, None, Result, Ok, Err, length, drop, nat_eq}
 use Rattle.std.specs.Int.{w16, w32, w64, to_be_bytes, from_be_bytes}

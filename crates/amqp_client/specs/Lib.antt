@@ -1,7 +1,6 @@
 pub mod Asked
 pub mod Asking
 pub mod Client
-pub mod Kinds
 pub mod Linking
 pub mod Machine
 pub mod Operation
@@ -12,3 +11,4 @@ pub mod Refused
 pub mod Status
 pub mod Telling
 pub mod Writing
+pub mod Inner

@@ -1,3 +1,4 @@
+-- Part: other calls; inner.
 -- Links: what allots a handle to one, with a relay that tells events.
 use Rattle.std.specs.Prelude.{◌≡◌, ◌⊎◌, ℕ, List, Option, Some, None, false, string_bytes}
 use Rattle.std.specs.Str.{IsUtf8}

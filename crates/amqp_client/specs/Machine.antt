@@ -1,3 +1,4 @@
+-- Part: other calls; inner.
 -- An engine that takes one input at a time, and the bytes that wait to be sent.
 use Rattle.std.specs.Prelude.{◌≡◌, ◌⊎◌, ◌∷◌, ◌++◌, ◌+◌, ◌<◌, ◌≤◌, [], ℕ, List, Bool, true, false, length, take, drop, min}
 use Rattle.amqp_session.specs.Relay.{Relays}

@@ -1,3 +1,4 @@
+-- Part: other calls.
 -- What a client is asked, as a number.
 use Rattle.std.specs.Prelude.{◌≡◌, ℕ, Option, Some, None}
 use Rattle.amqp_client.specs.declared.operation.Operation.{Operation}

@@ -1,3 +1,4 @@
+-- Part: other calls; inner.
 -- What an input is made of.
 use Rattle.std.specs.Prelude.{◌≡◌, ◌++◌, [], ℕ, List, Option, Some, None, Result, Ok, Err, Bool, true, false, if◌then◌else◌, nat_eq}
 use Rattle.amqp_values.specs.declared.error.ReadError.{ReadError}

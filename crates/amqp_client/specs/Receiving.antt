@@ -1,3 +1,4 @@
+-- Part: other calls; inner.
 -- Frames out of bytes that come in any splitting (AMQP 1.0 part 2, section 2.3).
 use Rattle.std.specs.Prelude.{◌≡◌, ◌≤◌, ◌<◌, ◌-◌, ◌⊎◌, ◌∷◌, ◌++◌, [], ℕ, List, Option, Some, None, length, take, drop, if◌then◌else◌, nat_lt}
 use Rattle.std.specs.Int.{w32, from_be_bytes}

@@ -1,3 +1,4 @@
+-- Part: other calls.
 -- The record of an event: how a link is named, and what came.
 use Rattle.std.specs.Prelude.{◌∷◌, ◌++◌, ◌+◌, [], ℕ, List, Bool, true, false, Option, Some, None, length, if◌then◌else◌}
 use Rattle.std.specs.Int.{w32, to_be_bytes}

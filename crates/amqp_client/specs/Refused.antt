@@ -1,3 +1,4 @@
+-- Part: other calls.
 -- The last refusal: its name, and the condition that the peer is told, or its own error.
 use Rattle.std.specs.Prelude.{◌≡◌, ◌∷◌, ◌++◌, [], ℕ, List, Bool, true, false, Option, Some, None, codes}
 use Rattle.amqp_types.specs.Error.{ErrorSaid}

@@ -1,3 +1,4 @@
+-- Part: other calls.
 -- How a call ends, as a number.
 use Rattle.std.specs.Prelude.{ℕ}
 use Rattle.amqp_client.specs.declared.status.Status.{Status}

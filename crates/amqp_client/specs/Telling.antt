@@ -1,3 +1,4 @@
+-- Part: other calls.
 -- What a client tells of itself.
 use Rattle.std.specs.Prelude.{◌≡◌, ◌∷◌, ◌++◌, [], ℕ, List, Option, Some, None, nat_eq}
 use Rattle.std.specs.FinMap as map

@@ -1,3 +1,4 @@
+-- Part: other calls; inner.
 -- Answers: bytes at the front of the output, or the length that they need.
 use Rattle.std.specs.Prelude.{◌≡◌, ◌<◌, ◌+◌, ◌++◌, ℕ, List, length, take, drop}
 use Rattle.amqp_client.specs.declared.status.Status.{Status}

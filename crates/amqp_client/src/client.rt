@@ -32,19 +32,23 @@ use bytes::BytesMut;
 use std::alloc::Global;
 use std::marker::Model;
 
-/// The bytes of a new client's input in front of the Open: the key, and the room.
+/// The bytes of a new client's input before the Open: the key, and the room.
 const OPEN_AT: usize = 32;
 
 /// One side of a connection: an engine, the events of its links, the bytes that wait to be sent, and the received bytes of a frame that is not
 /// whole yet.
+///
+/// ```
+/// let (status, written) = client.call(16, &[], output.as_mut_slice()); // 16: `Operation::Send`
+/// ```
 pub struct Client {
     alloc: Global,
     machine: Machine<Relay>,
     events: SharedQueue,
-    /// The event that is told next, where it was taken out of the queue.
+    /// The event that is given next, where it was taken out of the queue.
     next: Option<Event>,
     kept: Kept,
-    /// Room for texts. What it holds between calls is of no account.
+    /// Room for texts. Nothing that it holds between calls is read.
     scratch: BytesMut,
 }
 
@@ -108,7 +112,10 @@ fn set<T: Drop>(place: &mut T, value: T)
 }
 
 impl Client {
-    /// A client whose connection is in `HeaderExchange`.
+    /// A client whose connection is in `HeaderExchange`. `input` is a key of 16 bytes, four numbers of four bytes each for the room of events,
+    /// and this side's Open, as the crate's page says.
+    ///
+    /// The error is a status's number: 4 (`BadArgument`) where the input does not have this form, 2 (`NoMemory`) where memory is refused.
     pub fn new(alloc: Global, input: &[u8]) -> Result<Client, i32>
         ensures { Makes ⟦<EventRelay<SharedQueue> as LinkRelay>⟧.gives input.now result }
     {
@@ -121,7 +128,7 @@ impl Client {
         }
     }
 
-    /// A client with this Open, which stands in the input behind the key and the room.
+    /// A client with this Open, which stands in the input after the key and the room.
     fn with_open(alloc: Global, input: &[u8], ours: Open) -> Result<Client, i32>
         requires { HasOpen input.now ours }
         ensures { Makes ⟦<EventRelay<SharedQueue> as LinkRelay>⟧.gives input.now result }
@@ -141,7 +148,8 @@ impl Client {
         })
     }
 
-    /// Does what the number asks.
+    /// Does the operation of this number, as [`Client::perform`] does, and answers the status by its number. 4 (`BadArgument`) and 0 where no
+    /// operation has the number: nothing changes then.
     pub fn call(&mut self, operation: u32, input: &[u8], output: &mut [u8]) -> (i32, usize)
         ensures { (o : Option Operation) × IsOperation operation o
             × Calls ⟦<EventRelay<SharedQueue> as LinkRelay>⟧.gives o self.old input.now output.old result.0 result.1 self.new output.new }
@@ -155,7 +163,9 @@ impl Client {
         }
     }
 
-    /// Does what is asked.
+    /// Does an operation on the bytes of `input`, and writes what it answers to the front of `output`. The answer is the status, and how many
+    /// bytes were written: of `Receive` how many were taken from `input`, and with `TooSmall` how many are needed. The crate's page says of
+    /// each operation what it takes and writes.
     pub fn perform(
         &mut self,
         operation: Operation,
@@ -198,7 +208,7 @@ impl Client {
         ask(self.alloc, &mut self.machine, operation, input)
     }
 
-    /// Has the engine allot a handle to a link, and tells it.
+    /// Has the engine allot a handle to a link, and writes the handle.
     fn link(&mut self, operation: Operation, input: &[u8], output: &mut [u8]) -> (Status, usize)
         ensures { PerformsLink ⟦<EventRelay<SharedQueue> as LinkRelay>⟧.gives operation self.old input.now output.old result.0 result.1 self.new output.new }
     {
@@ -214,7 +224,7 @@ impl Client {
         }
     }
 
-    /// Tells the handle of a link, for which there is room. Nothing where the engine has no link of that name.
+    /// Writes the handle of a link, for which there is room. Nothing where the engine has no link of that name.
     fn show_handle(&self, asked: &LinkAsked<'_>, output: &mut [u8]) -> (Status, usize)
         requires { 4 ≤ length output.old }
         ensures done { result.0 ≡ Done }
@@ -252,7 +262,7 @@ impl Client {
         self.machine.send(output)
     }
 
-    /// What is told, and changes nothing.
+    /// The operations that only look, and change nothing.
     fn tell(&mut self, operation: Operation, output: &mut [u8]) -> (Status, usize)
         requires { IsTrue (only_tells operation) }
         ensures { PerformsEmpty ⟦<EventRelay<SharedQueue> as LinkRelay>⟧.gives operation self.old output.old result.0 result.1 self.new output.new }
@@ -272,7 +282,7 @@ impl Client {
         }
     }
 
-    /// Tells the next event, and takes it off once it is told.
+    /// Writes the record of the next event, and takes the event off once it is written.
     fn event(&mut self, output: &mut [u8]) -> (Status, usize)
         ensures { PerformsEvent self.old output.old result.0 result.1 self.new output.new }
     {
@@ -299,7 +309,7 @@ impl Client {
         }
     }
 
-    /// Tells the session to which a channel of the peer's leads.
+    /// Writes the session to which a channel of the peer's leads.
     fn session_of(&self, input: &[u8], output: &mut [u8]) -> (Status, usize)
         ensures { PerformsSessionOf self.now input.now output.old result.0 result.1 self.now output.new }
     {
@@ -310,7 +320,7 @@ impl Client {
         telling::session_of(self.machine.engine(), channel, output)
     }
 
-    /// Tells the state of a session.
+    /// Writes the state of a session.
     fn session_state(&self, input: &[u8], output: &mut [u8]) -> (Status, usize)
         ensures { PerformsSessionState self.now input.now output.old result.0 result.1 self.now output.new }
     {
@@ -321,7 +331,7 @@ impl Client {
         telling::session_state(self.machine.engine(), number, output)
     }
 
-    /// Tells how long a payload goes out in one frame beside a transfer.
+    /// Writes how many bytes of payload go out in one frame beside a transfer.
     fn payload_room(&self, input: &[u8], output: &mut [u8]) -> (Status, usize)
         ensures { PerformsPayloadRoom self.now input.now output.old result.0 result.1 self.now output.new }
     {

@@ -4,7 +4,7 @@
 //! frame that is not whole. [`Client::call`] does one operation, which is named by its number, on the bytes of an input, and writes to the front
 //! of an output. Protocol headers (AMQP 1.0 part 2, section 2.2) are the caller's: the connection begins where both have passed.
 //!
-//! All numbers are in network order. *PERF* is a performative's own bytes: a described list, as it stands in a frame behind the header.
+//! All numbers are in network order. *PERF* is a performative's own bytes: a described list, as it stands in a frame after the header.
 //!
 //! # Operations
 //!
@@ -27,7 +27,7 @@
 //! | 15 | `Settle` | u32 session, u8 role, u32 first, u32 last | deliveries that this side settles are let go |
 //! | 16 | `Send` | none | bytes that are to be sent, as many as fit: they are taken off |
 //! | 17 | `Event` | none | the record of the next event; nothing where none waits |
-//! | 18 | `Refusal` | none | the last refusal: its name, a condition and a description, with a line feed between: the condition that the peer is to be told, if any; or condition and description of the error with which the peer ended or closed |
+//! | 18 | `Refusal` | none | the last refusal: its name, a condition and a description, with a line feed between: the condition that answers the refused frame, if any; or condition and description of the error with which the peer ended or closed |
 //! | 19 | `RemoteOpen` | none | PERF of the peer's Open; nothing before it |
 //! | 20 | `MaxPieceLen` | none | u32, as `Engine::max_piece_len` |
 //! | 21 | `PayloadRoom` | PERF of a Transfer | u32, as `Engine::payload_room`; nothing where the transfer itself does not fit a frame |
@@ -41,14 +41,14 @@
 //! A call answers a status ([`Status`]) and a number: how many bytes it wrote, or, of `Receive`, took.
 //!
 //! - 0 `Done`.
-//! - 1 `Refused`, by name: `Refusal` tells it. A frame that does not fit the peer's limit is refused `TooLarge`. A size below 8, or above this
+//! - 1 `Refused`, by a name, which `Refusal` gives. A frame that does not fit the peer's limit is refused `TooLarge`. A size below 8, or above this
 //!   side's max-frame-size, is refused `BadSize`, and no byte is taken from then on.
 //! - 2 `NoMemory`: memory was refused, and the request or the frame was not taken; it may be asked again. Where it was taken, and what it hands
 //!   out found no room, the answer is another: that waits in the engine, and goes out with the next request or by `Send`. `Send` answers
 //!   `NoMemory` where some of it waits still; what it wrote is to be sent all the same.
 //! - 3 `TooSmall`: the output is. Nothing changed, and the number says how many bytes are needed.
 //! - 4 `BadArgument`: no such operation, or an input that does not have its form. Nothing changed.
-//! - 5 `NoEngine`: no call here answers it; it is for who keeps clients in places.
+//! - 5 `NoEngine`: no call here answers it; it is for a caller that keeps clients in places, such as the library for C.
 //! - 6 `EventsWait`: nothing is received while events wait.
 //!
 //! # The record of an event
@@ -63,16 +63,27 @@
 //! [`Client::new`] takes 16 bytes that the peer does not know, by which names, handles and channels are found; four u32, the room for events of
 //! attaches and detaches, flows, transfers and dispositions (`amqp_events::Room`); and PERF of this side's Open.
 //!
+//! ```
+//! match Client::new(alloc, input.as_slice()) {
+//!     Ok(mut client) => {
+//!         let (opened, _) = client.perform(Operation::Open, &[], &mut []);
+//!         let (sent, written) = client.perform(Operation::Send, &[], output.as_mut_slice());
+//!         // The first `written` bytes of `output` are to be sent.
+//!     }
+//!     Err(status) => failed(status), // 2 or 4
+//! }
+//! ```
+//!
 //! # What is proved, and what is only tested
 //!
 //! `specs/Client` says of each operation what it does. A request is one run of the engine with the one input that its bytes ask for, or its bytes
-//! ask for none; what it sends goes behind what waits. The bytes that were kept and those that were taken are frames, each of which is run once, in
+//! ask for none; what it sends goes after what waits. The bytes that were kept and those that were taken are frames, each of which is run once, in
 //! order, and what is kept then. What `Send` writes is a front of what waits, as much as fits, and waits no longer. A record is that of the event.
 //! An output that is too small stays as it is, and so does all else.
 //!
 //! No contract can say that memory is granted, nor what the queue of events holds (see `amqp_events`). So these bodies would meet the contracts: one
-//! that always answers `NoMemory`; one that always answers `EventsWait`, that never tells an event, or counts the missed ones wrongly; one that
-//! leaves the key or the room aside; and one that stops behind each frame. The rows of the program `rows_client` refuse all but that which
+//! that always answers `NoMemory`; one that always answers `EventsWait`, that never gives an event, or counts the missed ones wrongly; one that
+//! leaves the key or the room aside; and one that stops after each frame. The rows of the program `rows_client` refuse all but the one that
 //! leaves the key aside.
 #![tactic(auto)]
 

@@ -1,4 +1,4 @@
-//! Links: what allots a handle to one, with a relay that tells events.
+//! Links: what allots a handle to one, with a relay that puts events into the queue.
 
 ghost use Rattle.std.specs.Prelude.{◌≡◌, IfOk, Option, ℕ};
 ghost use Rattle.amqp_client.specs.declared.linking.LinkAsked.{LinkAsked};

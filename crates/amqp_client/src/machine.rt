@@ -93,7 +93,7 @@ impl<R: LinkRelay> Machine<R> {
         self.last = Refused::bad_size();
     }
 
-    /// Runs one input, behind what waits in the engine. `NoMemory` where it was not taken.
+    /// Runs one input, after what waits in the engine. `NoMemory` where it was not taken.
     pub(crate) fn run(&mut self, input: Input<R>) -> Status
         ensures { RunsOne R.gives self.old input result self.new }
     {
@@ -137,7 +137,7 @@ fn status_of(is_whole: bool, refused: bool) -> Status
     }
 }
 
-/// Puts an item behind the others. Whether memory was granted: else it is dropped.
+/// Appends an item to the others. Whether memory was granted: else it is dropped.
 fn push<T: Drop>(items: &mut VecDeque<T>, item: T) -> bool
     ensures { Pushes items.old.items item result items.new.items }
 {

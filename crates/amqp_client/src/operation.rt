@@ -4,7 +4,7 @@ ghost use Rattle.std.specs.Prelude.{◌≡◌};
 ghost use Rattle.amqp_client.specs.Operation.{IsOperation};
 ghost use Rattle.amqp_client.specs.Client.{group_of};
 
-/// What a client is asked.
+/// What a client is asked. The crate's page says of each operation what it takes and writes.
 #[derive(Clone, Copy, Debug, PartialEq, Eq)]
 pub enum Operation {
     /// 1: bytes came.
@@ -41,13 +41,13 @@ pub enum Operation {
     Send,
     /// 17: the next event is taken.
     Event,
-    /// 18: the last refusal.
+    /// 18: the last refusal is read.
     Refusal,
     /// 19: the peer's Open.
     RemoteOpen,
     /// 20: the most bytes of a piece.
     MaxPieceLen,
-    /// 21: how long a payload goes out in one frame.
+    /// 21: how many bytes of payload go out in one frame.
     PayloadRoom,
     /// 22: how many events were missed.
     Missed,
@@ -60,7 +60,7 @@ pub enum Operation {
 }
 
 impl Operation {
-    /// The operation of a number.
+    /// The operation of a number, 1 to 25. `None` where no operation has it.
     pub fn of(number: u32) -> Option<Operation>
         ensures { IsOperation number result }
     {

@@ -7,7 +7,7 @@ ghost use Rattle.amqp_values.specs.Reading.{number_at, byte_at, ReadsFront};
 ghost use Rattle.amqp_types.specs.Performatives.{IsPerformative};
 ghost use Rattle.amqp_types.specs.declared.performatives.Performative.TheVariants as its;
 ghost use Rattle.amqp_client.specs.Reading.{flag_of, role_of, mode_of, Reads, ReadsOne, IsTransfer, IsErrorIfAny, IsSomeError};
-ghost use Rattle.amqp_client.specs.Kinds.{whole_of, with_payload, as_open, as_begin, as_attach, as_detach, as_flow, as_disposition};
+ghost use Rattle.amqp_client.specs.Inner.Kinds.{whole_of, with_payload, as_open, as_begin, as_attach, as_detach, as_flow, as_disposition};
 
 use amqp_types::{
     Attach, Begin, Detach, Disposition, Error, Flow, Open, Performative, ReadError,

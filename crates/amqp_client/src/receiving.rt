@@ -52,7 +52,7 @@ fn size_of(kept: &[u8]) -> Option<u32>
     Some(u32::from_be_bytes([kept[0], kept[1], kept[2], kept[3]]))
 }
 
-/// How many bytes are to come before more can be told: those of the size, or of the frame.
+/// How many bytes are to come before the size, or the frame, is whole.
 fn wanted(kept: &[u8]) -> usize
     ensures { result ≡ wanted kept.now }
 {
@@ -102,7 +102,7 @@ impl Kept {
         Ok(count)
     }
 
-    /// The bytes behind the size.
+    /// The bytes after the size.
     fn frame(&self, alloc: Global) -> Result<Bytes, AllocError>
         requires { 4 ≤ length self.now }
         ensures { IfOk result (λ frame. frame ≡ drop 4 self.now) }
@@ -118,7 +118,7 @@ impl Kept {
     }
 }
 
-/// Takes whole frames out of the bytes that came, and runs each, up to one that is refused, or behind which events wait. How many of the bytes
+/// Takes whole frames out of the bytes that came, and runs each, up to one that is refused, or after which events wait. How many of the bytes
 /// were taken.
 pub(crate) fn receive<R: LinkRelay>(
     alloc: Global,

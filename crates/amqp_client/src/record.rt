@@ -16,8 +16,8 @@ use amqp_types::{Attach, Detach, Flow, Role, Transfer};
 use bytes::BytesMut;
 use std::alloc::AllocError;
 
-/// Writes the record of an event. `TooSmall` where it does not fit: the output stays, and its length is told. `NoMemory` where memory is refused,
-/// or where a part has more than 4294967295 bytes.
+/// Writes the record of an event. `TooSmall` where it does not fit: the output stays, and the answer is its length. `NoMemory` where memory is
+/// refused, or where a part has more than 4294967295 bytes.
 pub(crate) fn write_record(
     event: &Event,
     scratch: &mut BytesMut,
@@ -36,7 +36,7 @@ pub(crate) fn write_record(
     }
 }
 
-/// Appends the first part of a record, and behind it the head. How long the first part is.
+/// Appends the first part of a record, and after it the head. How long the first part is.
 fn put_parts(event: &Event, rest_len: usize, out: &mut BytesMut) -> Result<usize, AllocError>
     ensures { IfOk result (λ n. (n ≡ length (first_of event.now.body)) × (n < 2 ^ 32) × (rest_len < 2 ^ 32)
         × (out.new.items ≡ out.old.items ++ (first_of event.now.body ++ head_of event.now n rest_len))) }

@@ -1,4 +1,4 @@
-//! The last refusal, by its name, and by what the peer is told of it, or told of itself.
+//! The last refusal: its name, and the condition that answers it, or the error with which the peer ended or closed.
 
 ghost use Rattle.std.specs.Prelude.{◌≡◌};
 ghost use Rattle.amqp_client.specs.Refused.{nothing, bad_size, refused_of, condition_said, peer_error};
@@ -15,7 +15,7 @@ use std::marker::Model;
 pub(crate) struct Refused {
     /// Its name; none where nothing was refused.
     pub(crate) name: &'static str,
-    /// The condition that the peer is told, if any.
+    /// The condition that answers the refused frame, if any.
     pub(crate) condition: &'static str,
     /// The error with which the peer ended, or closed.
     pub(crate) peer: Option<Error>,
@@ -90,7 +90,7 @@ fn peer_error(error: StepError) -> Option<Error>
     }
 }
 
-/// The text of the condition, if the peer is told one.
+/// The text of the condition that answers the refused frame, if any.
 fn condition_of(answer: Option<PeerAnswer>) -> &'static str
     ensures { result.now ≡ condition_said answer }
 {

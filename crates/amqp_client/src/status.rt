@@ -4,19 +4,28 @@ ghost use Rattle.std.specs.Prelude.{◌≡◌, pos};
 ghost use Rattle.amqp_client.specs.Status.{status_number};
 
 /// How a call ends.
+///
+/// ```
+/// match client.perform(Operation::Receive, came, &mut []) {
+///     (Status::Done, taken) => took(taken),
+///     (Status::Refused, taken) => look_at_the_refusal(taken), // by `Operation::Refusal`
+///     (Status::EventsWait, _) => take_events(),               // by `Operation::Event`
+///     (_, taken) => failed(taken),
+/// }
+/// ```
 #[derive(Clone, Copy, Debug, PartialEq, Eq)]
 pub enum Status {
     /// What was asked is done.
     Done,
-    /// It was refused by name, which `Operation::Refusal` tells.
+    /// It was refused by a name, which `Operation::Refusal` gives.
     Refused,
     /// Memory was refused, and what was asked was not taken: it may be asked again.
     NoMemory,
-    /// The output is too small, and nothing changed. The length that is needed is told.
+    /// The output is too small, and nothing changed. The call answers the length that is needed.
     TooSmall,
     /// No such operation, or the input does not have its form. Nothing changed.
     BadArgument,
-    /// There is no client. No call of a client answers it: it is for who keeps clients in places.
+    /// There is no client. No call of a client answers it: it is for a caller that keeps clients in places, such as the library for C.
     NoEngine,
     /// Events wait, and are to be taken before more is received. Nothing changed.
     EventsWait,

@@ -1,4 +1,4 @@
-//! What a client tells of itself.
+//! What a client shows of itself.
 
 ghost use Rattle.std.specs.Prelude.{◌≡◌, ◌++◌, option_copied, OnOk, List, ℕ};
 ghost use Rattle.std.specs.Option.{option_map};
@@ -18,9 +18,9 @@ use amqp_types::{ConnectionState, Error, Open, SessionState};
 use bytes::BytesMut;
 use std::alloc::AllocError;
 
-/// Writes the last refusal: its name, a condition and a description, with a line feed between. The condition is the one that the peer is told, if any,
-/// without a description; or, where the peer ended or closed with an error, those of that error. Nothing where nothing was refused. `NoMemory` where
-/// memory is refused.
+/// Writes the last refusal: its name, a condition and a description, with a line feed between. The condition is the one that answers the refused
+/// frame, if any, without a description; or, where the peer ended or closed with an error, those of that error. Nothing where nothing was
+/// refused. `NoMemory` where memory is refused.
 pub(crate) fn refusal(
     refused: &Refused,
     scratch: &mut BytesMut,

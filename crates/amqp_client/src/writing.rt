@@ -13,7 +13,7 @@ pub(crate) fn fill(output: &mut [u8], at: usize, bytes: &[u8])
     output[at..at + bytes.len()].copy_from_slice(bytes);
 }
 
-/// Writes the bytes to the front of the output. `TooSmall` where they do not fit: the output stays, and their length is told.
+/// Writes the bytes to the front of the output. `TooSmall` where they do not fit: the output stays, and the answer is their length.
 pub(crate) fn write(output: &mut [u8], bytes: &[u8]) -> (Status, usize)
     ensures { Writes bytes.now output.old result.0 result.1 output.new }
 {
@@ -25,7 +25,7 @@ pub(crate) fn write(output: &mut [u8], bytes: &[u8]) -> (Status, usize)
     (Status::Done, len)
 }
 
-/// Writes three runs of bytes, one behind the other, as [`write`] does.
+/// Writes three runs of bytes, one after the other, as [`write`] does.
 pub(crate) fn write_three(
     output: &mut [u8],
     first: &[u8],

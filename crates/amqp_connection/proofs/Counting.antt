@@ -9,7 +9,7 @@ use Rattle.std.specs.FinMap as map
 use Rattle.std.specs.FinMap.{get-insert, get-remove, same_map, nat_cmp-IsAntisymmetric}
 use Rattle.std.specs.Ordering.{nat_cmp, eq_by_cmp}
 use Rattle.std.specs.Cmp.{nat_cmp_total, eq_by_cmp_equiv}
-use Rattle.amqp_session.proofs.AsMap.{same_test, get_at}
+use Rattle.amqp_session.proofs.FiniteMapLemmas.{same_test, get_at}
 use Rattle.amqp_connection.specs.Channels.{ChannelTable, mark}
 use Rattle.amqp_connection.specs.RouteCounts.{leads, leading, count_at, NoZero, Counted, Raised, Lowered, IsLedTo}
 use Rattle.amqp_connection.proofs.Lowest.{tested, untested, same_number, other_number}

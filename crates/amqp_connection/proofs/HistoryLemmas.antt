@@ -22,7 +22,7 @@ use Rattle.amqp_connection.specs.Connection.{AllocateStep, DeallocateStep, Begin
 use Rattle.amqp_connection.specs.History.{Entry, SendOpen, SendClose, IncomingOpen, IncomingClose, Stop, Allocate, Deallocate, IncomingBegin}
 use Rattle.amqp_connection.specs.History.{IncomingEnd, OutgoingBegin, OutgoingEnd, Step, Chain, LeadsTo}
 use Rattle.amqp_connection.specs.ByHistory.{state_by, state_from, reason_by, reason_from, remote_open_by, remote_open_from, channel_max_by, channel_max_from, held_by, held_from, route_by, route_from, Stands}
-use Rattle.amqp_session.proofs.AsMap.{same_test}
+use Rattle.amqp_session.proofs.FiniteMapLemmas.{same_test}
 
 -- ---- after a call
 

@@ -8,7 +8,7 @@ use Rattle.std.specs.Map.{lookup}
 use Rattle.std.specs.FinMap as map
 use Rattle.std.specs.BinaryHeap.{IsUpperBound, lt_by_cmp}
 use Rattle.amqp_connection.specs.Channels.{ChannelTable, IsLowestFree, mark, occurs, held_at, Channelled}
-use Rattle.amqp_session.proofs.AsMap.{get_at}
+use Rattle.amqp_session.proofs.FiniteMapLemmas.{get_at}
 
 pub tested : (a b : ℕ) → a ≡ b → nat_eq a b ≡ true
 tested a b e = grind (arith, nat_tests)

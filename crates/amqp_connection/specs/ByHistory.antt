@@ -1,3 +1,4 @@
+-- Part: the promise; other calls.
 -- What a history gives of a connection: by its calls alone, the oldest first.
 use Rattle.std.specs.Prelude.{◌≡◌, ◌≤◌, ◌+◌, ℕ, List, [], ◌∷◌, ◌++◌, true, Option, Some, None, Ok, cond, nat_eq, unwrap_or, min}
 use Rattle.std.specs.FinMap as map

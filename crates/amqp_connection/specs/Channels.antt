@@ -1,3 +1,4 @@
+-- Part: every call exactly; inner.
 -- Which channels are held, and which one is allotted (AMQP 1.0 part 2, section 2.5.1).
 use Rattle.std.specs.Prelude.{◌≡◌, ℕ, ◌+◌, ◌<◌, ◌≤◌, List, Bool, cond, nat_eq, nat_lt, is_some, sum_by, None, IsSome, Result, Ok, Err}
 use Rattle.std.specs.Ordering.{nat_cmp}

@@ -1,3 +1,4 @@
+-- Part: the promise; every call exactly; other calls; inner.
 -- What contracts see of a connection, and what each of its calls does.
 use Rattle.std.specs.Prelude.{◌≡◌, ◌≤◌, ℕ, Bool, true, false, Option, Some, None, IsSome, unwrap_or, Result, Ok, Err, min}
 use Rattle.std.specs.FinMap as map

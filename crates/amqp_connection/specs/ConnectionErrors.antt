@@ -1,3 +1,4 @@
+-- Part: handles; other calls.
 -- The conversions between errors of the connection.
 use Rattle.amqp_connection.specs.declared.error.ConnectionStateError.{ConnectionStateError}
 use Rattle.amqp_connection.specs.declared.error.ConnectionStateError.TheVariants as state

@@ -1,3 +1,4 @@
+-- Part: other calls.
 -- Histories of a connection: chains of its calls, of whoever makes them.
 use Rattle.std.specs.Prelude.{◌≡◌, ℕ, List, [], ◌∷◌, Bool, Option, Result}
 use Rattle.amqp_types.specs.declared.states.ConnectionState.{ConnectionState}

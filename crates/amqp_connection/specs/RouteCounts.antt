@@ -1,3 +1,4 @@
+-- Part: every call exactly; inner.
 -- How many channels of the peer's lead to each session.
 use Rattle.std.specs.Prelude.{◌≡◌, ℕ, zero, suc, ◌+◌, ◌≤◌, List, Bool, true, false, Option, Some, None, nat_eq, unwrap_or}
 use Rattle.std.specs.FinMap as map

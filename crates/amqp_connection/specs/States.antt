@@ -1,3 +1,4 @@
+-- Part: the promise.
 -- The states of a connection, as tables: from which state a call moves to which (AMQP 1.0 part 2, section 2.4.6).
 use Rattle.std.specs.Prelude.{Option, Some, None}
 use Rattle.amqp_types.specs.declared.states.ConnectionState.{ConnectionState}

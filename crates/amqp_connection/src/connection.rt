@@ -7,11 +7,11 @@ ghost use Rattle.amqp_connection.specs.Connection.{new_connection, stopped};
 
 mod allocation;
 mod channel_table;
+mod debug;
 mod open_close;
 mod route_counts;
 mod route_table;
 mod routing;
-mod shown;
 
 use amqp_session::{ConnectionStopReason, KeyHash};
 use amqp_types::{ConnectionState, Open};
@@ -21,7 +21,17 @@ use std::alloc::Global;
 use std::marker::Model;
 
 /// One side of a connection (AMQP 1.0 part 2, section 2.4). It has no input and no output: received performatives are
-/// given to `on_incoming_` calls, and `send_` calls give the frame that is to be sent.
+/// given to `on_incoming_` calls, and `send_` calls give the frame that is to be sent. A call whose text names no state is accepted in
+/// every state.
+///
+/// ```
+/// let mut connection = Connection::new(alloc, ConnectionState::HeaderExchange, our_open);
+/// let frame = connection.send_open()?;                               // to be sent: the state is OpenSent
+/// connection.on_incoming_open(IncomingChannel(0), their_open)?;      // Opened
+/// let channel = connection.allocate_session(SessionNo(7))?;          // the lowest free one, here 0
+/// let close = connection.send_close(None)?;                          // CloseSent
+/// connection.on_incoming_close(IncomingChannel(0), their_close)?;    // End
+/// ```
 #[derive(Drop)]
 pub struct Connection {
     state: ConnectionState,
@@ -54,15 +64,15 @@ impl Model for Connection {
 }
 
 impl Connection {
-    /// A connection in this state, which is to send this Open. Nothing is held, and no stop reason is recorded. Its routes are found
-    /// by [`KeyHash::Fixed`].
+    /// A connection in this state, which is to send this Open. No channel is held, no channel of the peer's leads to a session, and no stop
+    /// reason is recorded. Takes no memory. Its routes are found by [`KeyHash::Fixed`].
     pub fn new(alloc: Global, state: ConnectionState, local_open: Open) -> Connection
         ensures { result ≡ new_connection state local_open }
     {
         Connection::keyed(alloc, KeyHash::Fixed, state, local_open)
     }
 
-    /// The same connection, whose routes are found by this hash.
+    /// The same connection as [`Connection::new`] makes, whose routes are found by this hash.
     pub fn keyed(
         alloc: Global,
         hash: KeyHash,
@@ -82,14 +92,14 @@ impl Connection {
         }
     }
 
-    /// The state.
+    /// The state (AMQP 1.0 part 2, section 2.4.6).
     pub fn local_state(&self) -> &ConnectionState
         ensures { result.now ≡ self.now.state }
     {
         &self.state
     }
 
-    /// The Open that was handed to [`Connection::new`].
+    /// The Open of this side, which was handed to [`Connection::new`].
     pub fn local_open(&self) -> &Open
         ensures { result.now ≡ self.now.local_open }
     {
@@ -111,7 +121,8 @@ impl Connection {
         self.stop_reason
     }
 
-    /// Records why the connection stopped. The first reason stays.
+    /// Records why the connection stopped. The first reason that is recorded stays. No call of a connection records one by itself: an
+    /// engine does.
     pub fn set_connection_stop_reason(&mut self, reason: ConnectionStopReason)
         ensures { self.new ≡ stopped self.old reason }
     {

@@ -18,7 +18,7 @@ pub enum ConnectionStateError {
     /// The peer closed the connection with this error; its state has moved.
     #[error("Remote peer closed connection with error {}", .0)]
     RemoteClosedWithError(AmqpError),
-    /// The transport failed. No call answers it: the transport is above.
+    /// The transport failed. No call of this crate answers it: the transport is the caller's.
     #[error("{0}")]
     TransportError(String),
     /// Memory was refused: nothing has changed.
@@ -26,13 +26,13 @@ pub enum ConnectionStateError {
     OutOfMemory,
 }
 
-/// Why a session gets no channel.
+/// Why a session gets no channel (AMQP 1.0 part 2, section 2.5.1). Nothing has changed.
 #[derive(Clone, Copy, Debug, PartialEq, Eq, thiserror::Error)]
 pub enum AllocSessionError {
-    /// No Open has come or gone out yet.
+    /// The state is `Start`, `HeaderSent`, `HeaderReceived` or `HeaderExchange`: no Open has come or gone out yet.
     #[error("The connection has not been opened")]
     ConnectionNotOpened,
-    /// The connection stopped, for this reason.
+    /// The state is `CloseSent`, `Discarding` or `End`. The reason is the recorded one, else `Closed`.
     #[error("The connection stopped: {:?}", .0)]
     ConnectionStopped(ConnectionStopReason),
     /// All channels up to the highest that both sides allow are held.
@@ -87,7 +87,7 @@ impl From<ConnectionStateError> for ConnectionInnerError {
     }
 }
 
-/// Why a connection fails, as its user sees it.
+/// Why a connection fails, as a handle of it says.
 #[derive(Debug, Drop, PartialEq, thiserror::Error)]
 pub enum Error {
     /// The transport failed.
@@ -116,13 +116,13 @@ pub enum Error {
     OutOfMemory,
 }
 
-/// Why a handle does not tell how the connection closed.
+/// Why a handle does not give how the connection closed.
 #[derive(Clone, Copy, Debug, PartialEq, Eq, thiserror::Error)]
 pub enum TryCloseError {
-    /// The outcome was given before.
+    /// This handle has given the answer before.
     #[error("Illegal local state")]
     AlreadyClosed,
-    /// The peer's Close has not come.
+    /// The connection is not closed at both ends: its state is not `End`.
     #[error("The connection has not received a close frame from the remote peer")]
     RemoteCloseNotReceived,
 }
@@ -162,7 +162,7 @@ impl From<ConnectionInnerError> for Error {
 }
 
 impl AllocSessionError {
-    /// Why the session does not begin, as `BeginError::from` gives it to who names this crate in `crates.txt`.
+    /// Why the session does not begin. `BeginError::from` gives the same, where this crate is named in `crates.txt`.
     pub fn begin_error(self) -> BeginError
         ensures { result ≡ begin_of self }
     {

@@ -22,7 +22,7 @@ pub fn law_of_views()
     ensures one_each { (s : ConnectionState) (o : OpenSaid) (H : List Entry) (v : ConnectionView) → LeadsTo s o H v → OneEach s H }
 {}
 
-/// Whether two numbers of sessions are equal, and how they compare: as the numbers do. The first is hashed as its number.
+/// Whether two session numbers are equal, and how they compare: as their numbers do. The first is hashed as its number.
 pub fn law_of_session_numbers<H: Hasher>(
     number: SessionNo,
     other: SessionNo,

@@ -1,4 +1,4 @@
-//! Why a connection does not open. No call here answers these: the transport opens, and negotiates, above.
+//! Why a connection does not open. No call of this crate answers these: opening a stream and negotiating are the transport's.
 
 ghost use Rattle.std.specs.Prelude.{◌≡◌};
 ghost use Rattle.amqp_connection.specs.ConnectionErrors.{open_of_negotiation, open_of_state};
@@ -7,7 +7,7 @@ use crate::error::ConnectionStateError;
 use amqp_types::Error as AmqpError;
 use bytes::Bytes;
 
-/// Why a connection does not open.
+/// Why a connection does not open. It is for transports: no call of this crate answers it.
 #[derive(Debug, Drop, PartialEq, thiserror::Error)]
 pub enum OpenError {
     /// Input or output failed.
@@ -34,7 +34,9 @@ pub enum OpenError {
     /// The SASL exchange failed, with the outcome's code, and what else it says.
     #[error("SASL error code {:?}, additional data: {:?}", .code, .additional_data)]
     SaslError {
+        /// The code of the outcome.
         code: u8,
+        /// What else the outcome says.
         additional_data: Option<Bytes>,
     },
     /// The state does not take this.
@@ -60,7 +62,7 @@ pub enum OpenError {
     OutOfMemory,
 }
 
-/// Why the headers are not exchanged.
+/// Why the protocol headers are not exchanged (AMQP 1.0 part 2, section 2.2). It is for transports: no call of this crate answers it.
 #[derive(Debug, Drop, PartialEq, thiserror::Error)]
 pub enum NegotiationError {
     /// Input or output failed.
@@ -78,7 +80,9 @@ pub enum NegotiationError {
     /// The SASL exchange failed, with the outcome's code, and what else it says.
     #[error("SASL error code {:?}, additional data: {:?}", .code, .additional_data)]
     SaslError {
+        /// The code of the outcome.
         code: u8,
+        /// What else the outcome says.
         additional_data: Option<Bytes>,
     },
     /// What is asked for is left out.

@@ -17,10 +17,10 @@ use Rattle.amqp_engine.specs.Kept.{Wishes, CloseOutcome, EndOutcome}
 use Rattle.amqp_engine.specs.History.{IsEnded, Taken}
 use Rattle.amqp_engine.specs.Handles.{CloseAnswer, EndAnswer, SessionHandleView, close_told, close_noted, close_taken, CloseCall, TriesClose, TryCloseCall}
 use Rattle.amqp_engine.specs.Handles.{end_told, end_noted, end_taken, WishesEnd, EndCall, TriesEnd, AsksEnd, TryEndCall}
-use Rattle.amqp_engine.proofs.Outputs.{Taken-none, Taken-more}
-use Rattle.amqp_engine.proofs.Projection.{same_number}
-use Rattle.amqp_engine.proofs.Hearing.{rewished}
-use Rattle.amqp_session.proofs.AsMap.{same_test}
+use Rattle.amqp_engine.proofs.OutputLemmas.{Taken-none, Taken-more}
+use Rattle.amqp_engine.proofs.SessionProjectionLemmas.{same_number}
+use Rattle.amqp_engine.proofs.HandledRunLemmas.{rewished}
+use Rattle.amqp_session.proofs.FiniteMapLemmas.{same_test}
 
 -- it stays
 stayed : {R : Type 0} (v w : EngineView R) → w ≡ v → Taken v w

@@ -22,7 +22,7 @@ use Rattle.amqp_engine.specs.Promise.{IsTaken, inputs_of}
 use Rattle.amqp_engine.specs.Ran.{Ran}
 use Rattle.amqp_engine.specs.TwoRuns.{TwoRunsAreOne}
 use Rattle.amqp_engine.specs.Inner.Running.{Running}
-use Rattle.amqp_engine.proofs.Outputs.{Taken-more}
+use Rattle.amqp_engine.proofs.OutputLemmas.{Taken-more}
 
 pub inputs_of-append : {R : Type 0} (xs ys : List (Entry R)) → inputs_of (xs ++ ys) ≡ inputs_of xs ++ inputs_of ys
 inputs_of-append [] ys = refl

@@ -1,3 +1,4 @@
+-- Part: the promise; every call exactly; inner.
 -- What a history gives of the connection, its channels, its routes and its sessions: by its entries alone, the oldest first.
 use Rattle.std.specs.Prelude.{ℕ, List, [], ◌∷◌, ◌++◌, Option, Some, None, Bool, true, false, cond, nat_eq, unwrap_or, min}
 use Rattle.amqp_types.specs.declared.states.ConnectionState.{ConnectionState}

@@ -1,3 +1,4 @@
+-- Part: the promise.
 -- What an input or a received frame asks of the session that it reaches: its calls, by the session's state, and the refusal
 -- that is answered. This is the one table of them.
 use Rattle.std.specs.Prelude.{string_bytes, ◌≡◌, ℕ, List, [], ◌∷◌, Option, Some, None, Result, Ok, Err, Bool, true, false}

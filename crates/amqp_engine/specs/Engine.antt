@@ -1,3 +1,4 @@
+-- Part: every call exactly; other calls; inner.
 -- What a step of an engine does.
 use Rattle.std.specs.Prelude.{◌≡◌, ◌⊎◌, ℕ, List, [], ◌∷◌, Option, Some, None, IsSome, Result, Ok, Err}
 use Rattle.std.specs.Option.{option_map}

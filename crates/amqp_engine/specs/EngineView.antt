@@ -1,3 +1,4 @@
+-- Part: the promise; every call exactly; other calls; inner.
 -- What contracts see of an engine.
 use Rattle.std.specs.Prelude.{◌-◌, ℕ, List, [], map, max, Option, Some, None}
 use Rattle.std.specs.Option.{option_map}

@@ -1,3 +1,4 @@
+-- Part: the promise.
 -- An entry of a history.
 use Rattle.std.specs.Prelude.{ℕ, List, Option}
 use Rattle.amqp_session.specs.History as session

@@ -1,3 +1,4 @@
+-- Part: the promise.
 -- What an entry of a history does to the connection: an Open or a Close that is sent or received, a session that is begun or
 -- gives its channel back, a route that is made or taken away, a session that is forgotten.
 use Rattle.std.specs.Prelude.{ℕ, List, [], ◌∷◌, Option, Some, None, Bool, false, nat_eq}

@@ -1,3 +1,4 @@
+-- Part: handles.
 -- What a run of a handled engine does: it hears the wishes, and then runs the inputs.
 use Rattle.std.specs.Prelude.{◌≡◌, ◌⊎◌, ℕ, List, [], ◌∷◌, ◌++◌, map, All, Option, Some, None}
 use Rattle.std.specs.FinMap as finite

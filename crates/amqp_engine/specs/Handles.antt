@@ -1,3 +1,4 @@
+-- Part: handles.
 -- What a handle says and asks, of the engine that the call is handed.
 use Rattle.std.specs.Prelude.{◌≡◌, ℕ, Option, Some, None, Result, Ok, Err, Bool, true, false, ◌||◌, nat_eq}
 use Rattle.std.specs.Map.{lookup}

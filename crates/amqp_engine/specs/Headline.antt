@@ -1,3 +1,4 @@
+-- Part: the promise.
 -- The headline: what holds of every history of an engine, said of the history alone.
 use Rattle.std.specs.Prelude.{ℕ, ◌≡◌, ◌≤◌, List, [], ◌∷◌, ◌++◌, Option, Some, None, Err}
 use Rattle.amqp_types.specs.declared.states.ConnectionState.{ConnectionState}

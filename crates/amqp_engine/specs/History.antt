@@ -1,3 +1,4 @@
+-- Part: every call exactly; inner.
 -- Histories of an engine: chains of its steps.
 use Rattle.std.specs.Prelude.{◌≡◌, ◌⊎◌, ℕ, List, [], ◌∷◌, ◌++◌, Some, None, nat_eq}
 use Rattle.std.specs.Map.{lookup}

@@ -1,3 +1,4 @@
+-- Part: every call exactly; handles.
 -- What an engine keeps for handles: how the peer closed the connection or ended a session, until a handle asks for it, and what
 -- handles wish.
 use Rattle.std.specs.Prelude.{ℕ, Option, Some, None, Result, Ok, Err}

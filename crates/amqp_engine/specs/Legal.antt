@@ -1,3 +1,4 @@
+-- Part: the promise.
 -- Which histories an engine may have had, that began in this state and with this Open, and shows this view now.
 use Rattle.std.specs.Prelude.{List}
 use Rattle.amqp_types.specs.declared.states.ConnectionState.{ConnectionState}

@@ -1,7 +1,6 @@
 pub mod Waits
 pub mod Kept
 pub mod EngineView
-pub mod Places
 pub mod Calls
 pub mod Sessions
 pub mod Entry
@@ -11,7 +10,6 @@ pub mod History
 pub mod Event
 pub mod ByHistory
 pub mod Output
-pub mod Putting
 pub mod Headline
 pub mod Promise
 pub mod Views

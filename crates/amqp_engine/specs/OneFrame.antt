@@ -1,3 +1,4 @@
+-- Part: other calls.
 -- Transfers on the wire. The window counts the transfers of a session (AMQP 1.0 part 2, section 2.5.6), and one that is too long goes
 -- out as several frames (section 2.6.14). Where each that was requested is one piece, whatever number its delivery gets, each transfer
 -- that is put out is one Transfer frame.

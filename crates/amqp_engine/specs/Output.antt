@@ -1,3 +1,4 @@
+-- Part: the promise; other calls; inner.
 -- What comes out for a history: each entry's answer, and after it the pieces of its frames, under the limit that holds then.
 use Rattle.std.specs.Prelude.{ℕ, ◌≡◌, List, [], ◌∷◌, ◌++◌, Option, Some, None, Result, Ok, Err}
 use Rattle.amqp_frames.specs.declared.frame.Frame.{Frame}

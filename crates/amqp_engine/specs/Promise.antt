@@ -1,3 +1,4 @@
+-- Part: the promise.
 -- What a run promises.
 use Rattle.std.specs.Prelude.{◌≡◌, ◌+◌, List, [], ◌∷◌, ◌++◌, length, All, Some, Result, Ok, Err}
 use Rattle.amqp_types.specs.declared.states.ConnectionState.{ConnectionState}

@@ -1,3 +1,4 @@
+-- Part: the promise.
 -- A run: of the same entries three things are said, each in its own file.
 use Rattle.std.specs.Prelude.{List, ◌++◌}
 use Rattle.amqp_session.specs.Relay.{Relays}

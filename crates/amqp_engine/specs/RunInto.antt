@@ -1,3 +1,4 @@
+-- Part: other calls; inner.
 -- A run that sends into a buffer: it is a run, of whose answers the bytes are appended there, and the refusals to a list.
 use Rattle.std.specs.Prelude.{◌≡◌, ℕ, ◌+◌, List, [], ◌∷◌, ◌++◌, Option, Some, None}
 use Rattle.amqp_session.specs.Relay.{Relays}

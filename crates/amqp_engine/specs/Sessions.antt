@@ -1,3 +1,4 @@
+-- Part: every call exactly; inner.
 -- What requests and received frames do with the session that they reach: its calls, what is answered, and the frames that
 -- wait then.
 use Rattle.std.specs.Prelude.{◌≡◌, ◌⊎◌, ◌<◌, ◌^◌, ℕ, List, [], ◌∷◌, ◌++◌, map, Option, Some, None, Result, Ok, Err, IsSome, nat_eq, Bool}

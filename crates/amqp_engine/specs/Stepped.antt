@@ -1,3 +1,4 @@
+-- Part: handles; other calls.
 -- One input alone, and frames that leave.
 use Rattle.std.specs.Prelude.{List, [], ◌∷◌, Option}
 use Rattle.amqp_types.specs.declared.states.ConnectionState.{ConnectionState}

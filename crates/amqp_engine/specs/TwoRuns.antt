@@ -1,3 +1,4 @@
+-- Part: other calls.
 -- Two runs in a row.
 use Rattle.std.specs.Prelude.{List, [], ◌++◌}
 use Rattle.amqp_session.specs.Relay.{Relays}

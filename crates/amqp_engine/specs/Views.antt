@@ -1,3 +1,4 @@
+-- Part: every call exactly.
 -- What contracts see of an engine is what its history gives.
 use Rattle.std.specs.Prelude.{ℕ, ◌≡◌, List, [], ◌∷◌, ◌++◌, Some, None, is_some, nat_eq}
 use Rattle.std.specs.Map.{lookup}

@@ -1,3 +1,4 @@
+-- Part: the promise; other calls; inner.
 -- Frames that wait: what a connection sends itself, and what its sessions hand out.
 use Rattle.std.specs.Prelude.{◌≡◌, ℕ, List, [], ◌∷◌, map, Option, Some, None, Bool, true, false}
 use Rattle.amqp_frames.specs.declared.frame.Frame.{Frame}
@@ -7,8 +8,8 @@ use Rattle.amqp_session.specs.declared.frame.SessionFrame.{SessionFrame}
 use Rattle.amqp_session.specs.declared.frame.SessionFrameBody.{SessionFrameBody}
 use Rattle.amqp_session.specs.declared.frame.SessionFrameBody.TheVariants as said
 use Rattle.amqp_types.specs.Disposition.{DispositionSaid}
-use Rattle.amqp_engine.specs.declared.engine.waiting.Behind.{Behind}
-use Rattle.amqp_engine.specs.declared.engine.waiting.Behind.TheVariants as behind
+use Rattle.amqp_engine.specs.declared.engine.output_queue.Backlog.{Backlog}
+use Rattle.amqp_engine.specs.declared.engine.output_queue.Backlog.TheVariants as behind
 
 -- a session's frame, as the connection sends it: the same channel, and the same performative and payload
 abbrev pub body_of : SessionFrameBody → FrameBody
@@ -30,7 +31,7 @@ sent fs = map frame_of fs
 abbrev pub disposition_frame : ℕ → DispositionSaid → SessionFrame
 disposition_frame channel d = record { channel = channel; body = said.Disposition d }
 
-abbrev pub behind_frames : Behind → List SessionFrame
+abbrev pub behind_frames : Backlog → List SessionFrame
 behind_frames behind.Nothing = []
 behind_frames (behind.Frames fs) = fs.items
 behind_frames (behind.Dispositions channel ds) = map (disposition_frame channel.0) ds.items

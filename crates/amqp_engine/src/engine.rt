@@ -11,54 +11,79 @@ ghost use Rattle.amqp_engine.specs.Legal.{Legal};
 ghost use Rattle.amqp_connection.specs.Connection.{refusal_of};
 
 pub mod answer;
+mod debug;
 mod forgetting;
+pub(crate) mod handle_state;
 mod handling;
 pub mod input;
-pub(crate) mod kept;
 mod limits;
 mod output;
+mod output_queue;
 mod received;
 pub mod refusal;
 mod requested;
 mod run;
 mod run_into;
 mod sessions;
-mod shown;
 pub mod step_error;
-mod waiting;
+pub(crate) mod wish;
 
 use crate::laws::law_of_histories;
 use amqp_connection::{Connection, SessionNo};
 use amqp_frames::{FrameDecoder, FrameEncoder, Heads};
 use amqp_numbers::NumberSet;
+use amqp_session::keys::Hints;
 use amqp_session::{IncomingChannel, KeyHash, LinkRelay, OutputHandle, Session};
 use amqp_types::{ConnectionState, Open};
 pub use answer::{Answer, OutputError, Stopped};
+use handle_state::HandleState;
 use indexmap::IndexMap;
 pub use input::Input;
-use kept::Kept;
+use output_queue::OutputQueue;
 pub use refusal::Refusal;
 use std::alloc::Global;
 use std::marker::Model;
 pub use step_error::StepError;
-use waiting::Waiting;
 
 /// A connection with its sessions and its frames. Received frames and local requests go in; the frames that are to be sent, or
 /// refusals, come out (AMQP 1.0 part 2, sections 2.3 to 2.5). It does no input or output itself. Each link of a session has a
 /// relay of the type `R`.
+///
+/// [`Engine::run`] and [`Engine::run_into`] take many inputs in a row. [`Engine::step`] and [`Engine::next_output`] are the same, one by one.
+///
+/// ```
+/// /// Requests this side's Open. The answers are `Done`, and after it the pieces of the Open.
+/// pub fn open<R: LinkRelay>(
+///     alloc: Global,
+///     engine: &mut Engine<R>,
+///     answers: &mut Vec<Answer>,
+/// ) -> io::Result<()> {
+///     let mut inputs = VecDeque::new(alloc);
+///     push(&mut inputs, Input::Open)?;
+///     match engine.run(&mut inputs, answers) {
+///         Ok(()) => Ok(()),
+///         Err(_stopped) => Err(io::Error::from(ErrorKind::OutOfMemory)),
+///     }
+/// }
+/// ```
+///
+/// `push` is the one of `amqp_transport`. The engine itself is made by
+/// `Engine::keyed(alloc, KeyHash::Keyed(RandomState::new(&rt)?), ConnectionState::HeaderExchange, open)`, where `alloc` is `rt.alloc()`.
 #[derive(Drop)]
 pub struct Engine<R> {
     alloc: Global,
     hash: KeyHash,
     connection: Connection,
     sessions: IndexMap<u32, Session<R>>,
+    /// At which index of that map a session may be. A hint may be wrong, so no contract speaks of it.
+    hints: Hints,
     /// The numbers of the sessions that were forgotten.
     forgotten: NumberSet,
     decoder: FrameDecoder,
     encoder: FrameEncoder,
     heads: Heads,
-    waiting: Waiting,
-    kept: Kept,
+    waiting: OutputQueue,
+    kept: HandleState,
 }
 
 impl<R> Model for Engine<R> {
@@ -67,7 +92,7 @@ impl<R> Model for Engine<R> {
     ghost use Rattle.amqp_session.specs.Links.{links_code};
     ghost use Rattle.amqp_connection.specs.Channels.{channel_table_code};
     ghost use Rattle.amqp_engine.specs.EngineView.{EngineView, views_of, walks_of};
-    ghost use Rattle.amqp_engine.specs.Places.{Seated};
+    ghost use Rattle.amqp_engine.specs.Inner.Places.{Seated};
 
     ghost Value = { EngineView R };
 
@@ -95,9 +120,12 @@ fn first_limit(local_open: &Open) -> u32
 }
 
 impl<R: LinkRelay> Engine<R> {
-    /// An engine whose connection is in this state and is to send this Open, with no session. Until the peer's Open is
-    /// accepted, a piece has at most the `max_frame_size` of `local_open` less four bytes, and never less than four. Names of links,
-    /// input handles and incoming channels are found by [`KeyHash::Fixed`]: a peer that is not trusted is for [`Engine::keyed`].
+    /// An engine whose connection is in this state and is to send this Open, with no session. Takes no memory. After an exchange of
+    /// protocol headers the state is `HeaderExchange`.
+    ///
+    /// Until the peer's Open is accepted, a piece has at most the `max_frame_size` of `local_open` less 4 bytes, and the limit is never
+    /// below 4 (AMQP 1.0 part 2, section 2.7.1). Names of links, input handles and incoming channels are found by [`KeyHash::Fixed`]. Use
+    /// [`Engine::keyed`] for a peer that is not trusted.
     pub fn new(alloc: Global, state: ConnectionState, local_open: Open) -> Engine<R>
         ensures legal { Legal R.gives state local_open [] result }
         ensures new { result ≡ new_engine state local_open }
@@ -105,8 +133,8 @@ impl<R: LinkRelay> Engine<R> {
         Engine::keyed(alloc, KeyHash::Fixed, state, local_open)
     }
 
-    /// The same engine, which finds names of links, input handles and incoming channels by this hash. With a key that the peer does
-    /// not know, the peer cannot choose them so that they collide.
+    /// The same engine as [`Engine::new`] makes, which finds names of links, input handles and incoming channels by this hash. With a key
+    /// that the peer does not know, the peer cannot choose them so that they collide.
     pub fn keyed(
         alloc: Global,
         hash: KeyHash,
@@ -125,19 +153,21 @@ impl<R: LinkRelay> Engine<R> {
             connection: Connection::keyed(alloc, hash, state, local_open),
             sessions: IndexMap::new(alloc),
             forgotten: NumberSet::new(alloc),
-            waiting: Waiting::none(),
-            kept: Kept::new(alloc),
+            waiting: OutputQueue::none(),
+            kept: HandleState::new(alloc),
+            hints: Hints::new(),
         }
     }
 
-    /// The connection.
+    /// The connection: its state, its stop reason, both Opens, and where frames of the peer's go.
     pub fn connection(&self) -> &Connection
         ensures { result.now ≡ self.now.connection }
     {
         &self.connection
     }
 
-    /// The session with this number, if it was begun and not forgotten. It stays, also when it has ended.
+    /// The session with this number. `None` where no session was begun under it, or where it was forgotten. A session that has ended
+    /// is still there until [`Input::Forget`] takes it away.
     pub fn session(&self, number: SessionNo) -> Option<&Session<R>>
         ensures found { IfSome result (λ s. lookup (nat_eq number.0) self.now.sessions ≡ Some s.now.view) }
         ensures walk { IfSome result (λ s. lookup (nat_eq number.0) self.now.walks ≡ Some s.now.last_walk) }
@@ -146,7 +176,8 @@ impl<R: LinkRelay> Engine<R> {
         self.sessions.get(&number.0)
     }
 
-    /// The number of the session to which frames on this channel of the peer's go, if they go to one.
+    /// The number of the session to which frames on this channel of the peer's go (AMQP 1.0 part 2, section 2.5.1). `None` where they go to
+    /// none: no accepted Begin on the channel named a session, or an accepted End came on it since.
     pub fn session_of(&self, channel: IncomingChannel) -> Option<SessionNo>
         ensures { result ≡ option_map (λ n. record { 0 = n }) (map.get self.now.connection.session_by_incoming_channel channel.0) }
     {
@@ -161,19 +192,23 @@ impl<R: LinkRelay> Engine<R> {
         self.session(number)?.output_handle(name)
     }
 
-    /// Whether frames wait to be put out.
+    /// Whether frames wait to be put out. While they do, [`Engine::step`] refuses each input with `OutputWaiting`.
     pub fn has_output(&self) -> bool
         ensures { result ≡ has_frames self.now.waiting }
     {
         self.waiting.has_frames()
     }
 
-    /// Takes one input: connection and sessions do what it asks, and the frames that this hands out wait to be put out.
+    /// Takes one input: connection and sessions do what it asks, and the frames that this hands out wait to be put out. [`Input`] says
+    /// of each input when it is accepted, and how it is refused else.
     ///
     /// Nothing changes where the refusal is `OutputWaiting` (frames still wait), `Frame` (the received bytes are no frame, or
-    /// memory for its fields is refused), `NoSession`, `SessionInUse`, `AllocSession`, or `OutOfMemory`. That comes of a `Begin`
-    /// where the engine has no room for one more session, of a `Forget` where it has none for the number, and of a received Close or
-    /// End with an error, of which the engine keeps a copy for handles. Every other refusal is that of the connection or of the session.
+    /// memory for its fields is refused), `NoSession`, `SessionInUse`, `AllocSession`, or `OutOfMemory`. A `Begin` is refused
+    /// `OutOfMemory` where the engine has no room for one more session, a `Forget` where it has none for the number, and a received
+    /// Close or End with an error where the copy that the engine keeps for handles is refused. Every other refusal is that of the
+    /// connection or of the session.
+    ///
+    /// The input is used up, whatever the answer: a refused request is gone with what it held.
     pub fn step(&mut self, input: Input<R>) -> Result<(), StepError>
         ensures { Stepped R.gives self.old input (refusal_of result) self.new }
     {
@@ -182,6 +217,6 @@ impl<R: LinkRelay> Engine<R> {
             drop(input);
             return Err(StepError::OutputWaiting);
         }
-        self.carry_out(input)
+        self.dispatch(input)
     }
 }

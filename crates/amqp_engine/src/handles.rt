@@ -1,14 +1,15 @@
-//! Handles over an engine: a handle closes the connection, or ends a session, and is told how the peer answered.
+//! Handles over an engine: a handle closes the connection, or ends a session, and gives the peer's answer once.
 //!
-//! A handle is a value; its calls are handed the engine, which notes the wish until the next run. A dropped handle asks for nothing.
+//! A handle is a value; its calls are handed the engine, which notes the request until the next run. Such a noted request is the handle's
+//! *wish*. A dropped handle requests nothing.
 
 ghost use Rattle.std.specs.Prelude.{◌≡◌, IfSome, is_some, nat_eq, false};
 ghost use Rattle.std.specs.Map.{lookup};
 
 mod connection_handle;
+mod debug;
 mod run;
 mod session_handle;
-mod shown;
 
 use crate::engine::Engine;
 use amqp_connection::SessionNo;
@@ -17,7 +18,16 @@ pub use connection_handle::ConnectionHandle;
 pub use session_handle::SessionHandle;
 use std::marker::Model;
 
-/// An engine whose connection and sessions have handles, with what the handles wish.
+/// An engine whose connection and sessions have handles, with what the handles have requested.
+///
+/// ```
+/// let mut engine = HandledEngine::new(engine);
+/// let mut handle = engine.connection_handle();
+/// handle.close(&mut engine)?;
+/// engine.run(&mut inputs, &mut answers)?; // sends the Close
+/// // Once the peer's Close came and was run:
+/// let closed = handle.try_close(&mut engine);
+/// ```
 #[derive(Drop)]
 pub struct HandledEngine<R> {
     engine: Engine<R>,
@@ -45,21 +55,23 @@ impl<R: LinkRelay> HandledEngine<R> {
         HandledEngine { engine }
     }
 
-    /// The engine.
+    /// The engine, to be looked at. Only [`HandledEngine::run`] and the handles change it.
     pub fn engine(&self) -> &Engine<R>
         ensures { result.now ≡ self.now }
     {
         &self.engine
     }
 
-    /// A handle of the connection. Any number of them may be made; each is told the outcome by itself.
+    /// A handle of the connection. Any number of them may be made. The engine keeps one answer of the peer: the first handle that asks takes
+    /// it, and a later one gets `IllegalState`.
     pub fn connection_handle(&self) -> ConnectionHandle
         ensures { result ≡ false }
     {
         ConnectionHandle::new()
     }
 
-    /// A handle of the session with this number, if it was begun. Any number of them may be made.
+    /// A handle of the session with this number. `None` where no session has it: it was not begun, or was forgotten. Any number of handles
+    /// may be made.
     pub fn session_handle(&self, number: SessionNo) -> Option<SessionHandle>
         ensures known { is_some result ≡ is_some (lookup (nat_eq number.0) self.now.sessions) }
         ensures new { IfSome result (λ h. h ≡ record { number = number.0; told = false }) }

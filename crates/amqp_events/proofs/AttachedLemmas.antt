@@ -4,7 +4,7 @@ use Rattle.std.specs.FinMap as map
 use Rattle.amqp_types.specs.Flow.{FlowSaid}
 use Rattle.amqp_types.specs.Disposition.{DispositionSaid}
 use Rattle.amqp_types.specs.Detach.{DetachSaid}
-use Rattle.amqp_session.specs.declared.link.Attached.{Attached}
+use Rattle.amqp_session.specs.declared.link.AttachedLink.{AttachedLink}
 use Rattle.amqp_session.specs.declared.deliveries.Delivery.{Delivery}
 use Rattle.amqp_session.specs.declared.error.SessionInnerError.{SessionInnerError}
 use Rattle.amqp_session.specs.declared.error.SessionInnerError.TheVariants as Refused
@@ -17,8 +17,8 @@ use Rattle.amqp_session.specs.Disposing.{AsksAt, AsksEach, HasAsked, SaysStateAg
 use Rattle.amqp_session.specs.History.{Entry, Made, LeadsTo, Chain, Step, SendsBegin, SendsEnd, TakesBegin, TakesEnd, AllocatesLink, AllocatesIncomingLink, DeallocatesLink, TakesAttach, TakesFlow, TakesTransfer, TakesDisposition, TakesDetach, SendsAttach, SendsFlow, SendsTransfer, SendsDisposition, SendsDetach, SendsSessionFlow, RecordsStop, Settles}
 use Rattle.amqp_session.specs.Linked.{input_at, input_from, input_by, asked_from, where_goes, speaks_of}
 use Rattle.amqp_session.specs.Headline.{Stands}
-use Rattle.amqp_session.proofs.Naming.{same_number}
-use Rattle.amqp_session.proofs.Taking.{at_insert}
+use Rattle.amqp_session.proofs.LinkNameLemmas.{same_number}
+use Rattle.amqp_session.proofs.OutputHandleLemmas.{at_insert}
 use Rattle.amqp_events.specs.Runs.{Told, ToldFlow, ToldTransfer, ToldDisposition, Queued, Run}
 use Rattle.amqp_events.specs.Attached.{told_of, told_by, told_in, stays_under, StaysUnder}
 
@@ -30,20 +30,20 @@ module _ (g : Relays Queued) where
   run_on (t ∷ xs) ys a b c r s = (r.0, r.1, run_on xs ys r.0 b c r.2 s)
 
   -- a relay was told this, and stands under the handle afterwards
-  pub record Goes (link : Attached Queued) (told : List Told) (now : Option (Attached Queued)) : Type 0 where
+  pub record Goes (link : AttachedLink Queued) (told : List Told) (now : Option (AttachedLink Queued)) : Type 0 where
     pub after : Queued
     pub stands : now ≡ Some (record link { relay = after })
     pub run : Run g link.relay told after
 
-  untold : (link : Attached Queued) → Goes link [] (Some link)
+  untold : (link : AttachedLink Queued) → Goes link [] (Some link)
   untold link = record { after = link.relay; stands = refl; run = refl }
 
-  one_link : (a b : Attached Queued) (o : Option (Attached Queued)) → o ≡ Some a → o ≡ Some b → a ≡ b
+  one_link : (a b : AttachedLink Queued) (o : Option (AttachedLink Queued)) → o ≡ Some a → o ≡ Some b → a ≡ b
   one_link a b o x y = cc
 
   -- ---- one question
 
-  flow_told : (f : FlowSaid) (handle : Option ℕ) (h : ℕ) (v w : SessionView Queued) (link : Attached Queued) (q : FlowQuestion Queued) (result : _)
+  flow_told : (f : FlowSaid) (handle : Option ℕ) (h : ℕ) (v w : SessionView Queued) (link : AttachedLink Queued) (q : FlowQuestion Queued) (result : _)
       → attached_at h v.links ≡ Some link → FlowTaken g.flow_gives v f handle (Some q) result w
       → Goes link (cond (speaks_of h handle) (ToldFlow q.handle q.asked q.answer ∷ []) []) (cond (speaks_of h handle) (where_goes q.after (Some link)) (Some link))
   flow_told f None h v w link q result at t = absurd t
@@ -53,10 +53,10 @@ module _ (g : Relays Queued) where
       by true e =
           let there = ap (λ n. attached_at n v.links) (same_number h k e) ∙ t.1.attached in
           let is = one_link link (record { handle = q.handle; relay = q.before }) (attached_at h v.links) at there in
-          record { after = q.after; stands = refl; run = (q.after, subst (λ (r : Queued). g.flow_gives r q.handle q.asked q.answer q.after) (sym (ap (λ (l : Attached Queued). l.relay) is)) t.1.stands, refl) }
+          record { after = q.after; stands = refl; run = (q.after, subst (λ (r : Queued). g.flow_gives r q.handle q.asked q.answer q.after) (sym (ap (λ (l : AttachedLink Queued). l.relay) is)) t.1.stands, refl) }
       by false e = untold link
 
-  transfer_told : (k h : ℕ) (l : LinksView Queued) (link : Attached Queued) (q : TransferQuestion Queued)
+  transfer_told : (k h : ℕ) (l : LinksView Queued) (link : AttachedLink Queued) (q : TransferQuestion Queued)
       → attached_at h l ≡ Some link → Asks (of_transfer g.transfer_gives) (attached_at k l) q
       → Goes link (cond (nat_eq h k) (ToldTransfer q.asked.0 q.asked.1 q.answer ∷ []) []) (cond (nat_eq h k) (where_goes q.after (Some link)) (Some link))
   transfer_told k h l link q at t = by (nat_eq h k) refl
@@ -65,13 +65,13 @@ module _ (g : Relays Queued) where
       by true e =
           let there = ap (λ n. attached_at n l) (same_number h k e) ∙ t.attached in
           let is = one_link link (record { handle = q.handle; relay = q.before }) (attached_at h l) at there in
-          record { after = q.after; stands = refl; run = (q.after, subst (λ (r : Queued). g.transfer_gives r q.asked.0 q.asked.1 q.answer q.after) (sym (ap (λ (x : Attached Queued). x.relay) is)) t.stands, refl) }
+          record { after = q.after; stands = refl; run = (q.after, subst (λ (r : Queued). g.transfer_gives r q.asked.0 q.asked.1 q.answer q.after) (sym (ap (λ (x : AttachedLink Queued). x.relay) is)) t.stands, refl) }
       by false e = untold link
 
   -- ---- the questions of a disposition
 
   -- a relay under a handle after one question
-  disposed_one : (d : DispositionSaid) (r : Delivery) (h : ℕ) (l m : LinksView Queued) (link : Attached Queued) (q : DispositionQuestion Queued)
+  disposed_one : (d : DispositionSaid) (r : Delivery) (h : ℕ) (l m : LinksView Queued) (link : AttachedLink Queued) (q : DispositionQuestion Queued)
       → attached_at h l ≡ Some link → AsksAt g.disposition_gives d r (Some q) l m → (b : Bool) → nat_eq h q.asked.delivery.input_handle.0 ≡ b
       → (after : Queued) × Run g link.relay (cond b (ToldDisposition q.asked.role q.asked.settled q.asked.state q.asked.delivery.tag q.answer ∷ []) []) after
       × (attached_at h m ≡ Some (record link { relay = after })) × (cond b (where_goes q.after (Some link)) (Some link) ≡ Some (record link { relay = after }))
@@ -82,9 +82,9 @@ module _ (g : Relays Queued) where
       let test : nat_eq h r.input_handle.0 ≡ true = sym (ap (λ n. nat_eq h n) k) ∙ e in
       let put : attached_at h m ≡ Some (goes_on q) =
       ap (attached_at h) a.2 ∙ at_insert l.inputs r.input_handle.0 h (goes_on q) ∙ ap (λ b. cond b (Some (goes_on q)) (map.get l.inputs h)) test in
-      let now : goes_on q ≡ record link { relay = q.after } = ap (λ (x : Attached Queued). record x { relay = q.after }) (sym is) in (
+      let now : goes_on q ≡ record link { relay = q.after } = ap (λ (x : AttachedLink Queued). record x { relay = q.after }) (sym is) in (
         q.after,
-        (q.after, subst (λ (x : Queued). g.disposition_gives x q.asked.role q.asked.settled q.asked.state q.asked.delivery.tag q.answer q.after) (sym (ap (λ (x : Attached Queued). x.relay) is)) a.1.stands, refl),
+        (q.after, subst (λ (x : Queued). g.disposition_gives x q.asked.role q.asked.settled q.asked.state q.asked.delivery.tag q.answer q.after) (sym (ap (λ (x : AttachedLink Queued). x.relay) is)) a.1.stands, refl),
         put ∙ ap Some now,
         refl,
       )
@@ -96,14 +96,14 @@ module _ (g : Relays Queued) where
         refl,
       )
 
-  disposed_each : (d : DispositionSaid) (rs : List Delivery) (asked : List (DispositionQuestion Queued)) (h : ℕ) (l new : LinksView Queued) (link : Attached Queued)
+  disposed_each : (d : DispositionSaid) (rs : List Delivery) (asked : List (DispositionQuestion Queued)) (h : ℕ) (l new : LinksView Queued) (link : AttachedLink Queued)
       → attached_at h l ≡ Some link → AsksEach g.disposition_gives d rs asked l new → Goes link (told_of h asked) (asked_from h (Some link) asked)
   disposed_each d [] asked h l new link at t = subst (λ qs. Goes link (told_of h qs) (asked_from h (Some link) qs)) (sym t.0) (untold link)
   disposed_each d (r ∷ rs) asked h l new link at t =
       subst (λ qs. Goes link (told_of h qs) (asked_from h (Some link) qs)) (sym t.5) (by t.0 t.3 (λ x p. disposed_each d rs t.1 h t.2 new x p t.4))
     where
       by : (one : Option (DispositionQuestion Queued)) → AsksAt g.disposition_gives d r one l t.2
-          → ((x : Attached Queued) → attached_at h t.2 ≡ Some x → Goes x (told_of h t.1) (asked_from h (Some x) t.1))
+          → ((x : AttachedLink Queued) → attached_at h t.2 ≡ Some x → Goes x (told_of h t.1) (asked_from h (Some x) t.1))
           → Goes link (told_of h (behind one t.1)) (asked_from h (Some link) (behind one t.1))
       by None a others = others link (ap (attached_at h) a.1 ∙ at)
       by (Some q) a others =
@@ -115,7 +115,7 @@ module _ (g : Relays Queued) where
             run = run_on _ (told_of h t.1) link.relay o.0 i.after o.1 i.run;
           }
 
-  disposition_told : (d : DispositionSaid) (asked : List (DispositionQuestion Queued)) (result : _) (h : ℕ) (v w : SessionView Queued) (link : Attached Queued)
+  disposition_told : (d : DispositionSaid) (asked : List (DispositionQuestion Queued)) (result : _) (h : ℕ) (v w : SessionView Queued) (link : AttachedLink Queued)
       → attached_at h v.links ≡ Some link → TakeDispositionStep g.disposition_gives v d asked result w → Goes link (told_of h asked) (asked_from h (Some link) asked)
   disposition_told d asked (Ok None) h v w link at t = disposed_each d _ asked h v.links w.links link at t.1
   disposition_told d asked (Ok (Some echoes)) h v w link at t = disposed_each d _ asked h v.links w.links link at t.1.0
@@ -129,11 +129,11 @@ module _ (g : Relays Queued) where
   -- ---- one call
 
   -- where no other relay is put there
-  seated : (b : Bool) (link : Attached Queued) (o : Option (Attached Queued)) → not b ≡ true → Goes link [] (cond b o (Some link))
+  seated : (b : Bool) (link : AttachedLink Queued) (o : Option (AttachedLink Queued)) → not b ≡ true → Goes link [] (cond b o (Some link))
   seated true link o s = absurd cc
   seated false link o s = untold link
 
-  one_call : (e : Entry Queued) (h : ℕ) (v w : SessionView Queued) (link : Attached Queued) → attached_at h v.links ≡ Some link → stays_under h e ≡ true
+  one_call : (e : Entry Queued) (h : ℕ) (v w : SessionView Queued) (link : AttachedLink Queued) → attached_at h v.links ≡ Some link → stays_under h e ≡ true
       → Step g v e w → Goes link (told_by h e) (input_by h (Some link) e)
   one_call (SendsBegin r) h v w link at s t = untold link
   one_call (SendsEnd x r) h v w link at s t = untold link
@@ -180,11 +180,11 @@ module _ (g : Relays Queued) where
   chain_more [] e v u w c s = (w, subst (λ (x : SessionView Queued). Step g x e w) c s, refl)
   chain_more (x ∷ xs) e v u w c s = (c.0, c.1, chain_more xs e c.0 u w c.2 s)
 
-  pub input_on : (h : ℕ) (xs ys : List (Entry Queued)) (o : Option (Attached Queued)) → input_from h o (xs ++ ys) ≡ input_from h (input_from h o xs) ys
+  pub input_on : (h : ℕ) (xs ys : List (Entry Queued)) (o : Option (AttachedLink Queued)) → input_from h o (xs ++ ys) ≡ input_from h (input_from h o xs) ys
   input_on h [] ys o = refl
   input_on h (x ∷ xs) ys o = input_on h xs ys (input_by h o x)
 
-  pub hears : (m : Made) (es before : List (Entry Queued)) (v w : SessionView Queued) (h : ℕ) (link : Attached Queued)
+  pub hears : (m : Made) (es before : List (Entry Queued)) (v w : SessionView Queued) (h : ℕ) (link : AttachedLink Queued)
       → ((H : List (Entry Queued)) (x : SessionView Queued) → LeadsTo g m H x → Stands m H x)
       → LeadsTo g m before v → input_at h before ≡ Some link → All (StaysUnder h) es → Chain g v es w
       → Goes link (told_in h es) (input_from h (Some link) es)

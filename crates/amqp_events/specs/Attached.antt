@@ -1,8 +1,9 @@
+-- Part: other calls.
 -- What a session's history tells the relay of a link, from the peer's attach to its detach.
 use Rattle.std.specs.Prelude.{◌≡◌, ℕ, Bool, true, not, nat_eq, if◌then◌else◌, List, [], ◌∷◌, ◌++◌, All, Option, Some, Result, Ok}
 use Rattle.amqp_types.specs.Attach.{AttachSaid}
 use Rattle.amqp_types.specs.Detach.{DetachSaid}
-use Rattle.amqp_session.specs.declared.link.Attached.{Attached}
+use Rattle.amqp_session.specs.declared.link.AttachedLink.{AttachedLink}
 use Rattle.amqp_session.specs.declared.error.SessionInnerError.{SessionInnerError}
 use Rattle.amqp_session.specs.Relay.{Relays, AttachQuestion, DispositionQuestion, DetachQuestion}
 use Rattle.amqp_session.specs.Session.{SessionView}
@@ -43,7 +44,7 @@ abbrev pub StaysUnder : ℕ → Entry Queued → Type 0
 StaysUnder h e = stays_under h e ≡ true
 
 -- it stands there afterwards too, and its queue holds what it held, and behind that the events of what it was told meanwhile
-pub record HearsAll (h : ℕ) (H : List (Entry Queued)) (link : Attached Queued) (told : List Told) : Type 0 where
+pub record HearsAll (h : ℕ) (H : List (Entry Queued)) (link : AttachedLink Queued) (told : List Told) : Type 0 where
   pub after : Queued
   pub stands : input_at h H ≡ Some (record link { relay = after })
   pub events : RunGives link.relay told after
@@ -51,7 +52,7 @@ pub record HearsAll (h : ℕ) (H : List (Entry Queued)) (link : Attached Queued)
 -- ---- the law, of every history of a session
 
 abbrev pub Hears : Relays Queued → Type 0
-Hears g = (m : Made) (w : SessionView Queued) (before es : List (Entry Queued)) (h : ℕ) (link : Attached Queued)
+Hears g = (m : Made) (w : SessionView Queued) (before es : List (Entry Queued)) (h : ℕ) (link : AttachedLink Queued)
     → LeadsTo g m (before ++ es) w → input_at h before ≡ Some link → All (StaysUnder h) es → HearsAll h (before ++ es) link (told_in h es)
 
 -- the relay that waits under the name is told the peer's attach

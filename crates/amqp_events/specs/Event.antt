@@ -1,3 +1,4 @@
+-- Part: other calls.
 -- Events: their kinds, and what each call of a relay makes one of.
 use Rattle.std.specs.Prelude.{ℕ, List, Bool, Option, Some}
 use Rattle.amqp_types.specs.Attach.{AttachSaid}

@@ -1,3 +1,4 @@
+-- Part: other calls.
 -- Policy: what a relay answers (AMQP 1.0 part 2, sections 2.6.12, 2.7.3 to 2.7.5).
 use Rattle.std.specs.Prelude.{◌≡◌, ℕ, List, Bool, true, false, ◌&&◌, Option, Some, None, if◌then◌else◌, not}
 use Rattle.amqp_types.specs.Detach.{DetachSaid}

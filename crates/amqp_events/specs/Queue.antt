@@ -1,3 +1,4 @@
+-- Part: other calls.
 -- The queue of events.
 use Rattle.std.specs.Prelude.{◌≡◌, ℕ, ◌+◌, ◌-◌, ◌^◌, min, nat_lt, List, [], ◌∷◌, ◌++◌, Bool, true, false, Option, Some, None, Result, Ok, Err}
 use Rattle.amqp_session.specs.declared.error.LinkRelayError.{LinkRelayError}

@@ -1,3 +1,4 @@
+-- Part: other calls; inner.
 -- Room: numbers of events by kind.
 use Rattle.std.specs.Prelude.{ℕ, ◌+◌, ◌-◌, ◌≤◌, List, [], ◌∷◌}
 use Rattle.amqp_events.specs.declared.room.Room.{Room}

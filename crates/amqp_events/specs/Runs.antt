@@ -1,3 +1,4 @@
+-- Part: other calls.
 -- What a relay over a queue of its own is told in a row, and the events that its queue then holds.
 use Rattle.std.specs.Prelude.{◌≡◌, ◌⊎◌, ◌+◌, ◌-◌, ◌^◌, min, ℕ, zero, suc, List, [], ◌∷◌, ◌++◌, Bool, Option, Result, Ok, Err}
 use Rattle.amqp_types.specs.Attach.{AttachSaid}

@@ -1,3 +1,4 @@
+-- Part: other calls.
 -- What a relay does with what it is told: its event goes to its sink, and its answer is that of its policy.
 use Rattle.std.specs.Prelude.{◌≡◌, ◌⊎◌, ◌↔◌, ℕ, List, Bool, Option, Result, Ok, Err, IfOk, IsSome, IsTrue}
 use Rattle.amqp_types.specs.Attach.{AttachSaid}

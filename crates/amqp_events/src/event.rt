@@ -7,21 +7,34 @@ use amqp_session::{InputHandle, LinkFlow, OutputHandle};
 use amqp_types::{Attach, DeliveryTag, Detach, Handle, Raw, Role, Transfer};
 use bytes::Bytes;
 
-/// The names of a link, as far as its relay was told them (AMQP 1.0 part 2, section 2.6.2).
+/// The names of a link, as far as its relay knows them (AMQP 1.0 part 2, section 2.6.2).
 #[derive(Clone, Copy, Debug, PartialEq, Eq)]
 pub struct LinkNames {
     /// The number that the owner gave the session.
     pub session: u32,
     /// The handle in the frames that the peer sends: each of them names it, but for a disposition.
     pub input: Option<InputHandle>,
-    /// The handle in the frames that this side sends. A relay is told it with a flow and with a detach.
+    /// The handle in the frames that this side sends. A relay gets to know it with a flow and with a detach.
     pub output: Option<OutputHandle>,
 }
 
-/// What came for a link.
+/// What came for a link, and how the link is named.
+///
+/// ```
+/// let link = event.link;
+/// match event.body {
+///     EventBody::Attached(attach) => attached(link.input, attach),
+///     EventBody::Transfer {
+///         performative,
+///         payload,
+///     } => received(performative, payload),
+///     _other => {}
+/// }
+/// ```
 #[derive(Drop)]
 pub struct Event {
-    /// The link. A transfer behind a flow has the output handle too, and so has a disposition, which has the input handle that came last.
+    /// The link. A transfer that comes after a flow has the output handle too, and so has a disposition; that one has the input handle that
+    /// came last.
     pub link: LinkNames,
     /// What came.
     pub body: EventBody,
@@ -32,17 +45,18 @@ pub struct Event {
 pub enum EventBody {
     /// The peer attached the link.
     Attached(Attach),
-    /// The peer's flow, of which the link's part is told.
+    /// The link's part of the peer's flow.
     Flow(LinkFlow),
     /// A transfer.
     Transfer {
+        /// The performative of the transfer.
         performative: Transfer,
         /// The message, or the part of it that this transfer carries. It is moved, never copied.
         payload: Bytes,
     },
     /// The peer's disposition, as it concerns one open delivery: a range of several has an event for each.
     Disposition {
-        /// The end on which the peer stands.
+        /// The peer's end of the link.
         role: Role,
         /// Whether the peer settled the delivery.
         settled: bool,
@@ -53,13 +67,14 @@ pub enum EventBody {
     },
     /// The peer detached the link.
     Detached {
+        /// The peer's detach.
         detach: Detach,
-        /// Whether it began, and does not answer a detach of this side.
+        /// Whether the peer began the detach, and does not answer one of this side.
         remote_initiated: bool,
     },
 }
 
-/// What a peer sends more of, or less: a queue has room for each kind by itself.
+/// The kind of an event: a queue has room for each kind by itself.
 #[derive(Clone, Copy, Debug, PartialEq, Eq)]
 pub enum EventKind {
     /// An Attach or a Detach.
@@ -85,7 +100,7 @@ impl LinkNames {
 }
 
 impl EventBody {
-    /// The kind.
+    /// The kind of the event.
     pub fn kind(&self) -> EventKind
         ensures { result ≡ kind_of self.now }
     {

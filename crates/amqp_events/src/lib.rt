@@ -1,9 +1,9 @@
 //! Events: what comes for the links of a session, handed out in the order in which it came.
 //!
 //! A link's relay moves into the session, or into the engine, and no call lends it back. So an [`EventRelay`] shares a queue with the owner:
-//! each call of the relay puts one [`Event`] behind those that wait, and answers by its [`Policy`]. The owner makes one [`SharedQueue`] for a
+//! each call of the relay appends one [`Event`] to those that wait, and answers by its [`Policy`]. The owner makes one [`SharedQueue`] for a
 //! session, or for several, gives each relay a hold on it, and takes the events out between runs. An event has the number that the owner gave
-//! the session, and the link's handles as far as the relay was told them.
+//! the session, and the link's handles as far as the relay knows them.
 //!
 //! ```
 //! /// The relay of a link on which this side receives, in the owner's session 7.
@@ -43,8 +43,8 @@
 //!   the queue before it hands the session more transfers than that, as after each run of so many frames. A transfer past the room is refused
 //!   by name (`OutOfMemory`), and so is a peer that sends more than the window.
 //! - **Flows.** A peer may send any number. One past the room is refused by name.
-//! - **Attaches and detaches.** A relay is told at most one of each: room for two events for each relay that is made between two times that the
-//!   queue is emptied is enough.
+//! - **Attaches and detaches.** At most one of each comes to a relay. So room for two events is enough for each relay that is made between two
+//!   times that the queue is emptied.
 //! - **Dispositions.** A peer settles each open delivery once, and may send any number of unsettled ones before. A disposition and a detach have
 //!   no answer by which to refuse them: one past the room is missed, and `missed` counts it. What came before is still there, in order; an owner
 //!   who finds that the count has risen has not seen all, and may end the session.
@@ -56,8 +56,8 @@
 //!
 //! No contract can say what a cell holds, so none says what is in a [`SharedQueue`]. Therefore a relay is proved for every [`EventSink`], by the
 //! sink's relations alone; and an [`EventQueue`], which contracts see as its list of events, is a sink. The law of such a relay is
-//! [`laws::law_of_runs`]: whatever it is told in a row, its queue holds what it held, and behind that the events of the calls, in order. And
-//! what a session tells it is what the session's history says: [`laws::law_of_sessions`].
+//! [`laws::law_of_runs`]: after any calls its queue holds what it held, and after that the events of the calls, in order. And which calls a
+//! session makes of it is what the session's history says: [`laws::law_of_sessions`].
 //!
 //! A contract refuses a body of the queue or of the relay by which an event is dropped, two swap, a later one overwrites another, one names
 //! another link or carries another payload, one that was refused is half there, or all are refused. What is left to a test is the six lines by

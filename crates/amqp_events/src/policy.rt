@@ -12,6 +12,12 @@ use amqp_types::{
 use std::alloc::AllocError;
 
 /// What the relay of a link answers.
+///
+/// ```
+/// let mut policy = Policy::new(Role::Sender, ReceiverSettleMode::First);
+/// policy.echoed = Echoed::Never;
+/// policy.answers_detaches = true;
+/// ```
 #[derive(Clone, Copy, Debug, PartialEq, Eq)]
 pub struct Policy {
     /// The end of the link on which this side stands. A transfer to the sending end is refused.
@@ -22,8 +28,8 @@ pub struct Policy {
     pub recorded: Recorded,
     /// Which dispositions of the peer are answered by a settled one.
     pub echoed: Echoed,
-    /// Whether a flow with `echo` is answered (AMQP 1.0 part 2, section 2.7.4). The answer says what the peer's flow said: a relay is not told
-    /// what this side sends or grants. An owner who keeps those numbers leaves this off, and sends its own flow.
+    /// Whether a flow with `echo` is answered (AMQP 1.0 part 2, section 2.7.4). The answer says what the peer's flow said: a relay does not
+    /// know what this side sends or grants. An owner who keeps those numbers leaves this off, and sends its own flow.
     pub answers_flows: bool,
     /// Whether a detach that the peer began is answered by one. It releases neither name nor handle: an owner who leaves this off and sends its
     /// own detach has both back.
@@ -31,14 +37,14 @@ pub struct Policy {
 }
 
 /// Which received deliveries are named to the session, which keeps a record of each until the peer settles it, or this side lets it go (AMQP
-/// 1.0 part 2, section 2.6.12). None is that came settled, that is aborted, or whose transfer lacks its number or its tag.
+/// 1.0 part 2, section 2.6.12). A delivery that came settled, that is aborted, or whose transfer lacks its number or its tag is never named.
 #[derive(Clone, Copy, Debug, PartialEq, Eq)]
 pub enum Recorded {
     /// None.
     Never,
     /// Those that the receiver settles after the sender: of receiver settle mode `second`.
     OfModeSecond,
-    /// Of either mode. What this side settles by itself it lets go by `Session::settle`.
+    /// Those of either mode. What this side settles by itself it lets go by `Session::settle`.
     OfEitherMode,
 }
 
@@ -93,8 +99,8 @@ impl Policy {
         }
     }
 
-    /// The number and the tag of the delivery that a received transfer opens, if any. The tag's bytes are shared: it fails only where one is
-    /// opened and they cannot be.
+    /// The number and the tag of the delivery that a received transfer opens, if any. The tag shares its bytes with the transfer. `AllocError`
+    /// only where a delivery is opened and its bytes cannot be shared.
     pub fn opened(
         &self,
         transfer: &Transfer,
@@ -111,7 +117,8 @@ impl Policy {
         }
     }
 
-    /// Whether the peer's disposition of a delivery is to be answered by a settled one.
+    /// Whether the peer's disposition of a delivery is to be answered by a settled one. `role` is the peer's: a disposition of a sending
+    /// peer, and a settled one, is never answered.
     pub fn echoes(&self, role: Role, settled: bool, state: Option<&Raw>) -> bool
         ensures { IsTrue result ↔ IsEchoed self.now.echoed role settled (option_copied state.entry) }
     {
@@ -128,7 +135,8 @@ impl Policy {
         }
     }
 
-    /// The flow that answers a flow of the peer's, if any.
+    /// The flow that answers a flow of the peer's. `None` where `answers_flows` is off, or where the peer asks for no echo. `handle` is the
+    /// link's output handle.
     pub fn flow_answer(&self, handle: OutputHandle, flow: &LinkFlow) -> Option<LinkFlow>
         ensures { result ≡ flow_answer self.now handle flow.now }
     {
@@ -146,7 +154,8 @@ impl Policy {
         })
     }
 
-    /// The detach that answers a detach of the peer's, if any.
+    /// The detach that answers a detach of the peer's: closed alike, without an error. `None` where `answers_detaches` is off, or where the
+    /// peer did not begin the detach. `handle` is the link's output handle.
     pub fn detach_answer(
         &self,
         handle: OutputHandle,

@@ -13,6 +13,12 @@ use std::marker::Model;
 
 /// The events that wait, in the order in which they came. Memory for as many of each kind as there is room for is taken when the queue is
 /// made; after that it asks for none. A contract sees the room, the list of the events, and how many were missed.
+///
+/// ```
+/// let mut queue = EventQueue::with_room(alloc, room)?;
+/// queue.push(event)?;        // `OutOfMemory` where there is no room for its kind
+/// let first = queue.pop();
+/// ```
 #[derive(Drop)]
 pub struct EventQueue {
     room: Room,
@@ -35,7 +41,7 @@ impl Model for EventQueue {
 }
 
 impl EventQueue {
-    /// A queue of no events, with room for so many of each kind. Fails where memory for them is refused.
+    /// A queue of no events, with room for so many of each kind. `AllocError` where memory for them is refused.
     pub fn with_room(alloc: Global, room: Room) -> Result<EventQueue, AllocError>
         ensures { IfOk result (λ q. q ≡ new_queue room) }
     {
@@ -75,7 +81,8 @@ impl EventQueue {
         self.used.of(kind) < self.room.of(kind)
     }
 
-    /// Puts an event behind all that wait. `OutOfMemory` exactly where there is no room for one more of its kind: then nothing changes.
+    /// Appends an event to those that wait. `OutOfMemory` exactly where there is no room for one more of its kind: then the queue stays as it
+    /// was, and the event is dropped.
     pub fn push(&mut self, event: Event) -> Result<(), LinkRelayError>
         ensures { Pushes self.old event result self.new }
     {
@@ -96,7 +103,7 @@ impl EventQueue {
         Some(event)
     }
 
-    /// Notes that an event was missed.
+    /// Counts one more event as missed.
     pub fn miss(&mut self)
         ensures { Misses self.old self.new }
     {
@@ -104,7 +111,7 @@ impl EventQueue {
         *missed = missed.saturating_add(1);
     }
 
-    /// Puts an event behind all that wait, where there is room for one more of its kind.
+    /// Appends an event to those that wait, where there is room for one more of its kind.
     fn append(&mut self, event: Event)
         requires { has_room self.old (kind_of event.body) ≡ true }
         ensures { self.new ≡ record self.old { events = self.old.events ++ event ∷ [] } }

@@ -1,4 +1,4 @@
-//! The relay: it puts what its link is told into a sink, and answers by its policy.
+//! The relay: it puts what comes for its link into a sink, and answers by its policy.
 
 ghost use Rattle.std.specs.Prelude.{◌≡◌, None, Some, IfOk, option_copied};
 ghost use Rattle.amqp_events.specs.Event.{under_both, disposed};
@@ -14,6 +14,13 @@ use std::alloc::AllocError;
 
 /// The relay of one link. Each call puts one event into the sink, and answers by the policy. Where the sink refuses an attach, a flow or a
 /// transfer, the call is refused alike, and the relay stays as it was; a disposition or a detach, which has no such answer, is missed then.
+/// A transfer to the sending end of a link is refused `TransferFrameToSender`, and has no event.
+///
+/// ```
+/// let policy = Policy::new(Role::Receiver, ReceiverSettleMode::First);
+/// let relay = EventRelay::new(queue.share()?, 7, policy);
+/// let input = Input::AllocateLink(SessionNo(7), name, Some(relay));
+/// ```
 #[derive(Drop)]
 pub struct EventRelay<S> {
     sink: S,
@@ -22,7 +29,7 @@ pub struct EventRelay<S> {
 }
 
 impl<S> EventRelay<S> {
-    /// A relay of a link in the session with this number, which is the owner's choice and stands in each event.
+    /// A relay of a link in the session with this number, which is the owner's choice and stands in each event. Its handles are not known yet.
     pub fn new(sink: S, session: u32, policy: Policy) -> EventRelay<S>
         ensures { result ≡ record {
           sink = sink;
@@ -41,7 +48,8 @@ impl<S> EventRelay<S> {
         }
     }
 
-    /// A relay of a link that stands under this input handle from the start, as `Session::allocate_incoming_link` puts it: no attach is told.
+    /// A relay of a link that stands under this input handle from the start, as `Session::allocate_incoming_link` puts it: no attach comes to
+    /// it.
     pub fn attached(sink: S, session: u32, input: InputHandle, policy: Policy) -> EventRelay<S>
         ensures { result ≡ record {
           sink = sink;
@@ -54,7 +62,7 @@ impl<S> EventRelay<S> {
         relay
     }
 
-    /// The sink. The rest of the relay ends here.
+    /// The sink. The rest of the relay is dropped.
     pub fn into_sink(self) -> S
         ensures { result ≡ self.sink }
     {
@@ -83,7 +91,7 @@ impl<S: EventSink> EventRelay<S> {
         }
     }
 
-    /// The names of the link, where a frame is told with both handles.
+    /// The names of the link, where both of its handles are given with a frame.
     fn names(&self, input: InputHandle, output: OutputHandle) -> LinkNames
         ensures { result ≡ under_both input.0 output self.now.link }
     {

@@ -5,10 +5,20 @@ ghost use Rattle.amqp_events.specs.Room.{room_of, total, raised, lowered};
 
 use crate::event::EventKind;
 
-/// A number of events of each kind.
+/// A number of events of each kind, each 0 to 4294967295: what [`SharedQueue::with_room`](crate::SharedQueue::with_room) takes memory for.
+///
+/// ```
+/// let room = Room {
+///     links: 2,
+///     flows: 16,
+///     transfers: 5000, // one incoming window
+///     dispositions: 64,
+/// };
+/// let queue = SharedQueue::with_room(alloc, room)?;
+/// ```
 #[derive(Clone, Copy, Debug, PartialEq, Eq)]
 pub struct Room {
-    /// Attaches and detaches. A relay is told at most one of each.
+    /// Attaches and detaches. At most one of each comes to a relay.
     pub links: u32,
     /// Flows. A peer may send any number of them.
     pub flows: u32,
@@ -32,7 +42,7 @@ impl Room {
         }
     }
 
-    /// The number of all kinds together.
+    /// The number of all kinds together, below 2^34.
     pub fn total(&self) -> usize
         ensures value { result ≡ total self.now }
         ensures bound { result < 2 ^ 34 }

@@ -14,13 +14,24 @@ use std::rc::Rc;
 
 /// A hold on a queue of events, of which there may be several: one for the owner, and one for each relay. No contract can say what a cell holds;
 /// what each call does to the queue is what [`EventQueue`]'s call of that name does.
+///
+/// ```
+/// let queue = SharedQueue::with_room(alloc, room)?;
+/// let relay = EventRelay::new(queue.share()?, 7, policy); // goes to the session, by `Input::AllocateLink`
+/// // After a run of the engine:
+/// for _ in 0..queue.len() {
+///     if let Some(event) = queue.pop() {
+///         // ..
+///     }
+/// }
+/// ```
 #[derive(Drop)]
 pub struct SharedQueue {
     queue: Rc<RefCell<EventQueue>>,
 }
 
 impl SharedQueue {
-    /// A queue of no events, as `EventQueue::with_room` makes it. Fails where memory is refused.
+    /// A queue of no events, as `EventQueue::with_room` makes it. `AllocError` where memory is refused.
     pub fn with_room(alloc: Global, room: Room) -> Result<SharedQueue, AllocError> {
         let queue = EventQueue::with_room(alloc, room)?;
         Ok(SharedQueue {
@@ -28,7 +39,7 @@ impl SharedQueue {
         })
     }
 
-    /// Another hold on the same queue. It takes no memory, and fails where there are as many holds as can be counted.
+    /// Another hold on the same queue. It takes no memory. `AllocError` where there are as many holds as can be counted.
     pub fn share(&self) -> Result<SharedQueue, AllocError> {
         Ok(SharedQueue {
             queue: self.queue.clone()?,
@@ -51,7 +62,7 @@ impl SharedQueue {
         }
     }
 
-    /// How many events were missed.
+    /// How many events were missed since the queue was made, up to 18446744073709551615: dispositions and detaches for which there was no room.
     pub fn missed(&self) -> u64 {
         match self.queue.try_borrow() {
             Ok(queue) => queue.missed(),

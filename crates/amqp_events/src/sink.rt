@@ -12,13 +12,13 @@ use amqp_session::LinkRelayError;
 /// Where a relay puts its events. A relation says of each call how the sink before it, what is put, the answer and the sink after it belong
 /// together: a relay is proved for every sink, by these relations alone.
 pub trait EventSink: Drop {
-    /// How a sink takes an event, or refuses it.
+    /// The relation of taking an event, or refusing it.
     ghost puts: { Self → Event → Result (Unit {0}) LinkRelayError → Self → Type 0 };
 
-    /// How a sink notes that an event was missed.
+    /// The relation of noting that an event was missed.
     ghost misses: { Self → Self → Type 0 };
 
-    /// Takes an event, behind all that it took before, or refuses it.
+    /// Takes an event, after all that it took before, or refuses it.
     fn put(&mut self, event: Event) -> Result<(), LinkRelayError>
         ensures { puts self.old event result self.new };
 

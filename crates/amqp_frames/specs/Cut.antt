@@ -1,3 +1,4 @@
+-- Part: the bytes; other calls.
 -- How a frame is cut into pieces that keep a limit (AMQP 1.0 part 2, section 2.6.14).
 use Rattle.std.specs.Prelude.{◌≡◌, ◌<◌, ◌≤◌, ◌+◌, ◌-◌, ◌⊎◌, ℕ, List, [], ◌∷◌, ◌++◌, length, map, All, nat_lt}
 use Rattle.std.specs.Prelude.{if◌then◌else◌, Option, Some, None, Result, Ok, Err}

@@ -1,3 +1,4 @@
+-- Part: inner.
 -- What the steps of decoding answer: the header, then the descriptor.
 use Rattle.std.specs.Prelude.{◌≡◌, ◌<◌, ◌≤◌, ℕ, List, [], ◌∷◌, ◌++◌, length, drop, Option, Some, None, Result, Ok, Err}
 use Rattle.std.specs.Int.{w16, from_be_bytes}

@@ -1,3 +1,4 @@
+-- Part: the bytes.
 -- Frames: their grammar, and the text of one (AMQP 1.0 part 2, section 2.3).
 use Rattle.std.specs.Prelude.{◌≡◌, ◌<◌, ◌≤◌, ◌⊎◌, ℕ, List, [], ◌∷◌, ◌++◌, length, Result, Ok, Err}
 use Rattle.std.specs.Int.{w16, from_be_bytes, to_be_bytes}

@@ -1,3 +1,4 @@
+-- Part: other calls.
 -- How an error of reading is told of a frame.
 use Rattle.amqp_values.specs.declared.error.ReadError.{ReadError}
 use Rattle.amqp_values.specs.declared.error.ReadError.TheVariants as read

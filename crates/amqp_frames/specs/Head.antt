@@ -1,3 +1,4 @@
+-- Part: other calls; inner.
 -- A frame's head, which is its header and its descriptor, and the fields behind it.
 use Rattle.std.specs.Prelude.{◌≡◌, ◌<◌, ◌≤◌, ◌↔◌, ◌⊎◌, ℕ, List, [], ◌∷◌, ◌++◌, length, Option, Some, None, Result, Ok, Err}
 use Rattle.std.specs.Int.{w16, from_be_bytes}

@@ -1,3 +1,4 @@
+-- Part: other calls; inner.
 -- The room from which the heads of frames are cut.
 use Rattle.std.specs.Prelude.{◌≡◌, ◌<◌, ◌≤◌, ◌+◌, ℕ, length, Result, Ok, Err}
 use Rattle.amqp_frames.specs.declared.frame.Frame.{Frame}

@@ -1,3 +1,4 @@
+-- Part: inner.
 -- What the steps of splitting a delivery make.
 use Rattle.std.specs.Prelude.{◌≡◌, ◌≤◌, ◌+◌, ℕ, List, [], ◌∷◌, ◌++◌, length, map, All, true}
 use Rattle.amqp_values.specs.Reading.{joined}

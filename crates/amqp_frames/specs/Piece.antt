@@ -1,3 +1,4 @@
+-- Part: the bytes; other calls; inner.
 -- Pieces: a head, and a part of a payload.
 use Rattle.std.specs.Prelude.{◌≡◌, ◌<◌, ◌^◌, ℕ, List, ◌++◌, length, Result, Ok, Err}
 use Rattle.amqp_values.specs.Same.{Test, both, field, texts}

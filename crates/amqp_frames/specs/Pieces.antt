@@ -1,3 +1,4 @@
+-- Part: inner.
 -- What the steps of cutting make.
 use Rattle.std.specs.Prelude.{◌≡◌, ◌≤◌, ◌+◌, ℕ, List, [], ◌∷◌, ◌++◌, length, map, All, Result, Ok, Err}
 use Rattle.amqp_values.specs.Reading.{joined}

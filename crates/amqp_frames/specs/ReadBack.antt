@@ -1,3 +1,4 @@
+-- Part: the bytes.
 -- What decoding gives of encoded bytes: the frame that was encoded, or the transfers that it was cut into.
 use Rattle.std.specs.Prelude.{◌≡◌, ◌⊎◌, ℕ, List, [], ◌∷◌, ◌++◌, map, All, Result, Ok, Err}
 use Rattle.amqp_values.specs.Reading.{joined}

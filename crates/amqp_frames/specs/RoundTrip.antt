@@ -1,3 +1,4 @@
+-- Part: other calls.
 -- What holds of the pieces of every frame: they keep the limit, carry the payload, and are read back.
 use Rattle.std.specs.Prelude.{◌≡◌, ◌<◌, ◌≤◌, ◌^◌, ℕ, List, [], ◌∷◌, ◌++◌, length, map, All}
 use Rattle.amqp_values.specs.Reading.{joined}

@@ -1,3 +1,4 @@
+-- Part: other calls.
 -- A delivery as transfers that are one frame each, whatever number it gets (AMQP 1.0 part 2, sections 2.5.6 and 2.6.14).
 use Rattle.std.specs.Prelude.{◌≡◌, ◌≤◌, ◌+◌, ◌⊎◌, ℕ, List, [], ◌∷◌, ◌++◌, length, map, All, Bool, true, false, Some, None, Result, Ok, Err}
 use Rattle.std.specs.Prelude.{if◌then◌else◌}

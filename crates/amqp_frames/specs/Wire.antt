@@ -1,3 +1,4 @@
+-- Part: other calls.
 -- What is sent: each piece behind its size (AMQP 1.0 part 2, section 2.3).
 use Rattle.std.specs.Prelude.{◌≡◌, ◌<◌, ◌^◌, ℕ, ◌+◌, List, [], ◌∷◌, ◌++◌, length, Result, Ok, Err}
 use Rattle.std.specs.Int.{w32, to_be_bytes}

@@ -1,3 +1,4 @@
+-- Part: inner.
 -- Bytes in one buffer, and parts that are shared: which bytes they are together, in order.
 use Rattle.std.specs.Prelude.{◌≡◌, ◌≤◌, ℕ, ◌+◌, List, [], ◌∷◌, ◌++◌, length, take, drop}
 use Rattle.std.specs.Prelude.{◌<◌, ◌-◌, ◌⊎◌, min, if◌then◌else◌, nat_le}

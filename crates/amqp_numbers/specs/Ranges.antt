@@ -1,3 +1,4 @@
+-- Part: every call exactly; inner.
 -- A set of numbers in ranges.
 use Rattle.std.specs.Prelude.{ℕ, zero, suc, ◌+◌, ◌-◌, ◌^◌, ◌<◌, ◌≤◌, ◌≡◌, Bool, true, false, ◌&&◌, ◌||◌, nat_lt, nat_le, List, [], ◌∷◌, take, drop, length}
 use Rattle.std.specs.Ordering.{nat_cmp}

@@ -1,3 +1,4 @@
+-- Part: every call exactly; other calls; inner.
 -- Open deliveries: one record for each number, by rising number (AMQP 1.0 part 2, section 2.6.12).
 use Rattle.std.specs.Prelude.{ℕ, ◌<◌, ◌^◌, List, [], ◌∷◌, Option, Some, None, Bool, true, false, if◌then◌else◌, nat_eq, nat_lt, nat_le, map}
 use Rattle.std.specs.Prelude.{◌≡◌, slice_index, length, take, drop, ◌++◌, ◌+◌, ◌-◌, ◌%◌}

@@ -1,3 +1,4 @@
+-- Part: every call exactly; other calls; inner.
 -- What a disposition means, asks and answers, and what this side settles by itself (AMQP 1.0 part 2, sections 2.6.12 and 2.7.6).
 -- Delivery numbers are serial numbers (section 2.8.10).
 use Rattle.std.specs.Prelude.{◌≡◌, ◌<◌, ◌≤◌, ◌+◌, ◌-◌, ◌*◌, ◌%◌, ◌^◌, ◌&&◌, ◌⊎◌, ◌↔◌, IsTrue, ℕ, Bool, true, false, not, if◌then◌else◌}
@@ -10,7 +11,7 @@ use Rattle.amqp_types.specs.declared.definitions.Role.{Role}
 use Rattle.amqp_types.specs.declared.definitions.Role.TheVariants.{Sender}
 use Rattle.amqp_session.specs.declared.deliveries.Delivery.{Delivery}
 use Rattle.amqp_session.specs.declared.deliveries.WalkCount.{WalkCount}
-use Rattle.amqp_session.specs.Runs.{Run}
+use Rattle.amqp_session.specs.Runs.{DeliveryRange}
 use Rattle.amqp_session.specs.declared.frame.SessionFrame.{SessionFrame}
 use Rattle.amqp_session.specs.declared.frame.SessionFrameBody.TheVariants as Body
 use Rattle.amqp_session.specs.declared.session.receiving.Receiving.{Receiving}
@@ -101,32 +102,32 @@ agreed asked = map (λ q. q.asked.delivery.number) (filter (λ q. q.answer) aske
 -- ---- the echoes: maximal runs without gaps
 
 -- whether a number is in a run, by distances from the first number of the disposition
-abbrev pub is_in : ℕ → ℕ → Run → Bool
+abbrev pub is_in : ℕ → ℕ → DeliveryRange → Bool
 is_in first n r = nat_le (distance first r.first) (distance first n) && nat_le (distance first n) (distance first r.last)
 
 -- at least one number is missing between this one and the first of these runs
-abbrev pub IsGapBefore : ℕ → ℕ → List Run → Type 0
+abbrev pub IsGapBefore : ℕ → ℕ → List DeliveryRange → Type 0
 IsGapBefore first n [] = Unit {0}
 IsGapBefore first n (r ∷ rs) = distance first n + 1 < distance first r.first
 
 -- Each run goes from its first number forward to its last, the runs rise, and there is a gap between two neighbours.
-abbrev pub AreApart : ℕ → List Run → Type 0
+abbrev pub AreApart : ℕ → List DeliveryRange → Type 0
 AreApart first [] = Unit {0}
 AreApart first (r ∷ rs) =
     (r.first < 2 ^ 32) × (r.last < 2 ^ 32) × (distance first r.first ≤ distance first r.last)
     × IsGapBefore first r.last rs × AreApart first rs
 
 -- These are the runs of the numbers: together they hold exactly them.
-pub record AreRuns (first : ℕ) (numbers : List ℕ) (runs : List Run) : Type 0 where
+pub record AreRuns (first : ℕ) (numbers : List ℕ) (runs : List DeliveryRange) : Type 0 where
   pub apart : AreApart first runs
   pub hold : (n : ℕ) → n < 2 ^ 32 → list_any (is_in first n) runs ≡ list_any (nat_eq n) numbers
 
 -- the disposition that is sent back for a run
-abbrev pub echo_of : Option (List ℕ) → Run → DispositionSaid
+abbrev pub echo_of : Option (List ℕ) → DeliveryRange → DispositionSaid
 echo_of state r = record { role = Sender; first = r.first; last = Some r.last; settled = true; state = state; batchable = false }
 
 pub record Echoes (d : DispositionSaid) (numbers : List ℕ) (echoes : List DispositionSaid) : Type 0 where
-  pub runs : List Run
+  pub runs : List DeliveryRange
   pub are_runs : AreRuns d.first numbers runs
   pub are_said : echoes ≡ map (echo_of d.state) runs
 

@@ -1,3 +1,4 @@
+-- Part: every call exactly; handles; other calls.
 -- Each error goes on as the variant of the same name, with what it holds.
 use Rattle.amqp_session.specs.declared.error.SessionStateError.{SessionStateError}
 use Rattle.amqp_session.specs.declared.error.SessionStateError.TheVariants as Begun

@@ -1,3 +1,4 @@
+-- Part: other calls.
 -- Maps whose keys the peer chooses: how their keys are hashed, and what such a map is.
 use Rattle.std.specs.Prelude.{ℕ, List}
 use Rattle.std.specs.Hash.DefaultHasher.{initial}

@@ -1,3 +1,4 @@
+-- Part: the promise; every call exactly.
 -- What holds of every history of one session, said of the history alone (AMQP 1.0 part 2, section 2.5.6).
 use Rattle.std.specs.Prelude.{◌≡◌, ◌⊎◌, ◌<◌, ◌≤◌, ◌+◌, ◌%◌, ◌^◌, ℕ, true, false, if◌then◌else◌, List, [], ◌∷◌, ◌++◌, length, take, drop}
 use Rattle.std.specs.Prelude.{slice_get, Option, Some, None, is_some, Result, Ok, Err, unwrap_or}

@@ -1,3 +1,4 @@
+-- Part: the promise; every call exactly; other calls.
 -- The history of one session: its calls with their arguments, answers and questions to relays, the oldest first.
 use Rattle.std.specs.Prelude.{◌≡◌, ◌<◌, ◌^◌, ℕ, Bool, List, [], ◌∷◌, Option, Result}
 use Rattle.amqp_types.specs.Error.{ErrorSaid}

@@ -1,3 +1,4 @@
+-- Part: the promise; every call exactly.
 -- What a call hands out: nothing, one frame, or several in order.
 use Rattle.std.specs.Prelude.{◌≡◌, List, [], ◌∷◌, Option, Some, None, Bool, true, false}
 use Rattle.amqp_session.specs.declared.frame.SessionFrame.{SessionFrame}

@@ -16,7 +16,6 @@ pub mod Step
 pub mod Linking
 pub mod Runs
 pub mod Disposing
-pub mod Walks
 pub mod History
 pub mod Received
 pub mod Linked
@@ -26,3 +25,4 @@ pub mod Pair
 pub mod PairLedger
 pub mod PairOrder
 pub mod Hashing
+pub mod Inner

@@ -1,3 +1,4 @@
+-- Part: every call exactly; other calls.
 -- The part of a Flow that speaks of one link (AMQP 1.0 part 2, section 2.7.4).
 use Rattle.std.specs.Prelude.{ℕ, Option, None, false}
 use Rattle.std.specs.Option.{option_map}

@@ -1,11 +1,12 @@
+-- Part: every call exactly; other calls.
 -- What a history says of links: how each output handle is taken, which link is live by each name, and which relay stands under
 -- each input handle (AMQP 1.0 part 2, sections 2.6.1 to 2.6.6).
 use Rattle.std.specs.Prelude.{◌≡◌, ◌↔◌, ℕ, Bool, if◌then◌else◌, nat_eq, bytes_eq, List, [], ◌∷◌, ◌++◌, Option, Some, None, Ok, Err, true}
 use Rattle.std.specs.Prelude.{false}
 use Rattle.amqp_types.specs.Detach.{DetachSaid}
 use Rattle.amqp_session.specs.declared.frame.SessionFrame.{SessionFrame}
-use Rattle.amqp_session.specs.declared.link.Named.{Named}
-use Rattle.amqp_session.specs.declared.link.Attached.{Attached}
+use Rattle.amqp_session.specs.declared.link.LiveLink.{LiveLink}
+use Rattle.amqp_session.specs.declared.link.AttachedLink.{AttachedLink}
 use Rattle.std.specs.FinMap as map
 use Rattle.amqp_session.specs.Links.{LinksView}
 use Rattle.amqp_session.specs.Relay.{DispositionQuestion, goes_on}
@@ -58,19 +59,19 @@ taken_at k H = taken_from k None H
 -- ---- names (sections 2.6.1 and 2.6.3)
 
 -- the link that was live by a name, unless it was on this output handle
-abbrev pub unless_on : {R : Type 0} → ℕ → Option (Named R) → Option (Named R)
+abbrev pub unless_on : {R : Type 0} → ℕ → Option (LiveLink R) → Option (LiveLink R)
 unless_on h None = None
 unless_on h (Some n) = if nat_eq n.handle.0 h then None else Some n
 
 -- the same link, and this relay, if any, waits for the peer's attach
-abbrev pub where_waits : {R : Type 0} → Option R → Option (Named R) → Option (Named R)
+abbrev pub where_waits : {R : Type 0} → Option R → Option (LiveLink R) → Option (LiveLink R)
 where_waits relay None = None
 where_waits relay (Some n) = Some (record n { waiting = relay })
 
 -- The live link of a name after a call, with its output handle and the relay that waits for the peer's attach, if any. An
 -- allotment makes it, and a release or a detach of this side on its handle ends it. The peer's attach under the name leaves
 -- none waiting where it is accepted; else the relay that was asked goes on to wait.
-abbrev pub live_by : {R : Type 0} → List ℕ → Option (Named R) → Entry R → Option (Named R)
+abbrev pub live_by : {R : Type 0} → List ℕ → Option (LiveLink R) → Entry R → Option (LiveLink R)
 live_by name old (AllocatesLink new relay (Ok h)) = if bytes_eq name new then Some (record { handle = h; waiting = relay }) else old
 live_by name old (AllocatesIncomingLink new relay input (Ok h)) =
     if bytes_eq name new then Some (record { handle = h; waiting = None }) else old
@@ -80,18 +81,18 @@ live_by name old (TakesAttach a (Some q) (Ok u)) = if bytes_eq name a.name then 
 live_by name old (TakesAttach a (Some q) (Err e)) = if bytes_eq name a.name then where_waits (Some q.after) old else old
 live_by name old e = old
 
-abbrev pub live_from : {R : Type 0} → List ℕ → Option (Named R) → List (Entry R) → Option (Named R)
+abbrev pub live_from : {R : Type 0} → List ℕ → Option (LiveLink R) → List (Entry R) → Option (LiveLink R)
 live_from name old [] = old
 live_from name old (e ∷ es) = live_from name (live_by name old e) es
 
 -- after a history: no link is live at first
-abbrev pub live_at : {R : Type 0} → List ℕ → List (Entry R) → Option (Named R)
+abbrev pub live_at : {R : Type 0} → List ℕ → List (Entry R) → Option (LiveLink R)
 live_at name H = live_from name None H
 
 -- ---- input handles (section 2.6.2)
 
 -- the relay that stood there goes on to another state
-abbrev pub where_goes : {R : Type 0} → R → Option (Attached R) → Option (Attached R)
+abbrev pub where_goes : {R : Type 0} → R → Option (AttachedLink R) → Option (AttachedLink R)
 where_goes after None = None
 where_goes after (Some link) = Some (record link { relay = after })
 
@@ -101,14 +102,14 @@ speaks_of h None = false
 speaks_of h (Some k) = nat_eq h k
 
 -- the relay under an input handle, after each of these questions that was of a delivery under it
-abbrev pub asked_from : {R : Type 0} → ℕ → Option (Attached R) → List (DispositionQuestion R) → Option (Attached R)
+abbrev pub asked_from : {R : Type 0} → ℕ → Option (AttachedLink R) → List (DispositionQuestion R) → Option (AttachedLink R)
 asked_from h old [] = old
 asked_from h old (q ∷ qs) = asked_from h (if nat_eq h q.asked.delivery.input_handle.0 then where_goes q.after old else old) qs
 
 -- The relay under an input handle after a call, with the output handle of its link. It is put there by an allotment for an
 -- incoming link and by the peer's attach where that is accepted, goes on with each flow, transfer and disposition that asked it, and
 -- is gone with the peer's detach.
-abbrev pub input_by : {R : Type 0} → ℕ → Option (Attached R) → Entry R → Option (Attached R)
+abbrev pub input_by : {R : Type 0} → ℕ → Option (AttachedLink R) → Entry R → Option (AttachedLink R)
 input_by h old (AllocatesIncomingLink name relay input (Ok k)) =
     if nat_eq h input.0 then Some (record { handle = k; relay = relay }) else old
 input_by h old (TakesAttach a (Some q) (Ok u)) = if nat_eq h a.handle then Some (goes_on q) else old
@@ -118,18 +119,18 @@ input_by h old (TakesDisposition d asked result) = asked_from h old asked
 input_by h old (TakesDetach d (Some q) result) = if nat_eq h d.handle then None else old
 input_by h old e = old
 
-abbrev pub input_from : {R : Type 0} → ℕ → Option (Attached R) → List (Entry R) → Option (Attached R)
+abbrev pub input_from : {R : Type 0} → ℕ → Option (AttachedLink R) → List (Entry R) → Option (AttachedLink R)
 input_from h old [] = old
 input_from h old (e ∷ es) = input_from h (input_by h old e) es
 
 -- after a history: no relay stands there at first
-abbrev pub input_at : {R : Type 0} → ℕ → List (Entry R) → Option (Attached R)
+abbrev pub input_at : {R : Type 0} → ℕ → List (Entry R) → Option (AttachedLink R)
 input_at h H = input_from h None H
 
 -- ---- what holds of the links of every history
 
 -- the output handle of a live link
-abbrev pub handle_of : {R : Type 0} → Option (Named R) → Option ℕ
+abbrev pub handle_of : {R : Type 0} → Option (LiveLink R) → Option ℕ
 handle_of None = None
 handle_of (Some n) = Some n.handle.0
 

@@ -1,3 +1,4 @@
+-- Part: every call exactly; inner.
 -- What each call of a session for its links does: output handles are allotted and released, and links are attached and detached
 -- (AMQP 1.0 part 2, sections 2.6.2 to 2.6.6).
 use Rattle.std.specs.Prelude.{◌≡◌, ◌<◌, ◌^◌, ℕ, Bool, true, false, not, if◌then◌else◌, List, Option, Some, None, Result, Ok, Err, IsSome}
@@ -9,7 +10,7 @@ use Rattle.amqp_types.specs.declared.states.SessionState.TheVariants.{Unmapped, 
 use Rattle.amqp_types.specs.declared.states.SessionState.TheVariants.{Discarding}
 use Rattle.amqp_session.specs.declared.frame.SessionFrame.{SessionFrame}
 use Rattle.amqp_session.specs.declared.frame.SessionFrameBody.TheVariants as Body
-use Rattle.amqp_session.specs.declared.link.Named.{Named}
+use Rattle.amqp_session.specs.declared.link.LiveLink.{LiveLink}
 use Rattle.amqp_session.specs.declared.numbers.OutputHandle.{OutputHandle}
 use Rattle.amqp_session.specs.declared.numbers.InputHandle.{InputHandle}
 use Rattle.amqp_session.specs.declared.stop.SessionStopReason.{SessionStopReason}
@@ -21,7 +22,7 @@ use Rattle.amqp_session.specs.declared.error.SessionInnerError.{SessionInnerErro
 use Rattle.amqp_session.specs.declared.error.SessionInnerError.TheVariants as Refused
 use Rattle.amqp_session.specs.Errors.{inner_of_relay}
 use Rattle.amqp_session.specs.Links.{LinksView, Names, attached_at, put_at}
-use Rattle.amqp_session.specs.declared.link.Attached.{Attached}
+use Rattle.amqp_session.specs.declared.link.AttachedLink.{AttachedLink}
 use Rattle.amqp_session.specs.Relay.{AttachGives, DetachGives, AttachQuestion, DetachQuestion, Asks, goes_on, of_detach}
 use Rattle.amqp_session.specs.States.{is_mapped}
 use Rattle.amqp_session.specs.Session.{SessionView}
@@ -29,7 +30,7 @@ use Rattle.amqp_session.specs.Session.{SessionView}
 -- ---- the links that are live
 
 -- the link that is live by this name
-abbrev pub named_at : {R : Type 0} → List ℕ → LinksView R → Option (Named R)
+abbrev pub named_at : {R : Type 0} → List ℕ → LinksView R → Option (LiveLink R)
 named_at name l = map.get l.names name
 
 -- the name of a handle's live link, where the handle is taken so
@@ -41,12 +42,12 @@ abbrev pub name_at : {R : Type 0} → ℕ → LinksView R → Option (List ℕ)
 name_at h l = live_name (map.get l.handles h)
 
 -- the live link of this name, if one is given
-abbrev pub named_so : {R : Type 0} → Option (List ℕ) → LinksView R → Option (Named R)
+abbrev pub named_so : {R : Type 0} → Option (List ℕ) → LinksView R → Option (LiveLink R)
 named_so None l = None
 named_so (Some name) l = named_at name l
 
 -- the live link of a handle, with the relay that waits, if any
-abbrev pub link_at : {R : Type 0} → ℕ → LinksView R → Option (Named R)
+abbrev pub link_at : {R : Type 0} → ℕ → LinksView R → Option (LiveLink R)
 link_at h l = named_so (name_at h l) l
 
 -- whether the peer's answer to the detach of a handle's last link is awaited
@@ -146,21 +147,21 @@ abbrev pub SendAttachStep : {R : Type 0} → SessionView R → AttachSaid → Se
 SendAttachStep v a frame w = (frame ≡ attach_frame v a) × (w ≡ v)
 
 -- a relay waits for the link
-abbrev pub IsWaited : {R : Type 0} → Option (Named R) → Type 0
+abbrev pub IsWaited : {R : Type 0} → Option (LiveLink R) → Type 0
 IsWaited None = ⊥
 IsWaited (Some n) = IsSome n.waiting
 
 -- The link's relay answered so: it is attached and waits no longer, or it goes on to wait.
 abbrev pub AttachLeaves : {R : Type 0} → OutputHandle → R → Result (Unit {0}) LinkRelayError →
-    Result (Attached R) LinkRelayError → Named R → Type 0
+    Result (AttachedLink R) LinkRelayError → LiveLink R → Type 0
 AttachLeaves handle after (Ok u) (Ok link) new =
     (link ≡ record { handle = handle; relay = after }) × (new ≡ record { handle = handle; waiting = None })
 AttachLeaves handle after (Err e) (Err x) new = (x ≡ e) × (new ≡ record { handle = handle; waiting = Some after })
 AttachLeaves handle after (Ok u) (Err x) new = ⊥
 AttachLeaves handle after (Err e) (Ok link) new = ⊥
 
-pub record WaitAsked {R : Type 0} (gives : AttachGives R) (old : Named R) (a : AttachSaid)
-    (result : Result (Attached R) LinkRelayError) (new : Named R) : Type 0 where
+pub record WaitAsked {R : Type 0} (gives : AttachGives R) (old : LiveLink R) (a : AttachSaid)
+    (result : Result (AttachedLink R) LinkRelayError) (new : LiveLink R) : Type 0 where
   pub before : R
   pub after : R
   pub answer : Result (Unit {0}) LinkRelayError
@@ -170,15 +171,15 @@ pub record WaitAsked {R : Type 0} (gives : AttachGives R) (old : Named R) (a : A
 
 -- the same, of the link of the attach's name
 pub record AttachAsked {R : Type 0} (gives : AttachGives R) (names : Names R) (a : AttachSaid)
-    (result : Result (Attached R) LinkRelayError) (new : Names R) : Type 0 where
-  pub old : Named R
-  pub left : Named R
+    (result : Result (AttachedLink R) LinkRelayError) (new : Names R) : Type 0 where
+  pub old : LiveLink R
+  pub left : LiveLink R
   pub live : map.get names a.name ≡ Some old
   pub asked : WaitAsked gives old a result left
   pub put : new ≡ map.insert names a.name left
 
 -- what follows where no relay is asked, for the live link of the name, if any
-abbrev pub AttachRefused : {R : Type 0} → Option (Named R) → SessionInnerError → Type 0
+abbrev pub AttachRefused : {R : Type 0} → Option (LiveLink R) → SessionInnerError → Type 0
 AttachRefused None Refused.RemoteAttachingLinkNameNotFound = Unit {0}
 AttachRefused (Some n) Refused.HandleInUse = n.waiting ≡ None
 AttachRefused (Some n) Refused.OutOfMemory = IsSome n.waiting

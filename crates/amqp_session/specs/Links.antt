@@ -1,19 +1,20 @@
+-- Part: every call exactly; inner.
 -- What contracts see of a session's links (AMQP 1.0 part 2, section 2.6).
 use Rattle.std.specs.Prelude.{ℕ, List, Option, Some, None, refl, string_bytes, String, map as each}
-use Rattle.amqp_session.specs.declared.link.handles.Place.{Place}
-use Rattle.amqp_session.specs.declared.link.handles.Place.TheVariants.{Live, Awaited}
+use Rattle.amqp_session.specs.declared.link.handles.HandleSlot.{HandleSlot}
+use Rattle.amqp_session.specs.declared.link.handles.HandleSlot.TheVariants.{Live, Awaited}
 use Rattle.slab.specs.Slab as slab
 use Rattle.slab.specs.Slab.{Slab}
 use Rattle.std.specs.Ordering.{nat_cmp}
 use Rattle.std.specs.Cmp.Lexicographic.{slice_cmp}
 use Rattle.std.specs.FinMap as map
 use Rattle.std.specs.Coded.{Coded, code_by, coded×, coded_ℕ, coded_list, coded_option}
-use Rattle.amqp_session.specs.declared.link.Attached.{Attached}
-use Rattle.amqp_session.specs.declared.link.Named.{Named}
+use Rattle.amqp_session.specs.declared.link.AttachedLink.{AttachedLink}
+use Rattle.amqp_session.specs.declared.link.LiveLink.{LiveLink}
 
 -- the live links by name, each with its output handle, and the relay that waits for the peer's attach, if any
 abbrev pub Names : Type 0 → Type 0
-Names R = map.FinMap (slice_cmp nat_cmp) (Named R)
+Names R = map.FinMap (slice_cmp nat_cmp) (LiveLink R)
 
 -- The output handles that are taken, each with the name of its live link; or with none, where the link is gone and the peer's
 -- answer to its detach is awaited.
@@ -22,7 +23,7 @@ Handles = map.FinMap nat_cmp (Option (List ℕ))
 
 -- the relays that are attached, by input handle, each with the output handle of its link
 abbrev pub Inputs : Type 0 → Type 0
-Inputs R = map.FinMap nat_cmp (Attached R)
+Inputs R = map.FinMap nat_cmp (AttachedLink R)
 
 pub record LinksView (R : Type 0) : Type 0 where
   pub names : Names R
@@ -33,37 +34,37 @@ abbrev pub no_links : {R : Type 0} → LinksView R
 no_links = record { names = map.empty; handles = map.empty; inputs = map.empty }
 
 -- the relay under an input handle, with the output handle of its link
-abbrev pub attached_at : {R : Type 0} → ℕ → LinksView R → Option (Attached R)
+abbrev pub attached_at : {R : Type 0} → ℕ → LinksView R → Option (AttachedLink R)
 attached_at h v = map.get v.inputs h
 
 -- the relay under an input handle goes on to another state
-abbrev pub put_at : {R : Type 0} → ℕ → Attached R → LinksView R → LinksView R
+abbrev pub put_at : {R : Type 0} → ℕ → AttachedLink R → LinksView R → LinksView R
 put_at h a v = record v { inputs = map.insert v.inputs h a }
 
 -- ---- the maps that the code's tables are
 
-abbrev pub names_of : {R Z : Type 0} → List (String Z × Named R) → Names R
+abbrev pub names_of : {R Z : Type 0} → List (String Z × LiveLink R) → Names R
 names_of es = map.from_entries (each (λ e. (string_bytes e.0, e.1)) es)
 
 -- what is known of a place: the name of the handle's live link, or none
-abbrev pub place_name : Place → Option (List ℕ)
+abbrev pub place_name : HandleSlot → Option (List ℕ)
 place_name (Live name) = Some (string_bytes name)
 place_name Awaited = None
 
-abbrev pub handles_of : Slab Place → Handles
+abbrev pub handles_of : Slab HandleSlot → Handles
 handles_of s = map.from_entries (each (λ e. (e.0, place_name e.1)) (slab.entries s))
 
-abbrev pub inputs_of : {R : Type 0} → List (ℕ × Attached R) → Inputs R
+abbrev pub inputs_of : {R : Type 0} → List (ℕ × AttachedLink R) → Inputs R
 inputs_of es = map.from_entries es
 
 -- ---- codes: a link is stored as the tuple of its parts, and so is each map
 
-abbrev pub named_code : {R : Type 0} → Coded R → Coded (Named R)
+abbrev pub named_code : {R : Type 0} → Coded R → Coded (LiveLink R)
 named_code {R} code =
     code_by (ℕ × Option R) (coded× coded_ℕ (coded_option code)) (λ n. (n.handle.0, n.waiting))
     (λ p. record { handle = record { 0 = p.0 }; waiting = p.1 }) (λ _. refl)
 
-abbrev pub attached_code : {R : Type 0} → Coded R → Coded (Attached R)
+abbrev pub attached_code : {R : Type 0} → Coded R → Coded (AttachedLink R)
 attached_code {R} code =
     code_by (ℕ × R) (coded× coded_ℕ code) (λ a. (a.handle.0, a.relay))
     (λ p. record { handle = record { 0 = p.0 }; relay = p.1 }) (λ _. refl)

@@ -1,3 +1,4 @@
+-- Part: the promise; other calls.
 -- The frames, of every kind, that a session's calls hand out.
 use Rattle.std.specs.Prelude.{◌≡◌, ℕ, List, [], ◌∷◌, ◌++◌, Option, Result, Ok, Err}
 use Rattle.amqp_session.specs.declared.frame.SessionFrame.{SessionFrame}

@@ -1,3 +1,4 @@
+-- Part: other calls; inner.
 -- Two sessions, one at each end, with the frames on the way to each; and what a call of such a pair does (AMQP 1.0 part 2,
 -- sections 2.5 and 2.5.6).
 use Rattle.std.specs.Prelude.{◌≡◌, ◌≤◌, ◌+◌, ◌-◌, ◌⊎◌, ℕ, true, false, List, [], ◌∷◌, ◌++◌, length}

@@ -1,3 +1,4 @@
+-- Part: other calls; inner.
 -- What holds of a pair after any calls: each session's numbers go with how far the two runs of frames have come, and the frames
 -- on the way lead from what was taken of a run to what was put on it (AMQP 1.0 part 2, section 2.5.6).
 use Rattle.std.specs.Prelude.{◌≡◌, ◌+◌, ◌-◌, ◌%◌, ◌^◌, ◌<◌, ◌≤◌, ℕ, min, Bool, true, false, List, [], ◌∷◌, Some}

@@ -1,3 +1,4 @@
+-- Part: other calls.
 -- The calls that a pair has seen, and that each frame arrives once, in the order in which it was sent (AMQP 1.0 part 2, section 2.5.6).
 use Rattle.std.specs.Prelude.{◌≡◌, List, [], ◌∷◌, ◌++◌, None}
 use Rattle.amqp_types.specs.declared.states.SessionState.TheVariants.{Unmapped}

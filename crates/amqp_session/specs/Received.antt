@@ -1,3 +1,4 @@
+-- Part: every call exactly.
 -- What a history says of the peer: its channel, the numbers of its transfers, and the deliveries that its transfers opened
 -- (AMQP 1.0 part 2, section 2.5.6). And why the session stopped.
 use Rattle.std.specs.Prelude.{ℕ, ◌+◌, ◌-◌, ◌%◌, ◌^◌, min, Bool, true, false, ◌&&◌, if◌then◌else◌, List, [], ◌∷◌, Option, Some, None, Result}

@@ -1,3 +1,4 @@
+-- Part: every call exactly.
 -- The numbers of what the peer sends (AMQP 1.0 part 2, section 2.5.6).
 use Rattle.std.specs.Prelude.{ℕ, ◌+◌, ◌-◌, ◌%◌, ◌^◌, min}
 use Rattle.amqp_session.specs.declared.session.receiving.Receiving.{Receiving}

@@ -1,15 +1,18 @@
+-- Part: the promise; every call exactly; inner.
 -- What a session asks the relays of its links, and how they answer.
-use Rattle.std.specs.Prelude.{◌≡◌, ℕ, Bool, List, Option, Some, Result}
+use Rattle.std.specs.Prelude.{◌≡◌, ℕ, Bool, List, Option, Some, None, IsSome, Result}
 use Rattle.amqp_types.specs.Attach.{AttachSaid}
 use Rattle.amqp_types.specs.Detach.{DetachSaid}
 use Rattle.amqp_types.specs.Transfer.{TransferSaid}
 use Rattle.amqp_types.specs.declared.definitions.Role.{Role}
 use Rattle.amqp_types.specs.declared.definitions.DeliveryTag.{DeliveryTag}
+use Rattle.amqp_session.specs.declared.error.SessionInnerError.{SessionInnerError}
+use Rattle.amqp_session.specs.declared.error.SessionInnerError.TheVariants as Refused
 use Rattle.amqp_session.specs.declared.numbers.OutputHandle.{OutputHandle}
 use Rattle.amqp_session.specs.declared.deliveries.Delivery.{Delivery}
 use Rattle.amqp_session.specs.declared.flow.LinkFlow.{LinkFlow}
 use Rattle.amqp_session.specs.declared.error.LinkRelayError.{LinkRelayError}
-use Rattle.amqp_session.specs.declared.link.Attached.{Attached}
+use Rattle.amqp_session.specs.declared.link.AttachedLink.{AttachedLink}
 
 -- What relays of a kind may answer: for each question a relation of old state, arguments, answer and new state.
 abbrev pub AttachGives : Type 0 → Type 1
@@ -89,20 +92,26 @@ abbrev pub of_detach : {R : Type 0} → DetachGives R → Gives R (DetachSaid ×
 of_detach gives o before d answer after = gives before o d.0 d.1 answer after
 
 -- the link's relay as it then stands
-abbrev pub goes_on : {R Q A : Type 0} → Question R Q A → Attached R
+abbrev pub goes_on : {R Q A : Type 0} → Question R Q A → AttachedLink R
 goes_on q = record { handle = q.handle; relay = q.after }
 
 -- The relay that stood there was asked this, and answered as its kind may.
-pub record Asks {R Q A : Type 0} (gives : Gives R Q A) (old : Option (Attached R)) (q : Question R Q A) : Type 0 where
+pub record Asks {R Q A : Type 0} (gives : Gives R Q A) (old : Option (AttachedLink R)) (q : Question R Q A) : Type 0 where
   pub attached : old ≡ Some (record { handle = q.handle; relay = q.before })
   pub stands : gives q.handle q.before q.asked q.answer q.after
 
 -- the same, of what is asked and answered, and of how the relay is put back
-pub record Asked {R Q A : Type 0} (gives : Gives R Q A) (old : Option (Attached R)) (asked : Q) (answer : A)
-    (IsPut : Attached R → Type 0) : Type 0 where
+pub record Asked {R Q A : Type 0} (gives : Gives R Q A) (old : Option (AttachedLink R)) (asked : Q) (answer : A)
+    (IsPut : AttachedLink R → Type 0) : Type 0 where
   pub handle : OutputHandle
   pub before : R
   pub after : R
   pub attached : old ≡ Some (record { handle = handle; relay = before })
   pub stands : gives handle before asked answer after
   pub put : IsPut (record { handle = handle; relay = after })
+
+-- why no relay was asked: none is attached, or there is no memory
+abbrev pub IsUnasked : {R : Type 0} → Option (AttachedLink R) → SessionInnerError → Type 0
+IsUnasked link Refused.UnattachedHandle = link ≡ None
+IsUnasked link Refused.OutOfMemory = IsSome link
+IsUnasked link e = ⊥

@@ -1,3 +1,4 @@
+-- Part: every call exactly; inner.
 -- What contracts see of the sending half of a session (AMQP 1.0 part 2, section 2.5.6).
 use Rattle.std.specs.Prelude.{ℕ, ◌+◌, ◌-◌, ◌%◌, ◌^◌, List, [], ◌∷◌, ◌++◌, length, take, drop, min}
 use Rattle.amqp_session.specs.declared.deliveries.Delivery.{Delivery}

@@ -1,3 +1,4 @@
+-- Part: the promise; every call exactly.
 -- The numbers of transfers wrap at 2^32; a window is a range of them (AMQP 1.0 part 2, sections 2.5.6 and 2.8.9).
 use Rattle.std.specs.Prelude.{ℕ, ◌+◌, ◌-◌, ◌%◌, ◌^◌, ◌<◌}
 

@@ -1,3 +1,4 @@
+-- Part: every call exactly; other calls.
 -- What contracts see of a session, and the frames that it makes (AMQP 1.0 part 2, sections 2.5 and 2.7).
 use Rattle.std.specs.Prelude.{ℕ, List, [], Option, Some, None, Bool, false, if◌then◌else◌, ◌/◌, nat_le}
 use Rattle.amqp_types.specs.Error.{ErrorSaid}

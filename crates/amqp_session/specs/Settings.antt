@@ -1,3 +1,4 @@
+-- Part: the promise; every call exactly; other calls.
 -- What a session begins with (AMQP 1.0 part 2, section 2.7.2).
 use Rattle.std.specs.Prelude.{ℕ, List, Option, None}
 use Rattle.amqp_types.specs.Begin.{BeginSaid}

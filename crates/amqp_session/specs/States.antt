@@ -1,3 +1,4 @@
+-- Part: the promise; every call exactly.
 -- The states of a session, and the calls that move it from one to another (AMQP 1.0 part 2, section 2.5.5). A call that
 -- stands with None is not allowed in that state.
 use Rattle.std.specs.Prelude.{Option, Some, None, Bool, true, false}

@@ -1,3 +1,4 @@
+-- Part: the promise; every call exactly.
 -- What each call of a session does: its answer, the frames handed out with it, the questions to relays, and the session
 -- after it. The case of a refusal says that the refusals that are tested before it do not apply.
 use Rattle.std.specs.Prelude.{◌≡◌, ◌<◌, ◌^◌, ◌⊎◌, ℕ, Bool, true, false, List, [], ◌∷◌, ◌++◌, Option, Some, None, Result, Ok, Err, IsSome}

@@ -1,3 +1,4 @@
+-- Part: the promise; every call exactly.
 -- Transfers that wait, the frames that they go out as, and the deliveries that these open (AMQP 1.0 part 2, sections
 -- 2.5.6 and 2.7.5).
 use Rattle.std.specs.Prelude.{ℕ, ◌+◌, ◌%◌, ◌^◌, List, [], ◌∷◌, ◌++◌, Option, Some, None, Bool, false, unwrap_or, if◌then◌else◌}

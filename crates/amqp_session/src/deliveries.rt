@@ -22,7 +22,7 @@ pub struct Delivery {
     pub tag: DeliveryTag,
 }
 
-/// How much of a table a walk read.
+/// How much the latest received disposition read of the open deliveries: what `Session::last_walk` gives.
 #[derive(Clone, Copy, Debug, PartialEq, Eq)]
 pub struct WalkCount {
     /// How many records were read.
@@ -31,7 +31,7 @@ pub struct WalkCount {
     pub comparisons: u32,
 }
 
-/// How much of a table was ever read, modulo 2^64: the table counts it, and nothing sets it back.
+/// How much of a table was ever read, modulo 2^64: the table counts it, and no call sets it back.
 #[derive(Clone, Copy, Debug, PartialEq, Eq)]
 pub(crate) struct ReadCount {
     /// How many records were read.

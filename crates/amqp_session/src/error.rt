@@ -6,13 +6,13 @@ ghost use Rattle.amqp_session.specs.Errors.{inner_of_state, inner_of_relay, erro
 use crate::stop::{ConnectionStopReason, SessionStopReason};
 use amqp_types::Error as ErrorCondition;
 
-/// Why a Begin or an End is refused, or how the peer ended the session.
+/// Why a Begin or an End is refused, or how the peer ended the session (AMQP 1.0 part 2, section 2.5.5).
 #[derive(Debug, Drop, PartialEq, thiserror::Error)]
 pub enum SessionStateError {
     /// The state does not allow the call.
     #[error("Illegal session state")]
     IllegalState,
-    /// The connection stopped before. No call of a session answers this.
+    /// The connection stopped before. No call of a session answers it.
     #[error("The connection stopped: {:?}", .0)]
     ConnectionStopped(ConnectionStopReason),
     /// The peer ended the session.
@@ -26,13 +26,13 @@ pub enum SessionStateError {
     OutOfMemory,
 }
 
-/// Why a link gets no handle.
+/// Why a link gets no handle. Nothing has changed.
 #[derive(Clone, Copy, Debug, PartialEq, Eq, thiserror::Error)]
 pub enum AllocLinkError {
-    /// The session has not begun on both sides.
+    /// The session is in `Unmapped`, `BeginSent` or `BeginReceived`, and no stop reason is recorded.
     #[error("The session is not in a state that permits link allocation")]
     SessionNotMapped,
-    /// The session stopped.
+    /// The session is not in `Mapped`, and stopped for this reason; `Ended` where none is recorded and an End was sent or received.
     #[error("The session stopped before the link was attached: {:?}", .0)]
     SessionStopped(SessionStopReason),
     /// A live link has the name.
@@ -49,7 +49,7 @@ pub enum AllocLinkError {
 /// Why a relay refuses what it is asked.
 #[derive(Clone, Copy, Debug, PartialEq, Eq, thiserror::Error)]
 pub enum LinkRelayError {
-    /// The link is not attached.
+    /// The relay says that the link is not attached.
     #[error("A frame was received for a link that is not attached")]
     UnattachedHandle,
     /// A transfer came to the sending end of a link.
@@ -60,19 +60,20 @@ pub enum LinkRelayError {
     OutOfMemory,
 }
 
-/// Why any other call of a session is refused.
+/// Why any other call of a session is refused. The peer's ending and the connection's stop come of a conversion alone, from
+/// [`SessionStateError`].
 #[derive(Debug, Drop, PartialEq, thiserror::Error)]
 pub enum SessionInnerError {
     /// The input handle has no attached link.
     #[error("A frame (other than attach) was received referencing a handle which is not currently in use of an attached link.")]
     UnattachedHandle,
-    /// No link of this side has the name of the peer's attach.
+    /// No live link of this side has the name of the peer's attach.
     #[error("Remote sent an attach with a name that cannot be found locally")]
     RemoteAttachingLinkNameNotFound,
-    /// The link of the peer's attach is attached already.
+    /// No relay waits under the name of the peer's attach: its link is attached already, or has no relay.
     #[error("An attach was received using a handle that is already in use for an attached link.")]
     HandleInUse,
-    /// The state does not allow the call, or the first transfer of a delivery has no tag.
+    /// The state does not allow the call, or the first transfer of a delivery has no tag. Nothing has changed.
     #[error("Illegal session state")]
     IllegalState,
     /// The connection stopped before.
@@ -87,7 +88,7 @@ pub enum SessionInnerError {
     /// The peer ended the session with an error.
     #[error("Remote ended with error")]
     RemoteEndedWithError(ErrorCondition),
-    /// No transaction has the number. No call of a session answers this.
+    /// No transaction has the number (AMQP 1.0 part 4, section 4.5.8). No call of a session answers it.
     #[error("Unknown transaction ID")]
     UnknownTxnId,
     /// Memory was refused.
@@ -95,16 +96,16 @@ pub enum SessionInnerError {
     OutOfMemory,
 }
 
-/// What a handle of a session answers.
+/// What a handle of a session answers: why it notes no request, or how the peer's End was answered.
 #[derive(Debug, Drop, PartialEq, thiserror::Error)]
 pub enum Error {
     /// The input handle has no attached link.
     #[error("A frame (other than attach) was received referencing a handle which is not currently in use of an attached link.")]
     UnattachedHandle,
-    /// No link of this side has the name of the peer's attach.
+    /// No live link of this side has the name of the peer's attach.
     #[error("Remote sent an attach with a name that cannot be found locally")]
     RemoteAttachingLinkNameNotFound,
-    /// The link of the peer's attach is attached already.
+    /// No relay waits under the name of the peer's attach: its link is attached already, or has no relay.
     #[error("An attach was received using a handle that is already in use for an attached link.")]
     HandleInUse,
     /// The state does not allow the call.
@@ -156,13 +157,13 @@ pub enum BeginError {
     OutOfMemory,
 }
 
-/// Why a handle cannot tell how the session ended.
+/// Why a handle does not give how the session ended.
 #[derive(Clone, Copy, Debug, PartialEq, Eq, thiserror::Error)]
 pub enum TryEndError {
-    /// The outcome was given before.
+    /// This handle has given the answer before.
     #[error("Session is already ended")]
     AlreadyEnded,
-    /// The peer's End has not come.
+    /// The session is not ended at both ends: its state is not `Unmapped`.
     #[error("The session has not received a remote end frame")]
     RemoteEndNotReceived,
 }

@@ -7,21 +7,27 @@ ghost use Rattle.amqp_session.specs.LinkFlow.{link_flow_of, link_part, plain_lin
 use amqp_types::{Fields, Flow, Handle};
 
 /// The fields of a Flow that a link sends or gets. The session fills in its own fields.
+///
+/// ```
+/// let mut flow = LinkFlow::new(handle.handle()); // `handle`: the link's output handle
+/// flow.link_credit = Some(10);
+/// let input = Input::Flow(SessionNo(0), flow);
+/// ```
 #[derive(Clone, Debug, Drop, PartialEq)]
 pub struct LinkFlow {
-    /// The link.
+    /// The link: in a flow that this side sends its output handle, in a flow of the peer's its input handle.
     pub handle: Handle,
-    /// The delivery count of the link.
+    /// The delivery count of the link, modulo 2^32 (section 2.6.7).
     pub delivery_count: Option<u32>,
-    /// How many messages may come on the link.
+    /// How many messages the receiver of the link takes from the delivery count on (section 2.6.7).
     pub link_credit: Option<u32>,
-    /// How many messages wait at the sender.
+    /// How many messages wait at the sender (section 2.6.7).
     pub available: Option<u32>,
-    /// Whether the sender is to use up the credit.
+    /// Whether the sender is to use up the credit at once (section 2.6.7).
     pub drain: bool,
     /// Whether the peer is to answer with a flow.
     pub echo: bool,
-    /// Anything else.
+    /// Properties of the flow.
     pub properties: Option<Fields>,
 }
 

@@ -1,17 +1,26 @@
 //! Maps whose keys the peer chooses: how their keys are hashed, and where they were last put.
 
-ghost use Rattle.std.specs.Prelude.{◌≡◌, ◌<◌, Some, IfSome, is_some, option_copied, nat_eq, slice_get};
+ghost use Rattle.std.specs.Prelude.{◌≡◌, ◌<◌, true, Some, IfSome, is_some, option_copied, nat_eq, slice_get};
 ghost use Rattle.std.specs.Map.{lookup};
 ghost use Rattle.std.specs.FinMap.{get, insert, remove};
-ghost use Rattle.indexmap.specs.IndexMap.{spare};
+ghost use Rattle.std.specs.Borrow.{sem};
+ghost use Rattle.std.specs.Option.{option_copied_mut};
+ghost use Rattle.indexmap.specs.IndexMap.{spare, get_by};
+ghost use Rattle.amqp_session.specs.Lending.{lends_under};
 ghost use Rattle.amqp_session.specs.Hashing.{hasher_by, numbered};
 
 use indexmap::IndexMap;
-use std::hash::{BuildHasher, DefaultHasher, RandomState};
+use std::alloc::Allocator;
+use std::hash::{BuildHasher, DefaultHasher, Hash, RandomState};
 
 /// How keys are hashed that the peer chooses: names of links, input handles and incoming channels.
 ///
-/// Who knows the key of a hash can choose names, handles and channels that collide; a look-up among n of them then takes n steps.
+/// A peer that knows the key of a hash can choose names, handles and channels that collide; a look-up among n of them then takes n steps.
+///
+/// ```
+/// let hash = KeyHash::Keyed(RandomState::new(&rt)?);
+/// let engine: Engine<R> = Engine::keyed(alloc, hash, ConnectionState::HeaderExchange, open);
+/// ```
 #[derive(Clone, Copy, Debug)]
 pub enum KeyHash {
     /// SipHash under a key that everyone knows. For peers that are trusted, and where no random bytes are at hand.
@@ -37,26 +46,26 @@ impl BuildHasher for KeyHash {
 const HINTS: usize = 16;
 
 /// At which index of a map keys were last put or moved to: of the keys with the same lowest bits the one that was noted last.
-/// A hint may be wrong. Who takes it compares the key that stands there, and else asks the map. So nothing has to hold of a hint, and
-/// [`Hints::new`] and [`Hints::note`] have no clause: what stands on hints, as [`get`] and [`index_of`], is proved of all of them.
+/// A hint may be wrong: a look-up compares the key at that index, and searches the map where it is another one. So [`Hints::new`] and
+/// [`Hints::note`] have no clause, and what uses hints, as [`get`] and [`index_of`], is proved whatever they are.
 #[derive(Clone, Copy)]
 pub struct Hints {
     places: [u32; HINTS],
 }
 
 impl Hints {
-    /// Nothing was noted: each key may be at index 0, which is as good as another.
+    /// Nothing was noted: the hint of each key is index 0.
     pub fn new() -> Hints {
         Hints { places: [0; HINTS] }
     }
 
-    /// Where the key may be.
+    /// The index where the key may be.
     #[inline(always)]
-    fn of(&self, key: u32) -> usize {
+    pub fn of(&self, key: u32) -> usize {
         self.places[key as usize % HINTS] as usize
     }
 
-    /// The key was put at this index, or moved to it. Of an index past 2^32 a wrong one is remembered.
+    /// Notes that the key was put at this index, or moved to it. Of an index of 2^32 or more a wrong hint is kept.
     #[inline(always)]
     pub fn note(&mut self, key: u32, index: usize) {
         self.places[key as usize % HINTS] = (index % 0x1_0000_0000) as u32;
@@ -66,7 +75,7 @@ impl Hints {
 /// A map by numbers that the peer chooses.
 pub type Numbered<V> = IndexMap<u32, V, KeyHash>;
 
-/// The value of a key.
+/// The value of a key. `None` where the key is not there.
 #[inline(always)]
 pub fn get<'a, V>(map: &'a Numbered<V>, hints: &Hints, key: u32) -> Option<&'a V>
     ensures value { option_copied result ≡ lookup (nat_eq key) map.now.entries }
@@ -80,7 +89,7 @@ pub fn get<'a, V>(map: &'a Numbered<V>, hints: &Hints, key: u32) -> Option<&'a V
     map.get(&key)
 }
 
-/// The index of a key.
+/// The index of a key. `None` where the key is not there.
 #[inline(always)]
 pub fn index_of<V>(map: &Numbered<V>, hints: &Hints, key: u32) -> Option<usize>
     ensures found { is_some result ≡ is_some (lookup (nat_eq key) map.now.entries) }
@@ -95,7 +104,38 @@ pub fn index_of<V>(map: &Numbered<V>, hints: &Hints, key: u32) -> Option<usize>
     map.get_index_of(&key)
 }
 
-/// A value comes under a key, and the one that stood there is handed back. Its room was made before.
+/// The value of a key, to be changed. It is looked for first at the index where it may be.
+#[inline(always)]
+pub fn get_mut<'a, K: Eq + Hash, V, S: BuildHasher, A: Allocator>(
+    map: &'a mut IndexMap<K, V, S, A>,
+    hint: usize,
+    key: &K,
+) -> Option<&'a mut V>
+    ensures* writes_back { sem 𝓛 (lends_under K.row V.row S.row A.row S.Hasher.row K.Hash S.BuildHasher S.Hasher.Hasher A.Allocator map.entry (K.eq key.now) result) }
+    ensures value { option_copied_mut result ≡ get_by (K.eq key.now) map.old }
+{
+    if is_at(map, hint, key) {
+        return map.get_index_mut(hint);
+    }
+    map.get_mut(key)
+}
+
+/// Whether the key stands at an index.
+#[inline(always)]
+fn is_at<K: Eq + Hash, V, S: BuildHasher, A: Allocator>(
+    map: &IndexMap<K, V, S, A>,
+    index: usize,
+    key: &K,
+) -> bool
+    ensures { result ≡ true → (found : K) × (value : V) × (slice_get map.now.entries index ≡ Some (found, value)) × (K.eq key.now found ≡ true) }
+{
+    match map.get_index(index) {
+        Some((found, _)) => *key == *found,
+        None => false,
+    }
+}
+
+/// Puts a value under a key, and hands back the value that stood there. Takes no memory: room for it has to be made before.
 pub fn put<V>(map: &mut Numbered<V>, hints: &mut Hints, key: u32, value: V) -> Option<V>
     requires { 0 < spare map.old }
     ensures put { numbered map.new.entries ≡ insert (numbered map.old.entries) key value }
@@ -106,7 +146,7 @@ pub fn put<V>(map: &mut Numbered<V>, hints: &mut Hints, key: u32, value: V) -> O
     left
 }
 
-/// The value of a key is taken away.
+/// Takes the value of a key away. `None` where the key is not there.
 pub fn take<V>(map: &mut Numbered<V>, hints: &mut Hints, key: u32) -> Option<V>
     ensures value { result ≡ get (numbered map.old.entries) key }
     ensures removed { numbered map.new.entries ≡ remove (numbered map.old.entries) key }

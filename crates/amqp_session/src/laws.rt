@@ -48,10 +48,10 @@ pub fn law_of_channels<R: LinkRelay>()
         (m : Made) (h : List (Entry R)) (v : SessionView R) → LeadsTo g m h v → OnChannel m.channel (calls_frames h) }
 {}
 
-/// Each call of a pair is a move of one side: calls of its session, of which what they take comes off the way to it, from the
-/// front, and what they hand out goes behind what is on the way to the other. And whatever moves a new pair has seen, the calls of
-/// each side's session are a history of it, and what each side sent is what the other received, and behind it what is still on the
-/// way: in order, each frame once (AMQP 1.0 part 2, section 2.5.6).
+/// Each call of a pair is a move of one side: calls of its session, which take frames from the front of those on the way to it, and append
+/// what they hand out to those on the way to the other. And whatever moves a new pair has seen, the calls of each side's session are a
+/// history of it, and what each side sent is what the other received, followed by what is still on the way: in order, each frame once
+/// (AMQP 1.0 part 2, section 2.5.6).
 pub fn law_of_pairs<R: LinkRelay>()
     ensures allocate_link { let g = R.gives in
         (side : Side) (name : List ℕ) (relay : Option R) (handle : Result HandleSaid AllocLinkError) (p q : PairView R)

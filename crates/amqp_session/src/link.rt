@@ -1,8 +1,8 @@
 //! The links of a session: names, handles and relays.
 
-ghost use Rattle.std.specs.Prelude.{◌≡◌, ℕ, Option, IsSome, is_some};
+ghost use Rattle.std.specs.Prelude.{◌≡◌, ◌<◌, ℕ, Option, IsSome, is_some, IfOk, IfErr, OnOk, length};
 ghost use Rattle.amqp_session.specs.Links.{no_links, attached_at, put_at};
-ghost use Rattle.amqp_session.specs.Relay.{of_flow, of_transfer, Asked, DispositionQuestion};
+ghost use Rattle.amqp_session.specs.Relay.{of_flow, of_transfer, Asked, IsUnasked, DispositionQuestion};
 ghost use Rattle.amqp_session.specs.Disposing.{AsksAt, has_agreed};
 
 pub mod handles;
@@ -11,9 +11,9 @@ pub(crate) mod leaving;
 mod live;
 mod names;
 
-use self::handles::Place;
-use crate::deliveries::Delivery;
-use crate::error::LinkRelayError;
+use self::handles::HandleSlot;
+use crate::deliveries::{Deliveries, Delivery};
+use crate::error::{LinkRelayError, SessionInnerError};
 use crate::flow::LinkFlow;
 use crate::keys::{self, Hints, KeyHash, Numbered};
 use crate::numbers::{InputHandle, OutputHandle};
@@ -27,7 +27,7 @@ use std::marker::Model;
 
 /// A link that is attached: its relay, and the output handle that the session keeps beside it.
 #[derive(Drop)]
-pub struct Attached<R> {
+pub struct AttachedLink<R> {
     /// The output handle.
     pub handle: OutputHandle,
     /// The relay.
@@ -36,7 +36,7 @@ pub struct Attached<R> {
 
 /// A live link: its output handle, and the relay that waits for the peer's attach, if any.
 #[derive(Drop)]
-pub struct Named<R> {
+pub struct LiveLink<R> {
     /// The output handle.
     pub handle: OutputHandle,
     /// The relay that waits.
@@ -46,9 +46,9 @@ pub struct Named<R> {
 /// The live links by name, the output handles that are taken, and the relays by input handle.
 #[derive(Drop)]
 pub(crate) struct Links<R> {
-    names: IndexMap<String, Named<R>, KeyHash>,
-    handles: Slab<Place>,
-    inputs: Numbered<Attached<R>>,
+    names: IndexMap<String, LiveLink<R>, KeyHash>,
+    handles: Slab<HandleSlot>,
+    inputs: Numbered<AttachedLink<R>>,
     hints: Hints,
 }
 
@@ -96,19 +96,31 @@ impl<R: LinkRelay> Links<R> {
         inputs::ask_flow(&mut self.inputs, input, flow)
     }
 
-    /// Asks the relay under an input handle about a transfer.
+    /// Asks the relay under the handle of a transfer about it, once there is room for the record of its delivery; or says why none
+    /// was asked.
     #[inline(always)]
     pub(crate) fn ask_transfer(
         &mut self,
-        input: InputHandle,
         transfer: Transfer,
         payload: Bytes,
-    ) -> Result<Option<(DeliveryNumber, DeliveryTag)>, LinkRelayError>
-        requires { IsSome (attached_at input.0 self.old) }
-        ensures { Asked (of_transfer R.gives.transfer_gives) (attached_at input.0 self.old) (transfer, payload) result
-            (λ link. self.new ≡ put_at input.0 link self.old) }
+        received: &mut Deliveries,
+    ) -> Result<Result<Option<(DeliveryNumber, DeliveryTag)>, LinkRelayError>, SessionInnerError>
+        ensures asked { IfOk result (λ answer. Asked (of_transfer R.gives.transfer_gives) (attached_at transfer.handle self.old)
+            (transfer, payload) answer (λ link. self.new ≡ put_at transfer.handle link self.old)) }
+        ensures unasked { IfErr result (λ e. IsUnasked (attached_at transfer.handle self.old) e × (self.new ≡ self.old)) }
+        ensures room { OnOk result (length received.new.rows < received.new.capacity) }
+        ensures rows { received.new.rows ≡ received.old.rows }
+        ensures reads { received.new.reads ≡ received.old.reads }
     {
-        inputs::ask_transfer(&mut self.inputs, &self.hints, input, transfer, payload)
+        let Some(at) = keys::index_of(&self.inputs, &self.hints, transfer.handle.0) else {
+            drop(transfer);
+            return Err(SessionInnerError::UnattachedHandle);
+        };
+        let Ok(()) = received.reserve(1) else {
+            drop(transfer);
+            return Err(SessionInnerError::OutOfMemory);
+        };
+        Ok(inputs::ask_transfer(&mut self.inputs, at, transfer, payload))
     }
 
     /// Asks the relay under the input handle of a delivery, if one is attached there, about a disposition of the delivery, and
@@ -118,9 +130,9 @@ impl<R: LinkRelay> Links<R> {
         ensures { (asked : Option (DispositionQuestion R))
             × AsksAt R.gives.disposition_gives said.now delivery.now asked self.old self.new × (result ≡ has_agreed asked) }
     {
-        if !self.is_attached(delivery.input_handle) {
+        let Some(at) = keys::index_of(&self.inputs, &self.hints, delivery.input_handle.0) else {
             return false;
-        }
-        inputs::ask_disposition(&mut self.inputs, &self.hints, said, delivery)
+        };
+        inputs::ask_disposition(&mut self.inputs, at, said, delivery)
     }
 }

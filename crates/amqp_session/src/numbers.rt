@@ -25,7 +25,7 @@ pub struct OutputHandle(pub u32);
 pub struct InputHandle(pub u32);
 
 impl OutgoingChannel {
-    /// The channel's number, as `u16::from` gives it to who names this crate in `crates.txt`.
+    /// The channel's number: 0 to 65535. `u16::from` gives the same, where this crate is named in `crates.txt`.
     pub fn number(self) -> u16
         ensures { result ≡ self.0 }
     {
@@ -35,7 +35,7 @@ impl OutgoingChannel {
 }
 
 impl IncomingChannel {
-    /// The channel's number, as `u16::from` gives it to who names this crate in `crates.txt`.
+    /// The channel's number: 0 to 65535. `u16::from` gives the same, where this crate is named in `crates.txt`.
     pub fn number(self) -> u16
         ensures { result ≡ self.0 }
     {
@@ -45,7 +45,7 @@ impl IncomingChannel {
 }
 
 impl OutputHandle {
-    /// The handle as frames have it, as `Handle::from` gives it to who names this crate in `crates.txt`.
+    /// The handle as frames have it. `Handle::from` gives the same, where this crate is named in `crates.txt`.
     pub fn handle(self) -> Handle
         ensures { result ≡ record { 0 = self.0 } }
     {
@@ -55,7 +55,7 @@ impl OutputHandle {
 }
 
 impl InputHandle {
-    /// The handle as frames have it, as `Handle::from` gives it to who names this crate in `crates.txt`.
+    /// The handle as frames have it. `Handle::from` gives the same, where this crate is named in `crates.txt`.
     pub fn handle(self) -> Handle
         ensures { result ≡ record { 0 = self.0 } }
     {

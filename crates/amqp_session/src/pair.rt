@@ -5,7 +5,7 @@ ghost use Rattle.std.specs.Prelude.{◌≡◌, ◌<◌, ◌^◌, length, string_
 ghost use Rattle.amqp_session.specs.Pair.{new_pair, session_at, way_to, AllocateLinkStep, BeginStep, AttachStep, FlowStep, TransferStep, ArriveStep, PairHolds};
 
 mod calls;
-mod shown;
+mod debug;
 
 use self::calls::{arrive_at, attach_at, begin_at, flow_at, transfer_at};
 use crate::error::{AllocLinkError, SessionInnerError};
@@ -14,6 +14,7 @@ use crate::frame::SessionFrame;
 use crate::numbers::{InputHandle, OutgoingChannel, OutputHandle};
 use crate::relay::LinkRelay;
 use crate::session::Session;
+use crate::session::held::RequestedTransfer;
 use crate::settings::SessionSettings;
 use amqp_types::{Attach, SessionState, Transfer};
 use bytes::Bytes;
@@ -21,14 +22,24 @@ use std::alloc::Global;
 use std::collections::VecDeque;
 use std::marker::Model;
 
-/// A side of a pair.
+/// A side of a pair: which of its two sessions is meant.
 #[derive(Clone, Copy, Debug, PartialEq, Eq)]
 pub enum Side {
+    /// The session that [`SessionPair::new`] makes of its first settings.
     A,
+    /// The session that it makes of its second settings.
     B,
 }
 
 /// Two sessions, each the other's peer, and the frames on the way to each.
+///
+/// ```
+/// let mut pair: SessionPair<R> = SessionPair::new(alloc, SessionSettings::new(), SessionSettings::new());
+/// pair.begin(Side::A)?;
+/// pair.arrive(Side::B)?; // A's Begin comes to B
+/// pair.begin(Side::B)?;
+/// pair.arrive(Side::A)?; // B's Begin comes to A: both sessions are in Mapped
+/// ```
 #[derive(Drop)]
 pub struct SessionPair<R> {
     a: Session<R>,
@@ -73,7 +84,7 @@ impl<R: LinkRelay> SessionPair<R> {
         }
     }
 
-    /// The session of a side.
+    /// The session of a side, to be looked at.
     pub fn session(&self, side: Side) -> &Session<R>
         ensures view { result.now.view ≡ session_at side self.now }
         ensures holds { PairHolds self.now }
@@ -111,7 +122,7 @@ impl<R: LinkRelay> SessionPair<R> {
         }
     }
 
-    /// A side sends its Begin, which is then on the way to the other.
+    /// A side sends its Begin, which is then on the way to the other: as [`Session::send_begin`].
     ///
     /// `IllegalState` in any state of the session but `Unmapped` and `BeginReceived`, whatever the memory. Else `OutOfMemory`
     /// where memory is refused. Nothing changes then.
@@ -169,30 +180,23 @@ impl<R: LinkRelay> SessionPair<R> {
             result self.old self.new }
         ensures holds { PairHolds self.new }
     {
+        let requested = RequestedTransfer {
+            input_handle,
+            transfer,
+            payload,
+            is_first,
+        };
         match side {
-            Side::A => transfer_at(
-                &mut self.a,
-                input_handle,
-                transfer,
-                payload,
-                is_first,
-                &mut self.to_b,
-            ),
-            Side::B => transfer_at(
-                &mut self.b,
-                input_handle,
-                transfer,
-                payload,
-                is_first,
-                &mut self.to_a,
-            ),
+            Side::A => transfer_at(&mut self.a, requested, &mut self.to_b),
+            Side::B => transfer_at(&mut self.b, requested, &mut self.to_a),
         }
     }
 
     /// The first frame on the way to a side, if any, comes to its session; what the session hands out is on the way to the
     /// other. After an accepted transfer the session is asked for a session flow.
     ///
-    /// `OutOfMemory` where there is no room for what may go out: nothing changes then, and the frame is still on the way. Else
+    /// `Ok` where no frame is on the way: nothing changes then. `OutOfMemory` where there is no room for what may go out: nothing changes
+    /// then either, and the frame is still on the way. Else
     /// the session's answer; a frame that it refuses is gone.
     pub fn arrive(&mut self, side: Side) -> Result<(), SessionInnerError>
         ensures step { ArriveStep R.gives side result self.old self.new }

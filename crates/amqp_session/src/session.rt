@@ -7,15 +7,16 @@ ghost use Rattle.amqp_session.specs.Session.{new_session};
 ghost use Rattle.amqp_session.specs.Step.{StopStep};
 
 mod begin_end;
+mod debug;
 pub mod dispositions;
 pub(crate) mod held;
 mod incoming;
 mod links;
 mod outgoing;
+pub(crate) mod range;
 pub mod receiving;
 mod runs;
 mod settling;
-mod shown;
 pub(crate) mod transfers;
 mod walk;
 
@@ -32,11 +33,23 @@ use amqp_types::SessionState;
 use std::alloc::Global;
 use std::marker::Model;
 
-/// A session. It takes received performatives and makes frames; it does no input or output, and never blocks.
+/// A session (AMQP 1.0 part 2, section 2.5). It takes received performatives and makes frames; it does no input or output, and never
+/// blocks. Each link has a relay of the type `R`.
 ///
 /// Calls that begin with `on_incoming_` take what the peer sent. Those that begin with `on_outgoing_`, and `send_begin` and
 /// `send_end`, take what this side wants to send, and give the frames. A call that the state refuses changes nothing. When
-/// memory is refused nothing goes out, and only the numbers of what was received change.
+/// memory is refused nothing goes out, and only the numbers of what was received change. A call whose text names no state is accepted in
+/// every state.
+///
+/// ```
+/// let channel = OutgoingChannel(0);
+/// let mut session: Session<R> = Session::new(alloc, SessionSettings::new(), channel, SessionState::Unmapped, None);
+/// let begin = session.send_begin()?;                             // the frame to send: the state is BeginSent
+/// session.on_incoming_begin(IncomingChannel(3), their_begin)?;   // Mapped
+/// let handle = session.allocate_link(name, Some(relay))?;
+/// let end = session.send_end(None)?;                             // EndSent
+/// session.on_incoming_end(IncomingChannel(3), their_end)?;       // Unmapped
+/// ```
 #[derive(Drop)]
 pub struct Session<R> {
     alloc: Global,
@@ -83,9 +96,9 @@ impl<R> Model for Session<R> {
 }
 
 impl<R: LinkRelay> Session<R> {
-    /// A session with these settings on an outgoing channel, in a state, with the reason why its connection stopped, if it
-    /// did. Nothing waits, no link is attached, no delivery is open, and the numbers that the peer gives are 0. Its links are found by
-    /// [`KeyHash::Fixed`].
+    /// A session with these settings on an outgoing channel, in a state (a new one is in `Unmapped`), with the reason why its connection
+    /// stopped, if it did. Nothing waits, no link is attached, no delivery is open, and the numbers that the peer gives are 0. Takes no
+    /// memory. Its links are found by [`KeyHash::Fixed`].
     pub fn new(
         alloc: Global,
         settings: SessionSettings,
@@ -107,7 +120,7 @@ impl<R: LinkRelay> Session<R> {
         )
     }
 
-    /// The same session, whose links are found by this hash.
+    /// The same session as [`Session::new`] makes, whose links are found by this hash.
     pub fn keyed(
         alloc: Global,
         hash: KeyHash,
@@ -145,7 +158,7 @@ impl<R: LinkRelay> Session<R> {
         &self.state
     }
 
-    /// Whether a transfer may be requested: exactly in `Mapped`.
+    /// Whether a transfer may be requested, and a link allotted: exactly in `Mapped`.
     pub fn can_send(&self) -> bool
         ensures { result ≡ is_mapped self.now.view.state }
     {

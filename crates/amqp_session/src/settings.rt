@@ -9,22 +9,30 @@ use std::marker::Model;
 /// The incoming and the outgoing window of a session whose settings name none: 5000 transfers.
 pub const DEFAULT_WINDOW: Uint = 5000;
 
-/// What this side of a session begins with; a Begin carries it to the peer.
+/// What this side of a session begins with; a Begin carries it to the peer (AMQP 1.0 part 2, section 2.7.2).
+///
+/// ```
+/// let mut settings = SessionSettings::new();
+/// settings.incoming_window = 100;
+/// let input = Input::Begin(SessionNo(0), settings);
+/// ```
 #[derive(Clone, Debug, Drop)]
 pub struct SessionSettings {
-    /// The number of the first transfer that goes out.
+    /// The number of the first transfer that goes out: 0 to 4294967295.
     pub next_outgoing_id: u32,
-    /// How many transfers may come before a flow grants more.
+    /// How many transfers may come before a flow grants more: 0 to 4294967295. A session names it, and refuses no transfer past it. Once half
+    /// of it came, a session flow is due.
     pub incoming_window: u32,
-    /// How many transfers this side can send at most before it waits.
+    /// The outgoing window that the Begin and each flow name: 0 to 4294967295 transfers. It does not hold a transfer back: only the
+    /// peer's incoming window does.
     pub outgoing_window: u32,
-    /// The highest handle that the peer may use.
+    /// The highest handle that the peer may use. A session names it, and does not check the peer's handles.
     pub handle_max: Handle,
-    /// What this side can do.
+    /// The capabilities that this side offers.
     pub offered_capabilities: Option<Vec<Symbol>>,
-    /// What it wants the peer to do.
+    /// The capabilities that this side may use if the peer supports them.
     pub desired_capabilities: Option<Vec<Symbol>>,
-    /// Anything else.
+    /// Properties of the session.
     pub properties: Option<Fields>,
 }
 

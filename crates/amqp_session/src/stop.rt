@@ -3,7 +3,7 @@
 ghost use Rattle.std.specs.Prelude.{◌≡◌};
 ghost use Rattle.amqp_session.specs.declared.stop.SessionStopReason.TheVariants.{ConnectionStopped};
 
-/// Why a connection stopped. The first reason that is recorded stays.
+/// Why a connection stopped (AMQP 1.0 part 2, section 2.4.6). The first reason that is recorded stays.
 #[derive(Clone, Copy, Debug, PartialEq, Eq)]
 pub enum ConnectionStopReason {
     /// This side closed it.
@@ -16,7 +16,7 @@ pub enum ConnectionStopReason {
     RemoteClosedWithError,
 }
 
-/// Why a session stopped. The first reason that is recorded stays.
+/// Why a session stopped (AMQP 1.0 part 2, section 2.5.5). The first reason that is recorded stays.
 #[derive(Clone, Copy, Debug, PartialEq, Eq)]
 pub enum SessionStopReason {
     /// This side ended it.

@@ -1,3 +1,4 @@
+-- Part: other calls.
 -- A session that the peer begins: the engine begins one, and the two Begins are turned (AMQP 1.0 part 2, section 2.5.1).
 use Rattle.std.specs.Prelude.{◌≡◌, ◌-◌, ◌^◌, ℕ, List, [], ◌∷◌, Some, None, Result, Ok, Err}
 use Rattle.amqp_types.specs.Begin.{BeginSaid}

@@ -1,3 +1,4 @@
+-- Part: other calls.
 -- Names of links, told apart by role (AMQP 1.0 part 2, section 2.6.1).
 use Rattle.std.specs.Prelude.{◌≢◌, ◌≡◌, ℕ, List, ◌∷◌, Option, Some, None}
 use Rattle.amqp_types.specs.declared.definitions.Role.{Role}

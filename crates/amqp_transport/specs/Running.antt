@@ -1,3 +1,4 @@
+-- Part: other calls; inner.
 -- What a run of a transport does to its engine.
 use Rattle.std.specs.Prelude.{◌≡◌, ℕ, ◌+◌, ◌-◌, ◌^◌, min, List, [], ◌∷◌, ◌++◌, Bool, true, false, Option, Some, None, if◌then◌else◌, nat_eq}
 use Rattle.amqp_session.specs.Relay.{Relays}

@@ -1,3 +1,4 @@
+-- Part: other calls.
 -- The stream: the protocol header, and frames behind their sizes (AMQP 1.0 part 2, sections 2.2 and 2.3).
 use Rattle.std.specs.Prelude.{◌≡◌, ◌≤◌, ◌+◌, ℕ, List, [], ◌∷◌, ◌++◌, length, Option}
 use Rattle.std.specs.Int.{w32, from_be_bytes}

@@ -1,3 +1,4 @@
+-- Part: other calls.
 -- The turn of a Begin: one that answers none is made the answer to another one (AMQP 1.0 part 2, section 2.5.1).
 use Rattle.std.specs.Prelude.{◌≡◌, ◌≤◌, ◌⊎◌, ℕ, List, length, Some, None, IsSome, Result, Ok, Err}
 use Rattle.amqp_types.specs.Begin.{BeginSaid}

@@ -1,7 +1,23 @@
 //! A transport for an engine, over any reader and any writer: protocol headers, sizes, and runs whose output is written.
 //!
-//! Sockets, TLS, SASL and heartbeats are the caller's. For a server there are two things besides: [`turn_begin`], by which a session that
+//! Sockets, TLS, SASL and heartbeats are the caller's. For a server there are two things besides: [`begin_session`], by which a session that
 //! the peer begins is served, and [`marked_name`], by which a sender and a receiver may share a link's name.
+//!
+//! ```
+//! exchange_headers(&mut input, &mut output)?;
+//! push(&mut inputs, Input::Open)?;
+//! while receive(
+//!     alloc,
+//!     &mut engine,
+//!     &mut inputs,
+//!     &mut out,
+//!     &mut refusals,
+//!     &mut input,
+//!     &mut output,
+//! )? {
+//!     // `refusals` has what this frame was refused for; new requests go to `inputs` by `push`.
+//! }
+//! ```
 #![tactic(auto)]
 
 pub mod laws;

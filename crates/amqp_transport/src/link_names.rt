@@ -17,8 +17,13 @@ fn mark(role: Role) -> &'static str
     }
 }
 
-/// The name under which a link of the peer's is kept, which has this role in its Attach: the role's mark, and the peer's name behind it.
-/// Two roles never give the same name, and neither do two names, whatever the peer chooses. Fails where memory is refused.
+/// The name under which a link of the peer's is kept, which has this role in its Attach: the role's mark (`s` or `r`), and then the peer's
+/// name. Two roles never give the same name, and neither do two names, whatever the peer chooses. `AllocError` where memory is refused.
+///
+/// ```
+/// let name = marked_name(alloc, theirs.role, theirs.name.as_str())?; // "rorders" for a receiver of the name "orders"
+/// let plain = plain_name(name.as_str());                             // Some((Role::Receiver, "orders"))
+/// ```
 pub fn marked_name(alloc: Global, role: Role, name: &str) -> Result<String, AllocError>
     ensures { IfOk result (λ s. string_bytes s ≡ marked role name.now) }
 {
@@ -27,7 +32,7 @@ pub fn marked_name(alloc: Global, role: Role, name: &str) -> Result<String, Allo
     Ok(marked)
 }
 
-/// The role and the name that a marked name was made of. `None` where it was not made by [`marked_name`].
+/// The role and the name that a marked name was made of. `None` where it was not made by [`marked_name`]: it does not begin with a mark.
 pub fn plain_name(marked: &str) -> Option<(Role, &str)>
     ensures { IsPlain marked.now (option_map (λ x. (x.0, x.1.now)) result) }
 {

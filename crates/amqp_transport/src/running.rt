@@ -15,12 +15,17 @@ use std::io::{self, BufRead, ErrorKind, Write};
 /// How often a run that met refused memory is tried again.
 const TRIES: u32 = 3;
 
-/// Runs the inputs, and writes what is to be sent to `output`, by way of `out`, which is empty before and behind a run that is `Ok`. What is
-/// refused goes behind what `refusals` holds; the place that a refusal tells counts the inputs of this call, from 0.
+/// Runs the inputs, and writes what is to be sent to `output`, by way of `out`, which is empty before and after a run that is `Ok`. What is
+/// refused is appended to `refusals`; the place in a refusal counts the inputs of this call, from 0.
 ///
-/// `Ok` means that each input was taken, in order, that none is left, and that no frame waits in the engine. Where memory is refused it goes on with the inputs that are left. After a
-/// few tries it answers `OutOfMemory`; those that were not taken are still in `inputs`, frames may wait in the engine, and a later call goes on.
-/// After an error of `output` the stream is of no use.
+/// `Ok` means that each input was taken, in order, that none is left, and that no frame waits in the engine. Where memory is refused it goes
+/// on with the inputs that are left. After three tries it answers `OutOfMemory`; the inputs that were not taken are still in `inputs`, frames
+/// may wait in the engine, and a later call goes on. An error of `output` is passed on: after it the stream is of no use.
+///
+/// ```
+/// push(&mut inputs, Input::Open)?;
+/// run(&mut engine, &mut inputs, &mut out, &mut refusals, &mut output)?;
+/// ```
 pub fn run<R: LinkRelay, O: Write>(
     engine: &mut Engine<R>,
     inputs: &mut VecDeque<Input<R>>,
@@ -47,7 +52,7 @@ pub fn run<R: LinkRelay, O: Write>(
     Err(io::Error::from(ErrorKind::OutOfMemory))
 }
 
-/// The refusal of a try, before which so many inputs were taken, tells its place among all of them.
+/// Counts the place of a refusal from the first input of the call: before this try, `taken` inputs were taken.
 fn count_on(refusal: &mut Refusal, taken: usize)
     ensures { refusal.new ≡ counted_on taken refusal.old }
 {
@@ -67,8 +72,9 @@ fn place_on(place: Option<usize>, taken: usize) -> Option<usize>
     }
 }
 
-/// Reads a frame, behind the inputs that are left, and runs as [`run`] does. `false` where the input ended in front of one: then too what
-/// waited was put out. The errors are those of [`next_frame`] and [`run`].
+/// Reads a frame, appends it to the inputs that are left, and runs as [`run`] does. `false` where the input ended before a frame: then too
+/// the inputs that were left are run, and what waited is sent. The errors are those of [`next_frame`], where nothing is run, and of [`run`];
+/// and `OutOfMemory` where the frame has no place in `inputs`: it is lost then.
 pub fn receive<R: LinkRelay, I: BufRead, O: Write>(
     alloc: Global,
     engine: &mut Engine<R>,
@@ -90,11 +96,13 @@ pub fn receive<R: LinkRelay, I: BufRead, O: Write>(
     Ok(true)
 }
 
-/// Closes in order: the inputs that are left are run, what waits in the engine goes out, and then this side's Close, with an error or without.
-/// The caller goes on to receive until the peer's Close has come, and closes the stream then. Transfers that a session holds back, since the
-/// peer's window is used up, do not go out: who wants them to waits for the peer's flow before this.
+/// Closes in order (AMQP 1.0 part 2, section 2.4.3): the inputs that are left are run, what waits in the engine goes out, and then this side's
+/// Close, with an error or without. The caller goes on to receive until the peer's Close has come, and closes the stream then. Transfers
+/// that a session holds back, since the peer's window is used up, do not go out: a caller that wants them sent waits for the peer's flow
+/// before this.
 ///
-/// `Ok` means that all this went out. After `OutOfMemory` [`run`] goes on: what was not sent still waits, the Close too.
+/// `Ok` means that each input was taken, the Close as the last one. A Close that the state does not accept is in `refusals`. The errors are
+/// those of [`run`], and `OutOfMemory` where the Close has no place in `inputs`: it is not requested then.
 pub fn close<R: LinkRelay, O: Write>(
     engine: &mut Engine<R>,
     inputs: &mut VecDeque<Input<R>>,
@@ -109,7 +117,7 @@ pub fn close<R: LinkRelay, O: Write>(
     run(engine, inputs, out, refusals, output)
 }
 
-/// Puts an input, or whatever it is, behind the others. `OutOfMemory` where memory is refused: the item is dropped then.
+/// Appends an item, such as an input, to the others. `OutOfMemory` where memory is refused: the item is dropped then, and the others stay.
 pub fn push<T: Drop>(items: &mut VecDeque<T>, item: T) -> io::Result<()>
     ensures { MatchResult result (λ _. items.new.items ≡ items.old.items ++ item ∷ []) (λ _. items.new.items ≡ items.old.items) }
 {

@@ -15,7 +15,8 @@ use std::io::{self, BufRead, ErrorKind, Read, Write};
 /// The protocol header of AMQP 1.0.
 const HEADER: [u8; 8] = *b"AMQP\x00\x01\x00\x00";
 
-/// Sends the protocol header, and reads the peer's. `InvalidData` where the peer's is another one.
+/// Sends the protocol header, and reads the peer's (AMQP 1.0 part 2, section 2.2): eight bytes each. `InvalidData` where the peer's is another
+/// one; an error of `input` or `output` is passed on. After an error the stream is of no use.
 pub fn exchange_headers<I: Read, O: Write>(input: &mut I, output: &mut O) -> io::Result<()>
     ensures sent { OnOk result (Appends (O.contents output.old) (O.contents output.new) header) }
     ensures taken { OnOk result (Consumes (I.remaining input.old) (I.remaining input.new) header) }
@@ -31,8 +32,12 @@ pub fn exchange_headers<I: Read, O: Write>(input: &mut I, output: &mut O) -> io:
     }
 }
 
-/// The next frame, without its size; `None` where the input ends in front of one. `InvalidData` where its size is below 8, or above
-/// `max_frame_size`, that of this side's Open; `UnexpectedEof` where the input ends inside it.
+/// The next frame, without its four-byte size (AMQP 1.0 part 2, section 2.3); `None` where the input ends before one. It is what
+/// `Input::Received` takes.
+///
+/// `InvalidData` where its size, which counts its own four bytes, is below 8 or above `max_frame_size`, that of this side's Open;
+/// `UnexpectedEof` where the input ends inside it. It fails too where memory for the frame is refused, and an error of `input` is passed on.
+/// After an error the stream is of no use.
 pub fn next_frame<I: BufRead>(
     alloc: Global,
     input: &mut I,
@@ -79,7 +84,8 @@ fn read_bytes<I: Read>(alloc: Global, input: &mut I, len: usize) -> io::Result<B
     Ok(Bytes::from_vec(frame)?)
 }
 
-/// Writes what waits to be sent, and takes it off. After an error the stream is of no use: part of it may be written.
+/// Writes what waits to be sent, and takes it off: `out` is empty then. An error of `output` is passed on; after it the stream is of no use,
+/// since part of it may be written.
 pub fn write_out<O: Write>(out: &mut SendBuffer, output: &mut O) -> io::Result<()>
     ensures written { OnOk result (Appends (O.contents output.old) (O.contents output.new) out.old) }
     ensures empty { OnOk result (out.new ≡ []) }
@@ -103,7 +109,8 @@ fn write_chunk<O: Write>(out: &mut SendBuffer, output: &mut O) -> io::Result<()>
     Ok(())
 }
 
-/// Writes a piece behind its size, which counts its own four bytes. The payload is not copied.
+/// Writes a piece after its size, which counts its own four bytes. The payload is not copied. `InvalidData` where the size does not fit four
+/// bytes: nothing is written then. An error of `output` is passed on.
 pub fn write_piece<O: Write>(piece: &Piece, output: &mut O) -> io::Result<()>
     ensures { OnOk result (Appends (O.contents output.old) (O.contents output.new) (sized (piece_bytes piece.now))) }
 {
@@ -112,7 +119,7 @@ pub fn write_piece<O: Write>(piece: &Piece, output: &mut O) -> io::Result<()>
     output.write_all(piece.payload().as_slice())
 }
 
-/// Writes the bytes of a frame behind its size, which counts its own four bytes.
+/// Writes the bytes of a frame after its size, which counts its own four bytes. The errors are those of [`write_piece`].
 pub fn write_frame<O: Write>(frame: &Bytes, output: &mut O) -> io::Result<()>
     ensures { OnOk result (Appends (O.contents output.old) (O.contents output.new) (sized frame.now)) }
 {

@@ -7,12 +7,13 @@
 //! What this does not do, and the server has to:
 //!
 //! - **Channels.** The engine's frames go out on the channel that it chose, which need not be the peer's; the answer says which two belong
-//!   together. Where no channel is left below both sides' `channel-max`, the session is `Refused`: the peer cannot be told so by an End,
-//!   and the server closes the connection.
+//!   together. Where no channel is left up to both sides' `channel-max`, the session is `Refused`: no End can inform the peer of it, and
+//!   the server closes the connection.
 //! - **Sizes.** A Begin gains two bytes. The engine's own has fewer than 64 with the usual settings, and fits the 512 that every peer takes. One
-//!   with long properties may not fit any more (`TooLarge`). The peer's Begin is not sent anywhere: its limit is none.
+//!   with long properties may not fit any more (`TooLarge`). The peer's Begin is not sent anywhere, and has no limit.
 //! - **Handles.** The peer's `handle-max` is not checked, here or by the engine: a server compares the handles that it allots.
-//! - **The Open.** The engine takes a Begin behind both Opens alone; one that comes before is refused (`IllegalState`) once it is handed on.
+//! - **The Open.** The engine takes a received Begin in `Opened` alone, after both Opens; one that comes before is refused (`IllegalState`)
+//!   once it is handed on.
 
 ghost use Rattle.std.specs.Prelude.{◌≡◌, ◌≤◌, Ok, Err, IfOk, MatchOption};
 ghost use Rattle.amqp_transport.specs.Turn.{IsBegin, ReadsBegin, EncodesWhole, WritesAnswer, TurnsBegin};
@@ -59,6 +60,17 @@ pub enum BeginSessionError {
 }
 
 /// Two Begins that were turned: each is a frame without its size, and each answers the other.
+///
+/// ```
+/// let limit = engine.max_piece_len();
+/// match begin_session(alloc, &mut engine, SessionNo(0), SessionSettings::default(), frame, limit) {
+///     Ok(Turned { to_send, to_take }) => {
+///         write_frame(&to_send, &mut output)?;
+///         push(&mut inputs, Input::Received(to_take))?;
+///     }
+///     Err(error) => failed(error),
+/// }
+/// ```
 #[derive(Drop)]
 pub struct Turned {
     /// This side's Begin, for the peer.
@@ -68,11 +80,11 @@ pub struct Turned {
 }
 
 /// The frame of a Begin that answers none, as the answer to the Begin that came on the channel `remote_channel`: the same frame, but for that
-/// one field. It has `max_piece_len` bytes at most, which is 4 or more: the peer's `max-frame-size` less four. What stands behind the Begin
+/// one field. It has `max_piece_len` bytes at most, which is 4 or more: the peer's `max-frame-size` less four. What follows the Begin
 /// in the frame is left out.
 ///
-/// `NoBegin` and `HasRemoteChannel` by their names; `Frame` where the bytes are no frame, where the answer does not fit (`TooLarge`), or
-/// where memory is refused.
+/// `NoBegin` where the frame is no Begin; `HasRemoteChannel` where the Begin answers one already; `Frame` where the bytes are no frame, where
+/// the answer does not fit (`TooLarge`), or where memory is refused.
 pub fn turn_begin(
     alloc: Global,
     frame: Bytes,
@@ -87,10 +99,11 @@ pub fn turn_begin(
 }
 
 /// Begins a session of the engine's, under this number and with these settings, for the one that the peer begins by this frame. The engine is
-/// asked for its Begin, which is put out; the caller sends `to_send` behind its size, and then hands the engine `to_take`: with that the
+/// asked for its Begin, which is put out; the caller sends `to_send` after its size, and then hands the engine `to_take`: with that the
 /// session is `Mapped`. Frames that waited in the engine are to be put out before. `max_piece_len` is as for [`turn_begin`].
 ///
-/// `Unread`, `Refused` and `Unsent` by their names.
+/// `Unread` where the frame is no Begin of a session that the peer begins; `Refused` where the engine begins no session; `Unsent` where the
+/// session is begun and a Begin cannot be turned. [`BeginSessionError`] says of each what has changed.
 pub fn begin_session<R: LinkRelay>(
     alloc: Global,
     engine: &mut Engine<R>,

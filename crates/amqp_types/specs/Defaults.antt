@@ -1,3 +1,4 @@
+-- Part: other calls.
 -- Performatives in which each field that is not named has the standard's default, or is absent where the standard has none
 -- (AMQP 1.0 part 2, section 2.7).
 use Rattle.std.specs.Prelude.{ℕ, List, [], ◌∷◌, Option, None, false}

@@ -1,3 +1,4 @@
+-- Part: the bytes; other calls.
 -- Roles and settle modes, by the numbers that they are written as (AMQP 1.0 part 2, section 2.8).
 use Rattle.std.specs.Prelude.{ℕ, List, Option, Some, None, Bool, true, false, ◌==◌, if◌then◌else◌}
 use Rattle.amqp_types.specs.declared.definitions.Role.{Role}

@@ -1,3 +1,4 @@
+-- Part: the bytes; other calls; inner.
 -- Disposition: its fields, and how they stand in a list (AMQP 1.0 part 2, section 2.7.6).
 use Rattle.std.specs.Prelude.{ℕ, List, [], ◌∷◌, Option, Bool, false}
 use Rattle.amqp_types.specs.declared.definitions.Role.{Role}

@@ -1,3 +1,4 @@
+-- Part: the bytes; other calls; inner.
 -- End: its fields, and how they stand in a list (AMQP 1.0 part 2, section 2.7.8).
 use Rattle.std.specs.Prelude.{ℕ, List, [], ◌∷◌, Option}
 use Rattle.amqp_values.specs.declared.parts.Parts.{Parts}

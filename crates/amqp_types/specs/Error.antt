@@ -1,3 +1,4 @@
+-- Part: the bytes; other calls; inner.
 -- Error: its fields, and how they stand in a list (AMQP 1.0 part 2, section 2.8.14).
 use Rattle.std.specs.Prelude.{ℕ, List, [], ◌∷◌, Option}
 use Rattle.amqp_values.specs.declared.parts.Parts.{Parts}

@@ -1,3 +1,4 @@
+-- Part: the bytes; other calls; inner.
 -- Flow: its fields, and how they stand in a list (AMQP 1.0 part 2, section 2.7.4).
 use Rattle.std.specs.Prelude.{ℕ, List, [], ◌∷◌, Option, Bool, false}
 use Rattle.amqp_values.specs.declared.parts.Parts.{Parts}

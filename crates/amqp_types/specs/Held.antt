@@ -1,3 +1,4 @@
+-- Part: inner.
 -- What is known of the fields of each composite by their types: a number has so many bytes, a string is UTF-8.
 use Rattle.std.specs.Prelude.{ℕ, ◌<◌, ◌^◌, IfSome}
 use Rattle.std.specs.Str.{IsUtf8}

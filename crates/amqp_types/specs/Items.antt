@@ -1,3 +1,4 @@
+-- Part: other calls.
 -- What a walk over the parts of a list or a map gives.
 use Rattle.std.specs.Prelude.{◌≤◌, ℕ, List, [], ◌∷◌, length, Option, Some, None}
 use Rattle.std.specs.Iterator.{YieldsFirst}

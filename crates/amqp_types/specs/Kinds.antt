@@ -1,3 +1,4 @@
+-- Part: other calls.
 -- Which performative a descriptor names (AMQP 1.0 part 2, section 2.7).
 use Rattle.std.specs.Prelude.{ℕ, List, Option, Some, None, ◌==◌, if◌then◌else◌}
 use Rattle.amqp_values.specs.Reading.{◌>>=◌, IsReader}

@@ -1,3 +1,4 @@
+-- Part: inner.
 -- The canonical text of a part of a list: of a field that is no composite, or of an error.
 use Rattle.std.specs.Prelude.{ℕ, List}
 use Rattle.amqp_values.specs.Writing.{leaf_text}

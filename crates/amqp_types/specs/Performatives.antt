@@ -1,3 +1,4 @@
+-- Part: the bytes; other calls; inner.
 -- The nine performatives (AMQP 1.0 part 2, section 2.7).
 use Rattle.std.specs.Prelude.{ℕ, List, Option, Some}
 use Rattle.amqp_values.specs.Reading.{◌>>=◌, IsReader}

@@ -1,3 +1,4 @@
+-- Part: other calls.
 -- Canonical texts: each spells its performative and is read back. So do those of the transfers that a delivery is cut into
 -- (AMQP 1.0 part 2, section 2.6.14).
 use Rattle.std.specs.Prelude.{◌≡◌, ◌<◌, ◌^◌, ◌++◌, ℕ, List, length, Some, Result}

@@ -1,3 +1,4 @@
+-- Part: the bytes; other calls; inner.
 -- Transfer: its fields, and how they stand in a list (AMQP 1.0 part 2, section 2.7.5).
 use Rattle.std.specs.Prelude.{ℕ, List, [], ◌∷◌, Option, Some, None, Bool, true, false}
 use Rattle.amqp_types.specs.declared.definitions.ReceiverSettleMode.{ReceiverSettleMode}

@@ -1,3 +1,4 @@
+-- Part: the bytes; other calls.
 -- Described lists: the composites of the standard (AMQP 1.0 part 1, section 1.4).
 use Rattle.std.specs.Prelude.{◌≡◌, ℕ, List, [], ◌∷◌, ◌++◌, length, Option, Some, None, Bool, true, false, ◌==◌}
 use Rattle.std.specs.Prelude.{if◌then◌else◌, codes, bytes_eq}

@@ -1,3 +1,4 @@
+-- Part: the bytes.
 -- The grammar of values, on whole byte strings. `IsValue d text`: the bytes are exactly one value, of a depth of at most d.
 --
 -- The depth of a value with no values inside is 0, that of the list without data is 1. A list or a map has one more than

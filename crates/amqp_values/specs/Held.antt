@@ -1,3 +1,4 @@
+-- Part: inner.
 -- What is known of symbols by their type.
 use Rattle.std.specs.Prelude.{List, [], ◌∷◌, ℕ}
 use Rattle.amqp_values.specs.Text.{IsSymbolText}

@@ -1,3 +1,4 @@
+-- Part: the bytes.
 -- The kinds of constructors: which data each format code has behind it.
 use Rattle.std.specs.Prelude.{ℕ, Bool, true, false, nat_le, ◌&&◌, ◌||◌, ◌==◌, if◌then◌else◌}
 use Rattle.amqp_values.specs.declared.kind.Kind.{Kind}

@@ -1,3 +1,4 @@
+-- Part: the bytes; other calls.
 -- Numbers and booleans, in every spelling (AMQP 1.0 part 1, section 1.6).
 use Rattle.std.specs.Prelude.{◌≡◌, ℕ, List, [], ◌∷◌, length, Option, Some, None, Bool, true, false, ◌==◌, if◌then◌else◌}
 use Rattle.std.specs.Int.{Width, w16, w32, w64, from_be_bytes}

@@ -1,3 +1,4 @@
+-- Part: every call exactly; other calls; inner.
 -- The terminal states of a delivery: accepted, rejected, released and modified.
 use Rattle.std.specs.Prelude.{◌≡◌, ℕ, List, [], ◌∷◌, ◌++◌, length, Bool, true, false, Option, Some, None, ◌==◌, ◌&&◌}
 use Rattle.std.specs.Prelude.{◌||◌, if◌then◌else◌, codes}

@@ -1,3 +1,4 @@
+-- Part: every call exactly; other calls; inner.
 -- The parts of lists and maps.
 use Rattle.std.specs.Prelude.{◌≡◌, ℕ, zero, suc, ◌-◌, ◌%◌, List, [], ◌∷◌, ◌++◌, length, take, drop, Option, Some, None}
 use Rattle.std.specs.Prelude.{Bool, ◌==◌, if◌then◌else◌}

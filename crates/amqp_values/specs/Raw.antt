@@ -1,3 +1,4 @@
+-- Part: the bytes; other calls; inner.
 -- Raw values, and those of them that are maps.
 use Rattle.std.specs.Prelude.{◌≡◌, ◌≢◌, ℕ, ◌-◌, List, [], ◌∷◌, length, take, drop, Option, Some, None, Bool, false}
 use Rattle.std.specs.Prelude.{◌==◌, ◌||◌, if◌then◌else◌}

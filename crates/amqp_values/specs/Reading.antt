@@ -1,3 +1,4 @@
+-- Part: the bytes; other calls.
 -- Reading from left to right: a value and what is left, or nothing where no front of the bytes is in the format.
 use Rattle.std.specs.Prelude.{◌≡◌, ℕ, List, [], ◌∷◌, ◌++◌, length, take, drop, IfOk, Option, Some, None, Result, Ok}
 use Rattle.std.specs.Prelude.{Err, Bool, true, false, nat_lt, if◌then◌else◌}

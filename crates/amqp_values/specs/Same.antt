@@ -1,3 +1,4 @@
+-- Part: other calls.
 -- What `==` tests, with its laws: records are compared field by field.
 use Rattle.std.specs.Prelude.{ℕ, List, Option, Bool, nat_eq}
 use Rattle.std.specs.Bool.{beq}

@@ -1,3 +1,4 @@
+-- Part: the bytes; other calls; inner.
 -- The fields of a list, in order (AMQP 1.0 part 1, section 1.4).
 use Rattle.std.specs.Prelude.{◌≡◌, ℕ, ◌-◌, List, [], ◌∷◌, drop, Option, Some, None, Bool, false, ◌==◌, if◌then◌else◌, ◌⊎◌}
 use Rattle.amqp_values.specs.declared.parts.Parts.{Parts}

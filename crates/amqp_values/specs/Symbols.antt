@@ -1,3 +1,4 @@
+-- Part: the bytes; other calls; inner.
 -- Multiple symbols: one symbol, or an array of symbols (AMQP 1.0 part 2, the `multiple` attribute of a field).
 use Rattle.std.specs.Prelude.{◌≡◌, ℕ, zero, suc, List, [], ◌∷◌, ◌++◌, length, Option, Some, None, Bool, true, false, ◌==◌, if◌then◌else◌}
 use Rattle.amqp_values.specs.Reading.{◌>>=◌, byte_at, count_at, region_at, is_empty, IsNumber}

@@ -1,3 +1,4 @@
+-- Part: the bytes; other calls.
 -- Binaries, strings and symbols (AMQP 1.0 part 1, sections 1.6.19 to 1.6.21).
 use Rattle.std.specs.Prelude.{◌≡◌, ◌<◌, ◌^◌, ℕ, List, ◌∷◌, ◌++◌, length, Option, Some, None, Bool, true, false, nat_lt, ◌==◌, if◌then◌else◌}
 use Rattle.std.specs.List.{list_all}

@@ -1,3 +1,4 @@
+-- Part: other calls; inner.
 -- What is left behind a value, if its depth keeps a limit.
 use Rattle.std.specs.Prelude.{ℕ, zero, suc, ◌%◌, List, length, Option, Some, None, Bool, true, false, nat_lt, ◌==◌, if◌then◌else◌}
 use Rattle.amqp_values.specs.declared.kind.Kind.{Kind}

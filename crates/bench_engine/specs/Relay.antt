@@ -1,3 +1,4 @@
+-- Part: inner.
 -- What the relays of the measured links keep open.
 use Rattle.std.specs.Prelude.{Option, None}
 use Rattle.bench_engine.specs.declared.relay.Relay.{Relay}

@@ -1,3 +1,4 @@
+-- Part: other calls.
 -- The error conditions of the standard (part 2, sections 2.8.15 to 2.8.18; the last one is of part 4, section 4.5.8).
 use Rattle.std.specs.Prelude.{ℕ, List, None, codes}
 use Rattle.amqp_types.specs.Error.{ErrorSaid}

@@ -1,3 +1,4 @@
+-- Part: other calls.
 -- What the peer is told of a refused frame: the condition, and the frame that carries it, an End (part 2, section 2.7.8) or a Close
 -- (section 2.7.9). What each condition means stands in sections 2.8.15 and 2.8.17.
 use Rattle.std.specs.Prelude.{Bool, true, false, Option, Some, None, if◌then◌else◌}

@@ -1,3 +1,4 @@
+-- Part: other calls.
 -- What the relay of a transcript answers.
 use Rattle.std.specs.Prelude.{ℕ, List, Bool, true, false, Option, Some, None, if◌then◌else◌}
 use Rattle.amqp_types.specs.declared.definitions.DeliveryTag.{DeliveryTag}

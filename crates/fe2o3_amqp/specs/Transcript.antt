@@ -1,3 +1,4 @@
+-- Part: other calls.
 -- What the lines of a transcript say.
 use Rattle.std.specs.Prelude.{ℕ, List, Option, Some, None, Result, Ok, Err, codes}
 use Rattle.amqp_frames.specs.declared.error.Error.{Error}

@@ -7,6 +7,11 @@ use amqp_types::{Error, Symbol};
 use std::alloc::{AllocError, Global};
 
 /// A condition that the standard names. A peer may name others too: its [`Error`](crate::definitions::Error) has the text.
+///
+/// ```
+/// let error = ErrorCondition::IllegalState.to_error(alloc)?;
+/// let input = Input::Close(Some(error));
+/// ```
 #[derive(Clone, Copy, Debug, PartialEq, Eq)]
 pub enum ErrorCondition {
     /// An internal error, `amqp:internal-error` (section 2.8.15, as all up to `FrameSizeTooSmall`).
@@ -17,13 +22,13 @@ pub enum ErrorCondition {
     UnauthorizedAccess,
     /// Data could not be decoded, `amqp:decode-error`.
     DecodeError,
-    /// The peer took more than what there is for it, `amqp:resource-limit-exceeded`.
+    /// The peer exceeded the resources that are allotted to it, `amqp:resource-limit-exceeded`.
     ResourceLimitExceeded,
     /// A frame was used in a way that the standard does not allow, `amqp:not-allowed`.
     NotAllowed,
     /// A frame has a field that is not valid, `amqp:invalid-field`.
     InvalidField,
-    /// The peer asks for what is left out, `amqp:not-implemented`.
+    /// The peer requests a function that is not implemented, `amqp:not-implemented`.
     NotImplemented,
     /// Another client works with it, `amqp:resource-locked`.
     ResourceLocked,

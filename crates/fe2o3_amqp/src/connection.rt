@@ -1,3 +1,3 @@
-//! One side of a connection, and why it fails, as its user sees it.
+//! One side of a connection, and why it fails, as a handle of it says.
 
 pub use amqp_connection::{Connection, Error};

@@ -4,7 +4,17 @@
 //! its impl is named too: `amqp_session` for a handle's `Handle` and a channel's `u16`, `amqp_connection` for the `BeginError` of a
 //! refused channel. The methods `handle`, `number` and `begin_error` need neither. Each name stands here at the root, but for the laws
 //! and the four errors that are named `Error`: those stand in the modules. `Connection` stands in both. This crate's own part is
-//! what the peer is told of a refused frame, and transcripts: an engine that is driven by lines of text.
+//! how a refused frame is answered, and transcripts: an engine that is driven by lines of text.
+//!
+//! ```
+//! let mut engine = Engine::keyed(
+//!     alloc,
+//!     KeyHash::Keyed(RandomState::new(&rt)?),
+//!     ConnectionState::HeaderExchange,
+//!     open,
+//! );
+//! let outcome = engine.run_into(&mut inputs, &mut out, &mut refusals);
+//! ```
 #![tactic(auto)]
 
 mod conditions;

@@ -1,4 +1,4 @@
-//! What the peer is told of a refused frame: the condition, and the frame that carries it.
+//! How a refused frame is answered: the condition, and the frame that carries it to the peer.
 
 ghost use Rattle.std.specs.Prelude.{◌≡◌};
 ghost use Rattle.fe2o3_amqp.specs.Refusals.{answer_of, told_of, frame_told, state_told, inner_told, session_state_told, session_told, has_closed};
@@ -10,7 +10,21 @@ use amqp_frames::Error as FrameError;
 use amqp_session::{SessionInnerError, SessionStateError};
 use amqp_types::ConnectionState;
 
-/// What the peer is told of a refused frame. [`ErrorCondition::to_error`] makes the error of it.
+/// How a refused frame is answered. [`ErrorCondition::to_error`] makes the error of its condition.
+///
+/// ```
+/// match answer_to(&error, *engine.connection().local_state()) {
+///     Some(PeerAnswer::End(condition)) => {
+///         let error = condition.to_error(alloc)?;
+///         inputs.push_back(Input::End(number, Some(error)))?; // the session of the frame's channel
+///     }
+///     Some(PeerAnswer::Close(condition)) => {
+///         let error = condition.to_error(alloc)?;
+///         inputs.push_back(Input::Close(Some(error)))?;
+///     }
+///     None => {}
+/// }
+/// ```
 #[derive(Clone, Copy, Debug, PartialEq, Eq)]
 pub enum PeerAnswer {
     /// The session to which the frame went is ended with this condition: `Input::End` (AMQP 1.0 part 2, section 2.7.8).
@@ -19,19 +33,23 @@ pub enum PeerAnswer {
     Close(ErrorCondition),
 }
 
-/// What the peer is told where a received frame was refused with this error, and the connection is in this state (AMQP 1.0 part 2,
+/// How a received frame is answered that was refused with this error, where the connection is in this state (AMQP 1.0 part 2,
 /// sections 2.7.8, 2.7.9 and 2.8.15 to 2.8.17). `docs/PROTOCOL.md` has it as a table.
 ///
-/// `None` where there is nothing to tell: behind this side's Close, where what comes is passed over (section 2.4.6); where the peer
-/// ended the session or closed the connection, which wants this side's own End or Close, without an error; where the transport failed;
-/// and where only a request of this side's is refused so.
+/// `None` where no answer is due:
 ///
-/// It is to be asked of frames that came. A request of this side's is refused with some of the same errors, and the peer is told of
-/// none of that.
+/// - after this side's Close, where what comes is passed over (section 2.4.6): in `ClosePipe`, `OpenClosePipe`, `CloseSent`,
+///   `Discarding` and `End`;
+/// - where the peer ended the session or closed the connection: then this side's own End or Close is due, without an error;
+/// - where the transport failed;
+/// - and where only a request of this side's is refused so.
+///
+/// Call it for received frames alone. A request of this side's is refused with some of the same errors, of which the peer is not
+/// informed.
 ///
 /// The session of an `End` is that of the frame's channel: `Connection::session_tx_by_incoming_channel`. The engine refuses an End of
-/// a session that this side has ended, and a Close before this side's Open; nothing goes out then. So a side that has sent no Open asks
-/// for that first.
+/// a session that this side has ended, and a Close before this side's Open; nothing goes out then. So a side that has sent no Open
+/// requests that first.
 pub fn answer_to(error: &StepError, state: ConnectionState) -> Option<PeerAnswer>
     ensures { result ≡ answer_of error.now state }
 {

@@ -34,7 +34,7 @@ const FAILED: u8 = 3;
 /// handle of session N for a link of that name, which is the rest of the line, with a [`ReplayRelay`] that waits for the
 /// peer's attach. `send N HEX` has session N send one performative with what follows it: an Attach, a Flow that names a link,
 /// a Transfer, a Disposition, or a Detach that the peer is to answer. A transfer's input handle has the number of its handle,
-/// it is the first of its delivery exactly where it has a tag, and what follows is its payload; behind another performative it
+/// it is the first of its delivery exactly where it has a tag, and what follows is its payload; after another performative it
 /// is dropped. `settle N ROLE FIRST LAST` lets open deliveries of session N go that this side settles by itself, from FIRST to LAST,
 /// and `settle N ROLE FIRST` the first alone; ROLE is this side's, `receiver` or `sender`. N, FIRST and LAST are decimal numbers
 /// to 4294967295.
@@ -46,6 +46,10 @@ const FAILED: u8 = 3;
 /// The status is 0 at the end of the input. At any other line `errors` gets `bad line K`, where K counts from 1, and the status
 /// is 2. The status is 3 where reading or writing fails, where a line is not UTF-8, and where memory is refused. The output of
 /// earlier lines stands.
+///
+/// ```
+/// let status = replay(rt.alloc(), &mut input, &mut output, &mut errors);
+/// ```
 pub fn replay<I: BufRead, O: Write, E: Write>(
     alloc: Global,
     input: &mut I,

@@ -1,4 +1,4 @@
-//! The channels of sessions: given, and given back.
+//! The channels of sessions: allotted, and given back.
 
 ghost use Rattle.std.specs.Prelude.{◌≡◌, ◌⊎◌, true, false, is_some, unwrap_or};
 ghost use Rattle.std.specs.Option.{option_map};
@@ -13,7 +13,7 @@ use crate::numbers::SessionNo;
 use amqp_session::{ConnectionStopReason, OutgoingChannel};
 use amqp_types::ConnectionState;
 
-/// Whether no Open may have come or gone out.
+/// Whether no channel is allotted yet, since no Open went out or came.
 fn is_unopened(state: ConnectionState) -> bool
     ensures { result ≡ is_unopened state }
 {
@@ -26,7 +26,7 @@ fn is_unopened(state: ConnectionState) -> bool
     )
 }
 
-/// Whether a Close went out.
+/// Whether no channel is allotted any more, since the connection is closed or this side's Close went out.
 fn has_stopped(state: ConnectionState) -> bool
     ensures { result ≡ has_stopped state }
 {
@@ -37,12 +37,13 @@ fn has_stopped(state: ConnectionState) -> bool
 }
 
 impl Connection {
-    /// Gives a session the lowest channel that no session holds (AMQP 1.0 part 2, section 2.5.1), in a time that grows with
-    /// the logarithm of the number of channels.
+    /// Allots to a session the lowest channel that no session holds (AMQP 1.0 part 2, section 2.5.1): 0 to the agreed maximum, which is
+    /// this side's channel-max until the peer's Open is accepted, and then the smaller of both. The time grows with the logarithm of the
+    /// number of channels.
     ///
     /// `ConnectionNotOpened` in `Start`, `HeaderSent`, `HeaderReceived` and `HeaderExchange`. `ConnectionStopped` in
-    /// `CloseSent`, `Discarding` and `End`, with the recorded reason, else `Closed`. `ChannelMaxReached` where all channels
-    /// are held up to the highest that both sides allow. `OutOfMemory` where memory is refused. Nothing changes then.
+    /// `CloseSent`, `Discarding` and `End`, with the recorded reason, else `Closed`. In every other state: `ChannelMaxReached` where all
+    /// channels are held up to the agreed maximum, and `OutOfMemory` where memory is refused. Nothing changes then.
     pub fn allocate_session(
         &mut self,
         number: SessionNo,
@@ -66,8 +67,8 @@ impl Connection {
         }
     }
 
-    /// Takes a channel back, and says whether a session held it. Takes no memory. The peer's channel that leads to the
-    /// session leads there still, until an End comes on it.
+    /// Takes a channel back, and says whether a session held it: `false` changes nothing. Takes no memory. The peer's channel that leads to
+    /// the session still leads there, until an End comes on it.
     pub fn deallocate_session(&mut self, channel: OutgoingChannel) -> bool
         ensures { DeallocateStep self.old channel.0 result self.new }
     {
@@ -78,7 +79,7 @@ impl Connection {
         true
     }
 
-    /// The number of the session that holds this channel of this side's, if one does.
+    /// The number of the session that holds this channel of this side's. `None` where no session does.
     pub fn session_tx_by_outgoing_channel(&self, channel: OutgoingChannel) -> Option<SessionNo>
         ensures { result ≡ option_map (λ n. record { 0 = n }) (map.get self.now.session_by_outgoing_channel channel.0) }
     {

@@ -76,10 +76,10 @@ fn answer_close(state: ConnectionState, error: Option<Error>) -> Result<(), Conn
 }
 
 impl Connection {
-    /// Sends this side's Open: gives the frame, on channel 0, and moves the state.
+    /// Sends this side's Open: gives the frame, on channel 0, and moves the state (AMQP 1.0 part 2, sections 2.4.6 and 2.7.1).
     ///
-    /// `IllegalState` where the state does not send an Open (AMQP 1.0 part 2, section 2.4.6), `OutOfMemory` where the
-    /// copy of the Open is refused; nothing has then changed.
+    /// It moves `HeaderExchange` to `OpenSent`, `OpenReceived` to `Opened`, and `HeaderSent` to `OpenPipe`. `IllegalState` in any other
+    /// state. `OutOfMemory` where the copy of the Open is refused. Nothing changes then.
     pub fn send_open(&mut self) -> Result<Frame, ConnectionStateError>
         ensures { SendOpenStep self.old result self.new }
     {
@@ -93,9 +93,11 @@ impl Connection {
         Ok(Frame::new(0, FrameBody::Open(open)))
     }
 
-    /// Takes the peer's Open: moves the state, agrees on the smaller channel-max, and keeps the Open. Takes no memory.
+    /// Takes the peer's Open: moves the state, agrees on the smaller channel-max, and keeps the Open (AMQP 1.0 part 2, sections 2.4.6 and
+    /// 2.7.1). Takes no memory. The channel is not looked at.
     ///
-    /// `IllegalState` where the state takes no Open; nothing has then changed.
+    /// It moves `HeaderExchange` to `OpenReceived`, `OpenSent` to `Opened`, and `ClosePipe` to `CloseSent`. `IllegalState` in any other
+    /// state. Nothing changes then.
     pub fn on_incoming_open(
         &mut self,
         _channel: IncomingChannel,
@@ -114,10 +116,11 @@ impl Connection {
         Ok(())
     }
 
-    /// Sends this side's Close, with an error or without: gives the frame, on channel 0, and moves the state. Takes no
-    /// memory.
+    /// Sends this side's Close, with an error or without: gives the frame, on channel 0, and moves the state (AMQP 1.0 part 2, sections
+    /// 2.4.6 and 2.7.9). Takes no memory.
     ///
-    /// `IllegalState` where the state sends no Close; nothing has then changed.
+    /// Without an error it moves `Opened` to `CloseSent`, `OpenSent` to `ClosePipe`, and `OpenPipe` to `OpenClosePipe`; with an error it
+    /// moves each of these to `Discarding`. It moves `CloseReceived` to `End`. `IllegalState` in any other state. Nothing changes then.
     pub fn send_close(&mut self, error: Option<Error>) -> Result<Frame, ConnectionStateError>
         ensures { SendCloseStep self.old error result self.new }
     {
@@ -128,18 +131,20 @@ impl Connection {
         Ok(Frame::new(0, FrameBody::Close(Close { error })))
     }
 
-    /// The state to which a Close of the peer's would move, if the state takes one (AMQP 1.0 part 2, section 2.4.6).
+    /// The state to which a Close of the peer's would move (AMQP 1.0 part 2, section 2.4.6). `None` where
+    /// [`Connection::on_incoming_close`] would be `IllegalState`.
     pub fn state_after_incoming_close(&self) -> Option<ConnectionState>
         ensures { result ≡ takes_close self.now.state }
     {
         after_incoming_close(self.state)
     }
 
-    /// Takes the peer's Close and moves the state. Takes no memory.
+    /// Takes the peer's Close and moves the state. Takes no memory. The channel is not looked at.
     ///
-    /// `Ok` where it answers a Close of this side and has no error. `RemoteClosed` where the peer closed first, and
-    /// `RemoteClosedWithError` where its Close has an error: the state has moved then too. `IllegalState` where the state
-    /// takes no Close; nothing has then changed.
+    /// It moves `Opened`, `OpenPipe`, `OpenClosePipe`, `OpenReceived` and `OpenSent` to `CloseReceived`, and `CloseSent` and `Discarding` to
+    /// `End`. The answer is `RemoteClosedWithError` where the Close has an error, in each of these states. Without an error it is
+    /// `RemoteClosed` where the state moved to `CloseReceived`, and `Ok` where it moved to `End`. The state moves in each case.
+    /// `IllegalState` in any other state: nothing changes then.
     pub fn on_incoming_close(
         &mut self,
         _channel: IncomingChannel,

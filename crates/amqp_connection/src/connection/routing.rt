@@ -20,7 +20,7 @@ impl Connection {
     /// Takes the peer's Begin, which came on this channel: from now on the channel leads to the session that holds the
     /// Begin's `remote-channel`. Gives that session's number, and the frame for it.
     ///
-    /// `IllegalState` outside `Opened`. `NotImplemented(None)` without a `remote-channel`: sessions that the peer begins are
+    /// `IllegalState` in every state but `Opened`. `NotImplemented(None)` without a `remote-channel`: sessions that the peer begins are
     /// left out. `NotFound(None)` where no session holds that channel. `OutOfMemory` where memory is refused. Then the route
     /// stays as it was.
     pub fn on_incoming_begin(
@@ -40,10 +40,10 @@ impl Connection {
         }
     }
 
-    /// Takes the peer's End, which came on this channel: from now on the channel leads nowhere. Gives the number of the
+    /// Takes the peer's End, which came on this channel: from now on the channel leads to no session. Gives the number of the
     /// session to which it led, and the frame for it. Takes no memory.
     ///
-    /// `IllegalState` outside `Opened`. `NotFound(None)` where the channel leads nowhere. Nothing changes then.
+    /// `IllegalState` in every state but `Opened`. `NotFound(None)` where the channel leads to no session. Nothing changes then.
     pub fn on_incoming_end(
         &mut self,
         channel: IncomingChannel,
@@ -64,7 +64,7 @@ impl Connection {
         }
     }
 
-    /// The number of the session to which frames on this channel of the peer's go, if they go to one.
+    /// The number of the session to which frames on this channel of the peer's go, in every state. `None` where they go to none.
     #[inline(always)]
     pub fn session_tx_by_incoming_channel(&self, channel: IncomingChannel) -> Option<SessionNo>
         ensures { result ≡ option_map (λ n. record { 0 = n }) (map.get self.now.session_by_incoming_channel channel.0) }
@@ -99,7 +99,7 @@ impl Connection {
     }
 
     /// What [`Connection::on_incoming_begin`] does, for a caller that holds the Begin itself: of the peer's Begin it takes the
-    /// `remote-channel` alone, and gives no frame. The same errors.
+    /// `remote-channel` alone, and gives no frame. It has the same errors.
     pub fn route_begin(
         &mut self,
         channel: IncomingChannel,
@@ -125,7 +125,7 @@ impl Connection {
         Ok(SessionNo(number))
     }
 
-    /// What [`Connection::on_incoming_end`] does, for a caller that holds the End itself: it gives no frame. The same errors.
+    /// What [`Connection::on_incoming_end`] does, for a caller that holds the End itself: it gives no frame. It has the same errors.
     pub fn route_end(&mut self, channel: IncomingChannel) -> Result<SessionNo, ConnectionInnerError>
         ensures { EndRouteStep self.old channel.0 (result_map (λ (n : SessionNo). n.0) result) self.new }
     {

@@ -1,3 +1,4 @@
+-- Part: inner.
 -- What the parts of a run of a handled engine answer: a wish that is asked for, and the wishes that were heard so far.
 use Rattle.std.specs.Prelude.{◌≡◌, List, [], ◌∷◌, ◌++◌, All, Option, Some, None}
 use Rattle.amqp_session.specs.Relay.{Relays}

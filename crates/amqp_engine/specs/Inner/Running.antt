@@ -1,3 +1,4 @@
+-- Part: inner.
 -- What has been run so far, as the loops of a run keep it.
 use Rattle.std.specs.Prelude.{◌≡◌, List, ◌++◌, All}
 use Rattle.amqp_session.specs.Relay.{Relays}

@@ -6,7 +6,7 @@ ghost use Rattle.amqp_engine.specs.History.{OnlyLeft};
 ghost use Rattle.amqp_engine.specs.Waits.{has_frames};
 ghost use Rattle.amqp_engine.specs.Output.{NextOutput, PutOut};
 ghost use Rattle.amqp_engine.specs.Stepped.{Stays};
-ghost use Rattle.amqp_engine.specs.Putting.{EncodesFirst, FirstUnfit, PutsFirst};
+ghost use Rattle.amqp_engine.specs.Inner.Putting.{EncodesFirst, FirstUnfit, PutsFirst};
 
 use super::Engine;
 use super::answer::{Answer, OutputError};
@@ -19,6 +19,15 @@ impl<R: LinkRelay> Engine<R> {
     ///
     /// `TooLarge` hands back a frame that does not fit the limit, whole or cut; it waits no longer. `Memory` where memory
     /// is refused; the frame still waits.
+    ///
+    /// ```
+    /// engine.step(Input::Open)?;
+    /// while let Some(pieces) = engine.next_output()? {
+    ///     for piece in pieces.iter() {
+    ///         write_piece(piece, output)?; // of `amqp_transport`
+    ///     }
+    /// }
+    /// ```
     pub fn next_output(&mut self) -> Result<Option<Vec<Piece>>, OutputError>
         ensures next { NextOutput (λ v. v.items) self.old result self.new }
         ensures legal { Stays R.gives self.old self.new }
@@ -69,7 +78,7 @@ impl<R: LinkRelay> Engine<R> {
         }
     }
 
-    /// The first frame that waits is its own answer, since it does not fit.
+    /// The first frame that waits is handed back as an answer, since it does not fit.
     // No part of `put_first`, which would pay at its entry for the size of these locals.
     #[inline(never)]
     fn hand_back(&mut self, answers: &mut Vec<Answer>)

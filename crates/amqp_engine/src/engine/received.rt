@@ -1,5 +1,5 @@
-//! Received frames: who handles what. Nothing happens for an empty frame; the connection takes Open and Close; all others go
-//! along their channel's route to a session.
+//! Received frames: who handles which. An empty frame changes nothing; the connection takes Open and Close; every other frame goes
+//! along its channel's route to a session.
 
 ghost use Rattle.std.specs.Prelude.{◌≡◌, Option, Some, None, []};
 ghost use Rattle.amqp_types.specs.declared.performatives.kind.Kind.TheVariants as kind;
@@ -10,7 +10,7 @@ ghost use Rattle.amqp_engine.specs.Engine.{ReceivedStep, FieldsStep, FieldsKept,
 ghost use Rattle.amqp_engine.specs.ByHistory.{remote_reason};
 
 use super::Engine;
-use super::kept::{close_answer, copy_of, end_answer};
+use super::handle_state::{close_answer, copy_of, end_answer};
 use super::sessions::{
     attach_received, begin_received, detach_received, disposition_received, end_received,
     flow_received, transfer_received,
@@ -18,7 +18,7 @@ use super::sessions::{
 use super::step_error::StepError;
 use amqp_connection::{Connection, ConnectionInnerError, ConnectionStateError};
 use amqp_frames::FrameEncoder;
-use amqp_session::{ConnectionStopReason, IncomingChannel, LinkRelay};
+use amqp_session::{ConnectionStopReason, IncomingChannel, LinkRelay, keys};
 use amqp_types::{
     Attach, Begin, Close, ConnectionState, Detach, Disposition, End, Error, Flow, Kind, Open,
     Transfer,
@@ -70,7 +70,7 @@ fn take_close(
 }
 
 impl<R: LinkRelay> Engine<R> {
-    /// Takes a received frame: its kind decides who handles its fields. An empty one asks for nothing.
+    /// Takes a received frame: its kind decides who handles its fields. An empty one changes nothing.
     pub(super) fn receive(&mut self, bytes: Bytes) -> Result<(), StepError>
         requires { self.old.waiting ≡ [] }
         ensures { ReceivedStep R.gives self.old bytes (refusal_of result) self.new }
@@ -104,7 +104,8 @@ impl<R: LinkRelay> Engine<R> {
             drop(rest);
             return Err(StepError::Connection(ConnectionInnerError::NotFound(None)));
         };
-        let Some(session) = self.sessions.get_mut(&number.0) else {
+        let hint = self.hints.of(number.0);
+        let Some(session) = keys::get_mut(&mut self.sessions, hint, &number.0) else {
             drop(transfer);
             drop(rest);
             return Err(StepError::NoSession);
@@ -123,7 +124,8 @@ impl<R: LinkRelay> Engine<R> {
             drop(flow);
             return Err(StepError::Connection(ConnectionInnerError::NotFound(None)));
         };
-        let Some(session) = self.sessions.get_mut(&number.0) else {
+        let hint = self.hints.of(number.0);
+        let Some(session) = keys::get_mut(&mut self.sessions, hint, &number.0) else {
             drop(flow);
             return Err(StepError::NoSession);
         };
@@ -145,7 +147,8 @@ impl<R: LinkRelay> Engine<R> {
             drop(disposition);
             return Err(StepError::Connection(ConnectionInnerError::NotFound(None)));
         };
-        let Some(session) = self.sessions.get_mut(&number.0) else {
+        let hint = self.hints.of(number.0);
+        let Some(session) = keys::get_mut(&mut self.sessions, hint, &number.0) else {
             drop(disposition);
             return Err(StepError::NoSession);
         };
@@ -163,7 +166,8 @@ impl<R: LinkRelay> Engine<R> {
             drop(attach);
             return Err(StepError::Connection(ConnectionInnerError::NotFound(None)));
         };
-        let Some(session) = self.sessions.get_mut(&number.0) else {
+        let hint = self.hints.of(number.0);
+        let Some(session) = keys::get_mut(&mut self.sessions, hint, &number.0) else {
             drop(attach);
             return Err(StepError::NoSession);
         };
@@ -181,7 +185,8 @@ impl<R: LinkRelay> Engine<R> {
             drop(detach);
             return Err(StepError::Connection(ConnectionInnerError::NotFound(None)));
         };
-        let Some(session) = self.sessions.get_mut(&number.0) else {
+        let hint = self.hints.of(number.0);
+        let Some(session) = keys::get_mut(&mut self.sessions, hint, &number.0) else {
             drop(detach);
             return Err(StepError::NoSession);
         };
@@ -197,7 +202,8 @@ impl<R: LinkRelay> Engine<R> {
         let mut rest = fields;
         let begin: Begin = read_list(self.alloc, &mut rest)?;
         let number = self.connection.route_begin(channel, begin.remote_channel)?;
-        let Some(session) = self.sessions.get_mut(&number.0) else {
+        let hint = self.hints.of(number.0);
+        let Some(session) = keys::get_mut(&mut self.sessions, hint, &number.0) else {
             drop(begin);
             return Err(StepError::NoSession);
         };
@@ -216,13 +222,14 @@ impl<R: LinkRelay> Engine<R> {
             return Err(StepError::OutOfMemory);
         };
         let number = self.connection.route_end(channel)?;
-        let Some(session) = self.sessions.get_mut(&number.0) else {
+        let hint = self.hints.of(number.0);
+        let Some(session) = keys::get_mut(&mut self.sessions, hint, &number.0) else {
             drop(end);
             drop(copy);
             return Err(StepError::NoSession);
         };
         let answer = end_received(session, channel, end);
-        self.kept.keep_end(number.0, end_answer(&answer, copy));
+        self.kept.keep_end(number, end_answer(&answer, copy));
         answer
     }
 

@@ -13,16 +13,16 @@ ghost use Rattle.amqp_engine.specs.ByHistory.{close_reason};
 
 use super::Engine;
 use super::input::Input;
+use super::output_queue::OutputQueue;
 use super::sessions::{
     allocate_incoming_link, allocate_link, end, send_attach, send_detach, send_disposition,
     send_flow, send_transfer, settle, stop,
 };
 use super::step_error::StepError;
-use super::waiting::Waiting;
 use amqp_connection::{ConnectionInnerError, SessionNo};
 use amqp_session::{
     ConnectionStopReason, InputHandle, KeyHash, LinkFlow, LinkRelay, OutgoingChannel, Session,
-    SessionFrame, SessionSettings, SessionStateError, SessionStopReason,
+    SessionFrame, SessionSettings, SessionStateError, SessionStopReason, keys,
 };
 use amqp_types::{
     Attach, DeliveryNumber, Detach, Disposition, Error, Role, SessionState, Transfer,
@@ -62,10 +62,10 @@ fn begun<R: LinkRelay>(
 }
 
 impl<R: LinkRelay> Engine<R> {
-    /// Carries an input out. What comes most often, received frames and transfers, is told apart here: a function pays at its entry for the
-    /// size of its locals, those of all arms.
+    /// Carries an input out. The most frequent inputs, received frames and transfers, are picked out here: a function pays at its entry for
+    /// the size of its locals, those of all arms.
     #[inline(always)]
-    pub(super) fn carry_out(&mut self, input: Input<R>) -> Result<(), StepError>
+    pub(super) fn dispatch(&mut self, input: Input<R>) -> Result<(), StepError>
         requires { self.old.waiting ≡ [] }
         ensures { CarriedStep R.gives self.old input (refusal_of result) self.new }
     {
@@ -74,13 +74,13 @@ impl<R: LinkRelay> Engine<R> {
             Input::Transfer(number, input, transfer, payload, is_first) => {
                 self.request_transfer(number, input, transfer, payload, is_first)
             }
-            other => self.carry_out_any(other),
+            other => self.dispatch_any(other),
         }
     }
 
     /// Carries any input out.
     #[inline(never)]
-    fn carry_out_any(&mut self, input: Input<R>) -> Result<(), StepError>
+    fn dispatch_any(&mut self, input: Input<R>) -> Result<(), StepError>
         requires { self.old.waiting ≡ [] }
         ensures { CarriedStep R.gives self.old input (refusal_of result) self.new }
     {
@@ -123,7 +123,8 @@ impl<R: LinkRelay> Engine<R> {
         requires { self.old.waiting ≡ [] }
         ensures { CarriedStep R.gives self.old (given.End number error) (refusal_of result) self.new }
     {
-        let Some(session) = self.sessions.get_mut(&number.0) else {
+        let hint = self.hints.of(number.0);
+        let Some(session) = keys::get_mut(&mut self.sessions, hint, &number.0) else {
             drop(error);
             return Err(StepError::NoSession);
         };
@@ -140,7 +141,8 @@ impl<R: LinkRelay> Engine<R> {
         requires { self.old.waiting ≡ [] }
         ensures { CarriedStep R.gives self.old (given.AllocateLink number name relay) (refusal_of result) self.new }
     {
-        let Some(session) = self.sessions.get_mut(&number.0) else {
+        let hint = self.hints.of(number.0);
+        let Some(session) = keys::get_mut(&mut self.sessions, hint, &number.0) else {
             drop(name);
             drop(relay);
             return Err(StepError::NoSession);
@@ -159,7 +161,8 @@ impl<R: LinkRelay> Engine<R> {
         requires { self.old.waiting ≡ [] }
         ensures { CarriedStep R.gives self.old (given.AllocateIncomingLink number name relay input) (refusal_of result) self.new }
     {
-        let Some(session) = self.sessions.get_mut(&number.0) else {
+        let hint = self.hints.of(number.0);
+        let Some(session) = keys::get_mut(&mut self.sessions, hint, &number.0) else {
             drop(name);
             drop(relay);
             return Err(StepError::NoSession);
@@ -172,7 +175,8 @@ impl<R: LinkRelay> Engine<R> {
         requires { self.old.waiting ≡ [] }
         ensures { CarriedStep R.gives self.old (given.Attach number attach) (refusal_of result) self.new }
     {
-        let Some(session) = self.sessions.get_mut(&number.0) else {
+        let hint = self.hints.of(number.0);
+        let Some(session) = keys::get_mut(&mut self.sessions, hint, &number.0) else {
             drop(attach);
             return Err(StepError::NoSession);
         };
@@ -190,7 +194,8 @@ impl<R: LinkRelay> Engine<R> {
         requires { self.old.waiting ≡ [] }
         ensures { CarriedStep R.gives self.old (given.Detach number detach expects_echo) (refusal_of result) self.new }
     {
-        let Some(session) = self.sessions.get_mut(&number.0) else {
+        let hint = self.hints.of(number.0);
+        let Some(session) = keys::get_mut(&mut self.sessions, hint, &number.0) else {
             drop(detach);
             return Err(StepError::NoSession);
         };
@@ -202,7 +207,8 @@ impl<R: LinkRelay> Engine<R> {
         requires { self.old.waiting ≡ [] }
         ensures { CarriedStep R.gives self.old (given.Flow number flow) (refusal_of result) self.new }
     {
-        let Some(session) = self.sessions.get_mut(&number.0) else {
+        let hint = self.hints.of(number.0);
+        let Some(session) = keys::get_mut(&mut self.sessions, hint, &number.0) else {
             drop(flow);
             return Err(StepError::NoSession);
         };
@@ -222,7 +228,8 @@ impl<R: LinkRelay> Engine<R> {
         requires { self.old.waiting ≡ [] }
         ensures { CarriedStep R.gives self.old (given.Transfer number input transfer payload is_first) (refusal_of result) self.new }
     {
-        let Some(session) = self.sessions.get_mut(&number.0) else {
+        let hint = self.hints.of(number.0);
+        let Some(session) = keys::get_mut(&mut self.sessions, hint, &number.0) else {
             drop(transfer);
             drop(payload);
             return Err(StepError::NoSession);
@@ -246,7 +253,8 @@ impl<R: LinkRelay> Engine<R> {
         requires { self.old.waiting ≡ [] }
         ensures { CarriedStep R.gives self.old (given.Disposition number disposition) (refusal_of result) self.new }
     {
-        let Some(session) = self.sessions.get_mut(&number.0) else {
+        let hint = self.hints.of(number.0);
+        let Some(session) = keys::get_mut(&mut self.sessions, hint, &number.0) else {
             drop(disposition);
             return Err(StepError::NoSession);
         };
@@ -265,7 +273,8 @@ impl<R: LinkRelay> Engine<R> {
         requires { self.old.waiting ≡ [] }
         ensures { CarriedStep R.gives self.old (given.Settle number role first last) (refusal_of result) self.new }
     {
-        let Some(session) = self.sessions.get_mut(&number.0) else {
+        let hint = self.hints.of(number.0);
+        let Some(session) = keys::get_mut(&mut self.sessions, hint, &number.0) else {
             return Err(StepError::NoSession);
         };
         settle(session, role, first, last);
@@ -281,7 +290,8 @@ impl<R: LinkRelay> Engine<R> {
         requires { self.old.waiting ≡ [] }
         ensures { CarriedStep R.gives self.old (given.Stop number reason) (refusal_of result) self.new }
     {
-        let Some(session) = self.sessions.get_mut(&number.0) else {
+        let hint = self.hints.of(number.0);
+        let Some(session) = keys::get_mut(&mut self.sessions, hint, &number.0) else {
             return Err(StepError::NoSession);
         };
         stop(session, reason);
@@ -294,7 +304,7 @@ impl<R: LinkRelay> Engine<R> {
         ensures { OpenRequest self.old (refusal_of result) self.new }
     {
         let frame = self.connection.send_open()?;
-        self.waiting.put(Waiting::one(frame));
+        self.waiting.put(OutputQueue::one(frame));
         Ok(())
     }
 
@@ -306,7 +316,7 @@ impl<R: LinkRelay> Engine<R> {
         let reason = reason_of(&error);
         let frame = self.connection.send_close(error)?;
         self.connection.set_connection_stop_reason(reason);
-        self.waiting.put(Waiting::one(frame));
+        self.waiting.put(OutputQueue::one(frame));
         Ok(())
     }
 
@@ -321,7 +331,7 @@ impl<R: LinkRelay> Engine<R> {
         ensures { (reached : Option ℕ) × (calls : List (session.Entry R))
             × BeginRequest R.gives self.old number.0 settings reached calls (refusal_of result) self.new }
     {
-        if self.is_used(number.0) {
+        if self.is_used(number) {
             drop(settings);
             return Err(StepError::SessionInUse);
         }
@@ -343,8 +353,9 @@ impl<R: LinkRelay> Engine<R> {
         let stop = self.connection.connection_stop_reason();
         match begun(self.alloc, self.hash, settings, channel, stop) {
             Ok((session, frame)) => {
+                self.hints.note(number.0, self.sessions.len());
                 drop(self.sessions.insert(number.0, session).unwrap());
-                self.kept.add(number.0);
+                self.kept.add(number);
                 self.waiting.put_frame(frame);
                 Ok(())
             }

@@ -27,8 +27,9 @@ impl<R: LinkRelay> Engine<R> {
     /// Runs the inputs, from the front, and appends the answers: what waits is put out first; then for each input `Done`
     /// or `Refused`, and after it one `Out` or `TooLarge` for each frame that it hands out.
     ///
-    /// It stops where memory for the place of an answer or for a piece is refused, and says how many inputs it took; the others
-    /// stay in `inputs`. A second call goes on: nothing is put out twice, and nothing is left out.
+    /// It stops where memory for the place of an answer or for a piece is refused (`Stopped`), and says how many inputs it took; the
+    /// others stay in `inputs`. A second call goes on: nothing is put out twice, and nothing is left out. Requests that handles have
+    /// noted stay noted: [`HandledEngine::run`](crate::HandledEngine::run) takes them.
     pub fn run(
         &mut self,
         inputs: &mut VecDeque<Input<R>>,

@@ -9,7 +9,7 @@ ghost use Rattle.amqp_engine.specs.History.{OnlyLeft};
 ghost use Rattle.amqp_engine.specs.Waits.{FirstIs, has_frames};
 ghost use Rattle.amqp_engine.specs.Output.{PutOut};
 ghost use Rattle.amqp_engine.specs.Promise.{Ends, NoneLeft};
-ghost use Rattle.amqp_engine.specs.Putting.{FirstUnfit};
+ghost use Rattle.amqp_engine.specs.Inner.Putting.{FirstUnfit};
 ghost use Rattle.amqp_engine.specs.RunInto.{HandsBack, RanInto, SendsFirst, Tells, refusal_at};
 
 use super::Engine;
@@ -36,12 +36,12 @@ fn note(refusals: &mut Vec<Refusal>, place: usize, outcome: Result<(), StepError
 }
 
 impl<R: LinkRelay> Engine<R> {
-    /// Runs the inputs as [`Engine::run`] does, and appends what is to be sent to `out`, each piece behind its four-byte size, and what is
-    /// refused to `refusals`. An input that is accepted has no entry, and a frame no list of its own: where `out` has room, none of this
-    /// asks for memory.
+    /// Runs the inputs as [`Engine::run`] does, and appends what is to be sent to `out`, each piece after its four-byte size, and what is
+    /// refused to `refusals`, with its place from 0 in this run. An input that is accepted has no entry, and a frame has no list of its
+    /// own: where `out` has room, sending asks for no memory.
     ///
-    /// It stops where memory is refused, and says how many inputs it took; the others stay in `inputs`. What stands in `out` is always
-    /// whole frames. A second call goes on: nothing is sent twice, and nothing is left out.
+    /// It stops where memory is refused (`Stopped`), and says how many inputs it took; the others stay in `inputs`. What stands in `out` is
+    /// always whole frames. A second call goes on: nothing is sent twice, and nothing is left out.
     pub fn run_into(
         &mut self,
         inputs: &mut VecDeque<Input<R>>,
@@ -59,7 +59,7 @@ impl<R: LinkRelay> Engine<R> {
             return Err(Stopped { done: 0 });
         };
         while !inputs.is_empty() {
-            // The room for a refusal comes first: what is taken is told.
+            // The room for a refusal comes first: whatever is taken can be answered.
             let Ok(()) = refusals.reserve(1) else {
                 return Err(Stopped {
                     done: total - inputs.len(),

@@ -7,8 +7,8 @@ ghost use Rattle.amqp_session.specs.declared.frame.SessionFrameBody.TheVariants 
 ghost use Rattle.amqp_connection.specs.Connection.{refusal_of};
 ghost use Rattle.amqp_engine.specs.Sessions.{Answered, SendsAll, RecordedEnd, comes_to_end};
 
+use super::output_queue::OutputQueue;
 use super::step_error::StepError;
-use super::waiting::Waiting;
 use amqp_session::{
     IncomingChannel, InputHandle, LinkFlow, LinkRelay, Session, SessionFrame, SessionFrameBody,
     SessionStopReason,
@@ -53,7 +53,7 @@ fn comes_to_end(before: SessionState, after: SessionState) -> bool
 
 pub(crate) fn end<R: LinkRelay>(
     session: &mut Session<R>,
-    waiting: &mut Waiting,
+    waiting: &mut OutputQueue,
     error: Option<Error>,
 ) -> Result<(), StepError>
     requires { waiting.old ≡ [] }
@@ -91,7 +91,7 @@ pub(crate) fn allocate_incoming_link<R: LinkRelay>(
 
 pub(crate) fn send_attach<R: LinkRelay>(
     session: &mut Session<R>,
-    waiting: &mut Waiting,
+    waiting: &mut OutputQueue,
     attach: Attach,
 )
     ensures { Answered R.gives session.old.view (AttachCalls attach) None waiting.new session.new.view }
@@ -101,7 +101,7 @@ pub(crate) fn send_attach<R: LinkRelay>(
 
 pub(crate) fn send_detach<R: LinkRelay>(
     session: &mut Session<R>,
-    waiting: &mut Waiting,
+    waiting: &mut OutputQueue,
     detach: Detach,
     expects_echo: bool,
 ) -> Result<(), StepError>
@@ -114,7 +114,7 @@ pub(crate) fn send_detach<R: LinkRelay>(
 
 pub(crate) fn send_flow<R: LinkRelay>(
     session: &mut Session<R>,
-    waiting: &mut Waiting,
+    waiting: &mut OutputQueue,
     flow: LinkFlow,
 )
     ensures { Answered R.gives session.old.view (FlowCalls flow) None waiting.new session.new.view }
@@ -125,7 +125,7 @@ pub(crate) fn send_flow<R: LinkRelay>(
 #[inline(always)]
 pub(crate) fn send_transfer<R: LinkRelay>(
     session: &mut Session<R>,
-    waiting: &mut Waiting,
+    waiting: &mut OutputQueue,
     input: InputHandle,
     transfer: Transfer,
     payload: Bytes,
@@ -147,7 +147,7 @@ pub(crate) fn send_transfer<R: LinkRelay>(
 
 pub(crate) fn send_disposition<R: LinkRelay>(
     session: &mut Session<R>,
-    waiting: &mut Waiting,
+    waiting: &mut OutputQueue,
     disposition: Disposition,
 )
     ensures { Answered R.gives session.old.view (DispositionCalls disposition) None waiting.new session.new.view }
@@ -220,10 +220,10 @@ pub(crate) fn attach_received<R: LinkRelay>(
     Ok(())
 }
 
-/// The peer's detach. What the link's relay answers goes out, and is answered no more.
+/// The peer's detach. The detach by which the link's relay answers goes out, and no answer to it is awaited.
 pub(crate) fn detach_received<R: LinkRelay>(
     session: &mut Session<R>,
-    waiting: &mut Waiting,
+    waiting: &mut OutputQueue,
     detach: Detach,
 ) -> Result<(), StepError>
     requires { waiting.old ≡ [] }
@@ -240,7 +240,7 @@ pub(crate) fn detach_received<R: LinkRelay>(
 
 pub(crate) fn flow_received<R: LinkRelay>(
     session: &mut Session<R>,
-    waiting: &mut Waiting,
+    waiting: &mut OutputQueue,
     flow: Flow,
 ) -> Result<(), StepError>
     requires { waiting.old ≡ [] }
@@ -250,7 +250,8 @@ pub(crate) fn flow_received<R: LinkRelay>(
     Ok(())
 }
 
-/// Sends each disposition, in order. As frames they are on the session's channel, and wait as they are: that takes no memory.
+/// Sends each disposition, in order, on the session's channel. They wait as dispositions, and become frames as they are put out: that takes
+/// no memory.
 #[inline(never)]
 fn send_each<R: LinkRelay>(
     session: &mut Session<R>,
@@ -283,7 +284,7 @@ fn disposition_in(frame: SessionFrame) -> Disposition
 #[inline(always)]
 pub(crate) fn disposition_received<R: LinkRelay>(
     session: &mut Session<R>,
-    waiting: &mut Waiting,
+    waiting: &mut OutputQueue,
     disposition: Disposition,
 ) -> Result<(), StepError>
     requires { waiting.old ≡ [] }
@@ -304,7 +305,7 @@ pub(crate) fn disposition_received<R: LinkRelay>(
 #[inline(always)]
 pub(crate) fn transfer_received<R: LinkRelay>(
     session: &mut Session<R>,
-    waiting: &mut Waiting,
+    waiting: &mut OutputQueue,
     transfer: Transfer,
     payload: Bytes,
 ) -> Result<(), StepError>

@@ -5,7 +5,7 @@ use amqp_frames::Error as FrameError;
 use amqp_session::{AllocLinkError, SessionInnerError, SessionStateError};
 use amqp_types::ReadError;
 
-/// Why an input is refused.
+/// Why an input is refused. `answer_to` of `fe2o3_amqp` names the End or the Close by which the peer is informed of a refused frame.
 #[derive(Debug, Drop, PartialEq, thiserror::Error)]
 pub enum StepError {
     /// Frames of an earlier input still wait to be taken out. Nothing has changed.
@@ -14,16 +14,16 @@ pub enum StepError {
     /// The received bytes are no frame or one that is left out, or memory for its fields was refused. Nothing has changed.
     #[error("{0}")]
     Frame(FrameError),
-    /// The connection's state does not take this, or the peer closed.
+    /// The connection's state does not take this, or the peer closed. Of a request for this side's Open also: memory for its copy was refused.
     #[error("{0}")]
     ConnectionState(ConnectionStateError),
-    /// The connection does not pass the frame on to a session.
+    /// The connection does not pass the frame on to a session, or the session no longer holds the channel that it is to give back (`Release`).
     #[error("{0}")]
     Connection(ConnectionInnerError),
     /// The session gets no channel. Nothing has changed.
     #[error("{0}")]
     AllocSession(AllocSessionError),
-    /// The session's state does not take this, or the peer ended it.
+    /// The session's state does not take this, or the peer ended it. Of a `Begin` also: memory for the copy of its settings was refused.
     #[error("{0}")]
     SessionState(SessionStateError),
     /// The session, or the relay of one of its links, refuses this.

@@ -6,13 +6,21 @@ ghost use Rattle.amqp_engine.specs.Handles.{is_end, is_closed, close_told, close
 ghost use Rattle.amqp_engine.specs.Stepped.{Stays};
 
 use super::HandledEngine;
-use crate::engine::kept::CloseOutcome;
+use crate::engine::handle_state::CloseOutcome;
 use amqp_connection::{Error, TryCloseError};
 use amqp_session::LinkRelay;
 use amqp_types::{ConnectionState, Error as AmqpError};
 use std::marker::Model;
 
-/// A handle of an engine's connection: it closes the connection, and is told once how the peer's Close was answered.
+/// A handle of an engine's connection: it closes the connection, and gives once how the peer's Close was answered (AMQP 1.0 part 2,
+/// section 2.4.3).
+///
+/// ```
+/// match handle.try_close(engine) {
+///     Ok(answer) => Ok(Some(answer)), // closed at both ends: how the peer's Close was answered
+///     Err(_) => Ok(None),             // not yet, or the answer was given before
+/// }
+/// ```
 #[derive(Debug, Drop)]
 pub struct ConnectionHandle {
     is_told: bool,
@@ -33,7 +41,7 @@ fn is_end(state: ConnectionState) -> bool
     matches!(state, ConnectionState::End)
 }
 
-/// How the peer's Close was answered, as a handle tells it.
+/// How the peer's Close was answered, as a handle gives it.
 fn answer_of(outcome: CloseOutcome) -> Result<(), Error>
     ensures { result ≡ close_answer_of outcome }
 {
@@ -43,7 +51,7 @@ fn answer_of(outcome: CloseOutcome) -> Result<(), Error>
     }
 }
 
-/// What a handle is told where the state is `End`.
+/// What a handle gives where the state is `End`.
 fn told(outcome: Option<CloseOutcome>) -> Result<(), Error>
     ensures { Some result ≡ close_told End outcome }
 {
@@ -54,23 +62,25 @@ fn told(outcome: Option<CloseOutcome>) -> Result<(), Error>
 }
 
 impl ConnectionHandle {
-    /// A handle that was not told the outcome yet.
+    /// A handle that has given no answer yet.
     pub(super) fn new() -> ConnectionHandle
         ensures { result ≡ false }
     {
         ConnectionHandle { is_told: false }
     }
 
-    /// Whether the connection is closed at both ends, or this handle was told the outcome.
+    /// Whether the connection is in `End`, or this handle has given the answer.
     pub fn is_closed<R: LinkRelay>(&self, engine: &HandledEngine<R>) -> bool
         ensures { result ≡ is_closed self.now engine.now }
     {
         self.is_told || is_end(*engine.engine.connection().local_state())
     }
 
-    /// Wishes that the connection is closed: the next run sends a Close, behind the Ends that are wished. The first wish stays.
+    /// Requests that the connection is closed, in any state of it: the engine notes it, and the next run sends a Close, after the Ends that
+    /// are noted. Where a request to close is noted already, that one stays. The run drops a request that the connection's state does not
+    /// accept then: a Close goes out in `Opened`, `OpenSent`, `OpenPipe` and `CloseReceived` alone.
     ///
-    /// `IllegalState` where this handle was told the outcome.
+    /// `IllegalState` where this handle has given the answer. Nothing is noted then.
     pub fn close<R: LinkRelay>(&self, engine: &mut HandledEngine<R>) -> Result<(), Error>
         ensures said { CloseCall self.now None engine.old result engine.new }
         ensures legal { Stays R.gives engine.old engine.new }
@@ -78,7 +88,7 @@ impl ConnectionHandle {
         self.wish(None, engine)
     }
 
-    /// Wishes that the connection is closed with this error, as [`ConnectionHandle::close`] does without one.
+    /// Requests that the connection is closed with this error, as [`ConnectionHandle::close`] does without one, and is refused as it is.
     pub fn close_with_error<R: LinkRelay>(
         &self,
         error: AmqpError,
@@ -105,10 +115,11 @@ impl ConnectionHandle {
         Ok(())
     }
 
-    /// Tells, once, how the peer's Close was answered, when the connection is closed at both ends; a Close is wished where none
-    /// is. Where another handle was told before, it is told `IllegalState`.
+    /// Gives, once, how the engine answered the peer's Close, when the connection is in `End`: the inner result, which is `Ok` where the
+    /// peer's Close was accepted, and else why not. It is `IllegalState` where the engine keeps no answer, as where another handle took it
+    /// before. A Close is requested, as by [`ConnectionHandle::close`], where none is noted.
     ///
-    /// `AlreadyClosed` where this handle was told; `RemoteCloseNotReceived` before the connection is closed at both ends.
+    /// The outer `Err`: `AlreadyClosed` where this handle has given the answer; `RemoteCloseNotReceived` in any state but `End`.
     pub fn try_close<R: LinkRelay>(
         &mut self,
         engine: &mut HandledEngine<R>,

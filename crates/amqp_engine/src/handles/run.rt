@@ -1,4 +1,4 @@
-//! Runs of a handled engine: the wishes become requests, and then the inputs are run.
+//! Runs of a handled engine: what handles have noted (their wishes) becomes requests, and then the inputs are run.
 
 ghost use Rattle.std.specs.Prelude.{◌≡◌, ◌<◌, [], OnOk, OnErr};
 ghost use Rattle.std.specs.Vec.{vec_len, vec_capacity};
@@ -9,19 +9,18 @@ ghost use Rattle.amqp_engine.specs.Inner.Hearing.{IsWish, Asked, Hearing};
 use super::HandledEngine;
 use crate::engine::{Answer, Input, Stopped};
 use crate::laws::{law_of_histories, law_of_views};
-use amqp_connection::SessionNo;
 use amqp_session::LinkRelay;
 use std::alloc::AllocError;
 use std::collections::VecDeque;
 
 impl<R: LinkRelay> HandledEngine<R> {
-    /// Runs the inputs, as [`Engine::run`](crate::Engine::run) does, behind the wishes of handles. What waits is put out first; then
-    /// the Ends that are noted become requests, by rising session number, and then the Close. A wish that is accepted is answered
-    /// as its request: `Done`, and what goes out for it. A wish that the state does not accept leaves no answer. Wishes are not
-    /// counted in `Stopped`.
+    /// Runs the inputs, as [`Engine::run`](crate::Engine::run) does, after what handles have noted. What waits is put out first; then
+    /// the Ends that are noted become requests, by rising session number, and then the Close. One that is accepted is answered as its
+    /// request: `Done`, and what goes out for it. One that the state does not accept is dropped without an answer. They are not counted
+    /// in `Stopped`.
     ///
-    /// Where memory is refused, a wish that has no place for its answer, and those behind it, stay noted, and no input is taken. A
-    /// second call goes on.
+    /// Where memory is refused (`Stopped`), a noted End or Close that has no place for its answer, and those after it, stay noted, and no
+    /// input is taken. A second call goes on.
     pub fn run(
         &mut self,
         inputs: &mut VecDeque<Input<R>>,
@@ -32,14 +31,14 @@ impl<R: LinkRelay> HandledEngine<R> {
     {
         law_of_histories::<R>();
         law_of_views::<R>();
-        let Ok(()) = self.hear(answers) else {
+        let Ok(()) = self.flush_requests(answers) else {
             return Err(Stopped { done: 0 });
         };
         self.engine.run(inputs, answers)
     }
 
-    /// Puts out what waits, and asks for what is wished.
-    fn hear(&mut self, answers: &mut Vec<Answer>) -> Result<(), AllocError>
+    /// Puts out what waits, and requests what handles have noted.
+    fn flush_requests(&mut self, answers: &mut Vec<Answer>) -> Result<(), AllocError>
         ensures heard { Hearing R.gives self.old answers.old.items self.new answers.new.items }
         ensures ok { OnOk result (NoWishes self.new.wishes) }
         ensures idle { OnOk result (self.new.waiting ≡ []) }
@@ -49,18 +48,18 @@ impl<R: LinkRelay> HandledEngine<R> {
         while self.engine.has_noted_end() {
             // The place of the answer comes first: what is accepted is answered.
             answers.reserve(1)?;
-            let (number, error) = self.engine.take_noted_end().unwrap();
-            self.ask(Input::End(SessionNo(number), error), answers)?;
+            let (number, wish) = self.engine.take_noted_end().unwrap();
+            self.ask(Input::End(number, wish.into_error()), answers)?;
         }
         if self.engine.has_noted_close() {
             answers.reserve(1)?;
-            let error = self.engine.take_noted_close().unwrap();
-            self.ask(Input::Close(error), answers)?;
+            let wish = self.engine.take_noted_close().unwrap();
+            self.ask(Input::Close(wish.into_error()), answers)?;
         }
         Ok(())
     }
 
-    /// Asks for what was wished. It is answered where it is accepted.
+    /// Requests an End or a Close that was noted. It is answered where it is accepted.
     fn ask(&mut self, wish: Input<R>, answers: &mut Vec<Answer>) -> Result<(), AllocError>
         requires idle { self.old.waiting ≡ [] }
         requires wish { IsWish wish }

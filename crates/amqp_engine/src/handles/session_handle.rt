@@ -7,13 +7,22 @@ ghost use Rattle.amqp_engine.specs.Handles.{is_unmapped, has_ended, is_ended, en
 ghost use Rattle.amqp_engine.specs.Stepped.{Stays};
 
 use super::HandledEngine;
-use crate::engine::kept::EndOutcome;
+use crate::engine::handle_state::EndOutcome;
 use amqp_connection::SessionNo;
 use amqp_session::{Error, LinkRelay, Session, TryEndError};
 use amqp_types::{Error as AmqpError, SessionState};
 use std::marker::Model;
 
-/// A handle of one of an engine's sessions: it ends the session, and is told once how the peer's End was answered.
+/// A handle of one of an engine's sessions: it ends the session, and gives once how the peer's End was answered (AMQP 1.0 part 2,
+/// section 2.5.3).
+///
+/// ```
+/// if let Some(mut handle) = engine.session_handle(SessionNo(0)) {
+///     handle.end(&mut engine)?;
+///     // After the next run the End was sent; once the peer's End came:
+///     let ended = handle.try_end(&mut engine);
+/// }
+/// ```
 #[derive(Debug, Drop)]
 pub struct SessionHandle {
     number: SessionNo,
@@ -35,7 +44,7 @@ fn is_unmapped(state: SessionState) -> bool
     matches!(state, SessionState::Unmapped)
 }
 
-/// How the peer's End was answered, as a handle tells it.
+/// How the peer's End was answered, as a handle gives it.
 fn answer_of(outcome: EndOutcome) -> Result<(), Error>
     ensures { result ≡ end_answer_of outcome }
 {
@@ -45,7 +54,7 @@ fn answer_of(outcome: EndOutcome) -> Result<(), Error>
     }
 }
 
-/// What a handle is told where the state is `Unmapped`.
+/// What a handle gives where the state is `Unmapped`.
 fn told(outcome: Option<EndOutcome>) -> Result<(), Error>
     ensures { Some result ≡ end_told Unmapped outcome }
 {
@@ -56,7 +65,7 @@ fn told(outcome: Option<EndOutcome>) -> Result<(), Error>
 }
 
 impl SessionHandle {
-    /// A handle that was not told the outcome yet.
+    /// A handle that has given no answer yet.
     pub(super) fn new(number: SessionNo) -> SessionHandle
         ensures { result ≡ record { number = number.0; told = false } }
     {
@@ -66,7 +75,7 @@ impl SessionHandle {
         }
     }
 
-    /// Whether the session is ended at both ends, or this handle was told the outcome, or the engine never began the session.
+    /// Whether the session is in `Unmapped`, or this handle has given the answer, or the engine has no session of its number.
     pub fn is_ended<R: LinkRelay>(&self, engine: &HandledEngine<R>) -> bool
         ensures { result ≡ is_ended self.now engine.now }
     {
@@ -79,9 +88,11 @@ impl SessionHandle {
         }
     }
 
-    /// Wishes that the session is ended: the next run sends an End, those of lower numbers first. The first wish stays.
+    /// Requests that the session is ended, in any state of it: the engine notes it, and the next run sends an End, those of lower session
+    /// numbers first. Where a request to end the session is noted already, that one stays. The run drops a request that the session's
+    /// state does not accept then: an End goes out in `Mapped` and in `EndReceived` alone.
     ///
-    /// `IllegalState` where this handle was told the outcome, or the engine never began the session.
+    /// `IllegalState` where this handle has given the answer, or where the engine has no session of its number. Nothing is noted then.
     pub fn end<R: LinkRelay>(&self, engine: &mut HandledEngine<R>) -> Result<(), Error>
         ensures said { EndCall self.now None engine.old result engine.new }
         ensures legal { Stays R.gives engine.old engine.new }
@@ -97,7 +108,7 @@ impl SessionHandle {
         self.end(engine)
     }
 
-    /// Wishes that the session is ended with this error, as [`SessionHandle::end`] does without one.
+    /// Requests that the session is ended with this error, as [`SessionHandle::end`] does without one, and is refused as it is.
     pub fn end_with_error<R: LinkRelay>(
         &self,
         error: AmqpError,
@@ -120,14 +131,15 @@ impl SessionHandle {
             drop(error);
             return Err(Error::IllegalState);
         }
-        engine.engine.note_end(self.number.0, error);
+        engine.engine.note_end(self.number, error);
         Ok(())
     }
 
-    /// Tells, once, how the peer's End was answered, when the session is ended at both ends; an End is wished where none is.
-    /// Where another handle was told before, it is told `IllegalState`; so it is where the engine never began the session.
+    /// Gives, once, how the engine answered the peer's End, when the session is in `Unmapped`: the inner result, which is `Ok` where the
+    /// peer's End was accepted, and else why not. It is `IllegalState` where the engine keeps no answer, as where another handle took it
+    /// before, or where the engine has no session of its number. An End is requested, as by [`SessionHandle::end`], where none is noted.
     ///
-    /// `AlreadyEnded` where this handle was told; `RemoteEndNotReceived` before the session is ended at both ends.
+    /// The outer `Err`: `AlreadyEnded` where this handle has given the answer; `RemoteEndNotReceived` in any state but `Unmapped`.
     pub fn try_end<R: LinkRelay>(
         &mut self,
         engine: &mut HandledEngine<R>,
@@ -143,11 +155,11 @@ impl SessionHandle {
             return Ok(Err(Error::IllegalState));
         };
         let is_ended = is_unmapped(*session.local_state());
-        engine.engine.note_end(self.number.0, None);
+        engine.engine.note_end(self.number, None);
         if !is_ended {
             return Err(TryEndError::RemoteEndNotReceived);
         }
         self.is_told = true;
-        Ok(told(engine.engine.take_end_outcome(self.number.0)))
+        Ok(told(engine.engine.take_end_outcome(self.number)))
     }
 }

@@ -1,8 +1,8 @@
-//! The part of a table in which a place is sought, how a number that was read in it narrows it, and what tells where to read next.
+//! The part of a table in which a place is sought, how a number that was read in it narrows it, and the clues where to read next.
 
 ghost use Rattle.std.specs.Prelude.{◌+◌, ◌-◌, ◌*◌, ◌^◌, ◌<◌, ◌≤◌, min, max, ◌≡◌};
 
-/// The places from `low` up to `high`, and where among them the place is expected. Nothing has to hold of that.
+/// The places from `low` up to `high`, and where among them the place is expected. That guess may be wrong.
 #[derive(Clone, Copy)]
 pub(super) struct Part {
     pub(super) low: usize,
@@ -11,7 +11,7 @@ pub(super) struct Part {
 }
 
 /// What tells where a place is expected: where the last search ended, that so many numbers took so many places, and the place and the
-/// number that were read last. Nothing has to hold of them.
+/// number that were read last. They may be wrong.
 #[derive(Clone, Copy)]
 pub(super) struct Clues {
     hint: usize,
@@ -66,7 +66,7 @@ impl Clues {
 }
 
 /// The place to be read next: the expected one, or the nearest to it that has fewer than `half` places of the part before it, and
-/// fewer behind it.
+/// fewer after it.
 #[inline(always)]
 pub(super) fn probe(part: Part, half: usize) -> usize
     requires some { part.low < part.high }
@@ -85,7 +85,7 @@ pub(super) fn probe(part: Part, half: usize) -> usize
 }
 
 /// What is left of a part in which numbers rise, where `number` is sought and `value` was read at a place. Numbers are whole: so the place
-/// is no farther from this one than the two numbers are apart. Clues tell where it is expected.
+/// is no farther from this one than the two numbers are apart. The clues give where it is expected.
 #[inline(always)]
 pub(super) fn closer(part: Part, at: usize, value: u32, number: u32, clues: Clues) -> Part
     requires least { part.low ≤ at }
@@ -100,7 +100,7 @@ pub(super) fn closer(part: Part, at: usize, value: u32, number: u32, clues: Clue
     before(part, at, (value - number) as usize, clues)
 }
 
-/// The part behind a place, up to one that is so far behind it.
+/// The part after the place `at`, up to `far` places after it.
 #[inline(always)]
 fn behind(part: Part, at: usize, far: usize, clues: Clues) -> Part
     requires most { at < part.high }
@@ -114,7 +114,7 @@ fn behind(part: Part, at: usize, far: usize, clues: Clues) -> Part
     Part { low, high, guess }
 }
 
-/// The part up to a place, from one that is so far before it.
+/// The part before the place `at`, from `far` places before it on.
 #[inline(always)]
 fn before(part: Part, at: usize, far: usize, clues: Clues) -> Part
     ensures low { result.low ≡ max part.low (at - far) }

@@ -7,8 +7,8 @@ use super::Deliveries;
 use super::part::{Clues, Part, closer, probe};
 
 impl Deliveries {
-    /// Where the numbers from `first` on begin. Numbers are whole and rise: so the front tells the place, but for the missing numbers.
-    /// Where those are more than half of the records, to read the front could cost a read more than to halve the whole table.
+    /// Where the numbers from `first` on begin. Numbers are whole and rise: without missing numbers the first one gives the place. Where
+    /// more are missing than half of the records, reading the first one could cost a read more than halving the whole table.
     #[inline(always)]
     pub(crate) fn place_of(&mut self, first: u32) -> usize
         ensures few { length self.old.rows ≤ 2 ^ 32 }
@@ -115,8 +115,8 @@ impl Deliveries {
     }
 }
 
-/// Where a number is expected that is so far behind the front: near the place that was sought last, if it can be there, and else as far as
-/// the numbers of the table are apart on average.
+/// Where a number is expected that is `far` greater than the first one: near the place that was sought last, if it can be there, and else
+/// as far as the numbers of the table are apart on average.
 #[inline(always)]
 fn expected(low: usize, last: usize, far: usize, len: usize, missing: usize) -> usize
     requires some { 0 < len + missing }

@@ -20,7 +20,7 @@ use std::marker::Model;
 pub(crate) struct Deliveries {
     rows: Blocks<Delivery>,
     reads: ReadCount,
-    /// Where the last search ended: a guess for the next one, of which nothing has to hold.
+    /// Where the last search ended: a guess for the next one, which may be wrong.
     last_place: usize,
 }
 

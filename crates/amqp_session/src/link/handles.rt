@@ -10,7 +10,7 @@ use slab::Slab;
 
 /// How a handle is taken.
 #[derive(Drop)]
-pub enum Place {
+pub enum HandleSlot {
     /// By the live link of this name.
     Live(String),
     /// Its last link is gone, and the peer's answer to the detach is awaited.
@@ -18,39 +18,39 @@ pub enum Place {
 }
 
 /// Whether a live link has the handle.
-pub(super) fn is_live(handles: &Slab<Place>, handle: u32) -> bool
+pub(super) fn is_live(handles: &Slab<HandleSlot>, handle: u32) -> bool
     ensures { result ≡ is_some (live_name (map.get (handles_of handles.now) handle)) }
 {
     match handles.get(handle as usize) {
         None => false,
-        Some(Place::Awaited) => false,
-        Some(Place::Live(_)) => true,
+        Some(HandleSlot::Awaited) => false,
+        Some(HandleSlot::Live(_)) => true,
     }
 }
 
 /// Whether the peer's answer is awaited for the handle.
-pub(super) fn awaits(handles: &Slab<Place>, handle: u32) -> bool
+pub(super) fn awaits(handles: &Slab<HandleSlot>, handle: u32) -> bool
     ensures { result ≡ is_awaited (map.get (handles_of handles.now) handle) }
 {
     match handles.get(handle as usize) {
         None => false,
-        Some(Place::Awaited) => true,
-        Some(Place::Live(_)) => false,
+        Some(HandleSlot::Awaited) => true,
+        Some(HandleSlot::Live(_)) => false,
     }
 }
 
 /// Takes a free handle for the live link of a name. Its room was made before.
-pub(super) fn take(handles: &mut Slab<Place>, name: String) -> usize
+pub(super) fn take(handles: &mut Slab<HandleSlot>, name: String) -> usize
     requires { HasRoomFor handles.old 1 }
     ensures next { result ≡ handles.old.vacant_key }
     ensures free { map.get (handles_of handles.old) result ≡ None }
     ensures taken { handles_of handles.new ≡ map.insert (handles_of handles.old) result (Some (string_bytes name)) }
 {
-    handles.insert_reserved(Place::Live(name))
+    handles.insert_reserved(HandleSlot::Live(name))
 }
 
 /// Frees the handle of a live link, and gives the link's name.
-pub(super) fn release(handles: &mut Slab<Place>, handle: u32) -> String
+pub(super) fn release(handles: &mut Slab<HandleSlot>, handle: u32) -> String
     requires { IsSome (live_name (map.get (handles_of handles.old) handle)) }
     ensures name { live_name (map.get (handles_of handles.old) handle) ≡ Some (string_bytes result) }
     ensures freed { handles_of handles.new ≡ map.remove (handles_of handles.old) handle }
@@ -58,24 +58,24 @@ pub(super) fn release(handles: &mut Slab<Place>, handle: u32) -> String
     ensures room { HasRoomFor handles.new 1 }
 {
     match handles.remove(handle as usize) {
-        Place::Live(name) => name,
-        Place::Awaited => unreachable!(),
+        HandleSlot::Live(name) => name,
+        HandleSlot::Awaited => unreachable!(),
     }
 }
 
 /// The handle of a live link stays taken until the peer answers, and the link's name is given.
-pub(super) fn leave(handles: &mut Slab<Place>, handle: u32) -> String
+pub(super) fn leave(handles: &mut Slab<HandleSlot>, handle: u32) -> String
     requires { IsSome (live_name (map.get (handles_of handles.old) handle)) }
     ensures name { live_name (map.get (handles_of handles.old) handle) ≡ Some (string_bytes result) }
     ensures awaited { handles_of handles.new ≡ map.insert (handles_of handles.old) handle None }
 {
     let name = release(handles, handle);
-    handles.insert_reserved(Place::Awaited);
+    handles.insert_reserved(HandleSlot::Awaited);
     name
 }
 
 /// A handle for which the peer's answer was awaited is free.
-pub(super) fn free(handles: &mut Slab<Place>, handle: u32)
+pub(super) fn free(handles: &mut Slab<HandleSlot>, handle: u32)
     ensures { handles_of handles.new ≡ map.remove (handles_of handles.old) handle }
 {
     handles.try_remove(handle as usize);

@@ -1,15 +1,16 @@
 //! The relays that are attached, by input handle.
 
-ghost use Rattle.std.specs.Prelude.{◌≡◌, IsSome, nat_eq};
+ghost use Rattle.std.specs.Prelude.{◌≡◌, Some, IsSome, nat_eq, slice_get};
 ghost use Rattle.std.specs.Map.{lookup, set_value};
 ghost use Rattle.amqp_session.specs.Relay.{of_flow, of_transfer, of_disposition, Asked};
 ghost use Rattle.amqp_session.specs.Disposing.{question_of};
+ghost use Rattle.amqp_session.specs.declared.link.AttachedLink.{AttachedLink};
 
-use super::Attached;
+use super::AttachedLink;
 use crate::deliveries::Delivery;
 use crate::error::LinkRelayError;
 use crate::flow::LinkFlow;
-use crate::keys::{self, Hints, Numbered};
+use crate::keys::Numbered;
 use crate::numbers::InputHandle;
 use crate::relay::LinkRelay;
 use amqp_types::{DeliveryNumber, DeliveryTag, Disposition, Transfer};
@@ -17,7 +18,7 @@ use bytes::Bytes;
 
 /// Asks the relay under a handle about a flow.
 pub(super) fn ask_flow<R: LinkRelay>(
-    inputs: &mut Numbered<Attached<R>>,
+    inputs: &mut Numbered<AttachedLink<R>>,
     input: InputHandle,
     flow: LinkFlow,
 ) -> Result<Option<LinkFlow>, LinkRelayError>
@@ -29,27 +30,25 @@ pub(super) fn ask_flow<R: LinkRelay>(
     link.relay.on_incoming_flow(link.handle, flow)
 }
 
-/// Asks the relay under a handle about a transfer.
+/// Asks the relay at the index of a transfer's handle about it.
 #[inline(always)]
 pub(super) fn ask_transfer<R: LinkRelay>(
-    inputs: &mut Numbered<Attached<R>>,
-    hints: &Hints,
-    input: InputHandle,
+    inputs: &mut Numbered<AttachedLink<R>>,
+    at: usize,
     transfer: Transfer,
     payload: Bytes,
 ) -> Result<Option<(DeliveryNumber, DeliveryTag)>, LinkRelayError>
-    requires { IsSome (lookup (nat_eq input.0) inputs.old.entries) }
-    ensures { Asked (of_transfer R.gives.transfer_gives) (lookup (nat_eq input.0) inputs.old.entries) (transfer, payload) result
-        (λ link. inputs.new.entries ≡ set_value (nat_eq input.0) inputs.old.entries link) }
+    requires { (link : AttachedLink R) × (slice_get inputs.old.entries at ≡ Some (transfer.handle, link)) }
+    ensures { Asked (of_transfer R.gives.transfer_gives) (lookup (nat_eq transfer.handle) inputs.old.entries) (transfer, payload) result
+        (λ link. inputs.new.entries ≡ set_value (nat_eq transfer.handle) inputs.old.entries link) }
 {
-    let at = keys::index_of(inputs, hints, input.0).unwrap();
     let link = inputs.get_index_mut(at).unwrap();
     link.relay.on_incoming_transfer(transfer, payload)
 }
 
 /// Asks the relay of a link about a disposition of a delivery.
 #[inline(always)]
-fn ask<R: LinkRelay>(link: &mut Attached<R>, said: &Disposition, delivery: &Delivery) -> bool
+fn ask<R: LinkRelay>(link: &mut AttachedLink<R>, said: &Disposition, delivery: &Delivery) -> bool
     ensures asked { of_disposition R.gives.disposition_gives link.old.handle link.old.relay (question_of said.now delivery.now) result link.new.relay }
     ensures handle { link.new.handle ≡ link.old.handle }
 {
@@ -58,20 +57,19 @@ fn ask<R: LinkRelay>(link: &mut Attached<R>, said: &Disposition, delivery: &Deli
         .on_incoming_disposition(role, settled, state, &delivery.tag)
 }
 
-/// Asks the relay under the input handle of a delivery about a disposition of it.
+/// Asks the relay at the index of a delivery's input handle about a disposition of it.
 #[inline(always)]
 pub(super) fn ask_disposition<R: LinkRelay>(
-    inputs: &mut Numbered<Attached<R>>,
-    hints: &Hints,
+    inputs: &mut Numbered<AttachedLink<R>>,
+    at: usize,
     said: &Disposition,
     delivery: &Delivery,
 ) -> bool
-    requires { IsSome (lookup (nat_eq delivery.now.input_handle.0) inputs.old.entries) }
+    requires { (link : AttachedLink R) × (slice_get inputs.old.entries at ≡ Some (delivery.now.input_handle.0, link)) }
     ensures { Asked (of_disposition R.gives.disposition_gives) (lookup (nat_eq delivery.now.input_handle.0) inputs.old.entries)
         (question_of said.now delivery.now) result
         (λ link. inputs.new.entries ≡ set_value (nat_eq delivery.now.input_handle.0) inputs.old.entries link) }
 {
-    let at = keys::index_of(inputs, hints, delivery.input_handle.0).unwrap();
     let link = inputs.get_index_mut(at).unwrap();
     ask(link, said, delivery)
 }

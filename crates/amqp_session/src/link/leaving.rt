@@ -20,7 +20,7 @@ impl<A: Drop, L: Drop> Leaving<A, L> {
         Leaving { answer, left }
     }
 
-    /// The answer alone. What is left ends here, where nothing is known of it but that it may.
+    /// The answer alone. What is left is dropped here.
     #[inline(always)]
     pub(crate) fn answer(self) -> A
         ensures { result ≡ self.answer }

@@ -6,9 +6,9 @@ ghost use Rattle.amqp_session.specs.Links.{put_at, attached_at};
 ghost use Rattle.amqp_session.specs.Linking.{named_at, link_at, linked, IsFull, Releases, Leaves, Attaches, Detaches, awaits};
 ghost use Rattle.amqp_session.specs.Relay.{AttachQuestion, DetachQuestion};
 
-use super::handles::{self, Place};
+use super::handles::{self, HandleSlot};
 use super::leaving::Leaving;
-use super::{Attached, Links, Named, names};
+use super::{AttachedLink, Links, LiveLink, names};
 use crate::error::{AllocLinkError, SessionInnerError};
 use crate::keys;
 use crate::numbers::{InputHandle, OutputHandle};
@@ -52,12 +52,12 @@ impl<R: LinkRelay> Links<R> {
             return Leaving::of(Err(AllocLinkError::OutOfMemory), waiting);
         };
         let handle = OutputHandle(handles::take(&mut self.handles, copy) as u32);
-        names::put(&mut self.names, name, Named { handle, waiting });
+        names::put(&mut self.names, name, LiveLink { handle, waiting });
         Leaving::of(Ok(handle), None)
     }
 
     /// Releases the live link of a handle, and says whether there was one.
-    pub(crate) fn release(&mut self, handle: u32) -> Leaving<bool, Option<Named<R>>>
+    pub(crate) fn release(&mut self, handle: u32) -> Leaving<bool, Option<LiveLink<R>>>
         ensures step { Releases self.old handle result.answer self.new }
         ensures left { result.left ≡ link_at handle self.old }
     {
@@ -75,7 +75,7 @@ impl<R: LinkRelay> Links<R> {
         &mut self,
         handle: u32,
         expects_echo: bool,
-    ) -> Leaving<bool, Option<Named<R>>>
+    ) -> Leaving<bool, Option<LiveLink<R>>>
         ensures step { Leaves self.old handle expects_echo result.answer self.new }
         ensures left { result.left ≡ link_at handle self.old }
     {
@@ -125,12 +125,12 @@ impl<R: LinkRelay> Links<R> {
             return Leaving::of(Err(AllocLinkError::OutOfMemory), Some(relay));
         };
         let handle = OutputHandle(handles::take(&mut self.handles, copy) as u32);
-        let link = Named {
+        let link = LiveLink {
             handle,
             waiting: None,
         };
         names::put(&mut self.names, name, link);
-        let attached = Attached { handle, relay };
+        let attached = AttachedLink { handle, relay };
         let replaced = keys::put(&mut self.inputs, &mut self.hints, input.0, attached);
         Leaving::of(Ok(handle), relay_of(replaced))
     }
@@ -140,7 +140,7 @@ impl<R: LinkRelay> Links<R> {
     pub(crate) fn attach(
         &mut self,
         attach: Attach,
-    ) -> Leaving<Result<(), SessionInnerError>, Option<Attached<R>>>
+    ) -> Leaving<Result<(), SessionInnerError>, Option<AttachedLink<R>>>
         ensures step { (asked : Option (AttachQuestion R))
             × Attaches R.gives.attach_gives self.old attach asked result.answer self.new }
         ensures replaced { OnOk result.answer (result.left ≡ attached_at attach.handle self.old) }
@@ -176,7 +176,7 @@ impl<R: LinkRelay> Links<R> {
             return Leaving::of(None, None);
         };
         let awaited = self.answer(link.handle);
-        let Attached { handle, mut relay } = link;
+        let AttachedLink { handle, mut relay } = link;
         let answer = relay.on_incoming_detach(handle, detach, !awaited);
         Leaving::of(answer, Some(relay))
     }
@@ -198,7 +198,7 @@ impl<R: LinkRelay> Links<R> {
 }
 
 /// The relay of a link.
-fn relay_of<R: Drop>(link: Option<Attached<R>>) -> Option<R>
+fn relay_of<R: Drop>(link: Option<AttachedLink<R>>) -> Option<R>
     ensures { result ≡ option_map (λ a. a.relay) link }
 {
     match link {

@@ -6,7 +6,7 @@ ghost use Rattle.indexmap.specs.IndexMap.{spare};
 ghost use Rattle.amqp_session.specs.Links.{names_of};
 ghost use Rattle.amqp_session.specs.Linking.{AttachAsked, WaitAsked, IsWaited, AttachRefused};
 
-use super::{Attached, Named};
+use super::{AttachedLink, LiveLink};
 use crate::error::{LinkRelayError, SessionInnerError};
 use crate::keys::KeyHash;
 use crate::numbers::OutputHandle;
@@ -16,7 +16,7 @@ use indexmap::IndexMap;
 
 /// The output handle of a live link.
 pub(super) fn handle_of<R: Drop>(
-    names: &IndexMap<String, Named<R>, KeyHash>,
+    names: &IndexMap<String, LiveLink<R>, KeyHash>,
     name: &str,
 ) -> Option<OutputHandle>
     ensures { result ≡ option_map (λ n. n.handle) (map.get (names_of names.now.entries) name.now) }
@@ -28,7 +28,7 @@ pub(super) fn handle_of<R: Drop>(
 }
 
 /// Whether a relay waits for the link.
-fn is_waited<R: Drop>(link: &Named<R>) -> bool
+fn is_waited<R: Drop>(link: &LiveLink<R>) -> bool
     ensures { result ≡ is_some link.now.waiting }
 {
     link.waiting.is_some()
@@ -36,7 +36,7 @@ fn is_waited<R: Drop>(link: &Named<R>) -> bool
 
 /// Why the attach of a name is refused before a relay is asked: no live link has the name, or no relay waits for it.
 pub(super) fn refusal<R: Drop>(
-    names: &IndexMap<String, Named<R>, KeyHash>,
+    names: &IndexMap<String, LiveLink<R>, KeyHash>,
     name: &str,
 ) -> Option<SessionInnerError>
     ensures none { IfNone result (IsWaited (map.get (names_of names.now.entries) name.now)) }
@@ -56,9 +56,9 @@ pub(super) fn refusal<R: Drop>(
 
 /// A link becomes live by a name that no live link has. Its room was made before.
 pub(super) fn put<R: Drop>(
-    names: &mut IndexMap<String, Named<R>, KeyHash>,
+    names: &mut IndexMap<String, LiveLink<R>, KeyHash>,
     name: String,
-    link: Named<R>,
+    link: LiveLink<R>,
 )
     requires room { 0 < spare names.old }
     requires free { map.get (names_of names.old.entries) (string_bytes name) ≡ None }
@@ -69,9 +69,9 @@ pub(super) fn put<R: Drop>(
 
 /// A live link is gone, and is handed back with the relay that waits.
 pub(super) fn remove<R: Drop>(
-    names: &mut IndexMap<String, Named<R>, KeyHash>,
+    names: &mut IndexMap<String, LiveLink<R>, KeyHash>,
     name: &str,
-) -> Option<Named<R>>
+) -> Option<LiveLink<R>>
     ensures removed { names_of names.new.entries ≡ map.remove (names_of names.old.entries) name.now }
     ensures left { result ≡ map.get (names_of names.old.entries) name.now }
 {
@@ -80,13 +80,16 @@ pub(super) fn remove<R: Drop>(
 }
 
 /// Asks the relay that waits for a link: on success it waits no longer.
-fn ask<R: LinkRelay>(link: &mut Named<R>, attach: Attach) -> Result<Attached<R>, LinkRelayError>
+fn ask<R: LinkRelay>(
+    link: &mut LiveLink<R>,
+    attach: Attach,
+) -> Result<AttachedLink<R>, LinkRelayError>
     requires { IsSome link.old.waiting }
     ensures { WaitAsked R.gives.attach_gives link.old attach result link.new }
 {
     let mut relay = link.waiting.take().unwrap();
     match relay.on_incoming_attach(attach) {
-        Ok(()) => Ok(Attached {
+        Ok(()) => Ok(AttachedLink {
             handle: link.handle,
             relay,
         }),
@@ -99,9 +102,9 @@ fn ask<R: LinkRelay>(link: &mut Named<R>, attach: Attach) -> Result<Attached<R>,
 
 /// Asks the relay that waits under the name of an attach: on success it waits no longer.
 pub(super) fn attach<R: LinkRelay>(
-    names: &mut IndexMap<String, Named<R>, KeyHash>,
+    names: &mut IndexMap<String, LiveLink<R>, KeyHash>,
     attach: Attach,
-) -> Result<Attached<R>, LinkRelayError>
+) -> Result<AttachedLink<R>, LinkRelayError>
     requires { IsWaited (map.get (names_of names.old.entries) attach.name) }
     ensures { AttachAsked R.gives.attach_gives (names_of names.old.entries) attach result (names_of names.new.entries) }
 {

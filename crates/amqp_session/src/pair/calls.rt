@@ -11,14 +11,15 @@ ghost use Rattle.amqp_session.specs.Pair.{BeginAt, FrameAt, TransferAt, ArriveAt
 use crate::error::SessionInnerError;
 use crate::flow::LinkFlow;
 use crate::frame::{SessionFrame, SessionFrameBody, SessionOutgoingItem};
-use crate::numbers::{IncomingChannel, InputHandle};
+use crate::numbers::IncomingChannel;
 use crate::relay::LinkRelay;
 use crate::session::Session;
+use crate::session::held::RequestedTransfer;
 use amqp_types::{Attach, Begin, Flow, Transfer};
 use bytes::Bytes;
 use std::collections::VecDeque;
 
-/// What a session hands out goes behind the frames on the way.
+/// Appends what a session hands out to the frames on the way.
 fn put(going: &mut VecDeque<SessionFrame>, item: Option<SessionOutgoingItem>)
     requires { deque_len going.old + length (item_frames item) ≤ deque_capacity going.old }
     ensures { going.new.items ≡ going.old.items ++ item_frames item }
@@ -108,28 +109,29 @@ pub(super) fn flow_at<R: LinkRelay>(
 /// The session takes a transfer to be sent.
 pub(super) fn transfer_at<R: LinkRelay>(
     me: &mut Session<R>,
-    input_handle: InputHandle,
-    transfer: Transfer,
-    payload: Bytes,
-    is_first: bool,
+    requested: RequestedTransfer,
     going: &mut VecDeque<SessionFrame>,
 ) -> Result<(), SessionInnerError>
-    ensures { TransferAt R.gives
-        (record { input_handle = input_handle.0; transfer = transfer; payload = payload; is_first = is_first })
-        me.old.view going.old.items result me.new.view going.new.items }
+    ensures { TransferAt R.gives requested me.old.view going.old.items result me.new.view going.new.items }
 {
     if !me.can_send() {
-        drop(transfer);
+        drop(requested);
         return Err(SessionInnerError::IllegalState);
     }
-    if is_first && transfer.delivery_tag.is_none() {
-        drop(transfer);
+    if requested.is_untagged() {
+        drop(requested);
         return Err(SessionInnerError::IllegalState);
     }
     if !makes_room(me, going) {
-        drop(transfer);
+        drop(requested);
         return Err(SessionInnerError::OutOfMemory);
     }
+    let RequestedTransfer {
+        input_handle,
+        transfer,
+        payload,
+        is_first,
+    } = requested;
     match me.on_outgoing_transfer(input_handle, transfer, payload, is_first) {
         Ok(item) => {
             put(going, item);

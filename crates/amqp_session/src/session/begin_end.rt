@@ -86,10 +86,10 @@ impl<R: LinkRelay> Session<R> {
     }
 
     /// Begins the session, or answers the peer's Begin: the frame names the settings, the number of the next transfer, and
-    /// the channel of the peer's Begin, if it came.
+    /// the channel of the peer's Begin, if it came (AMQP 1.0 part 2, section 2.7.2).
     ///
-    /// `IllegalState` in any state but `Unmapped` and `BeginReceived`. `OutOfMemory` where memory for the copy of the
-    /// settings is refused. Nothing changes then.
+    /// It moves `Unmapped` to `BeginSent`, and `BeginReceived` to `Mapped`. `IllegalState` in any other state. `OutOfMemory` where memory
+    /// for the copy of the settings is refused. Nothing changes then.
     pub fn send_begin(&mut self) -> Result<SessionFrame, SessionStateError>
         ensures step { SendBeginStep self.old.view result self.new.view }
         ensures walk { self.new.last_walk ≡ self.old.last_walk }
@@ -107,9 +107,10 @@ impl<R: LinkRelay> Session<R> {
         Ok(SessionFrame::new(self.outgoing_channel.0, SessionFrameBody::Begin(begin)))
     }
 
-    /// Ends the session, with an error or without, or answers the peer's End. Takes no memory.
+    /// Ends the session, with an error or without, or answers the peer's End (AMQP 1.0 part 2, section 2.7.8). Takes no memory.
     ///
-    /// `IllegalState` in any state but `Mapped` and `EndReceived`. Nothing changes then.
+    /// It moves `Mapped` to `EndSent`, or with an error to `Discarding`, and `EndReceived` to `Unmapped`. `IllegalState` in any other
+    /// state. Nothing changes then.
     pub fn send_end(&mut self, error: Option<Error>) -> Result<SessionFrame, SessionStateError>
         ensures step { SendEndStep self.old.view error result self.new.view }
         ensures walk { self.new.last_walk ≡ self.old.last_walk }
@@ -128,7 +129,7 @@ impl<R: LinkRelay> Session<R> {
     /// Takes the peer's Begin, which came on this channel: it gives both windows and the peer's next number. Transfers
     /// that wait go on waiting. Takes no memory.
     ///
-    /// `IllegalState` in any state but `Unmapped` and `BeginSent`. Nothing changes then.
+    /// It moves `Unmapped` to `BeginReceived`, and `BeginSent` to `Mapped`. `IllegalState` in any other state. Nothing changes then.
     pub fn on_incoming_begin(
         &mut self,
         channel: IncomingChannel,
@@ -149,10 +150,11 @@ impl<R: LinkRelay> Session<R> {
         Ok(())
     }
 
-    /// Takes the peer's End. Takes no memory.
+    /// Takes the peer's End. Takes no memory. The channel is not looked at.
     ///
-    /// `RemoteEnded` where the peer's End is unsolicited, and `RemoteEndedWithError` where its End has an error; the
-    /// state moves all the same. `IllegalState` in `Unmapped` and `EndReceived`: nothing changes then.
+    /// It moves `BeginSent`, `BeginReceived` and `Mapped` to `EndReceived`, and `EndSent` and `Discarding` to `Unmapped`. The answer is
+    /// `RemoteEndedWithError` where the End has an error, in each of these states. Without an error it is `RemoteEnded` where this side has
+    /// sent no End, and else `Ok`. The state moves in each case. `IllegalState` in `Unmapped` and `EndReceived`: nothing changes then.
     pub fn on_incoming_end(
         &mut self,
         _channel: IncomingChannel,

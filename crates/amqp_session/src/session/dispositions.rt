@@ -5,10 +5,11 @@ ghost use Rattle.std.specs.Option.{option_map};
 ghost use Rattle.std.specs.Result.{result_map_both};
 ghost use Rattle.amqp_session.specs.Deliveries.{AreCounts, nothing_read, read_more, risen, stepped, with_role};
 ghost use Rattle.amqp_session.specs.Relay.{DispositionQuestion};
-ghost use Rattle.amqp_session.specs.Walks.{IsSplit, IsWalked, turned};
+ghost use Rattle.amqp_session.specs.Inner.Walks.{IsSplit, IsWalked, range_of, turned};
 ghost use Rattle.amqp_session.specs.Disposing.{span, is_forward, num_messages, in_order, meant, not_meant, agreed, AsksEach, AreRuns, SaysStateAgain, Echoes, echo_of, rows_of, IsBounded, HasTerminal, TakeDispositionStep, SendDispositionStep};
 
 use super::Session;
+use super::range::SerialRange;
 use super::runs::with_state;
 use super::walk::{ask_each, ask_one};
 use crate::deliveries::{Deliveries, WalkCount};
@@ -24,29 +25,21 @@ use std::alloc::{AllocError, Global};
 pub fn num_messages_settled_by_disposition(first: u32, last: Option<u32>) -> u32
     ensures { result ≡ num_messages first last }
 {
-    match forward_span(first, last) {
-        Some(span) => span + 1,
+    match SerialRange::forward(first, last) {
+        Some(range) => range.len(),
         None => 1,
     }
-}
-
-/// How far the last number of a range is behind its first, where the range is forward.
-#[inline(always)]
-pub(super) fn forward_span(first: u32, last: Option<u32>) -> Option<u32>
-    ensures { result ≡ if is_forward first last then Some (span first last) else None }
-{
-    let span = last.unwrap_or(first).wrapping_sub(first);
-    if span < 0x8000_0000 { Some(span) } else { None }
 }
 
 impl<R: LinkRelay> Session<R> {
     /// Takes the peer's disposition of open deliveries: those that this side sent, where the peer is receiver, and else those
     /// that it received. It means the open ones from `first` to `last`, or `first` alone where no last is named, in this order.
     /// The numbers are serial numbers, so a range may pass 4294967295; one over half of the circle or more is backward, and means
-    /// none. The relay of each delivery's link is told, if one is attached.
+    /// none. The relay of each delivery's link is asked, if one is attached. It is accepted in every state.
     ///
     /// Settled, it takes the deliveries away: `None`, without memory and without an error. Unsettled, they stay open, and the
-    /// answer is one settled disposition for each run of numbers without gaps whose relays asked for it.
+    /// answer is one settled disposition for each run of numbers without gaps whose relays answered true: of role sender, with the same
+    /// state. The caller sends them, by [`Session::on_outgoing_disposition`].
     ///
     /// `OutOfMemory` where an unsettled one over a forward range is refused memory: before any relay is asked, or after all were,
     /// where a relay asked for an echo and its state cannot be shared. The deliveries stay open then.
@@ -62,21 +55,21 @@ impl<R: LinkRelay> Session<R> {
         ensures reads { self.new.reads ≡ read_more disposition.role self.new.last_walk self.old.reads }
     {
         self.last_walk = WalkCount::new();
-        if forward_span(disposition.first, disposition.last).is_none() {
+        let Some(range) = SerialRange::forward(disposition.first, disposition.last) else {
             return Ok(self.nothing_meant(disposition.settled));
-        }
+        };
         if disposition.settled {
-            self.take_away(&disposition);
+            self.take_away(&disposition, range);
             return Ok(None);
         }
-        match self.ask(&disposition) {
+        match self.ask(&disposition, range) {
             Ok(echoes) => Ok(Some(echoes)),
             Err(_) => Err(SessionInnerError::OutOfMemory),
         }
     }
 
-    /// The frame of a disposition. A terminal state opens the remote outgoing window again by the messages that the disposition
-    /// settles, up to 4294967295. Takes no memory.
+    /// The frame of a disposition, in every state. A terminal state opens the remote outgoing window again by the messages that the
+    /// disposition settles, up to 4294967295. The deliveries stay open: [`Session::settle`] lets them go. Takes no memory.
     pub fn on_outgoing_disposition(&mut self, disposition: Disposition) -> SessionFrame
         ensures step { (terminal : Bool) × SendDispositionStep self.old.view disposition terminal result self.new.view }
         ensures walk { self.new.last_walk ≡ self.old.last_walk }
@@ -109,8 +102,9 @@ impl<R: LinkRelay> Session<R> {
         Some(Vec::new(self.alloc))
     }
 
-    /// Tells the relays of a settled disposition over a forward range, and takes the deliveries of its role away.
-    fn take_away(&mut self, said: &Disposition)
+    /// Asks the relays about a settled disposition over a forward range, and takes the deliveries of its role away.
+    fn take_away(&mut self, said: &Disposition, range: SerialRange)
+        requires range { range ≡ range_of said.now }
         requires settled { said.now.settled ≡ true }
         requires forward { span said.now.first said.now.last < 2 ^ 31 }
         requires unread { self.old.last_walk ≡ nothing_read }
@@ -126,14 +120,19 @@ impl<R: LinkRelay> Session<R> {
     {
         let (links, walk) = (&mut self.links, &mut self.last_walk);
         match said.role {
-            Role::Receiver => settle(self.alloc, links, &mut self.sent, walk, said),
-            Role::Sender => settle(self.alloc, links, &mut self.received, walk, said),
+            Role::Receiver => settle(self.alloc, links, &mut self.sent, walk, said, range),
+            Role::Sender => settle(self.alloc, links, &mut self.received, walk, said, range),
         }
     }
 
     /// Asks the relays of an unsettled disposition over a forward range about the deliveries of its role.
     #[inline(never)]
-    fn ask(&mut self, said: &Disposition) -> Result<Vec<Disposition>, AllocError>
+    fn ask(
+        &mut self,
+        said: &Disposition,
+        range: SerialRange,
+    ) -> Result<Vec<Disposition>, AllocError>
+        requires range { range ≡ range_of said.now }
         requires settled { said.now.settled ≡ false }
         requires forward { span said.now.first said.now.last < 2 ^ 31 }
         requires unread { self.old.last_walk ≡ nothing_read }
@@ -152,8 +151,8 @@ impl<R: LinkRelay> Session<R> {
     {
         let (links, walk) = (&mut self.links, &mut self.last_walk);
         match said.role {
-            Role::Receiver => ask(self.alloc, links, &mut self.sent, walk, said),
-            Role::Sender => ask(self.alloc, links, &mut self.received, walk, said),
+            Role::Receiver => ask(self.alloc, links, &mut self.sent, walk, said, range),
+            Role::Sender => ask(self.alloc, links, &mut self.received, walk, said, range),
         }
     }
 }
@@ -168,14 +167,16 @@ fn has_terminal(state: &Option<Raw>) -> bool
     }
 }
 
-/// Tells the relays of a settled disposition over a forward range, and takes the deliveries that it means away.
+/// Asks the relays about a settled disposition over a forward range, and takes the deliveries that it means away.
 fn settle<R: LinkRelay>(
     alloc: Global,
     links: &mut Links<R>,
     rows: &mut Deliveries,
     walk: &mut WalkCount,
     said: &Disposition,
+    range: SerialRange,
 )
+    requires range { range ≡ range_of said.now }
     requires settled { said.now.settled ≡ true }
     requires forward { span said.now.first said.now.last < 2 ^ 31 }
     requires unread { walk.old ≡ nothing_read }
@@ -186,21 +187,23 @@ fn settle<R: LinkRelay>(
     ensures reads { rows.new.reads ≡ risen walk.new rows.old.reads }
 {
     let before = rows.reads();
-    let from = rows.place_of(said.first);
-    let count = tell(alloc, links, rows, said, from);
+    let from = rows.place_of(range.first);
+    let count = tell(alloc, links, rows, said, range, from);
     *walk = rows.reads().since(before);
     rows.remove(from, count);
 }
 
-/// Tells the relays of the deliveries that a settled disposition means, from the place of its first number on, and says how many are meant.
+/// Asks the relays of the deliveries that a settled disposition means, from the place of its first number on, and says how many are meant.
 #[inline(always)]
 fn tell<R: LinkRelay>(
     alloc: Global,
     links: &mut Links<R>,
     rows: &mut Deliveries,
     said: &Disposition,
+    range: SerialRange,
     from: usize,
 ) -> usize
+    requires range { range ≡ range_of said.now }
     requires from { from ≤ length rows.old.rows }
     requires order { in_order said.now.first rows.old.rows ≡ turned from rows.old.rows }
     requires settled { said.now.settled ≡ true }
@@ -211,10 +214,10 @@ fn tell<R: LinkRelay>(
         × AsksEach R.gives.disposition_gives said.now (take result (turned from rows.old.rows)) asked links.old links.new }
     ensures read { (k : ℕ) × (k ≤ result + 1) × (result ≤ k) × (rows.new ≡ stepped k rows.old) }
 {
-    if said.last.unwrap_or(said.first) == said.first {
-        return ask_one(links, rows, said, from);
+    if range.span == 0 {
+        return ask_one(links, rows, said, range, from);
     }
-    tell_each(alloc, links, rows, said, from)
+    tell_each(alloc, links, rows, said, range, from)
 }
 
 /// The same over a range of several numbers, or of any.
@@ -224,8 +227,10 @@ fn tell_each<R: LinkRelay>(
     links: &mut Links<R>,
     rows: &mut Deliveries,
     said: &Disposition,
+    range: SerialRange,
     from: usize,
 ) -> usize
+    requires range { range ≡ range_of said.now }
     requires from { from ≤ length rows.old.rows }
     requires order { in_order said.now.first rows.old.rows ≡ turned from rows.old.rows }
     requires settled { said.now.settled ≡ true }
@@ -237,7 +242,7 @@ fn tell_each<R: LinkRelay>(
     ensures read { (k : ℕ) × (k ≤ result + 1) × (result ≤ k) × (rows.new ≡ stepped k rows.old) }
 {
     let mut no_echoes = Vec::new(alloc);
-    ask_each(links, rows, said, from, &mut no_echoes)
+    ask_each(links, rows, said, range, from, &mut no_echoes)
 }
 
 /// Asks the relays of an unsettled disposition over a forward range, and gives the echoes. Room for them is taken before: what
@@ -248,7 +253,9 @@ fn ask<R: LinkRelay>(
     rows: &mut Deliveries,
     walk: &mut WalkCount,
     said: &Disposition,
+    range: SerialRange,
 ) -> Result<Vec<Disposition>, AllocError>
+    requires range { range ≡ range_of said.now }
     requires settled { said.now.settled ≡ false }
     requires forward { span said.now.first said.now.last < 2 ^ 31 }
     requires unread { walk.old ≡ nothing_read }
@@ -262,12 +269,11 @@ fn ask<R: LinkRelay>(
     ensures walk { (went : Bool) × (OnOk result (went ≡ true)) × IsWalked said.now rows.old.rows went walk.new }
     ensures reads { rows.new.reads ≡ risen walk.new rows.old.reads }
 {
-    let span = said.last.unwrap_or(said.first).wrapping_sub(said.first);
-    let most = rows.len().min(span as usize / 2 + 1);
+    let most = rows.len().min(range.most_runs());
     let mut echoes = Vec::with_capacity(alloc, most)?;
     let before = rows.reads();
-    let from = rows.place_of(said.first);
-    ask_each(links, rows, said, from, &mut echoes);
+    let from = rows.place_of(range.first);
+    ask_each(links, rows, said, range, from, &mut echoes);
     *walk = rows.reads().since(before);
     with_state(echoes, &said.state)
 }

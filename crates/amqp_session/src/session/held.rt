@@ -1,8 +1,9 @@
-//! Transfers that wait for the window, and the frames that they go out as.
+//! Transfers that are asked for, and that wait for the window, and the frames that they go out as.
 
-ghost use Rattle.std.specs.Prelude.{◌≡◌, ℕ, ◌+◌, ◌%◌, ◌^◌, IfOk, if◌then◌else◌};
+ghost use Rattle.std.specs.Prelude.{◌≡◌, ℕ, ◌+◌, ◌%◌, ◌^◌, IfOk, true, false, if◌then◌else◌};
 ghost use Rattle.std.specs.Option.{option_map};
 ghost use Rattle.amqp_session.specs.Transfers.{frame_of, record_of, first_of, kept_tag};
+ghost use Rattle.amqp_session.specs.Step.{IsUntagged};
 
 use crate::deliveries::Delivery;
 use crate::frame::{SessionFrame, SessionFrameBody};
@@ -12,15 +13,34 @@ use bytes::Bytes;
 use std::alloc::AllocError;
 use std::marker::Model;
 
-/// A transfer that was accepted, for the link of an input handle.
+/// A transfer as it is asked for: for the link of an input handle, with its payload, the first of its delivery or a later one.
+#[derive(Drop)]
+pub(crate) struct RequestedTransfer {
+    pub(crate) input_handle: InputHandle,
+    pub(crate) transfer: Transfer,
+    pub(crate) payload: Bytes,
+    pub(crate) is_first: bool,
+}
+
+impl Model for RequestedTransfer {
+    ghost use Rattle.amqp_session.specs.Transfers.{RequestedTransfer};
+
+    ghost Value = { RequestedTransfer };
+
+    ghost view = { λ r. record {
+      input_handle = r.input_handle.0;
+      transfer = r.transfer;
+      payload = r.payload;
+      is_first = r.is_first;
+    } };
+}
+
+/// A transfer that was accepted and waits.
 ///
 /// The tag for the record of its delivery is taken when the transfer is accepted, so that it needs no memory when it goes out.
 #[derive(Drop)]
 pub(crate) struct HeldTransfer {
-    input_handle: InputHandle,
-    transfer: Transfer,
-    payload: Bytes,
-    is_first: bool,
+    requested: RequestedTransfer,
     tag: Option<DeliveryTag>,
 }
 
@@ -31,19 +51,14 @@ impl Model for HeldTransfer {
 
     ghost Value = { RequestedTransfer };
 
-    ghost view = { λ h. record {
-      input_handle = h.input_handle.0;
-      transfer = h.transfer;
-      payload = h.payload;
-      is_first = h.is_first;
-    } };
+    ghost view = { λ h. h.requested };
 
-    ghost invariant = { λ h. option_map (λ t. t.0) h.tag ≡ kept_tag h.is_first h.transfer };
+    ghost invariant = { λ h. option_map (λ t. t.0) h.tag ≡ kept_tag h.requested.is_first h.requested.transfer };
 }
 
 /// What goes out for one transfer that waited.
 #[derive(Drop)]
-pub(crate) struct Numbered {
+pub(crate) struct OutgoingTransfer {
     /// Its frame.
     pub(crate) frame: SessionFrame,
     /// The delivery that it opens.
@@ -109,7 +124,7 @@ pub(crate) fn record_of(
     }
 }
 
-/// The number of the next delivery, behind this transfer.
+/// The number of the next delivery, after this transfer.
 #[inline(always)]
 pub(crate) fn next_delivery(delivery: u32, is_first: bool) -> u32
     ensures { result ≡ (delivery + (if is_first then 1 else 0)) % 2 ^ 32 }
@@ -121,43 +136,42 @@ pub(crate) fn next_delivery(delivery: u32, is_first: bool) -> u32
     }
 }
 
+impl RequestedTransfer {
+    /// Whether it is the first of its delivery, and has no tag.
+    #[inline(always)]
+    pub(crate) fn is_untagged(&self) -> bool
+        ensures untagged { result ≡ true → IsUntagged self.now }
+        ensures tagged { result ≡ false → ¬ (IsUntagged self.now) }
+    {
+        self.is_first && self.transfer.delivery_tag.is_none()
+    }
+}
+
 impl HeldTransfer {
     /// The transfer, ready to wait. Its payload and tag are moved or shared, never copied.
     #[inline(always)]
-    pub(crate) fn new(
-        input_handle: InputHandle,
-        transfer: Transfer,
-        payload: Bytes,
-        is_first: bool,
-    ) -> Result<HeldTransfer, AllocError>
-        ensures { IfOk result (λ held. held
-            ≡ record { input_handle = input_handle.0; transfer = transfer; payload = payload; is_first = is_first }) }
+    pub(crate) fn new(requested: RequestedTransfer) -> Result<HeldTransfer, AllocError>
+        ensures { IfOk result (λ held. held ≡ requested) }
     {
-        let tag = tag_to_keep(&transfer, is_first)?;
-        Ok(HeldTransfer {
-            input_handle,
-            transfer,
-            payload,
-            is_first,
-            tag,
-        })
+        let tag = tag_to_keep(&requested.transfer, requested.is_first)?;
+        Ok(HeldTransfer { requested, tag })
     }
 
     /// The frame, where `delivery` is the number of the next delivery: the first frame of a delivery gets it, and any other none.
     #[inline(always)]
-    pub(crate) fn numbered(self, channel: OutgoingChannel, delivery: u32) -> Numbered
+    pub(crate) fn numbered(self, channel: OutgoingChannel, delivery: u32) -> OutgoingTransfer
         ensures frame { result.frame ≡ frame_of channel.0 delivery self }
         ensures delivery { result.delivery ≡ record_of delivery self }
         ensures next { result.next ≡ (delivery + first_of self) % 2 ^ 32 }
     {
-        let HeldTransfer {
+        let HeldTransfer { requested, tag } = self;
+        let RequestedTransfer {
             input_handle,
             transfer,
             payload,
             is_first,
-            tag,
-        } = self;
-        Numbered {
+        } = requested;
+        OutgoingTransfer {
             frame: frame_of(channel, delivery, transfer, payload, is_first),
             delivery: record_of(delivery, input_handle, tag),
             next: next_delivery(delivery, is_first),

@@ -25,7 +25,7 @@ use std::alloc::{AllocError, Global};
 
 /// Memory for what a flow lets out: for a list of frames, and for the deliveries that they open. None is taken where nothing
 /// goes out.
-fn take_room(
+fn reserve_for_drain(
     alloc: Global,
     count: usize,
     deliveries: &mut Deliveries,
@@ -47,8 +47,8 @@ fn take_room(
     Ok(frames)
 }
 
-/// Hands out a frame that stands first, if any, and behind it what the window lets out.
-fn hand_on(
+/// Hands out a frame that stands first, if any, and after it what the window lets out.
+fn emit_drained(
     channel: OutgoingChannel,
     first: Option<SessionFrame>,
     sending: &mut Sending,
@@ -88,8 +88,11 @@ fn alone(frame: Option<SessionFrame>) -> Option<SessionOutgoingItem>
 
 impl<R: LinkRelay> Session<R> {
     /// Takes the peer's Flow: it gives both windows and the peer's next number, in every state and whatever is then
-    /// answered. A flow that names a link goes on to its relay. What goes out is the relay's flow, if any, and behind it, in
+    /// answered. A flow that names a link goes on to its relay. What goes out is the relay's flow, if any, and after it, in
     /// `Mapped`, the transfers that waited and that the new window lets out: a list of frames where a transfer goes out.
+    ///
+    /// The new window for transfers of this side is `incoming_window` less the transfers that went out since the flow's
+    /// `next_incoming_id`, never below 0. Without a `next_incoming_id` they are counted from this side's first number.
     ///
     /// `UnattachedHandle` where no link is attached under the handle. `OutOfMemory` where memory is refused: for what goes
     /// out it is taken before the relay is asked. An error of the relay is passed on. Nothing goes out then, and only the
@@ -111,8 +114,9 @@ impl<R: LinkRelay> Session<R> {
         }
     }
 
-    /// Takes a transfer of the peer and its payload: its number is counted, whatever is then answered. The relay of its link
-    /// gets it, and the delivery that the relay names is open from now on. The answer is always `None`.
+    /// Takes a transfer of the peer and its payload, in every state: its number is counted, whatever is then answered. The relay of its
+    /// link gets it, and the delivery that the relay names is open from now on. The answer is always `None`. A transfer past the incoming
+    /// window is not refused here.
     ///
     /// `UnattachedHandle` where no link is attached under the handle. `OutOfMemory` where memory is refused: for the record
     /// of a delivery it is taken before the relay is asked. An error of the relay is passed on. Nothing is recorded then.
@@ -129,18 +133,14 @@ impl<R: LinkRelay> Session<R> {
     {
         self.receiving.count_transfer();
         let input = InputHandle(transfer.handle.0);
-        if !self.links.is_attached(input) {
-            drop(transfer);
-            return Err(SessionInnerError::UnattachedHandle);
-        }
-        let Ok(()) = self.received.reserve(1) else {
-            drop(transfer);
-            return Err(SessionInnerError::OutOfMemory);
-        };
         let was_long = is_long(&transfer, &payload);
-        match self.links.ask_transfer(input, transfer, payload) {
-            Err(error) => Err(SessionInnerError::from(error)),
-            Ok(named) => {
+        let asked = self
+            .links
+            .ask_transfer(transfer, payload, &mut self.received);
+        match asked {
+            Err(unasked) => Err(unasked),
+            Ok(Err(error)) => Err(SessionInnerError::from(error)),
+            Ok(Ok(named)) => {
                 record_named(self.alloc, &mut self.received, input, named, was_long);
                 Ok(None)
             }
@@ -171,11 +171,11 @@ impl<R: LinkRelay> Session<R> {
         if !self.can_send() {
             return Ok(None);
         }
-        let Ok(room) = take_room(self.alloc, self.sending.ready(), &mut self.sent) else {
+        let Ok(room) = reserve_for_drain(self.alloc, self.sending.ready(), &mut self.sent) else {
             return Err(SessionInnerError::OutOfMemory);
         };
         let channel = self.outgoing_channel;
-        Ok(hand_on(channel, None, &mut self.sending, &mut self.sent, room))
+        Ok(emit_drained(channel, None, &mut self.sending, &mut self.sent, room))
     }
 
     /// What a flow for a link lets out.
@@ -199,7 +199,7 @@ impl<R: LinkRelay> Session<R> {
         }
     }
 
-    /// In `Mapped` the relay's flow goes out, and behind it what the window lets out.
+    /// In `Mapped` the relay's flow goes out, and after it what the window lets out.
     fn flow_of_mapped(
         &mut self,
         input: InputHandle,
@@ -212,14 +212,14 @@ impl<R: LinkRelay> Session<R> {
         ensures walk { self.new.last_walk ≡ self.old.last_walk }
         ensures reads { self.new.reads ≡ self.old.reads }
     {
-        let Ok(room) = take_room(self.alloc, self.sending.ready(), &mut self.sent) else {
+        let Ok(room) = reserve_for_drain(self.alloc, self.sending.ready(), &mut self.sent) else {
             return Err(SessionInnerError::OutOfMemory);
         };
         match self.links.ask_flow(input, flow) {
             Err(error) => Err(SessionInnerError::from(error)),
             Ok(echo) => {
                 let first = self.echo(echo);
-                Ok(hand_on(
+                Ok(emit_drained(
                     self.outgoing_channel,
                     first,
                     &mut self.sending,

@@ -23,14 +23,15 @@ fn has_ended(state: SessionState) -> bool
 }
 
 impl<R: LinkRelay> Session<R> {
-    /// The output handle of the live link of a name.
+    /// The output handle of the live link of a name. `None` where no live link has the name.
     pub fn output_handle(&self, name: &str) -> Option<OutputHandle>
         ensures { result ≡ option_map (λ n. n.handle) (named_at name.now self.now.view.links) }
     {
         self.links.output_handle(name)
     }
 
-    /// Allots an output handle for a link of this name. The relay, if any, waits under the name for the peer's attach.
+    /// Allots an output handle for a link of this name, in `Mapped`. The relay, if any, waits under the name for the peer's attach. Without
+    /// one the peer's attach is refused `HandleInUse`.
     ///
     /// Outside `Mapped`, `SessionStopped` with the reason that is recorded; without one, `SessionStopped` with `Ended` where
     /// an End was sent or received, and else `SessionNotMapped`. `DuplicatedLinkName` where a live link has the name.
@@ -70,7 +71,7 @@ impl<R: LinkRelay> Session<R> {
             .answer()
     }
 
-    /// Releases the live link of an output handle with its name, and says whether there was one. Takes no memory.
+    /// Releases the live link of an output handle with its name, and says whether there was one: `false` changes nothing. Takes no memory.
     pub fn deallocate_link(&mut self, handle: OutputHandle) -> bool
         ensures step { DeallocateStep self.old.view handle result self.new.view }
         ensures walk { self.new.last_walk ≡ self.old.last_walk }
@@ -94,9 +95,10 @@ impl<R: LinkRelay> Session<R> {
         self.links.attach(attach).answer()
     }
 
-    /// Takes the peer's detach: the link leaves the table, and its relay is told whether the peer began. It did where no detach
-    /// of this side is awaited; one that is awaited is so no longer. The relay's answer is handed back. For an input handle
-    /// without a link nothing happens. Takes no memory, and never fails.
+    /// Takes the peer's detach: the link leaves its input handle, and its relay learns whether the peer began the detach. It did where
+    /// this side awaits no answer to a detach of its own. Where it awaits one, the output handle is free from now on. The relay's answer is
+    /// handed back, to be sent. For an input handle without a link the answer is `None`, and nothing changes. Takes no memory, and never
+    /// fails.
     pub fn on_incoming_detach(
         &mut self,
         detach: Detach,
@@ -109,7 +111,8 @@ impl<R: LinkRelay> Session<R> {
         Ok(self.links.detach(detach).answer())
     }
 
-    /// The frame of an attach. Takes no memory, and changes nothing.
+    /// The frame of an attach. Takes no memory, and changes nothing. Its handle is the one that [`Session::allocate_link`] gave: that is
+    /// not checked.
     pub fn on_outgoing_attach(&self, attach: Attach) -> SessionFrame
         ensures { SendAttachStep self.now.view attach result self.now.view }
     {

@@ -6,7 +6,7 @@ ghost use Rattle.amqp_session.specs.States.{is_mapped};
 ghost use Rattle.amqp_session.specs.Step.{IsUntagged, SendFlowStep, SendTransferStep, SessionFlowStep};
 
 use super::Session;
-use super::held::tag_to_keep;
+use super::held::{RequestedTransfer, tag_to_keep};
 use crate::error::SessionInnerError;
 use crate::flow::LinkFlow;
 use crate::frame::{SessionFrame, SessionFrameBody, SessionOutgoingItem};
@@ -16,7 +16,7 @@ use amqp_types::{Flow, Transfer};
 use bytes::Bytes;
 
 impl<R: LinkRelay> Session<R> {
-    /// The frame of a link's flow, with the session's numbers and windows. Takes no memory, and changes nothing.
+    /// The frame of a link's flow, with the session's numbers and windows (section 2.7.4). Takes no memory, and changes nothing.
     pub fn on_outgoing_flow(&self, flow: LinkFlow) -> SessionFrame
         ensures { SendFlowStep self.now.view flow result self.now.view }
     {
@@ -41,8 +41,8 @@ impl<R: LinkRelay> Session<R> {
     /// lasts. A first transfer gets the number of the next delivery as it goes out, and the delivery is open from then on
     /// unless it is settled already. Any other transfer has no delivery-id, whatever it came with.
     ///
-    /// It counts once in the window, also where an encoder cuts it into several frames, which the peer counts one by one: who keeps the
-    /// window on the wire splits a delivery beforehand (`split_delivery` of `amqp_frames`; part 2, section 2.6.14).
+    /// It counts once in the window, also where an encoder cuts it into several frames, which the peer counts one by one. A caller that
+    /// keeps the window on the wire splits a delivery beforehand (`split_delivery` of `amqp_frames`; part 2, section 2.6.14).
     ///
     /// `IllegalState` outside `Mapped`, and where the first transfer of a delivery has no tag. `OutOfMemory` where memory is
     /// refused. Nothing changes then.
@@ -64,8 +64,13 @@ impl<R: LinkRelay> Session<R> {
             drop(transfer);
             return Err(SessionInnerError::IllegalState);
         }
-        if !self.sending.has_way() {
-            return self.send_later(input_handle, transfer, payload, is_first);
+        if !self.sending.can_send_now() {
+            return self.queue_and_drain(RequestedTransfer {
+                input_handle,
+                transfer,
+                payload,
+                is_first,
+            });
         }
         let Ok(()) = self.sent.reserve(1) else {
             drop(transfer);
@@ -91,40 +96,30 @@ impl<R: LinkRelay> Session<R> {
     /// Takes a transfer that does not go out alone.
     // No part of `on_outgoing_transfer`, which would pay at its entry for the size of these locals.
     #[inline(never)]
-    fn send_later(
+    fn queue_and_drain(
         &mut self,
-        input_handle: InputHandle,
-        transfer: Transfer,
-        payload: Bytes,
-        is_first: bool,
+        requested: RequestedTransfer,
     ) -> Result<Option<SessionOutgoingItem>, SessionInnerError>
         requires mapped { is_mapped self.old.view.state ≡ true }
-        requires tagged { ¬ (IsUntagged
-            (record { input_handle = input_handle.0; transfer = transfer; payload = payload; is_first = is_first })) }
+        requires tagged { ¬ (IsUntagged requested) }
         requires waits { self.old.view.sending.held ≡ [] → self.old.view.sending.remote_incoming_window ≡ 0 }
-        ensures step { SendTransferStep self.old.view
-            (record { input_handle = input_handle.0; transfer = transfer; payload = payload; is_first = is_first })
-            result self.new.view }
+        ensures step { SendTransferStep self.old.view requested result self.new.view }
         ensures walk { self.new.last_walk ≡ self.old.last_walk }
         ensures reads { self.new.reads ≡ self.old.reads }
     {
         let channel = self.outgoing_channel;
-        match self.sending.send_later(
-            self.alloc,
-            channel,
-            input_handle,
-            transfer,
-            payload,
-            is_first,
-            &mut self.sent,
-        ) {
+        match self
+            .sending
+            .queue_and_drain(self.alloc, channel, requested, &mut self.sent)
+        {
             Ok(item) => Ok(item),
             Err(_) => Err(SessionInnerError::OutOfMemory),
         }
     }
 
     /// A flow of the session alone, in `Mapped`, where the transfers that came since the last one are at least half of the
-    /// incoming window, rounded down: it opens the peer's window again. Takes no memory.
+    /// incoming window, rounded down: it opens the peer's window again. `None` where fewer came, and in every other state. Takes no
+    /// memory.
     #[inline(always)]
     pub fn maybe_outgoing_session_flow(&mut self) -> Option<SessionOutgoingItem>
         ensures step { SessionFlowStep self.old.view result self.new.view }

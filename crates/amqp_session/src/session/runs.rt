@@ -1,7 +1,7 @@
 //! The answers to an unsettled disposition: one for each run of delivery numbers without gaps (AMQP 1.0 part 2, section 2.7.6).
 
 ghost use Rattle.std.specs.Prelude.{◌≡◌, ◌<◌, ◌≤◌, ◌+◌, List, None, IfOk, OnErr, IsSome, false, length, map, vec_len, vec_capacity};
-ghost use Rattle.amqp_session.specs.Runs.{Run, extended, goes_on};
+ghost use Rattle.amqp_session.specs.Runs.{DeliveryRange, extended, goes_on};
 ghost use Rattle.amqp_session.specs.Disposing.{echo_of};
 
 use amqp_types::{Disposition, Raw, Role};
@@ -21,11 +21,11 @@ fn echo(first: u32, last: u32) -> Disposition
     }
 }
 
-/// Puts a number behind these answers: it goes on with the last one, or begins one of its own.
+/// Adds a number to these answers: it goes on with the last one, or begins one of its own.
 pub(super) fn extend(echoes: &mut Vec<Disposition>, number: u32)
-    requires { (runs : List Run) × (echoes.old.items ≡ map (echo_of None) runs)
+    requires { (runs : List DeliveryRange) × (echoes.old.items ≡ map (echo_of None) runs)
         × (goes_on number runs ≡ false → vec_len echoes.old < vec_capacity echoes.old) }
-    ensures items { (runs : List Run) → echoes.old.items ≡ map (echo_of None) runs → echoes.new.items ≡ map (echo_of None) (extended number runs) }
+    ensures items { (runs : List DeliveryRange) → echoes.old.items ≡ map (echo_of None) runs → echoes.new.items ≡ map (echo_of None) (extended number runs) }
     ensures len { vec_len echoes.new ≤ vec_len echoes.old + 1 }
     ensures capacity { vec_capacity echoes.new ≡ vec_capacity echoes.old }
 {
@@ -38,9 +38,9 @@ pub(super) fn extend(echoes: &mut Vec<Disposition>, number: u32)
     }
 }
 
-/// Whether the number is the one behind the last run.
+/// Whether the number is the next one after the last run.
 fn goes_on(echoes: &[Disposition], number: u32) -> bool
-    ensures { (runs : List Run) → echoes.now ≡ map (echo_of None) runs → result ≡ goes_on number runs }
+    ensures { (runs : List DeliveryRange) → echoes.now ≡ map (echo_of None) runs → result ≡ goes_on number runs }
 {
     match echoes.last() {
         None => false,
@@ -53,7 +53,7 @@ pub(super) fn with_state(
     echoes: Vec<Disposition>,
     state: &Option<Raw>,
 ) -> Result<Vec<Disposition>, AllocError>
-    ensures echoes { IfOk result (λ said. (runs : List Run) → echoes.items ≡ map (echo_of None) runs → said.items ≡ map (echo_of state.now) runs) }
+    ensures echoes { IfOk result (λ said. (runs : List DeliveryRange) → echoes.items ≡ map (echo_of None) runs → said.items ≡ map (echo_of state.now) runs) }
     ensures refused { OnErr result (IsSome state.now × (0 < length echoes.items)) }
 {
     let mut said = echoes;

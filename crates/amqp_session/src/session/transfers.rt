@@ -9,7 +9,7 @@ ghost use Rattle.amqp_session.specs.Items.{HandsOut};
 ghost use Rattle.amqp_session.specs.Step.{is_some_held};
 ghost use Rattle.amqp_session.specs.Sending.{new_sending, joined, begun, moved, ready_count, let_out, opened_by, drained};
 
-use super::held::{HeldTransfer, frame_of, next_delivery, record_of};
+use super::held::{HeldTransfer, RequestedTransfer, frame_of, next_delivery, record_of};
 use crate::deliveries::{Deliveries, Delivery};
 use crate::frame::{SessionFrame, SessionOutgoingItem};
 use crate::numbers::{InputHandle, OutgoingChannel};
@@ -189,7 +189,7 @@ impl Sending {
 
     /// Whether a transfer goes out alone: none waits, and the window is not used up.
     #[inline(always)]
-    pub(crate) fn has_way(&self) -> bool
+    pub(crate) fn can_send_now(&self) -> bool
         ensures way { IsTrue result → (self.now.held ≡ []) × (0 < self.now.remote_incoming_window) }
         ensures no_way { result ≡ false → self.now.held ≡ [] → self.now.remote_incoming_window ≡ 0 }
     {
@@ -230,7 +230,7 @@ impl Sending {
         frame_of(channel, delivery, transfer, payload, is_first)
     }
 
-    /// The transfer goes behind those that wait, and the window lets out what it can. When memory is refused nothing changes.
+    /// The transfer joins those that wait, as the last, and the window lets out what it can. When memory is refused nothing changes.
     #[inline(never)]
     fn send_behind(
         &mut self,
@@ -258,29 +258,23 @@ impl Sending {
     /// Takes a transfer that does not go out alone: it waits while the window is used up; else those that wait go out first, and
     /// then it, while the window lasts. On a refusal nothing changes.
     #[inline(always)]
-    pub(crate) fn send_later(
+    pub(crate) fn queue_and_drain(
         &mut self,
         alloc: Global,
         channel: OutgoingChannel,
-        input_handle: InputHandle,
-        transfer: Transfer,
-        payload: Bytes,
-        is_first: bool,
+        requested: RequestedTransfer,
         deliveries: &mut Deliveries,
     ) -> Result<Option<SessionOutgoingItem>, AllocError>
         requires waits { self.old.held ≡ [] → self.old.remote_incoming_window ≡ 0 }
-        ensures item { IfOk result (λ item. HandsOut (is_some_held self.old.held) (let_out channel.0 (joined self.old
-            (record { input_handle = input_handle.0; transfer = transfer; payload = payload; is_first = is_first }))) item) }
-        ensures drained { OnOk result (self.new ≡ drained (joined self.old
-            (record { input_handle = input_handle.0; transfer = transfer; payload = payload; is_first = is_first }))) }
-        ensures opened { OnOk result (deliveries.new.rows ≡ opened_by (joined self.old
-            (record { input_handle = input_handle.0; transfer = transfer; payload = payload; is_first = is_first }))
+        ensures item { IfOk result (λ item. HandsOut (is_some_held self.old.held) (let_out channel.0 (joined self.old requested)) item) }
+        ensures drained { OnOk result (self.new ≡ drained (joined self.old requested)) }
+        ensures opened { OnOk result (deliveries.new.rows ≡ opened_by (joined self.old requested)
             deliveries.old.rows) }
         ensures err { OnErr result (self.new ≡ self.old) }
         ensures err_rows { OnErr result (deliveries.new.rows ≡ deliveries.old.rows) }
         ensures reads { deliveries.new.reads ≡ deliveries.old.reads }
     {
-        let held = HeldTransfer::new(input_handle, transfer, payload, is_first)?;
+        let held = HeldTransfer::new(requested)?;
         if self.remote_incoming_window == 0 {
             self.hold_back(held)?;
             return Ok(None);

@@ -3,10 +3,11 @@
 ghost use Rattle.std.specs.Prelude.{◌≡◌, ◌≤◌, ◌<◌, ◌+◌, ◌-◌, ◌/◌, ◌^◌, ℕ, List, [], None, length, map, min, take, drop, false, vec_len, vec_capacity};
 ghost use Rattle.amqp_session.specs.Deliveries.{IsTable, stepped};
 ghost use Rattle.amqp_session.specs.Relay.{DispositionQuestion};
-ghost use Rattle.amqp_session.specs.Runs.{Run, goes_on};
+ghost use Rattle.amqp_session.specs.Runs.{DeliveryRange, goes_on};
 ghost use Rattle.amqp_session.specs.Disposing.{distance, span, in_order, meant, echo_of, AsksEach, AreRuns};
-ghost use Rattle.amqp_session.specs.Walks.{around, turned, noted, noted_by, IsSplit};
+ghost use Rattle.amqp_session.specs.Inner.Walks.{around, range_of, turned, noted, noted_by, IsSplit};
 
+use super::range::SerialRange;
 use super::runs::extend;
 use crate::deliveries::Deliveries;
 use crate::link::Links;
@@ -31,9 +32,9 @@ fn around(from: usize, count: usize, len: usize) -> usize
 
 /// Notes a number for the answers where its relay answered true, unless the disposition settles.
 fn note(echoes: &mut Vec<Disposition>, number: u32, settled: bool, answer: bool)
-    requires { settled ≡ false → (runs : List Run) × (echoes.old.items ≡ map (echo_of None) runs)
+    requires { settled ≡ false → (runs : List DeliveryRange) × (echoes.old.items ≡ map (echo_of None) runs)
         × (goes_on number runs ≡ false → vec_len echoes.old < vec_capacity echoes.old) }
-    ensures items { (runs : List Run) → echoes.old.items ≡ map (echo_of None) runs
+    ensures items { (runs : List DeliveryRange) → echoes.old.items ≡ map (echo_of None) runs
         → echoes.new.items ≡ map (echo_of None) (noted_by settled answer number runs) }
     ensures len { vec_len echoes.new ≤ vec_len echoes.old + 1 }
     ensures capacity { vec_capacity echoes.new ≡ vec_capacity echoes.old }
@@ -50,8 +51,10 @@ pub(super) fn ask_one<R: LinkRelay>(
     links: &mut Links<R>,
     rows: &mut Deliveries,
     said: &Disposition,
+    range: SerialRange,
     from: usize,
 ) -> usize
+    requires range { range ≡ range_of said.now }
     requires from { from ≤ length rows.old.rows }
     requires order { in_order said.now.first rows.old.rows ≡ turned from rows.old.rows }
     requires alone { span said.now.first said.now.last ≡ 0 }
@@ -66,7 +69,7 @@ pub(super) fn ask_one<R: LinkRelay>(
         return 0;
     }
     let delivery = rows.delivery(around(from, 0, len));
-    if delivery.number != said.first {
+    if delivery.number != range.first {
         return 0;
     }
     links.ask_disposition(said, delivery);
@@ -80,9 +83,11 @@ pub(super) fn ask_each<R: LinkRelay>(
     links: &mut Links<R>,
     rows: &mut Deliveries,
     said: &Disposition,
+    range: SerialRange,
     from: usize,
     echoes: &mut Vec<Disposition>,
 ) -> usize
+    requires range { range ≡ range_of said.now }
     requires from { from ≤ length rows.old.rows }
     requires order { in_order said.now.first rows.old.rows ≡ turned from rows.old.rows }
     requires forward { span said.now.first said.now.last < 2 ^ 31 }
@@ -92,15 +97,14 @@ pub(super) fn ask_each<R: LinkRelay>(
     ensures split { IsSplit said.now (turned from rows.old.rows) result }
     ensures asked { (asked : List (DispositionQuestion R))
         × AsksEach R.gives.disposition_gives said.now (take result (turned from rows.old.rows)) asked links.old links.new
-        × (runs : List Run) × AreRuns said.now.first (noted said.now.settled asked) runs × (echoes.new.items ≡ map (echo_of None) runs) }
+        × (runs : List DeliveryRange) × AreRuns said.now.first (noted said.now.settled asked) runs × (echoes.new.items ≡ map (echo_of None) runs) }
     ensures read { (k : ℕ) × (k ≤ result + 1) × (result ≤ k) × (rows.new ≡ stepped k rows.old) }
 {
     let len = rows.len();
-    let span = said.last.unwrap_or(said.first).wrapping_sub(said.first);
     for count in 0..len {
         let delivery = rows.delivery(around(from, count, len));
         let number = delivery.number;
-        if span < number.wrapping_sub(said.first) {
+        if !range.has(number) {
             return count;
         }
         let answer = links.ask_disposition(said, delivery);

@@ -95,7 +95,7 @@ fn role_of(word: &str) -> Option<Role> {
     }
 }
 
-/// What this side settles: behind the session's number its own role, the first number, and the last one where it is named.
+/// What this side settles: after the session's number its own role, the first number, and the last one where it is named.
 fn settled(text: &str) -> Asked {
     let Some((number, text)) = text.split_once(' ') else {
         return Asked::Unreadable;
@@ -122,7 +122,7 @@ fn settled_range(number: SessionNo, role: Role, range: &str) -> Asked {
     }
 }
 
-/// A link of the name behind the session's number, which is not empty and may hold spaces.
+/// A link of the name after the session's number, which is not empty and may hold spaces.
 fn link(alloc: Global, text: &str) -> Result<Asked, AllocError> {
     let Some((number, name)) = text.split_once(' ') else {
         return Ok(Asked::Unreadable);

@@ -7,7 +7,7 @@ use amqp_session::{LinkFlow, LinkRelay, LinkRelayError, OutputHandle};
 use amqp_types::{Attach, DeliveryNumber, DeliveryTag, Detach, Raw, Role, Transfer};
 use bytes::Bytes;
 
-/// The relay of the program's links. It accepts an attach; answers a flow that asks for an echo with the same flow on its
+/// The relay of the links of [`replay`](crate::replay). It accepts an attach; answers a flow that asks for an echo with the same flow on its
 /// output handle; keeps a transfer open that is not settled and has a number and a tag; asks for an echo of every unsettled
 /// disposition; and answers a detach that the peer began with one on its output handle, closed alike and without an error.
 #[derive(Clone, Copy, Debug)]

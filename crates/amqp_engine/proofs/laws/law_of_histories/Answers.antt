@@ -4,15 +4,15 @@ use Rattle.amqp_session.specs.Headline as single
 use Rattle.amqp_engine.specs.EngineView.{new_engine}
 use Rattle.amqp_engine.specs.ByHistory.{of_session, begun}
 use Rattle.amqp_engine.specs.Legal.{Legal}
-use Rattle.amqp_engine.proofs.Apart.{apart}
-use Rattle.amqp_engine.proofs.Beginning.{some_none}
-use Rattle.amqp_engine.proofs.Histories.{one_each}
-use Rattle.amqp_engine.proofs.Keeping.{once_held}
-use Rattle.amqp_engine.proofs.Naming.{requests_reach}
-use Rattle.amqp_engine.proofs.OnChannel.{on_channel}
-use Rattle.amqp_engine.proofs.Projection.{legal, same_some}
-use Rattle.amqp_engine.proofs.Reaching.{all_received, frames_reach, routes_follow, all_known}
-use Rattle.amqp_engine.proofs.Telling.{all_asked, frames_are, ran_short}
+use Rattle.amqp_engine.proofs.BareHistoryLemmas.{apart}
+use Rattle.amqp_engine.proofs.BegunSessionLemmas.{some_none}
+use Rattle.amqp_engine.proofs.OpenCloseCountLemmas.{one_each}
+use Rattle.amqp_engine.proofs.ChannelHistoryLemmas.{once_held}
+use Rattle.amqp_engine.proofs.NamedSessionLemmas.{requests_reach}
+use Rattle.amqp_engine.proofs.OnChannelLemmas.{on_channel}
+use Rattle.amqp_engine.proofs.SessionProjectionLemmas.{legal, same_some}
+use Rattle.amqp_engine.proofs.ReachedSessionLemmas.{all_received, frames_reach, routes_follow, all_known}
+use Rattle.amqp_engine.proofs.AskedCallsLemmas.{all_asked, frames_are, ran_short}
 use Rattle.amqp_engine.proofs.laws.law_of_histories.Goals as goal
 
 pub returns : goal.returns

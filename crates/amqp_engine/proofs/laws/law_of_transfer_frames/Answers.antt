@@ -1,4 +1,4 @@
-use Rattle.amqp_engine.proofs.OneFrames.{are_frames}
+use Rattle.amqp_engine.proofs.OneFrameLemmas.{are_frames}
 use Rattle.amqp_engine.proofs.laws.law_of_transfer_frames.Goals as goal
 
 pub returns : goal.returns

@@ -1,6 +1,6 @@
 use Rattle.amqp_engine.specs.Legal.{Legal}
-use Rattle.amqp_engine.proofs.Apart.{apart}
-use Rattle.amqp_engine.proofs.Standing.{stands}
+use Rattle.amqp_engine.proofs.BareHistoryLemmas.{apart}
+use Rattle.amqp_engine.proofs.ViewLemmas.{stands}
 use Rattle.amqp_engine.proofs.laws.law_of_views.Goals as goal
 
 pub returns : goal.returns

@@ -1,5 +1,5 @@
 use Rattle.std.proofs.Common.{Some, ap, sym, ◌∙◌}
-use Rattle.amqp_session.proofs.ByNumber.{found_in}
+use Rattle.amqp_session.proofs.NumberedMapLemmas.{found_in}
 use Rattle.amqp_session.proofs.keys.index_of.Goals as goal
 
 pub returns-then-found-key-clause-there : goal.returns-then-found-key-clause-there

@@ -1,5 +1,5 @@
 use Rattle.std.proofs.Common.{sym, ◌∙◌}
-use Rattle.amqp_session.proofs.AsMap.{get_at, inserted}
+use Rattle.amqp_session.proofs.FiniteMapLemmas.{get_at, inserted}
 use Rattle.amqp_session.proofs.keys.put.Goals as goal
 
 pub returns-clause-put : goal.returns-clause-put

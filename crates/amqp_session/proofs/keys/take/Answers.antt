@@ -1,5 +1,5 @@
 use Rattle.std.proofs.Common.{sym, ◌∙◌}
-use Rattle.amqp_session.proofs.AsMap.{get_at, removed}
+use Rattle.amqp_session.proofs.FiniteMapLemmas.{get_at, removed}
 use Rattle.amqp_session.proofs.keys.take.Goals as goal
 
 pub returns-in_err-index-clause-value : goal.returns-in_err-index-clause-value

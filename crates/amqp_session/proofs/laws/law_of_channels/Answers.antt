@@ -1,4 +1,4 @@
-use Rattle.amqp_session.proofs.Channels.{channels_law}
+use Rattle.amqp_session.proofs.ChannelLemmas.{channels_law}
 use Rattle.amqp_session.proofs.laws.law_of_channels.Goals as goal
 
 pub returns : goal.returns

@@ -1,4 +1,4 @@
-use Rattle.amqp_session.proofs.LinkLaws.{links_agree, shown_agree, awaited_once}
+use Rattle.amqp_session.proofs.LinkHistoryLemmas.{links_agree, shown_agree, awaited_once}
 use Rattle.amqp_session.proofs.laws.law_of_links.Goals as goal
 
 pub returns : goal.returns

@@ -1,5 +1,5 @@
-use Rattle.amqp_session.proofs.PairMoving.{allocate_move, begin_move, attach_move, flow_move, transfer_move, arrive_move}
-use Rattle.amqp_session.proofs.PairMoving.{histories, in_order}
+use Rattle.amqp_session.proofs.PairMoveLemmas.{allocate_move, begin_move, attach_move, flow_move, transfer_move, arrive_move}
+use Rattle.amqp_session.proofs.PairMoveLemmas.{histories, in_order}
 use Rattle.amqp_session.proofs.laws.law_of_pairs.Goals as goal
 
 pub returns-clause-allocate_link : goal.returns-clause-allocate_link

@@ -1,4 +1,4 @@
-use Rattle.amqp_session.proofs.SessionFlows.{flows_law}
+use Rattle.amqp_session.proofs.SessionFlowLemmas.{flows_law}
 use Rattle.amqp_session.proofs.laws.law_of_session_flows.Goals as goal
 
 pub returns : goal.returns

@@ -1,4 +1,4 @@
-use Rattle.amqp_session.proofs.Histories.{stands_law, headline_law}
+use Rattle.amqp_session.proofs.SessionViewLemmas.{stands_law, headline_law}
 use Rattle.amqp_session.proofs.laws.law_of_views.Goals as goal
 
 pub returns : goal.returns

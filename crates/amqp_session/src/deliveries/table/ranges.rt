@@ -5,8 +5,9 @@ ghost use Rattle.std.specs.List.{filter};
 ghost use Rattle.amqp_session.specs.Disposing.{distance};
 
 use super::Deliveries;
+use crate::session::range::SerialRange;
 
-/// How many places there are from one up to another. Where the range passes the end, the front is behind it.
+/// How many places there are from one up to another. A range that passes the end goes on at the front.
 fn stretch(from: usize, to: usize, len: usize, passes: bool) -> usize
     requires from { from ≤ len }
     requires forward { passes ≡ false → from ≤ to }
@@ -17,13 +18,14 @@ fn stretch(from: usize, to: usize, len: usize, passes: bool) -> usize
 }
 
 impl Deliveries {
-    /// Lets the records go whose numbers are at most `span` behind `first`, modulo 2^32, and answers how many they were. Where the
+    /// Lets the records go whose numbers are in the range, and answers how many they were. Where its
     /// numbers pass 4294967295 they are the last ones of the table and the first ones. Its two searches count nowhere.
-    pub(crate) fn let_go(&mut self, first: u32, span: u32) -> usize
-        ensures rows { self.new.rows ≡ filter (λ r. not (nat_le (distance first r.number) span)) self.old.rows }
-        ensures count { result ≡ length (filter (λ r. nat_le (distance first r.number) span) self.old.rows) }
+    pub(crate) fn let_go(&mut self, range: SerialRange) -> usize
+        ensures rows { self.new.rows ≡ filter (λ r. not (nat_le (distance range.first r.number) range.span)) self.old.rows }
+        ensures count { result ≡ length (filter (λ r. nat_le (distance range.first r.number) range.span) self.old.rows) }
         ensures reads { self.new.reads ≡ self.old.reads }
     {
+        let SerialRange { first, span } = range;
         let len = self.len();
         let behind = first.wrapping_add(span).wrapping_add(1);
         let from = self.find(first, self.last_place);

@@ -2,7 +2,7 @@ use Rattle.std.proofs.Common.{is_some, nat_eq, rules, ap, sym, ◌∙◌}
 use Rattle.std.specs.Map.{lookup}
 use Rattle.std.specs.Ordering.{nat_cmp}
 use Rattle.std.specs.FinMap as map
-use Rattle.amqp_engine.proofs.Running.{legal_new}
+use Rattle.amqp_engine.proofs.RunSoFarLemmas.{legal_new}
 use Rattle.amqp_engine.proofs.engine.Engine.keyed.Goals as goal
 
 pub invariant_of-result : goal.invariant_of-result

@@ -1,6 +1,6 @@
 use Rattle.std.proofs.Common.{rules, [], Ok, Err, Some}
 use Rattle.amqp_engine.specs.declared.engine.answer.OutputError.TheVariants as output
-use Rattle.amqp_engine.proofs.Running.{next_left, legal_left}
+use Rattle.amqp_engine.proofs.RunSoFarLemmas.{next_left, legal_left}
 use Rattle.amqp_engine.proofs.engine.Engine.next_output.Goals as goal
 
 pub returns-in-Ok-clause-legal : goal.returns-in-Ok-clause-legal

@@ -1,4 +1,4 @@
-use Rattle.amqp_engine.proofs.Outputs.{put_more}
+use Rattle.amqp_engine.proofs.OutputLemmas.{put_more}
 use Rattle.amqp_engine.proofs.engine.Engine.put_out.Goals as goal
 
 -- an answer more

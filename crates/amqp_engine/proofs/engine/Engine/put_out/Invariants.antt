@@ -1,5 +1,5 @@
 use Rattle.std.proofs.Common.{length}
-use Rattle.amqp_engine.proofs.Outputs.{PutSoFar}
+use Rattle.amqp_engine.proofs.OutputLemmas.{PutSoFar}
 use Rattle.amqp_engine.proofs.engine.Engine.put_out.Given as goal
 
 abbrev pub invariant-loop-self : goal.invariant-loop-self

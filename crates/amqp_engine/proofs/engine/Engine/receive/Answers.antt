@@ -5,7 +5,7 @@ use Rattle.amqp_frames.proofs.Headed.{not_opened}
 use Rattle.amqp_frames.specs.declared.frame.FrameBody.TheVariants.{Empty}
 use Rattle.amqp_connection.specs.Connection.{refusal_of}
 use Rattle.amqp_engine.specs.Engine.{NoneReceived}
-use Rattle.amqp_engine.proofs.FieldsReceived.{received, at_kind, of_kind, fields_kept}
+use Rattle.amqp_engine.proofs.ReceivedFieldsLemmas.{received, at_kind, of_kind, fields_kept}
 use Rattle.amqp_engine.proofs.engine.Engine.receive.Goals as goal
 
 pub returns-in_err-head : goal.returns-in_err-head

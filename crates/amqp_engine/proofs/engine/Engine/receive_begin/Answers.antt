@@ -5,10 +5,10 @@ use Rattle.amqp_types.specs.Begin.{BeginSaid}
 use Rattle.amqp_connection.specs.Connection.{BeginRouteStep}
 use Rattle.amqp_engine.specs.EngineView.{EngineView}
 use Rattle.amqp_engine.specs.Calls.{ReceivedBeginCalls}
-use Rattle.amqp_engine.proofs.KindFields.{begin_fields}
-use Rattle.amqp_engine.proofs.FieldsReceived.{unread, was_read}
-use Rattle.amqp_engine.proofs.Handing.{reaches, reaches_unknown, reaches_none}
-use Rattle.amqp_engine.proofs.Viewed.{viewed_some, viewed_none}
+use Rattle.amqp_engine.proofs.KindFieldsLemmas.{begin_fields}
+use Rattle.amqp_engine.proofs.ReceivedFieldsLemmas.{unread, was_read}
+use Rattle.amqp_engine.proofs.AskedSessionLemmas.{reaches, reaches_unknown, reaches_none}
+use Rattle.amqp_engine.proofs.SessionListLemmas.{viewed_some, viewed_none, seated_set}
 use Rattle.amqp_engine.proofs.engine.Engine.receive_begin.Goals as goal
 
 pub returns-in_err-begin : goal.returns-in_err-begin
@@ -42,10 +42,13 @@ returns g c =
     let step = subst (λ (v : EngineView _). BeginRouteStep v.connection c.args.channel.0 begin.remote_channel (Ok n) c.route_begin.new.self) c.self.view_is
     (subst (λ r. BeginRouteStep c.self.inside.connection c.args.channel.0 r (Ok n) c.route_begin.new.self) (ap (λ (b : BeginSaid). b.remote_channel) c.begin.view_is) c.in_ok-number.ensures) in
     let known = viewed_some n c.self.inside.sessions.entries c.in-Some.session.now (sym c.in-Some.ensures.value) in
-    let set = (c.get_mut.follows.holds c.begin_received.new.session).0 in
+    let set = (c.get_mut.follows.holds c.begin_received.new.session) in
     was_read g.R.LinkRelay.gives begin_fields c.args.self.now _ c.args.channel.0 c.args.fields c.read_list.new.bytes begin _ c.in_ok-begin.ensures (
       Some n,
       c.begin_received.ensures.calls,
       reaches g.R.LinkRelay.gives (BeginRouteStep c.args.self.now.connection c.args.channel.0 begin.remote_channel) (ReceivedBeginCalls c.args.channel.0 begin) c.args.self.now _ c.route_begin.new.self _ _ _ n _ _ _ c.in-Some.session.now c.begin_received.new.session _
           c.self.view_is step known c.begin_received.ensures (ap (λ (x : EngineView _). x.waiting) c.self.view_is ∙ c.requires) set,
     )
+
+pub invariant_of-self-2 : goal.invariant_of-self-2
+invariant_of-self-2 g c = seated_set c.self.inside.sessions.entries _ c.in_ok-number.number.0 c.begin_received.new.session c.self.inside.kept.places (c.get_mut.follows.holds c.begin_received.new.session) c.self.invariant

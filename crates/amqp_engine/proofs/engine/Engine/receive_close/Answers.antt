@@ -3,9 +3,9 @@ use Rattle.amqp_engine.specs.declared.engine.step_error.StepError.TheVariants as
 use Rattle.amqp_connection.specs.Connection.{refusal_of}
 use Rattle.amqp_engine.specs.EngineView.{EngineView}
 use Rattle.amqp_engine.specs.Engine.{ReceivedClose}
-use Rattle.amqp_engine.proofs.KindFields.{close_fields}
-use Rattle.amqp_engine.proofs.FieldsReceived.{unread_kept, was_kept, not_copied}
-use Rattle.amqp_engine.proofs.KeptOutcomes.{close_copy, kept_close}
+use Rattle.amqp_engine.proofs.KindFieldsLemmas.{close_fields}
+use Rattle.amqp_engine.proofs.ReceivedFieldsLemmas.{unread_kept, was_kept, not_copied}
+use Rattle.amqp_engine.proofs.OutcomeLemmas.{close_copy, kept_close}
 use Rattle.amqp_engine.proofs.engine.Engine.receive_close.Goals as goal
 
 pub returns-in_err-close : goal.returns-in_err-close

@@ -4,11 +4,11 @@ use Rattle.std.specs.HashMap.{HashMap}
 use Rattle.amqp_connection.specs.Connection.{EndRouteStep}
 use Rattle.amqp_engine.specs.EngineView.{EngineView}
 use Rattle.amqp_engine.specs.Calls.{ReceivedEndCalls}
-use Rattle.amqp_engine.proofs.KindFields.{end_fields}
-use Rattle.amqp_engine.proofs.FieldsReceived.{unread_kept, was_kept, not_copied}
-use Rattle.amqp_engine.proofs.Handing.{reaches, reaches_unknown, reaches_none}
-use Rattle.amqp_engine.proofs.KeptOutcomes.{end_copy, seat_known, kept_end}
-use Rattle.amqp_engine.proofs.Viewed.{viewed_some, viewed_none}
+use Rattle.amqp_engine.proofs.KindFieldsLemmas.{end_fields}
+use Rattle.amqp_engine.proofs.ReceivedFieldsLemmas.{unread_kept, was_kept, not_copied}
+use Rattle.amqp_engine.proofs.AskedSessionLemmas.{reaches, reaches_unknown, reaches_none}
+use Rattle.amqp_engine.proofs.OutcomeLemmas.{end_copy, seat_known, kept_end}
+use Rattle.amqp_engine.proofs.SessionListLemmas.{viewed_some, viewed_none, seated_set}
 use Rattle.amqp_engine.proofs.engine.Engine.receive_end.Goals as goal
 
 pub returns-in_err-end : goal.returns-in_err-end
@@ -59,9 +59,12 @@ returns g c =
     let n = c.in_ok-number.number.0 in
     let step = subst (λ (v : EngineView _). EndRouteStep v.connection c.args.channel.0 (Ok n) c.route_end.new.self) c.self.view_is c.in_ok-number.ensures in
     let known = viewed_some n c.self.inside.sessions.entries c.in-Some.session.now (sym c.in-Some.ensures.value) in
-    let set = (c.get_mut.follows.holds c.end_received-answer.new.session).0 in
+    let set = (c.get_mut.follows.holds c.end_received-answer.new.session) in
     let there = reaches g.R.LinkRelay.gives (EndRouteStep c.args.self.now.connection c.args.channel.0) (ReceivedEndCalls c.args.channel.0 end) c.args.self.now _ c.route_end.new.self _ _ _ n _ _ _ c.in-Some.session.now c.end_received-answer.new.session _
     c.self.view_is step known c.end_received-answer.ensures (ap (λ (x : EngineView _). x.waiting) c.self.view_is ∙ c.requires) set in
     was_kept g.R.LinkRelay.gives end_fields c.args.self.now _ _ c.args.channel.0 c.args.fields c.read_list.new.bytes end _ c.in_ok-end.ensures
     (Some n, c.end_received-answer.ensures.calls, there)
     (kept_end _ _ _ _ c.args.channel.0 n end (Some n) c.end_answer.result _ refl refl c.end_answer.ensures c.keep_end.ensures.outcomes c.keep_end.ensures.wishes)
+
+pub invariant_of-self-2 : goal.invariant_of-self-2
+invariant_of-self-2 g c = rw c.keep_end.ensures.places (seated_set c.self.inside.sessions.entries _ c.in_ok-number.number.0 c.end_received-answer.new.session c.self.inside.kept.places (c.get_mut.follows.holds c.end_received-answer.new.session) c.self.invariant)

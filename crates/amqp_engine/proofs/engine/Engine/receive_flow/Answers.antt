@@ -2,11 +2,11 @@ use Rattle.std.proofs.Common.{sym, ap, ◌∙◌, refl}
 use Rattle.std.specs.Option.{option_copied_mut}
 use Rattle.std.specs.HashMap.{HashMap}
 use Rattle.amqp_engine.specs.Calls.{ReceivedFlowCalls}
-use Rattle.amqp_engine.proofs.KindFields.{flow_fields}
-use Rattle.amqp_engine.proofs.FieldsReceived.{unread}
-use Rattle.amqp_engine.proofs.HandedAlong.{unrouted, unknown, handed}
-use Rattle.amqp_engine.proofs.Passing.{route_found, route_missing}
-use Rattle.amqp_engine.proofs.Viewed.{viewed_some, viewed_none}
+use Rattle.amqp_engine.proofs.KindFieldsLemmas.{flow_fields}
+use Rattle.amqp_engine.proofs.ReceivedFieldsLemmas.{unread}
+use Rattle.amqp_engine.proofs.RoutedFrameLemmas.{unrouted, unknown, handed}
+use Rattle.amqp_engine.proofs.RouteLemmas.{route_found, route_missing}
+use Rattle.amqp_engine.proofs.SessionListLemmas.{viewed_some, viewed_none, seated_set}
 use Rattle.amqp_engine.proofs.engine.Engine.receive_flow.Goals as goal
 
 pub returns-in_err-flow : goal.returns-in_err-flow
@@ -37,4 +37,7 @@ returns g c =
     (viewed_some c.in-Some.number.0 c.self.inside.sessions.entries c.in-Some-get_mut.session.now (sym c.in-Some-get_mut.ensures.value))
     c.flow_received.ensures
     refl
-    (c.get_mut.follows.holds c.flow_received.new.session).0
+    (c.get_mut.follows.holds c.flow_received.new.session)
+
+pub invariant_of-self-2 : goal.invariant_of-self-2
+invariant_of-self-2 g c = seated_set c.self.inside.sessions.entries _ c.in-Some.number.0 c.flow_received.new.session c.self.inside.kept.places (c.get_mut.follows.holds c.flow_received.new.session) c.self.invariant

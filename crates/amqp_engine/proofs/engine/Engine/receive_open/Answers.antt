@@ -1,7 +1,7 @@
 use Rattle.std.proofs.Common.{rules, ◌≡◌, ℕ, None, Some, [], refl, ◌∙◌, ap, subst}
 use Rattle.amqp_connection.specs.Connection.{refusal_of}
-use Rattle.amqp_engine.proofs.KindFields.{open_fields}
-use Rattle.amqp_engine.proofs.FieldsReceived.{unread, was_read}
+use Rattle.amqp_engine.proofs.KindFieldsLemmas.{open_fields}
+use Rattle.amqp_engine.proofs.ReceivedFieldsLemmas.{unread, was_read}
 use Rattle.amqp_engine.specs.declared.engine.step_error.StepError.TheVariants.{ConnectionState}
 use Rattle.amqp_engine.specs.EngineView.{EngineView, views_of, walks_of}
 use Rattle.amqp_engine.specs.Engine.{ReceivedOpen}

@@ -9,13 +9,13 @@ use Rattle.amqp_engine.specs.declared.engine.step_error.StepError.TheVariants.{S
 use Rattle.amqp_connection.specs.Connection.{ConnectionView, AllocateStep}
 use Rattle.amqp_engine.specs.EngineView.{EngineView, views_of, walks_of}
 use Rattle.amqp_engine.specs.Sessions.{BeginRequest, IsFresh, Used}
-use Rattle.amqp_engine.proofs.Engines.{same_engine, same_keeping, one_more}
+use Rattle.amqp_engine.proofs.SameEngineLemmas.{same_engine, same_keeping, one_more}
 use Rattle.std.specs.FinMap as map
-use Rattle.amqp_engine.specs.Places.{Seated}
-use Rattle.amqp_engine.proofs.KeptOutcomes.{seat_free, seated_more, seated_same}
+use Rattle.amqp_engine.specs.Inner.Places.{Seated}
+use Rattle.amqp_engine.proofs.OutcomeLemmas.{seat_free, seated_more, seated_same}
 use Rattle.std.specs.Map.{lookup}
-use Rattle.amqp_engine.proofs.Viewed.{viewed_none, unviewed}
-use Rattle.amqp_engine.proofs.Beginning.{appended, given_back_again, unallocated}
+use Rattle.amqp_engine.proofs.SessionListLemmas.{viewed_none, unviewed}
+use Rattle.amqp_engine.proofs.BegunSessionLemmas.{appended, given_back_again, unallocated}
 use Rattle.amqp_engine.proofs.engine.Engine.request_begin.Goals as goal
 
 pub returns-in-Ok-begun : goal.returns-in-Ok-begun

@@ -1,8 +1,8 @@
 use Rattle.std.proofs.Common.{None, [], refl, ap, sym, subst, ◌∙◌}
 use Rattle.amqp_engine.specs.EngineView.{EngineView}
 use Rattle.amqp_engine.specs.Sessions.{Over}
-use Rattle.amqp_engine.proofs.Engines.{parts, same_keeping}
-use Rattle.amqp_engine.proofs.Clearing.{lets_go, refused, seated_less}
+use Rattle.amqp_engine.proofs.SameEngineLemmas.{parts, same_keeping}
+use Rattle.amqp_engine.proofs.ForgottenSessionLemmas.{lets_go, refused, seated_less}
 use Rattle.amqp_engine.proofs.engine.Engine.request_forget.Goals as goal
 
 pub returns-in-Err : goal.returns-in-Err

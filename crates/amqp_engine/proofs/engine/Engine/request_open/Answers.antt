@@ -3,7 +3,7 @@ use Rattle.amqp_engine.specs.declared.engine.step_error.StepError.TheVariants.{C
 use Rattle.amqp_connection.specs.Connection.{refusal_of}
 use Rattle.amqp_engine.specs.EngineView.{EngineView, views_of, walks_of}
 use Rattle.amqp_engine.specs.Engine.{OpenRequest}
-use Rattle.amqp_engine.proofs.Engines.{same_engine}
+use Rattle.amqp_engine.proofs.SameEngineLemmas.{same_engine}
 use Rattle.amqp_engine.proofs.engine.Engine.request_open.Goals as goal
 
 pub returns : goal.returns

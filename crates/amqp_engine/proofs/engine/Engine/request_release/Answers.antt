@@ -1,6 +1,6 @@
 use Rattle.std.proofs.Common.{rules, None, [], refl, ap, sym, ◌∙◌}
 use Rattle.std.specs.Option.{option_copied}
-use Rattle.amqp_engine.proofs.Viewed.{viewed_some, viewed_none}
+use Rattle.amqp_engine.proofs.SessionListLemmas.{viewed_some, viewed_none}
 use Rattle.amqp_engine.proofs.engine.Engine.request_release.Goals as goal
 
 pub returns-then-ne : goal.returns-then-ne

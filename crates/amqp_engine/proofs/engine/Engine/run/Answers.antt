@@ -1,6 +1,6 @@
 use Rattle.std.proofs.Common.{◌≡◌, ◌<◌, ◌++◌, [], ◌∷◌, List, length, arith, ap, ◌∙◌, rules}
 use Rattle.amqp_engine.specs.declared.engine.answer.Answer.{Answer}
-use Rattle.amqp_engine.proofs.Running.{Taking-start, Taking-more, Taking-Ran, empty}
+use Rattle.amqp_engine.proofs.RunSoFarLemmas.{Taking-start, Taking-more, Taking-Ran, empty}
 use Rattle.amqp_engine.proofs.engine.Engine.run.Goals as goal
 
 pub loop-answers-init : goal.loop-answers-init

@@ -1,5 +1,5 @@
 use Rattle.std.proofs.Common.{◌≡◌, [], length}
-use Rattle.amqp_engine.proofs.Running.{Taking}
+use Rattle.amqp_engine.proofs.RunSoFarLemmas.{Taking}
 use Rattle.amqp_engine.proofs.engine.Engine.run.Given as goal
 
 abbrev pub invariant-loop-answers : goal.invariant-loop-answers

@@ -1,5 +1,5 @@
 use Rattle.std.proofs.Common.{◌≡◌, ◌-◌, length, arith, rules}
-use Rattle.amqp_engine.proofs.Sending.{Sending-start, Sending-more, Sending-RanInto}
+use Rattle.amqp_engine.proofs.BufferRunLemmas.{Sending-start, Sending-more, Sending-RanInto}
 use Rattle.amqp_engine.proofs.engine.Engine.run_into.Goals as goal
 
 pub loop-refusals-init : goal.loop-refusals-init

@@ -1,5 +1,5 @@
 use Rattle.std.proofs.Common.{◌≡◌, [], length}
-use Rattle.amqp_engine.proofs.Sending.{Sending}
+use Rattle.amqp_engine.proofs.BufferRunLemmas.{Sending}
 use Rattle.amqp_engine.proofs.engine.Engine.run_into.Given as goal
 
 abbrev pub invariant-loop-refusals : goal.invariant-loop-refusals

@@ -1,5 +1,5 @@
 use Rattle.std.proofs.Common.{refl}
-use Rattle.amqp_engine.proofs.Sending.{sends_first, sends_back}
+use Rattle.amqp_engine.proofs.BufferRunLemmas.{sends_first, sends_back}
 use Rattle.amqp_engine.proofs.engine.Engine.send_first.Goals as goal
 
 pub returns-in-Ok-clause-ok : goal.returns-in-Ok-clause-ok

@@ -1,4 +1,4 @@
-use Rattle.amqp_engine.proofs.Sending.{sent_more}
+use Rattle.amqp_engine.proofs.BufferRunLemmas.{sent_more}
 use Rattle.amqp_engine.proofs.engine.Engine.send_out.Goals as goal
 
 -- a frame more

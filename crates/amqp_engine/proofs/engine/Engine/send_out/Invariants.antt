@@ -1,5 +1,5 @@
 use Rattle.std.proofs.Common.{length}
-use Rattle.amqp_engine.proofs.Sending.{SentSoFar}
+use Rattle.amqp_engine.proofs.BufferRunLemmas.{SentSoFar}
 use Rattle.amqp_engine.proofs.engine.Engine.send_out.Given as goal
 
 abbrev pub invariant-loop-place : goal.invariant-loop-place

@@ -1,7 +1,7 @@
 use Rattle.std.proofs.Common.{subst, Some, IfSome, is_some, ◌≡◌, nat_eq}
 use Rattle.std.specs.Map.{lookup}
 use Rattle.amqp_engine.specs.EngineView.{EngineView}
-use Rattle.amqp_engine.proofs.Viewed.{found_in, known_in, walk_in}
+use Rattle.amqp_engine.proofs.SessionListLemmas.{found_in, known_in, walk_in}
 use Rattle.amqp_engine.proofs.engine.Engine.session.Goals as goal
 
 pub returns-clause-found : goal.returns-clause-found

@@ -1,13 +1,13 @@
 use Rattle.std.proofs.Common.{None, [], refl, sym, ◌∙◌, inl, inr}
-use Rattle.amqp_engine.proofs.Engines.{idle, busy}
+use Rattle.amqp_engine.proofs.SameEngineLemmas.{idle, busy}
 use Rattle.amqp_engine.specs.declared.engine.step_error.StepError.TheVariants.{OutputWaiting}
-use Rattle.amqp_engine.proofs.Refusing.{not_left}
-use Rattle.amqp_engine.proofs.Running.{stepped}
+use Rattle.amqp_engine.proofs.RefusedWishLemmas.{not_left}
+use Rattle.amqp_engine.proofs.RunSoFarLemmas.{stepped}
 use Rattle.amqp_engine.proofs.engine.Engine.step.Goals as goal
 
 pub returns : goal.returns
 returns g c =
-    let done = c.carry_out.ensures in
+    let done = c.dispatch.ensures in
     stepped g.R.LinkRelay.gives c.law_of_histories.ensures _ _ _ _ (record {
       received = done.0;
       reached = done.1;

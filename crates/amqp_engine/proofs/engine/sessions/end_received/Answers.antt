@@ -4,7 +4,7 @@ use Rattle.amqp_session.specs.States.{takes_end}
 use Rattle.amqp_engine.specs.Calls.{recorded_remote_end, is_end_received}
 use Rattle.amqp_engine.specs.Sessions.{RecordedEnd}
 use Rattle.amqp_engine.specs.Waits.{sent}
-use Rattle.amqp_engine.proofs.Recorded.{recorded_chain, recorded_frames, ends_so}
+use Rattle.amqp_engine.proofs.RecordedStopLemmas.{recorded_chain, recorded_frames, ends_so}
 use Rattle.amqp_engine.proofs.engine.sessions.end_received.Goals as goal
 
 pub returns : goal.returns

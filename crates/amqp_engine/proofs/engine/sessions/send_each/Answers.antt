@@ -1,6 +1,6 @@
 use Rattle.std.proofs.Common.{ap, sym, ◌∙◌, arith}
 use Rattle.amqp_session.specs.declared.frame.SessionFrame.{SessionFrame}
-use Rattle.amqp_engine.proofs.Echoing.{turning_more, same_disposition}
+use Rattle.amqp_engine.proofs.EchoLemmas.{turning_more, same_disposition}
 use Rattle.amqp_engine.proofs.engine.sessions.send_each.Goals as goal
 
 pub loop-turn-preserved : goal.loop-turn-preserved

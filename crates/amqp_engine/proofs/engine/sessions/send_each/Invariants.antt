@@ -1,6 +1,6 @@
 use Rattle.std.proofs.Common.{◌-◌, ◌≤◌}
 use Rattle.std.specs.VecDeque.{deque_len, deque_capacity}
-use Rattle.amqp_engine.proofs.Echoing.{Turning}
+use Rattle.amqp_engine.proofs.EchoLemmas.{Turning}
 use Rattle.amqp_engine.proofs.engine.sessions.send_each.Given as goal
 
 abbrev pub invariant-loop-turn : goal.invariant-loop-turn

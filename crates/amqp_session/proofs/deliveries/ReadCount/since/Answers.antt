@@ -1,5 +1,5 @@
 use Rattle.std.proofs.Common.{arith}
-use Rattle.amqp_session.proofs.Counting.{walk_since}
+use Rattle.amqp_session.proofs.ReadCountLemmas.{walk_since}
 use Rattle.amqp_session.proofs.deliveries.ReadCount.since.Goals as goal
 
 pub returns : goal.returns

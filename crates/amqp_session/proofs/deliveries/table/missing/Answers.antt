@@ -1,5 +1,5 @@
 use Rattle.std.proofs.Common.{arith, sym}
-use Rattle.amqp_session.proofs.Rising.{read_ends, read_missing}
+use Rattle.amqp_session.proofs.SortedTableLemmas.{read_ends, read_missing}
 use Rattle.amqp_session.proofs.deliveries.table.missing.Goals as goal
 
 pub overflow_sub-result : goal.overflow_sub-result

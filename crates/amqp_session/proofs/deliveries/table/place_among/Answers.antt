@@ -2,7 +2,7 @@ use Rattle.std.proofs.Common.{◌≡◌, ◌/◌, ◌∙◌, arith, refl, sym, s
 use Rattle.amqp_blocks.specs.Chunked.{Sequence}
 use Rattle.amqp_session.specs.Deliveries.{number_at}
 use Rattle.amqp_session.specs.declared.deliveries.Delivery.{Delivery}
-use Rattle.amqp_session.proofs.Rising.{closer_few, closer_part, fourfold_power, half_power, number_read, stands, whole_part}
+use Rattle.amqp_session.proofs.SortedTableLemmas.{closer_few, closer_part, fourfold_power, half_power, number_read, stands, whole_part}
 use Rattle.amqp_session.proofs.deliveries.table.place_among.Goals as goal
 
 pub loop-left-init : goal.loop-left-init

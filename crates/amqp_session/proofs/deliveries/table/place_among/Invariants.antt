@@ -1,5 +1,5 @@
 use Rattle.std.proofs.Common.{◌≡◌, ℕ, ◌-◌, ◌^◌, ◌<◌, ◌≤◌}
-use Rattle.amqp_session.proofs.Rising.{IsPart}
+use Rattle.amqp_session.proofs.SortedTableLemmas.{IsPart}
 use Rattle.amqp_session.proofs.deliveries.table.place_among.Given as goal
 
 abbrev pub invariant-loop-left : goal.invariant-loop-left

@@ -1,5 +1,5 @@
 use Rattle.std.proofs.Common.{◌^◌, arith, sym, ◌∙◌}
-use Rattle.amqp_session.proofs.Rising.{few_rows, recorded_on, recorded_before}
+use Rattle.amqp_session.proofs.SortedTableLemmas.{few_rows, recorded_on, recorded_before}
 use Rattle.amqp_session.proofs.deliveries.table.put_at.Goals as goal
 
 pub returns-then-stands_at-clause-items : goal.returns-then-stands_at-clause-items

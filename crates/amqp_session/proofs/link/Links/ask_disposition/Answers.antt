@@ -1,22 +1,24 @@
-use Rattle.std.proofs.Common.{◌≡◌, Option, Some, None, IsSome, is_some, true, refl, ap, sym, subst, ◌∙◌}
+use Rattle.std.proofs.Common.{Some, None, refl, ap, sym, ◌∙◌}
 use Rattle.std.specs.FinMap.{from_entries}
-use Rattle.amqp_session.specs.Links.{attached_at, names_of, handles_of}
+use Rattle.amqp_session.specs.Links.{names_of, handles_of}
 use Rattle.amqp_session.specs.Disposing.{question_of}
-use Rattle.amqp_session.proofs.AsMap.{get_at, written}
+use Rattle.amqp_session.proofs.AbsenceLemmas.{none_found, some_is}
+use Rattle.amqp_session.proofs.FiniteMapLemmas.{get_at, written}
 use Rattle.amqp_session.proofs.link.Links.ask_disposition.Goals as goal
 
-there_is : {X : Type 0} → (o : Option X) → true ≡ is_some o → IsSome o
-there_is None e = absurd (cc)
-there_is (Some x) e = search
+pub returns-in_default : goal.returns-in_default
+returns-in_default g c =
+    let h = c.args.delivery.now.input_handle.0 in
+    rw (← c.self.view_is) (None, (get_at c.self.inside.inputs.entries h ∙ none_found _ _ c.index_of.ensures.found c.in_default.is, refl), refl)
 
 pub ask_disposition-requires : goal.ask_disposition-requires
-ask_disposition-requires g c = subst IsSome (ap (attached_at c.args.delivery.now.input_handle.0) (sym c.self.view_is) ∙ get_at c.self.inside.inputs.entries c.args.delivery.now.input_handle.0) (there_is _ c.if-not-is_attached.ensures)
+ask_disposition-requires g c = c.in-Some.ensures.there
 
 pub returns : goal.returns
 returns g c =
     let a = c.ask_disposition.ensures in
     let h = c.args.delivery.now.input_handle.0 in
-    let there = subst IsSome (ap (attached_at h) (sym c.self.view_is) ∙ get_at c.self.inside.inputs.entries h) (there_is _ c.if-not-is_attached.ensures) in
+    let there = some_is _ _ a.attached in
     rw (← c.self.view_is) (
       Some (record { handle = a.handle; before = a.before; asked = question_of c.args.said.now c.args.delivery.now; answer = c.ask_disposition.result; after = a.after }),
       (

@@ -1,5 +1,5 @@
 use Rattle.amqp_session.specs.Links.{names_of, handles_of}
-use Rattle.amqp_session.proofs.Asking.{in_table, asked}
+use Rattle.amqp_session.proofs.RelayAnswerLemmas.{in_table, asked}
 use Rattle.amqp_session.proofs.link.Links.ask_flow.Goals as goal
 
 pub ask_flow-requires : goal.ask_flow-requires

@@ -5,7 +5,7 @@ use Rattle.amqp_session.specs.declared.numbers.InputHandle.{InputHandle}
 use Rattle.amqp_session.specs.declared.error.SessionInnerError.TheVariants as Refused
 use Rattle.amqp_session.specs.Links.{names_of, handles_of, inputs_of}
 use Rattle.amqp_session.specs.Linking.{AttachRefused}
-use Rattle.amqp_session.proofs.Attaching.{waited_full, inputs_same, attaches_err, attaches_ok}
+use Rattle.amqp_session.proofs.LinksAfterRelayLemmas.{waited_full, inputs_same, attaches_err, attaches_ok}
 use Rattle.amqp_session.proofs.link.Links.attach.Goals as goal
 
 pub returns-in_default-reserve-clause-step : goal.returns-in_default-reserve-clause-step

@@ -3,7 +3,7 @@ use Rattle.std.specs.FinMap as map
 use Rattle.amqp_types.specs.Detach.{DetachSaid}
 use Rattle.amqp_session.specs.declared.numbers.InputHandle.{InputHandle}
 use Rattle.amqp_session.specs.Links.{names_of, handles_of, inputs_of}
-use Rattle.amqp_session.proofs.Attaching.{none_dropped, one_dropped}
+use Rattle.amqp_session.proofs.LinksAfterRelayLemmas.{none_dropped, one_dropped}
 use Rattle.amqp_session.proofs.link.Links.detach.Goals as goal
 
 pub returns-in_default : goal.returns-in_default

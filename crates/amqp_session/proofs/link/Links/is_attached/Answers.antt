@@ -1,6 +1,6 @@
 use Rattle.std.proofs.Common.{ap, sym, ◌∙◌, is_some}
 use Rattle.amqp_session.specs.Links.{attached_at}
-use Rattle.amqp_session.proofs.AsMap.{get_at}
+use Rattle.amqp_session.proofs.FiniteMapLemmas.{get_at}
 use Rattle.amqp_session.proofs.link.Links.is_attached.Goals as goal
 
 pub returns : goal.returns

@@ -1,4 +1,4 @@
-use Rattle.amqp_session.proofs.AsMap.{place_freed}
+use Rattle.amqp_session.proofs.FiniteMapLemmas.{place_freed}
 use Rattle.amqp_session.proofs.link.handles.free.Goals as goal
 
 pub returns : goal.returns

@@ -1,9 +1,9 @@
 use Rattle.std.proofs.Common.{ap, subst, ◌∙◌, Some, None}
 use Rattle.std.specs.FinMap as map
 use Rattle.slab.specs.Slab.{Updates}
-use Rattle.amqp_session.specs.declared.link.handles.Place.TheVariants.{Awaited}
+use Rattle.amqp_session.specs.declared.link.handles.HandleSlot.TheVariants.{Awaited}
 use Rattle.amqp_session.specs.Links.{Handles}
-use Rattle.amqp_session.proofs.AsMap.{place_taken, insert_again}
+use Rattle.amqp_session.proofs.FiniteMapLemmas.{place_taken, insert_again}
 use Rattle.amqp_session.proofs.link.handles.leave.Goals as goal
 
 pub returns-clause-awaited : goal.returns-clause-awaited

@@ -1,7 +1,7 @@
 use Rattle.std.proofs.Common.{ap, ◌∙◌}
 use Rattle.std.specs.Option.{option_map}
 use Rattle.amqp_session.specs.Links.{place_name}
-use Rattle.amqp_session.proofs.AsMap.{place_at, place_taken}
+use Rattle.amqp_session.proofs.FiniteMapLemmas.{place_at, place_taken}
 use Rattle.amqp_session.proofs.link.handles.take.Goals as goal
 
 pub returns-clause-free : goal.returns-clause-free

@@ -1,13 +1,13 @@
 use Rattle.std.proofs.Common.{ap, ◌∙◌, nat_eq}
 use Rattle.std.specs.Map.{set_value}
-use Rattle.amqp_session.proofs.ByNumber.{lent_at}
+use Rattle.amqp_session.proofs.NumberedMapLemmas.{lent_at}
 use Rattle.amqp_session.proofs.link.inputs.ask_disposition.Goals as goal
 
 pub returns : goal.returns
 returns g c =
-    let there = rw c.unwrap-at.ensures at c.index_of.ensures.there in
+    let there = c.requires in
     let lent = rw c.unwrap-link.ensures at c.get_index_mut.ensures.value in
-    let at = lent_at c.args.inputs.now.entries c.unwrap-at.result c.args.delivery.now.input_handle.0 there.0 c.unwrap-link.result.now c.get_index_mut.ensures.unique there.1 lent in
+    let at = lent_at c.args.inputs.now.entries c.args.at c.args.delivery.now.input_handle.0 there.0 c.unwrap-link.result.now c.get_index_mut.ensures.unique there.1 lent in
     record {
       handle = c.unwrap-link.result.now.handle;
       before = c.unwrap-link.result.now.relay;

@@ -4,7 +4,7 @@ use Rattle.std.specs.FinMap as map
 use Rattle.amqp_types.specs.Attach.{AttachSaid}
 use Rattle.amqp_session.specs.Links.{names_of}
 use Rattle.amqp_session.specs.Linking.{IsWaited}
-use Rattle.amqp_session.proofs.AsMap.{text_at, name_put, lent_some, waited_some}
+use Rattle.amqp_session.proofs.FiniteMapLemmas.{text_at, name_put, lent_some, waited_some}
 use Rattle.amqp_session.proofs.link.names.attach.Goals as goal
 
 pub unwrap-link-requires : goal.unwrap-link-requires

@@ -1,4 +1,4 @@
-use Rattle.amqp_session.proofs.AsMap.{name_put}
+use Rattle.amqp_session.proofs.FiniteMapLemmas.{name_put}
 use Rattle.amqp_session.proofs.link.names.put.Goals as goal
 
 pub returns : goal.returns

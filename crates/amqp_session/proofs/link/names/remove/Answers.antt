@@ -1,5 +1,5 @@
 use Rattle.std.proofs.Common.{sym, ◌∙◌}
-use Rattle.amqp_session.proofs.AsMap.{text_at, name_removed}
+use Rattle.amqp_session.proofs.FiniteMapLemmas.{text_at, name_removed}
 use Rattle.amqp_session.proofs.link.names.remove.Goals as goal
 
 pub returns-clause-removed : goal.returns-clause-removed

@@ -1,5 +1,5 @@
 use Rattle.std.proofs.Common.{rules}
-use Rattle.amqp_session.proofs.PairHolding.{pair_holds}
+use Rattle.amqp_session.proofs.PairTallyLemmas.{pair_holds}
 use Rattle.amqp_session.proofs.pair.SessionPair.allocate_link.Goals as goal
 
 pub returns-in-A-clause-holds : goal.returns-in-A-clause-holds

@@ -1,6 +1,6 @@
-use Rattle.amqp_session.proofs.PairRuns.{leads_known}
-use Rattle.amqp_session.proofs.PairArrivals.{arrive_step}
-use Rattle.amqp_session.proofs.PairHolding.{turned, pair_holds}
+use Rattle.amqp_session.proofs.PairRunLemmas.{leads_known}
+use Rattle.amqp_session.proofs.PairArrivalLemmas.{arrive_step}
+use Rattle.amqp_session.proofs.PairTallyLemmas.{turned, pair_holds}
 use Rattle.amqp_session.proofs.pair.SessionPair.arrive.Goals as goal
 
 pub arrive_at-requires : goal.arrive_at-requires

@@ -1,6 +1,6 @@
 use Rattle.std.proofs.Common.{subst}
 use Rattle.amqp_session.specs.PairLedger.{FitsSettings}
-use Rattle.amqp_session.proofs.PairHolding.{new_tallies}
+use Rattle.amqp_session.proofs.PairTallyLemmas.{new_tallies}
 use Rattle.amqp_session.proofs.pair.SessionPair.new.Goals as goal
 
 pub invariant_of-result : goal.invariant_of-result

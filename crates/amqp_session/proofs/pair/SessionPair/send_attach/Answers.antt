@@ -1,5 +1,5 @@
-use Rattle.amqp_session.proofs.PairSteps.{attach_step}
-use Rattle.amqp_session.proofs.PairHolding.{turned, pair_holds}
+use Rattle.amqp_session.proofs.PairStepLemmas.{attach_step}
+use Rattle.amqp_session.proofs.PairTallyLemmas.{turned, pair_holds}
 use Rattle.amqp_session.proofs.pair.SessionPair.send_attach.Goals as goal
 
 pub invariant_of-self : goal.invariant_of-self

@@ -1,4 +1,4 @@
-use Rattle.amqp_session.proofs.PairHolding.{pair_holds}
+use Rattle.amqp_session.proofs.PairTallyLemmas.{pair_holds}
 use Rattle.amqp_session.proofs.pair.SessionPair.session.Goals as goal
 
 pub returns-in-A-clause-holds : goal.returns-in-A-clause-holds

@@ -1,5 +1,5 @@
 use Rattle.std.proofs.Common.{arith}
-use Rattle.amqp_session.proofs.PairRoom.{flow_few}
+use Rattle.amqp_session.proofs.PairRoomLemmas.{flow_few}
 use Rattle.amqp_session.proofs.pair.calls.take_flow.Goals as goal
 
 pub put-requires : goal.put-requires

@@ -1,10 +1,6 @@
-use Rattle.std.proofs.Common.{arith, ap, ◌∙◌, refl, sym, append-nil, inl, inr, Err}
-use Rattle.std.specs.Option.{option_map}
-use Rattle.amqp_types.specs.Transfer.{TransferSaid}
-use Rattle.amqp_types.specs.declared.definitions.DeliveryTag.{DeliveryTag}
+use Rattle.std.proofs.Common.{arith, refl, sym, append-nil, inl, inr, Err}
 use Rattle.amqp_session.specs.declared.error.SessionInnerError.TheVariants as Refused
-use Rattle.amqp_session.proofs.Absent.{none_there}
-use Rattle.amqp_session.proofs.PairRoom.{transfer_few}
+use Rattle.amqp_session.proofs.PairRoomLemmas.{transfer_few}
 use Rattle.amqp_session.proofs.pair.calls.transfer_at.Goals as goal
 
 pub returns-then-not-can_send : goal.returns-then-not-can_send
@@ -14,10 +10,10 @@ returns-then-not-can_send g c = inr record {
   says = refl;
 }
 
-pub returns-then-is_none : goal.returns-then-is_none
-returns-then-is_none g c = inr record {
+pub returns-then-is_untagged : goal.returns-then-is_untagged
+returns-then-is_untagged g c = inr record {
   item = Err Refused.IllegalState;
-  makes = ((inr (c.if-is_first.true, sym (ap (λ (t : TransferSaid). t.delivery_tag) c.transfer.view_is) ∙ ap (option_map (λ (tag : DeliveryTag). tag.0)) (none_there c.transfer.inside.delivery_tag c.if-is_none.ensures)), refl), sym (append-nil _));
+  makes = ((inr (c.if-is_untagged.ensures.untagged refl), refl), sym (append-nil _));
   says = refl;
 }
 

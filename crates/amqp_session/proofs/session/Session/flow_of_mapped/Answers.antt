@@ -4,7 +4,7 @@ use Rattle.amqp_session.specs.Items.{HandsOut, is_some_list, first_frame}
 use Rattle.amqp_session.specs.States.{is_mapped}
 use Rattle.amqp_session.specs.Sending.{let_out}
 use Rattle.amqp_session.specs.Session.{Observed}
-use Rattle.amqp_session.proofs.Flows.{mapped_goes, parts_gone, room_taken}
+use Rattle.amqp_session.proofs.FlowLemmas.{mapped_goes, parts_gone, room_taken}
 use Rattle.amqp_session.proofs.session.Session.flow_of_mapped.Goals as goal
 
 pub returns-in-Err-clause-step : goal.returns-in-Err-clause-step
@@ -19,8 +19,8 @@ pub returns-in-Ok-ask_flow-clause-step : goal.returns-in-Ok-ask_flow-clause-step
 returns-in-Ok-ask_flow-clause-step g c =
     let a = c.in-Ok-ask_flow.ensures in
     let mapped : is_mapped c.self.inside.state ≡ true = ap (λ (o : Observed _). is_mapped o.view.state) c.self.view_is ∙ c.requires.mapped in
-    let out = subst (λ (f : Option SessionFrame). HandsOut (is_some_list (let_out c.self.inside.outgoing_channel.0 c.self.inside.sending)) (first_frame f ++ let_out c.self.inside.outgoing_channel.0 c.self.inside.sending) c.hand_on.result) c.echo-first.ensures c.hand_on.ensures.item in
+    let out = subst (λ (f : Option SessionFrame). HandsOut (is_some_list (let_out c.self.inside.outgoing_channel.0 c.self.inside.sending)) (first_frame f ++ let_out c.self.inside.outgoing_channel.0 c.self.inside.sending) c.emit_drained.result) c.echo-first.ensures c.emit_drained.ensures.item in
     rw (← c.self.view_is, a.put) (
       Some (record { before = a.before; handle = a.handle; asked = c.args.flow; answer = Ok c.in-Ok-ask_flow.echo; after = a.after }),
-      (refl, record { attached = a.attached; stands = a.stands }, mapped_goes _ _ c.in-Ok-ask_flow.echo c.hand_on.result mapped out (parts_gone _ _ _ _ c.hand_on.ensures.sending c.hand_on.ensures.opened c.in-Ok.ensures.rows)),
+      (refl, record { attached = a.attached; stands = a.stands }, mapped_goes _ _ c.in-Ok-ask_flow.echo c.emit_drained.result mapped out (parts_gone _ _ _ _ c.emit_drained.ensures.sending c.emit_drained.ensures.opened c.in-Ok.ensures.rows)),
     )

@@ -3,7 +3,7 @@ use Rattle.amqp_session.specs.declared.frame.SessionFrame.{SessionFrame}
 use Rattle.amqp_session.specs.Items.{HandsOut, first_frame}
 use Rattle.amqp_session.specs.States.{is_mapped}
 use Rattle.amqp_session.specs.Session.{Observed}
-use Rattle.amqp_session.proofs.Flows.{unmapped_goes}
+use Rattle.amqp_session.proofs.FlowLemmas.{unmapped_goes}
 use Rattle.amqp_session.proofs.session.Session.flow_of_unmapped.Goals as goal
 
 pub returns-in-Err-clause-step : goal.returns-in-Err-clause-step

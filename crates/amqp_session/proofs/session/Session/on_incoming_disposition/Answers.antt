@@ -3,22 +3,22 @@ use Rattle.amqp_types.specs.Disposition.{DispositionSaid}
 use Rattle.amqp_session.specs.Disposing.{is_forward}
 use Rattle.amqp_session.specs.Session.{Observed}
 use Rattle.amqp_session.specs.Deliveries.{AreCounts}
-use Rattle.amqp_session.proofs.Counting.{still_open}
-use Rattle.amqp_session.proofs.Backward.{is_backward, backward_same, backward_bound}
+use Rattle.amqp_session.proofs.ReadCountLemmas.{still_open}
+use Rattle.amqp_session.proofs.BackwardRangeLemmas.{is_backward, backward_same, backward_bound}
 use Rattle.amqp_session.proofs.session.Session.on_incoming_disposition.Goals as goal
 
-pub returns-then-is_none-clause-step : goal.returns-then-is_none-clause-step
-returns-then-is_none-clause-step g c =
-    let back : is_forward c.args.disposition.first c.args.disposition.last ≡ false = ap (λ (d : DispositionSaid). is_forward d.first d.last) (sym c.disposition.view_is) ∙ is_backward _ _ c.forward_span.result c.forward_span.ensures c.if-is_none.ensures in
+pub returns-in_default-clause-step : goal.returns-in_default-clause-step
+returns-in_default-clause-step g c =
+    let back : is_forward c.args.disposition.first c.args.disposition.last ≡ false = ap (λ (d : DispositionSaid). is_forward d.first d.last) (sym c.disposition.view_is) ∙ is_backward _ _ c.forward.result c.forward.ensures (search) in
     let settled = ap (λ (d : DispositionSaid). d.settled) c.disposition.view_is in
     backward_same g.R.LinkRelay.gives.disposition_gives c.args.disposition _ _ _ back (c.nothing_meant.ensures.answer ∙ ap (λ b. cond b None (Some [])) settled) (ap (λ (o : Observed _). o.view) c.self.view_is)
 
-pub returns-then-is_none-clause-bound : goal.returns-then-is_none-clause-bound
-returns-then-is_none-clause-bound g c =
-    let back : is_forward c.args.disposition.first c.args.disposition.last ≡ false = ap (λ (d : DispositionSaid). is_forward d.first d.last) (sym c.disposition.view_is) ∙ is_backward _ _ c.forward_span.result c.forward_span.ensures c.if-is_none.ensures in
+pub returns-in_default-clause-bound : goal.returns-in_default-clause-bound
+returns-in_default-clause-bound g c =
+    let back : is_forward c.args.disposition.first c.args.disposition.last ≡ false = ap (λ (d : DispositionSaid). is_forward d.first d.last) (sym c.disposition.view_is) ∙ is_backward _ _ c.forward.result c.forward.ensures (search) in
     backward_bound c.args.disposition _ c.nothing_meant.result _ back c.new-self-inside.ensures
 
-pub returns-then-is_none-clause-reads : goal.returns-then-is_none-clause-reads
-returns-then-is_none-clause-reads g c =
+pub returns-in_default-clause-reads : goal.returns-in_default-clause-reads
+returns-in_default-clause-reads g c =
     let reads = ap (λ (o : Observed _). o.reads) c.self.view_is in
     reads ∙ still_open c.args.disposition.role c.args.self.now.reads c.new-self-inside.result (subst AreCounts reads c.nothing_meant.ensures.counts) c.new-self-inside.ensures

@@ -1,25 +1,29 @@
-use Rattle.std.proofs.Common.{◌≡◌, Some, Ok, Err, refl, ap, sym}
+use Rattle.std.proofs.Common.{◌≡◌, Some, None, Ok, Err, refl, ap}
 use Rattle.amqp_types.specs.Transfer.{TransferSaid}
-use Rattle.amqp_session.specs.Deliveries.{TableView}
-use Rattle.amqp_session.proofs.Flows.{sender_room_taken, named_is}
+use Rattle.amqp_session.proofs.FlowLemmas.{sender_room_taken, named_is, unasked_is}
 use Rattle.amqp_session.proofs.session.Session.on_incoming_transfer.Goals as goal
 
 pub returns-in-Err-clause-step : goal.returns-in-Err-clause-step
 returns-in-Err-clause-step g c =
-    let a = c.in-Err.ensures in
-    let rows = ap (λ (t : TableView). t.rows) c.in-Ok.ensures.rows in
-    let handle : c.transfer.inside.handle.0 ≡ c.args.transfer.handle = ap (λ (t : TransferSaid). t.handle) c.transfer.view_is in
-    rw (← c.self.view_is, ← handle, a.put, c.count_transfer.ensures) (
-      Some (record { before = a.before; handle = a.handle; asked = (c.args.transfer, c.args.payload); answer = Err c.in-Err.error; after = a.after }),
-      (ap (λ n. (record c.args.transfer { handle = n }, c.args.payload)) (sym handle), record { attached = a.attached; stands = a.stands }, (c.from.ensures, sender_room_taken _ _ rows)),
+    let u = c.in-Err.ensures.unasked in
+    let same = sender_room_taken _ _ c.ask_transfer-asked.ensures.rows in
+    rw (← c.self.view_is, u.1, c.count_transfer.ensures) (None, unasked_is _ _ c.in-Err.unasked _ u.0 same)
+
+pub returns-in-Ok-Err-clause-step : goal.returns-in-Ok-Err-clause-step
+returns-in-Ok-Err-clause-step g c =
+    let a = rw c.in-Ok-Err.field-0-is at c.in-Ok-Err.ensures.asked in
+    rw (← c.self.view_is, a.put, c.count_transfer.ensures) (
+      Some (record { before = a.before; handle = a.handle; asked = (c.args.transfer, c.args.payload); answer = Err c.in-Ok-Err.error; after = a.after }),
+      (refl, record { attached = a.attached; stands = a.stands }, (c.from.ensures, sender_room_taken _ _ c.ask_transfer-asked.ensures.rows)),
     )
 
-pub returns-in-Ok-ask_transfer-clause-step : goal.returns-in-Ok-ask_transfer-clause-step
-returns-in-Ok-ask_transfer-clause-step g c =
-    let a = c.in-Ok-ask_transfer.ensures in
-    let rows = ap (λ (t : TableView). t.rows) c.in-Ok.ensures.rows in
+pub returns-in-Ok-Ok-clause-step : goal.returns-in-Ok-Ok-clause-step
+returns-in-Ok-Ok-clause-step g c =
+    let a = rw c.in-Ok-Ok.field-0-is at c.in-Ok-Ok.ensures.asked in
     let handle : c.transfer.inside.handle.0 ≡ c.args.transfer.handle = ap (λ (t : TransferSaid). t.handle) c.transfer.view_is in
-    rw (← c.self.view_is, ← handle, a.put, c.count_transfer.ensures) (
-      Some (record { before = a.before; handle = a.handle; asked = (c.args.transfer, c.args.payload); answer = Ok c.in-Ok-ask_transfer.named; after = a.after }),
-      (ap (λ n. (record c.args.transfer { handle = n }, c.args.payload)) (sym handle), record { attached = a.attached; stands = a.stands }, (c.record_named.ensures.fits, refl, named_is _ _ _ _ _ c.record_named.ensures.rows rows)),
+    let fits = rw handle at c.record_named.ensures.fits in
+    let rows = rw handle at c.record_named.ensures.rows in
+    rw (← c.self.view_is, a.put, c.count_transfer.ensures) (
+      Some (record { before = a.before; handle = a.handle; asked = (c.args.transfer, c.args.payload); answer = Ok c.in-Ok-Ok.named; after = a.after }),
+      (refl, record { attached = a.attached; stands = a.stands }, (fits, refl, named_is _ _ _ _ _ rows c.ask_transfer-asked.ensures.rows)),
     )

@@ -3,13 +3,14 @@ use Rattle.std.proofs.lemmas.List.{length-map}
 use Rattle.amqp_types.specs.Disposition.{DispositionSaid}
 use Rattle.amqp_session.specs.declared.deliveries.Delivery.{Delivery}
 use Rattle.amqp_session.specs.declared.deliveries.WalkCount.{WalkCount}
+use Rattle.amqp_session.specs.declared.session.range.SerialRange.{SerialRange}
 use Rattle.amqp_session.specs.Disposing.{in_order, span, AreRuns, agreed, echo_of}
-use Rattle.amqp_session.specs.Walks.{turned, noted, IsSplit, IsWalked}
-use Rattle.amqp_session.proofs.Counting.{compared_rows, risen_by, since_is, stepped_rows}
-use Rattle.amqp_session.proofs.Rising.{few}
-use Rattle.amqp_session.proofs.Walking.{order_turned}
-use Rattle.amqp_session.proofs.RunsGrow.{some_number}
-use Rattle.amqp_session.proofs.Cutting.{split_meant, walked}
+use Rattle.amqp_session.specs.Inner.Walks.{turned, noted, IsSplit, IsWalked}
+use Rattle.amqp_session.proofs.ReadCountLemmas.{compared_rows, risen_by, since_is, stepped_rows}
+use Rattle.amqp_session.proofs.SortedTableLemmas.{few}
+use Rattle.amqp_session.proofs.WalkLemmas.{order_turned}
+use Rattle.amqp_session.proofs.GrowingRunLemmas.{some_number}
+use Rattle.amqp_session.proofs.TableCutLemmas.{split_meant, walked}
 use Rattle.amqp_session.proofs.session.dispositions.ask.Goals as goal
 
 if_ok : {X E : Type 0} {P Q : X → Type 0} → (r : Result X E) → ((x : X) → P x → Q x) → IfOk r P → IfOk r Q
@@ -26,25 +27,25 @@ on_ok (Err e) h = tt
 
 pub ask_each-requires-clause-order : goal.ask_each-requires-clause-order
 ask_each-requires-clause-order g c =
-    let first : c.said.inside.first ≡ c.args.said.now.first = ap (λ (y : DispositionSaid). y.first) c.said.view_is in
+    let first : c.args.range.first ≡ c.args.said.now.first = ap (λ (y : SerialRange). y.first) c.requires.range in
     let same = compared_rows c.args.rows.now c.place_of-from.new.self c.place_of-from.ensures.cost.0 c.place_of-from.ensures.cost.1 in
     let order = subst (λ n. in_order n c.args.rows.now.rows ≡ turned c.place_of-from.result c.args.rows.now.rows) first
-    (order_turned c.said.inside.first c.args.rows.now.rows c.place_of-from.result c.place_of-from.ensures.within c.place_of-from.ensures.below c.place_of-from.ensures.above) in
+    (order_turned c.args.range.first c.args.rows.now.rows c.place_of-from.result c.place_of-from.ensures.within c.place_of-from.ensures.below c.place_of-from.ensures.above) in
     subst (λ (rows : List Delivery). in_order c.args.said.now.first rows ≡ turned c.place_of-from.result rows) (sym same) order
 
 pub ask_each-requires-clause-room : goal.ask_each-requires-clause-room
 ask_each-requires-clause-room g c = λ settled.
     let same = compared_rows c.args.rows.now c.place_of-from.new.self c.place_of-from.ensures.cost.0 c.place_of-from.ensures.cost.1 in
-    let size : (c.unwrap_or.result + (2 ^ 32 - c.said.inside.first)) % 2 ^ 32 ≡ span c.args.said.now.first c.args.said.now.last = ap (λ n. (n + (2 ^ 32 - c.said.inside.first)) % 2 ^ 32) c.unwrap_or.ensures ∙ ap (λ (y : DispositionSaid). span y.first y.last) c.said.view_is in
-    let room : min (length c.args.rows.now.rows) (span c.args.said.now.first c.args.said.now.last / 2 + 1) ≤ vec_capacity c.in_ok-echoes.echoes = omega (arith, size, c.len.ensures.len, c.min-most.ensures, c.in_ok-echoes.ensures.capacity) in
+    let size : c.args.range.span ≡ span c.args.said.now.first c.args.said.now.last = ap (λ (y : SerialRange). y.span) c.requires.range in
+    let room : min (length c.args.rows.now.rows) (span c.args.said.now.first c.args.said.now.last / 2 + 1) ≤ vec_capacity c.in_ok-echoes.echoes = omega (arith, size, c.len.ensures.len, c.most_runs.ensures, c.min-most.ensures, c.in_ok-echoes.ensures.capacity) in
     subst (λ (rows : List Delivery). min (length rows) (span c.args.said.now.first c.args.said.now.last / 2 + 1) ≤ vec_capacity c.in_ok-echoes.echoes) (sym same) room
 
 pub returns-clause-asked : goal.returns-clause-asked
 returns-clause-asked g c =
-    let first : c.said.inside.first ≡ c.args.said.now.first = ap (λ (y : DispositionSaid). y.first) c.said.view_is in
+    let first : c.args.range.first ≡ c.args.said.now.first = ap (λ (y : SerialRange). y.first) c.requires.range in
     let same = compared_rows c.args.rows.now c.place_of-from.new.self c.place_of-from.ensures.cost.0 c.place_of-from.ensures.cost.1 in
     let order = subst (λ n. in_order n c.args.rows.now.rows ≡ turned c.place_of-from.result c.args.rows.now.rows) first
-    (order_turned c.said.inside.first c.args.rows.now.rows c.place_of-from.result c.place_of-from.ensures.within c.place_of-from.ensures.below c.place_of-from.ensures.above) in
+    (order_turned c.args.range.first c.args.rows.now.rows c.place_of-from.result c.place_of-from.ensures.within c.place_of-from.ensures.below c.place_of-from.ensures.above) in
     let split = subst (λ (rows : List Delivery). IsSplit c.args.said.now (turned c.place_of-from.result rows) c.ask_each.result) same c.ask_each.ensures.split in
     let are = split_meant c.args.said.now c.args.rows.now.rows c.place_of-from.result c.ask_each.result order split in
     let a = c.ask_each.ensures.asked in
@@ -54,10 +55,10 @@ returns-clause-asked g c =
 
 pub returns-clause-refused : goal.returns-clause-refused
 returns-clause-refused g c =
-    let first : c.said.inside.first ≡ c.args.said.now.first = ap (λ (y : DispositionSaid). y.first) c.said.view_is in
+    let first : c.args.range.first ≡ c.args.said.now.first = ap (λ (y : SerialRange). y.first) c.requires.range in
     let same = compared_rows c.args.rows.now c.place_of-from.new.self c.place_of-from.ensures.cost.0 c.place_of-from.ensures.cost.1 in
     let order = subst (λ n. in_order n c.args.rows.now.rows ≡ turned c.place_of-from.result c.args.rows.now.rows) first
-    (order_turned c.said.inside.first c.args.rows.now.rows c.place_of-from.result c.place_of-from.ensures.within c.place_of-from.ensures.below c.place_of-from.ensures.above) in
+    (order_turned c.args.range.first c.args.rows.now.rows c.place_of-from.result c.place_of-from.ensures.within c.place_of-from.ensures.below c.place_of-from.ensures.above) in
     let split = subst (λ (rows : List Delivery). IsSplit c.args.said.now (turned c.place_of-from.result rows) c.ask_each.result) same c.ask_each.ensures.split in
     let are = split_meant c.args.said.now c.args.rows.now.rows c.place_of-from.result c.ask_each.result order split in
     let a = c.ask_each.ensures.asked in
@@ -75,12 +76,12 @@ returns-clause-rows g c =
 
 pub returns-clause-walk : goal.returns-clause-walk
 returns-clause-walk g c =
-    let first : c.said.inside.first ≡ c.args.said.now.first = ap (λ (y : DispositionSaid). y.first) c.said.view_is in
+    let first : c.args.range.first ≡ c.args.said.now.first = ap (λ (y : SerialRange). y.first) c.requires.range in
     let p = c.place_of-from.ensures in
     let e = c.ask_each.ensures in
     let same = compared_rows c.args.rows.now c.place_of-from.new.self p.cost.0 p.cost.1 in
     let order = subst (λ n. in_order n c.args.rows.now.rows ≡ turned c.place_of-from.result c.args.rows.now.rows) first
-    (order_turned c.said.inside.first c.args.rows.now.rows c.place_of-from.result p.within p.below p.above) in
+    (order_turned c.args.range.first c.args.rows.now.rows c.place_of-from.result p.within p.below p.above) in
     let split = subst (λ (rows : List Delivery). IsSplit c.args.said.now (turned c.place_of-from.result rows) c.ask_each.result) same e.split in
     let within : c.ask_each.result ≤ length c.args.rows.now.rows = subst (λ (rows : List Delivery). c.ask_each.result ≤ length rows) same e.within in
     let little = few p.cost.0 (length c.args.rows.now.rows) (omega (arith, p.few)) p.cost.2 in

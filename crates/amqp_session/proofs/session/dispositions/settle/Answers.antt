@@ -1,22 +1,22 @@
 use Rattle.std.proofs.Common.{◌≡◌, ◌≤◌, List, length, arith, ap, sym, subst, ◌∙◌, true}
-use Rattle.amqp_types.specs.Disposition.{DispositionSaid}
 use Rattle.amqp_session.specs.declared.deliveries.Delivery.{Delivery}
 use Rattle.amqp_session.specs.declared.deliveries.WalkCount.{WalkCount}
+use Rattle.amqp_session.specs.declared.session.range.SerialRange.{SerialRange}
 use Rattle.amqp_session.specs.Deliveries.{cut}
 use Rattle.amqp_session.specs.Disposing.{in_order}
-use Rattle.amqp_session.specs.Walks.{turned, IsSplit, IsWalked}
-use Rattle.amqp_session.proofs.Counting.{compared_rows, risen_by, since_is, stepped_rows}
-use Rattle.amqp_session.proofs.Walking.{order_turned}
-use Rattle.amqp_session.proofs.Cutting.{split_meant, split_cut, walked}
-use Rattle.amqp_session.proofs.Rising.{few}
+use Rattle.amqp_session.specs.Inner.Walks.{turned, IsSplit, IsWalked}
+use Rattle.amqp_session.proofs.ReadCountLemmas.{compared_rows, risen_by, since_is, stepped_rows}
+use Rattle.amqp_session.proofs.WalkLemmas.{order_turned}
+use Rattle.amqp_session.proofs.TableCutLemmas.{split_meant, split_cut, walked}
+use Rattle.amqp_session.proofs.SortedTableLemmas.{few}
 use Rattle.amqp_session.proofs.session.dispositions.settle.Goals as goal
 
 pub tell-count-requires-clause-order : goal.tell-count-requires-clause-order
 tell-count-requires-clause-order g c =
-    let first : c.said.inside.first ≡ c.args.said.now.first = ap (λ (y : DispositionSaid). y.first) c.said.view_is in
+    let first : c.args.range.first ≡ c.args.said.now.first = ap (λ (y : SerialRange). y.first) c.requires.range in
     let same = compared_rows c.args.rows.now c.place_of-from.new.self c.place_of-from.ensures.cost.0 c.place_of-from.ensures.cost.1 in
     let order = subst (λ n. in_order n c.args.rows.now.rows ≡ turned c.place_of-from.result c.args.rows.now.rows) first
-    (order_turned c.said.inside.first c.args.rows.now.rows c.place_of-from.result c.place_of-from.ensures.within c.place_of-from.ensures.below c.place_of-from.ensures.above) in
+    (order_turned c.args.range.first c.args.rows.now.rows c.place_of-from.result c.place_of-from.ensures.within c.place_of-from.ensures.below c.place_of-from.ensures.above) in
     subst (λ (rows : List Delivery). in_order c.args.said.now.first rows ≡ turned c.place_of-from.result rows) (sym same) order
 
 pub returns-clause-rows : goal.returns-clause-rows
@@ -30,10 +30,10 @@ returns-clause-rows g c =
 
 pub returns-clause-asked : goal.returns-clause-asked
 returns-clause-asked g c =
-    let first : c.said.inside.first ≡ c.args.said.now.first = ap (λ (y : DispositionSaid). y.first) c.said.view_is in
+    let first : c.args.range.first ≡ c.args.said.now.first = ap (λ (y : SerialRange). y.first) c.requires.range in
     let same = compared_rows c.args.rows.now c.place_of-from.new.self c.place_of-from.ensures.cost.0 c.place_of-from.ensures.cost.1 in
     let order = subst (λ n. in_order n c.args.rows.now.rows ≡ turned c.place_of-from.result c.args.rows.now.rows) first
-    (order_turned c.said.inside.first c.args.rows.now.rows c.place_of-from.result c.place_of-from.ensures.within c.place_of-from.ensures.below c.place_of-from.ensures.above) in
+    (order_turned c.args.range.first c.args.rows.now.rows c.place_of-from.result c.place_of-from.ensures.within c.place_of-from.ensures.below c.place_of-from.ensures.above) in
     let split = subst (λ (rows : List Delivery). IsSplit c.args.said.now (turned c.place_of-from.result rows) c.tell-count.result) same c.tell-count.ensures.split in
     let are = split_meant c.args.said.now c.args.rows.now.rows c.place_of-from.result c.tell-count.result order split in
     let a = c.tell-count.ensures.asked in
@@ -41,12 +41,12 @@ returns-clause-asked g c =
 
 pub returns-clause-walk : goal.returns-clause-walk
 returns-clause-walk g c =
-    let first : c.said.inside.first ≡ c.args.said.now.first = ap (λ (y : DispositionSaid). y.first) c.said.view_is in
+    let first : c.args.range.first ≡ c.args.said.now.first = ap (λ (y : SerialRange). y.first) c.requires.range in
     let p = c.place_of-from.ensures in
     let e = c.tell-count.ensures in
     let same = compared_rows c.args.rows.now c.place_of-from.new.self p.cost.0 p.cost.1 in
     let order = subst (λ n. in_order n c.args.rows.now.rows ≡ turned c.place_of-from.result c.args.rows.now.rows) first
-    (order_turned c.said.inside.first c.args.rows.now.rows c.place_of-from.result p.within p.below p.above) in
+    (order_turned c.args.range.first c.args.rows.now.rows c.place_of-from.result p.within p.below p.above) in
     let split = subst (λ (rows : List Delivery). IsSplit c.args.said.now (turned c.place_of-from.result rows) c.tell-count.result) same e.split in
     let within : c.tell-count.result ≤ length c.args.rows.now.rows = subst (λ (rows : List Delivery). c.tell-count.result ≤ length rows) same e.within in
     let little = few p.cost.0 (length c.args.rows.now.rows) (omega (arith, p.few)) p.cost.2 in

@@ -1,6 +1,6 @@
 use Rattle.std.proofs.Common.{◌≡◌, ◌+◌, ◌-◌, ◌%◌, ◌^◌, List, length, nat_eq, slice_get, unwrap_or, ap, ◌∙◌}
 use Rattle.amqp_types.specs.Disposition.{DispositionSaid}
-use Rattle.amqp_session.proofs.RunsGrow.{read_last}
+use Rattle.amqp_session.proofs.GrowingRunLemmas.{read_last}
 use Rattle.amqp_session.proofs.session.runs.goes_on.Goals as goal
 
 pub returns-in-Some : goal.returns-in-Some

@@ -2,7 +2,7 @@ use Rattle.std.proofs.Common.{rules, ◌≡◌, ◌<◌, ◌≤◌, ◌++◌, �
 use Rattle.std.proofs.lemmas.List.{take_all, drop_all}
 use Rattle.std.proofs.lemmas.List.Edits.{map_over_more}
 use Rattle.amqp_types.specs.Disposition.{DispositionSaid}
-use Rattle.amqp_session.proofs.RunsGrow.{stated}
+use Rattle.amqp_session.proofs.GrowingRunLemmas.{stated}
 use Rattle.amqp_session.proofs.session.runs.with_state.Goals as goal
 
 abbrev with_this : Option (List ℕ) → DispositionSaid → DispositionSaid

@@ -1,7 +1,7 @@
 use Rattle.std.proofs.Common.{◌≡◌, ◌-◌, length, arith, ap, ◌∙◌}
 use Rattle.amqp_session.specs.Deliveries.{with_record}
-use Rattle.amqp_session.proofs.Numbering.{turn}
-use Rattle.amqp_session.proofs.Rising.{with_record_length}
+use Rattle.amqp_session.proofs.HandedOutLemmas.{turn}
+use Rattle.amqp_session.proofs.SortedTableLemmas.{with_record_length}
 use Rattle.amqp_session.proofs.session.transfers.hand_out.Goals as goal
 
 pub loop-i-preserved : goal.loop-i-preserved

@@ -2,11 +2,12 @@ use Rattle.std.proofs.Common.{rules, map, None, vec_len, ◌≡◌, ◌≤◌, �
 use Rattle.std.proofs.lemmas.List.{length-map}
 use Rattle.amqp_types.specs.Disposition.{DispositionSaid}
 use Rattle.amqp_session.specs.declared.deliveries.Delivery.{Delivery}
+use Rattle.amqp_session.specs.declared.session.range.SerialRange.{SerialRange}
 use Rattle.amqp_session.specs.Disposing.{distance, span, echo_of, AsksEach, has_agreed}
-use Rattle.amqp_session.specs.Walks.{around, turned, noted_by, EachMeant}
-use Rattle.amqp_session.proofs.Counting.{not_stepped, stepped_more, stepped_rows}
-use Rattle.amqp_session.proofs.RunsGrow.{end_later, few_runs}
-use Rattle.amqp_session.proofs.Walking.{reads, reach, reach_more, each_more, meant_is, stops_at, stops_end, turned_length, asks_more, noted_more, nothing_noted}
+use Rattle.amqp_session.specs.Inner.Walks.{around, turned, noted_by, EachMeant}
+use Rattle.amqp_session.proofs.ReadCountLemmas.{not_stepped, stepped_more, stepped_rows}
+use Rattle.amqp_session.proofs.GrowingRunLemmas.{end_later, few_runs}
+use Rattle.amqp_session.proofs.WalkLemmas.{reads, reach, reach_more, each_more, meant_is, stops_at, stops_end, turned_length, asks_more, noted_more, nothing_noted}
 use Rattle.amqp_session.proofs.session.walk.ask_each.Goals as goal
 
 pub loop-count-init : goal.loop-count-init
@@ -18,37 +19,39 @@ loop-count-init g c = record {
   room = refl;
 }
 
-pub returns-then-span-number-clause-split : goal.returns-then-span-number-clause-split
-returns-then-span-number-clause-split g c =
+pub returns-then-not-has-clause-split : goal.returns-then-not-has-clause-split
+returns-then-not-has-clause-split g c =
     let d = c.args.said.now in
-    let first : c.said.inside.first ≡ d.first = ap (λ (y : DispositionSaid). y.first) c.said.view_is in
-    let size : (c.unwrap_or.result + (2 ^ 32 - c.said.inside.first)) % 2 ^ 32 ≡ span d.first d.last = ap (λ n. (n + (2 ^ 32 - c.said.inside.first)) % 2 ^ 32) c.unwrap_or.ensures ∙ ap (λ (y : DispositionSaid). span y.first y.last) c.said.view_is in
+    let first : c.args.range.first ≡ d.first = ap (λ (y : SerialRange). y.first) c.requires.range in
+    let size : c.args.range.span ≡ span d.first d.last = ap (λ (y : SerialRange). y.span) c.requires.range in
     let hf : d.first < 2 ^ 32 = subst (λ n. n < 2 ^ 32) first (omega arith) in
     let lt : c.loop-count.count < length c.args.rows.now.rows = omega (arith, c.len-len.ensures.len) in
     let same = stepped_rows c.args.rows.now c.loop-count.rows c.loop-count.count c.loop-count.invariant.counted in
     let at : slice_get c.args.rows.now.rows (around c.args.from c.loop-count.count (length c.args.rows.now.rows)) ≡ Some c.delivery-delivery.result.now = rw (← c.len-len.ensures.len, ← c.around.ensures.value, ← same) c.delivery-delivery.ensures.value in
     let s = reads d c.args.rows.now.rows c.args.from c.loop-count.count c.delivery-delivery.result.now hf c.len-len.ensures.table c.requires.from c.requires.order lt at in
-    let far : span d.first d.last < distance d.first c.delivery-delivery.result.now.number = rw (← size, ← first) c.if-span-number.true in
+    let out = c.if-not-has.ensures.outside refl in
+    let far : span d.first d.last < distance d.first c.delivery-delivery.result.now.number = rw (← size, ← first) out in
     stops_at d _ _ _ c.requires.forward s far c.loop-count.invariant.near
 
-pub returns-then-span-number-clause-asked : goal.returns-then-span-number-clause-asked
-returns-then-span-number-clause-asked g c = let a = c.loop-count.invariant.asked in (a.0, a.1, a.2, a.3, a.4)
+pub returns-then-not-has-clause-asked : goal.returns-then-not-has-clause-asked
+returns-then-not-has-clause-asked g c = let a = c.loop-count.invariant.asked in (a.0, a.1, a.2, a.3, a.4)
 
-pub returns-then-span-number-clause-read : goal.returns-then-span-number-clause-read
-returns-then-span-number-clause-read g c =
+pub returns-then-not-has-clause-read : goal.returns-then-not-has-clause-read
+returns-then-not-has-clause-read g c =
     (c.loop-count.count + 1, omega arith, omega arith, stepped_more c.args.rows.now c.loop-count.rows c.delivery-delivery.follows.lender-at-none c.loop-count.count c.loop-count.invariant.counted c.delivery-delivery.follows.holds-at-none)
 
 pub note-requires : goal.note-requires
 note-requires g c settled =
     let d = c.args.said.now in
-    let first : c.said.inside.first ≡ d.first = ap (λ (y : DispositionSaid). y.first) c.said.view_is in
-    let size : (c.unwrap_or.result + (2 ^ 32 - c.said.inside.first)) % 2 ^ 32 ≡ span d.first d.last = ap (λ n. (n + (2 ^ 32 - c.said.inside.first)) % 2 ^ 32) c.unwrap_or.ensures ∙ ap (λ (y : DispositionSaid). span y.first y.last) c.said.view_is in
+    let first : c.args.range.first ≡ d.first = ap (λ (y : SerialRange). y.first) c.requires.range in
+    let size : c.args.range.span ≡ span d.first d.last = ap (λ (y : SerialRange). y.span) c.requires.range in
     let hf : d.first < 2 ^ 32 = subst (λ n. n < 2 ^ 32) first (omega arith) in
     let lt : c.loop-count.count < length c.args.rows.now.rows = omega (arith, c.len-len.ensures.len) in
     let same = stepped_rows c.args.rows.now c.loop-count.rows c.loop-count.count c.loop-count.invariant.counted in
     let at : slice_get c.args.rows.now.rows (around c.args.from c.loop-count.count (length c.args.rows.now.rows)) ≡ Some c.delivery-delivery.result.now = rw (← c.len-len.ensures.len, ← c.around.ensures.value, ← same) c.delivery-delivery.ensures.value in
     let s = reads d c.args.rows.now.rows c.args.from c.loop-count.count c.delivery-delivery.result.now hf c.len-len.ensures.table c.requires.from c.requires.order lt at in
-    let near : distance d.first c.delivery-delivery.result.now.number ≤ span d.first d.last = rw (← size, ← first) c.if-span-number.false in
+    let inside = c.if-not-has.ensures.inside refl in
+    let near : distance d.first c.delivery-delivery.result.now.number ≤ span d.first d.last = rw (← size, ← first) inside in
     let v = c.loop-count.invariant in
     let a = v.asked in
     let hn : c.delivery-delivery.result.now.number < 2 ^ 32 = omega arith in
@@ -69,15 +72,16 @@ loop-count-preserved g c =
     let k = c.loop-count.count in
     let x = c.delivery-delivery.result.now in
     let order : List Delivery = turned c.args.from c.args.rows.now.rows in
-    let first : c.said.inside.first ≡ d.first = ap (λ (y : DispositionSaid). y.first) c.said.view_is in
-    let size : (c.unwrap_or.result + (2 ^ 32 - c.said.inside.first)) % 2 ^ 32 ≡ span d.first d.last = ap (λ n. (n + (2 ^ 32 - c.said.inside.first)) % 2 ^ 32) c.unwrap_or.ensures ∙ ap (λ (y : DispositionSaid). span y.first y.last) c.said.view_is in
+    let first : c.args.range.first ≡ d.first = ap (λ (y : SerialRange). y.first) c.requires.range in
+    let size : c.args.range.span ≡ span d.first d.last = ap (λ (y : SerialRange). y.span) c.requires.range in
     let hf : d.first < 2 ^ 32 = subst (λ n. n < 2 ^ 32) first (omega arith) in
     let hn : x.number < 2 ^ 32 = omega arith in
     let lt : k < length c.args.rows.now.rows = omega (arith, c.len-len.ensures.len) in
     let same = stepped_rows c.args.rows.now c.loop-count.rows k v.counted in
     let at : slice_get c.args.rows.now.rows (around c.args.from k (length c.args.rows.now.rows)) ≡ Some x = rw (← c.len-len.ensures.len, ← c.around.ensures.value, ← same) c.delivery-delivery.ensures.value in
     let s = reads d c.args.rows.now.rows c.args.from k x hf c.len-len.ensures.table c.requires.from c.requires.order lt at in
-    let near : distance d.first x.number ≤ span d.first d.last = rw (← size, ← first) c.if-span-number.false in
+    let inside = c.if-not-has.ensures.inside refl in
+    let near : distance d.first x.number ≤ span d.first d.last = rw (← size, ← first) inside in
     let q = c.ask_disposition-answer.ensures in
     let more = asks_more g.R.LinkRelay.gives.disposition_gives d (take k order) x v.asked.0 q.0 _ _ _ v.asked.1 q.1 in
     let old = v.asked.2 in

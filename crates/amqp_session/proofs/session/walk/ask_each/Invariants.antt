@@ -2,16 +2,16 @@ use Rattle.std.proofs.Common.{◌≡◌, ◌≤◌, List, None, map, take, true,
 use Rattle.amqp_session.specs.Deliveries.{stepped}
 use Rattle.amqp_session.specs.Relay.{DispositionQuestion}
 use Rattle.amqp_session.specs.Disposing.{echo_of, AsksEach, AreRuns}
-use Rattle.amqp_session.specs.Runs.{Run}
-use Rattle.amqp_session.specs.Walks.{turned, noted, EachMeant}
-use Rattle.amqp_session.proofs.Walking.{reach}
-use Rattle.amqp_session.proofs.RunsGrow.{EndBefore}
+use Rattle.amqp_session.specs.Runs.{DeliveryRange}
+use Rattle.amqp_session.specs.Inner.Walks.{turned, noted, EachMeant}
+use Rattle.amqp_session.proofs.WalkLemmas.{reach}
+use Rattle.amqp_session.proofs.GrowingRunLemmas.{EndBefore}
 use Rattle.amqp_session.proofs.session.walk.ask_each.Given as goal
 
 abbrev pub invariant-loop-count : goal.invariant-loop-count
 invariant-loop-count g l = record {
   asked : (asked : List (DispositionQuestion g.row.R.Denot)) × AsksEach g.R.LinkRelay.gives.disposition_gives l.fn.said (take l.count (turned l.fn.from l.fn.rows.rows)) asked l.fn.links l.links
-      × (runs : List Run) × AreRuns l.fn.said.first (noted l.fn.said.settled asked) runs × (l.echoes.items ≡ map (echo_of None) runs)
+      × (runs : List DeliveryRange) × AreRuns l.fn.said.first (noted l.fn.said.settled asked) runs × (l.echoes.items ≡ map (echo_of None) runs)
       × EndBefore l.fn.said.first (reach l.fn.said.first 0 (take l.count (turned l.fn.from l.fn.rows.rows))) runs;
   near : EachMeant l.fn.said true (take l.count (turned l.fn.from l.fn.rows.rows));
   counted : l.rows ≡ stepped l.count l.fn.rows;

@@ -1,38 +1,38 @@
 use Rattle.std.proofs.Common.{◌≡◌, ◌<◌, ◌^◌, [], Some, refl, ap, subst, arith, length, slice_get}
-use Rattle.amqp_types.specs.Disposition.{DispositionSaid}
+use Rattle.amqp_session.specs.declared.session.range.SerialRange.{SerialRange}
 use Rattle.amqp_session.specs.Disposing.{distance, span}
-use Rattle.amqp_session.specs.Walks.{around}
-use Rattle.amqp_session.proofs.Walking.{asks_more, reads, stops_alone, stops_at}
+use Rattle.amqp_session.specs.Inner.Walks.{around}
+use Rattle.amqp_session.proofs.WalkLemmas.{asks_more, reads, stops_alone, stops_at}
 use Rattle.amqp_session.proofs.session.walk.ask_one.Goals as goal
 
-pub returns-then-delivery-said-clause-split : goal.returns-then-delivery-said-clause-split
-returns-then-delivery-said-clause-split g c =
+pub returns-then-delivery-range-clause-split : goal.returns-then-delivery-range-clause-split
+returns-then-delivery-range-clause-split g c =
     let d = c.args.said.now in
     let x = c.delivery-delivery.result.now in
-    let first : c.said.inside.first ≡ d.first = ap (λ (y : DispositionSaid). y.first) c.said.view_is in
+    let first : c.args.range.first ≡ d.first = ap (λ (y : SerialRange). y.first) c.requires.range in
     let hf : d.first < 2 ^ 32 = subst (λ n. n < 2 ^ 32) first (omega arith) in
     let hn : x.number < 2 ^ 32 = omega arith in
     let at : slice_get c.args.rows.now.rows (around c.args.from 0 (length c.args.rows.now.rows)) ≡ Some x = rw (← c.len-len.ensures.len, ← c.around.ensures.value) c.delivery-delivery.ensures.value in
     let s = reads d c.args.rows.now.rows c.args.from 0 x hf c.len-len.ensures.table c.requires.from c.requires.order (omega (arith, c.len-len.ensures.len)) at in
-    let far : span d.first d.last < distance d.first x.number = omega (arith, c.requires.alone, c.if-delivery-said.true, first, hf, hn) in
+    let far : span d.first d.last < distance d.first x.number = omega (arith, c.requires.alone, c.if-delivery-range.true, first, hf, hn) in
     stops_at d _ 0 x (omega (arith, c.requires.alone)) s far tt
 
 pub returns-clause-split : goal.returns-clause-split
 returns-clause-split g c =
     let d = c.args.said.now in
     let x = c.delivery-delivery.result.now in
-    let first : c.said.inside.first ≡ d.first = ap (λ (y : DispositionSaid). y.first) c.said.view_is in
+    let first : c.args.range.first ≡ d.first = ap (λ (y : SerialRange). y.first) c.requires.range in
     let hf : d.first < 2 ^ 32 = subst (λ n. n < 2 ^ 32) first (omega arith) in
     let hn : x.number < 2 ^ 32 = omega arith in
     let at : slice_get c.args.rows.now.rows (around c.args.from 0 (length c.args.rows.now.rows)) ≡ Some x = rw (← c.len-len.ensures.len, ← c.around.ensures.value) c.delivery-delivery.ensures.value in
     let s = reads d c.args.rows.now.rows c.args.from 0 x hf c.len-len.ensures.table c.requires.from c.requires.order (omega (arith, c.len-len.ensures.len)) at in
-    stops_alone d _ x c.requires.alone s (omega (arith, c.if-delivery-said.false, first, hf, hn))
+    stops_alone d _ x c.requires.alone s (omega (arith, c.if-delivery-range.false, first, hf, hn))
 
 pub returns-clause-asked : goal.returns-clause-asked
 returns-clause-asked g c =
     let d = c.args.said.now in
     let x = c.delivery-delivery.result.now in
-    let first : c.said.inside.first ≡ d.first = ap (λ (y : DispositionSaid). y.first) c.said.view_is in
+    let first : c.args.range.first ≡ d.first = ap (λ (y : SerialRange). y.first) c.requires.range in
     let hf : d.first < 2 ^ 32 = subst (λ n. n < 2 ^ 32) first (omega arith) in
     let at : slice_get c.args.rows.now.rows (around c.args.from 0 (length c.args.rows.now.rows)) ≡ Some x = rw (← c.len-len.ensures.len, ← c.around.ensures.value) c.delivery-delivery.ensures.value in
     let s = reads d c.args.rows.now.rows c.args.from 0 x hf c.len-len.ensures.table c.requires.from c.requires.order (omega (arith, c.len-len.ensures.len)) at in

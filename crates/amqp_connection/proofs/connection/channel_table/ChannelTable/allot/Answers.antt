@@ -2,7 +2,7 @@ use Rattle.std.proofs.Common.{rules, ◌≡◌, ℕ, ◌+◌, ◌-◌, ◌<◌, 
 use Rattle.std.specs.FinMap as map
 use Rattle.std.specs.BinaryHeap.{heap_items}
 use Rattle.std.specs.Map.{lookup}
-use Rattle.amqp_session.proofs.AsMap.{inserted, get_at}
+use Rattle.amqp_session.proofs.FiniteMapLemmas.{inserted, get_at}
 use Rattle.amqp_connection.proofs.Lowest.{lowest_at, lowest_next, all_held, each_popped, empty}
 use Rattle.amqp_connection.proofs.connection.channel_table.ChannelTable.allot.Goals as goal
 

@@ -1,6 +1,6 @@
 use Rattle.std.proofs.Common.{ap, sym, ◌∙◌}
 use Rattle.std.specs.FinMap as map
-use Rattle.amqp_session.proofs.AsMap.{get_at}
+use Rattle.amqp_session.proofs.FiniteMapLemmas.{get_at}
 use Rattle.amqp_connection.proofs.connection.channel_table.ChannelTable.holder.Goals as goal
 
 pub returns : goal.returns

@@ -1,7 +1,7 @@
 use Rattle.std.proofs.Common.{nat_eq, ap, sym, ◌∙◌}
 use Rattle.std.specs.Map.{lookup}
 use Rattle.std.specs.FinMap as map
-use Rattle.amqp_session.proofs.AsMap.{get_at}
+use Rattle.amqp_session.proofs.FiniteMapLemmas.{get_at}
 use Rattle.amqp_connection.proofs.connection.route_table.RouteTable.of.Goals as goal
 
 pub returns : goal.returns

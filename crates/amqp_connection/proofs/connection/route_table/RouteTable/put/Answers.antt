@@ -2,7 +2,7 @@ use Rattle.std.proofs.Common.{◌≤◌, nat_eq, ap, sym, subst, ◌∙◌, arit
 use Rattle.std.specs.Map.{lookup}
 use Rattle.std.specs.FinMap as map
 use Rattle.amqp_session.specs.Hashing.{numbered}
-use Rattle.amqp_session.proofs.AsMap.{get_at, inserted}
+use Rattle.amqp_session.proofs.FiniteMapLemmas.{get_at, inserted}
 use Rattle.amqp_connection.specs.RouteCounts.{Counted, Lowered, Raised, count_at, leads}
 use Rattle.amqp_connection.proofs.Counting.{count_small, counted_put, has_count_still, same_option, there}
 use Rattle.amqp_connection.proofs.connection.route_table.RouteTable.put.Goals as goal

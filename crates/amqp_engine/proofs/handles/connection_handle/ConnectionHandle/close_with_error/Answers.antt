@@ -1,4 +1,4 @@
-use Rattle.amqp_engine.proofs.Running.{legal_left}
+use Rattle.amqp_engine.proofs.RunSoFarLemmas.{legal_left}
 use Rattle.amqp_engine.proofs.HandleLemmas.{close_leaves}
 use Rattle.amqp_engine.proofs.handles.connection_handle.ConnectionHandle.close_with_error.Goals as goal
 

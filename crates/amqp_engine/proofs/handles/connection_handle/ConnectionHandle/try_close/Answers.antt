@@ -1,6 +1,6 @@
 use Rattle.std.proofs.Common.{rules, None, Ok, true, ap, ◌∙◌}
 use Rattle.amqp_engine.specs.Handles.{close_noted}
-use Rattle.amqp_engine.proofs.Running.{legal_left}
+use Rattle.amqp_engine.proofs.RunSoFarLemmas.{legal_left}
 use Rattle.amqp_engine.proofs.HandleLemmas.{noted, try_close_leaves}
 use Rattle.amqp_engine.proofs.handles.connection_handle.ConnectionHandle.try_close.Goals as goal
 

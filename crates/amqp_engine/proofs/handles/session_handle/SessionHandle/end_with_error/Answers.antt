@@ -1,4 +1,4 @@
-use Rattle.amqp_engine.proofs.Running.{legal_left}
+use Rattle.amqp_engine.proofs.RunSoFarLemmas.{legal_left}
 use Rattle.amqp_engine.proofs.HandleLemmas.{end_leaves}
 use Rattle.amqp_engine.proofs.handles.session_handle.SessionHandle.end_with_error.Goals as goal
 

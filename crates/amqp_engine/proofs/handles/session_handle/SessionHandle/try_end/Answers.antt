@@ -1,6 +1,6 @@
 use Rattle.std.proofs.Common.{rules, None, Ok, true, ap, ◌∙◌}
 use Rattle.amqp_engine.specs.Handles.{end_noted}
-use Rattle.amqp_engine.proofs.Running.{legal_left}
+use Rattle.amqp_engine.proofs.RunSoFarLemmas.{legal_left}
 use Rattle.amqp_engine.proofs.HandleLemmas.{noted, try_end_leaves}
 use Rattle.amqp_engine.proofs.handles.session_handle.SessionHandle.try_end.Goals as goal
 

@@ -1,5 +1,5 @@
 use Rattle.std.proofs.Common.{◌^◌}
-use Rattle.amqp_session.proofs.Rising.{few_rows}
+use Rattle.amqp_session.proofs.SortedTableLemmas.{few_rows}
 use Rattle.amqp_session.proofs.deliveries.table.Deliveries.find.Goals as goal
 
 pub place_among-requires-clause-few : goal.place_among-requires-clause-few

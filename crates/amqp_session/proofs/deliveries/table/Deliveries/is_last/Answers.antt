@@ -3,7 +3,7 @@ use Rattle.std.proofs.lemmas.Bool.Decides.{nat_tests}
 use Rattle.std.proofs.lemmas.Grind.{common_steps}
 use Rattle.amqp_session.specs.declared.deliveries.Delivery.{Delivery}
 use Rattle.amqp_session.specs.Deliveries.{TableView, number_at}
-use Rattle.amqp_session.proofs.Rising.{last_place, last_more, some_rows, stands}
+use Rattle.amqp_session.proofs.SortedTableLemmas.{last_place, last_more, some_rows, stands}
 use Rattle.amqp_session.proofs.deliveries.table.Deliveries.is_last.Goals as goal
 
 pub returns-in-Some-clause-last : goal.returns-in-Some-clause-last

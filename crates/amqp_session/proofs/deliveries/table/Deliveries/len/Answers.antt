@@ -1,6 +1,6 @@
 use Rattle.std.proofs.Common.{◌^◌, arith, ap}
 use Rattle.amqp_session.specs.Deliveries.{TableView}
-use Rattle.amqp_session.proofs.Rising.{few_rows}
+use Rattle.amqp_session.proofs.SortedTableLemmas.{few_rows}
 use Rattle.amqp_session.proofs.deliveries.table.Deliveries.len.Goals as goal
 
 pub returns-clause-few : goal.returns-clause-few

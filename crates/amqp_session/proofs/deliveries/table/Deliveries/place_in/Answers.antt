@@ -1,7 +1,7 @@
 use Rattle.std.proofs.Common.{◌≡◌, ◌+◌, ◌/◌, arith, ap, ◌∙◌}
 use Rattle.amqp_session.specs.Deliveries.{number_at}
-use Rattle.amqp_session.proofs.Counting.{compared_more, compared_rows, not_compared}
-use Rattle.amqp_session.proofs.Rising.{closer_few, closer_part, half_power, none_read, read_more_power, spent}
+use Rattle.amqp_session.proofs.ReadCountLemmas.{compared_more, compared_rows, not_compared}
+use Rattle.amqp_session.proofs.SortedTableLemmas.{closer_few, closer_part, half_power, none_read, read_more_power, spent}
 use Rattle.amqp_session.proofs.deliveries.table.Deliveries.place_in.Goals as goal
 
 pub loop-left-init : goal.loop-left-init

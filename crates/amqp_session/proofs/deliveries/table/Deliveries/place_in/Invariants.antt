@@ -1,6 +1,6 @@
 use Rattle.std.proofs.Common.{◌≡◌, ℕ, ◌+◌, ◌-◌, ◌^◌, ◌<◌, ◌≤◌}
 use Rattle.amqp_session.specs.Deliveries.{compared, IsRising}
-use Rattle.amqp_session.proofs.Rising.{IsPart}
+use Rattle.amqp_session.proofs.SortedTableLemmas.{IsPart}
 use Rattle.amqp_session.proofs.deliveries.table.Deliveries.place_in.Given as goal
 
 abbrev pub invariant-loop-left : goal.invariant-loop-left

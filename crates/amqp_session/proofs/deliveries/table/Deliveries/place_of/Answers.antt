@@ -1,5 +1,5 @@
 use Rattle.std.proofs.Common.{arith}
-use Rattle.amqp_session.proofs.Rising.{above_place}
+use Rattle.amqp_session.proofs.SortedTableLemmas.{above_place}
 use Rattle.amqp_session.proofs.deliveries.table.Deliveries.place_of.Goals as goal
 
 pub returns-then-first-front-clause-above : goal.returns-then-first-front-clause-above

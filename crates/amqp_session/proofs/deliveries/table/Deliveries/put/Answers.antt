@@ -2,7 +2,7 @@ use Rattle.std.proofs.Common.{◌^◌, sym, subst, arith}
 use Rattle.amqp_blocks.specs.Chunked.{Sequence}
 use Rattle.amqp_session.specs.Deliveries.{IsTable}
 use Rattle.amqp_session.specs.declared.deliveries.Delivery.{Delivery}
-use Rattle.amqp_session.proofs.Rising.{few_rows, recorded_table}
+use Rattle.amqp_session.proofs.SortedTableLemmas.{few_rows, recorded_table}
 use Rattle.amqp_session.proofs.deliveries.table.Deliveries.put.Goals as goal
 
 pub invariant_of-self : goal.invariant_of-self

@@ -1,7 +1,7 @@
 use Rattle.std.proofs.Common.{arith, ◌^◌, ℕ, ◌<◌, length, List, ap, sym, subst, ◌∙◌}
 use Rattle.amqp_session.specs.declared.deliveries.Delivery.{Delivery}
 use Rattle.amqp_session.specs.Deliveries.{TableView, IsTable, number_at, recorded}
-use Rattle.amqp_session.proofs.Rising.{few_rows, recorded_last, recorded_table}
+use Rattle.amqp_session.proofs.SortedTableLemmas.{few_rows, recorded_last, recorded_table}
 use Rattle.amqp_session.proofs.deliveries.table.Deliveries.record.Goals as goal
 
 pub invariant_of-self : goal.invariant_of-self

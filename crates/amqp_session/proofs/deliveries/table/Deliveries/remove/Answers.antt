@@ -1,6 +1,6 @@
 use Rattle.std.proofs.Common.{sym, subst}
 use Rattle.amqp_session.specs.Deliveries.{IsTable}
-use Rattle.amqp_session.proofs.Cutting.{table_without}
+use Rattle.amqp_session.proofs.TableCutLemmas.{table_without}
 use Rattle.amqp_session.proofs.deliveries.table.Deliveries.remove.Goals as goal
 
 pub invariant_of-self : goal.invariant_of-self

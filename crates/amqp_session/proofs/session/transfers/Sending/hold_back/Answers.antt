@@ -1,6 +1,6 @@
 use Rattle.std.proofs.Common.{◌≡◌, ap, sym, ◌∙◌, arith}
 use Rattle.amqp_session.specs.Sending.{SendingView}
-use Rattle.amqp_session.proofs.Numbering.{still}
+use Rattle.amqp_session.proofs.HandedOutLemmas.{still}
 use Rattle.amqp_session.proofs.session.transfers.Sending.hold_back.Goals as goal
 
 pub returns-clause-ok : goal.returns-clause-ok

@@ -1,6 +1,6 @@
 use Rattle.std.proofs.Common.{◌≡◌, ◌<◌, ◌^◌, [], ap, ◌∙◌, arith}
 use Rattle.amqp_session.specs.Sending.{SendingView}
-use Rattle.amqp_session.proofs.Alone.{opened_alone}
+use Rattle.amqp_session.proofs.SentAloneLemmas.{opened_alone}
 use Rattle.amqp_session.proofs.session.transfers.Sending.send_alone.Goals as goal
 
 pub returns-clause-opened : goal.returns-clause-opened

@@ -1,7 +1,0 @@
-use Rattle.std.proofs.Common.{is_some, ap, ◌∙◌}
-use Rattle.std.specs.FinMap as map
-use Rattle.amqp_engine.proofs.Clearing.{wish_at}
-use Rattle.amqp_engine.proofs.engine.kept.Kept.is_wished.Goals as goal
-
-pub returns : goal.returns
-returns c = c.is_noted.ensures ∙ wish_at c.self.inside.places.entries c.args.number ∙ ap (λ v. is_some (map.get v.wishes.ends c.args.number)) c.self.view_is
