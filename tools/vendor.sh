@@ -5,8 +5,8 @@
 #
 # Each crate's folder is copied to DEST/crates/NAME (DEST/NAME where DEST has a crates.txt and no folder crates/), its line is put into
 # DEST/crates.txt, the licences and NOTICE go into DEST/licences-amqp, and HANDLES is written where there is none. Copied, since the toolchain
-# refuses a symbolic link. Left out are out/, which rt makes anew in its place; and must-fail*/ and must-not-compile/, the wrong bodies of this
-# repository's gate, which only its tools can try. Run again, it updates: what is gone here goes there too, and what rt keeps in out/ stays.
+# refuses a symbolic link. Left out are out/, which rt makes anew in its place; and mutants/, must-fail/ and must-not-compile/, the wrong bodies of
+# this repository's gate, which only its tools can try. Run again, it updates: what is gone here goes there too, and what rt keeps in out/ stays.
 # A folder of such a name that it did not make is left as it is, and the status is 1.
 set -euo pipefail
 root=$(cd "$(dirname "$0")/.." && pwd -P)
@@ -36,7 +36,7 @@ needed() {
 copy() {
     mkdir -p "$2"
     find "$2" -mindepth 1 -maxdepth 1 ! -name out -exec rm -rf {} +
-    tar -C "$1" --anchored --exclude=./out --exclude='./must-fail*' --exclude=./must-not-compile -cf - . | tar -C "$2" --no-same-owner -xf -
+    tar -C "$1" --anchored --exclude=./out --exclude=./mutants --exclude=./must-fail --exclude=./must-not-compile -cf - . | tar -C "$2" --no-same-owner -xf -
 }
 
 # The lines of DEST/crates.txt that are its own, and behind them those of the crates.

@@ -29,7 +29,7 @@ def said(crate, file, text):
     """What a check says of a copy of the crate with this text in the file."""
     with tempfile.TemporaryDirectory() as room:
         copy = Path(room) / "crates" / crate.name
-        shutil.copytree(crate, copy, ignore=shutil.ignore_patterns("out", "must-fail-together", "must-not-compile"))
+        shutil.copytree(crate, copy, ignore=shutil.ignore_patterns("out", "mutants", "must-not-compile"))
         lines = (ROOT / "crates.txt").read_text().splitlines()
         (Path(room) / "crates.txt").write_text("".join(f"{line}\n" for line in lines if line.startswith(f"{crate.name}:")))
         (copy / file).write_text(text)

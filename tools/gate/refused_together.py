@@ -1,12 +1,13 @@
 #!/usr/bin/env python3
-"""Tries the must-fail edits of crates/NAME/must-fail-together, many at a time.
+"""Tries the must-fail edits of crates/NAME/mutants, many at a time.
 
     tools/gate/refused_together.py [control] [CRATE | CRATE/EDIT]..
     tools/gate/refused_together.py fit
 
-An edit is a wrong body. It names the function that it makes wrong (a line 'function: PATH'), and then has the lines of the toolchain's
-must-fail edits: 'file:', 'old:', 'new:'. It counts as refused where a goal of that very function cannot be proved. A function that waits for
-the proof of another one does not count, and neither does a proof that misses a name which the edit took away.
+An edit is a wrong body. Those of a module stand in one file, mutants/MODULE.edits. Each has a name, EDIT (a line 'edit:'), and names the
+function that it makes wrong (a line 'function: PATH'); then it has the lines of the toolchain's must-fail edits: 'file:', 'old:', 'new:'. It counts
+as refused where a goal of that very function cannot be proved. A function that waits for the proof of another one does not count, and neither
+does a proof that misses a name which the edit took away.
 
 A contract is judged function by function, so edits of different functions are put into one copy of the crate and checked at once: what a
 check reads of the libraries is then read once for all of them. In that copy the proof of each function that no edit names is an empty file,
@@ -37,10 +38,10 @@ from pathlib import Path
 sys.path.insert(0, str(Path(__file__).resolve().parents[1]))
 
 from gate import toolchain
+from gate.edits import edits_of
 from shared.command import command
 
 ROOT = Path(__file__).resolve().parents[2]
-FOLDER = "must-fail-together"
 ANY_GOAL = re.compile(r"(?:\./)?\S+\.(?:rt|antt):\d+:\d+: error: |\S.*: no proof: .*did not prove ")
 # At most so many edits in one check, so that none takes long.
 MOST = 40
@@ -76,6 +77,12 @@ def open_goal(crate, function, said):
     return next(filter(is_goal, said.splitlines()), None)
 
 
+def goal_of(edit, crate, said):
+    """The line that says that a goal of the edit's function is not proved, if there is one. An edit of a definition is tried alone: there it may be
+    any goal on the function's way."""
+    return any_goal(said) if edit.is_alone() else open_goal(crate, edit.function, said)
+
+
 def is_left_proved(crate, function, said):
     """Whether a check came to its end, spoke of this function, and left none of its goals open."""
     came_to_an_end = re.search(r"^only=\d+ proved=\d+$", said, re.M)
@@ -85,49 +92,6 @@ def is_left_proved(crate, function, said):
 def is_free(function, edits):
     """Whether a check of these edits shows of a function whether it is proved as it stands: no definition is edited, nor the function."""
     return not edits[0].is_alone() and function not in [it.function for it in edits]
-
-
-class Edit:
-    """A wrong body: its name, the function that it makes wrong, and its pairs of an old and a new text by their file."""
-
-    def __init__(self, file):
-        self.name, self.function, self.pairs = file.stem, "", []
-        path = old = None
-        for line in file.read_text().splitlines():
-            word, _, rest = line.partition(":")
-            if word == "function":
-                self.function = rest.strip()
-            elif word == "file":
-                path = rest.strip()
-            elif word == "old":
-                old = rest[1:]
-            elif word == "new":
-                self.pairs.append((path, old, rest[1:]))
-
-    def is_alone(self):
-        return any(not path.startswith("src/") for path, _, _ in self.pairs)
-
-    def put(self, folder, texts):
-        """Puts the edit into the texts by their paths, or says why it does not fit them."""
-        put = dict(texts)
-        for path, old, new in self.pairs:
-            text = put.get(path) or (folder / path).read_text()
-            if text.count(old) != 1:
-                return f"an old text stands {text.count(old)} times in {path}"
-            put[path] = text.replace(old, new)
-        texts.update(put)
-        return None if self.function and self.pairs else "it has no line 'function:', or no pair of texts"
-
-    def texts(self, folder):
-        """The texts of the crate with this edit alone, by their paths."""
-        texts = {}
-        self.put(folder, texts)
-        return texts
-
-    def goal(self, crate, said):
-        """The line that says that a goal of the function is not proved, if there is one. An edit of a definition is tried alone: there it may be
-        any goal on the function's way."""
-        return any_goal(said) if self.is_alone() else open_goal(crate, self.function, said)
 
 
 def is_proved(crate):
@@ -245,7 +209,7 @@ class Trial:
         said = self.check([*(it.function for it in edits), *names], texts, is_bare)
         self.control(names, said)
         for edit in edits:
-            goal = edit.goal(self.crate.name, said)
+            goal = goal_of(edit, self.crate.name, said)
             if goal:
                 self.tell(edit, True, f"refused, as it must be: {goal[:160]}")
             elif len(edits) > 1 or names:
@@ -311,8 +275,7 @@ def tried(crate, edits, one_in):
 
 def chosen(crate, words):
     """The crate's edits that the words name: all where there are none."""
-    edits = map(Edit, sorted(Path(crate.folder).joinpath(FOLDER).glob("*.edit")))
-    return [it for it in edits if not words or {crate.name, f"{crate.name}/{it.name}"} & {*words}]
+    return [it for it in edits_of(crate.folder) if not words or {crate.name, f"{crate.name}/{it.name}"} & {*words}]
 
 
 def fit():
@@ -328,7 +291,7 @@ def main(words):
     if words == ["fit"]:
         fit()
     one_in = 1 if words[:1] == ["control"] else ONE_IN
-    words = [word.removesuffix(".edit") for word in words if word != "control"]
+    words = [word for word in words if word != "control"]
     # The crate with the most edits takes longest: it comes first.
     work = sorted(((crate, chosen(crate, words)) for crate in RT.rtlib.crates_below(str(ROOT))), key=lambda it: -len(it[1]))
     work = [it for it in work if it[1]]

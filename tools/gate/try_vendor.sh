@@ -31,8 +31,8 @@ listed() {
 are_whole() {
     local name
     [ "$(listed | wc -l)" -gt 1 ] || return 1
-    for name in $(listed); do diff -r -x out -x 'must-*' "crates/$name" "$dest/crates/$name" || return 1; done
-    [ -z "$(find "$dest" -name 'must-*')" ]
+    for name in $(listed); do diff -r -x out -x mutants -x 'must-*' "crates/$name" "$dest/crates/$name" || return 1; done
+    [ -z "$(find "$dest" -name mutants -o -name 'must-*')" ]
 }
 
 # What the program has to print: the Open, as the canonical spelling has it.

@@ -4,10 +4,10 @@
     tools/gate/wrong_bodies.py            says where docs/WRONG_BODIES.md differs from what the edits say; status 1 if it does
     tools/gate/wrong_bodies.py --write    writes the page
 
-An edit is a file of crates/NAME/must-fail-together. Its line 'function:' names what it makes wrong, by its path in that crate, and the
-page has a line for each function that is named so. An edit in a folder of no library, one without that line, and one whose function no
-source of the crate has, stands in no line: it is named, nothing is written, and the status is 1. Below the lines of a crate stand its
-public functions that no edit names; those of traits are not among them.
+The edits of src/MODULE.rt stand in crates/NAME/mutants/MODULE.edits. An edit's line 'function:' names what it makes wrong, by its path in that
+crate, and the page has a line for each function that is named so. An edit in a folder of no library, one without that line, and one whose
+function that source does not have, stands in no line: it is named, nothing is written, and the status is 1. Below the lines of a crate stand
+its public functions that no edit names; those of traits are not among them.
 """
 
 import difflib
@@ -19,20 +19,18 @@ from pathlib import Path
 sys.path.insert(0, str(Path(__file__).resolve().parents[1]))
 
 from api import methods
+from gate.edits import FOLDER, edits_of
 from reference.source import libraries
 from shared.command import command
 
 ROOT = Path(__file__).resolve().parents[2]
 PAGE = ROOT / "docs" / "WRONG_BODIES.md"
-FOLDER = "must-fail-together"
-FUNCTION = re.compile(r"^function: *(\S+) *$", re.M)
-FILE = re.compile(r"^file: *(\S+) *$", re.M)
 HEAD = """# Wrong bodies that the prover has to refuse
 
 Written by `tools/gate/wrong_bodies.py --write` from the line `function:` of each edit: do not write here by hand.
 
-An edit puts a wrong body in the place of a function's, and its name says what is wrong with it. It stands in
-`crates/NAME/must-fail-together/EDIT.edit`. `tools/gate/refused_together.py NAME/EDIT` tries it, and the gate tries all: it passes where a goal
+An edit puts a wrong body in the place of a function's, and its name says what is wrong with it. Those of `src/MODULE.rt` stand in
+`crates/NAME/mutants/MODULE.edits`. `tools/gate/refused_together.py NAME/EDIT` tries one, and the gate tries all: it passes where a goal
 of that very function cannot be proved. Most laws have no code to change: an edit of one changes its statement, or a definition, whose file
 then stands behind the edit's name, and shows nothing of the code. What the contracts say is in [CLAIMS.md](CLAIMS.md).
 
@@ -43,19 +41,16 @@ them only call functions that an edit names.
 """
 
 
-class Edit:
-    """A wrong body: its name, the function that it makes wrong, and the files that it changes."""
+def told(edit):
+    """An edit's name, and the definitions that it changes, if any."""
+    specs = sorted({path.removesuffix(".antt") for path, _, _ in edit.pairs if not path.startswith("src/")})
+    return f"`{edit.name}`" + (f" ({', '.join(f'`{it}`' for it in specs)})" if specs else "")
 
-    def __init__(self, file):
-        text = file.read_text(encoding="utf8")
-        self.file, self.name, self.paths = file, file.stem, FILE.findall(text)
-        found = FUNCTION.search(text)
-        self.function = found[1] if found else ""
 
-    def told(self):
-        """Its name, and the definitions that it changes, if any."""
-        specs = sorted({path.removesuffix(".antt") for path in self.paths if not path.startswith("src/")})
-        return f"`{self.name}`" + (f" ({', '.join(f'`{it}`' for it in specs)})" if specs else "")
+def home(edit):
+    """The folder's name of the crate that an edit stands in, and the module whose file it stands in."""
+    _, name, _, *module = edit.file.relative_to(ROOT).with_suffix("").parts
+    return name, () if module == ["lib"] else tuple(module)
 
 
 def public(crate):
@@ -78,7 +73,7 @@ def section(crate, edits):
     """The lines of a crate."""
     of = by_function(edits)
     lines = ["", f"## `{crate.name}`", "", f"{len(edits)} edits of {len(of)} functions.", "", "| Function or law | Edits |", "|---|---|"]
-    lines += [f"| `{function}` | {', '.join(edit.told() for edit in them)} |" for function, them in of.items()]
+    lines += [f"| `{function}` | {', '.join(map(told, them))} |" for function, them in of.items()]
     lacking = sorted({*public(crate)} - {*of})
     said = f"Named by none: {', '.join(f'`{it}`' for it in lacking)}."
     return lines + (["", *textwrap.wrap(said, 140, break_long_words=False)] if lacking else [])
@@ -87,35 +82,37 @@ def section(crate, edits):
 def without_line(edits, crates):
     """Why edits stand in no line, a text each."""
     for edit in edits:
-        crate = crates.get(edit.file.parent.parent.name)
+        crate, module = home(edit)
         name = re.escape(edit.function.split("::")[-1])
-        if crate is None:
-            yield f"{edit.file.relative_to(ROOT)}: its crate is no library of crates.txt"
+        source = crates[crate].files.get(module) if crate in crates else None
+        place = f"{edit.file.relative_to(ROOT)}: {edit.name}"
+        if crate not in crates:
+            yield f"{place}: its crate is no library of crates.txt"
         elif not edit.function:
-            yield f"{edit.file.relative_to(ROOT)}: it has no line 'function:'"
-        elif not any(re.search(rf"\bfn {name}\b", file.code) for file in crate.files.values()):
-            yield f"{edit.file.relative_to(ROOT)}: the crate has no function {edit.function}"
+            yield f"{place}: it has no line 'function:'"
+        elif not source or not re.search(rf"\bfn {name}\b", source.code):
+            yield f"{place}: the source of that module has no function {edit.function}"
 
 
 def main():
     is_write = sys.argv[1:] == ["--write"]
     if sys.argv[1:] and not is_write:
         sys.exit(__doc__.strip())
-    edits = [Edit(file) for file in sorted(ROOT.glob(f"crates/*/{FOLDER}/*.edit"))]
+    edits = [edit for folder in sorted(ROOT.glob(f"crates/*/{FOLDER}")) for edit in edits_of(folder.parent)]
     crates = libraries(ROOT)
     lost = [*without_line(edits, crates)]
     if lost:
         sys.exit("\n".join(lost))
     lines = HEAD.splitlines()
     for name, crate in crates.items():
-        of = [it for it in edits if it.file.parent.parent.name == name]
+        of = [it for it in edits if home(it)[0] == name]
         lines += section(crate, of) if of else []
     before = PAGE.read_text(encoding="utf8").splitlines() if PAGE.exists() else []
     if is_write:
         PAGE.write_text("\n".join(lines) + "\n", encoding="utf8")
     else:
         print("".join(f"{it}\n" for it in difflib.unified_diff(before, lines, "stored", "wanted", lineterm="", n=0)), end="")
-    print(f"{len(edits)} edits of {len({(it.file.parent, it.function) for it in edits})} functions")
+    print(f"{len(edits)} edits of {len({(home(it)[0], it.function) for it in edits})} functions")
     sys.exit(0 if is_write or before == lines else 1)
 
 

@@ -7,8 +7,8 @@ from pathlib import Path
 from reference.specs import scope
 
 # A comment, a string, a character: what is no code. Group 1 is what may be looked at all the same.
-OPAQUE = re.compile(r'//[^\n]*|/\*.*?\*/|b?"(?:\\.|[^"\\])*"|b?\'(?:\\[^\']+|[^\'\\\n])\'', re.S)
-PREFIX = re.compile(r"(pub(?:\([^)]*\))?\s+)?((?:const\s+|unsafe\s+)*)(fn|struct|enum|trait|const|type|impl|mod|use|static|macro_rules!|ghost)\b")
+OPAQUE = re.compile(r'//[^\n]*|/\*.*?\*/|b?r#".*?"#|b?"(?:\\.|[^"\\])*"|b?\'(?:\\[^\']+|[^\'\\\n])\'', re.S)
+PREFIX = re.compile(r"(pub(?:\([^)]*\))?\s+)?((?:const\s+|unsafe\s+|extern\s+)*)(fn|struct|enum|trait|const|type|impl|mod|use|static|macro_rules!|ghost)\b")
 CLAUSE = re.compile(r"\s*((?:requires|ensures)\*?)\s+(?:(\w+)\s*)?(?=\{)")
 SCOPED = re.compile(r"(?<!ghost )\buse ([\w:]+?)(?:::\{([^}]*)\})?(?: as (\w+))?;")
 CLOSES = {"{": "}", "(": ")", "[": "]"}
@@ -31,7 +31,7 @@ class Item:
 
     def __init__(self, kind, name, is_public, doc, text, file):
         self.kind, self.name, self.is_public, self.doc, self.text, self.file = kind, name, is_public, doc, text, file
-        self.clauses, self.inner, self.derives = [], [], []
+        self.clauses, self.inner, self.derives, self.is_exported = [], [], [], False
         # of an impl: the trait, if any; of what is public: its path in the crate
         self.trait, self.path = None, None
 
@@ -111,6 +111,7 @@ class File:
                 continue
             item, at = self.item(found, doc, at)
             if item:
+                item.is_exported = any("no_mangle" in it for it in attributes)
                 item.derives = [name for it in attributes if it.startswith("[derive") for name in re.findall(r"[\w:]+", it[8:])]
                 items.append(item)
 
@@ -231,6 +232,10 @@ class Crate:
         elif (*module, last) in self.files:
             self.show((*module, last), (*path, name))
 
+    def exported(self):
+        """The functions that C can call, whatever module they stand in."""
+        return [item for file in self.files.values() for item in file.items if item.is_exported]
+
     def unread(self):
         """The files of which not every clause was read."""
         return [file for file in self.files.values() if len(re.findall(r"^\s*(?:requires|ensures)\b", file.code, re.M)) != clauses(file.items)]
@@ -242,9 +247,14 @@ class Crate:
         return sorted(found, key=lambda it: (bool(it.trait), it.file not in home))
 
 
+def dependencies(root):
+    """What each crate of crates.txt stands on, in the order there."""
+    lines = (line.split("#")[0].partition(":") for line in Path(root, "crates.txt").read_text().splitlines())
+    return {name.split()[0]: rest.split() for name, _, rest in lines if name.strip()}
+
+
 def libraries(root):
     """The library crates, in the order of crates.txt: those that another crate of it stands on."""
-    lines = (line.split("#")[0].partition(":") for line in Path(root, "crates.txt").read_text().splitlines())
-    deps = {name.split()[0]: rest.split() for name, _, rest in lines if name.strip()}
+    deps = dependencies(root)
     used = {name for of in deps.values() for name in of}
     return {name: Crate(Path(root, "crates", name), deps[name]) for name in deps if name in used}
