@@ -4,7 +4,7 @@ use Rattle.std.proofs.lemmas.Bool.{cases_lt}
 use Rattle.std.proofs.Math.Seq.{take-append-add, drop-append-add, take-append_seam}
 use Rattle.std.proofs.lemmas.List.{take-append-le, drop-append-le, append-nil, drop-drop, length-take-le}
 use Rattle.amqp_blocks.specs.Chunked.{Block, in_block, items_of, start_of, ends_from, IsChunked, EachSome, HasItem, without}
-use Rattle.amqp_blocks.specs.Changes.{IsFront, IsTrimmed}
+use Rattle.amqp_blocks.specs.Inner.Changes.{IsFront, IsTrimmed}
 use Rattle.amqp_blocks.proofs.LeaveLemmas.{sunk, ends_low, some_block}
 use Rattle.amqp_blocks.proofs.PlaceLemmas.{start_more, start_few}
 

@@ -2,7 +2,7 @@
 use Rattle.std.proofs.Common.{◌≡◌, ℕ, suc, zero, ◌+◌, ◌<◌, ◌≤◌, arith, add-one, List, [], ◌∷◌, ◌++◌, length, ap, sym, subst, ◌∙◌, refl, get_or, set, length-append, length-set, append_assoc}
 use Rattle.std.specs.List.{remove}
 use Rattle.amqp_blocks.specs.Chunked.{Block, in_block, items_of, ends_from, IsChunked, EachSome}
-use Rattle.amqp_blocks.specs.Changes.{IsJoined}
+use Rattle.amqp_blocks.specs.Inner.Changes.{IsJoined}
 use Rattle.amqp_blocks.proofs.PutLemmas.{size_of}
 
 module _ {X : Type 0} where

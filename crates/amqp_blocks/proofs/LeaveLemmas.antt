@@ -5,7 +5,7 @@ use Rattle.std.proofs.Math.Seq.{take-append-add, drop-append-add}
 use Rattle.std.proofs.lemmas.List.{take-append-le, drop-append-le}
 use Rattle.std.proofs.lemmas.Bool.{cases_lt}
 use Rattle.std.proofs.Common.{inl, inr, ◌^◌}
-use Rattle.amqp_blocks.specs.Changes.{IsSunk, IsSwept, EachSomeBut}
+use Rattle.amqp_blocks.specs.Inner.Changes.{IsSunk, IsSwept, EachSomeBut}
 use Rattle.amqp_blocks.specs.Chunked.{Block, in_block, items_of, start_of, ends_from, EachSome, without}
 
 module _ {T : Type 0} where

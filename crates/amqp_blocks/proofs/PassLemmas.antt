@@ -3,7 +3,7 @@ use Rattle.std.proofs.Common.{◌≡◌, ◌≢◌, ℕ, suc, zero, ◌+◌, ◌
 use Rattle.std.specs.List.{insert}
 use Rattle.std.proofs.lemmas.List.Edits.{insert-append_left, insert-append_right, length-insert}
 use Rattle.amqp_blocks.specs.Chunked.{Block, in_block, items_of, start_of, ends_from, EachSome, places_of, HasPlace}
-use Rattle.amqp_blocks.specs.Changes.{IsShifted, IsUnshifted, IsPassed}
+use Rattle.amqp_blocks.specs.Inner.Changes.{IsShifted, IsUnshifted, IsPassed}
 use Rattle.amqp_blocks.proofs.LeaveLemmas.{some_at, some_set, some_block}
 use Rattle.amqp_blocks.proofs.PlaceLemmas.{start_more}
 use Rattle.amqp_blocks.proofs.PutLemmas.{size_of}

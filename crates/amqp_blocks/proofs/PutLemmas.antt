@@ -4,7 +4,7 @@ use Rattle.std.specs.List.{insert}
 use Rattle.amqp_blocks.proofs.LeaveLemmas.{some_set}
 use Rattle.std.proofs.lemmas.List.Edits.{insert-append_left, insert-append_right, length-insert}
 use Rattle.amqp_blocks.specs.Chunked.{Block, in_block, items_of, start_of, ends_from, IsChunked, EachSome}
-use Rattle.amqp_blocks.specs.Changes.{IsPut}
+use Rattle.amqp_blocks.specs.Inner.Changes.{IsPut}
 use Rattle.amqp_blocks.proofs.PlaceLemmas.{start_more, start_few}
 use Rattle.std.proofs.Common.{◌^◌}
 

@@ -1,7 +1,7 @@
 -- An item in the place of another.
 use Rattle.std.proofs.Common.{◌≡◌, ℕ, suc, zero, ◌+◌, ◌<◌, arith, List, [], ◌∷◌, ◌++◌, length, take, ap, sym, subst, ◌∙◌, refl, get_or, set, length-append, length-set}
 use Rattle.amqp_blocks.specs.Chunked.{Block, in_block, items_of, start_of, ends_from, IsChunked, EachSome, places_of}
-use Rattle.amqp_blocks.specs.Changes.{IsReplaced}
+use Rattle.amqp_blocks.specs.Inner.Changes.{IsReplaced}
 use Rattle.amqp_blocks.proofs.LeaveLemmas.{some_at, some_set}
 use Rattle.amqp_blocks.proofs.PassLemmas.{ends_same, count_same}
 

@@ -9,7 +9,7 @@ use Rattle.std.specs.Vec.{vec_capacity}
 use Rattle.amqp_blocks.specs.Chunked.{Block, items_of, ends_from, places_of, EachSpare, EachSome, IsFull, IsChunked, IsSound}
 use Rattle.amqp_blocks.proofs.LeaveLemmas.{some_at, some_set}
 use Rattle.amqp_blocks.proofs.PutLemmas.{chunked_same, items_kept, ends_kept}
-use Rattle.amqp_blocks.specs.Changes.{IsGrown}
+use Rattle.amqp_blocks.specs.Inner.Changes.{IsGrown}
 
 module _ {X : Type 0} where
   -- what comes off the end of a list

@@ -5,7 +5,7 @@ use Rattle.std.proofs.lemmas.List.{take-append-drop}
 use Rattle.std.proofs.lemmas.List.Edits.{insert-append_right, length-insert}
 use Rattle.std.proofs.lemmas.Bool.{cases_lt}
 use Rattle.amqp_blocks.specs.Chunked.{Block, in_block, items_of, start_of, ends_from, IsChunked, EachSome, places_of, HasPlace, Within}
-use Rattle.amqp_blocks.specs.Changes.{IsHalved}
+use Rattle.amqp_blocks.specs.Inner.Changes.{IsHalved}
 use Rattle.amqp_blocks.proofs.PlaceLemmas.{start_few, start_more}
 use Rattle.amqp_blocks.proofs.LeaveLemmas.{some_at}
 use Rattle.amqp_blocks.proofs.PutLemmas.{size_of, risen}

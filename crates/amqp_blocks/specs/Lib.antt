@@ -1,2 +1,2 @@
 pub mod Chunked
-pub mod Changes
+pub mod Inner

@@ -3,7 +3,7 @@
 ghost use Rattle.std.specs.Prelude.{◌≡◌, ◌+◌, ◌-◌, ◌/◌, ◌^◌, ◌<◌, ◌≤◌, length, slice_index, slice_index_or, vec_capacity, min};
 ghost use Rattle.std.specs.List.{insert};
 ghost use Rattle.amqp_blocks.specs.Chunked.{Block, items_of, start_of, places_of, IsChunked, EachSpare, Within, HasItem, HasPlace};
-ghost use Rattle.amqp_blocks.specs.Changes.{KeepsPlaces};
+ghost use Rattle.amqp_blocks.specs.Inner.Changes.{KeepsPlaces};
 
 use crate::lengths::raise_from;
 use crate::rings::{halve, put};

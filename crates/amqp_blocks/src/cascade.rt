@@ -3,7 +3,7 @@
 ghost use Rattle.std.specs.Prelude.{◌≡◌, ℕ, false, ◌+◌, ◌-◌, ◌^◌, ◌<◌, ◌≤◌, length, slice_index_or, vec_capacity, min, IsTrue};
 ghost use Rattle.std.specs.List.{insert};
 ghost use Rattle.amqp_blocks.specs.Chunked.{Block, items_of, start_of, places_of, IsChunked, EachSome, Within, HasItem, HasPlace, IsFull};
-ghost use Rattle.amqp_blocks.specs.Changes.{IsPassed};
+ghost use Rattle.amqp_blocks.specs.Inner.Changes.{IsPassed};
 
 use crate::adding::put_in;
 use crate::rings::{shift, unshift};

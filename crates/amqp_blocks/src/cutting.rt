@@ -2,7 +2,7 @@
 
 ghost use Rattle.std.specs.Prelude.{◌≡◌, ℕ, ◌+◌, ◌-◌, ◌^◌, ◌<◌, ◌≤◌, ◌++◌, length, slice_index, slice_index_or, take, drop, vec_capacity};
 ghost use Rattle.amqp_blocks.specs.Chunked.{Block, items_of, start_of, IsChunked, HasItem, without};
-ghost use Rattle.amqp_blocks.specs.Changes.{IsFront, IsTrimmed};
+ghost use Rattle.amqp_blocks.specs.Inner.Changes.{IsFront, IsTrimmed};
 
 use crate::lengths::{settle, sink};
 use crate::rings::thin;

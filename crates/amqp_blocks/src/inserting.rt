@@ -3,7 +3,7 @@
 ghost use Rattle.std.specs.Prelude.{◌≡◌, ◌+◌, ◌-◌, ◌^◌, ◌<◌, ◌≤◌, length};
 ghost use Rattle.std.specs.List.{insert};
 ghost use Rattle.amqp_blocks.specs.Chunked.{Block, items_of, start_of, places_of, IsSound, Within, HasItem};
-ghost use Rattle.amqp_blocks.specs.Changes.{KeepsPlaces};
+ghost use Rattle.amqp_blocks.specs.Inner.Changes.{KeepsPlaces};
 
 use crate::adding::{put_alone, put_in, split};
 use crate::cascade::{cascade, end_of, has_place};

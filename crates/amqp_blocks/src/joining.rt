@@ -3,7 +3,7 @@
 ghost use Rattle.std.specs.Prelude.{◌≡◌, ◌+◌, ◌-◌, ◌<◌, ◌≤◌, [], ◌++◌, length, slice_index_or, vec_capacity, IsTrue};
 ghost use Rattle.std.specs.VecDeque.{deque_capacity};
 ghost use Rattle.amqp_blocks.specs.Chunked.{Block, items_of, IsSound};
-ghost use Rattle.amqp_blocks.specs.Changes.{IsJoined};
+ghost use Rattle.amqp_blocks.specs.Inner.Changes.{IsJoined};
 
 use crate::leaving::keep;
 use crate::sequence::BLOCK;

@@ -2,7 +2,7 @@
 
 ghost use Rattle.std.specs.Prelude.{◌≡◌, ◌+◌, ◌-◌, ◌^◌, ◌<◌, ◌≤◌, [], ◌∷◌, length, vec_capacity, slice_index_or};
 ghost use Rattle.amqp_blocks.specs.Chunked.{Block, items_of, start_of, ends_from, IsChunked, EachSpare, Within, without};
-ghost use Rattle.amqp_blocks.specs.Changes.{IsPopped, IsSwept, EachSomeBut};
+ghost use Rattle.amqp_blocks.specs.Inner.Changes.{IsPopped, IsSwept, EachSomeBut};
 
 use crate::lengths::{settle, sink_or_rise};
 use crate::rings::thin;

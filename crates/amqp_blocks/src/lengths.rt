@@ -1,7 +1,7 @@
 //! Running lengths.
 
 ghost use Rattle.std.specs.Prelude.{◌≡◌, ℕ, ◌+◌, ◌-◌, ◌^◌, ◌<◌, ◌≤◌, ◌++◌, length, map, take, drop, slice_index, vec_capacity};
-ghost use Rattle.amqp_blocks.specs.Changes.{IsSunk};
+ghost use Rattle.amqp_blocks.specs.Inner.Changes.{IsSunk};
 
 /// Lowers running lengths.
 fn lower(ends: &mut [usize], count: usize)

@@ -4,7 +4,7 @@ ghost use Rattle.std.specs.Prelude.{◌≡◌, ◌+◌, ◌-◌, ◌<◌, ◌≤
 ghost use Rattle.std.specs.List.{insert, remove};
 ghost use Rattle.std.specs.VecDeque.{deque_capacity};
 ghost use Rattle.amqp_blocks.specs.Chunked.{Block, items_of, Within, HasItem};
-ghost use Rattle.amqp_blocks.specs.Changes.{IsThinned, IsPut, IsShifted, IsUnshifted, IsReplaced, IsHalved};
+ghost use Rattle.amqp_blocks.specs.Inner.Changes.{IsThinned, IsPut, IsShifted, IsUnshifted, IsReplaced, IsHalved};
 
 use crate::search::Place;
 use std::collections::VecDeque;

@@ -3,7 +3,7 @@
 ghost use Rattle.std.specs.Prelude.{◌≡◌, ◌+◌, ◌-◌, ◌*◌, ◌^◌, ◌<◌, ◌≤◌, [], length, slice_index_or, vec_capacity, OnOk, min};
 ghost use Rattle.std.specs.VecDeque.{deque_capacity};
 ghost use Rattle.amqp_blocks.specs.Chunked.{Block, items_of, EachSpare, places_of, IsSound};
-ghost use Rattle.amqp_blocks.specs.Changes.{IsGrown};
+ghost use Rattle.amqp_blocks.specs.Inner.Changes.{IsGrown};
 
 use crate::search::total;
 use crate::sequence::BLOCK;

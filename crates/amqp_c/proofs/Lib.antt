@@ -1,2 +1,2 @@
-pub mod Placing
-pub mod Steps
+pub mod PlaceLemmas
+pub mod SlotStepLemmas

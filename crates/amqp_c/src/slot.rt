@@ -6,7 +6,7 @@ ghost use Rattle.std.specs.declared.option.Option.{Option};
 ghost use Rattle.std.specs.declared.option.Option.TheVariants.{None, Some};
 ghost use Rattle.amqp_client.specs.Client.{ClientView};
 ghost use Rattle.amqp_client.specs.contracts.client.Client.{the_row};
-ghost use Rattle.amqp_c.specs.Slot.{slot_owns};
+ghost use Rattle.amqp_c.specs.Inner.Slot.{slot_owns};
 
 use amqp_client::Client;
 use raw_box::RawBox;

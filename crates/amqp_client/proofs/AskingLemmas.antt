@@ -4,10 +4,10 @@ use Rattle.std.specs.Int.{w32}
 use Rattle.amqp_values.specs.Reading.{number_at, byte_at}
 use Rattle.amqp_values.specs.declared.error.ReadError.{ReadError}
 use Rattle.amqp_values.specs.declared.error.ReadError.TheVariants.{Malformed, OutOfMemory}
-use Rattle.amqp_types.specs.Begin.{BeginSaid}
-use Rattle.amqp_types.specs.Flow.{FlowSaid}
-use Rattle.amqp_types.specs.Detach.{DetachSaid}
-use Rattle.amqp_types.specs.Transfer.{TransferSaid}
+use Rattle.amqp_types.specs.Begin.{BeginModel}
+use Rattle.amqp_types.specs.Flow.{FlowModel}
+use Rattle.amqp_types.specs.Detach.{DetachModel}
+use Rattle.amqp_types.specs.Transfer.{TransferModel}
 use Rattle.amqp_types.specs.Performatives.{IsPerformative}
 use Rattle.amqp_types.specs.declared.performatives.Performative.TheVariants as its
 use Rattle.amqp_session.specs.LinkFlow.{link_part}
@@ -47,29 +47,29 @@ in_session o bytes n rest (Err Malformed) e h = λ i a.
 in_session o bytes n rest (Err OutOfMemory) e h = tt
 
 -- a Begin that answers none
-pub begun : {R : Type 0} (n : ℕ) (bytes : List ℕ) (b : BeginSaid) (r : Result (Input R) ReadError) → ReadsOne (λ x. IsPerformative (its.Begin x) bytes) (Ok b)
+pub begun : {R : Type 0} (n : ℕ) (bytes : List ℕ) (b : BeginModel) (r : Result (Input R) ReadError) → ReadsOne (λ x. IsPerformative (its.Begin x) bytes) (Ok b)
     → IsBegun n b r → Reads (AsksBegin n bytes) r
 begun n bytes b (Ok i) h g = (b, h.0, g.0, g.1)
-begun n bytes b (Err Malformed) h g = λ i a. g (subst (λ (x : BeginSaid). x.remote_channel ≡ None) (h.1 a.0 a.1) a.2)
+begun n bytes b (Err Malformed) h g = λ i a. g (subst (λ (x : BeginModel). x.remote_channel ≡ None) (h.1 a.0 a.1) a.2)
 begun n bytes b (Err OutOfMemory) h g = absurd g
 
 no_some : {X : Type 0} (x : X) → Some x ≡ None → ⊥
 no_some x e = absurd cc
 
 -- a Flow that names no link
-pub no_flow : {R : Type 0} (n : ℕ) (bytes : List ℕ) (f : FlowSaid) → ReadsOne (λ x. IsPerformative (its.Flow x) bytes) (Ok f) → link_part f ≡ None
+pub no_flow : {R : Type 0} (n : ℕ) (bytes : List ℕ) (f : FlowModel) → ReadsOne (λ x. IsPerformative (its.Flow x) bytes) (Ok f) → link_part f ≡ None
     → (i : Input R) → ¬ AsksFlow n bytes i
 no_flow n bytes f h e i a =
     no_some a.1 (sym a.3 ∙ ap link_part (h.1 a.0 a.2) ∙ e)
 
 -- a Detach and a Transfer behind their flags
 pub detach_behind : {R : Type 0} (n : ℕ) (bytes : List ℕ) (flag : ℕ) (rest : List ℕ) → HasByte bytes flag rest → (i : Input R) → AsksDetach n bytes i
-    → (d : DetachSaid) × IsPerformative (its.Detach d) rest
+    → (d : DetachModel) × IsPerformative (its.Detach d) rest
 detach_behind n bytes flag rest e i a =
     (a.detach, subst (IsPerformative (its.Detach a.detach)) (same_rest (byte_at bytes) flag a.flag rest a.rest e a.has_flag) a.is_detach)
 
 pub transfer_behind : {R : Type 0} (n : ℕ) (bytes : List ℕ) (handle flag : ℕ) (behind rest : List ℕ) → HasNumber bytes handle behind → HasByte behind flag rest
-    → (i : Input R) → AsksTransfer n bytes i → (x : TransferSaid × List ℕ) × IsTransfer rest x
+    → (i : Input R) → AsksTransfer n bytes i → (x : TransferModel × List ℕ) × IsTransfer rest x
 transfer_behind n bytes handle flag behind rest e f i a =
     let b : a.behind ≡ behind = same_rest (number_at w32 bytes) handle a.handle behind a.behind e a.has_handle in
     let g : HasByte behind a.flag a.rest = subst (λ t. HasByte t a.flag a.rest) b a.has_flag in

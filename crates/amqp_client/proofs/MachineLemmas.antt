@@ -10,7 +10,7 @@ use Rattle.amqp_engine.specs.RunInto.{RanInto}
 use Rattle.amqp_engine.specs.Promise.{Ends, NoneLeft}
 use Rattle.amqp_engine.specs.declared.engine.answer.Stopped.{Stopped}
 use Rattle.amqp_client.specs.Machine.{RunsOne, SendsOut, SendStatus, TakesOff, status_of}
-use Rattle.amqp_client.specs.Refused.{RefusedSaid, Notes}
+use Rattle.amqp_client.specs.Refused.{RefusedModel, Notes}
 use Rattle.std.specs.Result.{is_ok}
 use Rattle.std.proofs.lemmas.Bool.Decides.{nat_tests}
 use Rattle.std.proofs.lemmas.Grind.{common_steps}
@@ -46,7 +46,7 @@ untaken : {X : Type 0} (i : X) (left : List X) → ¬ (left ≡ []) → (left �
 untaken i left n (inl e) = absurd (n e)
 untaken i left n (inr e) = e
 
-pub run_ends : {R : Type 0} (g : Relays R) (v v' : EngineView R) (i : Input R) (out out' : List ℕ) (last last' : RefusedSaid) (inputs left : List (Input R))
+pub run_ends : {R : Type 0} (g : Relays R) (v v' : EngineView R) (i : Input R) (out out' : List ℕ) (last last' : RefusedModel) (inputs left : List (Input R))
     (before refusals : List Refusal) (taken refused : Bool) → inputs ≡ i ∷ [] → before ≡ [] → RanInto g v inputs out before v' left out' refusals
     → Notes refusals v'.connection.state last refused last' → taken ≡ (length left == 0)
     → RunsOne g (record { engine = v; to_send = out; last = last }) i (status_of taken refused) (record { engine = v'; to_send = out'; last = last' })
@@ -78,7 +78,7 @@ send_status v (Ok u) true e = (refl, e.1)
 send_status v (Ok u) false e = (refl, e.1)
 send_status v (Err s) refused e = λ w. e.1 (refl, w)
 
-pub send_ends : {R : Type 0} (g : Relays R) (v v' : EngineView R) (out waits out' : List ℕ) (last last' : RefusedSaid) (inputs left : List (Input R))
+pub send_ends : {R : Type 0} (g : Relays R) (v v' : EngineView R) (out waits out' : List ℕ) (last last' : RefusedModel) (inputs left : List (Input R))
     (before refusals : List Refusal) (result : Result (Unit {0}) Stopped) (whole refused : Bool) (old new : List ℕ) (n : ℕ) → inputs ≡ [] → before ≡ []
     → RanInto g v inputs out before v' left waits refusals → Ends (NoneLeft left v') inputs left result
     → Notes refusals v'.connection.state last refused last' → whole ≡ is_ok result → TakesOff waits old n out' new

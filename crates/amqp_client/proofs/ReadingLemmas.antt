@@ -4,7 +4,7 @@ use Rattle.std.proofs.lemmas.List.{append-nil}
 use Rattle.amqp_values.specs.Reading.{ReadsFront}
 use Rattle.amqp_values.specs.declared.error.ReadError.{ReadError}
 use Rattle.amqp_values.specs.declared.error.ReadError.TheVariants.{Malformed, OutOfMemory}
-use Rattle.amqp_types.specs.Transfer.{TransferSaid}
+use Rattle.amqp_types.specs.Transfer.{TransferModel}
 use Rattle.amqp_types.specs.Performatives.{IsPerformative}
 use Rattle.amqp_types.specs.declared.performatives.Performative.{Performative}
 use Rattle.amqp_types.specs.declared.performatives.Performative.TheVariants as its

@@ -5,18 +5,18 @@ use Rattle.std.specs.Int.{w32}
 use Rattle.amqp_values.specs.Reading.{number_at, byte_at}
 use Rattle.amqp_values.specs.declared.error.ReadError.{ReadError}
 use Rattle.amqp_values.specs.declared.error.ReadError.TheVariants.{Malformed, OutOfMemory}
-use Rattle.amqp_types.specs.Begin.{BeginSaid}
-use Rattle.amqp_types.specs.Attach.{AttachSaid}
-use Rattle.amqp_types.specs.Detach.{DetachSaid}
-use Rattle.amqp_types.specs.Disposition.{DispositionSaid}
-use Rattle.amqp_types.specs.Error.{ErrorSaid}
-use Rattle.amqp_types.specs.Flow.{FlowSaid}
-use Rattle.amqp_types.specs.Transfer.{TransferSaid}
+use Rattle.amqp_types.specs.Begin.{BeginModel}
+use Rattle.amqp_types.specs.Attach.{AttachModel}
+use Rattle.amqp_types.specs.Detach.{DetachModel}
+use Rattle.amqp_types.specs.Disposition.{DispositionModel}
+use Rattle.amqp_types.specs.Error.{ErrorModel}
+use Rattle.amqp_types.specs.Flow.{FlowModel}
+use Rattle.amqp_types.specs.Transfer.{TransferModel}
 use Rattle.amqp_types.specs.Performatives.{IsPerformative}
 use Rattle.amqp_types.specs.declared.performatives.Performative.TheVariants as its
 use Rattle.amqp_types.specs.declared.definitions.Role.{Role}
 use Rattle.amqp_session.specs.LinkFlow.{link_part}
-use Rattle.amqp_session.specs.Settings.{SettingsSaid}
+use Rattle.amqp_session.specs.Settings.{SettingsModel}
 use Rattle.amqp_session.specs.declared.flow.LinkFlow.{LinkFlow}
 use Rattle.amqp_engine.specs.declared.engine.input.Input.{Input}
 use Rattle.amqp_engine.specs.declared.engine.input.Input.TheVariants as input
@@ -34,7 +34,7 @@ abbrev pub HasByte : List ℕ → ℕ → List ℕ → Type 0
 HasByte bytes n rest = byte_at bytes ≡ Some (n, rest)
 
 -- the settings that a Begin names
-abbrev pub settings_of : BeginSaid → SettingsSaid
+abbrev pub settings_of : BeginModel → SettingsModel
 settings_of b = record {
   next_outgoing_id = b.next_outgoing_id;
   incoming_window = b.incoming_window;
@@ -51,7 +51,7 @@ abbrev pub AsksOpen : {R : Type 0} → List ℕ → Input R → Type 0
 AsksOpen bytes i = (bytes ≡ []) × (i ≡ input.Open)
 
 abbrev pub AsksClose : {R : Type 0} → List ℕ → Input R → Type 0
-AsksClose bytes i = (e : Option ErrorSaid) × IsErrorIfAny bytes e × (i ≡ input.Close e)
+AsksClose bytes i = (e : Option ErrorModel) × IsErrorIfAny bytes e × (i ≡ input.Close e)
 
 abbrev pub AsksRelease : {R : Type 0} → List ℕ → Input R → Type 0
 AsksRelease bytes i = (n : ℕ) × HasNumber bytes n [] × (i ≡ input.Release (record { 0 = n }))
@@ -79,26 +79,26 @@ pub record AsksSettle {R : Type 0} (bytes : List ℕ) (i : Input R) : Type 0 whe
 
 abbrev pub AsksBegin : {R : Type 0} → ℕ → List ℕ → Input R → Type 0
 AsksBegin n rest i =
-    (b : BeginSaid) × IsPerformative (its.Begin b) rest × (b.remote_channel ≡ None) × (i ≡ input.Begin (record { 0 = n }) (settings_of b))
+    (b : BeginModel) × IsPerformative (its.Begin b) rest × (b.remote_channel ≡ None) × (i ≡ input.Begin (record { 0 = n }) (settings_of b))
 
 abbrev pub AsksEnd : {R : Type 0} → ℕ → List ℕ → Input R → Type 0
-AsksEnd n rest i = (e : Option ErrorSaid) × IsErrorIfAny rest e × (i ≡ input.End (record { 0 = n }) e)
+AsksEnd n rest i = (e : Option ErrorModel) × IsErrorIfAny rest e × (i ≡ input.End (record { 0 = n }) e)
 
 abbrev pub AsksAttach : {R : Type 0} → ℕ → List ℕ → Input R → Type 0
-AsksAttach n rest i = (a : AttachSaid) × IsPerformative (its.Attach a) rest × (i ≡ input.Attach (record { 0 = n }) a)
+AsksAttach n rest i = (a : AttachModel) × IsPerformative (its.Attach a) rest × (i ≡ input.Attach (record { 0 = n }) a)
 
 pub record AsksDetach {R : Type 0} (n : ℕ) (bytes : List ℕ) (i : Input R) : Type 0 where
   pub flag : ℕ
   pub answered : Bool
   pub rest : List ℕ
-  pub detach : DetachSaid
+  pub detach : DetachModel
   pub has_flag : HasByte bytes flag rest
   pub answered_is : flag_of flag ≡ Some answered
   pub is_detach : IsPerformative (its.Detach detach) rest
   pub input_is : i ≡ input.Detach (record { 0 = n }) detach answered
 
 abbrev pub AsksFlow : {R : Type 0} → ℕ → List ℕ → Input R → Type 0
-AsksFlow n rest i = (f : FlowSaid) × (part : LinkFlow) × IsPerformative (its.Flow f) rest × (link_part f ≡ Some part)
+AsksFlow n rest i = (f : FlowModel) × (part : LinkFlow) × IsPerformative (its.Flow f) rest × (link_part f ≡ Some part)
     × (i ≡ input.Flow (record { 0 = n }) part)
 
 pub record AsksTransfer {R : Type 0} (n : ℕ) (bytes : List ℕ) (i : Input R) : Type 0 where
@@ -107,7 +107,7 @@ pub record AsksTransfer {R : Type 0} (n : ℕ) (bytes : List ℕ) (i : Input R) 
   pub first : Bool
   pub behind : List ℕ
   pub rest : List ℕ
-  pub transfer : TransferSaid × List ℕ
+  pub transfer : TransferModel × List ℕ
   pub has_handle : HasNumber bytes handle behind
   pub has_flag : HasByte behind flag rest
   pub first_is : flag_of flag ≡ Some first
@@ -115,7 +115,7 @@ pub record AsksTransfer {R : Type 0} (n : ℕ) (bytes : List ℕ) (i : Input R) 
   pub input_is : i ≡ input.Transfer (record { 0 = n }) (record { 0 = handle }) transfer.0 transfer.1 first
 
 abbrev pub AsksDisposition : {R : Type 0} → ℕ → List ℕ → Input R → Type 0
-AsksDisposition n rest i = (d : DispositionSaid) × IsPerformative (its.Disposition d) rest × (i ≡ input.Disposition (record { 0 = n }) d)
+AsksDisposition n rest i = (d : DispositionModel) × IsPerformative (its.Disposition d) rest × (i ≡ input.Disposition (record { 0 = n }) d)
 
 abbrev pub AsksOfSession : {R : Type 0} → Operation → ℕ → List ℕ → Input R → Type 0
 AsksOfSession op.Begin n rest i = AsksBegin n rest i
@@ -147,7 +147,7 @@ IsNumber bytes (Some n) = HasNumber bytes n []
 IsNumber bytes None = (n : ℕ) → ¬ HasNumber bytes n []
 
 -- a session with the settings of this Begin, which answers none; or it answers one
-abbrev pub IsBegun : {R : Type 0} → ℕ → BeginSaid → Result (Input R) ReadError → Type 0
+abbrev pub IsBegun : {R : Type 0} → ℕ → BeginModel → Result (Input R) ReadError → Type 0
 IsBegun n b (Ok i) = (b.remote_channel ≡ None) × (i ≡ input.Begin (record { 0 = n }) (settings_of b))
 IsBegun n b (Err Malformed) = ¬ (b.remote_channel ≡ None)
 IsBegun n b (Err OutOfMemory) = ⊥

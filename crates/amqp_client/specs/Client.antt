@@ -5,8 +5,8 @@ use Rattle.std.specs.Int.{w16, w32, w64, to_be_bytes, from_be_bytes}
 use Rattle.std.specs.Map.{lookup}
 use Rattle.amqp_values.specs.declared.error.ReadError.{ReadError}
 use Rattle.amqp_values.specs.declared.error.ReadError.TheVariants.{Malformed, OutOfMemory}
-use Rattle.amqp_types.specs.Open.{OpenSaid}
-use Rattle.amqp_types.specs.Transfer.{TransferSaid}
+use Rattle.amqp_types.specs.Open.{OpenModel}
+use Rattle.amqp_types.specs.Transfer.{TransferModel}
 use Rattle.amqp_types.specs.Performatives.{IsPerformative}
 use Rattle.amqp_types.specs.declared.performatives.Performative.TheVariants as its
 use Rattle.amqp_types.specs.declared.states.ConnectionState.TheVariants.{HeaderExchange}
@@ -22,7 +22,7 @@ use Rattle.amqp_client.specs.declared.operation.Group.TheVariants as group
 use Rattle.amqp_client.specs.declared.status.Status.{Status}
 use Rattle.amqp_client.specs.declared.status.Status.TheVariants as status
 use Rattle.amqp_client.specs.Asked.{Answers}
-use Rattle.amqp_client.specs.Linking.{Relay, LinkSaid, AsksLink, AllotsOn}
+use Rattle.amqp_client.specs.Linking.{Relay, LinkModel, AsksLink, AllotsOn}
 use Rattle.amqp_client.specs.Machine.{MachineView, SendsOut, new_machine}
 use Rattle.amqp_client.specs.Operation.{IsOperation}
 use Rattle.amqp_client.specs.Reading.{IsTransfer}
@@ -42,18 +42,18 @@ pub record ClientView : Type 0 where
 
 -- ---- a new one
 
-abbrev pub new_client : OpenSaid → ClientView
+abbrev pub new_client : OpenModel → ClientView
 new_client o = record { machine = new_machine (new_engine HeaderExchange o); kept = []; next = None }
 
 -- behind 32 bytes, the key and the room, stands an Open
-abbrev pub HasOpen : List ℕ → OpenSaid → Type 0
+abbrev pub HasOpen : List ℕ → OpenModel → Type 0
 HasOpen input o = (32 ≤ length input) × IsPerformative (its.Open o) (drop 32 input)
 
 -- a client with this Open, whose engine has an empty history; or memory was refused, or there is no Open
 abbrev pub Makes : Relays Relay → List ℕ → Result ClientView ℤ → Type 0
-Makes g input (Ok c) = (o : OpenSaid) × HasOpen input o × (c ≡ new_client o) × Legal g HeaderExchange o [] c.machine.engine
+Makes g input (Ok c) = (o : OpenModel) × HasOpen input o × (c ≡ new_client o) × Legal g HeaderExchange o [] c.machine.engine
 Makes g input (Err e) =
-    (e ≡ pos (status_number status.NoMemory)) ⊎ ((e ≡ pos (status_number status.BadArgument)) × ((o : OpenSaid) → ¬ HasOpen input o))
+    (e ≡ pos (status_number status.NoMemory)) ⊎ ((e ≡ pos (status_number status.BadArgument)) × ((o : OpenModel) → ¬ HasOpen input o))
 
 -- ---- what is received
 
@@ -76,22 +76,22 @@ ShowsHandle None old n new = (n ≡ 0) × (new ≡ old)
 ShowsHandle (Some h) old n new = Writes (to_be_bytes w32 h.0) old status.Done n new
 
 -- the output handle of the link of this name, as the engine shows it
-abbrev pub handle_in : EngineView Relay → LinkSaid → Option OutputHandle
+abbrev pub handle_in : EngineView Relay → LinkModel → Option OutputHandle
 handle_in v l = output_handle_at l.name (lookup (nat_eq l.session) v.sessions)
 
 -- nothing was done: the bytes name no link, or the output has no room for a handle
 abbrev pub LinksNothing : Operation → ClientView → List ℕ → List ℕ → Status → ℕ → ClientView → List ℕ → Type 0
 LinksNothing o c input old s n c' new = (c' ≡ c) × (new ≡ old)
-    × (((s ≡ status.BadArgument) × (n ≡ 0) × ((l : LinkSaid) → ¬ AsksLink o input l)) ⊎ ((s ≡ status.TooSmall) × (n ≡ 4) × (length old < 4)))
+    × (((s ≡ status.BadArgument) × (n ≡ 0) × ((l : LinkModel) → ¬ AsksLink o input l)) ⊎ ((s ≡ status.TooSmall) × (n ≡ 4) × (length old < 4)))
 
 -- the handle is told where it is done, and else nothing is
-abbrev pub TellsHandle : EngineView Relay → LinkSaid → List ℕ → Status → ℕ → List ℕ → Type 0
+abbrev pub TellsHandle : EngineView Relay → LinkModel → List ℕ → Status → ℕ → List ℕ → Type 0
 TellsHandle v l old s n new =
     ((s ≡ status.Done) × ShowsHandle (handle_in v l) old n new) ⊎ ((¬ (s ≡ status.Done)) × (n ≡ 0) × (new ≡ old))
 
 -- the link that the bytes name is run
 pub record LinksOne (g : Relays Relay) (o : Operation) (c : ClientView) (input old : List ℕ) (s : Status) (n : ℕ) (c' : ClientView) (new : List ℕ) : Type 0 where
-  pub link : LinkSaid
+  pub link : LinkModel
   pub asks : AsksLink o input link
   pub allots : AllotsOn g link c.machine s c'.machine
   pub rest_is : c' ≡ record c { machine = c'.machine }
@@ -159,9 +159,9 @@ PerformsSessionState c input old s n c' new =
 
 abbrev pub PerformsPayloadRoom : ClientView → List ℕ → List ℕ → Status → ℕ → ClientView → List ℕ → Type 0
 PerformsPayloadRoom c input old s n c' new =
-    (Refuses c old s n c' new × ((x : TransferSaid × List ℕ) → ¬ IsTransfer input x))
+    (Refuses c old s n c' new × ((x : TransferModel × List ℕ) → ¬ IsTransfer input x))
     ⊎ (((s ≡ status.NoMemory) × (n ≡ 0) × (new ≡ old) × (c' ≡ c))
-    ⊎ ((x : TransferSaid × List ℕ) × IsTransfer input x × Writes (room_text c.machine.engine x.0) old s n new × (c' ≡ c)))
+    ⊎ ((x : TransferModel × List ℕ) × IsTransfer input x × Writes (room_text c.machine.engine x.0) old s n new × (c' ≡ c)))
 
 -- how an operation takes its input
 abbrev pub group_of : Operation → Group

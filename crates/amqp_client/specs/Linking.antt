@@ -25,7 +25,7 @@ abbrev pub Relay : Type 0
 Relay = EventRelay SharedQueue
 
 -- a link: its session, the peer's handle where its attach came, this side's role, how the receiver settles, and its name
-pub record LinkSaid : Type 0 where
+pub record LinkModel : Type 0 where
   pub session : ℕ
   pub input : Option ℕ
   pub role : Role
@@ -33,7 +33,7 @@ pub record LinkSaid : Type 0 where
   pub name : List ℕ
 
 -- the role, the mode, and the name, which is all the rest
-pub record HasPolicy (bytes : List ℕ) (l : LinkSaid) : Type 0 where
+pub record HasPolicy (bytes : List ℕ) (l : LinkModel) : Type 0 where
   pub role_byte : ℕ
   pub mode_byte : ℕ
   pub behind : List ℕ
@@ -44,7 +44,7 @@ pub record HasPolicy (bytes : List ℕ) (l : LinkSaid) : Type 0 where
   pub utf8 : IsUtf8 l.name
 
 -- the link that the bytes of an operation name
-abbrev pub AsksLink : Operation → List ℕ → LinkSaid → Type 0
+abbrev pub AsksLink : Operation → List ℕ → LinkModel → Type 0
 AsksLink op.Link bytes l = (rest : List ℕ) × HasNumber bytes l.session rest × (l.input ≡ None) × HasPolicy rest l
 AsksLink op.LinkOn bytes l = (h : ℕ) × (behind : List ℕ) × (rest : List ℕ) × HasNumber bytes l.session behind × HasNumber behind h rest
     × (l.input ≡ Some h) × HasPolicy rest l
@@ -52,7 +52,7 @@ AsksLink o bytes l = ⊥
 
 -- ---- the engine's input
 
-abbrev pub policy_of : LinkSaid → Policy
+abbrev pub policy_of : LinkModel → Policy
 policy_of l = record {
   role = l.role;
   rcv_settle_mode = l.mode;
@@ -67,7 +67,7 @@ handle_of None = None
 handle_of (Some h) = Some (record { 0 = h })
 
 -- a relay of this link, over some hold on the queue
-abbrev pub IsRelay : LinkSaid → Relay → Type 0
+abbrev pub IsRelay : LinkModel → Relay → Type 0
 IsRelay l r = (sink : SharedQueue) × (r ≡ record {
   sink = sink;
   link = record { session = l.session; input = handle_of l.input; output = None };
@@ -75,7 +75,7 @@ IsRelay l r = (sink : SharedQueue) × (r ≡ record {
 })
 
 -- a handle for a link of this name, with such a relay: it waits for the peer's attach, or stands on the handle on which that came
-abbrev pub Allots : LinkSaid → Input Relay → Type 0
+abbrev pub Allots : LinkModel → Input Relay → Type 0
 Allots l (input.AllocateLink n name (Some r)) =
     (n ≡ record { 0 = l.session }) × (string_bytes name ≡ l.name) × (l.input ≡ None) × IsRelay l r
 Allots l (input.AllocateIncomingLink n name r h) =
@@ -83,20 +83,20 @@ Allots l (input.AllocateIncomingLink n name r h) =
 Allots l i = ⊥
 
 -- memory was refused; or that is run
-abbrev pub AllotsOn : Relays Relay → LinkSaid → MachineView Relay → Status → MachineView Relay → Type 0
+abbrev pub AllotsOn : Relays Relay → LinkModel → MachineView Relay → Status → MachineView Relay → Type 0
 AllotsOn g l m s n = NoneGranted m s n ⊎ RunsSome g (Allots l) m s n
 
 -- ---- parts
 
-abbrev pub link_said : LinkAsked → LinkSaid
+abbrev pub link_said : LinkAsked → LinkModel
 link_said a = record { session = a.session; input = a.input; role = a.role; mode = a.mode; name = a.name.now }
 
 -- the link is the one that the bytes name, or they name none
 abbrev pub FindsLink : Operation → List ℕ → Option LinkAsked → Type 0
-FindsLink o bytes None = (l : LinkSaid) → ¬ AsksLink o bytes l
+FindsLink o bytes None = (l : LinkModel) → ¬ AsksLink o bytes l
 FindsLink o bytes (Some a) = AsksLink o bytes (link_said a)
 
 -- one of this session, and with this handle of the peer's
 abbrev pub FindsPolicy : ℕ → Option ℕ → List ℕ → Option LinkAsked → Type 0
-FindsPolicy n h bytes None = (l : LinkSaid) → ¬ HasPolicy bytes l
+FindsPolicy n h bytes None = (l : LinkModel) → ¬ HasPolicy bytes l
 FindsPolicy n h bytes (Some a) = (a.session ≡ n) × (a.input ≡ h) × HasPolicy bytes (link_said a)

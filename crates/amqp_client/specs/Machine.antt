@@ -9,14 +9,14 @@ use Rattle.amqp_engine.specs.EngineView.{EngineView}
 use Rattle.amqp_engine.specs.RunInto.{RanInto}
 use Rattle.amqp_client.specs.declared.status.Status.{Status}
 use Rattle.amqp_client.specs.declared.status.Status.TheVariants as status
-use Rattle.amqp_client.specs.Refused.{RefusedSaid, Notes, nothing}
+use Rattle.amqp_client.specs.Refused.{RefusedModel, Notes, nothing}
 
 pub record MachineView (R : Type 0) : Type 0 where
   pub engine : EngineView R
   -- the bytes that wait to be sent
   pub to_send : List ℕ
   -- the last refusal
-  pub last : RefusedSaid
+  pub last : RefusedModel
 
 abbrev pub new_machine : {R : Type 0} → EngineView R → MachineView R
 new_machine v = record { engine = v; to_send = []; last = nothing }

@@ -3,9 +3,9 @@
 use Rattle.std.specs.Prelude.{◌≡◌, ◌++◌, [], ℕ, List, Option, Some, None, Result, Ok, Err, Bool, true, false, if◌then◌else◌, nat_eq}
 use Rattle.amqp_values.specs.declared.error.ReadError.{ReadError}
 use Rattle.amqp_values.specs.declared.error.ReadError.TheVariants.{Malformed, OutOfMemory}
-use Rattle.amqp_types.specs.Error.{ErrorSaid, error_at}
+use Rattle.amqp_types.specs.Error.{ErrorModel, error_at}
 use Rattle.amqp_types.specs.Performatives.{IsPerformative}
-use Rattle.amqp_types.specs.Transfer.{TransferSaid}
+use Rattle.amqp_types.specs.Transfer.{TransferModel}
 use Rattle.amqp_types.specs.declared.performatives.Performative.{Performative}
 use Rattle.amqp_types.specs.declared.performatives.Performative.TheVariants as its
 use Rattle.amqp_types.specs.declared.definitions.ReceiverSettleMode.{ReceiverSettleMode}
@@ -35,17 +35,17 @@ ReadsOne {X = X} Is (Err Malformed) = (x : X) → ¬ Is x
 ReadsOne Is (Err OutOfMemory) = Unit {0}
 
 -- a Transfer, and its payload
-abbrev pub IsTransfer : List ℕ → TransferSaid × List ℕ → Type 0
+abbrev pub IsTransfer : List ℕ → TransferModel × List ℕ → Type 0
 IsTransfer bytes x = (text : List ℕ) × IsPerformative (its.Transfer x.0) text × (bytes ≡ text ++ x.1)
 
 -- an error that is the whole of the bytes, or none where there are none
-abbrev pub IsErrorIfAny : List ℕ → Option ErrorSaid → Type 0
+abbrev pub IsErrorIfAny : List ℕ → Option ErrorModel → Type 0
 IsErrorIfAny bytes None = bytes ≡ []
 IsErrorIfAny bytes (Some e) = error_at bytes ≡ Some (e, [])
 
 -- these bytes are read as an error, and nothing follows
-abbrev pub IsSomeError : List ℕ → Result (Option ErrorSaid) ReadError → Type 0
+abbrev pub IsSomeError : List ℕ → Result (Option ErrorModel) ReadError → Type 0
 IsSomeError bytes (Ok None) = ⊥
 IsSomeError bytes (Ok (Some e)) = error_at bytes ≡ Some (e, [])
-IsSomeError bytes (Err Malformed) = (e : ErrorSaid) → ¬ (error_at bytes ≡ Some (e, []))
+IsSomeError bytes (Err Malformed) = (e : ErrorModel) → ¬ (error_at bytes ≡ Some (e, []))
 IsSomeError bytes (Err OutOfMemory) = Unit {0}

@@ -2,7 +2,7 @@
 -- The record of an event: how a link is named, and what came.
 use Rattle.std.specs.Prelude.{◌∷◌, ◌++◌, ◌+◌, [], ℕ, List, Bool, true, false, Option, Some, None, length, if◌then◌else◌}
 use Rattle.std.specs.Int.{w32, to_be_bytes}
-use Rattle.amqp_types.specs.Flow.{FlowSaid}
+use Rattle.amqp_types.specs.Flow.{FlowModel}
 use Rattle.amqp_types.specs.Performatives.{performative_text}
 use Rattle.amqp_types.specs.declared.definitions.Role.{Role}
 use Rattle.amqp_types.specs.declared.definitions.Role.TheVariants.{Sender, Receiver}
@@ -18,7 +18,7 @@ use Rattle.amqp_events.specs.declared.event.EventBody.TheVariants as body
 -- ---- its two parts
 
 -- the flow whose link part this is: the numbers of the session, which an event does not have, are absent or 0
-abbrev pub flow_said : LinkFlow → FlowSaid
+abbrev pub flow_said : LinkFlow → FlowModel
 flow_said f = record {
   next_incoming_id = None;
   incoming_window = 0;

@@ -4,9 +4,9 @@ use Rattle.std.specs.Prelude.{◌≡◌, ◌∷◌, ◌++◌, [], ℕ, List, Opt
 use Rattle.std.specs.FinMap as map
 use Rattle.std.specs.Int.{w16, w32, to_be_bytes, from_be_bytes}
 use Rattle.std.specs.Map.{lookup}
-use Rattle.amqp_types.specs.Error.{ErrorSaid}
-use Rattle.amqp_types.specs.Open.{OpenSaid}
-use Rattle.amqp_types.specs.Transfer.{TransferSaid, widest}
+use Rattle.amqp_types.specs.Error.{ErrorModel}
+use Rattle.amqp_types.specs.Open.{OpenModel}
+use Rattle.amqp_types.specs.Transfer.{TransferModel, widest}
 use Rattle.amqp_types.specs.Performatives.{performative_text}
 use Rattle.amqp_types.specs.declared.performatives.Performative.TheVariants as its
 use Rattle.amqp_types.specs.declared.states.ConnectionState.{ConnectionState}
@@ -18,7 +18,7 @@ use Rattle.amqp_session.specs.Session.{SessionView}
 use Rattle.amqp_engine.specs.EngineView.{EngineView}
 use Rattle.amqp_client.specs.declared.status.Status.{Status}
 use Rattle.amqp_client.specs.declared.status.Status.TheVariants as status
-use Rattle.amqp_client.specs.Refused.{RefusedSaid}
+use Rattle.amqp_client.specs.Refused.{RefusedModel}
 use Rattle.amqp_client.specs.Writing.{Writes}
 
 -- texts with a line feed between
@@ -35,14 +35,14 @@ option_or_empty None = []
 option_or_empty (Some text) = text
 
 -- where the peer ended or closed with an error, what that error says; else the condition that the peer is told
-abbrev pub refusal_by : List ℕ → List ℕ → Option ErrorSaid → List ℕ
+abbrev pub refusal_by : List ℕ → List ℕ → Option ErrorModel → List ℕ
 refusal_by name condition None = refusal_said name condition []
 refusal_by name condition (Some e) = refusal_said name e.condition (option_or_empty e.description)
 
-abbrev pub refusal_text : RefusedSaid → List ℕ
+abbrev pub refusal_text : RefusedModel → List ℕ
 refusal_text r = refusal_by r.name r.condition r.peer
 
-abbrev pub open_text : Option OpenSaid → List ℕ
+abbrev pub open_text : Option OpenModel → List ℕ
 open_text None = []
 open_text (Some o) = performative_text (its.Open o)
 
@@ -53,7 +53,7 @@ number_text (Some n) = to_be_bytes w32 n
 abbrev pub session_text : {R : Type 0} → EngineView R → ℕ → List ℕ
 session_text v channel = number_text (map.get v.connection.session_by_incoming_channel channel)
 
-abbrev pub room_text : {R : Type 0} → EngineView R → TransferSaid → List ℕ
+abbrev pub room_text : {R : Type 0} → EngineView R → TransferModel → List ℕ
 room_text v t = number_text (room_beside (widest t) v.limit)
 
 abbrev pub session_state_number : SessionState → ℕ

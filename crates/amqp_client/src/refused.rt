@@ -22,9 +22,9 @@ pub(crate) struct Refused {
 }
 
 impl Model for Refused {
-    ghost use Rattle.amqp_client.specs.Refused.{RefusedSaid};
+    ghost use Rattle.amqp_client.specs.Refused.{RefusedModel};
 
-    ghost Value = { RefusedSaid };
+    ghost Value = { RefusedModel };
 
     ghost view = { λ r. record { name = r.name.now; condition = r.condition.now; peer = r.peer } };
 }

@@ -5,9 +5,9 @@ use Rattle.std.specs.FinMap as map
 use Rattle.std.specs.FinMap.{get-empty, get-insert, get-remove}
 use Rattle.std.specs.Ordering.{nat_cmp}
 use Rattle.amqp_types.specs.declared.states.ConnectionState.{ConnectionState}
-use Rattle.amqp_types.specs.Error.{ErrorSaid}
-use Rattle.amqp_types.specs.Open.{OpenSaid}
-use Rattle.amqp_types.specs.Close.{CloseSaid}
+use Rattle.amqp_types.specs.Error.{ErrorModel}
+use Rattle.amqp_types.specs.Open.{OpenModel}
+use Rattle.amqp_types.specs.Close.{CloseModel}
 use Rattle.amqp_frames.specs.declared.frame.Frame.{Frame}
 use Rattle.amqp_connection.specs.declared.error.ConnectionStateError.{ConnectionStateError}
 use Rattle.amqp_connection.specs.declared.error.ConnectionStateError.TheVariants as state
@@ -53,12 +53,12 @@ sent_open v w (Err state.IllegalState) s = s.1
 sent_open v w (Err state.OutOfMemory) s = s.1
 sent_open v w (Err e) s = absurd s
 
-sent_close : (v w : ConnectionView) (error : Option ErrorSaid) (r : Result Frame ConnectionStateError) → SendCloseStep v error r w → w ≡ after v (SendClose error r)
+sent_close : (v w : ConnectionView) (error : Option ErrorModel) (r : Result Frame ConnectionStateError) → SendCloseStep v error r w → w ≡ after v (SendClose error r)
 sent_close v w error (Ok f) s = s.3 ∙ ap (λ x. record v { state = unwrap_or x v.state }) (sym s.1)
 sent_close v w error (Err state.IllegalState) s = s.1
 sent_close v w error (Err e) s = absurd s
 
-came_open : (v w : ConnectionView) (o : OpenSaid) (r : Option ConnectionStateError) → IncomingOpenStep v o r w → w ≡ after v (IncomingOpen o r)
+came_open : (v w : ConnectionView) (o : OpenModel) (r : Option ConnectionStateError) → IncomingOpenStep v o r w → w ≡ after v (IncomingOpen o r)
 came_open v w o None s = s.2 ∙ ap (λ x. record v { state = unwrap_or x v.state; remote_open = Some o; agreed_channel_max = channel_max_by v.local_open (IncomingOpen o None) v.agreed_channel_max }) (sym s.1)
 came_open v w o (Some state.IllegalState) s = s.1
 came_open v w o (Some e) s = absurd s
@@ -66,7 +66,7 @@ came_open v w o (Some e) s = absurd s
 taken_close : (v w : ConnectionView) (x : Option ConnectionState) → takes_close v.state ≡ x → w ≡ record v { state = unwrap_or x v.state } → w ≡ record v { state = unwrap_or (takes_close v.state) v.state }
 taken_close v w x e f = f ∙ ap (λ y. record v { state = unwrap_or y v.state }) (sym e)
 
-came_close : (v w : ConnectionView) (c : CloseSaid) (r : Option ConnectionStateError) → IncomingCloseStep v c r w → w ≡ after v (IncomingClose c r)
+came_close : (v w : ConnectionView) (c : CloseModel) (r : Option ConnectionStateError) → IncomingCloseStep v c r w → w ≡ after v (IncomingClose c r)
 came_close v w c (Some state.IllegalState) s = taken_close v w None s.0 s.1
 came_close v w c r s = taken_close v w (Some s.0) s.1 s.3
 
@@ -170,7 +170,7 @@ all_routes : (c : ℕ) (H : List Entry) (v : ConnectionView) → map.get (after_
 all_routes c [] v = refl
 all_routes c (e ∷ H) v = all_routes c H (after v e) ∙ ap (λ x. route_from c x H) (route_is c e v.session_by_incoming_channel)
 
-pub stands : (s : ConnectionState) (o : OpenSaid) (H : List Entry) (v : ConnectionView) → LeadsTo s o H v → Stands s o H v
+pub stands : (s : ConnectionState) (o : OpenModel) (H : List Entry) (v : ConnectionView) → LeadsTo s o H v → Stands s o H v
 stands s o H v l =
     let new = new_connection s o in
     let is : v ≡ after_all new H = chain_after H new v l in

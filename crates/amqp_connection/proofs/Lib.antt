@@ -1,5 +1,5 @@
-pub mod Lowest
-pub mod Counting
-pub mod StateTables
+pub mod LowestChannelLemmas
+pub mod RouteCountLemmas
+pub mod StateTableLemmas
 pub mod HistoryLemmas
-pub mod OneEach
+pub mod OpenCloseCountLemmas

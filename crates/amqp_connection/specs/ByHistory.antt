@@ -4,7 +4,7 @@ use Rattle.std.specs.Prelude.{◌≡◌, ◌≤◌, ◌+◌, ℕ, List, [], ◌�
 use Rattle.std.specs.FinMap as map
 use Rattle.amqp_types.specs.declared.states.ConnectionState.{ConnectionState}
 use Rattle.amqp_types.specs.declared.states.ConnectionState.TheVariants.{HeaderExchange}
-use Rattle.amqp_types.specs.Open.{OpenSaid}
+use Rattle.amqp_types.specs.Open.{OpenModel}
 use Rattle.amqp_session.specs.declared.stop.ConnectionStopReason.{ConnectionStopReason}
 use Rattle.amqp_frames.specs.declared.frame.Frame.{Frame}
 use Rattle.amqp_frames.specs.declared.frame.FrameBody.{FrameBody}
@@ -39,21 +39,21 @@ reason_from old (e ∷ es) = reason_from (reason_by e old) es
 
 -- ---- the peer's Open that was accepted last
 
-abbrev pub remote_open_by : Entry → Option OpenSaid → Option OpenSaid
+abbrev pub remote_open_by : Entry → Option OpenModel → Option OpenModel
 remote_open_by (IncomingOpen o None) old = Some o
 remote_open_by e old = old
 
-abbrev pub remote_open_from : Option OpenSaid → List Entry → Option OpenSaid
+abbrev pub remote_open_from : Option OpenModel → List Entry → Option OpenModel
 remote_open_from old [] = old
 remote_open_from old (e ∷ es) = remote_open_from (remote_open_by e old) es
 
 -- ---- the highest channel that both sides allow: that of this side's Open, until one of the peer's is accepted
 
-abbrev pub channel_max_by : OpenSaid → Entry → ℕ → ℕ
+abbrev pub channel_max_by : OpenModel → Entry → ℕ → ℕ
 channel_max_by own (IncomingOpen o None) old = min own.channel_max o.channel_max
 channel_max_by own e old = old
 
-abbrev pub channel_max_from : OpenSaid → ℕ → List Entry → ℕ
+abbrev pub channel_max_from : OpenModel → ℕ → List Entry → ℕ
 channel_max_from own old [] = old
 channel_max_from own old (e ∷ es) = channel_max_from own (channel_max_by own e old) es
 
@@ -81,7 +81,7 @@ route_from c old (e ∷ es) = route_from c (route_by c e old) es
 
 -- ---- all of it
 
-pub record Stands (s : ConnectionState) (o : OpenSaid) (H : List Entry) (v : ConnectionView) : Type 0 where
+pub record Stands (s : ConnectionState) (o : OpenModel) (H : List Entry) (v : ConnectionView) : Type 0 where
   pub state_is : v.state ≡ state_from s H
   pub stop_reason_is : v.stop_reason ≡ reason_from None H
   pub local_open_is : v.local_open ≡ o

@@ -5,9 +5,9 @@ use Rattle.std.specs.FinMap as map
 use Rattle.amqp_types.specs.declared.states.ConnectionState.{ConnectionState}
 use Rattle.amqp_types.specs.declared.states.ConnectionState.TheVariants.{Opened, CloseReceived}
 use Rattle.amqp_types.specs.declared.states.ConnectionState.TheVariants as at
-use Rattle.amqp_types.specs.Error.{ErrorSaid}
-use Rattle.amqp_types.specs.Open.{OpenSaid}
-use Rattle.amqp_types.specs.Close.{CloseSaid}
+use Rattle.amqp_types.specs.Error.{ErrorModel}
+use Rattle.amqp_types.specs.Open.{OpenModel}
+use Rattle.amqp_types.specs.Close.{CloseModel}
 use Rattle.amqp_session.specs.declared.stop.ConnectionStopReason.{ConnectionStopReason}
 use Rattle.amqp_session.specs.declared.stop.ConnectionStopReason.TheVariants.{Closed}
 use Rattle.amqp_session.specs.declared.frame.SessionFrame.{SessionFrame}
@@ -29,9 +29,9 @@ pub record ConnectionView : Type 0 where
   -- why it stopped: the first reason that was recorded
   pub stop_reason : Option ConnectionStopReason
   -- the Open of this side
-  pub local_open : OpenSaid
+  pub local_open : OpenModel
   -- the peer's Open that was accepted last
-  pub remote_open : Option OpenSaid
+  pub remote_open : Option OpenModel
   -- the highest channel that both sides allow; that of this side until the peer's Open is accepted
   pub agreed_channel_max : ℕ
   -- the session of each channel that is held
@@ -39,7 +39,7 @@ pub record ConnectionView : Type 0 where
   -- the session of each channel on which the peer began one
   pub session_by_incoming_channel : ChannelTable
 
-abbrev pub new_connection : ConnectionState → OpenSaid → ConnectionView
+abbrev pub new_connection : ConnectionState → OpenModel → ConnectionView
 new_connection s o = record {
   state = s;
   stop_reason = None;
@@ -61,7 +61,7 @@ stopped v r = record v { stop_reason = first_reason v.stop_reason r }
 
 -- ---- Open
 
-abbrev pub open_frame : OpenSaid → Frame
+abbrev pub open_frame : OpenModel → Frame
 open_frame o = record { channel = 0; body = body.Open o }
 
 abbrev pub SendOpenStep : ConnectionView → Result Frame ConnectionStateError → ConnectionView → Type 0
@@ -71,7 +71,7 @@ SendOpenStep v (Err state.IllegalState) w = (sends_open v.state ≡ None) × (w 
 SendOpenStep v (Err state.OutOfMemory) w = IsSome (sends_open v.state) × (w ≡ v)
 SendOpenStep v (Err e) w = ⊥
 
-abbrev pub IncomingOpenStep : ConnectionView → OpenSaid → Option ConnectionStateError → ConnectionView → Type 0
+abbrev pub IncomingOpenStep : ConnectionView → OpenModel → Option ConnectionStateError → ConnectionView → Type 0
 IncomingOpenStep v o None w =
     (s : ConnectionState) × (takes_open v.state ≡ Some s)
     × (w ≡ record v { state = s; remote_open = Some o; agreed_channel_max = min v.local_open.channel_max o.channel_max })
@@ -80,26 +80,26 @@ IncomingOpenStep v o (Some e) w = ⊥
 
 -- ---- Close
 
-abbrev pub close_frame : Option ErrorSaid → Frame
+abbrev pub close_frame : Option ErrorModel → Frame
 close_frame error = record { channel = 0; body = body.Close (record { error = error }) }
 
-abbrev pub closes_by : Option ErrorSaid → ConnectionState → Option ConnectionState
+abbrev pub closes_by : Option ErrorModel → ConnectionState → Option ConnectionState
 closes_by None s = sends_close s
 closes_by (Some e) s = sends_close_with_error s
 
-abbrev pub SendCloseStep : ConnectionView → Option ErrorSaid → Result Frame ConnectionStateError → ConnectionView → Type 0
+abbrev pub SendCloseStep : ConnectionView → Option ErrorModel → Result Frame ConnectionStateError → ConnectionView → Type 0
 SendCloseStep v error (Ok f) w =
     (s : ConnectionState) × (closes_by error v.state ≡ Some s) × (f ≡ close_frame error) × (w ≡ record v { state = s })
 SendCloseStep v error (Err state.IllegalState) w = (closes_by error v.state ≡ None) × (w ≡ v)
 SendCloseStep v error (Err e) w = ⊥
 
 -- how the peer's Close is told: as an error, unless it answers a Close of this side and has none
-abbrev pub told : ConnectionState → Option ErrorSaid → Option ConnectionStateError
+abbrev pub told : ConnectionState → Option ErrorModel → Option ConnectionStateError
 told s (Some e) = Some (state.RemoteClosedWithError e)
 told CloseReceived None = Some state.RemoteClosed
 told s None = None
 
-abbrev pub IncomingCloseStep : ConnectionView → CloseSaid → Option ConnectionStateError → ConnectionView → Type 0
+abbrev pub IncomingCloseStep : ConnectionView → CloseModel → Option ConnectionStateError → ConnectionView → Type 0
 IncomingCloseStep v c (Some state.IllegalState) w = (takes_close v.state ≡ None) × (w ≡ v)
 IncomingCloseStep v c refusal w =
     (s : ConnectionState) × (takes_close v.state ≡ Some s) × (refusal ≡ told s c.error) × (w ≡ record v { state = s })

@@ -2,11 +2,11 @@
 -- Histories of a connection: chains of its calls, of whoever makes them.
 use Rattle.std.specs.Prelude.{◌≡◌, ℕ, List, [], ◌∷◌, Bool, Option, Result}
 use Rattle.amqp_types.specs.declared.states.ConnectionState.{ConnectionState}
-use Rattle.amqp_types.specs.Error.{ErrorSaid}
-use Rattle.amqp_types.specs.Open.{OpenSaid}
-use Rattle.amqp_types.specs.Begin.{BeginSaid}
-use Rattle.amqp_types.specs.End.{EndSaid}
-use Rattle.amqp_types.specs.Close.{CloseSaid}
+use Rattle.amqp_types.specs.Error.{ErrorModel}
+use Rattle.amqp_types.specs.Open.{OpenModel}
+use Rattle.amqp_types.specs.Begin.{BeginModel}
+use Rattle.amqp_types.specs.End.{EndModel}
+use Rattle.amqp_types.specs.Close.{CloseModel}
 use Rattle.amqp_session.specs.declared.stop.ConnectionStopReason.{ConnectionStopReason}
 use Rattle.amqp_frames.specs.declared.frame.Frame.{Frame}
 use Rattle.amqp_connection.specs.declared.error.ConnectionStateError.{ConnectionStateError}
@@ -19,10 +19,10 @@ use Rattle.amqp_connection.specs.Connection.{AllocateStep, DeallocateStep, Begin
 pub data Entry : Type 0 where
   -- an Open and a Close of this side: the frame, or why there is none
   SendOpen : Result Frame ConnectionStateError → Entry
-  SendClose : Option ErrorSaid → Result Frame ConnectionStateError → Entry
+  SendClose : Option ErrorModel → Result Frame ConnectionStateError → Entry
   -- an Open and a Close of the peer's, and how it was refused, if it was
-  IncomingOpen : OpenSaid → Option ConnectionStateError → Entry
-  IncomingClose : CloseSaid → Option ConnectionStateError → Entry
+  IncomingOpen : OpenModel → Option ConnectionStateError → Entry
+  IncomingClose : CloseModel → Option ConnectionStateError → Entry
   -- why it stops
   Stop : ConnectionStopReason → Entry
   -- a channel for the session of this number, and a channel that is given back
@@ -32,8 +32,8 @@ pub data Entry : Type 0 where
   IncomingBegin : ℕ → Option ℕ → Result ℕ ConnectionInnerError → Entry
   IncomingEnd : ℕ → Result ℕ ConnectionInnerError → Entry
   -- the frames of a session's Begin and End, on a channel of this side's
-  OutgoingBegin : ℕ → BeginSaid → Entry
-  OutgoingEnd : ℕ → EndSaid → Entry
+  OutgoingBegin : ℕ → BeginModel → Entry
+  OutgoingEnd : ℕ → EndModel → Entry
 
 abbrev pub Step : ConnectionView → Entry → ConnectionView → Type 0
 Step v (SendOpen result) w = SendOpenStep v result w
@@ -53,5 +53,5 @@ Chain v [] w = w ≡ v
 Chain v (e ∷ es) w = (m : ConnectionView) × Step v e m × Chain m es w
 
 -- a history of a connection that was new in this state and with this Open
-abbrev pub LeadsTo : ConnectionState → OpenSaid → List Entry → ConnectionView → Type 0
+abbrev pub LeadsTo : ConnectionState → OpenModel → List Entry → ConnectionView → Type 0
 LeadsTo s o H w = Chain (new_connection s o) H w

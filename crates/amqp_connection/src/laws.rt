@@ -5,7 +5,7 @@ ghost use Rattle.std.specs.List.{fold};
 ghost use Rattle.std.specs.Hash as fed;
 ghost use Rattle.std.specs.Ordering.{nat_cmp};
 ghost use Rattle.amqp_types.specs.declared.states.ConnectionState.{ConnectionState};
-ghost use Rattle.amqp_types.specs.Open.{OpenSaid};
+ghost use Rattle.amqp_types.specs.Open.{OpenModel};
 ghost use Rattle.amqp_connection.specs.Connection.{ConnectionView};
 ghost use Rattle.amqp_connection.specs.History.{Entry, LeadsTo};
 ghost use Rattle.amqp_connection.specs.ByHistory.{Stands, OneEach};
@@ -18,8 +18,8 @@ use std::hash::{Hash, Hasher};
 /// Open; the highest channel that both sides allow; the channels that are held; and the routes of received frames. And one that was
 /// made in `HeaderExchange` hands out at most one Open and one Close (AMQP 1.0 part 2, section 2.4).
 pub fn law_of_views()
-    ensures stands { (s : ConnectionState) (o : OpenSaid) (H : List Entry) (v : ConnectionView) → LeadsTo s o H v → Stands s o H v }
-    ensures one_each { (s : ConnectionState) (o : OpenSaid) (H : List Entry) (v : ConnectionView) → LeadsTo s o H v → OneEach s H }
+    ensures stands { (s : ConnectionState) (o : OpenModel) (H : List Entry) (v : ConnectionView) → LeadsTo s o H v → Stands s o H v }
+    ensures one_each { (s : ConnectionState) (o : OpenModel) (H : List Entry) (v : ConnectionView) → LeadsTo s o H v → OneEach s H }
 {}
 
 /// Whether two session numbers are equal, and how they compare: as their numbers do. The first is hashed as its number.

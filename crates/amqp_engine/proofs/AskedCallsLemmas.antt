@@ -5,7 +5,7 @@ use Rattle.std.specs.FinMap as map
 use Rattle.amqp_types.specs.declared.states.ConnectionState.{ConnectionState}
 use Rattle.amqp_types.specs.declared.states.SessionState.{SessionState}
 use Rattle.amqp_types.specs.declared.states.SessionState.TheVariants.{Unmapped}
-use Rattle.amqp_types.specs.Open.{OpenSaid}
+use Rattle.amqp_types.specs.Open.{OpenModel}
 use Rattle.amqp_session.specs.Relay.{Relays}
 use Rattle.amqp_session.specs.Session.{SessionView}
 use Rattle.amqp_session.specs.OutgoingFrames.{calls_frames}
@@ -68,7 +68,7 @@ some_asked : {R : Type 0} (before : List (Entry R)) (e : Entry R) (n : ℕ) (o :
 some_asked before e n None is r a = absurd (some_none (sym r ∙ is))
 some_asked before e n (Some k) is r a = λ known. subst (λ x. Is e (session_state x before)) (same_value n k (sym r ∙ is)) a
 
-pub all_asked : {R : Type 0} (g : Relays R) → ViewsLaw g → (made : ConnectionState) (o : OpenSaid) (H : List (Entry R)) (w : EngineView R) → LeadsTo g made o H w → AllAsked H
+pub all_asked : {R : Type 0} (g : Relays R) → ViewsLaw g → (made : ConnectionState) (o : OpenModel) (H : List (Entry R)) (w : EngineView R) → LeadsTo g made o H w → AllAsked H
 all_asked g law made o H w l before after e is =
     let r = chain_split g before (e ∷ after) (new_engine made o) w (subst (λ (es : List (Entry _)). Chain g (new_engine made o) es w) is l) in
     by r.0 r.2.0 r.2.1 (λ n. legal g before n (new_engine made o) r.0 r.1 refl) (λ n. ap (lookup (nat_eq n)) r.2.2.sessions_is)
@@ -85,7 +85,7 @@ all_asked g law made o H w l before after e is =
     by m u t legal same used (inr (inl x)) = some_asked before e x.number e.reached refl x.reached_is
         (subst (Is e) (absent_state g x.number (new_connection made o) before m (legal x.number) (sym (same x.number) ∙ x.absent) (sym (used x.number) ∙ ap is_some x.unused)) x.asked)
 
-pub frames_are : {R : Type 0} (g : Relays R) (made : ConnectionState) (o : OpenSaid) (H : List (Entry R)) (w : EngineView R) → LeadsTo g made o H w → FramesAre o H
+pub frames_are : {R : Type 0} (g : Relays R) (made : ConnectionState) (o : OpenModel) (H : List (Entry R)) (w : EngineView R) → LeadsTo g made o H w → FramesAre o H
 frames_are g made o H w l before after e is =
     let r = chain_split g before (e ∷ after) (new_engine made o) w (subst (λ (es : List (Entry _)). Chain g (new_engine made o) es w) is l) in
     let own : r.2.0.connection.local_open ≡ o = ap (λ (k : ConnectionView). k.local_open) r.2.2.connection_is ∙ open_law g before (new_engine made o) r.0 r.1 in
@@ -108,7 +108,7 @@ plain_not_short (Some (no.Session y)) p x = cc
 plain_not_short (Some (no.AllocLink y)) p x = cc
 plain_not_short (Some y) p x = absurd p
 
-pub ran_short : {R : Type 0} (g : Relays R) (made : ConnectionState) (o : OpenSaid) (H : List (Entry R)) (w : EngineView R) → LeadsTo g made o H w → RanShort H
+pub ran_short : {R : Type 0} (g : Relays R) (made : ConnectionState) (o : OpenModel) (H : List (Entry R)) (w : EngineView R) → LeadsTo g made o H w → RanShort H
 ran_short g made o H w l before after e is short =
     let r = chain_split g before (e ∷ after) (new_engine made o) w (subst (λ (es : List (Entry _)). Chain g (new_engine made o) es w) is l) in
     by r.2.0 r.2.1 (passage g r.2.0 r.2.1 e r.2.3)

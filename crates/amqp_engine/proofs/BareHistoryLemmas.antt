@@ -1,7 +1,7 @@
 -- Histories, what is kept for handles apart.
 use Rattle.std.proofs.Common.{◌≡◌, List, [], ◌∷◌, ◌++◌, ap, ◌∙◌, sym}
 use Rattle.amqp_types.specs.declared.states.ConnectionState.{ConnectionState}
-use Rattle.amqp_types.specs.Open.{OpenSaid}
+use Rattle.amqp_types.specs.Open.{OpenModel}
 use Rattle.amqp_frames.specs.declared.frame.Frame.{Frame}
 use Rattle.amqp_session.specs.Relay.{Relays}
 use Rattle.amqp_engine.specs.EngineView.{EngineView, new_engine}
@@ -22,7 +22,7 @@ abbrev pub Chain : {R : Type 0} → Relays R → EngineView R → List (Entry R)
 Chain g v [] w = Taken v w
 Chain g v (e ∷ es) w = (u : EngineView _) × (m : EngineView _) × Taken v u × Step g u e m × Chain g m es w
 
-abbrev pub LeadsTo : {R : Type 0} → Relays R → ConnectionState → OpenSaid → List (Entry R) → EngineView R → Type 0
+abbrev pub LeadsTo : {R : Type 0} → Relays R → ConnectionState → OpenModel → List (Entry R) → EngineView R → Type 0
 LeadsTo g state o H w = Chain g (new_engine state o) H w
 
 taken : {R : Type 0} (v w : EngineView R) → whole.Taken v w → Taken v w

@@ -7,8 +7,8 @@ use Rattle.std.specs.FinMap as map
 use Rattle.std.specs.FinMap.{get-empty}
 use Rattle.std.specs.Ordering.{nat_cmp}
 use Rattle.amqp_types.specs.declared.states.ConnectionState.{ConnectionState}
-use Rattle.amqp_types.specs.Open.{OpenSaid}
-use Rattle.amqp_session.specs.Settings.{SettingsSaid}
+use Rattle.amqp_types.specs.Open.{OpenModel}
+use Rattle.amqp_session.specs.Settings.{SettingsModel}
 use Rattle.amqp_session.specs.Relay.{Relays}
 use Rattle.amqp_session.specs.Session.{SessionView, new_session}
 use Rattle.amqp_session.specs.History as session
@@ -59,7 +59,7 @@ pub record Kept-held (v : ConnectionView) (ev : Event) (w : ConnectionView) : Ty
 
 pub record More-held (v : ConnectionView) (ev : Event) (w : ConnectionView) : Type 0 where
   pub number : ℕ
-  pub settings : SettingsSaid
+  pub settings : SettingsModel
   pub channel : ℕ
   pub is : ev ≡ Began number settings channel
   pub held_is : w.session_by_outgoing_channel ≡ map.insert v.session_by_outgoing_channel channel number
@@ -185,16 +185,16 @@ stays_on : {R : Type 0} (g : Relays R) (v w : EngineView R) (e : Entry R) (n c :
 stays_on g v w e n c p r x = let a = one g n v w e x.0 p.effect x.1 in (a.0, a.1 ∙ ap (λ b. cond b None (Some a.0)) r, on_it_still g (calls_at n e) x.0 a.0 a.2 ∙ x.2)
 
 -- a session that begins was not there, and is
-same_began : (n k c d : ℕ) (s t : SettingsSaid) → Began n s c ≡ Began k t d → n ≡ k
+same_began : (n k c d : ℕ) (s t : SettingsModel) → Began n s c ≡ Began k t d → n ≡ k
 same_began n k c d s t e = cc
 
-forgot_none : (k n : ℕ) (s : SettingsSaid) (c : ℕ) → Forgot k ≡ Began n s c → ⊥
+forgot_none : (k n : ℕ) (s : SettingsModel) (c : ℕ) → Forgot k ≡ Began n s c → ⊥
 forgot_none k n s c e = cc
 
-same_channel : (n k c d : ℕ) (s t : SettingsSaid) → Began n s c ≡ Began k t d → c ≡ d
+same_channel : (n k c d : ℕ) (s t : SettingsModel) → Began n s c ≡ Began k t d → c ≡ d
 same_channel n k c d s t e = cc
 
-begun_now : {R : Type 0} (g : Relays R) (v w : EngineView R) (e : Entry R) (n : ℕ) (settings : SettingsSaid) (c : ℕ) → Passage g v e w → event e ≡ Began n settings c → (lookup (nat_eq n) v.sessions ≡ None) × IsOn w n c
+begun_now : {R : Type 0} (g : Relays R) (v w : EngineView R) (e : Entry R) (n : ℕ) (settings : SettingsModel) (c : ℕ) → Passage g v e w → event e ≡ Began n settings c → (lookup (nat_eq n) v.sessions ≡ None) × IsOn w n c
 begun_now g v w e n settings c p is = by p.effect
   where
     by : Effect g v e w → (lookup (nat_eq n) v.sessions ≡ None) × IsOn w n c
@@ -264,7 +264,7 @@ pub kept : {R : Type 0} (g : Relays R) (es : List (Entry R)) (v w : EngineView R
 kept g [] v w c k = kept_taken v w c k
 kept g (e ∷ es) v w c k = kept g es c.1 w c.4 (kept_step g c.0 c.1 e (passage g c.0 c.1 e c.3) (kept_taken v c.0 c.2 k))
 
-pub kept_new : {R : Type 0} (made : ConnectionState) (o : OpenSaid) → Kept {R = R} (new_engine made o)
+pub kept_new : {R : Type 0} (made : ConnectionState) (o : OpenModel) → Kept {R = R} (new_engine made o)
 kept_new made o = record {
   known = λ c n e. absurd (some_none (sym e ∙ get-empty nat_cmp c));
   once = λ c d n e f. absurd (some_none (sym e ∙ get-empty nat_cmp c));
@@ -307,10 +307,10 @@ held_law g c (e ∷ es) v w k h =
     held_law g c es h.1 w (kept_step g h.0 h.1 e p u) h.4
     ∙ ap (λ o. held_from c o es) (step_holds h.0 h.1 (event e) c u (moves_held h.0.connection h.1.connection (event e) p.moved) ∙ ap (λ (x : ConnectionView). held_by c (event e) (map.get x.session_by_outgoing_channel c)) h.2.connection_is)
 
-pub holds : {R : Type 0} (g : Relays R) (c : ℕ) (made : ConnectionState) (o : OpenSaid) (H : List (Entry R)) (w : EngineView R) → LeadsTo g made o H w → map.get w.connection.session_by_outgoing_channel c ≡ held c H
+pub holds : {R : Type 0} (g : Relays R) (c : ℕ) (made : ConnectionState) (o : OpenModel) (H : List (Entry R)) (w : EngineView R) → LeadsTo g made o H w → map.get w.connection.session_by_outgoing_channel c ≡ held c H
 holds g c made o H w l = held_law g c H (new_engine made o) w (kept_new made o) l ∙ ap (λ x. held_from c x H) (get-empty nat_cmp c)
 
-pub once_held : {R : Type 0} (g : Relays R) (made : ConnectionState) (o : OpenSaid) (H : List (Entry R)) (w : EngineView R) → LeadsTo g made o H w → HeldOnce H
+pub once_held : {R : Type 0} (g : Relays R) (made : ConnectionState) (o : OpenModel) (H : List (Entry R)) (w : EngineView R) → LeadsTo g made o H w → HeldOnce H
 once_held g made o H w l c d n a b = (kept g H (new_engine made o) w l (kept_new made o)).once c d n (holds g c made o H w l ∙ a) (holds g d made o H w l ∙ b)
 
 -- ---- so are the routes
@@ -324,5 +324,5 @@ route_law : {R : Type 0} (g : Relays R) (c : ℕ) (es : List (Entry R)) (v w : E
 route_law g c = by_history g (λ v. map.get v.connection.session_by_incoming_channel c) (λ e o. route_by c (event e) o) (route_from c) (λ x. refl) (λ x e es. refl)
     (λ v w t. ap (λ (k : ConnectionView). map.get k.session_by_incoming_channel c) t.connection_is) (λ v w e p. step_routes v.connection w.connection (event e) c (moves_routes v.connection w.connection (event e) p.moved))
 
-pub routes : {R : Type 0} (g : Relays R) (c : ℕ) (made : ConnectionState) (o : OpenSaid) (H : List (Entry R)) (w : EngineView R) → LeadsTo g made o H w → map.get w.connection.session_by_incoming_channel c ≡ route c H
+pub routes : {R : Type 0} (g : Relays R) (c : ℕ) (made : ConnectionState) (o : OpenModel) (H : List (Entry R)) (w : EngineView R) → LeadsTo g made o H w → map.get w.connection.session_by_incoming_channel c ≡ route c H
 routes g c made o H w l = route_law g c H (new_engine made o) w l ∙ ap (λ x. route_from c x H) (get-empty nat_cmp c)

@@ -1,7 +1,7 @@
 -- Dispositions that go out in turn, in answer to one of the peer's.
 use Rattle.std.proofs.Common.{◌≡◌, ◌-◌, ◌<◌, ◌+◌, ℕ, List, [], ◌∷◌, ◌++◌, length, map, Bool, refl, ap, sym, subst, ◌∙◌, arith, append_assoc}
 use Rattle.std.proofs.lemmas.List.{append-nil}
-use Rattle.amqp_types.specs.Disposition.{DispositionSaid}
+use Rattle.amqp_types.specs.Disposition.{DispositionModel}
 use Rattle.amqp_session.specs.declared.frame.SessionFrame.{SessionFrame}
 use Rattle.amqp_session.specs.declared.frame.SessionFrameBody.TheVariants as said
 use Rattle.amqp_session.specs.Relay.{Relays}
@@ -13,7 +13,7 @@ use Rattle.amqp_engine.specs.Calls.{SentEach}
 use Rattle.amqp_engine.specs.Sessions.{SendsAll}
 use Rattle.amqp_engine.specs.Waits.{disposition_frame}
 
-sent_push : {R : Type 0} (ds : List DispositionSaid) (calls : List (session.Entry R)) (d : DispositionSaid) (terminal : Bool) (f : SessionFrame) →
+sent_push : {R : Type 0} (ds : List DispositionModel) (calls : List (session.Entry R)) (d : DispositionModel) (terminal : Bool) (f : SessionFrame) →
     SentEach ds calls → SentEach (ds ++ d ∷ []) (calls ++ session.SendsDisposition d terminal f ∷ [])
 sent_push [] calls d terminal f s = (terminal, f, [], ap (λ cs. cs ++ session.SendsDisposition d terminal f ∷ []) s, refl)
 sent_push (x ∷ ds) calls d terminal f s = (
@@ -33,12 +33,12 @@ frames_push : {R : Type 0} (calls : List (session.Entry R)) (e : session.Entry R
 frames_push [] e = append-nil (call_frames e)
 frames_push (x ∷ xs) e = ap (λ fs. call_frames x ++ fs) (frames_push xs e) ∙ sym (append_assoc (call_frames x) (calls_frames xs) (call_frames e))
 
-map_push : (c : ℕ) (ds : List DispositionSaid) (d : DispositionSaid) → map (disposition_frame c) (ds ++ d ∷ []) ≡ map (disposition_frame c) ds ++ disposition_frame c d ∷ []
+map_push : (c : ℕ) (ds : List DispositionModel) (d : DispositionModel) → map (disposition_frame c) (ds ++ d ∷ []) ≡ map (disposition_frame c) ds ++ disposition_frame c d ∷ []
 map_push c [] d = refl
 map_push c (x ∷ ds) d = ap (λ fs. disposition_frame c x ∷ fs) (map_push c ds d)
 
 -- one more goes out
-pub sends_more : {R : Type 0} (g : Relays R) (v m w : SessionView R) (ds : List DispositionSaid) (d : DispositionSaid) (terminal : Bool) (f : SessionFrame) →
+pub sends_more : {R : Type 0} (g : Relays R) (v m w : SessionView R) (ds : List DispositionModel) (d : DispositionModel) (terminal : Bool) (f : SessionFrame) →
     SendsAll g v ds m → SendDispositionStep m d terminal f w → SendsAll g v (ds ++ d ∷ []) w
 sends_more g v m w ds d terminal f all step =
     let e = session.SendsDisposition d terminal f in
@@ -51,15 +51,15 @@ sends_more g v m w ds d terminal f all step =
     )
 
 -- The dispositions that went out, and those that are still to go: they stand in the ring the other way round.
-pub record Turning {R : Type 0} (g : Relays R) (v w : SessionView R) (ds items : List DispositionSaid) (left : ℕ) : Type 0 where
-  pub done : List DispositionSaid
-  pub todo : List DispositionSaid
+pub record Turning {R : Type 0} (g : Relays R) (v w : SessionView R) (ds items : List DispositionModel) (left : ℕ) : Type 0 where
+  pub done : List DispositionModel
+  pub todo : List DispositionModel
   pub all : ds ≡ done ++ todo
   pub turned : items ≡ todo ++ done
   pub count : length todo ≡ left
   pub sent : SendsAll g v done w
 
-pub turning_start : {R : Type 0} (g : Relays R) (v : SessionView R) (ds items : List DispositionSaid) → items ≡ ds → Turning g v v ds items (length items)
+pub turning_start : {R : Type 0} (g : Relays R) (v : SessionView R) (ds items : List DispositionModel) → items ≡ ds → Turning g v v ds items (length items)
 turning_start g v ds items is = record {
   done = [];
   todo = ds;
@@ -70,14 +70,14 @@ turning_start g v ds items is = record {
 }
 
 -- the first one goes to the end of the ring, as it went out
-pub turning_more : {R : Type 0} (g : Relays R) (v m w : SessionView R) (ds items rest items' : List DispositionSaid) (i n : ℕ) (d d' : DispositionSaid) (terminal : Bool) (f : SessionFrame) →
+pub turning_more : {R : Type 0} (g : Relays R) (v m w : SessionView R) (ds items rest items' : List DispositionModel) (i n : ℕ) (d d' : DispositionModel) (terminal : Bool) (f : SessionFrame) →
     i < n → Turning g v m ds items (n - i) → items ≡ d ∷ rest → SendDispositionStep m d terminal f w → d' ≡ d → items' ≡ rest ++ d' ∷ [] → Turning g v w ds items' (n - (i + 1))
 turning_more g v m w ds items rest items' i n d d' terminal f lt t popped step same pushed = by t.todo t.all t.turned t.count
   where
-    heads : (a b : DispositionSaid) (xs ys : List DispositionSaid) → a ∷ xs ≡ b ∷ ys → (a ≡ b) × (xs ≡ ys)
+    heads : (a b : DispositionModel) (xs ys : List DispositionModel) → a ∷ xs ≡ b ∷ ys → (a ≡ b) × (xs ≡ ys)
     heads a b xs ys e = (cc, cc)
 
-    by : (todo : List DispositionSaid) → ds ≡ t.done ++ todo → items ≡ todo ++ t.done → length todo ≡ n - i → Turning g v w ds items' (n - (i + 1))
+    by : (todo : List DispositionModel) → ds ≡ t.done ++ todo → items ≡ todo ++ t.done → length todo ≡ n - i → Turning g v w ds items' (n - (i + 1))
     by [] all turned count = absurd (omega (arith, lt, count))
     by (x ∷ xs) all turned count =
         let h = heads x d (xs ++ t.done) rest (sym turned ∙ popped) in
@@ -91,12 +91,12 @@ turning_more g v m w ds items rest items' i n d d' terminal f lt t popped step s
         }
 
 -- all went out, and stand as they stood
-pub turning_end : {R : Type 0} (g : Relays R) (v w : SessionView R) (ds items : List DispositionSaid) (left : ℕ) → left ≡ 0 → Turning g v w ds items left → (items ≡ ds) × SendsAll g v ds w
+pub turning_end : {R : Type 0} (g : Relays R) (v w : SessionView R) (ds items : List DispositionModel) (left : ℕ) → left ≡ 0 → Turning g v w ds items left → (items ≡ ds) × SendsAll g v ds w
 turning_end g v w ds items left none t = by t.todo t.all t.turned (t.count ∙ none)
   where
-    by : (todo : List DispositionSaid) → ds ≡ t.done ++ todo → items ≡ todo ++ t.done → length todo ≡ 0 → (items ≡ ds) × SendsAll g v ds w
+    by : (todo : List DispositionModel) → ds ≡ t.done ++ todo → items ≡ todo ++ t.done → length todo ≡ 0 → (items ≡ ds) × SendsAll g v ds w
     by [] all turned count = (turned ∙ sym (all ∙ append-nil t.done), subst (λ xs. SendsAll g v xs w) (sym (all ∙ append-nil t.done)) t.sent)
     by (x ∷ xs) all turned count = absurd (omega (arith, count))
 
-pub same_disposition : (a b : DispositionSaid) → said.Disposition a ≡ said.Disposition b → a ≡ b
+pub same_disposition : (a b : DispositionModel) → said.Disposition a ≡ said.Disposition b → a ≡ b
 same_disposition a b e = cc

@@ -12,13 +12,13 @@ use Rattle.std.specs.FinMap as map
 use Rattle.std.specs.FinMap.{get-entries, get-remove, entries_sorted, nat_cmp-IsAntisymmetric, find, is_sorted}
 use Rattle.std.specs.FinMap.Entries.{below_all, same_entries}
 use Rattle.std.specs.BinaryHeap.{IsUpperBound, lt_by_cmp}
-use Rattle.amqp_types.specs.Error.{ErrorSaid}
+use Rattle.amqp_types.specs.Error.{ErrorModel}
 use Rattle.amqp_session.proofs.FiniteMapLemmas.{same_test}
 use Rattle.amqp_engine.specs.declared.engine.handle_state.SessionSlot.{SessionSlot}
 use Rattle.amqp_connection.specs.Channels.{mark}
 use Rattle.amqp_engine.specs.Inner.Places.{pick, times, has_wish, has_entries, noted}
 use Rattle.amqp_engine.proofs.PickedMapLemmas.{Writes, get_pick, picked_at}
-use Rattle.amqp_connection.proofs.Lowest.{tested, untested, same_number, other_number}
+use Rattle.amqp_connection.proofs.LowestChannelLemmas.{tested, untested, same_number, other_number}
 
 -- ---- how many are noted
 
@@ -137,7 +137,7 @@ pub no_wish : (o : Option SessionSlot) → has_wish o ≡ false → picked_at (�
 no_wish None e = refl
 no_wish (Some p) e = by p.wish e
   where
-    by : (w : Option (Option ErrorSaid)) → is_some w ≡ false → w ≡ None
+    by : (w : Option (Option ErrorModel)) → is_some w ≡ false → w ≡ None
     by None h = refl
     by (Some x) h = absurd cc
 
@@ -259,13 +259,13 @@ some_noted es (y ∷ ys) x some top fits each =
     let is : has_wish (lookup (nat_eq n) es) ≡ true = marked _ (omega (arith, each n, step, one)) in
     not_empty n (has_one (lookup (nat_eq n) es) is (map.get (pick (λ p. p.wish) es) n) (get_pick (λ p. p.wish) es n))
   where
-    has_one : (o : Option SessionSlot) → has_wish o ≡ true → (g : Option (Option ErrorSaid)) → g ≡ picked_at (λ p. p.wish) o → is_some g ≡ true
+    has_one : (o : Option SessionSlot) → has_wish o ≡ true → (g : Option (Option ErrorModel)) → g ≡ picked_at (λ p. p.wish) o → is_some g ≡ true
     has_one None h g e = absurd cc
     has_one (Some p) h g e = ap (λ z. is_some z) e ∙ h
 
     not_empty : (n : ℕ) → is_some (map.get (pick (λ p. p.wish) es) n) ≡ true → has_entries (map.entries (pick (λ p. p.wish) es)) ≡ true
     not_empty n h = by (map.entries (pick (λ p. p.wish) es)) (ap (λ z. is_some z) (sym (get-entries (pick (λ p. p.wish) es) n)) ∙ h)
       where
-        by : (fs : List (ℕ × Option ErrorSaid)) → is_some (find nat_cmp n fs) ≡ true → has_entries fs ≡ true
+        by : (fs : List (ℕ × Option ErrorModel)) → is_some (find nat_cmp n fs) ≡ true → has_entries fs ≡ true
         by [] e = absurd cc
         by (f ∷ fs) e = refl

@@ -10,11 +10,11 @@ use Rattle.std.specs.Ordering.{nat_cmp}
 use Rattle.std.proofs.lemmas.Bool.Decides.{nat_tests}
 use Rattle.indexmap.specs.IndexMap.{swap_remove_entry}
 use Rattle.indexmap.proofs.MapLemmas.{Found-position, swap_remove_entry-found, swap_remove_entry-missing}
-use Rattle.amqp_types.specs.Error.{ErrorSaid}
+use Rattle.amqp_types.specs.Error.{ErrorModel}
 use Rattle.amqp_session.proofs.FiniteMapLemmas.{remove_none, same_test}
 use Rattle.amqp_session.specs.Session.{Observed}
 use Rattle.amqp_connection.specs.Channels.{mark}
-use Rattle.amqp_connection.proofs.Lowest.{same_number}
+use Rattle.amqp_connection.proofs.LowestChannelLemmas.{same_number}
 use Rattle.amqp_engine.specs.declared.engine.handle_state.SessionSlot.{SessionSlot}
 use Rattle.amqp_engine.specs.declared.engine.step_error.StepError.{StepError}
 use Rattle.amqp_engine.specs.declared.engine.step_error.StepError.TheVariants as no
@@ -77,7 +77,7 @@ queued_gone es es' n items count capacity w is short none q = record {
 
 -- whether a wish is noted, by the place and by the map of them
 pub wish_at : (es : List (ℕ × SessionSlot)) (n : ℕ) → has_wish (lookup (nat_eq n) es) ≡ is_some (map.get (pick (λ p. p.wish) es) n)
-wish_at es n = by (lookup (nat_eq n) es) ∙ sym (ap (λ (o : Option (Option ErrorSaid)). is_some o) (get_pick (λ p. p.wish) es n))
+wish_at es n = by (lookup (nat_eq n) es) ∙ sym (ap (λ (o : Option (Option ErrorModel)). is_some o) (get_pick (λ p. p.wish) es n))
   where
     by : (o : Option SessionSlot) → has_wish o ≡ is_some (picked_at (λ (p : SessionSlot). p.wish) o)
     by None = refl

@@ -4,7 +4,7 @@ use Rattle.std.specs.Map.{lookup}
 use Rattle.std.specs.FinMap as map
 use Rattle.std.specs.FinMap.{get-remove}
 use Rattle.std.specs.Cmp.{nat_cmp_total}
-use Rattle.amqp_types.specs.Error.{ErrorSaid}
+use Rattle.amqp_types.specs.Error.{ErrorModel}
 use Rattle.amqp_types.specs.declared.states.ConnectionState.{ConnectionState}
 use Rattle.amqp_types.specs.declared.states.ConnectionState.TheVariants as at
 use Rattle.amqp_types.specs.declared.states.SessionState.{SessionState}
@@ -32,7 +32,7 @@ noted v w q e = subst (λ (x : EngineView _). Taken v x) (sym e) (rewished v q)
 
 -- ---- of a connection
 
-pub close_leaves : {R : Type 0} (told : Bool) (error : Option ErrorSaid) (v w : EngineView R) (answer : CloseAnswer) → CloseCall told error v answer w → Taken v w
+pub close_leaves : {R : Type 0} (told : Bool) (error : Option ErrorModel) (v w : EngineView R) (answer : CloseAnswer) → CloseCall told error v answer w → Taken v w
 close_leaves true error v w answer c = stayed v w c.1
 close_leaves false error v w answer c = noted v w _ c.1
 
@@ -63,15 +63,15 @@ try_close_leaves false v w answer told' c =
 
 -- ---- of a session
 
-wishes_end : {R : Type 0} (n : ℕ) (s : Option (SessionView R)) (error : Option ErrorSaid) (v w : EngineView R) (answer : EndAnswer) → WishesEnd n s error v answer w → Taken v w
+wishes_end : {R : Type 0} (n : ℕ) (s : Option (SessionView R)) (error : Option ErrorModel) (v w : EngineView R) (answer : EndAnswer) → WishesEnd n s error v answer w → Taken v w
 wishes_end n None error v w answer c = stayed v w c.1
 wishes_end n (Some s) error v w answer c = noted v w _ c.1
 
-end_by : {R : Type 0} (h : SessionHandleView) (error : Option ErrorSaid) (v w : EngineView R) (answer : EndAnswer) (told : Bool) → h.told ≡ told → EndCall h error v answer w → Taken v w
+end_by : {R : Type 0} (h : SessionHandleView) (error : Option ErrorModel) (v w : EngineView R) (answer : EndAnswer) (told : Bool) → h.told ≡ told → EndCall h error v answer w → Taken v w
 end_by h error v w answer true e c = stayed v w (c.0 e).1
 end_by h error v w answer false e c = wishes_end h.number (lookup (nat_eq h.number) v.sessions) error v w answer (c.1 e)
 
-pub end_leaves : {R : Type 0} (h : SessionHandleView) (error : Option ErrorSaid) (v w : EngineView R) (answer : EndAnswer) → EndCall h error v answer w → Taken v w
+pub end_leaves : {R : Type 0} (h : SessionHandleView) (error : Option ErrorModel) (v w : EngineView R) (answer : EndAnswer) → EndCall h error v answer w → Taken v w
 end_leaves h error v w answer c = end_by h error v w answer h.told refl c
 
 ended : {R : Type 0} (n : ℕ) (v : EngineView R) → IsEnded n v → Taken v (end_taken n v)

@@ -3,7 +3,7 @@ use Rattle.std.proofs.Common.{◌≡◌, ℕ, List, All, [], ◌∷◌, ◌++◌
 use Rattle.std.proofs.lemmas.List.{append-nil}
 use Rattle.std.proofs.lemmas.List.Elements.{All-nil, All-push}
 use Rattle.std.specs.FinMap as finite
-use Rattle.amqp_types.specs.Error.{ErrorSaid}
+use Rattle.amqp_types.specs.Error.{ErrorModel}
 use Rattle.amqp_session.specs.declared.deliveries.WalkCount.{WalkCount}
 use Rattle.amqp_session.specs.Relay.{Relays}
 use Rattle.amqp_engine.specs.declared.engine.input.Input.{Input}
@@ -160,7 +160,7 @@ asked_wishes g u v' i answers answers' a = by a.refusal a.step a.so
 
 pub record HearingEnds {R : Type 0} (g : Relays R) (v : EngineView R) (answers : List Answer) (v' : EngineView R) (answers' : List Answer) : Type 0 where
   pub heard : List (Entry R)
-  pub ends : List (ℕ × Option ErrorSaid)
+  pub ends : List (ℕ × Option ErrorModel)
   pub ends_first : finite.entries v.wishes.ends ≡ ends ++ finite.entries v'.wishes.ends
   pub close_is : v'.wishes.close ≡ v.wishes.close
   pub are : inputs_of heard ≡ each end_request ends
@@ -176,11 +176,11 @@ ends_start g v v' answers answers' out t a p = record {
   now = heard_start g v v' answers answers' out t a p;
 }
 
-each-push : {R : Type 0} (xs : List (ℕ × Option ErrorSaid)) (x : ℕ × Option ErrorSaid) → each (end_request {R = R}) (xs ++ x ∷ []) ≡ each end_request xs ++ end_request x ∷ []
+each-push : {R : Type 0} (xs : List (ℕ × Option ErrorModel)) (x : ℕ × Option ErrorModel) → each (end_request {R = R}) (xs ++ x ∷ []) ≡ each end_request xs ++ end_request x ∷ []
 each-push [] x = refl
 each-push (y ∷ xs) x = ap (λ (is' : List (Input _)). end_request y ∷ is') (each-push xs x)
 
-pub ends_more : {R : Type 0} (g : Relays R) (v v1 v2 v3 : EngineView R) (answers answers1 answers3 : List Answer) (e : ℕ × Option ErrorSaid) →
+pub ends_more : {R : Type 0} (g : Relays R) (v v1 v2 v3 : EngineView R) (answers answers1 answers3 : List Answer) (e : ℕ × Option ErrorModel) →
     HearingEnds g v answers v1 answers1 → v1.waiting ≡ [] → TakesEnd v1.wishes (Some (record { 0 = e.0 }, e.1)) v2.wishes → v2 ≡ record v1 { wishes = v2.wishes } → Asked g v2 (end_request e) answers1 v3 answers3 →
     HearingEnds g v answers v3 answers3
 ends_more g v v1 v2 v3 answers answers1 answers3 e h idle takes same asked =
@@ -207,7 +207,7 @@ ends_heard g v v' answers answers' h =
 
 -- ---- the Close
 
-pub close_heard : {R : Type 0} (g : Relays R) (v v1 v2 v3 : EngineView R) (answers answers1 answers3 : List Answer) (error : Option ErrorSaid) →
+pub close_heard : {R : Type 0} (g : Relays R) (v v1 v2 v3 : EngineView R) (answers answers1 answers3 : List Answer) (error : Option ErrorModel) →
     HearingEnds g v answers v1 answers1 → v1.waiting ≡ [] → finite.entries v1.wishes.ends ≡ [] → v1.wishes.close ≡ Some error → v2 ≡ record v1 { wishes = record v1.wishes { close = None } } →
     Asked g v2 (input.Close error) answers1 v3 answers3 → Hearing g v answers v3 answers3
 close_heard g v v1 v2 v3 answers answers1 answers3 error h idle none noted same asked =

@@ -5,15 +5,15 @@ use Rattle.amqp_types.specs.declared.states.ConnectionState.{ConnectionState}
 use Rattle.amqp_types.specs.declared.states.ConnectionState.TheVariants as at
 use Rattle.amqp_types.specs.declared.states.SessionState.{SessionState}
 use Rattle.amqp_types.specs.declared.states.SessionState.TheVariants.{Unmapped}
-use Rattle.amqp_types.specs.Error.{ErrorSaid}
-use Rattle.amqp_types.specs.Open.{OpenSaid}
-use Rattle.amqp_types.specs.Begin.{BeginSaid}
-use Rattle.amqp_types.specs.End.{EndSaid}
-use Rattle.amqp_types.specs.Close.{CloseSaid}
+use Rattle.amqp_types.specs.Error.{ErrorModel}
+use Rattle.amqp_types.specs.Open.{OpenModel}
+use Rattle.amqp_types.specs.Begin.{BeginModel}
+use Rattle.amqp_types.specs.End.{EndModel}
+use Rattle.amqp_types.specs.Close.{CloseModel}
 use Rattle.amqp_session.specs.declared.stop.ConnectionStopReason.{ConnectionStopReason}
 use Rattle.amqp_session.specs.declared.frame.SessionFrame.{SessionFrame}
 use Rattle.amqp_session.specs.declared.error.SessionStateError.TheVariants as unbegun
-use Rattle.amqp_session.specs.Settings.{SettingsSaid}
+use Rattle.amqp_session.specs.Settings.{SettingsModel}
 use Rattle.amqp_session.specs.Relay.{Relays}
 use Rattle.amqp_session.specs.Session.{SessionView, new_session}
 use Rattle.amqp_session.specs.OutgoingFrames.{calls_frames}
@@ -60,11 +60,11 @@ refused_open v k state.IllegalState s = s.1
 refused_open v k state.OutOfMemory s = s.1
 refused_open v k e s = absurd s
 
-refused_close : (v k : ConnectionView) (error : Option ErrorSaid) (e : ConnectionStateError) → SendCloseStep v error (Err e) k → k ≡ v
+refused_close : (v k : ConnectionView) (error : Option ErrorModel) (e : ConnectionStateError) → SendCloseStep v error (Err e) k → k ≡ v
 refused_close v k error state.IllegalState s = s.1
 refused_close v k error e s = absurd s
 
-refused_peer : (v k : ConnectionView) (o : OpenSaid) (e : ConnectionStateError) → IncomingOpenStep v o (Some e) k → k ≡ v
+refused_peer : (v k : ConnectionView) (o : OpenModel) (e : ConnectionStateError) → IncomingOpenStep v o (Some e) k → k ≡ v
 refused_peer v k o state.IllegalState s = s.1
 refused_peer v k o e s = absurd s
 
@@ -87,7 +87,7 @@ opens g v w received reached calls (Some (no.ConnectionState e)) frames idle fe 
     alone g v w _ Quiet refl (λ x. cc) u (same_engine v w frames same (fe ∙ ap (λ (x : EngineView _). x.waiting) same ∙ idle))
 opens g v w received reached calls (Some e) frames idle fe u s = absurd s
 
-closes : {R : Type 0} (g : Relays R) (v w : EngineView R) (error : Option ErrorSaid) (received : Option Frame) (reached : Option ℕ) (calls : List (session.Entry R)) (r : Option StepError) (frames : List Frame) →
+closes : {R : Type 0} (g : Relays R) (v w : EngineView R) (error : Option ErrorModel) (received : Option Frame) (reached : Option ℕ) (calls : List (session.Entry R)) (r : Option StepError) (frames : List Frame) →
     v.waiting ≡ [] → frames ≡ w.waiting → Untouched reached calls → CloseRequest v error r w → Deed g v (of (input.Close error) received reached calls r frames) w
 closes g v w error received reached calls None frames idle fe u s = alone g v w _ (SentClose error) refl none_waiting u (record {
   moved = record {
@@ -109,11 +109,11 @@ closes g v w error received reached calls (Some e) frames idle fe u s = absurd s
 -- ---- a session comes, and gives its channel back
 
 -- the channel of a Begin that goes out
-begin_channel : {R : Type 0} (g : Relays R) (settings : SettingsSaid) (channel : ℕ) (stop : Option ConnectionStopReason) (f : SessionFrame) (after : SessionView R) →
+begin_channel : {R : Type 0} (g : Relays R) (settings : SettingsModel) (channel : ℕ) (stop : Option ConnectionStopReason) (f : SessionFrame) (after : SessionView R) →
     session.Chain g (new_session settings channel Unmapped stop) (session.SendsBegin (Ok f) ∷ []) after → f.channel ≡ channel
 begin_channel g settings channel stop f after c = ap (λ (x : SessionFrame). x.channel) c.1.1
 
-begins : {R : Type 0} (g : Relays R) (v w : EngineView R) (k : SessionNo) (settings : SettingsSaid) (received : Option Frame) (reached : Option ℕ) (calls : List (session.Entry R)) (r : Option StepError) (frames : List Frame) →
+begins : {R : Type 0} (g : Relays R) (v w : EngineView R) (k : SessionNo) (settings : SettingsModel) (received : Option Frame) (reached : Option ℕ) (calls : List (session.Entry R)) (r : Option StepError) (frames : List Frame) →
     v.waiting ≡ [] → frames ≡ w.waiting → BeginRequest g v k.0 settings reached calls r w → Deed g v (of (input.Begin k settings) received reached calls r frames) w
 begins g v w k settings received reached calls None frames idle fe s =
     let b : Begun g v k.0 settings calls w = s.1 in
@@ -208,7 +208,7 @@ received_is : (R : Type 0) (bytes : List ℕ) (f : Frame) (received : Option Fra
     event_by {R = R} (input.Received bytes) received reached r frames ≡ received_event f.channel f.body reached r
 received_is R bytes f received reached r frames is = ap (λ x. event_by {R = R} (input.Received bytes) x reached r frames) is
 
-took_open : {R : Type 0} (g : Relays R) (v w : EngineView R) (e : Entry R) (c : ℕ) (o : OpenSaid) (r : Option StepError) → event e ≡ received_event c (body.Open o) e.reached r → e.refusal ≡ r → v.waiting ≡ [] → e.frames ≡ w.waiting → Untouched e.reached e.calls →
+took_open : {R : Type 0} (g : Relays R) (v w : EngineView R) (e : Entry R) (c : ℕ) (o : OpenModel) (r : Option StepError) → event e ≡ received_event c (body.Open o) e.reached r → e.refusal ≡ r → v.waiting ≡ [] → e.frames ≡ w.waiting → Untouched e.reached e.calls →
     ReceivedOpen v o r w → Deed g v e w
 took_open g v w e c o None is told idle fe u s = alone g v w e (AcceptedOpen o) is (λ x. let y = sym told ∙ x in cc) u (record {
   moved = record { calls = connection.IncomingOpen o None ∷ []; happens = refl; chain = (s.0, s.1, ap (λ (x : EngineView _). x.connection) s.2) };
@@ -224,16 +224,16 @@ took_open g v w e c o (Some (no.ConnectionState x)) is told idle fe u s =
 took_open g v w e c o (Some x) is told idle fe u s = absurd s
 
 -- how a Close was refused, by the table
-refused_so : (v k : ConnectionView) (c : CloseSaid) (r : Option ConnectionStateError) → IncomingCloseStep v c r k → r ≡ close_refusal (takes_close v.state) c.error
+refused_so : (v k : ConnectionView) (c : CloseModel) (r : Option ConnectionStateError) → IncomingCloseStep v c r k → r ≡ close_refusal (takes_close v.state) c.error
 refused_so v k c (Some state.IllegalState) s = sym (ap (λ n. close_refusal n c.error) s.0)
 refused_so v k c r s = s.2 ∙ sym (ap (λ n. close_refusal n c.error) s.1)
 
-recorded_by : (next : Option ConnectionState) (error : Option ErrorSaid) (u k : ConnectionView) → k ≡ recorded next (remote_reason error) u → connection.Chain u (stops next error) k
+recorded_by : (next : Option ConnectionState) (error : Option ErrorModel) (u k : ConnectionView) → k ≡ recorded next (remote_reason error) u → connection.Chain u (stops next error) k
 recorded_by None error u k e = e
 recorded_by (Some at.CloseReceived) error u k e = (stopped u (remote_reason error), refl, e)
 recorded_by (Some s) error u k e = e
 
-came_close : (v u k : ConnectionView) (c : CloseSaid) (r : Option ConnectionStateError) → IncomingCloseStep v c r u → k ≡ recorded (takes_close v.state) (remote_reason c.error) u → Moved v (CameClose c) k
+came_close : (v u k : ConnectionView) (c : CloseModel) (r : Option ConnectionStateError) → IncomingCloseStep v c r u → k ≡ recorded (takes_close v.state) (remote_reason c.error) u → Moved v (CameClose c) k
 came_close v u k c r s e = record {
   calls = close_calls v c;
   happens = refl;
@@ -244,11 +244,11 @@ no_close_waits : (told : Option ConnectionStateError) (r : Option StepError) →
 no_close_waits None r is = (λ x. let y = sym is ∙ x in cc, λ x. let y = sym is ∙ x in cc)
 no_close_waits (Some e) r is = (λ x. let y = sym is ∙ x in cc, λ x. let y = sym is ∙ x in cc)
 
-close_event : (c : ℕ) (p : CloseSaid) (reached : Option ℕ) (r : Option StepError) → ¬ (r ≡ Some no.OutOfMemory) → received_event c (body.Close p) reached r ≡ CameClose p
+close_event : (c : ℕ) (p : CloseModel) (reached : Option ℕ) (r : Option StepError) → ¬ (r ≡ Some no.OutOfMemory) → received_event c (body.Close p) reached r ≡ CameClose p
 close_event c p reached (Some no.OutOfMemory) h = absurd (h refl)
 close_event c p reached r h = refl
 
-took_close : {R : Type 0} (g : Relays R) (v w : EngineView R) (e : Entry R) (c : ℕ) (p : CloseSaid) → event e ≡ received_event c (body.Close p) e.reached e.refusal → v.waiting ≡ [] → e.frames ≡ w.waiting → Untouched e.reached e.calls → ReceivedClose v p e.refusal w → Deed g v e w
+took_close : {R : Type 0} (g : Relays R) (v w : EngineView R) (e : Entry R) (c : ℕ) (p : CloseModel) → event e ≡ received_event c (body.Close p) e.reached e.refusal → v.waiting ≡ [] → e.frames ≡ w.waiting → Untouched e.reached e.calls → ReceivedClose v p e.refusal w → Deed g v e w
 took_close g v w e c p is idle fe u s =
     let no = no_close_waits s.0 e.refusal s.3 in
     alone g v w e (CameClose p) (is ∙ close_event c p e.reached e.refusal no.1) no.0 u (one_moved v w s.1 (CameClose p) e.frames s.4 (came_close v.connection s.2.0 s.1 p s.0 s.2.1 s.2.2) tt refl refl (fe ∙ ap (λ (x : EngineView _). x.waiting) s.4 ∙ idle))
@@ -278,11 +278,11 @@ lost : (v : ConnectionView) (c : ℕ) (e : ConnectionInnerError) (k : Connection
 lost v c (inner.NotFound t) k s = s.2
 lost v c e k s = absurd s
 
-found_begin : (v : ConnectionView) (c : ℕ) (p : BeginSaid) → Found v c (body.Begin p)
+found_begin : (v : ConnectionView) (c : ℕ) (p : BeginModel) → Found v c (body.Begin p)
 found_begin v c p n k (Some no.OutOfMemory) f h = absurd (h refl)
 found_begin v c p n k r f h = record { calls = connection.IncomingBegin c (Some f.1.0) (Ok n) ∷ []; happens = (f.1.0, f.1.2, refl); chain = (k, (f.0, (f.1.0, refl, f.1.2), f.2), refl) }
 
-found_end : (v : ConnectionView) (c : ℕ) (p : EndSaid) → Found v c (body.End p)
+found_end : (v : ConnectionView) (c : ℕ) (p : EndModel) → Found v c (body.End p)
 found_end v c p n k (Some no.OutOfMemory) f h = absurd (h refl)
 found_end v c p n k r f h = record { calls = connection.IncomingEnd c (Ok n) ∷ []; happens = (n, refl); chain = (k, f, refl) }
 

@@ -1,8 +1,8 @@
 -- A step leaves what is kept for handles.
 use Rattle.std.proofs.Common.{◌≡◌, ◌⊎◌, ℕ, List, Option, Some, None, Result, ap, inl, inr}
-use Rattle.amqp_types.specs.Error.{ErrorSaid}
-use Rattle.amqp_types.specs.Open.{OpenSaid}
-use Rattle.amqp_session.specs.Settings.{SettingsSaid}
+use Rattle.amqp_types.specs.Error.{ErrorModel}
+use Rattle.amqp_types.specs.Open.{OpenModel}
+use Rattle.amqp_session.specs.Settings.{SettingsModel}
 use Rattle.amqp_session.specs.declared.error.SessionStateError.TheVariants as unbegun
 use Rattle.amqp_session.specs.Relay.{Relays}
 use Rattle.amqp_session.specs.History as session
@@ -32,12 +32,12 @@ opens v w None s = as_put _ w s.3
 opens v w (Some (no.ConnectionState e)) s = as_put _ w s.2
 opens v w (Some e) s = absurd s
 
-closes : {R : Type 0} (v w : EngineView R) (error : Option ErrorSaid) (r : Option StepError) → CloseRequest v error r w → Same v w
+closes : {R : Type 0} (v w : EngineView R) (error : Option ErrorModel) (r : Option StepError) → CloseRequest v error r w → Same v w
 closes v w error None s = as_put _ w s.3
 closes v w error (Some (no.ConnectionState e)) s = as_put _ w s.2
 closes v w error (Some e) s = absurd s
 
-begins : {R : Type 0} (g : Relays R) (v w : EngineView R) (n : ℕ) (settings : SettingsSaid) (reached : Option ℕ) (calls : List (session.Entry R)) (r : Option StepError) → BeginRequest g v n settings reached calls r w → Same v w
+begins : {R : Type 0} (g : Relays R) (v w : EngineView R) (n : ℕ) (settings : SettingsModel) (reached : Option ℕ) (calls : List (session.Entry R)) (r : Option StepError) → BeginRequest g v n settings reached calls r w → Same v w
 begins g v w n settings reached calls None s = as_put _ w s.1.put
 begins g v w n settings reached calls (Some no.SessionInUse) s = as_put _ w s.0.1
 begins g v w n settings reached calls (Some (no.AllocSession e)) s = as_put _ w s.0.1
@@ -69,7 +69,7 @@ reaches g finds v w asks reached calls r (inr s) = by s.4
     by (inl c) = as_put _ w c.put
     by (inr u) = as_put _ w u.same
 
-takes_open : {R : Type 0} (v w : EngineView R) (o : OpenSaid) (r : Option StepError) → ReceivedOpen v o r w → Same v w
+takes_open : {R : Type 0} (v w : EngineView R) (o : OpenModel) (r : Option StepError) → ReceivedOpen v o r w → Same v w
 takes_open v w o None s = as_put _ w s.2
 takes_open v w o (Some (no.ConnectionState e)) s = as_put _ w s.2
 takes_open v w o (Some e) s = absurd s

@@ -2,7 +2,7 @@
 use Rattle.std.proofs.Common.{◌≡◌, ◌⊎◌, ℕ, List, ◌∷◌, Some, None, refl, ap, sym, subst, ◌∙◌, inl, inr, nat_eq}
 use Rattle.std.specs.Map.{lookup}
 use Rattle.amqp_types.specs.declared.states.ConnectionState.{ConnectionState}
-use Rattle.amqp_types.specs.Open.{OpenSaid}
+use Rattle.amqp_types.specs.Open.{OpenModel}
 use Rattle.amqp_session.specs.Relay.{Relays}
 use Rattle.amqp_engine.specs.declared.engine.input.Input.{Input}
 use Rattle.amqp_engine.specs.declared.engine.input.Input.TheVariants as input
@@ -54,7 +54,7 @@ step_says : {R : Type 0} (g : Relays R) (v w : EngineView R) (n : ℕ) (e : Entr
 step_says g v w n e is late (inl s) = absurd (late s.1)
 step_says g v w n e is late (inr s) = carries g v w n e.input e is s.2
 
-pub requests_reach : {R : Type 0} (g : Relays R) (made : ConnectionState) (o : OpenSaid) (H : List (Entry R)) (w : EngineView R) → LeadsTo g made o H w → RequestsReach made H
+pub requests_reach : {R : Type 0} (g : Relays R) (made : ConnectionState) (o : OpenModel) (H : List (Entry R)) (w : EngineView R) → LeadsTo g made o H w → RequestsReach made H
 requests_reach g made o H w l before after e is n named late short =
     let r = chain_split g before (e ∷ after) (new_engine made o) w (subst (λ (es : List (Entry _)). Chain g (new_engine made o) es w) is l) in
     let same : lookup (nat_eq n) r.2.0.sessions ≡ lookup (nat_eq n) r.0.sessions = ap (lookup (nat_eq n)) r.2.2.sessions_is in

@@ -2,7 +2,7 @@
 use Rattle.std.proofs.Common.{◌≡◌, ◌++◌, ℕ, List, [], ◌∷◌, Some, refl, ap, sym, subst, ◌∙◌, inl, inr, cond, nat_eq, append_assoc, true, arith}
 use Rattle.std.proofs.lemmas.Bool.Decides.{nat_tests}
 use Rattle.amqp_types.specs.declared.states.ConnectionState.{ConnectionState}
-use Rattle.amqp_types.specs.Open.{OpenSaid}
+use Rattle.amqp_types.specs.Open.{OpenModel}
 use Rattle.amqp_session.specs.declared.frame.SessionFrame.{SessionFrame}
 use Rattle.amqp_session.specs.Relay.{Relays}
 use Rattle.amqp_session.specs.Session.{SessionView}
@@ -57,7 +57,7 @@ part_on c n before after e r a =
 abbrev pub ChannelsLaw : {R : Type 0} → Relays R → Type 0
 ChannelsLaw g = (m : session.Made) (h : List (session.Entry _)) (v : SessionView _) → session.LeadsTo g m h v → OnChannel m.channel (calls_frames h)
 
-pub on_channel : {R : Type 0} (g : Relays R) → ChannelsLaw g → (made : ConnectionState) (o : OpenSaid) (H : List (Entry R)) (w : EngineView R) → LeadsTo g made o H w → OnItsChannel made H
+pub on_channel : {R : Type 0} (g : Relays R) → ChannelsLaw g → (made : ConnectionState) (o : OpenModel) (H : List (Entry R)) (w : EngineView R) → LeadsTo g made o H w → OnItsChannel made H
 on_channel g law made o H w l before after e is n m b r =
     let x = chain_split g before (e ∷ after) (new_engine made o) w (subst (λ (es : List (Entry _)). Chain g (new_engine made o) es w) is l) in
     let p = passage g x.2.0 x.2.1 e x.2.3 in

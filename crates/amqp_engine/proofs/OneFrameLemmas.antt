@@ -1,12 +1,12 @@
 -- A transfer that is one piece at its widest is one frame on the wire.
 use Rattle.std.proofs.Common.{◌≡◌, ◌≤◌, ◌+◌, ◌%◌, ◌^◌, ◌++◌, ℕ, zero, suc, List, [], ◌∷◌, length, take, Option, Some, None, refl, ap, sym, subst, ◌∙◌, inl, inr, arith, append_assoc}
 use Rattle.amqp_types.specs.declared.states.ConnectionState.{ConnectionState}
-use Rattle.amqp_types.specs.Open.{OpenSaid}
+use Rattle.amqp_types.specs.Open.{OpenModel}
 use Rattle.amqp_frames.specs.declared.frame.Frame.{Frame}
 use Rattle.amqp_frames.specs.declared.frame.FrameBody.{FrameBody}
 use Rattle.amqp_frames.specs.declared.frame.FrameBody.TheVariants as body
 use Rattle.amqp_frames.specs.Cut.{Whole}
-use Rattle.amqp_frames.proofs.Growth.{number_under}
+use Rattle.amqp_frames.proofs.TransferLengthLemmas.{number_under}
 use Rattle.amqp_session.specs.declared.frame.SessionFrame.{SessionFrame}
 use Rattle.amqp_session.specs.declared.frame.SessionFrameBody.{SessionFrameBody}
 use Rattle.amqp_session.specs.declared.frame.SessionFrameBody.TheVariants as said
@@ -134,7 +134,7 @@ handed_both (c ∷ xs) ys =
 
 -- ---- the frames of an entry
 
-session_short : {R : Type 0} (m : ℕ) (s : ConnectionState) (o : OpenSaid) (T : List (Entry R)) → Headline s o T → Keeps m T → (n : ℕ) → FromSession m (single.handed (of_session n T))
+session_short : {R : Type 0} (m : ℕ) (s : ConnectionState) (o : OpenModel) (T : List (Entry R)) → Headline s o T → Keeps m T → (n : ℕ) → FromSession m (single.handed (of_session n T))
 session_short m s o T head short n = go (begun s n T) refl
   where
     go : (b : Option session.Made) → begun s n T ≡ b → FromSession m (single.handed (of_session n T))
@@ -144,7 +144,7 @@ session_short m s o T head short n = go (begun s n T) refl
         subst (FromSession m) (sym a.handed_out) (numbered_short m made.channel 0 (take (length (single.handed (of_session n T))) (single.accepted (of_session n T)))
         (taken m (length (single.handed (of_session n T))) (single.accepted (of_session n T)) (short n)))
 
-part_short : {R : Type 0} (m : ℕ) (s : ConnectionState) (o : OpenSaid) (T : List (Entry R)) → Headline s o T → Keeps m T → (n : ℕ) (before after : List (Entry R)) (e : Entry R) → T ≡ before ++ e ∷ after → e.reached ≡ Some n → FromSession m (single.handed e.calls)
+part_short : {R : Type 0} (m : ℕ) (s : ConnectionState) (o : OpenModel) (T : List (Entry R)) → Headline s o T → Keeps m T → (n : ℕ) (before after : List (Entry R)) (e : Entry R) → T ≡ before ++ e ∷ after → e.reached ≡ Some n → FromSession m (single.handed e.calls)
 part_short m s o T head short n before after e is r =
     let split : of_session n T ≡ of_session n before ++ of_session n (e ∷ after) = ap (of_session n) is ∙ of_both n before (e ∷ after) in
     let all = subst (λ (cs : List (session.Entry _)). FromSession m (single.handed cs)) split (session_short m s o T head short n) in
@@ -154,18 +154,18 @@ part_short m s o T head short n before after e is r =
     session_front m (single.handed e.calls) (single.handed (of_session n after))
     (subst (FromSession m) (ap single.handed cs ∙ handed_both e.calls (of_session n after)) rest)
 
-calls_short : {R : Type 0} (m : ℕ) (s : ConnectionState) (o : OpenSaid) (T : List (Entry R)) → Headline s o T → Keeps m T → (before after : List (Entry R)) (e : Entry R) → T ≡ before ++ e ∷ after → (r : Option ℕ) → e.reached ≡ r → Shorts m (waits.sent (calls_frames e.calls))
+calls_short : {R : Type 0} (m : ℕ) (s : ConnectionState) (o : OpenModel) (T : List (Entry R)) → Headline s o T → Keeps m T → (before after : List (Entry R)) (e : Entry R) → T ≡ before ++ e ∷ after → (r : Option ℕ) → e.reached ≡ r → Shorts m (waits.sent (calls_frames e.calls))
 calls_short m s o T head short before after e is None r =
     let none : e.calls ≡ [] = subst (λ x. Asked before x e) r (head.all_asked before after e is) in
     subst (λ (cs : List (session.Entry _)). Shorts m (waits.sent (calls_frames cs))) (sym none) tt
 calls_short m s o T head short before after e is (Some n) r = all_of m (calls_frames e.calls) (subst (FromSession m) (handed_is e.calls) (part_short m s o T head short n before after e is r))
 
-own_short : (m : ℕ) (o : OpenSaid) → (ev : Event) → Shorts m (own_frames o ev)
+own_short : (m : ℕ) (o : OpenModel) → (ev : Event) → Shorts m (own_frames o ev)
 own_short m o SentOpen = (tt, tt)
 own_short m o (SentClose error) = (tt, tt)
 own_short m o ev = tt
 
-entry_short : {R : Type 0} (m : ℕ) (s : ConnectionState) (o : OpenSaid) (T : List (Entry R)) → Headline s o T → Keeps m T → (before after : List (Entry R)) (e : Entry R) → T ≡ before ++ e ∷ after → Shorts m e.frames
+entry_short : {R : Type 0} (m : ℕ) (s : ConnectionState) (o : OpenModel) (T : List (Entry R)) → Headline s o T → Keeps m T → (before after : List (Entry R)) (e : Entry R) → T ≡ before ++ e ∷ after → Shorts m e.frames
 entry_short m s o T head short before after e is =
     subst (Shorts m) (sym (head.frames_are before after e is))
     (both m (own_frames o (event e)) (waits.sent (calls_frames e.calls)) (own_short m o (event e)) (calls_short m s o T head short before after e is e.reached refl))
@@ -176,7 +176,7 @@ abbrev EachShort : {R : Type 0} → ℕ → List (Entry R) → Type 0
 EachShort m [] = Unit {0}
 EachShort m (e ∷ es) = Shorts m e.frames × EachShort m es
 
-each_short : {R : Type 0} (m : ℕ) (s : ConnectionState) (o : OpenSaid) (T : List (Entry R)) → Headline s o T → Keeps m T
+each_short : {R : Type 0} (m : ℕ) (s : ConnectionState) (o : OpenModel) (T : List (Entry R)) → Headline s o T → Keeps m T
     → (before es : List (Entry R)) → T ≡ before ++ es → EachShort m es
 each_short m s o T head short before [] is = tt
 each_short m s o T head short before (e ∷ es) is =
@@ -207,7 +207,7 @@ speaks m limit waiting left (e ∷ es) out le s a p =
     (p.0, p.1, p.2, all_out m limit waiting p.0 le.0 s p.3, speaks m (limit_by limit (event e)) e.frames left es p.1 le.1 a.0 a.1 p.4)
 
 abbrev pub ViewsLaw : {R : Type 0} → Relays R → Type 0
-ViewsLaw g = (s : ConnectionState) (o : OpenSaid) (H : List (Entry _)) (w : EngineView _) → Legal g s o H w → Stands s o H w
+ViewsLaw g = (s : ConnectionState) (o : OpenModel) (H : List (Entry _)) (w : EngineView _) → Legal g s o H w → Stands s o H w
 
 pub are_frames : {R : Type 0} (g : Relays R) → ViewsLaw g → TransfersAreFrames g
 unfolding Legal

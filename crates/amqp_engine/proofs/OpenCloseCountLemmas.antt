@@ -2,8 +2,8 @@
 use Rattle.std.proofs.Common.{◌≡◌, ◌≤◌, List, [], ◌∷◌, ◌++◌, Option, Some, None, refl, sym, ap, subst, arith}
 use Rattle.amqp_types.specs.declared.states.ConnectionState.{ConnectionState}
 use Rattle.amqp_types.specs.declared.states.ConnectionState.TheVariants as at
-use Rattle.amqp_types.specs.Error.{ErrorSaid}
-use Rattle.amqp_types.specs.Open.{OpenSaid}
+use Rattle.amqp_types.specs.Error.{ErrorModel}
+use Rattle.amqp_types.specs.Open.{OpenModel}
 use Rattle.amqp_session.specs.declared.frame.SessionFrame.{SessionFrame}
 use Rattle.amqp_session.specs.declared.frame.SessionFrameBody.{SessionFrameBody}
 use Rattle.amqp_session.specs.declared.frame.SessionFrameBody.TheVariants as said
@@ -14,7 +14,7 @@ use Rattle.amqp_connection.specs.States.{takes_close}
 use Rattle.amqp_connection.specs.Connection.{ConnectionView}
 use Rattle.amqp_connection.specs.History as connection
 use Rattle.amqp_connection.specs.ByHistory.{opens, closes, is_open, is_close, handed as connection_handed}
-use Rattle.amqp_connection.proofs.OneEach.{Goes, spends_none, chain_goes, opens-append, closes-append}
+use Rattle.amqp_connection.proofs.OpenCloseCountLemmas.{Goes, spends_none, chain_goes, opens-append, closes-append}
 use Rattle.amqp_engine.specs.Waits.{body_of, sent}
 use Rattle.amqp_engine.specs.EngineView.{EngineView, new_engine}
 use Rattle.amqp_engine.specs.Entry.{Entry}
@@ -23,7 +23,7 @@ use Rattle.amqp_engine.proofs.BareHistoryLemmas.{Chain, LeadsTo}
 use Rattle.amqp_engine.specs.Headline.{handed, own_frames}
 use Rattle.amqp_engine.proofs.StepEffectLemmas.{Moved, stops}
 use Rattle.amqp_engine.proofs.StepChainLemmas.{Passage, passage}
-use Rattle.amqp_connection.proofs.StateTables.{open_left, close_left}
+use Rattle.amqp_connection.proofs.StateTableLemmas.{open_left, close_left}
 
 S : (v w : ConnectionView) → v ≡ w → v.state ≡ w.state
 S v w e = ap (λ (k : ConnectionView). k.state) e
@@ -31,7 +31,7 @@ S v w e = ap (λ (k : ConnectionView). k.state) e
 handed_by : (v w : ConnectionView) (cs ds : List connection.Entry) → cs ≡ ds → connection.Chain v cs w → Goes (connection_handed ds) v.state w.state
 handed_by v w cs ds e c = subst (λ (x : List connection.Entry). Goes (connection_handed x) v.state w.state) e (chain_goes cs v w c)
 
-stops_none : (next : Option ConnectionState) (error : Option ErrorSaid) → connection_handed (stops next error) ≡ []
+stops_none : (next : Option ConnectionState) (error : Option ErrorModel) → connection_handed (stops next error) ≡ []
 stops_none None error = refl
 stops_none (Some at.CloseReceived) error = refl
 stops_none (Some s) error = refl
@@ -90,7 +90,7 @@ chain_spends g (e ∷ H) v w c =
       close_spent = omega (arith, first.close_spent, rest.close_spent, closes-append e.frames (handed H), ap close_left same);
     }
 
-pub one_each : {R : Type 0} (g : Relays R) (start : ConnectionState) (o : OpenSaid) (H : List (Entry R)) (w : EngineView R) → LeadsTo g start o H w → start ≡ at.HeaderExchange → (opens (handed H) ≤ 1) × (closes (handed H) ≤ 1)
+pub one_each : {R : Type 0} (g : Relays R) (start : ConnectionState) (o : OpenModel) (H : List (Entry R)) (w : EngineView R) → LeadsTo g start o H w → start ≡ at.HeaderExchange → (opens (handed H) ≤ 1) × (closes (handed H) ≤ 1)
 one_each g start o H w l e =
     let all : Goes (handed H) start w.connection.state = chain_spends g H (new_engine start o) w l in
     (omega (arith, all.open_spent, ap open_left e), omega (arith, all.close_spent, ap close_left e))

@@ -7,9 +7,9 @@ use Rattle.std.specs.Option.{option_map}
 use Rattle.std.specs.FinMap as map
 use Rattle.amqp_types.specs.declared.states.ConnectionState.{ConnectionState}
 use Rattle.amqp_types.specs.declared.states.ConnectionState.TheVariants.{CloseReceived}
-use Rattle.amqp_types.specs.Error.{ErrorSaid}
-use Rattle.amqp_types.specs.Close.{CloseSaid}
-use Rattle.amqp_types.specs.End.{EndSaid}
+use Rattle.amqp_types.specs.Error.{ErrorModel}
+use Rattle.amqp_types.specs.Close.{CloseModel}
+use Rattle.amqp_types.specs.End.{EndModel}
 use Rattle.amqp_frames.specs.declared.frame.FrameBody.TheVariants as body
 use Rattle.amqp_session.specs.declared.error.SessionStateError.{SessionStateError}
 use Rattle.amqp_session.specs.declared.error.SessionStateError.TheVariants as ended
@@ -34,12 +34,12 @@ use Rattle.amqp_engine.proofs.SessionListLemmas.{viewed}
 
 -- ---- a Close
 
-told_error : (s : ConnectionState) (error : Option ErrorSaid) (e : ErrorSaid) → Some (closed.RemoteClosedWithError e) ≡ told s error → error ≡ Some e
+told_error : (s : ConnectionState) (error : Option ErrorModel) (e : ErrorModel) → Some (closed.RemoteClosedWithError e) ≡ told s error → error ≡ Some e
 told_error s (Some x) e is = cc
 told_error CloseReceived None e is = absurd cc
 told_error s None e is = absurd cc
 
-came_copy : (v k : ConnectionView) (c : CloseSaid) (r : Option ConnectionStateError) → IncomingCloseStep v c r k → IsCloseCopy r c.error
+came_copy : (v k : ConnectionView) (c : CloseModel) (r : Option ConnectionStateError) → IncomingCloseStep v c r k → IsCloseCopy r c.error
 came_copy v k c (Some (closed.RemoteClosedWithError e)) s = told_error s.0 c.error e s.2
 came_copy v k c (Some closed.IllegalState) s = tt
 came_copy v k c (Some closed.RemoteClosed) s = tt
@@ -48,10 +48,10 @@ came_copy v k c (Some closed.OutOfMemory) s = tt
 came_copy v k c None s = tt
 
 -- the error that the answer names is that of the Close
-pub close_copy : (v w : ConnectionView) (c : CloseSaid) (r : Option ConnectionStateError) (copy : Option ErrorSaid) → copy ≡ c.error → ReceivedCloseStep v c r w → IsCloseCopy r copy
+pub close_copy : (v w : ConnectionView) (c : CloseModel) (r : Option ConnectionStateError) (copy : Option ErrorModel) → copy ≡ c.error → ReceivedCloseStep v c r w → IsCloseCopy r copy
 close_copy v w c r copy same s = subst (λ x. IsCloseCopy r x) (sym same) (came_copy v s.0 c r s.1)
 
-pub kept_close : {R : Type 0} (u v : EngineView R) (k : ConnectionView) (o : Outcomes) (q : Wishes) (c : ℕ) (close : CloseSaid) (answer : Option CloseOutcome) (refusal : Option StepError) → u ≡ v →
+pub kept_close : {R : Type 0} (u v : EngineView R) (k : ConnectionView) (o : Outcomes) (q : Wishes) (c : ℕ) (close : CloseModel) (answer : Option CloseOutcome) (refusal : Option StepError) → u ≡ v →
     answer ≡ close_answer refusal → o ≡ close_kept answer u.outcomes → q ≡ u.wishes →
     record u { connection = k; outcomes = o; wishes = q } ≡ kept (Some (record { channel = c; body = body.Close close })) None refusal (record v { connection = k })
 kept_close u v k o q c close answer refusal same is e f =
@@ -61,7 +61,7 @@ kept_close u v k o q c close answer refusal same is e f =
 
 -- ---- an End
 
-ended_copy : {R : Type 0} (v w : SessionView R) (e : EndSaid) (result : Result (Unit {0}) SessionStateError) → TakeEndStep v e result w → IsEndCopy (state_refusal result) e.error
+ended_copy : {R : Type 0} (v w : SessionView R) (e : EndModel) (result : Result (Unit {0}) SessionStateError) → TakeEndStep v e result w → IsEndCopy (state_refusal result) e.error
 ended_copy v w e (Ok u) s = tt
 ended_copy v w e (Err (ended.RemoteEndedWithError x)) s = s.1
 ended_copy v w e (Err ended.RemoteEnded) s = tt
@@ -69,7 +69,7 @@ ended_copy v w e (Err ended.IllegalState) s = tt
 ended_copy v w e (Err x) s = absurd s
 
 -- the error that the answer names is that of the End
-pub end_copy : {R : Type 0} (g : Relays R) (v w : SessionView R) (c : ℕ) (e : EndSaid) (r : Option StepError) (frames : List Frame) (copy : Option ErrorSaid) →
+pub end_copy : {R : Type 0} (g : Relays R) (v w : SessionView R) (c : ℕ) (e : EndModel) (r : Option StepError) (frames : List Frame) (copy : Option ErrorModel) →
     copy ≡ e.error → Answered g v (ReceivedEndCalls c e) r frames w → IsEndCopy r copy
 end_copy {R} g v w c e r frames copy same a =
     let steps = subst (λ (cs : List (session.Entry R)). session.Chain g v cs w) a.asked.1 a.steps in
@@ -115,7 +115,7 @@ seated_same old new places e seated = subst (λ es. Seated es places) (sym e) se
 
 -- ---- what is kept
 
-pub kept_end : {R : Type 0} (u w : EngineView R) (o : Outcomes) (q : Wishes) (c n : ℕ) (end : EndSaid) (reached : Option ℕ) (answer : Option EndOutcome) (refusal : Option StepError) → u ≡ w → reached ≡ Some n →
+pub kept_end : {R : Type 0} (u w : EngineView R) (o : Outcomes) (q : Wishes) (c n : ℕ) (end : EndModel) (reached : Option ℕ) (answer : Option EndOutcome) (refusal : Option StepError) → u ≡ w → reached ≡ Some n →
     answer ≡ end_answer refusal → o ≡ end_kept n answer u.outcomes → q ≡ u.wishes →
     record u { outcomes = o; wishes = q } ≡ kept (Some (record { channel = c; body = body.End end })) reached refusal w
 kept_end u w o q c n end reached answer refusal same at is e f =

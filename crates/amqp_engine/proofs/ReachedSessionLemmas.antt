@@ -4,8 +4,8 @@ use Rattle.std.specs.Option.{option_map}
 use Rattle.std.specs.FinMap as map
 use Rattle.amqp_types.specs.declared.states.ConnectionState.{ConnectionState}
 use Rattle.amqp_types.specs.declared.states.ConnectionState.TheVariants as at
-use Rattle.amqp_types.specs.Open.{OpenSaid}
-use Rattle.amqp_types.specs.Begin.{BeginSaid}
+use Rattle.amqp_types.specs.Open.{OpenModel}
+use Rattle.amqp_types.specs.Begin.{BeginModel}
 use Rattle.amqp_session.specs.Relay.{Relays}
 use Rattle.amqp_session.specs.History as session
 use Rattle.amqp_frames.specs.declared.frame.Frame.{Frame}
@@ -55,7 +55,7 @@ step_receives : {R : Type 0} (g : Relays R) (v w : EngineView R) (e : Entry R) �
 step_receives g v w e (inl s) = waiting_receives e.input e s.2 s.1
 step_receives g v w e (inr s) = input_receives g v w e.input e s.2
 
-pub all_received : {R : Type 0} (g : Relays R) (made : ConnectionState) (o : OpenSaid) (H : List (Entry R)) (w : EngineView R) → LeadsTo g made o H w → AllReceived H
+pub all_received : {R : Type 0} (g : Relays R) (made : ConnectionState) (o : OpenModel) (H : List (Entry R)) (w : EngineView R) → LeadsTo g made o H w → AllReceived H
 all_received g made o H w l before after e is =
     let r = chain_split g before (e ∷ after) (new_engine made o) w (subst (λ (es : List (Entry _)). Chain g (new_engine made o) es w) is l) in
     step_receives g r.2.0 r.2.1 e r.2.3
@@ -115,7 +115,7 @@ passes g v w c (body.Transfer p payload) e s = along g v w c _ e (received_plain
 passes g v w c (body.End p) e s = end_along g v w c _ e (received_plain c (body.End p)) s
 passes g v w c b e s = tt
 
-pub frames_reach : {R : Type 0} (g : Relays R) (made : ConnectionState) (o : OpenSaid) (H : List (Entry R)) (w : EngineView R) → LeadsTo g made o H w → FramesReach made H
+pub frames_reach : {R : Type 0} (g : Relays R) (made : ConnectionState) (o : OpenModel) (H : List (Entry R)) (w : EngineView R) → LeadsTo g made o H w → FramesReach made H
 frames_reach g made o H w l before after e is f received short =
     let r = chain_split g before (e ∷ after) (new_engine made o) w (subst (λ (es : List (Entry _)). Chain g (new_engine made o) es w) is l) in
     let state : r.2.0.connection.state ≡ state_from made before = ap (λ (k : ConnectionView). k.state) r.2.2.connection_is ∙ state_law g before (new_engine made o) r.0 r.1 in
@@ -128,7 +128,7 @@ frames_reach g made o H w l before after e is f received short =
 same_value : (a b : ℕ) → Some a ≡ Some b → a ≡ b
 same_value a b e = cc
 
-begin_found : {R : Type 0} (g : Relays R) (v w : EngineView R) (c : ℕ) (b : BeginSaid) (n : ℕ) (reached : Option ℕ) (calls : List (session.Entry R)) (r : Option StepError) → reached ≡ Some n → ReceivedFrame g v c (body.Begin b) reached calls r w →
+begin_found : {R : Type 0} (g : Relays R) (v w : EngineView R) (c : ℕ) (b : BeginModel) (n : ℕ) (reached : Option ℕ) (calls : List (session.Entry R)) (r : Option StepError) → reached ≡ Some n → ReceivedFrame g v c (body.Begin b) reached calls r w →
     (d : ℕ) × (b.remote_channel ≡ Some d) × (map.get v.connection.session_by_outgoing_channel d ≡ Some n)
 begin_found g v w c b n reached calls r is (inl s) = absurd (some_none (sym is ∙ s.3))
 begin_found g v w c b n reached calls r is (inr s) = (s.2.1.0, s.2.1.1, s.2.1.2 ∙ ap (λ x. Some x) (same_value s.0 n (sym s.3 ∙ is)))
@@ -137,7 +137,7 @@ found_then : (d n : ℕ) (held : Option ℕ) (k k' : ConnectionView) → held �
     → map.get k'.session_by_outgoing_channel d ≡ Some n → held ≡ Some n
 found_then d n held k k' is same found = is ∙ ap (λ (y : ConnectionView). map.get y.session_by_outgoing_channel d) (sym same) ∙ found
 
-pub routes_follow : {R : Type 0} (g : Relays R) (made : ConnectionState) (o : OpenSaid) (H : List (Entry R)) (w : EngineView R) → LeadsTo g made o H w → RoutesFollow H
+pub routes_follow : {R : Type 0} (g : Relays R) (made : ConnectionState) (o : OpenModel) (H : List (Entry R)) (w : EngineView R) → LeadsTo g made o H w → RoutesFollow H
 routes_follow g made o H w l before after e is c b received n reached =
     let r = chain_split g before (e ∷ after) (new_engine made o) w (subst (λ (es : List (Entry _)). Chain g (new_engine made o) es w) is l) in
     let x = begin_found g r.2.0 r.2.1 c b n e.reached e.calls e.refusal reached (received_frame g r.2.0 r.2.1 e _ received r.2.3) in
@@ -161,7 +161,7 @@ reaches_known g finds v w asks reached calls r plain there (inr s) = by s.4
     by (inl c) = plain_known r (plain c.before.state calls r c.asked)
     by (inr u) = let t = there s.0 s.1 s.2 in absurd (some_none (sym t.1 ∙ u.unknown))
 
-open_known : {R : Type 0} (v w : EngineView R) (o : OpenSaid) (r : Option StepError) → ReceivedOpen v o r w → ¬ (r ≡ Some no.NoSession)
+open_known : {R : Type 0} (v w : EngineView R) (o : OpenModel) (r : Option StepError) → ReceivedOpen v o r w → ¬ (r ≡ Some no.NoSession)
 open_known v w o None s = λ e. cc
 open_known v w o (Some (no.ConnectionState e)) s = λ y. cc
 open_known v w o (Some e) s = absurd s
@@ -182,7 +182,7 @@ frame_known g v w c (body.Disposition p) reached calls r k s = reaches_known g (
 frame_known g v w c (body.Flow p) reached calls r k s = reaches_known g (Finds v.connection c (body.Flow p)) v w _ reached calls r (received_plain c (body.Flow p)) (λ n u f. k.routed c n f.0) s
 frame_known g v w c (body.Transfer p payload) reached calls r k s = reaches_known g (Finds v.connection c (body.Transfer p payload)) v w _ reached calls r (received_plain c (body.Transfer p payload)) (λ n u f. k.routed c n f.0) s
 
-pub all_known : {R : Type 0} (g : Relays R) (made : ConnectionState) (o : OpenSaid) (H : List (Entry R)) (w : EngineView R) → LeadsTo g made o H w → AllKnown H
+pub all_known : {R : Type 0} (g : Relays R) (made : ConnectionState) (o : OpenModel) (H : List (Entry R)) (w : EngineView R) → LeadsTo g made o H w → AllKnown H
 all_known g made o H w l before after e is f received =
     let r = chain_split g before (e ∷ after) (new_engine made o) w (subst (λ (es : List (Entry _)). Chain g (new_engine made o) es w) is l) in
     frame_known g r.2.0 r.2.1 f.channel f.body e.reached e.calls e.refusal (kept_taken r.0 r.2.0 r.2.2 (kept g before (new_engine made o) r.0 r.1 (kept_new made o))) (received_frame g r.2.0 r.2.1 e f received r.2.3)

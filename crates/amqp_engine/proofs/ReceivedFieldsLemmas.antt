@@ -13,8 +13,8 @@ use Rattle.amqp_frames.specs.declared.decoder.FrameHead.{FrameHead}
 use Rattle.amqp_frames.specs.declared.frame.FrameBody.{FrameBody}
 use Rattle.amqp_frames.specs.FrameError.{error_of}
 use Rattle.amqp_frames.specs.Head.{Opens, IsBodyOf}
-use Rattle.amqp_frames.proofs.Decoded.{failed}
-use Rattle.amqp_frames.proofs.Headed.{fields_found, no_fields, not_decoded}
+use Rattle.amqp_frames.proofs.DecodedFrameLemmas.{failed}
+use Rattle.amqp_frames.proofs.FrameHeadLemmas.{fields_found, no_fields, not_decoded}
 use Rattle.amqp_engine.specs.declared.engine.step_error.StepError.{StepError}
 use Rattle.amqp_engine.specs.declared.engine.step_error.StepError.TheVariants as no
 use Rattle.amqp_connection.specs.Connection.{refusal_of}

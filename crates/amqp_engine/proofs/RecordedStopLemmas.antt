@@ -4,9 +4,9 @@ use Rattle.amqp_types.specs.declared.states.SessionState.{SessionState}
 use Rattle.amqp_types.specs.declared.states.SessionState.TheVariants as at
 use Rattle.amqp_types.specs.declared.states.ConnectionState.{ConnectionState}
 use Rattle.amqp_types.specs.declared.states.ConnectionState.TheVariants as is
-use Rattle.amqp_types.specs.End.{EndSaid}
-use Rattle.amqp_types.specs.Close.{CloseSaid}
-use Rattle.amqp_types.specs.Error.{ErrorSaid}
+use Rattle.amqp_types.specs.End.{EndModel}
+use Rattle.amqp_types.specs.Close.{CloseModel}
+use Rattle.amqp_types.specs.Error.{ErrorModel}
 use Rattle.amqp_session.specs.declared.stop.SessionStopReason.{SessionStopReason}
 use Rattle.amqp_session.specs.Relay.{Relays}
 use Rattle.amqp_session.specs.Session.{SessionView}
@@ -25,12 +25,12 @@ use Rattle.amqp_engine.specs.Calls.{recorded_remote_end, remote_end_reason, is_e
 use Rattle.amqp_engine.specs.Sessions.{RecordedEnd, comes_to_end}
 use Rattle.amqp_engine.specs.Engine.{moved, recorded}
 
-pub recorded_chain : {R : Type 0} (g : Relays R) (v w : SessionView R) (reason : SessionStopReason) (error : Option ErrorSaid) (ends : Bool) →
+pub recorded_chain : {R : Type 0} (g : Relays R) (v w : SessionView R) (reason : SessionStopReason) (error : Option ErrorModel) (ends : Bool) →
     reason ≡ remote_end_reason error → RecordedEnd v reason ends w → session.Chain g v (recorded_remote_end ends error) w
 recorded_chain g v w reason error true e r = (w, subst (λ x. StopStep v x w) e r, refl)
 recorded_chain g v w reason error false e r = r
 
-pub recorded_frames : (R : Type 0) (error : Option ErrorSaid) (ends : Bool) → calls_frames {R = R} (recorded_remote_end ends error) ≡ []
+pub recorded_frames : (R : Type 0) (error : Option ErrorModel) (ends : Bool) → calls_frames {R = R} (recorded_remote_end ends error) ≡ []
 recorded_frames R error true = refl
 recorded_frames R error false = refl
 
@@ -65,7 +65,7 @@ came s t e = sym (end_seen s ∙ ap (seen_at s) e)
 stayed : (s t : SessionState) → takes_end s ≡ None → t ≡ s → comes_to_end s t ≡ is_end_received (takes_end s)
 stayed s t none e = ap (comes_to_end s) e ∙ no_move s ∙ sym (ap is_end_received none)
 
-end_came : {R : Type 0} (v w : SessionView R) (e : EndSaid) (result : Result (Unit {0}) SessionStateError) → TakeEndStep v e result w →
+end_came : {R : Type 0} (v w : SessionView R) (e : EndModel) (result : Result (Unit {0}) SessionStateError) → TakeEndStep v e result w →
     comes_to_end v.state w.state ≡ is_end_received (takes_end v.state)
 end_came v w e (Ok u) s = came v.state w.state s.0
 end_came v w e (Err (ended.RemoteEndedWithError x)) s = came v.state w.state s.0
@@ -73,7 +73,7 @@ end_came v w e (Err ended.RemoteEnded) s = came v.state w.state s.0
 end_came v w e (Err ended.IllegalState) s = stayed v.state w.state s.0 (ap (λ (x : SessionView _). x.state) s.1)
 end_came v w e (Err x) s = absurd s
 
-pub ends_so : {R : Type 0} (v w : SessionView R) (e : EndSaid) (result : Result (Unit {0}) SessionStateError) (before after : SessionState) (ends : Bool) →
+pub ends_so : {R : Type 0} (v w : SessionView R) (e : EndModel) (result : Result (Unit {0}) SessionStateError) (before after : SessionState) (ends : Bool) →
     ends ≡ comes_to_end before after → before ≡ v.state → after ≡ w.state → TakeEndStep v e result w → ends ≡ is_end_received (takes_end v.state)
 ends_so v w e result before after ends is old new s =
     is ∙ ap (λ x. comes_to_end x after) old ∙ ap (comes_to_end v.state) new ∙ end_came v w e result s
@@ -119,7 +119,7 @@ stands s t r k none e = ap (λ x. recorded (moved s x) r k) e ∙ none_closed s 
 came_to : (s t : ConnectionState) (r : ConnectionStopReason) (k : ConnectionView) (next : ConnectionState) → takes_close s ≡ Some next → t ≡ next → recorded (moved s t) r k ≡ recorded (takes_close s) r k
 came_to s t r k next e is = ap (λ x. recorded (moved s x) r k) is ∙ close_seen s next r k e
 
-close_came : (v k : ConnectionView) (c : CloseSaid) (refusal : Option ConnectionStateError) (r : ConnectionStopReason) → IncomingCloseStep v c refusal k →
+close_came : (v k : ConnectionView) (c : CloseModel) (refusal : Option ConnectionStateError) (r : ConnectionStopReason) → IncomingCloseStep v c refusal k →
     recorded (moved v.state k.state) r k ≡ recorded (takes_close v.state) r k
 close_came v k c (Some closed.IllegalState) r s = stands v.state k.state r k s.0 (ap (λ (x : ConnectionView). x.state) s.1)
 close_came v k c (Some (closed.RemoteClosedWithError e)) r s = came_to v.state k.state r k s.0 s.1 (ap (λ (x : ConnectionView). x.state) s.3)
@@ -128,7 +128,7 @@ close_came v k c (Some (closed.TransportError t)) r s = came_to v.state k.state 
 close_came v k c (Some closed.OutOfMemory) r s = came_to v.state k.state r k s.0 s.1 (ap (λ (x : ConnectionView). x.state) s.3)
 close_came v k c None r s = came_to v.state k.state r k s.0 s.1 (ap (λ (x : ConnectionView). x.state) s.3)
 
-pub recorded_so : (v k w : ConnectionView) (c : CloseSaid) (refusal : Option ConnectionStateError) (before : ConnectionState) (r r' : ConnectionStopReason) →
+pub recorded_so : (v k w : ConnectionView) (c : CloseModel) (refusal : Option ConnectionStateError) (before : ConnectionState) (r r' : ConnectionStopReason) →
     w ≡ recorded (moved before k.state) r k → before ≡ v.state → r ≡ r' → IncomingCloseStep v c refusal k → w ≡ recorded (takes_close v.state) r' k
 recorded_so v k w c refusal before r r' is old same s =
     is ∙ ap (λ x. recorded (moved x k.state) r k) old ∙ close_came v k c refusal r s ∙ ap (λ x. recorded (takes_close v.state) x k) same

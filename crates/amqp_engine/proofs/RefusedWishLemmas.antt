@@ -1,7 +1,7 @@
 -- A wish that is refused changes nothing. (The counts of a walk are not followed.)
 use Rattle.std.proofs.Common.{◌≡◌, ℕ, List, [], ◌∷◌, Option, Some, None, Result, Ok, Err, Bool, true, false, cond, refl, ap, sym, subst, ◌∙◌, inl, inr, nat_eq}
 use Rattle.std.specs.Map.{lookup, set_value}
-use Rattle.amqp_types.specs.Error.{ErrorSaid}
+use Rattle.amqp_types.specs.Error.{ErrorModel}
 use Rattle.amqp_frames.specs.declared.frame.Frame.{Frame}
 use Rattle.amqp_session.specs.declared.frame.SessionFrame.{SessionFrame}
 use Rattle.amqp_session.specs.declared.error.SessionStateError.{SessionStateError}
@@ -49,11 +49,11 @@ Still v w = w ≡ record v { walks = w.walks }
 still : {R : Type 0} (v w : EngineView R) → w ≡ v → Still v w
 still v w e = e ∙ ap (λ x. record v { walks = x }) (sym (ap (λ (x : EngineView _). x.walks) e))
 
-unsent : {R : Type 0} (v w : SessionView R) (error : Option ErrorSaid) (e : SessionStateError) → SendEndStep v error (Err e) w → w ≡ v
+unsent : {R : Type 0} (v w : SessionView R) (error : Option ErrorModel) (e : SessionStateError) → SendEndStep v error (Err e) w → w ≡ v
 unsent v w error unended.IllegalState s = s.1
 unsent v w error e s = absurd s
 
-called_end : {R : Type 0} (g : Relays R) (v w : EngineView R) (n : ℕ) (error : Option ErrorSaid) (calls : List (session.Entry R)) (r : StepError) → v.waiting ≡ [] → Called g v n (EndCalls error) calls (Some r) w → Still v w
+called_end : {R : Type 0} (g : Relays R) (v w : EngineView R) (n : ℕ) (error : Option ErrorModel) (calls : List (session.Entry R)) (r : StepError) → v.waiting ≡ [] → Called g v n (EndCalls error) calls (Some r) w → Still v w
 called_end {R} g v w n error calls r idle c = by c.asked.0 c.asked.1 c.asked.2
   where
     by : (result : Result SessionFrame SessionStateError) → calls ≡ session.SendsEnd error result ∷ recorded_end error result → Some r ≡ state_refusal result → Still v w
@@ -68,15 +68,15 @@ called_end {R} g v w n error calls r idle c = by c.asked.0 c.asked.1 c.asked.2
         ∙ ap (λ (fs : List Frame). record v { walks = walks; waiting = fs }) (sym idle)
         ∙ ap (λ x. record v { walks = x }) (sym (ap (λ (x : EngineView R). x.walks) c.put))
 
-refused_end : {R : Type 0} (g : Relays R) (v w : EngineView R) (n : ℕ) (error : Option ErrorSaid) (reached : Option ℕ) (calls : List (session.Entry R)) (r : StepError) → v.waiting ≡ [] → Does g v n (EndCalls error) reached calls (Some r) w → Still v w
+refused_end : {R : Type 0} (g : Relays R) (v w : EngineView R) (n : ℕ) (error : Option ErrorModel) (reached : Option ℕ) (calls : List (session.Entry R)) (r : StepError) → v.waiting ≡ [] → Does g v n (EndCalls error) reached calls (Some r) w → Still v w
 refused_end g v w n error reached calls r idle (inl s) = called_end g v w n error calls r idle s.1
 refused_end g v w n error reached calls r idle (inr s) = still v w s.1.same
 
-unclosed : (v k : ConnectionView) (error : Option ErrorSaid) (e : ConnectionStateError) → SendCloseStep v error (Err e) k → k ≡ v
+unclosed : (v k : ConnectionView) (error : Option ErrorModel) (e : ConnectionStateError) → SendCloseStep v error (Err e) k → k ≡ v
 unclosed v k error state.IllegalState s = s.1
 unclosed v k error e s = absurd s
 
-refused_close : {R : Type 0} (v w : EngineView R) (error : Option ErrorSaid) (r : StepError) → CloseRequest v error (Some r) w → Still v w
+refused_close : {R : Type 0} (v w : EngineView R) (error : Option ErrorModel) (r : StepError) → CloseRequest v error (Some r) w → Still v w
 refused_close v w error (no.ConnectionState e) s = still v w (s.2 ∙ ap (λ (k : ConnectionView). record v { connection = k }) (unclosed v.connection s.0 error e s.1))
 refused_close v w error e s = absurd s
 

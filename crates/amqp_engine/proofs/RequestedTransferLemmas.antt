@@ -1,9 +1,9 @@
 -- The transfers that sessions accept are those that were requested: so they are short where those are.
 use Rattle.std.proofs.Common.{◌≡◌, ◌++◌, ℕ, Bool, true, false, List, [], ◌∷◌, Option, Some, None, Result, Ok, Err, refl, ap, sym, subst, ◌∙◌, ◌⊎◌, inl, inr, append_assoc, cond}
 use Rattle.amqp_types.specs.declared.states.SessionState.{SessionState}
-use Rattle.amqp_types.specs.Disposition.{DispositionSaid}
-use Rattle.amqp_types.specs.Detach.{DetachSaid}
-use Rattle.amqp_types.specs.Error.{ErrorSaid}
+use Rattle.amqp_types.specs.Disposition.{DispositionModel}
+use Rattle.amqp_types.specs.Detach.{DetachModel}
+use Rattle.amqp_types.specs.Error.{ErrorModel}
 use Rattle.amqp_frames.specs.declared.frame.Frame.{Frame}
 use Rattle.amqp_frames.specs.declared.frame.FrameBody.{FrameBody}
 use Rattle.amqp_frames.specs.declared.frame.FrameBody.TheVariants as body
@@ -56,7 +56,7 @@ both_calls m xs ys s t = subst (EachOnePiece m) (sym (accepted_both xs ys)) (bot
 
 -- ---- what a request asks of a session
 
-ended : (R : Type 0) (m : ℕ) (error : Option ErrorSaid) (result : Result SessionFrame SessionStateError) → OfCalls {R = R} m (session.SendsEnd error result ∷ recorded_end error result)
+ended : (R : Type 0) (m : ℕ) (error : Option ErrorModel) (result : Result SessionFrame SessionStateError) → OfCalls {R = R} m (session.SendsEnd error result ∷ recorded_end error result)
 ended R m error (Ok f) = tt
 ended R m error (Err e) = tt
 
@@ -67,20 +67,20 @@ transferred R m h (Err e) s = tt
 
 -- ---- what a received frame asks of it
 
-remote_ended : (R : Type 0) (m : ℕ) (b : Bool) (error : Option ErrorSaid) → OfCalls {R = R} m (recorded_remote_end b error)
+remote_ended : (R : Type 0) (m : ℕ) (b : Bool) (error : Option ErrorModel) → OfCalls {R = R} m (recorded_remote_end b error)
 remote_ended R m true error = tt
 remote_ended R m false error = tt
 
-detached : (R : Type 0) (m : ℕ) (result : Result (Option DetachSaid) SessionInnerError) (sent : Result (Option SessionFrame) SessionInnerError) → OfCalls {R = R} m (answer_to result sent)
+detached : (R : Type 0) (m : ℕ) (result : Result (Option DetachModel) SessionInnerError) (sent : Result (Option SessionFrame) SessionInnerError) → OfCalls {R = R} m (answer_to result sent)
 detached R m (Ok (Some d)) sent = tt
 detached R m (Ok None) sent = tt
 detached R m (Err e) sent = tt
 
-flowed : (R : Type 0) (m : ℕ) (result : Result (Option DispositionSaid) SessionInnerError) (item : Option SessionOutgoingItem) → OfCalls {R = R} m (flow_after result item)
+flowed : (R : Type 0) (m : ℕ) (result : Result (Option DispositionModel) SessionInnerError) (item : Option SessionOutgoingItem) → OfCalls {R = R} m (flow_after result item)
 flowed R m (Ok d) item = tt
 flowed R m (Err e) item = tt
 
-echoed : {R : Type 0} (m : ℕ) (ds : List DispositionSaid) (cs : List (session.Entry R)) → SentEach ds cs → OfCalls m cs
+echoed : {R : Type 0} (m : ℕ) (ds : List DispositionModel) (cs : List (session.Entry R)) → SentEach ds cs → OfCalls m cs
 echoed m [] cs s = by_calls m cs [] s tt
 echoed m (d ∷ ds) cs s = by_calls m cs (session.SendsDisposition d s.0 s.1 ∷ s.2) s.3 (echoed m ds s.2 s.4)
 

@@ -3,7 +3,7 @@ use Rattle.std.proofs.Common.{◌≡◌, ℕ, List, [], ◌∷◌, ◌++◌, ref
 use Rattle.std.proofs.lemmas.List.{append_cancel_left}
 use Rattle.std.proofs.lemmas.List.Elements.{All-append}
 use Rattle.amqp_types.specs.declared.states.ConnectionState.{ConnectionState}
-use Rattle.amqp_types.specs.Open.{OpenSaid}
+use Rattle.amqp_types.specs.Open.{OpenModel}
 use Rattle.amqp_frames.specs.declared.frame.Frame.{Frame}
 use Rattle.amqp_session.specs.Relay.{Relays}
 use Rattle.amqp_engine.specs.declared.engine.input.Input.{Input}
@@ -94,13 +94,13 @@ Running-append gives v u w es fs answers answers1 others others' a b = record {
 -- ---- what is said of it at the end
 
 abbrev pub HeadlineLaw : {R : Type 0} → Relays R → Type 0
-HeadlineLaw gives = (state : ConnectionState) (o : OpenSaid) (H : List (Entry _)) (w : EngineView _) → Legal gives state o H w → Headline state o H
+HeadlineLaw gives = (state : ConnectionState) (o : OpenModel) (H : List (Entry _)) (w : EngineView _) → Legal gives state o H w → Headline state o H
 
 abbrev pub StandsLaw : {R : Type 0} → Relays R → Type 0
-StandsLaw gives = (state : ConnectionState) (o : OpenSaid) (H : List (Entry _)) (w : EngineView _) → Legal gives state o H w → Stands state o H w
+StandsLaw gives = (state : ConnectionState) (o : OpenModel) (H : List (Entry _)) (w : EngineView _) → Legal gives state o H w → Stands state o H w
 
 -- a legal history goes on by a chain
-pub legal_more : {R : Type 0} (gives : Relays R) (state : ConnectionState) (o : OpenSaid) (H es : List (Entry R)) (v w : EngineView R) → Legal gives state o H v → Chain gives v es w → Legal gives state o (H ++ es) w
+pub legal_more : {R : Type 0} (gives : Relays R) (state : ConnectionState) (o : OpenModel) (H es : List (Entry R)) (v w : EngineView R) → Legal gives state o H v → Chain gives v es w → Legal gives state o (H ++ es) w
 unfolding Legal
 legal_more gives state o H es v w l c = Chain-append gives H es (new_engine state o) v w l c
 

@@ -2,7 +2,7 @@
 use Rattle.std.proofs.Common.{◌≡◌, ◌+◌, List, [], ◌∷◌, ◌++◌, length, refl, ap, sym, subst, ◌∙◌, arith, append_assoc, length-append, Option, Some, None, Result, Ok, Err, inl}
 use Rattle.std.proofs.lemmas.List.Elements.{All-nil, All-push}
 use Rattle.amqp_types.specs.declared.states.ConnectionState.{ConnectionState}
-use Rattle.amqp_types.specs.Open.{OpenSaid}
+use Rattle.amqp_types.specs.Open.{OpenModel}
 use Rattle.amqp_frames.specs.declared.frame.Frame.{Frame}
 use Rattle.amqp_engine.specs.declared.engine.input.Input.{Input}
 use Rattle.amqp_engine.specs.declared.engine.answer.Answer.{Answer}
@@ -137,7 +137,7 @@ stepped gives law v i r w step =
     record { step = step; goes_on = λ state o H l. let all = legal_more gives state o H (e ∷ []) v w l chain in (all, law state o (H ++ e ∷ []) w all) }
 
 -- the history of a new engine
-pub legal_new : {R : Type 0} (gives : Relays R) (state : ConnectionState) (o : OpenSaid) (v : EngineView R) → v ≡ new_engine state o → Legal gives state o [] v
+pub legal_new : {R : Type 0} (gives : Relays R) (state : ConnectionState) (o : OpenModel) (v : EngineView R) → v ≡ new_engine state o → Legal gives state o [] v
 unfolding Legal
 legal_new gives state o v e = subst (λ (x : EngineView _). Taken (new_engine state o) x) (sym e) (Taken-none (new_engine state o))
 

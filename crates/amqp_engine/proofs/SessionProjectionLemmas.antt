@@ -5,7 +5,7 @@ use Rattle.std.specs.Map.{lookup, set_value}
 use Rattle.std.specs.Cmp.{nat_cmp_total}
 use Rattle.std.specs.Ordering.{nat_cmp}
 use Rattle.std.specs.FinMap as map
-use Rattle.amqp_types.specs.Open.{OpenSaid}
+use Rattle.amqp_types.specs.Open.{OpenModel}
 use Rattle.amqp_types.specs.declared.states.ConnectionState.{ConnectionState}
 use Rattle.amqp_types.specs.declared.states.SessionState.TheVariants.{Unmapped}
 use Rattle.amqp_session.specs.declared.stop.ConnectionStopReason.{ConnectionStopReason}
@@ -124,7 +124,7 @@ pub numbers_law : {R : Type 0} (g : Relays R) (n : ℕ) (es : List (Entry R)) (v
 numbers_law g n = by_history g (λ v. is_some (map.get v.forgotten n)) (λ e b. forgotten_by n (event e) b) (forgotten_from n) (λ x. refl) (λ x e es. refl)
     (λ v w t. ap (λ (m : Numbers). is_some (map.get m n)) t.forgotten_is) (λ v w e p. step_number g n v w e p)
 
-pub numbers_are : {R : Type 0} (g : Relays R) (n : ℕ) (made : ConnectionState) (o : OpenSaid) (H : List (Entry R)) (w : EngineView R) → LeadsTo g made o H w → is_some (map.get w.forgotten n) ≡ is_forgotten n H
+pub numbers_are : {R : Type 0} (g : Relays R) (n : ℕ) (made : ConnectionState) (o : OpenModel) (H : List (Entry R)) (w : EngineView R) → LeadsTo g made o H w → is_some (map.get w.forgotten n) ≡ is_forgotten n H
 numbers_are g n made o H w l = numbers_law g n H (new_engine made o) w l ∙ ap (λ (x : Option Bool). forgotten_from n (is_some x) H) (map.get-empty nat_cmp n)
 
 -- one step, for a session that is there
@@ -344,7 +344,7 @@ pub record Living {R : Type 0} (g : Relays R) (s : ConnectionState) (n : ℕ) (H
 abbrev pub Lives : {R : Type 0} → Relays R → ConnectionState → ℕ → List (Entry R) → EngineView R → Type 0
 Lives g s n H w = ((live s n H ≡ None) × (lookup (nat_eq n) w.sessions ≡ None)) ⊎ Living g s n H w
 
-pub lives : {R : Type 0} (g : Relays R) (s : ConnectionState) (o : OpenSaid) (n : ℕ) (H : List (Entry R)) (w : EngineView R) → Legal g n (new_connection s o) H w → Lives g s n H w
+pub lives : {R : Type 0} (g : Relays R) (s : ConnectionState) (o : OpenModel) (n : ℕ) (H : List (Entry R)) (w : EngineView R) → Legal g n (new_connection s o) H w → Lives g s n H w
 lives g s o n H w (inl a) = inl (ap (λ b. cond b None (begun s n H)) a.unforgotten ∙ a.unbegun, a.unknown)
 lives g s o n H w (inr p) = by (is_forgotten n H) refl
   where

@@ -5,7 +5,7 @@ use Rattle.std.specs.Map.{lookup, set_value}
 use Rattle.std.specs.FinMap as map
 use Rattle.std.specs.BinaryHeap.{IsHeap, IsUpperBound}
 use Rattle.std.specs.List.Sorted.{IsPermutation}
-use Rattle.amqp_types.specs.Error.{ErrorSaid}
+use Rattle.amqp_types.specs.Error.{ErrorModel}
 use Rattle.amqp_session.proofs.FiniteMapLemmas.{remove_none}
 use Rattle.amqp_engine.specs.declared.engine.handle_state.SessionSlot.{SessionSlot}
 use Rattle.amqp_connection.specs.Channels.{mark}
@@ -79,7 +79,7 @@ ended connection es es' n (Some a) given is there s =
     ap (λ m. record { connection = connection; sessions = m }) (put_pick (λ p. p.outcome) (λ p. record p { outcome = Some a }) n es given es' (λ p. p.outcome) a (λ p. refl) there s)
 
 -- where none was noted, one is
-pub wished : (close : Option (Option ErrorSaid)) (es es' : List (ℕ × SessionSlot)) (n : ℕ) (error : Option ErrorSaid) (given : Option (Option ErrorSaid)) →
+pub wished : (close : Option (Option ErrorModel)) (es es' : List (ℕ × SessionSlot)) (n : ℕ) (error : Option ErrorModel) (given : Option (Option ErrorModel)) →
     has_wish (lookup (nat_eq n) es) ≡ false → IsSome (lookup (nat_eq n) es) →
     Swaps (λ p. p.wish) (λ p. record p { wish = Some error }) n es given es' →
     ◌≡◌ {A = Wishes} (record { close = close; ends = pick (λ p. p.wish) es' }) (end_wished n error (record { close = close; ends = pick (λ p. p.wish) es }))
@@ -88,7 +88,7 @@ wished close es es' n error given none there s =
     ∙ sym (ap (λ o. end_noted o n error (record { close = close; ends = pick (λ p. p.wish) es })) (get_pick (λ p. p.wish) es n ∙ no_wish (lookup (nat_eq n) es) none))
 
 -- where one was noted, it stays
-pub wished_still : (close : Option (Option ErrorSaid)) (es : List (ℕ × SessionSlot)) (n : ℕ) (error : Option ErrorSaid) → has_wish (lookup (nat_eq n) es) ≡ true →
+pub wished_still : (close : Option (Option ErrorModel)) (es : List (ℕ × SessionSlot)) (n : ℕ) (error : Option ErrorModel) → has_wish (lookup (nat_eq n) es) ≡ true →
     ◌≡◌ {A = Wishes} (record { close = close; ends = pick (λ p. p.wish) es }) (end_wished n error (record { close = close; ends = pick (λ p. p.wish) es }))
 wished_still close es n error is =
     sym (by (lookup (nat_eq n) es) is (map.get (pick (λ p. p.wish) es) n) (get_pick (λ p. p.wish) es n))
@@ -96,16 +96,16 @@ wished_still close es n error is =
     w : Wishes
     w = record { close = close; ends = pick (λ p. p.wish) es }
 
-    noted_one : (o : Option (Option ErrorSaid)) → is_some o ≡ true → end_noted o n error w ≡ w
+    noted_one : (o : Option (Option ErrorModel)) → is_some o ≡ true → end_noted o n error w ≡ w
     noted_one None h = absurd cc
     noted_one (Some x) h = refl
 
-    by : (o : Option SessionSlot) → has_wish o ≡ true → (g : Option (Option ErrorSaid)) → g ≡ picked_at (λ p. p.wish) o → end_noted g n error w ≡ w
+    by : (o : Option SessionSlot) → has_wish o ≡ true → (g : Option (Option ErrorModel)) → g ≡ picked_at (λ p. p.wish) o → end_noted g n error w ≡ w
     by None h g e = absurd cc
     by (Some p) h g e = noted_one g (ap (λ x. is_some x) e ∙ h)
 
 -- a wish more
-pub queued_noted : (es es' : List (ℕ × SessionSlot)) (n x : ℕ) (error : Option ErrorSaid) (given : Option (Option ErrorSaid)) (items items' : List ℕ) (count count' capacity capacity' : ℕ) →
+pub queued_noted : (es es' : List (ℕ × SessionSlot)) (n x : ℕ) (error : Option ErrorModel) (given : Option (Option ErrorModel)) (items items' : List ℕ) (count count' capacity capacity' : ℕ) →
     has_wish (lookup (nat_eq n) es) ≡ false → IsSome (lookup (nat_eq n) es) → Swaps (λ p. p.wish) (λ p. record p { wish = Some error }) n es given es' →
     x + n ≡ 4294967295 → IsPermutation (x ∷ items) items' → IsHeap nat_cmp items' → count' ≡ count + 1 → capacity ≤ capacity' →
     Queued es items count capacity → Queued es' items' count' capacity'
@@ -123,7 +123,7 @@ queued_noted es es' n x error given items items' count count' capacity capacity'
     }
 queued_noted es es' n x error given items items' count count' capacity capacity' none there (inr s) sum perm heap more wide q = absurd (let y = subst IsSome s.0 there in cc)
 
-pub has_room : (es es' : List (ℕ × SessionSlot)) (n : ℕ) (error : Option ErrorSaid) (given : Option (Option ErrorSaid)) (items : List ℕ) (count capacity : ℕ) →
+pub has_room : (es es' : List (ℕ × SessionSlot)) (n : ℕ) (error : Option ErrorModel) (given : Option (Option ErrorModel)) (items : List ℕ) (count capacity : ℕ) →
     has_wish (lookup (nat_eq n) es) ≡ false → IsSome (lookup (nat_eq n) es) → Swaps (λ p. p.wish) (λ p. record p { wish = Some error }) n es given es' →
     Queued es items count capacity → count < capacity
 has_room es es' n error given items count capacity none there (inl s) q =
@@ -135,7 +135,7 @@ has_room es es' n error given items count capacity none there (inl s) q =
 has_room es es' n error given items count capacity none there (inr s) q = absurd (let y = subst IsSome s.0 there in cc)
 
 -- a wish less
-pub queued_taken : (es es' : List (ℕ × SessionSlot)) (n x : ℕ) (given : Option (Option ErrorSaid)) (items items' : List ℕ) (count count' capacity : ℕ) →
+pub queued_taken : (es es' : List (ℕ × SessionSlot)) (n x : ℕ) (given : Option (Option ErrorModel)) (items items' : List ℕ) (count count' capacity : ℕ) →
     Swaps (λ p. p.wish) (λ p. record p { wish = None }) n es given es' → x + n ≡ 4294967295 → IsPermutation items (x ∷ items') → IsHeap nat_cmp items' → count' + 1 ≡ count →
     Queued es items count capacity → Queued es' items' count' capacity
 queued_taken es es' n x given items items' count count' capacity (inl s) sum perm heap less q =
@@ -156,7 +156,7 @@ queued_taken es es' n x given items items' count count' capacity (inr s) sum per
     absurd (let y = sym here ∙ ap has_wish s.0 in cc)
 
 -- what was taken stood first
-pub took_first : (close : Option (Option ErrorSaid)) (es es' : List (ℕ × SessionSlot)) (n x : ℕ) (error : Option ErrorSaid) (items items' : List ℕ) →
+pub took_first : (close : Option (Option ErrorModel)) (es es' : List (ℕ × SessionSlot)) (n x : ℕ) (error : Option ErrorModel) (items items' : List ℕ) →
     Swaps (λ p. p.wish) (λ p. record p { wish = None }) n es (Some error) es' → x + n ≡ 4294967295 → IsPermutation items (x ∷ items') → IsUpperBound nat_cmp x items' →
     ((k : ℕ) → times k items ≡ mark (has_wish (lookup (nat_eq k) es))) →
     TakesEnd (record { close = close; ends = pick (λ p. p.wish) es }) (Some (record { 0 = n }, error)) (record { close = close; ends = pick (λ p. p.wish) es' })

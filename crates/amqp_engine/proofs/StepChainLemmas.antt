@@ -2,9 +2,9 @@
 use Rattle.std.proofs.Common.{◌≡◌, ◌++◌, ℕ, List, [], ◌∷◌, Option, Some, None, refl, ap, sym, subst, ◌∙◌, inl, inr}
 use Rattle.amqp_types.specs.declared.states.ConnectionState.{ConnectionState}
 use Rattle.amqp_types.specs.declared.states.ConnectionState.TheVariants as at
-use Rattle.amqp_types.specs.Error.{ErrorSaid}
-use Rattle.amqp_types.specs.Open.{OpenSaid}
-use Rattle.amqp_types.specs.Close.{CloseSaid}
+use Rattle.amqp_types.specs.Error.{ErrorModel}
+use Rattle.amqp_types.specs.Open.{OpenModel}
+use Rattle.amqp_types.specs.Close.{CloseModel}
 use Rattle.amqp_session.specs.declared.stop.ConnectionStopReason.{ConnectionStopReason}
 use Rattle.amqp_session.specs.Relay.{Relays}
 use Rattle.amqp_session.specs.OutgoingFrames.{calls_frames}
@@ -100,20 +100,20 @@ by_history g get by from none more left step (e ∷ es) v w c =
 record Settled : Type 0 where
   state : ConnectionState
   stop_reason : Option ConnectionStopReason
-  local_open : OpenSaid
-  remote_open : Option OpenSaid
+  local_open : OpenModel
+  remote_open : Option OpenModel
   agreed_channel_max : ℕ
 
 abbrev settled : ConnectionView → Settled
 settled k = record { state = k.state; stop_reason = k.stop_reason; local_open = k.local_open; remote_open = k.remote_open; agreed_channel_max = k.agreed_channel_max }
 
 -- the connection after the peer's Close
-stopped_by : (next : Option ConnectionState) (error : Option ErrorSaid) (v : ConnectionView) → after_all v (stops next error) ≡ record v { stop_reason = remote_close_reason next error v.stop_reason }
+stopped_by : (next : Option ConnectionState) (error : Option ErrorModel) (v : ConnectionView) → after_all v (stops next error) ≡ record v { stop_reason = remote_close_reason next error v.stop_reason }
 stopped_by None error v = refl
 stopped_by (Some at.CloseReceived) error v = refl
 stopped_by (Some s) error v = refl
 
-pub came : (v w : ConnectionView) (c : CloseSaid) → Moved v (CameClose c) w → w ≡ after_close v c
+pub came : (v w : ConnectionView) (c : CloseModel) → Moved v (CameClose c) w → w ≡ after_close v c
 came v w c m = went v w m.calls _ m.happens m.chain ∙ stopped_by (takes_close v.state) c.error (after v (connection.IncomingClose c (close_refusal (takes_close v.state) c.error)))
 
 settles : (v w : ConnectionView) (ev : Event) → Moved v ev w → ◌≡◌ {A = Settled} (settled w) (record {
@@ -190,7 +190,7 @@ pub remote_open_law : {R : Type 0} (g : Relays R) (es : List (Entry R)) (v w : E
 remote_open_law g = by_history g (λ v. v.connection.remote_open) (λ e o. remote_open_by (event e) o) remote_open_from (λ x. refl) (λ x e es. refl)
     (λ v w t. ap (λ (k : ConnectionView). k.remote_open) t.connection_is) (λ v w e p. moved_remote v.connection w.connection (event e) p.moved)
 
-pub channel_max_law : {R : Type 0} (g : Relays R) (own : OpenSaid) (es : List (Entry R)) (v w : EngineView R) → v.connection.local_open ≡ own → Chain g v es w → w.connection.agreed_channel_max ≡ channel_max_from own v.connection.agreed_channel_max es
+pub channel_max_law : {R : Type 0} (g : Relays R) (own : OpenModel) (es : List (Entry R)) (v w : EngineView R) → v.connection.local_open ≡ own → Chain g v es w → w.connection.agreed_channel_max ≡ channel_max_from own v.connection.agreed_channel_max es
 channel_max_law g own [] v w is c = ap (λ (k : ConnectionView). k.agreed_channel_max) c.connection_is
 channel_max_law g own (e ∷ es) v w is c =
     let p = passage g c.0 c.1 e c.3 in

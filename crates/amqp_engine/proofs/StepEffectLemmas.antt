@@ -5,14 +5,14 @@ use Rattle.std.specs.FinMap as map
 use Rattle.std.specs.Map.{lookup, set_value}
 use Rattle.amqp_types.specs.declared.states.ConnectionState.{ConnectionState}
 use Rattle.amqp_types.specs.declared.states.ConnectionState.TheVariants as at
-use Rattle.amqp_types.specs.Error.{ErrorSaid}
+use Rattle.amqp_types.specs.Error.{ErrorModel}
 use Rattle.amqp_types.specs.declared.states.SessionState.{SessionState}
 use Rattle.amqp_types.specs.declared.states.SessionState.TheVariants.{Unmapped}
-use Rattle.amqp_types.specs.Close.{CloseSaid}
+use Rattle.amqp_types.specs.Close.{CloseModel}
 use Rattle.amqp_session.specs.declared.error.SessionStateError.{SessionStateError}
 use Rattle.amqp_session.specs.declared.error.SessionInnerError.{SessionInnerError}
 use Rattle.amqp_session.specs.declared.error.AllocLinkError.{AllocLinkError}
-use Rattle.amqp_session.specs.Settings.{SettingsSaid}
+use Rattle.amqp_session.specs.Settings.{SettingsModel}
 use Rattle.amqp_session.specs.Relay.{Relays}
 use Rattle.amqp_session.specs.Session.{SessionView, new_session}
 use Rattle.amqp_session.specs.OutgoingFrames.{calls_frames}
@@ -44,19 +44,19 @@ use Rattle.amqp_engine.proofs.BegunSessionLemmas.{some_none}
 -- ---- the connection
 
 -- the connection after the peer's Close
-abbrev pub after_close : ConnectionView → CloseSaid → ConnectionView
+abbrev pub after_close : ConnectionView → CloseModel → ConnectionView
 after_close v c = record v { state = unwrap_or (takes_close v.state) v.state; stop_reason = remote_close_reason (takes_close v.state) c.error v.stop_reason }
 
 -- how the peer's Close is refused, by the state that it leads to, and whether the connection is then stopped
-abbrev pub close_refusal : Option ConnectionState → Option ErrorSaid → Option ConnectionStateError
+abbrev pub close_refusal : Option ConnectionState → Option ErrorModel → Option ConnectionStateError
 close_refusal None error = Some state.IllegalState
 close_refusal (Some s) error = told s error
 
-abbrev pub stops : Option ConnectionState → Option ErrorSaid → List connection.Entry
+abbrev pub stops : Option ConnectionState → Option ErrorModel → List connection.Entry
 stops (Some at.CloseReceived) error = connection.Stop (remote_reason error) ∷ []
 stops next error = []
 
-abbrev pub close_calls : ConnectionView → CloseSaid → List connection.Entry
+abbrev pub close_calls : ConnectionView → CloseModel → List connection.Entry
 close_calls v c = connection.IncomingClose c (close_refusal (takes_close v.state) c.error) ∷ stops (takes_close v.state) c.error
 
 -- the calls of the connection by which an event happens
@@ -153,7 +153,7 @@ pub record Changes {R : Type 0} (g : Relays R) (v : EngineView R) (e : Entry R) 
 
 pub record Begins {R : Type 0} (g : Relays R) (v : EngineView R) (e : Entry R) (w : EngineView R) : Type 0 where
   pub number : ℕ
-  pub settings : SettingsSaid
+  pub settings : SettingsModel
   pub channel : ℕ
   pub after : SessionView R
   pub event_is : event e ≡ Began number settings channel

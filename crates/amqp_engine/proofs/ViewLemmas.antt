@@ -1,7 +1,7 @@
 -- What contracts see of an engine is what its history gives.
 use Rattle.std.proofs.Common.{List, [], refl, sym, subst, ◌∙◌, inl, inr}
 use Rattle.amqp_types.specs.declared.states.ConnectionState.{ConnectionState}
-use Rattle.amqp_types.specs.Open.{OpenSaid}
+use Rattle.amqp_types.specs.Open.{OpenModel}
 use Rattle.amqp_session.specs.Relay.{Relays}
 use Rattle.amqp_session.specs.History as session
 use Rattle.amqp_session.specs.Headline as single
@@ -16,7 +16,7 @@ use Rattle.amqp_engine.proofs.SessionProjectionLemmas.{legal, lives, numbers_are
 use Rattle.amqp_engine.proofs.ChannelHistoryLemmas.{holds, routes}
 use Rattle.amqp_engine.proofs.AskedCallsLemmas.{ViewsLaw}
 
-pub stands : {R : Type 0} (g : Relays R) → ViewsLaw g → (made : ConnectionState) (o : OpenSaid) (H : List (Entry R)) (w : EngineView R) → LeadsTo g made o H w → Stands made o H w
+pub stands : {R : Type 0} (g : Relays R) → ViewsLaw g → (made : ConnectionState) (o : OpenModel) (H : List (Entry R)) (w : EngineView R) → LeadsTo g made o H w → Stands made o H w
 stands g law made o H w l = record {
   sessions_are = λ n m b. elim (lives g made o n H w (legal g H n (new_engine made o) w l refl)) [
     | inl a ↦ absurd (some_none (sym b ∙ a.0))

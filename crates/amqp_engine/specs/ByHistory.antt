@@ -5,8 +5,8 @@ use Rattle.amqp_types.specs.declared.states.ConnectionState.{ConnectionState}
 use Rattle.amqp_types.specs.declared.states.ConnectionState.TheVariants.{CloseReceived}
 use Rattle.amqp_types.specs.declared.states.SessionState.{SessionState}
 use Rattle.amqp_types.specs.declared.states.SessionState.TheVariants.{Unmapped}
-use Rattle.amqp_types.specs.Error.{ErrorSaid}
-use Rattle.amqp_types.specs.Open.{OpenSaid}
+use Rattle.amqp_types.specs.Error.{ErrorModel}
+use Rattle.amqp_types.specs.Open.{OpenModel}
 use Rattle.amqp_session.specs.declared.stop.ConnectionStopReason.{ConnectionStopReason}
 use Rattle.amqp_session.specs.declared.stop.ConnectionStopReason.TheVariants as stop
 use Rattle.amqp_session.specs.History as session
@@ -37,15 +37,15 @@ state_from s (e ∷ es) = state_from (state_by s (event e)) es
 
 -- ---- why it stopped: the first reason of a Close that was sent, or of one that came and moved it to CloseReceived
 
-abbrev pub close_reason : Option ErrorSaid → ConnectionStopReason
+abbrev pub close_reason : Option ErrorModel → ConnectionStopReason
 close_reason None = stop.Closed
 close_reason (Some e) = stop.ClosedWithError
 
-abbrev pub remote_reason : Option ErrorSaid → ConnectionStopReason
+abbrev pub remote_reason : Option ErrorModel → ConnectionStopReason
 remote_reason None = stop.RemoteClosed
 remote_reason (Some e) = stop.RemoteClosedWithError
 
-abbrev pub remote_close_reason : Option ConnectionState → Option ErrorSaid → Option ConnectionStopReason → Option ConnectionStopReason
+abbrev pub remote_close_reason : Option ConnectionState → Option ErrorModel → Option ConnectionStopReason → Option ConnectionStopReason
 remote_close_reason (Some CloseReceived) error old = first_reason old (remote_reason error)
 remote_close_reason next error old = old
 
@@ -64,28 +64,28 @@ stop_reason s H = reason_from s None H
 
 -- ---- the highest channel that both sides allow: that of this side's Open, until the peer's is accepted
 
-abbrev pub channel_max_by : OpenSaid → Event → ℕ → ℕ
+abbrev pub channel_max_by : OpenModel → Event → ℕ → ℕ
 channel_max_by own (AcceptedOpen o) old = min own.channel_max o.channel_max
 channel_max_by own ev old = old
 
-abbrev pub channel_max_from : {R : Type 0} → OpenSaid → ℕ → List (Entry R) → ℕ
+abbrev pub channel_max_from : {R : Type 0} → OpenModel → ℕ → List (Entry R) → ℕ
 channel_max_from own old [] = old
 channel_max_from own old (e ∷ es) = channel_max_from own (channel_max_by own (event e) old) es
 
-abbrev pub channel_max : {R : Type 0} → OpenSaid → List (Entry R) → ℕ
+abbrev pub channel_max : {R : Type 0} → OpenModel → List (Entry R) → ℕ
 channel_max own H = channel_max_from own own.channel_max H
 
 -- ---- the peer's Open that was accepted last
 
-abbrev pub remote_open_by : Event → Option OpenSaid → Option OpenSaid
+abbrev pub remote_open_by : Event → Option OpenModel → Option OpenModel
 remote_open_by (AcceptedOpen o) old = Some o
 remote_open_by ev old = old
 
-abbrev pub remote_open_from : {R : Type 0} → Option OpenSaid → List (Entry R) → Option OpenSaid
+abbrev pub remote_open_from : {R : Type 0} → Option OpenModel → List (Entry R) → Option OpenModel
 remote_open_from old [] = old
 remote_open_from old (e ∷ es) = remote_open_from (remote_open_by (event e) old) es
 
-abbrev pub remote_open : {R : Type 0} → List (Entry R) → Option OpenSaid
+abbrev pub remote_open : {R : Type 0} → List (Entry R) → Option OpenModel
 remote_open H = remote_open_from None H
 
 -- ---- the limit of a piece: that of the peer's Open that was accepted last

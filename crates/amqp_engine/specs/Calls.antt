@@ -5,14 +5,14 @@ use Rattle.std.specs.Prelude.{string_bytes, ◌≡◌, ℕ, List, [], ◌∷◌,
 use Rattle.amqp_types.specs.declared.definitions.Role.{Role}
 use Rattle.amqp_types.specs.declared.states.SessionState.{SessionState}
 use Rattle.amqp_types.specs.declared.states.SessionState.TheVariants as at
-use Rattle.amqp_types.specs.Error.{ErrorSaid}
-use Rattle.amqp_types.specs.Begin.{BeginSaid}
-use Rattle.amqp_types.specs.End.{EndSaid}
-use Rattle.amqp_types.specs.Attach.{AttachSaid}
-use Rattle.amqp_types.specs.Detach.{DetachSaid}
-use Rattle.amqp_types.specs.Flow.{FlowSaid}
-use Rattle.amqp_types.specs.Transfer.{TransferSaid}
-use Rattle.amqp_types.specs.Disposition.{DispositionSaid}
+use Rattle.amqp_types.specs.Error.{ErrorModel}
+use Rattle.amqp_types.specs.Begin.{BeginModel}
+use Rattle.amqp_types.specs.End.{EndModel}
+use Rattle.amqp_types.specs.Attach.{AttachModel}
+use Rattle.amqp_types.specs.Detach.{DetachModel}
+use Rattle.amqp_types.specs.Flow.{FlowModel}
+use Rattle.amqp_types.specs.Transfer.{TransferModel}
+use Rattle.amqp_types.specs.Disposition.{DispositionModel}
 use Rattle.amqp_session.specs.declared.flow.LinkFlow.{LinkFlow}
 use Rattle.amqp_session.specs.declared.numbers.InputHandle.{InputHandle}
 use Rattle.amqp_session.specs.declared.numbers.OutputHandle.{OutputHandle}
@@ -58,16 +58,16 @@ link_refusal (Err e) = Some (no.AllocLink e)
 abbrev pub BeginCalls : {R : Type 0} → Calls R
 BeginCalls s calls refusal = (f : SessionFrame) × (calls ≡ session.SendsBegin (Ok f) ∷ []) × (refusal ≡ None)
 
-abbrev pub end_reason : Option ErrorSaid → SessionStopReason
+abbrev pub end_reason : Option ErrorModel → SessionStopReason
 end_reason None = stop.Ended
 end_reason (Some e) = stop.EndedWithError
 
 -- an End that goes out is recorded
-abbrev pub recorded_end : {R : Type 0} → Option ErrorSaid → Result SessionFrame SessionStateError → List (session.Entry R)
+abbrev pub recorded_end : {R : Type 0} → Option ErrorModel → Result SessionFrame SessionStateError → List (session.Entry R)
 recorded_end error (Ok f) = session.RecordsStop (end_reason error) ∷ []
 recorded_end error (Err e) = []
 
-abbrev pub EndCalls : {R : Type 0} → Option ErrorSaid → Calls R
+abbrev pub EndCalls : {R : Type 0} → Option ErrorModel → Calls R
 EndCalls error s calls refusal = (result : Result SessionFrame SessionStateError)
     × (calls ≡ session.SendsEnd error result ∷ recorded_end error result) × (refusal ≡ state_refusal result)
 
@@ -79,10 +79,10 @@ abbrev pub AllocateIncomingCalls : {R : Type 0} → List ℕ → R → InputHand
 AllocateIncomingCalls name relay h s calls refusal = (result : Result OutputHandle AllocLinkError)
     × (calls ≡ session.AllocatesIncomingLink name relay h result ∷ []) × (refusal ≡ link_refusal result)
 
-abbrev pub AttachCalls : {R : Type 0} → AttachSaid → Calls R
+abbrev pub AttachCalls : {R : Type 0} → AttachModel → Calls R
 AttachCalls a s calls refusal = (f : SessionFrame) × (calls ≡ session.SendsAttach a f ∷ []) × (refusal ≡ None)
 
-abbrev pub DetachCalls : {R : Type 0} → DetachSaid → Bool → Calls R
+abbrev pub DetachCalls : {R : Type 0} → DetachModel → Bool → Calls R
 DetachCalls d expects_echo s calls refusal = (result : Result (Option SessionFrame) SessionInnerError)
     × (calls ≡ session.SendsDetach d expects_echo result ∷ []) × (refusal ≡ session_refusal result)
 
@@ -93,7 +93,7 @@ abbrev pub TransferCalls : {R : Type 0} → RequestedTransfer → Calls R
 TransferCalls h s calls refusal = (result : Result (Option SessionOutgoingItem) SessionInnerError)
     × (calls ≡ session.SendsTransfer h result ∷ []) × (refusal ≡ session_refusal result)
 
-abbrev pub DispositionCalls : {R : Type 0} → DispositionSaid → Calls R
+abbrev pub DispositionCalls : {R : Type 0} → DispositionModel → Calls R
 DispositionCalls d s calls refusal =
     (terminal : Bool) × (f : SessionFrame) × (calls ≡ session.SendsDisposition d terminal f ∷ []) × (refusal ≡ None)
 
@@ -107,11 +107,11 @@ StopCalls reason s calls refusal = (calls ≡ session.RecordsStop reason ∷ [])
 
 -- ---- received frames
 
-abbrev pub ReceivedBeginCalls : {R : Type 0} → ℕ → BeginSaid → Calls R
+abbrev pub ReceivedBeginCalls : {R : Type 0} → ℕ → BeginModel → Calls R
 ReceivedBeginCalls channel b s calls refusal = (result : Result (Unit {0}) SessionStateError)
     × (calls ≡ session.TakesBegin channel b result ∷ []) × (refusal ≡ state_refusal result)
 
-abbrev pub remote_end_reason : Option ErrorSaid → SessionStopReason
+abbrev pub remote_end_reason : Option ErrorModel → SessionStopReason
 remote_end_reason None = stop.RemoteEnded
 remote_end_reason (Some e) = stop.RemoteEndedWithError
 
@@ -121,62 +121,62 @@ is_end_received (Some at.EndReceived) = true
 is_end_received next = false
 
 -- it is recorded then
-abbrev pub recorded_remote_end : {R : Type 0} → Bool → Option ErrorSaid → List (session.Entry R)
+abbrev pub recorded_remote_end : {R : Type 0} → Bool → Option ErrorModel → List (session.Entry R)
 recorded_remote_end true error = session.RecordsStop (remote_end_reason error) ∷ []
 recorded_remote_end false error = []
 
-abbrev pub ReceivedEndCalls : {R : Type 0} → ℕ → EndSaid → Calls R
+abbrev pub ReceivedEndCalls : {R : Type 0} → ℕ → EndModel → Calls R
 ReceivedEndCalls channel e s calls refusal = (result : Result (Unit {0}) SessionStateError)
     × (calls ≡ session.TakesEnd channel e result ∷ recorded_remote_end (is_end_received (takes_end s)) e.error)
     × (refusal ≡ state_refusal result)
 
-abbrev pub ReceivedAttachCalls : {R : Type 0} → AttachSaid → Calls R
+abbrev pub ReceivedAttachCalls : {R : Type 0} → AttachModel → Calls R
 ReceivedAttachCalls a s calls refusal = (asked : Option (AttachQuestion _)) × (result : Result (Unit {0}) SessionInnerError)
     × (calls ≡ session.TakesAttach a asked result ∷ []) × (refusal ≡ session_refusal result)
 
 -- the detach that a relay answers goes out, and the peer is to answer it no more
-abbrev pub answer_to : {R : Type 0} → Result (Option DetachSaid) SessionInnerError →
+abbrev pub answer_to : {R : Type 0} → Result (Option DetachModel) SessionInnerError →
     Result (Option SessionFrame) SessionInnerError → List (session.Entry R)
 answer_to (Ok (Some d)) sent = session.SendsDetach d false sent ∷ []
 answer_to (Ok None) sent = []
 answer_to (Err e) sent = []
 
-abbrev pub ReceivedDetachCalls : {R : Type 0} → DetachSaid → Calls R
-ReceivedDetachCalls d s calls refusal = (asked : Option (DetachQuestion _)) × (result : Result (Option DetachSaid) SessionInnerError)
+abbrev pub ReceivedDetachCalls : {R : Type 0} → DetachModel → Calls R
+ReceivedDetachCalls d s calls refusal = (asked : Option (DetachQuestion _)) × (result : Result (Option DetachModel) SessionInnerError)
     × (sent : Result (Option SessionFrame) SessionInnerError)
     × (calls ≡ session.TakesDetach d asked result ∷ answer_to result sent) × (refusal ≡ session_refusal result)
 
-abbrev pub ReceivedFlowCalls : {R : Type 0} → FlowSaid → Calls R
+abbrev pub ReceivedFlowCalls : {R : Type 0} → FlowModel → Calls R
 ReceivedFlowCalls f s calls refusal = (asked : Option (FlowQuestion _)) × (result : Result (Option SessionOutgoingItem) SessionInnerError)
     × (calls ≡ session.TakesFlow f asked result ∷ []) × (refusal ≡ session_refusal result)
 
 -- the dispositions that a received one is answered by
-abbrev pub echoes_of : Result (Option (List DispositionSaid)) SessionInnerError → List DispositionSaid
+abbrev pub echoes_of : Result (Option (List DispositionModel)) SessionInnerError → List DispositionModel
 echoes_of (Ok (Some ds)) = ds
 echoes_of (Ok None) = []
 echoes_of (Err e) = []
 
 -- each of them goes out, in order
-abbrev pub SentEach : {R : Type 0} → List DispositionSaid → List (session.Entry R) → Type 0
+abbrev pub SentEach : {R : Type 0} → List DispositionModel → List (session.Entry R) → Type 0
 SentEach [] calls = calls ≡ []
 SentEach {R} (d ∷ ds) calls = (terminal : Bool) × (f : SessionFrame) × (others : List (session.Entry R))
     × (calls ≡ session.SendsDisposition d terminal f ∷ others) × SentEach ds others
 
-abbrev pub ReceivedDispositionCalls : {R : Type 0} → DispositionSaid → Calls R
+abbrev pub ReceivedDispositionCalls : {R : Type 0} → DispositionModel → Calls R
 ReceivedDispositionCalls d s calls refusal =
-    (asked : List (DispositionQuestion _)) × (result : Result (Option (List DispositionSaid)) SessionInnerError)
+    (asked : List (DispositionQuestion _)) × (result : Result (Option (List DispositionModel)) SessionInnerError)
     × (sent : List (session.Entry _)) × SentEach (echoes_of result) sent
     × (calls ≡ session.TakesDisposition d asked result ∷ sent) × (refusal ≡ session_refusal result)
 
 -- after a transfer that is accepted, the session is asked for a flow of its own
-abbrev pub flow_after : {R : Type 0} → Result (Option DispositionSaid) SessionInnerError → Option SessionOutgoingItem →
+abbrev pub flow_after : {R : Type 0} → Result (Option DispositionModel) SessionInnerError → Option SessionOutgoingItem →
     List (session.Entry R)
 flow_after (Ok d) item = session.SendsSessionFlow item ∷ []
 flow_after (Err e) item = []
 
-abbrev pub ReceivedTransferCalls : {R : Type 0} → TransferSaid → List ℕ → Calls R
+abbrev pub ReceivedTransferCalls : {R : Type 0} → TransferModel → List ℕ → Calls R
 ReceivedTransferCalls t payload s calls refusal =
-    (asked : Option (TransferQuestion _)) × (result : Result (Option DispositionSaid) SessionInnerError)
+    (asked : Option (TransferQuestion _)) × (result : Result (Option DispositionModel) SessionInnerError)
     × (item : Option SessionOutgoingItem) × (calls ≡ session.TakesTransfer t payload asked result ∷ flow_after result item)
     × (refusal ≡ session_refusal result)
 

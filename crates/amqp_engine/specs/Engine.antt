@@ -5,9 +5,9 @@ use Rattle.std.specs.Option.{option_map}
 use Rattle.amqp_types.specs.declared.performatives.kind.Kind.{Kind}
 use Rattle.amqp_types.specs.declared.states.ConnectionState.{ConnectionState}
 use Rattle.amqp_types.specs.declared.states.ConnectionState.TheVariants.{CloseReceived}
-use Rattle.amqp_types.specs.Error.{ErrorSaid}
-use Rattle.amqp_types.specs.Open.{OpenSaid}
-use Rattle.amqp_types.specs.Close.{CloseSaid}
+use Rattle.amqp_types.specs.Error.{ErrorModel}
+use Rattle.amqp_types.specs.Open.{OpenModel}
+use Rattle.amqp_types.specs.Close.{CloseModel}
 use Rattle.amqp_session.specs.declared.stop.ConnectionStopReason.{ConnectionStopReason}
 use Rattle.amqp_session.specs.Relay.{Relays}
 use Rattle.amqp_session.specs.History as session
@@ -41,7 +41,7 @@ OpenRequest v (Some (no.ConnectionState e)) w =
     (k : ConnectionView) × SendOpenStep v.connection (Err e) k × (w ≡ record v { connection = k })
 OpenRequest v (Some e) w = ⊥
 
-abbrev pub CloseRequest : {R : Type 0} → EngineView R → Option ErrorSaid → Option StepError → EngineView R → Type 0
+abbrev pub CloseRequest : {R : Type 0} → EngineView R → Option ErrorModel → Option StepError → EngineView R → Type 0
 CloseRequest v error None w =
     (f : Frame) × (k : ConnectionView) × SendCloseStep v.connection error (Ok f) k
     × (w ≡ record v { connection = stopped k (close_reason error); waiting = f ∷ [] })
@@ -51,7 +51,7 @@ CloseRequest v error (Some e) w = ⊥
 
 -- ---- received frames of the connection
 
-abbrev pub ReceivedOpen : {R : Type 0} → EngineView R → OpenSaid → Option StepError → EngineView R → Type 0
+abbrev pub ReceivedOpen : {R : Type 0} → EngineView R → OpenModel → Option StepError → EngineView R → Type 0
 ReceivedOpen v o None w =
     (k : ConnectionView) × IncomingOpenStep v.connection o None k × (w ≡ record v { connection = k; limit = peer_limit o })
 ReceivedOpen v o (Some (no.ConnectionState e)) w =
@@ -69,11 +69,11 @@ abbrev pub moved : ConnectionState → ConnectionState → Option ConnectionStat
 moved CloseReceived after = None
 moved before after = Some after
 
-abbrev pub ReceivedCloseStep : ConnectionView → CloseSaid → Option ConnectionStateError → ConnectionView → Type 0
+abbrev pub ReceivedCloseStep : ConnectionView → CloseModel → Option ConnectionStateError → ConnectionView → Type 0
 ReceivedCloseStep v c refusal w =
     (k : ConnectionView) × IncomingCloseStep v c refusal k × (w ≡ recorded (takes_close v.state) (remote_reason c.error) k)
 
-abbrev pub ReceivedClose : {R : Type 0} → EngineView R → CloseSaid → Option StepError → EngineView R → Type 0
+abbrev pub ReceivedClose : {R : Type 0} → EngineView R → CloseModel → Option StepError → EngineView R → Type 0
 ReceivedClose v c refusal w = (told : Option ConnectionStateError) × (k : ConnectionView) × ReceivedCloseStep v.connection c told k
     × (refusal ≡ option_map (λ e. no.ConnectionState e) told) × (w ≡ record v { connection = k })
 
@@ -95,7 +95,7 @@ ReceivedFrame g v c (body.Close p) reached calls refusal w = Untouched reached c
 ReceivedFrame g v c b reached calls refusal w = Reaches g (Finds v.connection c b) v (received_calls c b) reached calls refusal w
 
 -- the errors that a Close or an End names: of these the engine keeps a copy for handles
-abbrev pub named_error : FrameBody → Option ErrorSaid
+abbrev pub named_error : FrameBody → Option ErrorModel
 named_error (body.Close c) = c.error
 named_error (body.End e) = e.error
 named_error b = None

@@ -3,7 +3,7 @@
 use Rattle.std.specs.Prelude.{◌-◌, ℕ, List, [], map, max, Option, Some, None}
 use Rattle.std.specs.Option.{option_map}
 use Rattle.amqp_types.specs.declared.states.ConnectionState.{ConnectionState}
-use Rattle.amqp_types.specs.Open.{OpenSaid}
+use Rattle.amqp_types.specs.Open.{OpenModel}
 use Rattle.amqp_session.specs.declared.deliveries.WalkCount.{WalkCount}
 use Rattle.amqp_session.specs.Session.{SessionView, Observed}
 use Rattle.amqp_session.specs.declared.numbers.OutputHandle.{OutputHandle}
@@ -40,13 +40,13 @@ walks_of es = map (λ e. (e.0, e.1.last_walk)) es
 
 -- ---- the limit of a piece: the size that a side allows, without the size field; no peer may ask for less than 512 bytes
 
-abbrev pub own_limit : OpenSaid → ℕ
+abbrev pub own_limit : OpenModel → ℕ
 own_limit o = max (o.max_frame_size - 4) 4
 
-abbrev pub peer_limit : OpenSaid → ℕ
+abbrev pub peer_limit : OpenModel → ℕ
 peer_limit o = max o.max_frame_size 512 - 4
 
-abbrev pub new_engine : {R : Type 0} → ConnectionState → OpenSaid → EngineView R
+abbrev pub new_engine : {R : Type 0} → ConnectionState → OpenModel → EngineView R
 new_engine s o = record {
   connection = new_connection s o;
   sessions = [];

@@ -2,10 +2,10 @@
 -- What an entry of a history does to the connection: an Open or a Close that is sent or received, a session that is begun or
 -- gives its channel back, a route that is made or taken away, a session that is forgotten.
 use Rattle.std.specs.Prelude.{ℕ, List, [], ◌∷◌, Option, Some, None, Bool, false, nat_eq}
-use Rattle.amqp_types.specs.Error.{ErrorSaid}
-use Rattle.amqp_types.specs.Open.{OpenSaid}
-use Rattle.amqp_types.specs.Close.{CloseSaid}
-use Rattle.amqp_session.specs.Settings.{SettingsSaid}
+use Rattle.amqp_types.specs.Error.{ErrorModel}
+use Rattle.amqp_types.specs.Open.{OpenModel}
+use Rattle.amqp_types.specs.Close.{CloseModel}
+use Rattle.amqp_session.specs.Settings.{SettingsModel}
 use Rattle.amqp_frames.specs.declared.frame.Frame.{Frame}
 use Rattle.amqp_frames.specs.declared.frame.FrameBody.{FrameBody}
 use Rattle.amqp_frames.specs.declared.frame.FrameBody.TheVariants as body
@@ -20,12 +20,12 @@ pub data Event : Type 0 where
   Quiet : Event
   -- this side's Open or Close was sent
   SentOpen : Event
-  SentClose : Option ErrorSaid → Event
+  SentClose : Option ErrorModel → Event
   -- the peer's Open was accepted; the peer's Close came, whatever it is answered
-  AcceptedOpen : OpenSaid → Event
-  CameClose : CloseSaid → Event
+  AcceptedOpen : OpenModel → Event
+  CameClose : CloseModel → Event
   -- a session of this number was begun with these settings on this channel; it gave its channel back
-  Began : ℕ → SettingsSaid → ℕ → Event
+  Began : ℕ → SettingsModel → ℕ → Event
   Released : ℕ → Event
   -- a session of this number was let go
   Forgot : ℕ → Event

@@ -2,7 +2,7 @@
 -- What a run of a handled engine does: it hears the wishes, and then runs the inputs.
 use Rattle.std.specs.Prelude.{◌≡◌, ◌⊎◌, ℕ, List, [], ◌∷◌, ◌++◌, map, All, Option, Some, None}
 use Rattle.std.specs.FinMap as finite
-use Rattle.amqp_types.specs.Error.{ErrorSaid}
+use Rattle.amqp_types.specs.Error.{ErrorModel}
 use Rattle.amqp_session.specs.Relay.{Relays}
 use Rattle.amqp_engine.specs.declared.engine.input.Input.{Input}
 use Rattle.amqp_engine.specs.declared.engine.input.Input.TheVariants as input
@@ -16,10 +16,10 @@ use Rattle.amqp_engine.specs.Promise.{inputs_of, IsTaken}
 use Rattle.amqp_engine.specs.Ran.{Ran}
 
 -- what a wish asks for, as a request
-abbrev pub end_request : {R : Type 0} → ℕ × Option ErrorSaid → Input R
+abbrev pub end_request : {R : Type 0} → ℕ × Option ErrorModel → Input R
 end_request e = input.End (record { 0 = e.0 }) e.1
 
-abbrev pub close_requests : {R : Type 0} → Option (Option ErrorSaid) → List (Input R)
+abbrev pub close_requests : {R : Type 0} → Option (Option ErrorModel) → List (Input R)
 close_requests None = []
 close_requests (Some error) = input.Close error ∷ []
 
@@ -36,14 +36,14 @@ abbrev pub NoWishes : Wishes → Type 0
 NoWishes w = (finite.entries w.ends ≡ []) × (w.close ≡ None)
 
 -- The Close is heard when no End is left.
-abbrev pub ClosesLast : Wishes → Option (Option ErrorSaid) → Wishes → Type 0
+abbrev pub ClosesLast : Wishes → Option (Option ErrorModel) → Wishes → Type 0
 ClosesLast w None w' = w'.close ≡ w.close
 ClosesLast w (Some error) w' = (w.close ≡ Some error) × NoWishes w'
 
 -- Wishes are heard, each as its request: the Ends by rising number, and then the Close. Those not yet come to stay.
 pub record Hears {R : Type 0} (w : Wishes) (heard : List (Entry R)) (w' : Wishes) : Type 0 where
-  pub ends : List (ℕ × Option ErrorSaid)
-  pub close : Option (Option ErrorSaid)
+  pub ends : List (ℕ × Option ErrorModel)
+  pub close : Option (Option ErrorModel)
   pub ends_first : finite.entries w.ends ≡ ends ++ finite.entries w'.ends
   pub close_last : ClosesLast w close w'
   pub are : inputs_of heard ≡ map end_request ends ++ close_requests close

@@ -3,7 +3,7 @@
 use Rattle.std.specs.Prelude.{◌≡◌, ℕ, Option, Some, None, Result, Ok, Err, Bool, true, false, ◌||◌, nat_eq}
 use Rattle.std.specs.Map.{lookup}
 use Rattle.std.specs.FinMap as map
-use Rattle.amqp_types.specs.Error.{ErrorSaid}
+use Rattle.amqp_types.specs.Error.{ErrorModel}
 use Rattle.amqp_types.specs.declared.states.ConnectionState.{ConnectionState}
 use Rattle.amqp_types.specs.declared.states.ConnectionState.TheVariants as at
 use Rattle.amqp_types.specs.declared.states.SessionState.{SessionState}
@@ -45,14 +45,14 @@ close_told at.End None = Some (Err unclosed.IllegalState)
 close_told at.End (Some o) = Some (close_answer_of o)
 close_told s o = None
 
-abbrev pub close_noted : {R : Type 0} → Option ErrorSaid → EngineView R → EngineView R
+abbrev pub close_noted : {R : Type 0} → Option ErrorModel → EngineView R → EngineView R
 close_noted error v = record v { wishes = close_wished error v.wishes }
 
 abbrev pub close_taken : {R : Type 0} → EngineView R → EngineView R
 close_taken v = record v { outcomes = record v.outcomes { connection = None } }
 
 -- A Close is wished, unless the outcome was told.
-abbrev pub CloseCall : {R : Type 0} → Bool → Option ErrorSaid → EngineView R → CloseAnswer → EngineView R → Type 0
+abbrev pub CloseCall : {R : Type 0} → Bool → Option ErrorModel → EngineView R → CloseAnswer → EngineView R → Type 0
 CloseCall true error v answer w = (answer ≡ Err unclosed.IllegalState) × (w ≡ v)
 CloseCall false error v answer w = (answer ≡ Ok tt) × (w ≡ close_noted error v)
 
@@ -97,19 +97,19 @@ end_told stands.Unmapped None = Some (Err unended.IllegalState)
 end_told stands.Unmapped (Some o) = Some (end_answer_of o)
 end_told s o = None
 
-abbrev pub end_noted : {R : Type 0} → ℕ → Option ErrorSaid → EngineView R → EngineView R
+abbrev pub end_noted : {R : Type 0} → ℕ → Option ErrorModel → EngineView R → EngineView R
 end_noted n error v = record v { wishes = end_wished n error v.wishes }
 
 abbrev pub end_taken : {R : Type 0} → ℕ → EngineView R → EngineView R
 end_taken n v = record v { outcomes = record v.outcomes { sessions = map.remove v.outcomes.sessions n } }
 
 -- An End is wished of a session that the engine knows.
-abbrev pub WishesEnd : {R : Type 0} → ℕ → Option (SessionView R) → Option ErrorSaid → EngineView R → EndAnswer → EngineView R → Type 0
+abbrev pub WishesEnd : {R : Type 0} → ℕ → Option (SessionView R) → Option ErrorModel → EngineView R → EndAnswer → EngineView R → Type 0
 WishesEnd n None error v answer w = (answer ≡ Err unended.IllegalState) × (w ≡ v)
 WishesEnd n (Some s) error v answer w = (answer ≡ Ok tt) × (w ≡ end_noted n error v)
 
 -- so it is, unless the outcome was told
-abbrev pub EndCall : {R : Type 0} → SessionHandleView → Option ErrorSaid → EngineView R → EndAnswer → EngineView R → Type 0
+abbrev pub EndCall : {R : Type 0} → SessionHandleView → Option ErrorModel → EngineView R → EndAnswer → EngineView R → Type 0
 EndCall h error v answer w =
     (h.told ≡ true → (answer ≡ Err unended.IllegalState) × (w ≡ v))
     × (h.told ≡ false → WishesEnd h.number (lookup (nat_eq h.number) v.sessions) error v answer w)

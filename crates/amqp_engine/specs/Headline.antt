@@ -3,8 +3,8 @@
 use Rattle.std.specs.Prelude.{ℕ, ◌≡◌, ◌≤◌, List, [], ◌∷◌, ◌++◌, Option, Some, None, Err}
 use Rattle.amqp_types.specs.declared.states.ConnectionState.{ConnectionState}
 use Rattle.amqp_types.specs.declared.states.ConnectionState.TheVariants.{HeaderExchange, Opened}
-use Rattle.amqp_types.specs.Open.{OpenSaid}
-use Rattle.amqp_types.specs.Begin.{BeginSaid}
+use Rattle.amqp_types.specs.Open.{OpenModel}
+use Rattle.amqp_types.specs.Begin.{BeginModel}
 use Rattle.amqp_frames.specs.declared.frame.Frame.{Frame}
 use Rattle.amqp_frames.specs.declared.frame.FrameBody.{FrameBody}
 use Rattle.amqp_frames.specs.declared.frame.FrameBody.TheVariants as body
@@ -99,7 +99,7 @@ FramesReach s H = Each H (λ before e. (f : Frame) → e.received ≡ Some f →
 -- a Begin of the peer's reaches the session that holds the channel that it answers
 abbrev pub RoutesFollow : {R : Type 0} → List (Entry R) → Type 0
 RoutesFollow H =
-    Each H (λ before e. (c : ℕ) (b : BeginSaid) → e.received ≡ Some (record { channel = c; body = body.Begin b }) →
+    Each H (λ before e. (c : ℕ) (b : BeginModel) → e.received ≡ Some (record { channel = c; body = body.Begin b }) →
     (n : ℕ) → e.reached ≡ Some n →
     (d : ℕ) × (b.remote_channel ≡ Some d) × (held d before ≡ Some n))
 
@@ -132,13 +132,13 @@ abbrev pub AllAsked : {R : Type 0} → List (Entry R) → Type 0
 AllAsked H = Each H (λ before e. Asked before e.reached e)
 
 -- the frame of the connection itself
-abbrev pub own_frames : OpenSaid → Event → List Frame
+abbrev pub own_frames : OpenModel → Event → List Frame
 own_frames o SentOpen = open_frame o ∷ []
 own_frames o (SentClose error) = close_frame error ∷ []
 own_frames o ev = []
 
 -- an entry hands out the connection's own frame, or those of its calls, and no others
-abbrev pub FramesAre : {R : Type 0} → OpenSaid → List (Entry R) → Type 0
+abbrev pub FramesAre : {R : Type 0} → OpenModel → List (Entry R) → Type 0
 FramesAre o H = Each H (λ before e. e.frames ≡ own_frames o (event e) ++ sent (calls_frames e.calls))
 
 -- each frame of a session is on its channel
@@ -158,7 +158,7 @@ handed (e ∷ es) = e.frames ++ handed es
 
 -- ---- the headline: of an engine whose connection began in state s, and is to send the Open o
 
-pub record Headline {R : Type 0} (s : ConnectionState) (o : OpenSaid) (H : List (Entry R)) : Type 0 where
+pub record Headline {R : Type 0} (s : ConnectionState) (o : OpenModel) (H : List (Entry R)) : Type 0 where
   -- each session that was begun keeps its own headline: order, one number for each delivery, inside the window, waits only
   -- while it is used up
   pub each : (n : ℕ) (m : session.Made) → begun s n H ≡ Some m → single.Headline m (of_session n H)

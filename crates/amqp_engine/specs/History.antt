@@ -6,7 +6,7 @@ use Rattle.std.specs.FinMap as map
 use Rattle.amqp_types.specs.declared.states.SessionState.TheVariants.{Unmapped}
 use Rattle.amqp_types.specs.declared.states.ConnectionState.TheVariants.{End}
 use Rattle.amqp_types.specs.declared.states.ConnectionState.{ConnectionState}
-use Rattle.amqp_types.specs.Open.{OpenSaid}
+use Rattle.amqp_types.specs.Open.{OpenModel}
 use Rattle.amqp_frames.specs.declared.frame.Frame.{Frame}
 use Rattle.amqp_session.specs.Relay.{Relays}
 use Rattle.amqp_session.specs.Session.{SessionView}
@@ -51,5 +51,5 @@ Chain g v (e ∷ es) w = (u : EngineView _) × (m : EngineView _) × (n : Engine
     × Taken v u × Step g u e m × Keeps e m n × Chain g n es w
 
 -- a legal history of an engine that was new in this state and with this Open
-abbrev pub LeadsTo : {R : Type 0} → Relays R → ConnectionState → OpenSaid → List (Entry R) → EngineView R → Type 0
+abbrev pub LeadsTo : {R : Type 0} → Relays R → ConnectionState → OpenModel → List (Entry R) → EngineView R → Type 0
 LeadsTo g state o H w = Chain g (new_engine state o) H w

@@ -4,7 +4,7 @@
 use Rattle.std.specs.Prelude.{ℕ, Option, Some, None, Result, Ok, Err}
 use Rattle.std.specs.Ordering.{nat_cmp}
 use Rattle.std.specs.FinMap as map
-use Rattle.amqp_types.specs.Error.{ErrorSaid}
+use Rattle.amqp_types.specs.Error.{ErrorModel}
 use Rattle.amqp_frames.specs.declared.frame.Frame.{Frame}
 use Rattle.amqp_frames.specs.declared.frame.FrameBody.{FrameBody}
 use Rattle.amqp_frames.specs.declared.frame.FrameBody.TheVariants as body
@@ -31,8 +31,8 @@ pub record Outcomes : Type 0 where
 
 -- wishes that no run has taken: a Close, and Ends by the numbers of their sessions, each with its error, if any
 pub record Wishes : Type 0 where
-  pub close : Option (Option ErrorSaid)
-  pub ends : map.FinMap nat_cmp (Option ErrorSaid)
+  pub close : Option (Option ErrorModel)
+  pub ends : map.FinMap nat_cmp (Option ErrorModel)
 
 abbrev pub no_outcomes : Outcomes
 no_outcomes = record { connection = None; sessions = map.empty }
@@ -87,17 +87,17 @@ outcomes_after i received reached refusal o = outcomes_without i refusal (outcom
 -- ---- wishes
 
 -- The first wish that is noted stays.
-abbrev pub close_noted : Option (Option ErrorSaid) → Option ErrorSaid → Wishes → Wishes
+abbrev pub close_noted : Option (Option ErrorModel) → Option ErrorModel → Wishes → Wishes
 close_noted None error w = record w { close = Some error }
 close_noted (Some old) error w = w
 
-abbrev pub end_noted : Option (Option ErrorSaid) → ℕ → Option ErrorSaid → Wishes → Wishes
+abbrev pub end_noted : Option (Option ErrorModel) → ℕ → Option ErrorModel → Wishes → Wishes
 end_noted None n error w = record w { ends = map.insert w.ends n error }
 end_noted (Some old) n error w = w
 
 -- a Close is wished, and an End of session n
-abbrev pub close_wished : Option ErrorSaid → Wishes → Wishes
+abbrev pub close_wished : Option ErrorModel → Wishes → Wishes
 close_wished error w = close_noted w.close error w
 
-abbrev pub end_wished : ℕ → Option ErrorSaid → Wishes → Wishes
+abbrev pub end_wished : ℕ → Option ErrorModel → Wishes → Wishes
 end_wished n error w = end_noted (map.get w.ends n) n error w

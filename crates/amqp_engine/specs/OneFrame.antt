@@ -4,7 +4,7 @@
 -- that is put out is one Transfer frame.
 use Rattle.std.specs.Prelude.{ℕ, ◌≡◌, ◌≤◌, List, [], ◌∷◌, ◌++◌}
 use Rattle.amqp_types.specs.declared.states.ConnectionState.{ConnectionState}
-use Rattle.amqp_types.specs.Open.{OpenSaid}
+use Rattle.amqp_types.specs.Open.{OpenModel}
 use Rattle.amqp_frames.specs.declared.frame.Frame.{Frame}
 use Rattle.amqp_frames.specs.declared.frame.FrameBody.{FrameBody}
 use Rattle.amqp_frames.specs.declared.frame.FrameBody.TheVariants as body
@@ -68,7 +68,7 @@ SpeaksInFrames waiting (e ∷ es) waiting' out = (first : List Answer) × (rest 
 -- run is below it, each transfer that the run puts out is one frame.
 abbrev pub TransfersAreFrames : {R : Type 0} → Relays R → Type 0
 TransfersAreFrames g =
-    (s : ConnectionState) (o : OpenSaid) (H wished entries : List (Entry _)) (v w : EngineView _) (inputs left : List (Input _)) (answers after : List Answer)
+    (s : ConnectionState) (o : OpenModel) (H wished entries : List (Entry _)) (v w : EngineView _) (inputs left : List (Input _)) (answers after : List Answer)
     → Legal g s o H v → (p : Promise g wished entries v inputs answers w left after)
     → (m : ℕ) → AllShort m (H ++ (wished ++ entries)) → NoLimitBelow m v.limit (wished ++ entries)
     → SpeaksInFrames v.waiting (wished ++ entries) w.waiting p.out

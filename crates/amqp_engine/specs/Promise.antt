@@ -2,7 +2,7 @@
 -- What a run promises.
 use Rattle.std.specs.Prelude.{◌≡◌, ◌+◌, List, [], ◌∷◌, ◌++◌, length, All, Some, Result, Ok, Err}
 use Rattle.amqp_types.specs.declared.states.ConnectionState.{ConnectionState}
-use Rattle.amqp_types.specs.Open.{OpenSaid}
+use Rattle.amqp_types.specs.Open.{OpenModel}
 use Rattle.amqp_session.specs.Relay.{Relays}
 use Rattle.amqp_engine.specs.declared.engine.input.Input.{Input}
 use Rattle.amqp_engine.specs.declared.engine.answer.Answer.{Answer}
@@ -25,7 +25,7 @@ IsTaken e = ¬ (e.refusal ≡ Some no.OutputWaiting)
 
 -- Whatever legal history came before, it goes on by these entries, and all of it keeps the headline.
 abbrev pub GoesOn : {R : Type 0} → Relays R → EngineView R → List (Entry R) → EngineView R → Type 0
-GoesOn g v es w = (s : ConnectionState) (o : OpenSaid) (H : List (Entry _)) → Legal g s o H v → Legal g s o (H ++ es) w × Headline s o (H ++ es)
+GoesOn g v es w = (s : ConnectionState) (o : OpenModel) (H : List (Entry _)) → Legal g s o H v → Legal g s o (H ++ es) w × Headline s o (H ++ es)
 
 -- What is promised of the entries that a run adds to the history, from the view, inputs and answers before to those after: first
 -- those of wishes of handles, if any, and then those of the inputs that were taken.

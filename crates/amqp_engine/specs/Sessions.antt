@@ -13,7 +13,7 @@ use Rattle.amqp_session.specs.declared.error.SessionStateError.TheVariants as un
 use Rattle.amqp_session.specs.declared.stop.SessionStopReason.{SessionStopReason}
 use Rattle.amqp_frames.specs.declared.frame.Frame.{Frame}
 use Rattle.amqp_session.specs.Relay.{Relays}
-use Rattle.amqp_session.specs.Settings.{SettingsSaid}
+use Rattle.amqp_session.specs.Settings.{SettingsModel}
 use Rattle.amqp_session.specs.declared.deliveries.WalkCount.{WalkCount}
 use Rattle.amqp_session.specs.Session.{SessionView, Observed, new_session}
 use Rattle.amqp_session.specs.Step.{StopStep, SendBeginStep}
@@ -26,7 +26,7 @@ use Rattle.amqp_connection.specs.Connection.{ConnectionView, AllocateStep, Holds
 use Rattle.amqp_engine.specs.EngineView.{EngineView}
 use Rattle.amqp_engine.specs.Waits.{sent, disposition_frame}
 use Rattle.amqp_engine.specs.Calls.{Calls, BeginCalls, SentEach}
-use Rattle.amqp_types.specs.Disposition.{DispositionSaid}
+use Rattle.amqp_types.specs.Disposition.{DispositionModel}
 
 -- ---- one session
 
@@ -49,7 +49,7 @@ pub record Answered {R : Type 0} (g : Relays R) (v : SessionView R) (asks : Call
   pub handed_out : waiting ≡ sent (calls_frames calls)
 
 -- Each disposition goes out, in order; the session's channel stays, and each frame is on it.
-abbrev pub SendsAll : {R : Type 0} → Relays R → SessionView R → List DispositionSaid → SessionView R → Type 0
+abbrev pub SendsAll : {R : Type 0} → Relays R → SessionView R → List DispositionModel → SessionView R → Type 0
 SendsAll {R} g v ds w = (calls : List (session.Entry R)) × SentEach ds calls × session.Chain g v calls w
     × (calls_frames calls ≡ map (disposition_frame v.outgoing_channel) ds) × (w.outgoing_channel ≡ v.outgoing_channel)
 
@@ -96,7 +96,7 @@ Reaches g finds v asks reached calls refusal w =
 -- ---- a session comes, and gives its channel back
 
 -- A session that was not there is made on the channel that the connection gave, and sends its Begin.
-pub record Begun {R : Type 0} (g : Relays R) (v : EngineView R) (n : ℕ) (settings : SettingsSaid) (calls : List (session.Entry R))
+pub record Begun {R : Type 0} (g : Relays R) (v : EngineView R) (n : ℕ) (settings : SettingsModel) (calls : List (session.Entry R))
     (w : EngineView R) : Type 0 where
   pub channel : ℕ
   pub connection : ConnectionView
@@ -139,7 +139,7 @@ abbrev pub Used : {R : Type 0} → EngineView R → ℕ → Bool → Type 0
 Used v n true = IsUsed v n
 Used v n false = IsFresh v n
 
-abbrev pub BeginRequest : {R : Type 0} → Relays R → EngineView R → ℕ → SettingsSaid → Option ℕ → List (session.Entry R) →
+abbrev pub BeginRequest : {R : Type 0} → Relays R → EngineView R → ℕ → SettingsModel → Option ℕ → List (session.Entry R) →
     Option StepError → EngineView R → Type 0
 BeginRequest g v n settings reached calls None w = (reached ≡ Some n) × Begun g v n settings calls w
 BeginRequest g v n settings reached calls (Some no.SessionInUse) w = Nothing v reached calls w × IsUsed v n

@@ -2,7 +2,7 @@
 -- One input alone, and frames that leave.
 use Rattle.std.specs.Prelude.{List, [], ◌∷◌, Option}
 use Rattle.amqp_types.specs.declared.states.ConnectionState.{ConnectionState}
-use Rattle.amqp_types.specs.Open.{OpenSaid}
+use Rattle.amqp_types.specs.Open.{OpenModel}
 use Rattle.amqp_session.specs.Relay.{Relays}
 use Rattle.amqp_engine.specs.declared.engine.input.Input.{Input}
 use Rattle.amqp_engine.specs.declared.engine.step_error.StepError.{StepError}
@@ -31,4 +31,4 @@ pub record Stepped {R : Type 0} (g : Relays R) (v : EngineView R) (i : Input R) 
 
 -- the history stays, and is legal for the view after too
 abbrev pub Stays : {R : Type 0} → Relays R → EngineView R → EngineView R → Type 0
-Stays g v w = (s : ConnectionState) (o : OpenSaid) (H : List (Entry _)) → Legal g s o H v → Legal g s o H w
+Stays g v w = (s : ConnectionState) (o : OpenModel) (H : List (Entry _)) → Legal g s o H v → Legal g s o H w

@@ -4,7 +4,7 @@ use Rattle.std.specs.Prelude.{ℕ, ◌≡◌, List, [], ◌∷◌, ◌++◌, Som
 use Rattle.std.specs.Map.{lookup}
 use Rattle.std.specs.FinMap as map
 use Rattle.amqp_types.specs.declared.states.ConnectionState.{ConnectionState}
-use Rattle.amqp_types.specs.Open.{OpenSaid}
+use Rattle.amqp_types.specs.Open.{OpenModel}
 use Rattle.amqp_frames.specs.declared.frame.Frame.{Frame}
 use Rattle.amqp_session.specs.Session.{SessionView}
 use Rattle.amqp_session.specs.History as session
@@ -16,7 +16,7 @@ use Rattle.amqp_engine.specs.Entry.{Entry}
 use Rattle.amqp_engine.specs.Legal.{Legal}
 use Rattle.amqp_engine.specs.ByHistory.{of_session, live, is_forgotten, state_from, stop_reason, remote_open, channel_max, limit_after, route, held, last_frames}
 
-pub record Stands {R : Type 0} (s : ConnectionState) (o : OpenSaid) (H : List (Entry R)) (v : EngineView R) : Type 0 where
+pub record Stands {R : Type 0} (s : ConnectionState) (o : OpenModel) (H : List (Entry R)) (v : EngineView R) : Type 0 where
   -- each session that was begun and not forgotten, and no other
   pub sessions_are : (n : ℕ) (m : session.Made) → live s n H ≡ Some m →
       (t : SessionView R) × (lookup (nat_eq n) v.sessions ≡ Some t) × single.Stands m (of_session n H) t
@@ -43,5 +43,5 @@ outcomes_from o (e ∷ es) = outcomes_from (outcomes_after e.input e.received e.
 -- Whatever legal history led to the view after, the view is what it gives. And the outcomes are those that the entries left: no
 -- handle takes one meanwhile.
 pub record Views {R : Type 0} (g : Relays R) (es : List (Entry R)) (v v' : EngineView R) : Type 0 where
-  pub stands : (s : ConnectionState) (o : OpenSaid) (H : List (Entry R)) → Legal g s o H v' → Stands s o H v'
+  pub stands : (s : ConnectionState) (o : OpenModel) (H : List (Entry R)) → Legal g s o H v' → Stands s o H v'
   pub outcomes_are : v'.outcomes ≡ outcomes_from v.outcomes es

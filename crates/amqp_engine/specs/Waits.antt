@@ -7,7 +7,7 @@ use Rattle.amqp_frames.specs.declared.frame.FrameBody.TheVariants as body
 use Rattle.amqp_session.specs.declared.frame.SessionFrame.{SessionFrame}
 use Rattle.amqp_session.specs.declared.frame.SessionFrameBody.{SessionFrameBody}
 use Rattle.amqp_session.specs.declared.frame.SessionFrameBody.TheVariants as said
-use Rattle.amqp_types.specs.Disposition.{DispositionSaid}
+use Rattle.amqp_types.specs.Disposition.{DispositionModel}
 use Rattle.amqp_engine.specs.declared.engine.output_queue.Backlog.{Backlog}
 use Rattle.amqp_engine.specs.declared.engine.output_queue.Backlog.TheVariants as behind
 
@@ -28,7 +28,7 @@ abbrev pub sent : List SessionFrame → List Frame
 sent fs = map frame_of fs
 
 -- what stands behind the first frame: frames of a session, or dispositions, each of which becomes a frame on the channel
-abbrev pub disposition_frame : ℕ → DispositionSaid → SessionFrame
+abbrev pub disposition_frame : ℕ → DispositionModel → SessionFrame
 disposition_frame channel d = record { channel = channel; body = said.Disposition d }
 
 abbrev pub behind_frames : Backlog → List SessionFrame

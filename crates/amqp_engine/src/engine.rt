@@ -30,7 +30,7 @@ pub(crate) mod wish;
 
 use crate::laws::law_of_histories;
 use amqp_connection::{Connection, SessionNo};
-use amqp_frames::{FrameDecoder, FrameEncoder, Heads};
+use amqp_frames::{FrameDecoder, FrameEncoder, HeaderPool};
 use amqp_numbers::NumberSet;
 use amqp_session::keys::Hints;
 use amqp_session::{IncomingChannel, KeyHash, LinkRelay, OutputHandle, Session};
@@ -81,7 +81,7 @@ pub struct Engine<R> {
     forgotten: NumberSet,
     decoder: FrameDecoder,
     encoder: FrameEncoder,
-    heads: Heads,
+    heads: HeaderPool,
     waiting: OutputQueue,
     kept: HandleState,
 }
@@ -148,7 +148,7 @@ impl<R: LinkRelay> Engine<R> {
             alloc,
             hash,
             encoder: FrameEncoder::new(first_limit(&local_open)),
-            heads: Heads::new(alloc),
+            heads: HeaderPool::new(alloc),
             decoder: FrameDecoder::new(),
             connection: Connection::keyed(alloc, hash, state, local_open),
             sessions: IndexMap::new(alloc),

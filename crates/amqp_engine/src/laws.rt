@@ -2,7 +2,7 @@
 
 ghost use Rattle.std.specs.Prelude.{List};
 ghost use Rattle.amqp_types.specs.declared.states.ConnectionState.{ConnectionState};
-ghost use Rattle.amqp_types.specs.Open.{OpenSaid};
+ghost use Rattle.amqp_types.specs.Open.{OpenModel};
 ghost use Rattle.amqp_engine.specs.EngineView.{EngineView};
 ghost use Rattle.amqp_engine.specs.Entry.{Entry};
 ghost use Rattle.amqp_engine.specs.Legal.{Legal};
@@ -17,7 +17,7 @@ use amqp_session::{LinkRelay, laws as session};
 /// connection the state, the stop reason, the Open, the channel maximum, the channels that are held and the routes of received
 /// frames; the limit of a piece; and the frames that wait.
 pub fn law_of_views<R: LinkRelay>()
-    ensures { (state : ConnectionState) (o : OpenSaid) (H : List (Entry R)) (w : EngineView R)
+    ensures { (state : ConnectionState) (o : OpenModel) (H : List (Entry R)) (w : EngineView R)
         → Legal R.gives state o H w → Stands state o H w }
 {
     session::law_of_views::<R>();
@@ -26,7 +26,7 @@ pub fn law_of_views<R: LinkRelay>()
 /// Every legal history has the properties of `Headline`. One of them: an engine made in `HeaderExchange` hands out at most one
 /// Open and one Close (AMQP 1.0 part 2, section 2.4).
 pub fn law_of_histories<R: LinkRelay>()
-    ensures { (state : ConnectionState) (o : OpenSaid) (H : List (Entry R)) (w : EngineView R)
+    ensures { (state : ConnectionState) (o : OpenModel) (H : List (Entry R)) (w : EngineView R)
         → Legal R.gives state o H w → Headline state o H }
 {
     session::law_of_views::<R>();

@@ -1,9 +1,9 @@
 -- What a session's history tells the relay of a link is a run of that relay.
 use Rattle.std.proofs.Common.{◌≡◌, ◌⊎◌, inl, inr, ℕ, suc, Bool, true, false, not, cond, nat_eq, List, [], ◌∷◌, ◌++◌, All, Option, Some, None, Result, Ok, Err, refl, ap, sym, subst, ◌∙◌, arith}
 use Rattle.std.specs.FinMap as map
-use Rattle.amqp_types.specs.Flow.{FlowSaid}
-use Rattle.amqp_types.specs.Disposition.{DispositionSaid}
-use Rattle.amqp_types.specs.Detach.{DetachSaid}
+use Rattle.amqp_types.specs.Flow.{FlowModel}
+use Rattle.amqp_types.specs.Disposition.{DispositionModel}
+use Rattle.amqp_types.specs.Detach.{DetachModel}
 use Rattle.amqp_session.specs.declared.link.AttachedLink.{AttachedLink}
 use Rattle.amqp_session.specs.declared.deliveries.Delivery.{Delivery}
 use Rattle.amqp_session.specs.declared.error.SessionInnerError.{SessionInnerError}
@@ -43,7 +43,7 @@ module _ (g : Relays Queued) where
 
   -- ---- one question
 
-  flow_told : (f : FlowSaid) (handle : Option ℕ) (h : ℕ) (v w : SessionView Queued) (link : AttachedLink Queued) (q : FlowQuestion Queued) (result : _)
+  flow_told : (f : FlowModel) (handle : Option ℕ) (h : ℕ) (v w : SessionView Queued) (link : AttachedLink Queued) (q : FlowQuestion Queued) (result : _)
       → attached_at h v.links ≡ Some link → FlowTaken g.flow_gives v f handle (Some q) result w
       → Goes link (cond (speaks_of h handle) (ToldFlow q.handle q.asked q.answer ∷ []) []) (cond (speaks_of h handle) (where_goes q.after (Some link)) (Some link))
   flow_told f None h v w link q result at t = absurd t
@@ -71,7 +71,7 @@ module _ (g : Relays Queued) where
   -- ---- the questions of a disposition
 
   -- a relay under a handle after one question
-  disposed_one : (d : DispositionSaid) (r : Delivery) (h : ℕ) (l m : LinksView Queued) (link : AttachedLink Queued) (q : DispositionQuestion Queued)
+  disposed_one : (d : DispositionModel) (r : Delivery) (h : ℕ) (l m : LinksView Queued) (link : AttachedLink Queued) (q : DispositionQuestion Queued)
       → attached_at h l ≡ Some link → AsksAt g.disposition_gives d r (Some q) l m → (b : Bool) → nat_eq h q.asked.delivery.input_handle.0 ≡ b
       → (after : Queued) × Run g link.relay (cond b (ToldDisposition q.asked.role q.asked.settled q.asked.state q.asked.delivery.tag q.answer ∷ []) []) after
       × (attached_at h m ≡ Some (record link { relay = after })) × (cond b (where_goes q.after (Some link)) (Some link) ≡ Some (record link { relay = after }))
@@ -96,7 +96,7 @@ module _ (g : Relays Queued) where
         refl,
       )
 
-  disposed_each : (d : DispositionSaid) (rs : List Delivery) (asked : List (DispositionQuestion Queued)) (h : ℕ) (l new : LinksView Queued) (link : AttachedLink Queued)
+  disposed_each : (d : DispositionModel) (rs : List Delivery) (asked : List (DispositionQuestion Queued)) (h : ℕ) (l new : LinksView Queued) (link : AttachedLink Queued)
       → attached_at h l ≡ Some link → AsksEach g.disposition_gives d rs asked l new → Goes link (told_of h asked) (asked_from h (Some link) asked)
   disposed_each d [] asked h l new link at t = subst (λ qs. Goes link (told_of h qs) (asked_from h (Some link) qs)) (sym t.0) (untold link)
   disposed_each d (r ∷ rs) asked h l new link at t =
@@ -115,7 +115,7 @@ module _ (g : Relays Queued) where
             run = run_on _ (told_of h t.1) link.relay o.0 i.after o.1 i.run;
           }
 
-  disposition_told : (d : DispositionSaid) (asked : List (DispositionQuestion Queued)) (result : _) (h : ℕ) (v w : SessionView Queued) (link : AttachedLink Queued)
+  disposition_told : (d : DispositionModel) (asked : List (DispositionQuestion Queued)) (result : _) (h : ℕ) (v w : SessionView Queued) (link : AttachedLink Queued)
       → attached_at h v.links ≡ Some link → TakeDispositionStep g.disposition_gives v d asked result w → Goes link (told_of h asked) (asked_from h (Some link) asked)
   disposition_told d asked (Ok None) h v w link at t = disposed_each d _ asked h v.links w.links link at t.1
   disposition_told d asked (Ok (Some echoes)) h v w link at t = disposed_each d _ asked h v.links w.links link at t.1.0
@@ -163,7 +163,7 @@ module _ (g : Relays Queued) where
   one_call (Settles x a b n) h v w link at s t = untold link
 
   -- the relay that stands there is told the peer's detach
-  pub detach_told : (d : DetachSaid) (q : DetachQuestion Queued) (result : Result (Option DetachSaid) SessionInnerError) (v w : SessionView Queued)
+  pub detach_told : (d : DetachModel) (q : DetachQuestion Queued) (result : Result (Option DetachModel) SessionInnerError) (v w : SessionView Queued)
       → TakeDetachStep g.detach_gives v d (Some q) result w
       → (attached_at d.handle v.links ≡ Some (record { handle = q.handle; relay = q.before })) × g.detach_gives q.before q.handle d q.asked.1 q.answer q.after
   detach_told d q (Ok answer) v w t =

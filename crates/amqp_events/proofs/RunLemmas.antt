@@ -4,7 +4,7 @@ use Rattle.std.proofs.lemmas.List.{append_assoc, append-nil}
 use Rattle.amqp_types.specs.declared.definitions.Role.{Role}
 use Rattle.amqp_types.specs.declared.definitions.Role.TheVariants.{Sender, Receiver}
 use Rattle.amqp_types.specs.declared.definitions.DeliveryTag.{DeliveryTag}
-use Rattle.amqp_types.specs.Transfer.{TransferSaid}
+use Rattle.amqp_types.specs.Transfer.{TransferModel}
 use Rattle.amqp_session.specs.Relay.{Relays}
 use Rattle.amqp_session.specs.declared.error.LinkRelayError.{LinkRelayError}
 use Rattle.amqp_events.specs.declared.event.Event.{Event}
@@ -77,7 +77,7 @@ if_refused result why old m new e ts h l r =
     let queue = unmoved old.sink m.sink new.sink r.events r.missed (ap (λ (q : Queued). q.sink) l) r.queue in
     (r.events, subst (λ x. IfTaken x old.link e r.events (λ l rest. AreEventsOf ts l rest r.missed)) (sym h) are_of, queue)
 
-transfer_next : (role : Role) (old m new : Queued) (t : TransferSaid) (payload : List ℕ) (result : Result (Option (ℕ × DeliveryTag)) LinkRelayError) (ts : List Told)
+transfer_next : (role : Role) (old m new : Queued) (t : TransferModel) (payload : List ℕ) (result : Result (Option (ℕ × DeliveryTag)) LinkRelayError) (ts : List Told)
     → TransferToldAt role Pushes old t payload result m → (r : RunGives m ts new)
     → (es : List Event) × IfTaken result old.link (transferred old.link t payload) es (λ l rest. AreEventsOf ts l rest r.missed) × (new.sink ≡ queue_after old.sink es r.missed)
 transfer_next Sender old m new t payload result ts h r = if_refused result _ old m new (transferred old.link t payload) ts h.0 h.1 r

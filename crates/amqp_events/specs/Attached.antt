@@ -1,8 +1,8 @@
 -- Part: other calls.
 -- What a session's history tells the relay of a link, from the peer's attach to its detach.
 use Rattle.std.specs.Prelude.{◌≡◌, ℕ, Bool, true, not, nat_eq, if◌then◌else◌, List, [], ◌∷◌, ◌++◌, All, Option, Some, Result, Ok}
-use Rattle.amqp_types.specs.Attach.{AttachSaid}
-use Rattle.amqp_types.specs.Detach.{DetachSaid}
+use Rattle.amqp_types.specs.Attach.{AttachModel}
+use Rattle.amqp_types.specs.Detach.{DetachModel}
 use Rattle.amqp_session.specs.declared.link.AttachedLink.{AttachedLink}
 use Rattle.amqp_session.specs.declared.error.SessionInnerError.{SessionInnerError}
 use Rattle.amqp_session.specs.Relay.{Relays, AttachQuestion, DispositionQuestion, DetachQuestion}
@@ -57,14 +57,14 @@ Hears g = (m : Made) (w : SessionView Queued) (before es : List (Entry Queued)) 
 
 -- the relay that waits under the name is told the peer's attach
 abbrev pub HearsAttach : Relays Queued → Type 0
-HearsAttach g = (m : Made) (w : SessionView Queued) (before after : List (Entry Queued)) (a : AttachSaid) (q : AttachQuestion Queued)
+HearsAttach g = (m : Made) (w : SessionView Queued) (before after : List (Entry Queued)) (a : AttachModel) (q : AttachQuestion Queued)
     (result : Result (Unit {0}) SessionInnerError) → LeadsTo g m (before ++ TakesAttach a (Some q) result ∷ after) w
     → (live_at a.name before ≡ Some (record { handle = q.handle; waiting = Some q.before }))
     × RunGives q.before (ToldAttach a q.answer ∷ []) q.after
 
 -- the one that stands under the handle is told the peer's detach
 abbrev pub HearsDetach : Relays Queued → Type 0
-HearsDetach g = (m : Made) (w : SessionView Queued) (before after : List (Entry Queued)) (d : DetachSaid) (q : DetachQuestion Queued)
-    (result : Result (Option DetachSaid) SessionInnerError) → LeadsTo g m (before ++ TakesDetach d (Some q) result ∷ after) w
+HearsDetach g = (m : Made) (w : SessionView Queued) (before after : List (Entry Queued)) (d : DetachModel) (q : DetachQuestion Queued)
+    (result : Result (Option DetachModel) SessionInnerError) → LeadsTo g m (before ++ TakesDetach d (Some q) result ∷ after) w
     → (input_at d.handle before ≡ Some (record { handle = q.handle; relay = q.before }))
     × RunGives q.before (ToldDetach q.handle d q.asked.1 q.answer ∷ []) q.after

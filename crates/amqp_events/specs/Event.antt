@@ -1,9 +1,9 @@
 -- Part: other calls.
 -- Events: their kinds, and what each call of a relay makes one of.
 use Rattle.std.specs.Prelude.{ℕ, List, Bool, Option, Some}
-use Rattle.amqp_types.specs.Attach.{AttachSaid}
-use Rattle.amqp_types.specs.Detach.{DetachSaid}
-use Rattle.amqp_types.specs.Transfer.{TransferSaid}
+use Rattle.amqp_types.specs.Attach.{AttachModel}
+use Rattle.amqp_types.specs.Detach.{DetachModel}
+use Rattle.amqp_types.specs.Transfer.{TransferModel}
 use Rattle.amqp_types.specs.declared.definitions.Role.{Role}
 use Rattle.amqp_types.specs.declared.definitions.DeliveryTag.{DeliveryTag}
 use Rattle.amqp_session.specs.declared.numbers.OutputHandle.{OutputHandle}
@@ -34,17 +34,17 @@ under_both input output link = record (under input link) { output = Some output 
 
 -- ---- the event of each call, by the names that were known before it
 
-abbrev pub attached : LinkNames → AttachSaid → Event
+abbrev pub attached : LinkNames → AttachModel → Event
 attached link a = record { link = under a.handle link; body = body.Attached a }
 
 abbrev pub flowed : LinkNames → OutputHandle → LinkFlow → Event
 flowed link output f = record { link = under_both f.handle.0 output link; body = body.Flow f }
 
-abbrev pub transferred : LinkNames → TransferSaid → List ℕ → Event
+abbrev pub transferred : LinkNames → TransferModel → List ℕ → Event
 transferred link t payload = record { link = under t.handle link; body = body.Transfer t payload }
 
 abbrev pub disposed : LinkNames → Role → Bool → Option (List ℕ) → DeliveryTag → Event
 disposed link role settled state tag = record { link = link; body = body.Disposition role settled state tag }
 
-abbrev pub detached : LinkNames → OutputHandle → DetachSaid → Bool → Event
+abbrev pub detached : LinkNames → OutputHandle → DetachModel → Bool → Event
 detached link output d remote_initiated = record { link = under_both d.handle output link; body = body.Detached d remote_initiated }

@@ -1,8 +1,8 @@
 -- Part: other calls.
 -- Policy: what a relay answers (AMQP 1.0 part 2, sections 2.6.12, 2.7.3 to 2.7.5).
 use Rattle.std.specs.Prelude.{◌≡◌, ℕ, List, Bool, true, false, ◌&&◌, Option, Some, None, if◌then◌else◌, not}
-use Rattle.amqp_types.specs.Detach.{DetachSaid}
-use Rattle.amqp_types.specs.Transfer.{TransferSaid}
+use Rattle.amqp_types.specs.Detach.{DetachModel}
+use Rattle.amqp_types.specs.Transfer.{TransferModel}
 use Rattle.amqp_types.specs.declared.definitions.DeliveryTag.{DeliveryTag}
 use Rattle.amqp_types.specs.declared.definitions.ReceiverSettleMode.{ReceiverSettleMode}
 use Rattle.amqp_types.specs.declared.definitions.ReceiverSettleMode.TheVariants.{First, Second}
@@ -34,7 +34,7 @@ abbrev pub is_unsettled : Option Bool → Bool
 is_unsettled (Some settled) = not settled
 is_unsettled None = true
 
-abbrev pub is_recorded : Policy → TransferSaid → Bool
+abbrev pub is_recorded : Policy → TransferModel → Bool
 is_recorded p t = is_unsettled t.settled && (not t.aborted && records_mode p.recorded (mode_of p.rcv_settle_mode t.rcv_settle_mode))
 
 -- a delivery by its number and its tag, where the transfer has both
@@ -43,7 +43,7 @@ named (Some number) (Some tag) = Some (number, record { 0 = tag })
 named (Some number) None = None
 named None tag = None
 
-abbrev pub opened_by : Policy → TransferSaid → Option (ℕ × DeliveryTag)
+abbrev pub opened_by : Policy → TransferModel → Option (ℕ × DeliveryTag)
 opened_by p t = if is_recorded p t then named t.delivery_id t.delivery_tag else None
 
 -- ---- which dispositions are echoed: unsettled ones of a receiving peer
@@ -64,7 +64,7 @@ flow_answer p output f =
     then Some (record f { handle = record { 0 = output.0 }; echo = false; properties = None })
     else None
 
-abbrev pub detach_answer : Policy → OutputHandle → DetachSaid → Bool → Option DetachSaid
+abbrev pub detach_answer : Policy → OutputHandle → DetachModel → Bool → Option DetachModel
 detach_answer p output d remote_initiated =
     if p.answers_detaches && remote_initiated
     then Some (record { handle = output.0; closed = d.closed; error = None })

@@ -1,9 +1,9 @@
 -- Part: other calls.
 -- What a relay over a queue of its own is told in a row, and the events that its queue then holds.
 use Rattle.std.specs.Prelude.{◌≡◌, ◌⊎◌, ◌+◌, ◌-◌, ◌^◌, min, ℕ, zero, suc, List, [], ◌∷◌, ◌++◌, Bool, Option, Result, Ok, Err}
-use Rattle.amqp_types.specs.Attach.{AttachSaid}
-use Rattle.amqp_types.specs.Detach.{DetachSaid}
-use Rattle.amqp_types.specs.Transfer.{TransferSaid}
+use Rattle.amqp_types.specs.Attach.{AttachModel}
+use Rattle.amqp_types.specs.Detach.{DetachModel}
+use Rattle.amqp_types.specs.Transfer.{TransferModel}
 use Rattle.amqp_types.specs.declared.definitions.Role.{Role}
 use Rattle.amqp_types.specs.declared.definitions.DeliveryTag.{DeliveryTag}
 use Rattle.amqp_session.specs.Relay.{Relays}
@@ -18,11 +18,11 @@ use Rattle.amqp_events.specs.Queue.{QueueView}
 
 -- one call of the relay: its arguments and its answer
 pub data Told : Type 0 where
-  ToldAttach : AttachSaid → Result (Unit {0}) LinkRelayError → Told
+  ToldAttach : AttachModel → Result (Unit {0}) LinkRelayError → Told
   ToldFlow : OutputHandle → LinkFlow → Result (Option LinkFlow) LinkRelayError → Told
-  ToldTransfer : TransferSaid → List ℕ → Result (Option (ℕ × DeliveryTag)) LinkRelayError → Told
+  ToldTransfer : TransferModel → List ℕ → Result (Option (ℕ × DeliveryTag)) LinkRelayError → Told
   ToldDisposition : Role → Bool → Option (List ℕ) → DeliveryTag → Bool → Told
-  ToldDetach : OutputHandle → DetachSaid → Bool → Option DetachSaid → Told
+  ToldDetach : OutputHandle → DetachModel → Bool → Option DetachModel → Told
 
 -- a relay over a queue, as contracts see it
 abbrev pub Queued : Type 0

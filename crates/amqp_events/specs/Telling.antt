@@ -1,9 +1,9 @@
 -- Part: other calls.
 -- What a relay does with what it is told: its event goes to its sink, and its answer is that of its policy.
 use Rattle.std.specs.Prelude.{◌≡◌, ◌⊎◌, ◌↔◌, ℕ, List, Bool, Option, Result, Ok, Err, IfOk, IsSome, IsTrue}
-use Rattle.amqp_types.specs.Attach.{AttachSaid}
-use Rattle.amqp_types.specs.Detach.{DetachSaid}
-use Rattle.amqp_types.specs.Transfer.{TransferSaid}
+use Rattle.amqp_types.specs.Attach.{AttachModel}
+use Rattle.amqp_types.specs.Detach.{DetachModel}
+use Rattle.amqp_types.specs.Transfer.{TransferModel}
 use Rattle.amqp_types.specs.declared.definitions.Role.{Role}
 use Rattle.amqp_types.specs.declared.definitions.Role.TheVariants.{Sender, Receiver}
 use Rattle.amqp_types.specs.declared.definitions.DeliveryTag.{DeliveryTag}
@@ -52,7 +52,7 @@ Stays old new = (new.link ≡ old.link) × (new.policy ≡ old.policy)
 
 -- ---- the calls
 
-abbrev pub AttachTold : {S : Type 0} → Puts S → EventRelay S → AttachSaid → Result (Unit {0}) LinkRelayError → EventRelay S → Type 0
+abbrev pub AttachTold : {S : Type 0} → Puts S → EventRelay S → AttachModel → Result (Unit {0}) LinkRelayError → EventRelay S → Type 0
 AttachTold puts old a result new = Tells puts old (attached old.link a) result new
 
 abbrev pub FlowTold : {S : Type 0} → Puts S → EventRelay S → OutputHandle → LinkFlow → Result (Option LinkFlow) LinkRelayError → EventRelay S → Type 0
@@ -60,14 +60,14 @@ FlowTold puts old output f result new =
     Tells puts old (flowed old.link output f) (outcome result) new × IfOk result (λ answer. answer ≡ flow_answer old.policy output f)
 
 -- to the sending end none comes; else it is told, but where it opens a delivery whose tag cannot be shared
-abbrev pub TransferToldAt : {S : Type 0} → Role → Puts S → EventRelay S → TransferSaid → List ℕ → Result (Option (ℕ × DeliveryTag)) LinkRelayError
+abbrev pub TransferToldAt : {S : Type 0} → Role → Puts S → EventRelay S → TransferModel → List ℕ → Result (Option (ℕ × DeliveryTag)) LinkRelayError
     → EventRelay S → Type 0
 TransferToldAt Sender puts old t payload result new = (result ≡ Err TransferFrameToSender) × (new ≡ old)
 TransferToldAt Receiver puts old t payload result new =
     (Tells puts old (transferred old.link t payload) (outcome result) new × IfOk result (λ named. named ≡ opened_by old.policy t))
     ⊎ (IsSome (opened_by old.policy t) × (result ≡ Err OutOfMemory) × (new ≡ old))
 
-abbrev pub TransferTold : {S : Type 0} → Puts S → EventRelay S → TransferSaid → List ℕ → Result (Option (ℕ × DeliveryTag)) LinkRelayError
+abbrev pub TransferTold : {S : Type 0} → Puts S → EventRelay S → TransferModel → List ℕ → Result (Option (ℕ × DeliveryTag)) LinkRelayError
     → EventRelay S → Type 0
 TransferTold puts old t payload result new = TransferToldAt old.policy.role puts old t payload result new
 
@@ -77,7 +77,7 @@ DispositionTold puts misses old role settled state tag answer new =
     (IsTrue answer ↔ IsEchoed old.policy.echoed role settled state) × Stays old new
     × (Notes puts misses old.sink (disposed old.link role settled state tag) new.sink ⊎ misses old.sink new.sink)
 
-abbrev pub DetachTold : {S : Type 0} → Puts S → Skips S → EventRelay S → OutputHandle → DetachSaid → Bool → Option DetachSaid → EventRelay S → Type 0
+abbrev pub DetachTold : {S : Type 0} → Puts S → Skips S → EventRelay S → OutputHandle → DetachModel → Bool → Option DetachModel → EventRelay S → Type 0
 DetachTold puts misses old output d remote_initiated answer new =
     (answer ≡ detach_answer old.policy output d remote_initiated) × Stays old new
     × Notes puts misses old.sink (detached old.link output d remote_initiated) new.sink

@@ -4,8 +4,8 @@ use Rattle.std.specs.Prelude.{◌≡◌, ◌<◌, ◌≤◌, ◌+◌, ◌-◌, �
 use Rattle.std.specs.Prelude.{if◌then◌else◌, Option, Some, None, Result, Ok, Err}
 use Rattle.amqp_values.specs.Reading.{joined}
 use Rattle.amqp_types.specs.declared.performatives.Performative.TheVariants as performative
-use Rattle.amqp_types.specs.declared.performatives.transfer.TransferText.TheVariants as text
-use Rattle.amqp_types.specs.Transfer.{TransferSaid, said_in}
+use Rattle.amqp_types.specs.declared.performatives.transfer.TransferFragment.TheVariants as text
+use Rattle.amqp_types.specs.Transfer.{TransferModel, said_in}
 use Rattle.amqp_types.specs.Performatives.{performative_text}
 use Rattle.amqp_frames.specs.declared.frame.Frame.{Frame}
 use Rattle.amqp_frames.specs.declared.frame.FrameBody.{FrameBody}
@@ -18,22 +18,22 @@ use Rattle.amqp_frames.specs.ReadBack.{DecodesTo, AreDecoded}
 
 -- ---- the texts of a transfer that is cut
 
-abbrev pub transfer_text : TransferSaid → List ℕ
+abbrev pub transfer_text : TransferModel → List ℕ
 transfer_text t = performative_text (performative.Transfer t)
 
-abbrev pub first_text : TransferSaid → List ℕ
+abbrev pub first_text : TransferModel → List ℕ
 first_text t = transfer_text (said_in text.First t)
 
-abbrev pub middle_text : TransferSaid → List ℕ
+abbrev pub middle_text : TransferModel → List ℕ
 middle_text t = transfer_text (said_in text.Middle t)
 
-abbrev pub last_text : TransferSaid → List ℕ
+abbrev pub last_text : TransferModel → List ℕ
 last_text t = transfer_text (said_in text.Last t)
 
 -- ---- a transfer alone is cut
 
 -- P holds of the transfer and its payload; for any other body this is never so
-abbrev pub OnTransfer : (TransferSaid → List ℕ → Type 0) → FrameBody → Type 0
+abbrev pub OnTransfer : (TransferModel → List ℕ → Type 0) → FrameBody → Type 0
 OnTransfer P (Transfer t payload) = P t payload
 OnTransfer P body = ⊥
 
@@ -47,7 +47,7 @@ abbrev pub Whole : Frame → ℕ → Type 0
 Whole f m = length (text_of f.body) + length (payload_of f.body) ≤ room m
 
 -- the first piece holds its text, and each later one more than its text
-abbrev pub LeavesRoom : TransferSaid → ℕ → Type 0
+abbrev pub LeavesRoom : TransferModel → ℕ → Type 0
 LeavesRoom t m = (length (first_text t) ≤ room m) × (length (middle_text t) < room m)
 
 abbrev pub IsCuttable : FrameBody → ℕ → Type 0
@@ -57,7 +57,7 @@ abbrev pub Fits : Frame → ℕ → Type 0
 Fits f m = Whole f m ⊎ IsCuttable f.body m
 
 -- how many bytes of payload fit beside the transfer as it is
-abbrev pub room_beside : TransferSaid → ℕ → Option ℕ
+abbrev pub room_beside : TransferModel → ℕ → Option ℕ
 room_beside t m = if nat_lt (room m) (length (transfer_text t)) then None else Some (room m - length (transfer_text t))
 
 -- ---- the pieces
@@ -68,7 +68,7 @@ IsWholePiece f p = (p.head ≡ header_text f.channel ++ text_of f.body) × (p.pa
 
 -- A first piece, any number in the middle, and a last one; each but the last is full, and the last one is not empty.
 -- The parts joined are the payload.
-pub record IsCut (channel : ℕ) (t : TransferSaid) (payload : List ℕ) (m : ℕ) (pieces : List PieceParts) : Type 0 where
+pub record IsCut (channel : ℕ) (t : TransferModel) (payload : List ℕ) (m : ℕ) (pieces : List PieceParts) : Type 0 where
   pub first : PieceParts
   pub middle : List PieceParts
   pub last : PieceParts

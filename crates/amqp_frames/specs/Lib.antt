@@ -1,14 +1,11 @@
 pub mod FrameError
 pub mod Frame
-pub mod Decoding
 pub mod Head
-pub mod Heads
+pub mod HeaderPool
 pub mod Piece
 pub mod ReadBack
 pub mod Cut
-pub mod Pieces
 pub mod RoundTrip
 pub mod Split
-pub mod Parts
-pub mod Woven
 pub mod Wire
+pub mod Inner

@@ -5,8 +5,8 @@ use Rattle.amqp_values.specs.Reading.{joined}
 use Rattle.amqp_types.specs.declared.performatives.Performative.{Performative}
 use Rattle.amqp_types.specs.declared.performatives.Performative.TheVariants as performative
 use Rattle.amqp_types.specs.Performatives.{IsPerformative, performative_text}
-use Rattle.amqp_types.specs.declared.performatives.transfer.TransferText.TheVariants as text
-use Rattle.amqp_types.specs.Transfer.{TransferSaid, said_in}
+use Rattle.amqp_types.specs.declared.performatives.transfer.TransferFragment.TheVariants as text
+use Rattle.amqp_types.specs.Transfer.{TransferModel, said_in}
 use Rattle.amqp_frames.specs.declared.frame.Frame.{Frame}
 use Rattle.amqp_frames.specs.declared.frame.FrameBody.{FrameBody}
 use Rattle.amqp_frames.specs.declared.frame.FrameBody.TheVariants.{Attach, Flow, Transfer, Disposition, Detach, Begin}
@@ -43,11 +43,11 @@ IsSpelledBody (Close p) = IsSpelled (performative.Close p)
 IsSpelledBody Empty = Unit {0}
 
 -- the piece is the frame of this transfer, with its part of the payload
-abbrev pub Carries : ℕ → TransferSaid → PieceParts → Type 0
+abbrev pub Carries : ℕ → TransferModel → PieceParts → Type 0
 Carries channel t p = IsFrame (record { channel = channel; body = Transfer t p.payload }) (piece_bytes p) []
 
 -- each piece of a transfer that is cut is the frame of a transfer: the first, one in the middle, or the last
-pub record AreTransfers (channel : ℕ) (t : TransferSaid) (pieces : List PieceParts) : Type 0 where
+pub record AreTransfers (channel : ℕ) (t : TransferModel) (pieces : List PieceParts) : Type 0 where
   pub first : PieceParts
   pub middle : List PieceParts
   pub last : PieceParts
@@ -58,7 +58,7 @@ pub record AreTransfers (channel : ℕ) (t : TransferSaid) (pieces : List PieceP
 
 abbrev pub CutsAreRead : Type 0
 CutsAreRead =
-    (channel m : ℕ) (t : TransferSaid) (payload : List ℕ) (pieces : List PieceParts) → channel < 2 ^ 16
+    (channel m : ℕ) (t : TransferModel) (payload : List ℕ) (pieces : List PieceParts) → channel < 2 ^ 16
     → IsSpelled (performative.Transfer (said_in text.First t)) → IsSpelled (performative.Transfer (said_in text.Middle t))
     → IsSpelled (performative.Transfer (said_in text.Last t))
     → IsCut channel t payload m pieces → AreTransfers channel t pieces
@@ -92,5 +92,5 @@ EmptyIsDecoded =
 
 abbrev pub CutIsDecoded : Performative → Type 0
 CutIsDecoded p =
-    (t : TransferSaid) (channel m : ℕ) (payload : List ℕ) (pieces : List PieceParts)
+    (t : TransferModel) (channel m : ℕ) (payload : List ℕ) (pieces : List PieceParts)
     → p ≡ performative.Transfer t → channel < 2 ^ 16 → m < 2 ^ 32 → IsCut channel t payload m pieces → AreDecoded channel t payload pieces

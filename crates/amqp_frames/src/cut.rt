@@ -3,13 +3,13 @@
 ghost use Rattle.std.specs.Prelude.{◌≡◌, ◌≤◌, ◌<◌, ◌+◌, ◌*◌, ◌^◌, ◌++◌, IfOk, OnOk, length, vec_len, vec_capacity};
 ghost use Rattle.amqp_frames.specs.Frame.{header_text};
 ghost use Rattle.amqp_frames.specs.Cut.{transfer_text, first_text, middle_text, last_text, room};
-ghost use Rattle.amqp_frames.specs.Pieces.{Adds, CutsTo, InPieces};
+ghost use Rattle.amqp_frames.specs.Inner.Pieces.{Adds, CutsTo, InPieces};
 
 use crate::error::Error;
 use crate::head::transfer_head;
 use crate::piece::Piece;
 use amqp_types::laws::transfer_is_spelled;
-use amqp_types::{Transfer, TransferText};
+use amqp_types::{Transfer, TransferFragment};
 use bytes::Bytes;
 use std::alloc::{AllocError, Global};
 
@@ -27,11 +27,11 @@ pub(crate) fn cut(
     ensures { CutsTo (λ v. v.items) channel transfer.now payload.now limit result }
 {
     let room = u128::from(limit - 4);
-    let first = transfer.encoded_len_in(TransferText::First);
+    let first = transfer.encoded_len_in(TransferFragment::First);
     if room < first {
         return Err(Error::TooLarge);
     }
-    let middle = transfer.encoded_len_in(TransferText::Middle);
+    let middle = transfer.encoded_len_in(TransferFragment::Middle);
     if room <= middle {
         return Err(Error::TooLarge);
     }
@@ -62,7 +62,7 @@ fn in_pieces(
     let count = (payload.len() - front - 1) / step;
     let mut pieces = Vec::with_capacity(alloc, count + 2)?;
     let mut rest = payload.clone()?;
-    let head = transfer_head(alloc, channel, transfer, TransferText::First)?;
+    let head = transfer_head(alloc, channel, transfer, TransferFragment::First)?;
     let part = rest.split_to(front)?;
     pieces.push_reserved(Piece::own(head, part));
     put_middle(
@@ -74,7 +74,7 @@ fn in_pieces(
         step,
         count,
     )?;
-    let head = transfer_head(alloc, channel, transfer, TransferText::Last)?;
+    let head = transfer_head(alloc, channel, transfer, TransferFragment::Last)?;
     pieces.push_reserved(Piece::own(head, rest));
     Ok(pieces)
 }
@@ -99,7 +99,7 @@ fn put_middle(
     if count == 0 {
         return Ok(());
     }
-    let head = transfer_head(alloc, channel, transfer, TransferText::Middle)?.freeze()?;
+    let head = transfer_head(alloc, channel, transfer, TransferFragment::Middle)?.freeze()?;
     put_parts(&head, pieces, rest, step, count)
 }
 

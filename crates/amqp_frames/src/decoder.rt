@@ -2,7 +2,7 @@
 
 ghost use Rattle.std.specs.Prelude.{◌≡◌, ◌<◌, ◌≤◌, length, None, Some, Err};
 ghost use Rattle.amqp_types.specs.declared.performatives.kind.Kind.TheVariants as kind;
-ghost use Rattle.amqp_frames.specs.Decoding.{Names, ReadsHeader};
+ghost use Rattle.amqp_frames.specs.Inner.Decoding.{Names, ReadsHeader};
 ghost use Rattle.amqp_frames.specs.Frame.{Decodes};
 ghost use Rattle.amqp_frames.specs.Head.{Opens, ReadsFrameOf, head_told};
 
@@ -10,7 +10,7 @@ use crate::error::Error;
 use crate::frame::{Frame, FrameBody};
 use amqp_types::Kind;
 use amqp_types::laws::{kinds_are_read, lists_are_read};
-use amqp_values::composite::read_list;
+use amqp_values::read_list;
 use bytes::Bytes;
 use std::alloc::Global;
 
@@ -54,7 +54,7 @@ impl FrameDecoder {
     /// `DecodeError` for fewer than four bytes, and where the body is no performative; `NotImplemented` for another frame
     /// type or an extended header (AMQP 1.0 part 2, section 2.3.1); `OutOfMemory` where memory is refused, which an empty
     /// frame never asks for.
-    #[tactic(auto, using(crate::proofs::Headed::decodes_told, crate::proofs::Headed::refused_told))]
+    #[tactic(auto, using(crate::proofs::FrameHeadLemmas::decodes_told, crate::proofs::FrameHeadLemmas::refused_told))]
     pub fn decode(&self, alloc: Global, bytes: Bytes) -> Result<(Frame, Bytes), Error>
         ensures { Decodes bytes result }
     {

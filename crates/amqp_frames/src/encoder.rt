@@ -4,7 +4,7 @@ ghost use Rattle.std.specs.Prelude.{◌≡◌, ◌≤◌, ◌<◌, ◌+◌, ◌^
 ghost use Rattle.amqp_types.specs.Transfer.{widest};
 ghost use Rattle.amqp_frames.specs.Frame.{text_of, payload_of};
 ghost use Rattle.amqp_frames.specs.Cut.{Encodes, IsWholePiece, Whole, room_beside};
-ghost use Rattle.amqp_frames.specs.Heads.{CutsHead, CutsOff, CutsOrLeaves, RoomAfter};
+ghost use Rattle.amqp_frames.specs.HeaderPool.{CutsHead, CutsOff, CutsOrLeaves, RoomAfter};
 ghost use Rattle.amqp_frames.specs.Piece.{piece_bytes};
 ghost use Rattle.amqp_frames.specs.ReadBack.{DecodesTo};
 ghost use Rattle.amqp_frames.specs.Wire.{EncodesTo};
@@ -13,11 +13,11 @@ use crate::cut::cut;
 use crate::error::Error;
 use crate::frame::{Frame, FrameBody};
 use crate::head::whole_head;
-use crate::heads::{HeadRoom, Heads, OwnRoom};
+use crate::header_pool::{HeadRoom, HeaderPool, OwnRoom};
 use crate::laws::whole_is_read;
 use crate::piece::Piece;
 use crate::send_buffer::SendBuffer;
-use amqp_types::{Transfer, TransferText};
+use amqp_types::{Transfer, TransferFragment};
 use std::alloc::{AllocError, Global};
 use std::marker::Model;
 
@@ -70,11 +70,11 @@ impl FrameEncoder {
     /// As [`FrameEncoder::encode`], with the head of a frame that is one piece cut from the room of many. A head that fits
     /// in the room is cut off it; for another one of at most 32768 bytes the room is first a block of 4096 bytes or more. A head
     /// that is longer has a buffer of its own. It leaves the room as it was, and so does a frame that is cut, or too large.
-    #[tactic(auto, using(crate::proofs::Rooms::room_after))]
+    #[tactic(auto, using(crate::proofs::HeaderRoomLemmas::room_after))]
     pub fn encode_from(
         &self,
         alloc: Global,
-        heads: &mut Heads,
+        heads: &mut HeaderPool,
         frame: &Frame,
     ) -> Result<Vec<Piece>, Error>
         ensures pieces { Encodes (λ v. v.items) frame.now self.now result }
@@ -127,7 +127,7 @@ impl FrameEncoder {
         ensures { result ≡ room_beside (widest transfer.now) self.now }
     {
         let room = self.max_piece_len - 4;
-        let text = transfer.widest_len_in(TransferText::Whole);
+        let text = transfer.widest_len_in(TransferFragment::Whole);
         if u128::from(room) < text {
             return None;
         }
@@ -144,7 +144,7 @@ impl FrameEncoder {
     }
 
     /// The pieces of the frame, the head of one that is whole in this room.
-    #[tactic(auto, using(crate::proofs::Rooms::room_kept))]
+    #[tactic(auto, using(crate::proofs::HeaderRoomLemmas::room_kept))]
     #[inline(always)]
     fn encode_in<H: HeadRoom>(
         &self,

@@ -1,14 +1,14 @@
-//! Heads of pieces: header and performative, each written into one buffer of a size known beforehand.
+//! HeaderPool of pieces: header and performative, each written into one buffer of a size known beforehand.
 
 ghost use Rattle.std.specs.Prelude.{◌≡◌, ◌≤◌, ◌<◌, ◌+◌, ◌^◌, ◌++◌, IfOk, OnOk, length};
 ghost use Rattle.amqp_types.specs.Transfer.{said_in};
 ghost use Rattle.amqp_frames.specs.Frame.{header_text, text_of};
 ghost use Rattle.amqp_frames.specs.Cut.{transfer_text};
-ghost use Rattle.amqp_frames.specs.Heads.{CutsOff, CutsOrLeaves};
+ghost use Rattle.amqp_frames.specs.HeaderPool.{CutsOff, CutsOrLeaves};
 
 use crate::frame::FrameBody;
-use crate::heads::{HeadRoom, OwnRoom};
-use amqp_types::{Transfer, TransferText};
+use crate::header_pool::{HeadRoom, OwnRoom};
+use amqp_types::{Transfer, TransferFragment};
 use bytes::BytesMut;
 use std::alloc::{AllocError, Global};
 
@@ -28,7 +28,7 @@ fn header<H: HeadRoom>(heads: &mut H, channel: u16, len: usize) -> Result<BytesM
 
 /// The head of a frame that is whole, whose text has this length: cut off the room, or in a buffer of its own where it is too long
 /// for that.
-#[tactic(auto, using(crate::proofs::Rooms::head_cut, crate::proofs::Rooms::head_left))]
+#[tactic(auto, using(crate::proofs::HeaderRoomLemmas::head_cut, crate::proofs::HeaderRoomLemmas::head_left))]
 pub(crate) fn whole_head<H: HeadRoom>(
     alloc: Global,
     heads: &mut H,
@@ -71,7 +71,7 @@ pub(crate) fn transfer_head(
     alloc: Global,
     channel: u16,
     transfer: &Transfer,
-    text: TransferText,
+    text: TransferFragment,
 ) -> Result<BytesMut, AllocError>
     requires { length (transfer_text (said_in text transfer.now)) < 2 ^ 32 }
     ensures { IfOk result (λ b. b.items ≡ header_text channel ++ transfer_text (said_in text transfer.now)) }

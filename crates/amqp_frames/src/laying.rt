@@ -5,7 +5,7 @@ ghost use Rattle.std.specs.Int.{w32, to_be_bytes};
 ghost use Rattle.amqp_frames.specs.Frame.{header_text, text_of, payload_of};
 ghost use Rattle.amqp_frames.specs.Piece.{piece_bytes};
 ghost use Rattle.amqp_frames.specs.Wire.{sized, wire_of};
-ghost use Rattle.amqp_frames.specs.Woven.{piece_room, pieces_room};
+ghost use Rattle.amqp_frames.specs.Inner.Woven.{piece_room, pieces_room};
 
 use crate::frame::{Frame, FrameBody};
 use crate::piece::Piece;

@@ -2,17 +2,17 @@
 #![tactic(auto)]
 
 mod cut;
-pub mod decoder;
-pub mod encoder;
-pub mod error;
-pub mod frame;
+mod decoder;
+mod encoder;
+mod error;
+mod frame;
 mod head;
-mod heads;
+mod header_pool;
 pub mod laws;
 mod laying;
-pub mod piece;
-pub mod send_buffer;
-pub mod split;
+mod piece;
+mod send_buffer;
+mod split;
 mod text;
 mod woven;
 
@@ -20,7 +20,7 @@ pub use decoder::{FrameDecoder, FrameHead};
 pub use encoder::FrameEncoder;
 pub use error::Error;
 pub use frame::{Frame, FrameBody};
-pub use heads::Heads;
+pub use header_pool::HeaderPool;
 pub use piece::Piece;
 pub use send_buffer::SendBuffer;
 pub use split::{DeliveryPart, split_delivery};

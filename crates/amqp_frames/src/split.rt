@@ -3,12 +3,12 @@
 
 ghost use Rattle.std.specs.Prelude.{◌≡◌, ◌≤◌, ◌<◌, ◌+◌, ◌*◌, IfOk, OnOk, length, vec_len, vec_capacity};
 ghost use Rattle.amqp_types.specs.Transfer.{said_in};
-ghost use Rattle.amqp_types.specs.declared.performatives.transfer.TransferText.TheVariants as text;
-ghost use Rattle.amqp_frames.specs.Parts.{AddsParts, TakesParts};
+ghost use Rattle.amqp_types.specs.declared.performatives.transfer.TransferFragment.TheVariants as text;
+ghost use Rattle.amqp_frames.specs.Inner.Parts.{AddsParts, TakesParts};
 ghost use Rattle.amqp_frames.specs.Split.{InOne, SplitsTo};
 
 use crate::error::Error;
-use amqp_types::{Transfer, TransferText};
+use amqp_types::{Transfer, TransferFragment};
 use bytes::Bytes;
 use std::alloc::{AllocError, Global};
 
@@ -40,13 +40,13 @@ pub fn split_delivery(
     ensures { SplitsTo (λ v. v.items) transfer.now payload.now max_piece_len result }
 {
     let room = u128::from(max_piece_len.saturating_sub(4));
-    let whole = transfer.widest_len_in(TransferText::Whole);
+    let whole = transfer.widest_len_in(TransferFragment::Whole);
     if whole + payload.len() as u128 <= room {
         let parts = in_one(alloc, transfer, payload)?;
         return Ok(parts);
     }
-    let first = transfer.widest_len_in(TransferText::First);
-    let later = transfer.encoded_len_in(TransferText::Middle);
+    let first = transfer.widest_len_in(TransferFragment::First);
+    let later = transfer.encoded_len_in(TransferFragment::Middle);
     if room < first || room <= later {
         return Err(Error::TooLarge);
     }

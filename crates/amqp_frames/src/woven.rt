@@ -4,7 +4,7 @@ ghost use Rattle.std.specs.Prelude.{◌≡◌, ℕ, ◌+◌, ◌-◌, ◌≤◌,
 ghost use Rattle.std.specs.VecDeque.{deque_capacity, deque_len};
 ghost use Rattle.amqp_frames.specs.declared.woven.SharedPart.{SharedPart};
 ghost use Rattle.amqp_frames.specs.Frame.{text_of};
-ghost use Rattle.amqp_frames.specs.Woven.{TakesPart, TakesBefore};
+ghost use Rattle.amqp_frames.specs.Inner.Woven.{TakesPart, TakesBefore};
 
 use crate::frame::FrameBody;
 use bytes::{Bytes, BytesMut};
@@ -32,7 +32,7 @@ pub(crate) struct Woven {
 impl Model for Woven {
     ghost use Rattle.std.specs.Prelude.{◌-◌, length};
     ghost use Rattle.std.specs.VecDeque.{deque_capacity, deque_len};
-    ghost use Rattle.amqp_frames.specs.Woven.{IsWoven, WovenView, woven};
+    ghost use Rattle.amqp_frames.specs.Inner.Woven.{IsWoven, WovenView, woven};
 
     ghost Value = { WovenView };
 

@@ -1,6 +1,6 @@
 -- Dispositions over a backward range.
 use Rattle.std.proofs.Common.{◌≡◌, ℕ, List, [], ◌∷◌, length, refl, ap, sym, ◌∙◌, subst, arith, cond, Bool, true, false, is_some, Option, Some, None, Ok}
-use Rattle.amqp_types.specs.Disposition.{DispositionSaid}
+use Rattle.amqp_types.specs.Disposition.{DispositionModel}
 use Rattle.amqp_types.specs.declared.definitions.Role.{Role}
 use Rattle.amqp_types.specs.declared.definitions.Role.TheVariants.{Sender, Receiver}
 use Rattle.amqp_session.specs.declared.deliveries.Delivery.{Delivery}
@@ -28,7 +28,7 @@ with_same Receiver o = refl
 with_same Sender o = refl
 
 pub backward : {R : Type 0} →
-    (gives : DispositionGives R) (d : DispositionSaid) (v : SessionView R) (answer : Option (List DispositionSaid)) →
+    (gives : DispositionGives R) (d : DispositionModel) (v : SessionView R) (answer : Option (List DispositionModel)) →
     is_forward d.first d.last ≡ false → answer ≡ cond d.settled None (Some []) →
     (asked : List (DispositionQuestion R)) × TakeDispositionStep gives v d asked (Ok answer) v
 backward {R} gives d v answer back is = ([], by d.settled refl)
@@ -43,17 +43,17 @@ backward {R} gives d v answer back is = ([], by d.settled refl)
     left = ap (λ rows. record v { deliveries = with_role d.role rows v.deliveries }) (all_left d.first d.last (rows_of d v) back) ∙ ap (λ o. record v { deliveries = o }) (with_same d.role v.deliveries)
 
     by : (b : Bool) → d.settled ≡ b → TakeDispositionStep gives v d [] (Ok answer) v
-    by true s = subst (λ (a : Option (List DispositionSaid)). TakeDispositionStep gives v d [] (Ok a) v) (sym (is ∙ ap (λ b. cond b None (Some [])) s)) (s, asks, sym left)
-    by false s = subst (λ (a : Option (List DispositionSaid)). TakeDispositionStep gives v d [] (Ok a) v) (sym (is ∙ ap (λ b. cond b None (Some [])) s)) (s, (asks, refl), record { runs = []; are_runs = record { apart = tt; hold = λ n h. refl }; are_said = refl })
+    by true s = subst (λ (a : Option (List DispositionModel)). TakeDispositionStep gives v d [] (Ok a) v) (sym (is ∙ ap (λ b. cond b None (Some [])) s)) (s, asks, sym left)
+    by false s = subst (λ (a : Option (List DispositionModel)). TakeDispositionStep gives v d [] (Ok a) v) (sym (is ∙ ap (λ b. cond b None (Some [])) s)) (s, (asks, refl), record { runs = []; are_runs = record { apart = tt; hold = λ n h. refl }; are_said = refl })
 
-pub backward_bound : {X : Type 0} → (d : DispositionSaid) (rows : List Delivery) (result : X) (walk : WalkCount) →
+pub backward_bound : {X : Type 0} → (d : DispositionModel) (rows : List Delivery) (result : X) (walk : WalkCount) →
     is_forward d.first d.last ≡ false → walk ≡ nothing_read → IsBounded {X = X} d rows (Ok result) walk
 backward_bound d rows result walk back is =
     let none = ap length (none_of d.first d.last (in_order d.first rows) back) in
     rw is record { turns = omega arith; each_read = omega (arith, none); comparisons = omega arith; backward = λ e. refl }
 
 pub backward_same : {R : Type 0} →
-    (gives : DispositionGives R) (d : DispositionSaid) (v w : SessionView R) (answer : Option (List DispositionSaid)) →
+    (gives : DispositionGives R) (d : DispositionModel) (v w : SessionView R) (answer : Option (List DispositionModel)) →
     is_forward d.first d.last ≡ false → answer ≡ cond d.settled None (Some []) → w ≡ v →
     (asked : List (DispositionQuestion R)) × TakeDispositionStep gives v d asked (Ok answer) w
 backward_same {R} gives d v w answer back is same = subst (λ (u : SessionView R). (asked : List (DispositionQuestion R)) × TakeDispositionStep gives v d asked (Ok answer) u) (sym same) (backward gives d v answer back is)

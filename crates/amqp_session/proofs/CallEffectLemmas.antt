@@ -1,7 +1,7 @@
 -- What each call does to a session, by one table over the calls and their answers: all that follows is read off it.
 use Rattle.std.proofs.Common.{◌≡◌, ◌⊎◌, inl, inr, ℕ, ◌+◌, List, [], ◌∷◌, ◌++◌, refl, ap, subst, sym, ◌∙◌, Bool, true, false, cond, Option, Some, None, Result, Ok, Err, unwrap_or, take}
 use Rattle.std.specs.Option.{option_map}
-use Rattle.amqp_types.specs.Flow.{FlowSaid}
+use Rattle.amqp_types.specs.Flow.{FlowModel}
 use Rattle.amqp_types.specs.declared.states.SessionState.{SessionState}
 use Rattle.amqp_session.specs.declared.deliveries.Delivery.{Delivery}
 use Rattle.amqp_session.specs.declared.flow.LinkFlow.{LinkFlow}
@@ -15,7 +15,7 @@ use Rattle.amqp_session.specs.declared.error.SessionInnerError.{SessionInnerErro
 use Rattle.amqp_session.specs.declared.error.SessionInnerError.TheVariants as Refused
 use Rattle.amqp_session.specs.declared.error.SessionStateError.TheVariants as Begins
 use Rattle.amqp_session.specs.declared.error.LinkRelayError.{LinkRelayError}
-use Rattle.amqp_session.specs.Settings.{SettingsSaid}
+use Rattle.amqp_session.specs.Settings.{SettingsModel}
 use Rattle.amqp_session.specs.States.{is_mapped, sends_begin, takes_begin, sends_end, takes_end}
 use Rattle.amqp_session.specs.Receiving.{numbered_anew, counted, reported}
 use Rattle.amqp_session.specs.Links.{LinksView}
@@ -24,7 +24,7 @@ use Rattle.amqp_session.specs.Transfers.{RequestedTransfer, numbered, first_of}
 use Rattle.amqp_session.specs.Sending.{SendingView, joined, begun, moved, let_out, opened_by}
 use Rattle.amqp_session.specs.Items.{HandsOut, item_frames, first_frame, is_some_list}
 use Rattle.amqp_session.specs.Session.{SessionView, flow_frame, lets, let_gone}
-use Rattle.amqp_types.specs.Disposition.{DispositionSaid}
+use Rattle.amqp_types.specs.Disposition.{DispositionModel}
 use Rattle.amqp_types.specs.declared.definitions.Role.TheVariants.{Sender, Receiver}
 use Rattle.amqp_session.specs.Deliveries.{with_record, RecordFits, OpenView, peer_role}
 use Rattle.amqp_session.specs.Disposing.{widened, num_messages, rows_of, meant, AsksAt, AsksEach, SaysStateAgain, HasAsked}
@@ -33,7 +33,7 @@ use Rattle.amqp_session.specs.Step.{BeginFits, begun_by, has_error, FlowFits, Fl
 use Rattle.amqp_session.specs.Linking.{AttachAnswered, Attaches}
 use Rattle.amqp_session.specs.Linked.{taken_by}
 use Rattle.amqp_session.proofs.OutputHandleLemmas.{at_insert, taken_release, taken_leave, taken_drop}
-use Rattle.amqp_types.specs.Attach.{AttachSaid}
+use Rattle.amqp_types.specs.Attach.{AttachModel}
 use Rattle.std.specs.FinMap as map
 use Rattle.amqp_session.specs.History.{Entry, AllocatesLink, AllocatesIncomingLink, DeallocatesLink, TakesAttach, TakesDetach, SendsAttach, SendsDetach, SendsBegin, SendsEnd, TakesBegin, TakesEnd, TakesFlow, TakesTransfer, TakesDisposition, SendsDisposition, SendsFlow, SendsTransfer, SendsSessionFlow, RecordsStop, Settles, Step}
 use Rattle.amqp_session.specs.OutgoingFrames.{inner_frames, call_frames, OnChannel}
@@ -45,7 +45,7 @@ use Rattle.amqp_session.proofs.SendingLemmas.{Goes, goes_by, transfers_in-append
 
 pub record Rest : Type 0 where
   pub state : SessionState
-  pub settings : SettingsSaid
+  pub settings : SettingsModel
   pub outgoing_channel : ℕ
   pub incoming_channel : Option ℕ
   pub connection_stop : Option ConnectionStopReason
@@ -176,7 +176,7 @@ module _ {R : Type 0} (g : Relays R) where
   unasked_out v w None (Err e) t = absurd t
   unasked_out v w (Some h) (Err e) t = absurd t
 
-  taken_out : (v w : SessionView R) (f : FlowSaid) (h : Option ℕ) (asked : Option (FlowQuestion R)) (result : Result (Option SessionOutgoingItem) SessionInnerError) → FlowTaken g.flow_gives v f h asked result w → Out (may_let v result) v (inner_frames result) w
+  taken_out : (v w : SessionView R) (f : FlowModel) (h : Option ℕ) (asked : Option (FlowQuestion R)) (result : Result (Option SessionOutgoingItem) SessionInnerError) → FlowTaken g.flow_gives v f h asked result w → Out (may_let v result) v (inner_frames result) w
   taken_out v w f None None result t = unasked_out v w None result t
   taken_out v w f None (Some q) result t = absurd t
   taken_out v w f (Some h) None result t = unasked_out v w (Some h) result t
@@ -287,19 +287,19 @@ module _ {R : Type 0} (g : Relays R) where
     handles_are = places;
   }
 
-  attached_keeps : (l new : LinksView R) (a : AttachSaid) (q : AttachQuestion R) (answer : _) (result : _) → AttachAnswered l a q answer result new → new.handles ≡ l.handles
+  attached_keeps : (l new : LinksView R) (a : AttachModel) (q : AttachQuestion R) (answer : _) (result : _) → AttachAnswered l a q answer result new → new.handles ≡ l.handles
   attached_keeps l new a q (Ok u) (Ok r) t = ap (λ (x : LinksView _). x.handles) t
   attached_keeps l new a q (Err e) (Err x) t = ap (λ (y : LinksView _). y.handles) t.1
   attached_keeps l new a q (Ok u) (Err x) t = absurd t
   attached_keeps l new a q (Err e) (Ok r) t = absurd t
 
-  pub attach_keeps : (l new : LinksView R) (a : AttachSaid) (asked : Option (AttachQuestion R)) (result : _) → Attaches g.attach_gives l a asked result new → new.handles ≡ l.handles
+  pub attach_keeps : (l new : LinksView R) (a : AttachModel) (asked : Option (AttachQuestion R)) (result : _) → Attaches g.attach_gives l a asked result new → new.handles ≡ l.handles
   attach_keeps l new a None (Ok u) t = absurd t
   attach_keeps l new a None (Err e) t = ap (λ (x : LinksView _). x.handles) t.1
   attach_keeps l new a (Some q) result t = attached_keeps l new a q q.answer result t.3
 
   -- relays that are asked of dispositions alone change
-  asks_keep : (gives : DispositionGives R) (d : DispositionSaid) (rows : List Delivery) (asked : List (DispositionQuestion R)) (l new : LinksView R) →
+  asks_keep : (gives : DispositionGives R) (d : DispositionModel) (rows : List Delivery) (asked : List (DispositionQuestion R)) (l new : LinksView R) →
       AsksEach gives d rows asked l new → new.handles ≡ l.handles
   asks_keep gives d [] asked l new a = ap (λ (x : LinksView _). x.handles) a.1
   asks_keep gives d (r ∷ rs) asked l new a = asks_keep gives d rs a.1 a.2 new a.4 ∙ ask_keeps a.0 a.3
@@ -321,7 +321,7 @@ module _ {R : Type 0} (g : Relays R) where
     handles_are = λ k. ap (λ m. map.get m k) links ∙ places k (map.get v.links.handles k);
   }
 
-  refused_does : (v w : SessionView R) (d : DispositionSaid) (asked : List (DispositionQuestion R)) → ((asked ≡ []) × (w ≡ v)) ⊎ (SaysStateAgain d asked × HasAsked g.disposition_gives v d asked w) → Does v (TakesDisposition d asked (Err Refused.OutOfMemory)) w
+  refused_does : (v w : SessionView R) (d : DispositionModel) (asked : List (DispositionQuestion R)) → ((asked ≡ []) × (w ≡ v)) ⊎ (SaysStateAgain d asked × HasAsked g.disposition_gives v d asked w) → Does v (TakesDisposition d asked (Err Refused.OutOfMemory)) w
   refused_does v w d asked (inl s) = unmoved v w _ s.1 refl refl refl refl refl tt tt (λ k o. refl)
   refused_does v w d asked (inr s) = asked_does v w w.links v.deliveries _ s.1.1 (asks_keep g.disposition_gives d (meant d (rows_of d v)) asked v.links w.links s.1.0) refl refl refl refl refl tt tt (λ k o. refl)
 

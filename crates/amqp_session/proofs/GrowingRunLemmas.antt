@@ -5,28 +5,28 @@ use Rattle.std.proofs.lemmas.List.{length-map, map-append}
 use Rattle.std.proofs.lemmas.Bool.{cases_order}
 use Rattle.std.proofs.lemmas.Bool.Decides.{nat_tests}
 use Rattle.std.proofs.lemmas.Grind.{common_steps}
-use Rattle.amqp_types.specs.Disposition.{DispositionSaid}
+use Rattle.amqp_types.specs.Disposition.{DispositionModel}
 use Rattle.amqp_session.specs.Runs.{DeliveryRange, goes_on, longer, extended}
 use Rattle.amqp_session.specs.Disposing.{distance, echo_of, is_in, AreApart, AreRuns}
 
 -- ---- the last run
 
 -- the answers for these runs, without a state
-abbrev unsaid : List DeliveryRange → List DispositionSaid
+abbrev unsaid : List DeliveryRange → List DispositionModel
 unsaid runs = map (echo_of None) runs
 
-last_goes_on : (runs : List DeliveryRange) (n k : ℕ) (x : DispositionSaid) → length runs ≡ suc k → Some x ≡ slice_get (unsaid runs) k →
+last_goes_on : (runs : List DeliveryRange) (n k : ℕ) (x : DispositionModel) → length runs ≡ suc k → Some x ≡ slice_get (unsaid runs) k →
     nat_eq ((unwrap_or x.last x.first + 1) % 2 ^ 32) n ≡ goes_on n runs
 last_goes_on [] n k x len at = absurd (omega (arith, len))
-last_goes_on (r ∷ []) n zero x len at = ap (λ o. let y : DispositionSaid = unwrap_or o x in nat_eq ((unwrap_or y.last y.first + 1) % 2 ^ 32) n) at
+last_goes_on (r ∷ []) n zero x len at = ap (λ o. let y : DispositionModel = unwrap_or o x in nat_eq ((unwrap_or y.last y.first + 1) % 2 ^ 32) n) at
 last_goes_on (r ∷ []) n (suc k) x len at = absurd (omega (arith, len))
 last_goes_on (r ∷ s ∷ rs) n zero x len at = absurd (omega (arith, len))
 last_goes_on (r ∷ s ∷ rs) n (suc k) x len at = last_goes_on (s ∷ rs) n k x (omega (arith, len)) at
 
-pub last_longer : (runs : List DeliveryRange) (n k : ℕ) (x : DispositionSaid) → length runs ≡ suc k → x ≡ slice_index_or (unsaid runs) k x →
+pub last_longer : (runs : List DeliveryRange) (n k : ℕ) (x : DispositionModel) → length runs ≡ suc k → x ≡ slice_index_or (unsaid runs) k x →
     unsaid (longer n runs) ≡ slice_set (unsaid runs) k (echo_of None (record { first = x.first; last = n }))
 last_longer [] n k x len at = absurd (omega (arith, len))
-last_longer (r ∷ []) n zero x len at = ap (λ (y : DispositionSaid). echo_of None (record { first = y.first; last = n }) ∷ []) (sym at)
+last_longer (r ∷ []) n zero x len at = ap (λ (y : DispositionModel). echo_of None (record { first = y.first; last = n }) ∷ []) (sym at)
 last_longer (r ∷ []) n (suc k) x len at = absurd (omega (arith, len))
 last_longer (r ∷ s ∷ rs) n zero x len at = absurd (omega (arith, len))
 last_longer (r ∷ s ∷ rs) n (suc k) x len at = ap (λ ys. echo_of None r ∷ ys) (last_longer (s ∷ rs) n k x (omega (arith, len)) at)
@@ -35,7 +35,7 @@ pub has_last : (runs : List DeliveryRange) (n : ℕ) → true ≡ goes_on n runs
 has_last [] n e = absurd (cc)
 has_last (r ∷ rs) n e = omega arith
 
-pub read_last : (runs : List DeliveryRange) (n : ℕ) (x : DispositionSaid) → Some x ≡ slice_get (unsaid runs) (length (unsaid runs) - 1) →
+pub read_last : (runs : List DeliveryRange) (n : ℕ) (x : DispositionModel) → Some x ≡ slice_get (unsaid runs) (length (unsaid runs) - 1) →
     nat_eq ((unwrap_or x.last x.first + 1) % 2 ^ 32) n ≡ goes_on n runs
 read_last [] n x at = absurd (cc)
 read_last (r ∷ rs) n x at =
@@ -49,7 +49,7 @@ one_behind runs n e =
     ap (λ b. unsaid (cond b (longer n runs) (runs ++ own ∷ []))) e ∙ map-append (echo_of None) runs (own ∷ [])
 
 -- each with this state
-pub stated : (s : Option (List ℕ)) (runs : List DeliveryRange) → map (λ (d : DispositionSaid). let x : DispositionSaid = record d { state = s } in x) (unsaid runs) ≡ map (echo_of s) runs
+pub stated : (s : Option (List ℕ)) (runs : List DeliveryRange) → map (λ (d : DispositionModel). let x : DispositionModel = record d { state = s } in x) (unsaid runs) ≡ map (echo_of s) runs
 stated s [] = refl
 stated s (r ∷ rs) = ap (λ xs. echo_of s r ∷ xs) (stated s rs)
 

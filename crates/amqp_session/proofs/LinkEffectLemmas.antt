@@ -1,8 +1,8 @@
 -- What each call does to the links of a session, by one table over the calls and their answers.
 use Rattle.std.proofs.Common.{[], ◌∷◌, inl, inr, ◌≡◌, ℕ, List, Option, Some, None, Result, Ok, Err, Bool, true, false, cond, nat_eq, refl, ap, sym, subst, ◌∙◌}
 use Rattle.std.specs.FinMap as map
-use Rattle.amqp_types.specs.Flow.{FlowSaid}
-use Rattle.amqp_types.specs.Attach.{AttachSaid}
+use Rattle.amqp_types.specs.Flow.{FlowModel}
+use Rattle.amqp_types.specs.Attach.{AttachModel}
 use Rattle.amqp_session.specs.declared.link.LiveLink.{LiveLink}
 use Rattle.amqp_session.specs.declared.link.AttachedLink.{AttachedLink}
 use Rattle.amqp_session.specs.declared.flow.LinkFlow.{LinkFlow}
@@ -17,7 +17,7 @@ use Rattle.amqp_session.specs.Relay.{Relays, Question, DispositionQuestion, Flow
 use Rattle.amqp_session.specs.Session.{SessionView}
 use Rattle.amqp_session.specs.Step.{flow_moved, counted_by, asked_at, FlowAnswered, FlowUnasked, FlowTaken, TransferAnswered, TransferUnasked}
 use Rattle.amqp_session.specs.Linking.{live_name, linked, Releases, Leaves, AttachAnswered, Attaches}
-use Rattle.amqp_types.specs.Disposition.{DispositionSaid}
+use Rattle.amqp_types.specs.Disposition.{DispositionModel}
 use Rattle.amqp_session.specs.declared.deliveries.Delivery.{Delivery}
 use Rattle.amqp_session.specs.Disposing.{AsksAt, AsksEach, behind}
 use Rattle.amqp_session.specs.Linked.{asked_from, live_by, input_by, where_goes, speaks_of, handle_of}
@@ -42,7 +42,7 @@ module _ {R : Type 0} (g : Relays R) where
       by false t = refl
 
   -- after an attach
-  attach_puts : (l new : LinksView R) (a : AttachSaid) (q : AttachQuestion R) (answer : Result (Unit {0}) LinkRelayError)
+  attach_puts : (l new : LinksView R) (a : AttachModel) (q : AttachQuestion R) (answer : Result (Unit {0}) LinkRelayError)
       (result : Result (Unit {0}) SessionInnerError) → AttachAnswered l a q answer result new →
       (h : ℕ) → map.get new.inputs h ≡ input_by h (map.get l.inputs h) (TakesAttach a (Some q) result)
   attach_puts l new a q (Ok u) (Ok r) t h = ap (λ (x : LinksView R). map.get x.inputs h) t ∙ at_insert l.inputs a.handle h (goes_on q)
@@ -50,14 +50,14 @@ module _ {R : Type 0} (g : Relays R) where
   attach_puts l new a q (Ok u) (Err x) t h = absurd t
   attach_puts l new a q (Err e) (Ok r) t h = absurd t
 
-  attach_inputs : (l new : LinksView R) (a : AttachSaid) (asked : Option (AttachQuestion R))
+  attach_inputs : (l new : LinksView R) (a : AttachModel) (asked : Option (AttachQuestion R))
       (result : Result (Unit {0}) SessionInnerError) → Attaches g.attach_gives l a asked result new →
       (h : ℕ) → map.get new.inputs h ≡ input_by h (map.get l.inputs h) (TakesAttach a asked result)
   attach_inputs l new a None (Ok u) t h = absurd t
   attach_inputs l new a None (Err e) t h = ap (λ (x : LinksView R). map.get x.inputs h) t.1
   attach_inputs l new a (Some q) result t h = attach_puts l new a q q.answer result t.3 h
 
-  attach_agrees : (l new : LinksView R) (a : AttachSaid) (asked : Option (AttachQuestion R))
+  attach_agrees : (l new : LinksView R) (a : AttachModel) (asked : Option (AttachQuestion R))
       (result : Result (Unit {0}) SessionInnerError) → Agree l →
       Attaches g.attach_gives l a asked result new → Agree new
   attach_agrees l new a asked result h t =
@@ -82,7 +82,7 @@ module _ {R : Type 0} (g : Relays R) where
   unasked_links v w None (Err e) t = absurd t
   unasked_links v w (Some h) (Err e) t = absurd t
 
-  flow_unasked : (v w : SessionView R) (f : FlowSaid) (h : Option ℕ) (result : Result (Option SessionOutgoingItem) SessionInnerError) →
+  flow_unasked : (v w : SessionView R) (f : FlowModel) (h : Option ℕ) (result : Result (Option SessionOutgoingItem) SessionInnerError) →
       FlowTaken g.flow_gives v f h None result w → w.links ≡ v.links
   flow_unasked v w f None result t = unasked_links v w None result t
   flow_unasked v w f (Some h) result t = unasked_links v w (Some h) result t
@@ -102,7 +102,7 @@ module _ {R : Type 0} (g : Relays R) where
     inputs = λ h. ap (λ (x : LinksView R). map.get x.inputs h) put ∙ asked_there l q input h is;
   }
 
-  flow_asked : (v w : SessionView R) (f : FlowSaid) (h : Option ℕ) (q : FlowQuestion R)
+  flow_asked : (v w : SessionView R) (f : FlowModel) (h : Option ℕ) (q : FlowQuestion R)
       (result : Result (Option SessionOutgoingItem) SessionInnerError) → FlowTaken g.flow_gives v f h (Some q) result w →
       Goes v.links h q w.links
   flow_asked v w f None q result t = absurd t
@@ -128,7 +128,7 @@ module _ {R : Type 0} (g : Relays R) where
     pub handles : new.handles ≡ l.handles
     pub inputs : (h : ℕ) → map.get new.inputs h ≡ asked_from h (map.get l.inputs h) asked
 
-  go_behind : (d : DispositionSaid) (r : Delivery) (one : Option (DispositionQuestion R)) (others asked : List (DispositionQuestion R)) (l m new : LinksView R) →
+  go_behind : (d : DispositionModel) (r : Delivery) (one : Option (DispositionQuestion R)) (others asked : List (DispositionQuestion R)) (l m new : LinksView R) →
       AsksAt g.disposition_gives d r one l m → GoEach m others new → asked ≡ behind one others → GoEach l asked new
   go_behind d r None others asked l m new a i e = rw e (subst (λ x. GoEach x others new) a.1 i)
   go_behind d r (Some q) others asked l m new a i e =
@@ -140,7 +140,7 @@ module _ {R : Type 0} (g : Relays R) where
             (go.inputs h ∙ ap (λ x. cond (nat_eq h x.delivery.input_handle.0) (where_goes q.after (map.get l.inputs h)) (map.get l.inputs h)) (sym a.0));
       }
 
-  go_each : (d : DispositionSaid) (rs : List Delivery) (asked : List (DispositionQuestion R)) (l new : LinksView R) →
+  go_each : (d : DispositionModel) (rs : List Delivery) (asked : List (DispositionQuestion R)) (l new : LinksView R) →
       AsksEach g.disposition_gives d rs asked l new → GoEach l asked new
   go_each d [] asked l new t = rw (t.0, t.1) record { names = refl; handles = refl; inputs = λ h. refl }
   go_each d (r ∷ rs) asked l new t = go_behind d r t.0 t.1 asked l t.2 new t.3 (go_each d rs t.1 t.2 new t.4) t.5
@@ -184,7 +184,7 @@ module _ {R : Type 0} (g : Relays R) where
   }
 
   -- a disposition
-  disposes : (old new : LinksView R) (d : DispositionSaid) (asked : List (DispositionQuestion R)) (result : _) → Agree old → GoEach old asked new →
+  disposes : (old new : LinksView R) (d : DispositionModel) (asked : List (DispositionQuestion R)) (result : _) → Agree old → GoEach old asked new →
       LinksBy old (TakesDisposition d asked result) new
   disposes old new d asked result a t = record {
     names_are = λ name. ap (λ m. map.get m name) t.names;

@@ -7,7 +7,7 @@ use Rattle.std.specs.Ordering.{nat_cmp}
 use Rattle.std.specs.Cmp.Lexicographic.{slice_cmp, nat_list_cmp_total}
 use Rattle.std.specs.FinMap as map
 use Rattle.std.specs.FinMap.{get-empty, get-insert, get-remove}
-use Rattle.amqp_types.specs.Attach.{AttachSaid}
+use Rattle.amqp_types.specs.Attach.{AttachModel}
 use Rattle.amqp_session.specs.declared.link.LiveLink.{LiveLink}
 use Rattle.amqp_session.specs.declared.numbers.OutputHandle.{OutputHandle}
 use Rattle.amqp_session.specs.declared.error.LinkRelayError.{LinkRelayError}
@@ -206,12 +206,12 @@ module _ {R : Type 0} where
   same_handle true w (Some n) = refl
 
   -- what an attach does to names: this, and handles stay
-  pub record Waits (l : LinksView R) (a : AttachSaid) (asked : Option (AttachQuestion R)) (result : Result (Unit {0}) SessionInnerError)
+  pub record Waits (l : LinksView R) (a : AttachModel) (asked : Option (AttachQuestion R)) (result : Result (Unit {0}) SessionInnerError)
       (new : LinksView R) : Type 0 where
     pub names_are : (q : List ℕ) → map.get new.names q ≡ live_by q (map.get l.names q) (TakesAttach a asked result)
     pub same : (q : List ℕ) → handle_of (map.get new.names q) ≡ handle_of (map.get l.names q)
 
-  attach_answered : (l new : LinksView R) (a : AttachSaid) (q : AttachQuestion R) (answer : Result (Unit {0}) LinkRelayError)
+  attach_answered : (l new : LinksView R) (a : AttachModel) (q : AttachQuestion R) (answer : Result (Unit {0}) LinkRelayError)
       (result : Result (Unit {0}) SessionInnerError) →
       map.get l.names a.name ≡ Some (record { handle = q.handle; waiting = Some q.before }) → AttachAnswered l a q answer result new →
       Waits l a (Some q) result new
@@ -230,7 +230,7 @@ module _ {R : Type 0} where
   attach_answered l new a q (Ok u) (Err x) is t = absurd t
   attach_answered l new a q (Err e) (Ok r) is t = absurd t
 
-  pub attach_waits : (gives : AttachGives R) (l new : LinksView R) (a : AttachSaid) (asked : Option (AttachQuestion R))
+  pub attach_waits : (gives : AttachGives R) (l new : LinksView R) (a : AttachModel) (asked : Option (AttachQuestion R))
       (result : Result (Unit {0}) SessionInnerError) → Attaches gives l a asked result new → Waits l a asked result new
   attach_waits gives l new a None (Ok u) t = absurd t
   attach_waits gives l new a None (Err e) t =

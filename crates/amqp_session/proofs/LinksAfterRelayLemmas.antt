@@ -1,7 +1,7 @@
 -- What a session's links are after the calls that ask relays.
 use Rattle.std.proofs.Common.{◌≡◌, ℕ, Option, Some, None, Result, Ok, Err, cond, refl, ap, ◌∙◌}
 use Rattle.std.specs.FinMap as map
-use Rattle.amqp_types.specs.Attach.{AttachSaid}
+use Rattle.amqp_types.specs.Attach.{AttachModel}
 use Rattle.amqp_session.specs.declared.link.LiveLink.{LiveLink}
 use Rattle.amqp_session.specs.declared.link.AttachedLink.{AttachedLink}
 use Rattle.amqp_session.specs.declared.error.LinkRelayError.{LinkRelayError}
@@ -20,7 +20,7 @@ waited_full None h = absurd h
 pub inputs_same : {R : Type 0} → (l : LinksView R) (i : Inputs R) → i ≡ l.inputs → record l { inputs = i } ≡ l
 inputs_same l i e = ap (λ x. record l { inputs = x }) e
 
-module _ {R : Type 0} (gives : AttachGives R) (l : LinksView R) (a : AttachSaid) (names : Names R) where
+module _ {R : Type 0} (gives : AttachGives R) (l : LinksView R) (a : AttachModel) (names : Names R) where
   -- the relay refuses
   pub attaches_err : (i : Inputs R) (e : LinkRelayError) (x : SessionInnerError) → AttachAsked gives l.names a (Err e) names → x ≡ inner_of_relay e → i ≡ l.inputs →
       (asked : Option (AttachQuestion R)) × Attaches gives l a asked (Err x) (record l { names = names; inputs = i })

@@ -1,10 +1,10 @@
 -- A frame that arrives keeps the tallies of both runs.
 use Rattle.std.proofs.Common.{◌≡◌, ◌≤◌, ◌+◌, ◌%◌, ◌^◌, [], ◌∷◌, inl, inr, ℕ, List, refl, ap, arith, sym, subst, ◌∙◌, append-nil, true}
 use Rattle.std.proofs.Common.{false, Option, Some, None, Result, Ok, Err, unwrap_or}
-use Rattle.amqp_types.specs.Begin.{BeginSaid}
-use Rattle.amqp_types.specs.Disposition.{DispositionSaid}
-use Rattle.amqp_types.specs.Flow.{FlowSaid}
-use Rattle.amqp_types.specs.Transfer.{TransferSaid}
+use Rattle.amqp_types.specs.Begin.{BeginModel}
+use Rattle.amqp_types.specs.Disposition.{DispositionModel}
+use Rattle.amqp_types.specs.Flow.{FlowModel}
+use Rattle.amqp_types.specs.Transfer.{TransferModel}
 use Rattle.amqp_session.specs.declared.error.SessionInnerError.{SessionInnerError}
 use Rattle.amqp_session.specs.declared.error.SessionInnerError.TheVariants as Refused
 use Rattle.amqp_session.specs.declared.error.SessionStateError.{SessionStateError}
@@ -48,7 +48,7 @@ own_begun a b coming going put_a taken_a put_b taken_b l e =
 -- ---- a Begin
 
 module _ {R : Type 0} (g : Relays R) where
-  begin_comes : (a w : SessionView R) (b : Core) (f : SessionFrame) (channel : ℕ) (x : BeginSaid) (rest going going' : List SessionFrame)
+  begin_comes : (a w : SessionView R) (b : Core) (f : SessionFrame) (channel : ℕ) (x : BeginModel) (rest going going' : List SessionFrame)
       (answer : Result (Unit {0}) SessionStateError) (st : Tallies (core a) b (f ∷ rest) going) →
       Moves (run_of b a.settings) st.taken_a (Body.Begin x) st.ledger.a_comes.0 → Makes g a going (TakesBegin channel x answer) w going' →
       Tallies (core w) b rest going'
@@ -82,7 +82,7 @@ module _ {R : Type 0} (g : Relays R) where
 
   -- ---- a flow
 
-  flow_read : (a : SessionView R) (b : Core) (f : SessionFrame) (x : FlowSaid) (rest going : List SessionFrame)
+  flow_read : (a : SessionView R) (b : Core) (f : SessionFrame) (x : FlowModel) (rest going : List SessionFrame)
       (st : Tallies (core a) b (f ∷ rest) going) (h : Moves (run_of b a.settings) st.taken_a (Body.Flow x) st.ledger.a_comes.0) →
       Ledger (core (flow_moved a x)) b rest going st.put_a (record st.taken_a { offered = h.0 }) st.put_b st.taken_b
   flow_read a b f x rest going st h =
@@ -96,7 +96,7 @@ module _ {R : Type 0} (g : Relays R) where
       took (core a) b (core (flow_moved a x)) (f ∷ rest) going rest st.put_a st.taken_a st.put_b st.taken_b taken l refl refl
       (keeps_moved (core a) st.put_a st.taken_a b.settings x (flow_base a x) h.0 l.a_keeps h.2 l.b_fits.1 h.3 below base h.5 h.6) comes
 
-  flow_comes : (a w : SessionView R) (b : Core) (f : SessionFrame) (x : FlowSaid) (rest going going' : List SessionFrame)
+  flow_comes : (a w : SessionView R) (b : Core) (f : SessionFrame) (x : FlowModel) (rest going going' : List SessionFrame)
       (result : Result (Unit {0}) SessionInnerError) (st : Tallies (core a) b (f ∷ rest) going) →
       Moves (run_of b a.settings) st.taken_a (Body.Flow x) st.ledger.a_comes.0 → FlowIsTaken g x a going result w going' →
       Tallies (core w) b rest going'
@@ -123,12 +123,12 @@ module _ {R : Type 0} (g : Relays R) where
   unasked_core v w h (Err Refused.OutOfMemory) t = ap (λ (x : SessionView R). core x) t.1
   unasked_core v w h (Err e) t = absurd t
 
-  taken_core : (v w : SessionView R) (h : ℕ) (t : TransferSaid) (payload : List ℕ) (asked : Option (TransferQuestion R)) (reply : _) →
+  taken_core : (v w : SessionView R) (h : ℕ) (t : TransferModel) (payload : List ℕ) (asked : Option (TransferQuestion R)) (reply : _) →
       LinkTransferStep g.transfer_gives v h t payload asked reply w → core w ≡ core v
   taken_core v w h t payload None reply s = unasked_core v w h reply s
   taken_core v w h t payload (Some q) reply s = answered_core (asked_at v h q) w h q.answer reply s.2
 
-  transfer_read : (a : SessionView R) (b c : Core) (f : SessionFrame) (t : TransferSaid) (payload : List ℕ)
+  transfer_read : (a : SessionView R) (b c : Core) (f : SessionFrame) (t : TransferModel) (payload : List ℕ)
       (rest going : List SessionFrame) (st : Tallies (core a) b (f ∷ rest) going) →
       Moves (run_of b a.settings) st.taken_a (Body.Transfer t payload) st.ledger.a_comes.0 → c ≡ core (counted_by a) →
       Ledger c b rest going st.put_a (record st.taken_a { sent = st.taken_a.sent + 1 }) st.put_b st.taken_b
@@ -156,7 +156,7 @@ module _ {R : Type 0} (g : Relays R) where
   flow_follows m w b rest going going' (Some (MultipleFrames fs)) put_a taken_a put_b taken_b l eh eb s = absurd s.0
 
   follows : (m w : SessionView R) (b : Core) (rest going going' : List SessionFrame)
-      (reply : Result (Option DispositionSaid) SessionInnerError) (put_a taken_a put_b taken_b : Place) →
+      (reply : Result (Option DispositionModel) SessionInnerError) (put_a taken_a put_b taken_b : Place) →
       Ledger (core m) b rest going put_a taken_a put_b taken_b →
       taken_a.begun ≡ true → put_a.begun ≡ true → FlowFollows g m going reply w going' → Tallies (core w) b rest going'
   follows m w b rest going going' (Ok reply) put_a taken_a put_b taken_b l eh eb s =
@@ -164,7 +164,7 @@ module _ {R : Type 0} (g : Relays R) where
   follows m w b rest going going' (Err e) put_a taken_a put_b taken_b l eh eb s =
       rests m w b rest going going' put_a taken_a put_b taken_b l s.0 s.1
 
-  transfer_comes : (a w : SessionView R) (b : Core) (f : SessionFrame) (t : TransferSaid) (payload : List ℕ)
+  transfer_comes : (a w : SessionView R) (b : Core) (f : SessionFrame) (t : TransferModel) (payload : List ℕ)
       (rest going going' : List SessionFrame) (result : Result (Unit {0}) SessionInnerError) (st : Tallies (core a) b (f ∷ rest) going) →
       Moves (run_of b a.settings) st.taken_a (Body.Transfer t payload) st.ledger.a_comes.0 →
       TransferIsTaken g t payload a going result w going' → Tallies (core w) b rest going'

@@ -1,8 +1,8 @@
 -- Each call of a pair is a move of one side, and moves keep the frames in order.
 use Rattle.std.proofs.Common.{◌≡◌, ◌++◌, [], ◌∷◌, inl, inr, ℕ, List, refl, ap, sym, subst, ◌∙◌, append-nil, append_assoc}
 use Rattle.std.proofs.Common.{Option, Result, Ok, Err}
-use Rattle.amqp_types.specs.Attach.{AttachSaid}
-use Rattle.amqp_types.specs.Disposition.{DispositionSaid}
+use Rattle.amqp_types.specs.Attach.{AttachModel}
+use Rattle.amqp_types.specs.Disposition.{DispositionModel}
 use Rattle.amqp_session.specs.declared.error.AllocLinkError.{AllocLinkError}
 use Rattle.amqp_session.specs.declared.error.SessionInnerError.{SessionInnerError}
 use Rattle.amqp_session.specs.declared.error.SessionInnerError.TheVariants as Refused
@@ -13,7 +13,7 @@ use Rattle.amqp_session.specs.declared.frame.SessionFrameBody.TheVariants as Bod
 use Rattle.amqp_session.specs.declared.numbers.OutputHandle.{OutputHandle}
 use Rattle.amqp_session.specs.declared.pair.Side.{Side}
 use Rattle.amqp_session.specs.declared.pair.Side.TheVariants.{A, B}
-use Rattle.amqp_session.specs.Settings.{SettingsSaid}
+use Rattle.amqp_session.specs.Settings.{SettingsModel}
 use Rattle.amqp_session.specs.Relay.{Relays}
 use Rattle.amqp_session.specs.Transfers.{RequestedTransfer}
 use Rattle.amqp_session.specs.Session.{SessionView, flow_frame}
@@ -82,7 +82,7 @@ module _ {R : Type 0} (g : Relays R) where
     puts = d.puts ∙ ap (λ (fs : List SessionFrame). going ++ (fs ++ calls_frames d.calls)) (sym none);
   }
 
-  follows_did : (v w : SessionView R) (going going' : List SessionFrame) (reply : Result (Option DispositionSaid) SessionInnerError) →
+  follows_did : (v w : SessionView R) (going going' : List SessionFrame) (reply : Result (Option DispositionModel) SessionInnerError) →
       FlowFollows g v going reply w going' → Did g v [] going w going'
   follows_did v w going going' (Ok reply) s = one (SendsSessionFlow s.0) v w going going' s.1
   follows_did v w going going' (Err e) s = nothing v w going going' s.0 s.1
@@ -131,7 +131,7 @@ module _ {R : Type 0} (g : Relays R) where
   begin_move B result p q s =
       let m = quiet p.b q.b p.to_b q.to_b p.to_a q.to_a (begin_did p.b q.b p.to_a q.to_a result s.0) s.2 in (m.0, (m.1, s.1))
 
-  pub attach_move : (side : Side) (a : AttachSaid) (result : Said) (p q : PairView R) → AttachStep g side a result p q → IsMove g side p q
+  pub attach_move : (side : Side) (a : AttachModel) (result : Said) (p q : PairView R) → AttachStep g side a result p q → IsMove g side p q
   attach_move A a result p q s =
       let d = frame_did (SendsAttach a (attach_frame p.a a)) p.a q.a p.to_b q.to_b result refl s.0 in
       let m = quiet p.a q.a p.to_a q.to_a p.to_b q.to_b d s.2 in (m.0, (m.1, s.1))
@@ -243,11 +243,11 @@ keeps g [] p q h = record {
 }
 keeps g (e ∷ H) p q h = moved g e.side e.calls H p h.0 q h.1 (keeps g H h.0 q h.2)
 
-pub in_order : {R : Type 0} (g : Relays R) (s t : SettingsSaid) (H : List (PairCall R)) (p : PairView R) → PairChain g (new_pair s t) H p →
+pub in_order : {R : Type 0} (g : Relays R) (s t : SettingsModel) (H : List (PairCall R)) (p : PairView R) → PairChain g (new_pair s t) H p →
     ArrivesInOrder H p
 in_order g s t H p h = let k = keeps g H (new_pair s t) p h in record { to_b = k.to_b; to_a = k.to_a }
 
-pub histories : {R : Type 0} (g : Relays R) (s t : SettingsSaid) (H : List (PairCall R)) (p : PairView R) → FitsSettings s →
+pub histories : {R : Type 0} (g : Relays R) (s t : SettingsModel) (H : List (PairCall R)) (p : PairView R) → FitsSettings s →
     FitsSettings t →
     PairChain g (new_pair s t) H p → AreHistories g s t H p
 histories g s t H p hs ht h = let k = keeps g H (new_pair s t) p h in ((hs.0, k.a_goes), (ht.0, k.b_goes))

@@ -2,7 +2,7 @@
 use Rattle.std.proofs.Common.{◌≤◌, ◌+◌, ℕ, [], ◌∷◌, ◌++◌, length, length-append, length-take, take, Bool, true, false, cond, Option, Some}
 use Rattle.std.proofs.Common.{None, Result, Ok, Err, ap, arith}
 use Rattle.std.specs.Option.{option_map}
-use Rattle.amqp_types.specs.Flow.{FlowSaid}
+use Rattle.amqp_types.specs.Flow.{FlowModel}
 use Rattle.amqp_session.specs.declared.flow.LinkFlow.{LinkFlow}
 use Rattle.amqp_session.specs.declared.frame.SessionFrame.{SessionFrame}
 use Rattle.amqp_session.specs.declared.frame.SessionOutgoingItem.{SessionOutgoingItem}
@@ -43,14 +43,14 @@ answered_few : {R : Type 0} (v w : SessionView R) (a : Result (Option LinkFlow) 
 answered_few v w (Ok echo) item t = goes_few v w echo item t
 answered_few v w (Err e) item t = absurd t
 
-taken_few : {R : Type 0} (gives : FlowGives R) (v w : SessionView R) (f : FlowSaid) (h : Option ℕ) (asked : Option (FlowQuestion R))
+taken_few : {R : Type 0} (gives : FlowGives R) (v w : SessionView R) (f : FlowModel) (h : Option ℕ) (asked : Option (FlowQuestion R))
     (item : Option SessionOutgoingItem) → FlowTaken gives v f h asked (Ok item) w → length (item_frames item) ≤ length v.sending.held + 1
 taken_few gives v w f None None item t = goes_few v w None item t.1
 taken_few gives v w f None (Some q) item t = absurd t
 taken_few gives v w f (Some h) None item t = absurd (let e = t.0 in cc)
 taken_few gives v w f (Some h) (Some q) item t = answered_few (asked_at v h q) w q.answer item t.2
 
-pub flow_few : {R : Type 0} (gives : FlowGives R) (v w : SessionView R) (f : FlowSaid) (asked : Option (FlowQuestion R))
+pub flow_few : {R : Type 0} (gives : FlowGives R) (v w : SessionView R) (f : FlowModel) (asked : Option (FlowQuestion R))
     (item : Option SessionOutgoingItem) → FlowStep gives v f asked (Ok item) w → length (item_frames item) ≤ length v.sending.held + 1
 flow_few gives v w f asked item t = taken_few gives (flow_moved v f) w f f.handle asked item t.1
 

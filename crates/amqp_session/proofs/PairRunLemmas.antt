@@ -1,15 +1,15 @@
 -- How runs of frames go on, and how a session's numbers go with them.
 use Rattle.std.proofs.Common.{◌≡◌, ◌<◌, ◌≤◌, ◌-◌, ◌+◌, ◌%◌, ◌^◌, ◌++◌, [], ◌∷◌, ℕ, suc, List, length, length-append, refl, ap, arith, sym}
 use Rattle.std.proofs.Common.{subst, ◌∙◌, min, true, false, Some, None}
-use Rattle.amqp_types.specs.Begin.{BeginSaid}
-use Rattle.amqp_types.specs.Flow.{FlowSaid}
+use Rattle.amqp_types.specs.Begin.{BeginModel}
+use Rattle.amqp_types.specs.Flow.{FlowModel}
 use Rattle.amqp_types.specs.declared.states.SessionState.{SessionState}
 use Rattle.amqp_types.specs.declared.states.SessionState.TheVariants.{Unmapped, BeginSent, BeginReceived, Mapped, EndSent, EndReceived}
 use Rattle.amqp_types.specs.declared.states.SessionState.TheVariants.{Discarding}
 use Rattle.amqp_session.specs.declared.frame.SessionFrame.{SessionFrame}
 use Rattle.amqp_session.specs.declared.frame.SessionFrameBody.{SessionFrameBody}
 use Rattle.amqp_session.specs.declared.frame.SessionFrameBody.TheVariants as Body
-use Rattle.amqp_session.specs.Settings.{SettingsSaid}
+use Rattle.amqp_session.specs.Settings.{SettingsModel}
 use Rattle.amqp_session.specs.Serial.{remaining}
 use Rattle.amqp_session.specs.States.{is_mapped, sends_begin, takes_begin}
 use Rattle.amqp_session.specs.Transfers.{RequestedTransfer, numbered, first_of}
@@ -168,7 +168,7 @@ next_number : (i s n : ℕ) → ((i + s) % 2 ^ 32 + n) % 2 ^ 32 ≡ (i + (s + n)
 next_number i s n = omega arith
 
 -- some transfers are handed out: n, of which no more waited
-pub keeps_drained : (v : Core) (put taken : Place) (o : SettingsSaid) (n : ℕ) → Keeps v put taken o → taken.begun ≡ true →
+pub keeps_drained : (v : Core) (put taken : Place) (o : SettingsModel) (n : ℕ) → Keeps v put taken o → taken.begun ≡ true →
     Keeps (record v { next = (v.next + min v.window n) % 2 ^ 32; window = v.window - n }) (record put { sent = put.sent + min v.window n })
     taken o
 keeps_drained v put taken o n k h = record {
@@ -183,7 +183,7 @@ keeps_drained v put taken o n k h = record {
 }
 
 -- a flow of its own goes out, and the count is what it was, or 0
-pub keeps_offered : (v : Core) (put taken : Place) (o : SettingsSaid) (n : ℕ) → Keeps v put taken o →
+pub keeps_offered : (v : Core) (put taken : Place) (o : SettingsModel) (n : ℕ) → Keeps v put taken o →
     Keeps (record v { count = n }) (record put { offered = taken.sent }) taken o
 keeps_offered v put taken o n k = record {
   begun_is = k.begun_is;
@@ -197,7 +197,7 @@ keeps_offered v put taken o n k = record {
 }
 
 -- a flow comes that says this number and this window
-pub keeps_moved : (v : Core) (put taken : Place) (o : SettingsSaid) (f : FlowSaid) (base received : ℕ) → Keeps v put taken o →
+pub keeps_moved : (v : Core) (put taken : Place) (o : SettingsModel) (f : FlowModel) (base received : ℕ) → Keeps v put taken o →
     taken.begun ≡ true → o.incoming_window < 2 ^ 32 →
     taken.offered ≤ received → received ≤ put.sent → base ≡ (v.settings.next_outgoing_id + received) % 2 ^ 32 →
     f.incoming_window ≡ o.incoming_window →
@@ -218,7 +218,7 @@ keeps_moved v put taken o f base received k h hw h1 h2 e1 e2 e3 = record {
 }
 
 -- a transfer comes
-pub keeps_counted : (v : Core) (put taken : Place) (o : SettingsSaid) → Keeps v put taken o → taken.begun ≡ true →
+pub keeps_counted : (v : Core) (put taken : Place) (o : SettingsModel) → Keeps v put taken o → taken.begun ≡ true →
     Keeps (record v { incoming = (v.incoming + 1) % 2 ^ 32; count = min (v.count + 1) 4294967295 }) put
     (record taken { sent = taken.sent + 1 }) o
 keeps_counted v put taken o k h = record {
@@ -233,7 +233,7 @@ keeps_counted v put taken o k h = record {
 }
 
 -- a Begin comes
-pub keeps_opened : (v : Core) (put taken : Place) (o : SettingsSaid) (b : BeginSaid) (s : SessionState) → Keeps v put taken o →
+pub keeps_opened : (v : Core) (put taken : Place) (o : SettingsModel) (b : BeginModel) (s : SessionState) → Keeps v put taken o →
     takes_begin v.state ≡ Some s →
     b.incoming_window ≡ o.incoming_window → b.next_outgoing_id ≡ (o.next_outgoing_id + taken.sent) % 2 ^ 32 →
     Keeps (record v { state = s; window = b.incoming_window; incoming = b.next_outgoing_id }) put (record taken { begun = true }) o
@@ -252,7 +252,7 @@ keeps_opened v put taken o b s k eh e2 e3 =
     }
 
 -- a Begin of its own goes out
-pub keeps_begun : (v : Core) (put taken : Place) (o : SettingsSaid) (s : SessionState) → Keeps v put taken o →
+pub keeps_begun : (v : Core) (put taken : Place) (o : SettingsModel) (s : SessionState) → Keeps v put taken o →
     sends_begin v.state ≡ Some s → Keeps (record v { state = s }) (record put { begun = true }) taken o
 keeps_begun v put taken o s k e =
     let st = begins_is v.state s e in

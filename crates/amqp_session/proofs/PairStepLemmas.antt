@@ -2,8 +2,8 @@
 use Rattle.std.proofs.Common.{◌≡◌, ◌+◌, ◌++◌, [], ◌∷◌, inl, inr, ℕ, List, length, length-take, take, refl, ap, sym, subst, ◌∙◌, min}
 use Rattle.std.proofs.Common.{append-nil, cond, true, false, Option, Some, None, Result, Ok, Err}
 use Rattle.std.specs.Option.{option_map}
-use Rattle.amqp_types.specs.Attach.{AttachSaid}
-use Rattle.amqp_types.specs.Flow.{FlowSaid}
+use Rattle.amqp_types.specs.Attach.{AttachModel}
+use Rattle.amqp_types.specs.Flow.{FlowModel}
 use Rattle.amqp_session.specs.declared.error.LinkRelayError.{LinkRelayError}
 use Rattle.amqp_session.specs.declared.error.SessionInnerError.{SessionInnerError}
 use Rattle.amqp_session.specs.declared.error.SessionInnerError.TheVariants as Refused
@@ -13,7 +13,7 @@ use Rattle.amqp_session.specs.declared.flow.LinkFlow.{LinkFlow}
 use Rattle.amqp_session.specs.declared.frame.SessionFrame.{SessionFrame}
 use Rattle.amqp_session.specs.declared.frame.SessionFrameBody.TheVariants as Body
 use Rattle.amqp_session.specs.declared.frame.SessionOutgoingItem.{SessionOutgoingItem}
-use Rattle.amqp_session.specs.Settings.{SettingsSaid}
+use Rattle.amqp_session.specs.Settings.{SettingsModel}
 use Rattle.amqp_session.specs.States.{is_mapped}
 use Rattle.amqp_session.specs.Transfers.{RequestedTransfer}
 use Rattle.amqp_session.specs.Sending.{let_out, drained}
@@ -32,18 +32,18 @@ use Rattle.amqp_session.proofs.PairRunLemmas.{leads_append, leads_numbered, begi
 -- ---- what a session puts on its run
 
 -- a session that is v hands out these frames and is then w
-pub record Puts (v : Core) (put taken : Place) (o : SettingsSaid) (frames : List SessionFrame) (w : Core) : Type 0 where
+pub record Puts (v : Core) (put taken : Place) (o : SettingsModel) (frames : List SessionFrame) (w : Core) : Type 0 where
   pub after : Place
   pub keeps : Keeps w after taken o
   pub leads : Leads (run_of v o) put frames after
   pub begun : after.begun ≡ true
   pub same : (w.settings ≡ v.settings) × (w.state ≡ v.state)
 
-puts_nothing : (v : Core) (put taken : Place) (o : SettingsSaid) → Keeps v put taken o → put.begun ≡ true → Puts v put taken o [] v
+puts_nothing : (v : Core) (put taken : Place) (o : SettingsModel) → Keeps v put taken o → put.begun ≡ true → Puts v put taken o [] v
 puts_nothing v put taken o k eb = record { after = put; keeps = k; leads = refl; begun = eb; same = (refl, refl) }
 
 -- a flow that says the session's numbers
-pub puts_flow : (v : Core) (put taken : Place) (o : SettingsSaid) (c n : ℕ) (x : FlowSaid) → Keeps v put taken o → taken.begun ≡ true →
+pub puts_flow : (v : Core) (put taken : Place) (o : SettingsModel) (c n : ℕ) (x : FlowModel) → Keeps v put taken o → taken.begun ≡ true →
     put.begun ≡ true →
     x.next_incoming_id ≡ Some v.incoming → x.incoming_window ≡ v.settings.incoming_window → x.next_outgoing_id ≡ v.next →
     Puts v put taken o (record { channel = c; body = Body.Flow x } ∷ []) (record v { count = n })
@@ -68,7 +68,7 @@ puts_flow v put taken o c n x k eh eb e1 e2 e3 = record {
   same = (refl, refl);
 }
 
-puts_attach : (v : Core) (put taken : Place) (o : SettingsSaid) (c : ℕ) (a : AttachSaid) → Keeps v put taken o → taken.begun ≡ true →
+puts_attach : (v : Core) (put taken : Place) (o : SettingsModel) (c : ℕ) (a : AttachModel) → Keeps v put taken o → taken.begun ≡ true →
     put.begun ≡ true →
     Puts v put taken o (record { channel = c; body = Body.Attach a } ∷ []) v
 puts_attach v put taken o c a k eh eb = record {
@@ -80,7 +80,7 @@ puts_attach v put taken o c a k eh eb = record {
 }
 
 -- what the window and the state let out
-puts_gone : {R : Type 0} (v : SessionView R) (put taken : Place) (o : SettingsSaid) → Keeps (core v) put taken o → taken.begun ≡ true →
+puts_gone : {R : Type 0} (v : SessionView R) (put taken : Place) (o : SettingsModel) → Keeps (core v) put taken o → taken.begun ≡ true →
     put.begun ≡ true → Puts (core v) put taken o (lets v) (core (let_gone v))
 puts_gone {R} v put taken o k eh eb =
     elim (is_mapped v.state) as (λ d. Puts (core v) put taken o (cond d (let_out v.outgoing_channel v.sending) [])
@@ -97,7 +97,7 @@ puts_gone {R} v put taken o k eh eb =
       | false ↦ puts_nothing (core v) put taken o k eb
     ]
 
-puts_echo : {R : Type 0} (v : SessionView R) (put taken : Place) (o : SettingsSaid) (echo : Option LinkFlow) → Keeps (core v) put taken o →
+puts_echo : {R : Type 0} (v : SessionView R) (put taken : Place) (o : SettingsModel) (echo : Option LinkFlow) → Keeps (core v) put taken o →
     taken.begun ≡ true → put.begun ≡ true →
     Puts (core v) put taken o (first_frame (option_map (flow_frame v) echo)) (core v)
 puts_echo v put taken o None k eh eb = puts_nothing (core v) put taken o k eb
@@ -106,7 +106,7 @@ puts_echo v put taken o (Some l) k eh eb = puts_flow (core v) put taken o v.outg
 
 -- what a flow lets out
 puts_goes : {R : Type 0} (v w : SessionView R) (echo : Option LinkFlow) (item : Option SessionOutgoingItem) (put taken : Place)
-    (o : SettingsSaid) → FlowGoes v echo item w →
+    (o : SettingsModel) → FlowGoes v echo item w →
     Keeps (core v) put taken o → taken.begun ≡ true → put.begun ≡ true → Puts (core v) put taken o (item_frames item) (core w)
 puts_goes v w echo item put taken o t k eh eb =
     let all = hands_frames (is_some_list (lets v)) (first_frame (option_map (flow_frame v) echo) ++ lets v) item t.0 in
@@ -120,12 +120,12 @@ puts_goes v w echo item put taken o t k eh eb =
       same = (refl, refl);
     }
 
-puts_same : {R : Type 0} (v w : SessionView R) (put taken : Place) (o : SettingsSaid) → w ≡ v → Keeps (core v) put taken o →
+puts_same : {R : Type 0} (v w : SessionView R) (put taken : Place) (o : SettingsModel) → w ≡ v → Keeps (core v) put taken o →
     put.begun ≡ true → Puts (core v) put taken o [] (core w)
 puts_same v w put taken o e k eb = rw e (puts_nothing (core v) put taken o k eb)
 
 puts_answered : {R : Type 0} (v w : SessionView R) (a : Result (Option LinkFlow) LinkRelayError)
-    (item : Result (Option SessionOutgoingItem) SessionInnerError) (put taken : Place) (o : SettingsSaid) → FlowAnswered v a item w →
+    (item : Result (Option SessionOutgoingItem) SessionInnerError) (put taken : Place) (o : SettingsModel) → FlowAnswered v a item w →
     Keeps (core v) put taken o → taken.begun ≡ true → put.begun ≡ true → Puts (core v) put taken o (inner_frames item) (core w)
 puts_answered v w (Ok echo) (Ok item) put taken o t k eh eb = puts_goes v w echo item put taken o t k eh eb
 puts_answered v w (Err e) (Err x) put taken o t k eh eb = puts_same v w put taken o t.1 k eb
@@ -133,7 +133,7 @@ puts_answered v w (Ok echo) (Err x) put taken o t k eh eb = absurd t
 puts_answered v w (Err e) (Ok item) put taken o t k eh eb = absurd t
 
 puts_unasked : {R : Type 0} (v w : SessionView R) (h : Option ℕ) (item : Result (Option SessionOutgoingItem) SessionInnerError)
-    (put taken : Place) (o : SettingsSaid) → FlowUnasked v h item w →
+    (put taken : Place) (o : SettingsModel) → FlowUnasked v h item w →
     Keeps (core v) put taken o → taken.begun ≡ true → put.begun ≡ true → Puts (core v) put taken o (inner_frames item) (core w)
 puts_unasked v w h (Ok item) put taken o t k eh eb = puts_goes v w None item put taken o t.1 k eh eb
 puts_unasked v w None (Err Refused.UnattachedHandle) put taken o t k eh eb = absurd t
@@ -142,8 +142,8 @@ puts_unasked v w h (Err Refused.OutOfMemory) put taken o t k eh eb = puts_same v
 puts_unasked v w None (Err e) put taken o t k eh eb = absurd t
 puts_unasked v w (Some h) (Err e) put taken o t k eh eb = absurd t
 
-pub puts_taken : {R : Type 0} (gives : FlowGives R) (v w : SessionView R) (f : FlowSaid) (h : Option ℕ) (asked : Option (FlowQuestion R))
-    (item : Result (Option SessionOutgoingItem) SessionInnerError) (put taken : Place) (o : SettingsSaid) →
+pub puts_taken : {R : Type 0} (gives : FlowGives R) (v w : SessionView R) (f : FlowModel) (h : Option ℕ) (asked : Option (FlowQuestion R))
+    (item : Result (Option SessionOutgoingItem) SessionInnerError) (put taken : Place) (o : SettingsModel) →
     FlowTaken gives v f h asked item w → Keeps (core v) put taken o → taken.begun ≡ true → put.begun ≡ true →
     Puts (core v) put taken o (inner_frames item) (core w)
 puts_taken gives v w f None None item put taken o t k eh eb = puts_unasked v w None item put taken o t k eh eb
@@ -189,7 +189,7 @@ still a w b coming going going' st e eg = stays a w b coming going going' st e (
 -- a mapped session hands out frames
 puts : (a b w : Core) (coming going going' frames : List SessionFrame) → Tallies a b coming going → is_mapped a.state ≡ true →
     w.settings ≡ a.settings → has_received w.state ≡ has_received a.state →
-    ((put taken : Place) (o : SettingsSaid) → Keeps a put taken o → taken.begun ≡ true → put.begun ≡ true → Puts a put taken o frames w) →
+    ((put taken : Place) (o : SettingsModel) → Keeps a put taken o → taken.begun ≡ true → put.begun ≡ true → Puts a put taken o frames w) →
     going' ≡ going ++ frames → Tallies w b coming going'
 puts a b w coming going going' frames st mapped es eh f eg =
     let l = st.ledger in
@@ -226,7 +226,7 @@ module _ {R : Type 0} (g : Relays R) where
     | inr sent ↦ begin_by a w b coming going going' sent.frame st sent.makes
   ]
 
-  pub attach_step : (a w : SessionView R) (b : Core) (x : AttachSaid) (coming going going' : List SessionFrame)
+  pub attach_step : (a w : SessionView R) (b : Core) (x : AttachModel) (coming going going' : List SessionFrame)
       (result : Result (Unit {0}) SessionInnerError) → Tallies (core a) b coming going →
       FrameAt g (SendsAttach x (attach_frame a x)) a going result w going' → Tallies (core w) b coming going'
   attach_step a w b x coming going going' (Ok u) st s =

@@ -2,7 +2,7 @@
 use Rattle.std.proofs.Common.{◌≡◌, ◌<◌, ◌≤◌, ◌+◌, ◌%◌, ◌^◌, [], ℕ, List, length, refl, ap, arith, ◌∙◌, Bool, true, false}
 use Rattle.amqp_types.specs.declared.states.SessionState.TheVariants.{Unmapped}
 use Rattle.amqp_session.specs.declared.frame.SessionFrame.{SessionFrame}
-use Rattle.amqp_session.specs.Settings.{SettingsSaid}
+use Rattle.amqp_session.specs.Settings.{SettingsModel}
 use Rattle.amqp_session.specs.Serial.{past}
 use Rattle.amqp_session.specs.Headline.{transfers_in}
 use Rattle.amqp_session.specs.Pair.{PairView, swapped, WindowHolds, PairHolds}
@@ -31,10 +31,10 @@ turned a b to_a to_b st =
 abbrev start : Place
 start = record { begun = false; sent = 0; offered = 0 }
 
-abbrev pub new_core : SettingsSaid → Core
+abbrev pub new_core : SettingsModel → Core
 new_core s = record { state = Unmapped; settings = s; next = s.next_outgoing_id; window = 0; incoming = 0; count = 0 }
 
-new_keeps : (s t : SettingsSaid) → FitsSettings s → Keeps (new_core s) start start t
+new_keeps : (s t : SettingsModel) → FitsSettings s → Keeps (new_core s) start start t
 new_keeps s t hs = record {
   begun_is = refl;
   received_is = refl;
@@ -46,7 +46,7 @@ new_keeps s t hs = record {
   count_is = omega arith;
 }
 
-pub new_tallies : (s t : SettingsSaid) → FitsSettings s → FitsSettings t → Tallies (new_core s) (new_core t) [] []
+pub new_tallies : (s t : SettingsModel) → FitsSettings s → FitsSettings t → Tallies (new_core s) (new_core t) [] []
 new_tallies s t hs ht = record {
   put_a = start;
   taken_a = start;

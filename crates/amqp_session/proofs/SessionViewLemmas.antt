@@ -12,7 +12,7 @@ use Rattle.amqp_session.specs.declared.deliveries.Delivery.{Delivery}
 use Rattle.amqp_session.specs.declared.session.receiving.Receiving.{Receiving}
 use Rattle.amqp_session.specs.Transfers.{RequestedTransfer, firsts, opened}
 use Rattle.amqp_session.specs.Sending.{SendingView, moved, let_out, opened_by, drained}
-use Rattle.amqp_session.specs.Settings.{SettingsSaid}
+use Rattle.amqp_session.specs.Settings.{SettingsModel}
 use Rattle.amqp_session.specs.OutgoingFrames.{call_frames}
 use Rattle.amqp_session.specs.Received.{named_with, takes_away, channel_by}
 use Rattle.amqp_session.specs.Relay.{Relays}
@@ -54,7 +54,7 @@ module _ {R : Type 0} (g : Relays R) where
       Books m.channel m.settings.next_outgoing_id (A ++ accepted_by e) F (window_by m (m.settings.next_outgoing_id + length F) n e) (sending_by v e)
   Books-before m A F n v (TakesBegin channel begin (Ok u)) same fits b = rw (append-nil A) (Books-begun _ _ A F n v.sending begin.incoming_window fits.incoming_window b)
   Books-before m A F n v (TakesFlow f asked result) same fits b =
-      let base : flow_base v f ≡ unwrap_or f.next_incoming_id m.settings.next_outgoing_id = ap (λ (x : SettingsSaid). unwrap_or f.next_incoming_id x.next_outgoing_id) same in
+      let base : flow_base v f ≡ unwrap_or f.next_incoming_id m.settings.next_outgoing_id = ap (λ (x : SettingsModel). unwrap_or f.next_incoming_id x.next_outgoing_id) same in
       rw (append-nil A) (subst (λ k. Books m.channel m.settings.next_outgoing_id A F (k, f.incoming_window) (moved v.sending (flow_base v f) f.incoming_window)) base (Books-moved _ _ A F n v.sending (flow_base v f) f.incoming_window fits.incoming_window fits.base b))
   Books-before m A F n v (SendsTransfer h (Ok item)) same fits b = Books-joined _ _ A F n v.sending h b
   Books-before m A F n v e same fits b = rw (append-nil A) b

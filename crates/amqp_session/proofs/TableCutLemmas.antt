@@ -6,7 +6,7 @@ use Rattle.std.proofs.lemmas.Bool.Decides.{nat_tests}
 use Rattle.std.proofs.lemmas.Grind.{common_steps}
 use Rattle.std.proofs.lemmas.List.{drop_all, drop-drop, take-append-drop, take-append-le, drop-append-le}
 use Rattle.std.proofs.lemmas.List.Elements.{filter-append}
-use Rattle.amqp_types.specs.Disposition.{DispositionSaid}
+use Rattle.amqp_types.specs.Disposition.{DispositionModel}
 use Rattle.amqp_session.specs.declared.deliveries.Delivery.{Delivery}
 use Rattle.amqp_session.specs.Deliveries.{EachNumber, IsRising, IsTable, cut}
 use Rattle.amqp_session.specs.Disposing.{is_meant, in_order, meant, not_meant}
@@ -60,22 +60,22 @@ table_without from count rows t =
 
 -- ---- what is meant is a stretch of the order
 
-filter_all : (d : DispositionSaid) (rows : List Delivery) → EachMeant d true rows →
+filter_all : (d : DispositionModel) (rows : List Delivery) → EachMeant d true rows →
     (filter (λ r. is_meant d.first d.last r.number) rows ≡ rows) × (not_meant d rows ≡ [])
 filter_all d [] e = (refl, refl)
 filter_all d (r ∷ rs) e = let rest = filter_all d rs e.1 in (rw e.0 (ap (λ xs. r ∷ xs) rest.0), rw e.0 rest.1)
 
-filter_none : (d : DispositionSaid) (rows : List Delivery) → EachMeant d false rows →
+filter_none : (d : DispositionModel) (rows : List Delivery) → EachMeant d false rows →
     (filter (λ r. is_meant d.first d.last r.number) rows ≡ []) × (not_meant d rows ≡ rows)
 filter_none d [] e = (refl, refl)
 filter_none d (r ∷ rs) e = let rest = filter_none d rs e.1 in (rw e.0 rest.0, rw e.0 (ap (λ xs. r ∷ xs) rest.1))
 
-each_split : (d : DispositionSaid) (b : Bool) (xs ys : List Delivery) → EachMeant d b (xs ++ ys) → EachMeant d b xs × EachMeant d b ys
+each_split : (d : DispositionModel) (b : Bool) (xs ys : List Delivery) → EachMeant d b (xs ++ ys) → EachMeant d b xs × EachMeant d b ys
 each_split d b [] ys e = (tt, e)
 each_split d b (x ∷ xs) ys e = let s = each_split d b xs ys e.1 in ((e.0, s.0), s.1)
 
 -- those meant are the first of the order
-pub split_meant : (d : DispositionSaid) (rows : List Delivery) (from n : ℕ) → in_order d.first rows ≡ turned from rows →
+pub split_meant : (d : DispositionModel) (rows : List Delivery) (from n : ℕ) → in_order d.first rows ≡ turned from rows →
     IsSplit d (turned from rows) n → meant d rows ≡ take n (turned from rows)
 split_meant d rows from n o s =
     ap (filter (λ r. is_meant d.first d.last r.number)) (o ∙ sym (take-append-drop n (turned from rows))) ∙ filter-append (λ r. is_meant d.first d.last r.number) (take n (turned from rows)) (drop n (turned from rows))
@@ -93,11 +93,11 @@ drop_past (x ∷ xs) ys m =
     let e : suc (length xs) + m ≡ suc (length xs + m) = omega arith in
     rw e (drop_past xs ys m)
 
-not_meant_append : (d : DispositionSaid) (xs ys : List Delivery) → not_meant d (xs ++ ys) ≡ not_meant d xs ++ not_meant d ys
+not_meant_append : (d : DispositionModel) (xs ys : List Delivery) → not_meant d (xs ++ ys) ≡ not_meant d xs ++ not_meant d ys
 not_meant_append d xs ys = filter-append (λ r. not (is_meant d.first d.last r.number)) xs ys
 
 -- those meant stand at the front of one part
-near_cut : (d : DispositionSaid) (t near far : List Delivery) → EachMeant d true near → EachMeant d false (far ++ t) →
+near_cut : (d : DispositionModel) (t near far : List Delivery) → EachMeant d true near → EachMeant d false (far ++ t) →
     not_meant d (t ++ (near ++ far)) ≡ t ++ far
 near_cut d t near far n f =
     let s = each_split d false far t f in
@@ -105,7 +105,7 @@ near_cut d t near far n f =
     ∙ ap (λ xs. t ++ xs) (not_meant_append d near far ∙ ap (λ xs. xs ++ not_meant d far) (filter_all d near n).1 ∙ (filter_none d far s.0).1)
 
 -- or they are all of one and the front of the other
-far_cut : (d : DispositionSaid) (all near far : List Delivery) → EachMeant d true (all ++ near) → EachMeant d false far →
+far_cut : (d : DispositionModel) (all near far : List Delivery) → EachMeant d true (all ++ near) → EachMeant d false far →
     not_meant d ((near ++ far) ++ all) ≡ far
 far_cut d all near far n f =
     let s = each_split d true all near n in
@@ -113,7 +113,7 @@ far_cut d all near far n f =
     ∙ append-nil (not_meant d (near ++ far)) ∙ not_meant_append d near far ∙ ap (λ xs. xs ++ not_meant d far) (filter_all d near s.1).1 ∙ (filter_none d far f).1
 
 -- those that are left are the others
-pub split_cut : (d : DispositionSaid) (rows : List Delivery) (from n : ℕ) → from ≤ length rows → IsSplit d (turned from rows) n →
+pub split_cut : (d : DispositionModel) (rows : List Delivery) (from n : ℕ) → from ≤ length rows → IsSplit d (turned from rows) n →
     cut from n rows ≡ not_meant d rows
 split_cut d rows from n h s =
     let front : List Delivery = take from rows in
@@ -142,7 +142,7 @@ split_cut d rows from n h s =
           ∙ ap (λ xs. not_meant d (front ++ xs)) (take-append-drop n back) ∙ ap (not_meant d) whole
     ]
 
-pub meant_length : (d : DispositionSaid) (rows : List Delivery) (from n : ℕ) → from ≤ length rows → n ≤ length rows →
+pub meant_length : (d : DispositionModel) (rows : List Delivery) (from n : ℕ) → from ≤ length rows → n ≤ length rows →
     in_order d.first rows ≡ turned from rows → IsSplit d (turned from rows) n → length (meant d rows) ≡ n
 meant_length d rows from n h k o s =
     let a = ap length (split_meant d rows from n o s) in
@@ -150,7 +150,7 @@ meant_length d rows from n h k o s =
     let c = turned_length from rows h in
     omega (arith, a, b, c, k)
 
-pub walked : (d : DispositionSaid) (rows : List Delivery) (from n turns comparisons : ℕ) → from ≤ length rows →
+pub walked : (d : DispositionModel) (rows : List Delivery) (from n turns comparisons : ℕ) → from ≤ length rows →
     n ≤ length rows → in_order d.first rows ≡ turned from rows → IsSplit d (turned from rows) n →
     turns ≤ n + 1 → n ≤ turns → 2 ^ comparisons ≤ 2 * length rows + 1 → IsWalked d rows true (record { turns = turns; comparisons = comparisons })
 walked d rows from n turns comparisons h k o s most least cost =

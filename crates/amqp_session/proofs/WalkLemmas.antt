@@ -6,7 +6,7 @@ use Rattle.std.proofs.lemmas.Bool.Decides.{nat_tests}
 use Rattle.std.proofs.lemmas.Grind.{common_steps}
 use Rattle.std.proofs.lemmas.List.{take_more, drop_more, drop_all, get_or-drop, get_or-take, get_or-append-add, get_or_append_left, take-append-drop}
 use Rattle.std.proofs.lemmas.Option.{get_or_from_slice_get}
-use Rattle.amqp_types.specs.Disposition.{DispositionSaid}
+use Rattle.amqp_types.specs.Disposition.{DispositionModel}
 use Rattle.amqp_session.specs.declared.deliveries.Delivery.{Delivery}
 use Rattle.amqp_session.specs.Runs.{DeliveryRange, extended}
 use Rattle.amqp_session.specs.Relay.{DispositionGives, DispositionQuestion}
@@ -172,27 +172,27 @@ turned_read from rows count x h lt at =
     ]
 
 -- all of these are meant, and one more
-pub each_more : (d : DispositionSaid) (b : Bool) (xs : List Delivery) (x : Delivery) → EachMeant d b xs →
+pub each_more : (d : DispositionModel) (b : Bool) (xs : List Delivery) (x : Delivery) → EachMeant d b xs →
     is_meant d.first d.last x.number ≡ b → EachMeant d b (xs ++ x ∷ [])
 each_more d b [] x e h = (h, tt)
 each_more d b (r ∷ rs) x e h = (e.0, each_more d b rs x e.1 h)
 
 -- a number of a forward range, and one that is not
-pub meant_is : (d : DispositionSaid) (n : ℕ) → span d.first d.last < 2 ^ 31 → distance d.first n ≤ span d.first d.last →
+pub meant_is : (d : DispositionModel) (n : ℕ) → span d.first d.last < 2 ^ 31 → distance d.first n ≤ span d.first d.last →
     is_meant d.first d.last n ≡ true
 meant_is d n f h = rw (is_lt (span d.first d.last) (2 ^ 31) f, is_ge (distance d.first n) (span d.first d.last) h) refl
 
-pub meant_not : (d : DispositionSaid) (n : ℕ) → span d.first d.last < 2 ^ 31 → span d.first d.last < distance d.first n →
+pub meant_not : (d : DispositionModel) (n : ℕ) → span d.first d.last < 2 ^ 31 → span d.first d.last < distance d.first n →
     is_meant d.first d.last n ≡ false
 meant_not d n f h = rw (is_lt (span d.first d.last) (2 ^ 31) f, not_ge (distance d.first n) (span d.first d.last) h) refl
 
 -- from a number that is too far on, none is meant
-pub far_all : (d : DispositionSaid) (k : ℕ) (rows : List Delivery) → span d.first d.last < 2 ^ 31 → span d.first d.last < k →
+pub far_all : (d : DispositionModel) (k : ℕ) (rows : List Delivery) → span d.first d.last < 2 ^ 31 → span d.first d.last < k →
     Farther d.first k rows → EachMeant d false rows
 far_all d k [] f h r = tt
 far_all d k (e ∷ es) f h r = (meant_not d e.number f (omega (arith, h, r.0)), far_all d (distance d.first e.number + 1) es f (omega (arith, h, r.0)) r.1)
 
-meant_near : (d : DispositionSaid) (n : ℕ) → span d.first d.last < 2 ^ 31 → is_meant d.first d.last n ≡ true →
+meant_near : (d : DispositionModel) (n : ℕ) → span d.first d.last < 2 ^ 31 → is_meant d.first d.last n ≡ true →
     distance d.first n ≤ span d.first d.last
 meant_near d n f e =
     elim (cases_lt (span d.first d.last) (distance d.first n)) [
@@ -200,7 +200,7 @@ meant_near d n f e =
       | inr near ↦ near
     ]
 
-reach_near : (d : DispositionSaid) (k : ℕ) (rows : List Delivery) → span d.first d.last < 2 ^ 31 → k ≤ span d.first d.last + 1 →
+reach_near : (d : DispositionModel) (k : ℕ) (rows : List Delivery) → span d.first d.last < 2 ^ 31 → k ≤ span d.first d.last + 1 →
     EachMeant d true rows → reach d.first k rows ≤ span d.first d.last + 1
 reach_near d k [] f h e = h
 reach_near d k (r ∷ rs) f h e = let near = meant_near d r.number f e.0 in reach_near d (distance d.first r.number + 1) rs f (omega (arith, near)) e.1
@@ -208,7 +208,7 @@ reach_near d k (r ∷ rs) f h e = let near = meant_near d r.number f e.0 in reac
 -- ---- questions
 
 first_agreed : {R : Type 0} →
-    (gives : DispositionGives R) (d : DispositionSaid) (x : Delivery) (one : Option (DispositionQuestion R)) (l new : LinksView R) →
+    (gives : DispositionGives R) (d : DispositionModel) (x : Delivery) (one : Option (DispositionQuestion R)) (l new : LinksView R) →
     AsksAt gives d x one l new →
     agreed (behind one []) ≡ cond (has_agreed one) (x.number ∷ []) []
 first_agreed gives d x None l new h = refl
@@ -228,7 +228,7 @@ behind_agreed (Some q) as' bs ns e = by q.answer
     by false = e
 
 -- one record more is asked about
-pub asks_more : {R : Type 0} → (gives : DispositionGives R) (d : DispositionSaid) (xs : List Delivery) (x : Delivery) (as' : List (DispositionQuestion R)) (one : Option (DispositionQuestion R)) (l m new : LinksView R) →
+pub asks_more : {R : Type 0} → (gives : DispositionGives R) (d : DispositionModel) (xs : List Delivery) (x : Delivery) (as' : List (DispositionQuestion R)) (one : Option (DispositionQuestion R)) (l m new : LinksView R) →
     AsksEach gives d xs as' l m → AsksAt gives d x one m new →
     (bs : List (DispositionQuestion R)) × AsksEach gives d (xs ++ x ∷ []) bs l new × (agreed bs ≡ agreed as' ++ cond (has_agreed one) (x.number ∷ []) [])
 asks_more gives d [] x as' one l m new h a =
@@ -259,14 +259,14 @@ nothing_noted R first false = no_runs_yet first
 -- ---- one step
 
 -- the record x is read at a step of the walk
-pub record Reads (d : DispositionSaid) (order : List Delivery) (count : ℕ) (x : Delivery) : Type 0 where
+pub record Reads (d : DispositionModel) (order : List Delivery) (count : ℕ) (x : Delivery) : Type 0 where
   pub grow : take (count + 1) order ≡ take count order ++ x ∷ []
   pub rest : drop count order ≡ x ∷ drop (count + 1) order
   pub near : reach d.first 0 (take count order) ≤ distance d.first x.number
   pub few : count ≤ reach d.first 0 (take count order)
   pub far : Farther d.first (distance d.first x.number) (drop count order)
 
-pub reads : (d : DispositionSaid) (rows : List Delivery) (from count : ℕ) (x : Delivery) → d.first < 2 ^ 32 → IsTable rows →
+pub reads : (d : DispositionModel) (rows : List Delivery) (from count : ℕ) (x : Delivery) → d.first < 2 ^ 32 → IsTable rows →
     from ≤ length rows → in_order d.first rows ≡ turned from rows → count < length rows →
     slice_get rows (around from count (length rows)) ≡ Some x → Reads d (turned from rows) count x
 reads d rows from count x hf t h o lt at =
@@ -289,17 +289,17 @@ reads d rows from count x hf t h o lt at =
     }
 
 -- the walk ends at a record that is too far on
-pub stops_at : (d : DispositionSaid) (order : List Delivery) (count : ℕ) (x : Delivery) → span d.first d.last < 2 ^ 31 →
+pub stops_at : (d : DispositionModel) (order : List Delivery) (count : ℕ) (x : Delivery) → span d.first d.last < 2 ^ 31 →
     Reads d order count x → span d.first d.last < distance d.first x.number → EachMeant d true (take count order) → IsSplit d order count
 stops_at d order count x f r far near = record { near = near; far = far_all d (distance d.first x.number) (drop count order) f far r.far }
 
 -- or at the end
-pub stops_end : (d : DispositionSaid) (order : List Delivery) (count : ℕ) → length order ≤ count →
+pub stops_end : (d : DispositionModel) (order : List Delivery) (count : ℕ) → length order ≤ count →
     EachMeant d true (take count order) → IsSplit d order count
 stops_end d order count h near = record { near = near; far = subst (EachMeant d false) (sym (drop_all count order h)) tt }
 
 -- or behind the one record of its number, where the range is that number alone
-pub stops_alone : (d : DispositionSaid) (order : List Delivery) (x : Delivery) → span d.first d.last ≡ 0 → Reads d order 0 x →
+pub stops_alone : (d : DispositionModel) (order : List Delivery) (x : Delivery) → span d.first d.last ≡ 0 → Reads d order 0 x →
     distance d.first x.number ≡ 0 → IsSplit d order 1
 stops_alone d order x alone r same =
     let forward : span d.first d.last < 2 ^ 31 = omega (arith, alone) in

@@ -6,7 +6,7 @@ use Rattle.std.specs.Prelude.{nat_lt, nat_le, nat_eq, List, [], ◌∷◌, ◌++
 use Rattle.std.specs.Prelude.{unwrap_or, min}
 use Rattle.std.specs.List.{filter, list_any}
 use Rattle.amqp_values.specs.Outcome.{IsTerminal}
-use Rattle.amqp_types.specs.Disposition.{DispositionSaid}
+use Rattle.amqp_types.specs.Disposition.{DispositionModel}
 use Rattle.amqp_types.specs.declared.definitions.Role.{Role}
 use Rattle.amqp_types.specs.declared.definitions.Role.TheVariants.{Sender}
 use Rattle.amqp_session.specs.declared.deliveries.Delivery.{Delivery}
@@ -58,19 +58,19 @@ abbrev pub out_of_range : ℕ → Option ℕ → List Delivery → List Delivery
 out_of_range first last rows = filter (λ r. not (is_meant first last r.number)) rows
 
 -- those that a disposition means, in order, and the others
-abbrev pub meant : DispositionSaid → List Delivery → List Delivery
+abbrev pub meant : DispositionModel → List Delivery → List Delivery
 meant d rows = in_range d.first d.last (in_order d.first rows)
 
-abbrev pub not_meant : DispositionSaid → List Delivery → List Delivery
+abbrev pub not_meant : DispositionModel → List Delivery → List Delivery
 not_meant d rows = out_of_range d.first d.last rows
 
 -- ---- what is asked
 
-abbrev pub question_of : DispositionSaid → Delivery → DispositionAsked
+abbrev pub question_of : DispositionModel → Delivery → DispositionAsked
 question_of d r = record { role = d.role; settled = d.settled; state = d.state; delivery = r }
 
 -- Of one record the relay attached under its input handle is asked; none, where none is attached.
-abbrev pub AsksAt : {R : Type 0} → DispositionGives R → DispositionSaid → Delivery → Option (DispositionQuestion R) → LinksView R →
+abbrev pub AsksAt : {R : Type 0} → DispositionGives R → DispositionModel → Delivery → Option (DispositionQuestion R) → LinksView R →
     LinksView R → Type 0
 AsksAt gives d r None l new = (attached_at r.input_handle.0 l ≡ None) × (new ≡ l)
 AsksAt gives d r (Some q) l new =
@@ -88,7 +88,7 @@ behind None qs = qs
 behind (Some q) qs = q ∷ qs
 
 -- the same of each record in turn
-abbrev pub AsksEach : {R : Type 0} → DispositionGives R → DispositionSaid → List Delivery → List (DispositionQuestion R) →
+abbrev pub AsksEach : {R : Type 0} → DispositionGives R → DispositionModel → List Delivery → List (DispositionQuestion R) →
     LinksView R → LinksView R → Type 0
 AsksEach gives d [] asked l new = (asked ≡ []) × (new ≡ l)
 AsksEach {R} gives d (r ∷ rs) asked l new =
@@ -123,32 +123,32 @@ pub record AreRuns (first : ℕ) (numbers : List ℕ) (runs : List DeliveryRange
   pub hold : (n : ℕ) → n < 2 ^ 32 → list_any (is_in first n) runs ≡ list_any (nat_eq n) numbers
 
 -- the disposition that is sent back for a run
-abbrev pub echo_of : Option (List ℕ) → DeliveryRange → DispositionSaid
+abbrev pub echo_of : Option (List ℕ) → DeliveryRange → DispositionModel
 echo_of state r = record { role = Sender; first = r.first; last = Some r.last; settled = true; state = state; batchable = false }
 
-pub record Echoes (d : DispositionSaid) (numbers : List ℕ) (echoes : List DispositionSaid) : Type 0 where
+pub record Echoes (d : DispositionModel) (numbers : List ℕ) (echoes : List DispositionModel) : Type 0 where
   pub runs : List DeliveryRange
   pub are_runs : AreRuns d.first numbers runs
   pub are_said : echoes ≡ map (echo_of d.state) runs
 
 -- ---- a disposition comes
 
-abbrev pub rows_of : {R : Type 0} → DispositionSaid → SessionView R → List Delivery
+abbrev pub rows_of : {R : Type 0} → DispositionModel → SessionView R → List Delivery
 rows_of d v = of_role d.role v.deliveries
 
 -- the relays were asked, and nothing else has moved
-abbrev pub HasAsked : {R : Type 0} → DispositionGives R → SessionView R → DispositionSaid → List (DispositionQuestion R) →
+abbrev pub HasAsked : {R : Type 0} → DispositionGives R → SessionView R → DispositionModel → List (DispositionQuestion R) →
     SessionView R → Type 0
 HasAsked gives v d asked w = AsksEach gives d (meant d (rows_of d v)) asked v.links w.links × (w ≡ record v { links = w.links })
 
 -- each echo says the state again: there is a state, and a relay asked for an echo
-abbrev pub SaysStateAgain : {R : Type 0} → DispositionSaid → List (DispositionQuestion R) → Type 0
+abbrev pub SaysStateAgain : {R : Type 0} → DispositionModel → List (DispositionQuestion R) → Type 0
 SaysStateAgain d asked = IsSome d.state × (0 < length (agreed asked))
 
 -- A settled one takes the records that it means away, and never fails. An unsettled one leaves them open and is answered by the
 -- echoes; memory may be refused for a forward one: before any relay is asked, or after all were, for the state of an echo alone.
-abbrev pub TakeDispositionStep : {R : Type 0} → DispositionGives R → SessionView R → DispositionSaid → List (DispositionQuestion R) →
-    Result (Option (List DispositionSaid)) SessionInnerError → SessionView R → Type 0
+abbrev pub TakeDispositionStep : {R : Type 0} → DispositionGives R → SessionView R → DispositionModel → List (DispositionQuestion R) →
+    Result (Option (List DispositionModel)) SessionInnerError → SessionView R → Type 0
 TakeDispositionStep gives v d asked (Ok None) w =
     (d.settled ≡ true) × AsksEach gives d (meant d (rows_of d v)) asked v.links w.links
     × (w ≡ record v { links = w.links; deliveries = with_role d.role (not_meant d (rows_of d v)) v.deliveries })
@@ -159,7 +159,7 @@ TakeDispositionStep gives v d asked (Err e) w = ⊥
 
 -- how much of a role's records the call may have read: a turn for each one meant and one more, and as many numbers as the length
 -- of the table has binary digits, and one more; nothing for a backward range
-pub record IsBounded {X : Type 0} (d : DispositionSaid) (rows : List Delivery) (result : Result X SessionInnerError)
+pub record IsBounded {X : Type 0} (d : DispositionModel) (rows : List Delivery) (result : Result X SessionInnerError)
     (walk : WalkCount) : Type 0 where
   pub turns : walk.turns ≤ length (meant d rows) + 1
   pub each_read : OnOk result (length (meant d rows) ≤ walk.turns)
@@ -168,7 +168,7 @@ pub record IsBounded {X : Type 0} (d : DispositionSaid) (rows : List Delivery) (
 
 -- ---- a disposition goes out
 
-abbrev pub disposition_frame : {R : Type 0} → SessionView R → DispositionSaid → SessionFrame
+abbrev pub disposition_frame : {R : Type 0} → SessionView R → DispositionModel → SessionFrame
 disposition_frame v d = record { channel = v.outgoing_channel; body = Body.Disposition d }
 
 -- its state is terminal (part 3, section 3.4)
@@ -181,7 +181,7 @@ abbrev pub widened : ℕ → Receiving → Receiving
 widened n r = record r { remote_outgoing_window = min (r.remote_outgoing_window + n) 4294967295 }
 
 -- A terminal state opens the remote outgoing window again, by the messages that the disposition settles.
-abbrev pub SendDispositionStep : {R : Type 0} → SessionView R → DispositionSaid → Bool → SessionFrame → SessionView R → Type 0
+abbrev pub SendDispositionStep : {R : Type 0} → SessionView R → DispositionModel → Bool → SessionFrame → SessionView R → Type 0
 SendDispositionStep v d terminal frame w =
     (IsTrue terminal ↔ HasTerminal d.state) × (frame ≡ disposition_frame v d)
     × (w ≡ record v { receiving = if terminal then widened (num_messages d.first d.last) v.receiving else v.receiving })

@@ -1,14 +1,14 @@
 -- Part: the promise; every call exactly; other calls.
 -- The history of one session: its calls with their arguments, answers and questions to relays, the oldest first.
 use Rattle.std.specs.Prelude.{◌≡◌, ◌<◌, ◌^◌, ℕ, Bool, List, [], ◌∷◌, Option, Result}
-use Rattle.amqp_types.specs.Error.{ErrorSaid}
-use Rattle.amqp_types.specs.Begin.{BeginSaid}
-use Rattle.amqp_types.specs.End.{EndSaid}
-use Rattle.amqp_types.specs.Attach.{AttachSaid}
-use Rattle.amqp_types.specs.Flow.{FlowSaid}
-use Rattle.amqp_types.specs.Transfer.{TransferSaid}
-use Rattle.amqp_types.specs.Disposition.{DispositionSaid}
-use Rattle.amqp_types.specs.Detach.{DetachSaid}
+use Rattle.amqp_types.specs.Error.{ErrorModel}
+use Rattle.amqp_types.specs.Begin.{BeginModel}
+use Rattle.amqp_types.specs.End.{EndModel}
+use Rattle.amqp_types.specs.Attach.{AttachModel}
+use Rattle.amqp_types.specs.Flow.{FlowModel}
+use Rattle.amqp_types.specs.Transfer.{TransferModel}
+use Rattle.amqp_types.specs.Disposition.{DispositionModel}
+use Rattle.amqp_types.specs.Detach.{DetachModel}
 use Rattle.amqp_types.specs.declared.definitions.Role.{Role}
 use Rattle.amqp_types.specs.declared.states.SessionState.{SessionState}
 use Rattle.amqp_session.specs.declared.numbers.InputHandle.{InputHandle}
@@ -21,7 +21,7 @@ use Rattle.amqp_session.specs.declared.stop.SessionStopReason.{SessionStopReason
 use Rattle.amqp_session.specs.declared.error.SessionStateError.{SessionStateError}
 use Rattle.amqp_session.specs.declared.error.SessionInnerError.{SessionInnerError}
 use Rattle.amqp_session.specs.declared.error.AllocLinkError.{AllocLinkError}
-use Rattle.amqp_session.specs.Settings.{SettingsSaid}
+use Rattle.amqp_session.specs.Settings.{SettingsModel}
 use Rattle.amqp_session.specs.Transfers.{RequestedTransfer}
 use Rattle.amqp_session.specs.Relay.{Relays, AttachQuestion, FlowQuestion, TransferQuestion, DispositionQuestion, DetachQuestion}
 use Rattle.amqp_session.specs.Session.{SessionView, new_session}
@@ -35,22 +35,22 @@ use Rattle.amqp_session.specs.Disposing.{TakeDispositionStep, SendDispositionSte
 -- its state is terminal.
 pub data Entry (R : Type 0) : Type 0 where
   SendsBegin : Result SessionFrame SessionStateError → Entry R
-  SendsEnd : Option ErrorSaid → Result SessionFrame SessionStateError → Entry R
-  TakesBegin : ℕ → BeginSaid → Result (Unit {0}) SessionStateError → Entry R
-  TakesEnd : ℕ → EndSaid → Result (Unit {0}) SessionStateError → Entry R
+  SendsEnd : Option ErrorModel → Result SessionFrame SessionStateError → Entry R
+  TakesBegin : ℕ → BeginModel → Result (Unit {0}) SessionStateError → Entry R
+  TakesEnd : ℕ → EndModel → Result (Unit {0}) SessionStateError → Entry R
   AllocatesLink : List ℕ → Option R → Result OutputHandle AllocLinkError → Entry R
   AllocatesIncomingLink : List ℕ → R → InputHandle → Result OutputHandle AllocLinkError → Entry R
   DeallocatesLink : OutputHandle → Bool → Entry R
-  TakesAttach : AttachSaid → Option (AttachQuestion R) → Result (Unit {0}) SessionInnerError → Entry R
-  TakesFlow : FlowSaid → Option (FlowQuestion R) → Result (Option SessionOutgoingItem) SessionInnerError → Entry R
-  TakesTransfer : TransferSaid → List ℕ → Option (TransferQuestion R) → Result (Option DispositionSaid) SessionInnerError → Entry R
-  TakesDisposition : DispositionSaid → List (DispositionQuestion R) → Result (Option (List DispositionSaid)) SessionInnerError → Entry R
-  TakesDetach : DetachSaid → Option (DetachQuestion R) → Result (Option DetachSaid) SessionInnerError → Entry R
-  SendsAttach : AttachSaid → SessionFrame → Entry R
+  TakesAttach : AttachModel → Option (AttachQuestion R) → Result (Unit {0}) SessionInnerError → Entry R
+  TakesFlow : FlowModel → Option (FlowQuestion R) → Result (Option SessionOutgoingItem) SessionInnerError → Entry R
+  TakesTransfer : TransferModel → List ℕ → Option (TransferQuestion R) → Result (Option DispositionModel) SessionInnerError → Entry R
+  TakesDisposition : DispositionModel → List (DispositionQuestion R) → Result (Option (List DispositionModel)) SessionInnerError → Entry R
+  TakesDetach : DetachModel → Option (DetachQuestion R) → Result (Option DetachModel) SessionInnerError → Entry R
+  SendsAttach : AttachModel → SessionFrame → Entry R
   SendsFlow : LinkFlow → SessionFrame → Entry R
   SendsTransfer : RequestedTransfer → Result (Option SessionOutgoingItem) SessionInnerError → Entry R
-  SendsDisposition : DispositionSaid → Bool → SessionFrame → Entry R
-  SendsDetach : DetachSaid → Bool → Result (Option SessionFrame) SessionInnerError → Entry R
+  SendsDisposition : DispositionModel → Bool → SessionFrame → Entry R
+  SendsDetach : DetachModel → Bool → Result (Option SessionFrame) SessionInnerError → Entry R
   SendsSessionFlow : Option SessionOutgoingItem → Entry R
   RecordsStop : SessionStopReason → Entry R
   Settles : Role → ℕ → Option ℕ → ℕ → Entry R
@@ -84,7 +84,7 @@ Chain g v (e ∷ es) w = (m : SessionView _) × Step g v e m × Chain g m es w
 
 -- What a session is made with.
 pub record Made : Type 0 where
-  pub settings : SettingsSaid
+  pub settings : SettingsModel
   pub channel : ℕ
   pub state : SessionState
   pub stop : Option ConnectionStopReason

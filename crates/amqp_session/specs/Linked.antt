@@ -3,7 +3,7 @@
 -- each input handle (AMQP 1.0 part 2, sections 2.6.1 to 2.6.6).
 use Rattle.std.specs.Prelude.{◌≡◌, ◌↔◌, ℕ, Bool, if◌then◌else◌, nat_eq, bytes_eq, List, [], ◌∷◌, ◌++◌, Option, Some, None, Ok, Err, true}
 use Rattle.std.specs.Prelude.{false}
-use Rattle.amqp_types.specs.Detach.{DetachSaid}
+use Rattle.amqp_types.specs.Detach.{DetachModel}
 use Rattle.amqp_session.specs.declared.frame.SessionFrame.{SessionFrame}
 use Rattle.amqp_session.specs.declared.link.LiveLink.{LiveLink}
 use Rattle.amqp_session.specs.declared.link.AttachedLink.{AttachedLink}
@@ -158,8 +158,8 @@ allots k e = false
 -- A detach of this side that the peer is to answer goes out at most once for each allotment of its output handle: the handle was
 -- allotted before the first one, and again between any two.
 pub record AwaitedOnce {R : Type 0} (H : List (Entry R)) : Type 0 where
-  pub allotted : (before after : List (Entry R)) (d : DetachSaid) (f : SessionFrame) →
+  pub allotted : (before after : List (Entry R)) (d : DetachModel) (f : SessionFrame) →
       H ≡ before ++ SendsDetach d true (Ok (Some f)) ∷ after → has_kind (allots d.handle) before ≡ true
-  pub again : (before between after : List (Entry R)) (d e : DetachSaid) (f g : SessionFrame) →
+  pub again : (before between after : List (Entry R)) (d e : DetachModel) (f g : SessionFrame) →
       H ≡ before ++ SendsDetach d true (Ok (Some f)) ∷ (between ++ SendsDetach e true (Ok (Some g)) ∷ after) →
       d.handle ≡ e.handle → has_kind (allots d.handle) between ≡ true

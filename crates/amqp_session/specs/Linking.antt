@@ -3,8 +3,8 @@
 -- (AMQP 1.0 part 2, sections 2.6.2 to 2.6.6).
 use Rattle.std.specs.Prelude.{◌≡◌, ◌<◌, ◌^◌, ℕ, Bool, true, false, not, if◌then◌else◌, List, Option, Some, None, Result, Ok, Err, IsSome}
 use Rattle.std.specs.FinMap as map
-use Rattle.amqp_types.specs.Attach.{AttachSaid}
-use Rattle.amqp_types.specs.Detach.{DetachSaid}
+use Rattle.amqp_types.specs.Attach.{AttachModel}
+use Rattle.amqp_types.specs.Detach.{DetachModel}
 use Rattle.amqp_types.specs.declared.states.SessionState.{SessionState}
 use Rattle.amqp_types.specs.declared.states.SessionState.TheVariants.{Unmapped, BeginSent, BeginReceived, Mapped, EndSent, EndReceived}
 use Rattle.amqp_types.specs.declared.states.SessionState.TheVariants.{Discarding}
@@ -140,10 +140,10 @@ DeallocateStep v h was w = Releases v.links h.0 was w.links × (w ≡ record v {
 
 -- ---- attach
 
-abbrev pub attach_frame : {R : Type 0} → SessionView R → AttachSaid → SessionFrame
+abbrev pub attach_frame : {R : Type 0} → SessionView R → AttachModel → SessionFrame
 attach_frame v a = record { channel = v.outgoing_channel; body = Body.Attach a }
 
-abbrev pub SendAttachStep : {R : Type 0} → SessionView R → AttachSaid → SessionFrame → SessionView R → Type 0
+abbrev pub SendAttachStep : {R : Type 0} → SessionView R → AttachModel → SessionFrame → SessionView R → Type 0
 SendAttachStep v a frame w = (frame ≡ attach_frame v a) × (w ≡ v)
 
 -- a relay waits for the link
@@ -160,7 +160,7 @@ AttachLeaves handle after (Err e) (Err x) new = (x ≡ e) × (new ≡ record { h
 AttachLeaves handle after (Ok u) (Err x) new = ⊥
 AttachLeaves handle after (Err e) (Ok link) new = ⊥
 
-pub record WaitAsked {R : Type 0} (gives : AttachGives R) (old : LiveLink R) (a : AttachSaid)
+pub record WaitAsked {R : Type 0} (gives : AttachGives R) (old : LiveLink R) (a : AttachModel)
     (result : Result (AttachedLink R) LinkRelayError) (new : LiveLink R) : Type 0 where
   pub before : R
   pub after : R
@@ -170,7 +170,7 @@ pub record WaitAsked {R : Type 0} (gives : AttachGives R) (old : LiveLink R) (a 
   pub leaves : AttachLeaves old.handle after answer result new
 
 -- the same, of the link of the attach's name
-pub record AttachAsked {R : Type 0} (gives : AttachGives R) (names : Names R) (a : AttachSaid)
+pub record AttachAsked {R : Type 0} (gives : AttachGives R) (names : Names R) (a : AttachModel)
     (result : Result (AttachedLink R) LinkRelayError) (new : Names R) : Type 0 where
   pub old : LiveLink R
   pub left : LiveLink R
@@ -186,7 +186,7 @@ AttachRefused (Some n) Refused.OutOfMemory = IsSome n.waiting
 AttachRefused n e = ⊥
 
 -- what follows from the relay's answer: it is put under the input handle, or goes on to wait
-abbrev pub AttachAnswered : {R : Type 0} → LinksView R → AttachSaid → AttachQuestion R → Result (Unit {0}) LinkRelayError →
+abbrev pub AttachAnswered : {R : Type 0} → LinksView R → AttachModel → AttachQuestion R → Result (Unit {0}) LinkRelayError →
     Result (Unit {0}) SessionInnerError → LinksView R → Type 0
 AttachAnswered l a q (Ok u) (Ok r) new =
     new ≡ put_at a.handle (goes_on q) (record l { names = map.insert l.names a.name (record { handle = q.handle; waiting = None }) })
@@ -195,7 +195,7 @@ AttachAnswered l a q (Err e) (Err x) new =
 AttachAnswered l a q (Ok u) (Err x) new = ⊥
 AttachAnswered l a q (Err e) (Ok r) new = ⊥
 
-abbrev pub Attaches : {R : Type 0} → AttachGives R → LinksView R → AttachSaid → Option (AttachQuestion R) →
+abbrev pub Attaches : {R : Type 0} → AttachGives R → LinksView R → AttachModel → Option (AttachQuestion R) →
     Result (Unit {0}) SessionInnerError → LinksView R → Type 0
 Attaches gives l a None (Ok u) new = ⊥
 Attaches gives l a None (Err e) new = AttachRefused (named_at a.name l) e × (new ≡ l)
@@ -203,13 +203,13 @@ Attaches gives l a (Some q) result new =
     (q.asked ≡ a) × (named_at a.name l ≡ Some (record { handle = q.handle; waiting = Some q.before })) × gives q.before a q.answer q.after
     × AttachAnswered l a q q.answer result new
 
-abbrev pub TakeAttachStep : {R : Type 0} → AttachGives R → SessionView R → AttachSaid → Option (AttachQuestion R) →
+abbrev pub TakeAttachStep : {R : Type 0} → AttachGives R → SessionView R → AttachModel → Option (AttachQuestion R) →
     Result (Unit {0}) SessionInnerError → SessionView R → Type 0
 TakeAttachStep gives v a asked result w = Attaches gives v.links a asked result w.links × (w ≡ record v { links = w.links })
 
 -- ---- detach
 
-abbrev pub detach_frame : {R : Type 0} → SessionView R → DetachSaid → SessionFrame
+abbrev pub detach_frame : {R : Type 0} → SessionView R → DetachModel → SessionFrame
 detach_frame v d = record { channel = v.outgoing_channel; body = Body.Detach d }
 
 -- A detach of this side that the peer is to answer leaves the handle of its live link awaited, and goes out for a live link alone.
@@ -220,7 +220,7 @@ Leaves l h true false new = (name_at h l ≡ None) × (new ≡ l)
 Leaves l h false true new = (was : Bool) × Releases l h was new
 Leaves l h false false new = ⊥
 
-abbrev pub SendDetachStep : {R : Type 0} → SessionView R → DetachSaid → Bool → Result (Option SessionFrame) SessionInnerError →
+abbrev pub SendDetachStep : {R : Type 0} → SessionView R → DetachModel → Bool → Result (Option SessionFrame) SessionInnerError →
     SessionView R → Type 0
 SendDetachStep v d expects_echo (Ok (Some frame)) w =
     (frame ≡ detach_frame v d) × Leaves v.links d.handle expects_echo true w.links × (w ≡ record v { links = w.links })
@@ -233,14 +233,14 @@ dropped input h l = record l { handles = if awaits h l then map.remove l.handles
 
 -- An input handle that is not attached is passed over. Else the relay is told whether the peer began the detach: it did where no
 -- own detach is awaited. The relay's answer is handed back.
-abbrev pub Detaches : {R : Type 0} → DetachGives R → LinksView R → DetachSaid → Option (DetachQuestion R) → Option DetachSaid →
+abbrev pub Detaches : {R : Type 0} → DetachGives R → LinksView R → DetachModel → Option (DetachQuestion R) → Option DetachModel →
     LinksView R → Type 0
 Detaches gives l d None answer new = (attached_at d.handle l ≡ None) × (answer ≡ None) × (new ≡ l)
 Detaches gives l d (Some q) answer new =
     (q.asked ≡ (d, not (awaits q.handle.0 l))) × Asks (of_detach gives) (attached_at d.handle l) q × (answer ≡ q.answer)
     × (new ≡ dropped d.handle q.handle.0 l)
 
-abbrev pub TakeDetachStep : {R : Type 0} → DetachGives R → SessionView R → DetachSaid → Option (DetachQuestion R) →
-    Result (Option DetachSaid) SessionInnerError → SessionView R → Type 0
+abbrev pub TakeDetachStep : {R : Type 0} → DetachGives R → SessionView R → DetachModel → Option (DetachQuestion R) →
+    Result (Option DetachModel) SessionInnerError → SessionView R → Type 0
 TakeDetachStep gives v d asked (Ok answer) w = Detaches gives v.links d asked answer w.links × (w ≡ record v { links = w.links })
 TakeDetachStep gives v d asked (Err e) w = ⊥

@@ -3,11 +3,11 @@
 -- sections 2.5 and 2.5.6).
 use Rattle.std.specs.Prelude.{◌≡◌, ◌≤◌, ◌+◌, ◌-◌, ◌⊎◌, ℕ, true, false, List, [], ◌∷◌, ◌++◌, length}
 use Rattle.std.specs.Prelude.{Option, None, IsSome, Result, Ok, Err}
-use Rattle.amqp_types.specs.Attach.{AttachSaid}
-use Rattle.amqp_types.specs.Begin.{BeginSaid}
-use Rattle.amqp_types.specs.Flow.{FlowSaid}
-use Rattle.amqp_types.specs.Transfer.{TransferSaid}
-use Rattle.amqp_types.specs.Disposition.{DispositionSaid}
+use Rattle.amqp_types.specs.Attach.{AttachModel}
+use Rattle.amqp_types.specs.Begin.{BeginModel}
+use Rattle.amqp_types.specs.Flow.{FlowModel}
+use Rattle.amqp_types.specs.Transfer.{TransferModel}
+use Rattle.amqp_types.specs.Disposition.{DispositionModel}
 use Rattle.amqp_types.specs.declared.states.SessionState.TheVariants.{Unmapped, Mapped}
 use Rattle.amqp_session.specs.declared.error.AllocLinkError.{AllocLinkError}
 use Rattle.amqp_session.specs.declared.error.SessionInnerError.{SessionInnerError}
@@ -22,7 +22,7 @@ use Rattle.amqp_session.specs.declared.numbers.OutputHandle.{OutputHandle}
 use Rattle.amqp_session.specs.declared.pair.Side.{Side}
 use Rattle.amqp_session.specs.declared.pair.Side.TheVariants.{A, B}
 use Rattle.amqp_session.specs.Errors.{inner_of_state}
-use Rattle.amqp_session.specs.Settings.{SettingsSaid}
+use Rattle.amqp_session.specs.Settings.{SettingsModel}
 use Rattle.amqp_session.specs.States.{is_mapped, sends_begin}
 use Rattle.amqp_session.specs.Step.{IsUntagged}
 use Rattle.amqp_session.specs.Serial.{past}
@@ -42,7 +42,7 @@ pub record PairView (R : Type 0) : Type 0 where
   pub to_b : List SessionFrame  -- on the way to b
 
 -- no Begin was sent, and nothing is on the way
-abbrev pub new_pair : {R : Type 0} → SettingsSaid → SettingsSaid → PairView R
+abbrev pub new_pair : {R : Type 0} → SettingsModel → SettingsModel → PairView R
 new_pair s t = record { a = new_session s 0 Unmapped None; b = new_session t 0 Unmapped None; to_a = []; to_b = [] }
 
 -- the session of a side, and the frames on the way to it
@@ -123,18 +123,18 @@ TransferAt g h v going result w going' =
 
 -- ---- what a session does with the first frame on the way to it
 
-pub record BeginIsTaken {R : Type 0} (g : Relays R) (channel : ℕ) (b : BeginSaid) (v : SessionView R) (going : List SessionFrame)
+pub record BeginIsTaken {R : Type 0} (g : Relays R) (channel : ℕ) (b : BeginModel) (v : SessionView R) (going : List SessionFrame)
     (result : Said) (w : SessionView R) (going' : List SessionFrame) : Type 0 where
   pub answer : Result (Unit {0}) SessionStateError
   pub makes : Makes g v going (TakesBegin channel b answer) w going'
   pub says : result ≡ answer_of_state answer
 
-pub record AttachIsTaken {R : Type 0} (g : Relays R) (a : AttachSaid) (v : SessionView R) (going : List SessionFrame)
+pub record AttachIsTaken {R : Type 0} (g : Relays R) (a : AttachModel) (v : SessionView R) (going : List SessionFrame)
     (result : Said) (w : SessionView R) (going' : List SessionFrame) : Type 0 where
   pub asked : Option (AttachQuestion R)
   pub makes : Makes g v going (TakesAttach a asked result) w going'
 
-pub record FlowIsTaken {R : Type 0} (g : Relays R) (f : FlowSaid) (v : SessionView R) (going : List SessionFrame)
+pub record FlowIsTaken {R : Type 0} (g : Relays R) (f : FlowModel) (v : SessionView R) (going : List SessionFrame)
     (result : Said) (w : SessionView R) (going' : List SessionFrame) : Type 0 where
   pub asked : Option (FlowQuestion R)
   pub item : Result (Option SessionOutgoingItem) SessionInnerError
@@ -143,14 +143,14 @@ pub record FlowIsTaken {R : Type 0} (g : Relays R) (f : FlowSaid) (v : SessionVi
 
 -- after an accepted transfer a session flow is asked for
 abbrev pub FlowFollows : {R : Type 0} → Relays R → SessionView R → List SessionFrame →
-    Result (Option DispositionSaid) SessionInnerError → SessionView R → List SessionFrame → Type 0
+    Result (Option DispositionModel) SessionInnerError → SessionView R → List SessionFrame → Type 0
 FlowFollows g v going (Ok reply) w going' = (flow : Option SessionOutgoingItem) × Makes g v going (SendsSessionFlow flow) w going'
 FlowFollows g v going (Err e) w going' = Stays v going w going'
 
-pub record TransferIsTaken {R : Type 0} (g : Relays R) (t : TransferSaid) (payload : List ℕ) (v : SessionView R)
+pub record TransferIsTaken {R : Type 0} (g : Relays R) (t : TransferModel) (payload : List ℕ) (v : SessionView R)
     (going : List SessionFrame) (result : Said) (w : SessionView R) (going' : List SessionFrame) : Type 0 where
   pub asked : Option (TransferQuestion R)
-  pub reply : Result (Option DispositionSaid) SessionInnerError
+  pub reply : Result (Option DispositionModel) SessionInnerError
   pub counted : SessionView R
   pub takes : Step g v (TakesTransfer t payload asked reply) counted
   pub follows : FlowFollows g counted going reply w going'
@@ -205,7 +205,7 @@ AllocateLinkStep g B name relay handle p q =
 abbrev pub BeginStep : {R : Type 0} → Relays R → Side → Said → PairView R → PairView R → Type 0
 BeginStep g side result p q = Acts side (BeginAt g) result p q
 
-abbrev pub AttachStep : {R : Type 0} → Relays R → Side → AttachSaid → Said → PairView R → PairView R → Type 0
+abbrev pub AttachStep : {R : Type 0} → Relays R → Side → AttachModel → Said → PairView R → PairView R → Type 0
 AttachStep g side a result p q = Acts side (λ v. FrameAt g (SendsAttach a (attach_frame v a)) v) result p q
 
 abbrev pub FlowStep : {R : Type 0} → Relays R → Side → LinkFlow → Said → PairView R → PairView R → Type 0

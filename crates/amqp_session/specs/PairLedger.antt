@@ -8,7 +8,7 @@ use Rattle.amqp_types.specs.declared.states.SessionState.TheVariants.{EndSent, E
 use Rattle.amqp_session.specs.declared.frame.SessionFrame.{SessionFrame}
 use Rattle.amqp_session.specs.declared.frame.SessionFrameBody.{SessionFrameBody}
 use Rattle.amqp_session.specs.declared.frame.SessionFrameBody.TheVariants as Body
-use Rattle.amqp_session.specs.Settings.{SettingsSaid}
+use Rattle.amqp_session.specs.Settings.{SettingsModel}
 use Rattle.amqp_session.specs.Session.{SessionView}
 
 -- a Begin of this session went out, and the session did not end
@@ -69,7 +69,7 @@ Leads s p (f ∷ L) q = (m : Place) × Moves s p f.body m × Leads s m L q
 -- what is read of a session here
 pub record Core : Type 0 where
   pub state : SessionState
-  pub settings : SettingsSaid
+  pub settings : SettingsModel
   pub next : ℕ  -- the next outgoing id
   pub window : ℕ  -- the remote incoming window
   pub incoming : ℕ  -- the next incoming id
@@ -87,7 +87,7 @@ core v = record {
 
 -- A session's numbers go with the place to which it has put its run, and the place to which it has taken the other's: what it sent
 -- and may still send is what the other offered, and the other's window.
-pub record Keeps (v : Core) (put taken : Place) (other : SettingsSaid) : Type 0 where
+pub record Keeps (v : Core) (put taken : Place) (other : SettingsModel) : Type 0 where
   pub begun_is : put.begun ≡ has_begun v.state
   pub received_is : taken.begun ≡ has_received v.state
   pub next_is : v.next ≡ (v.settings.next_outgoing_id + put.sent) % 2 ^ 32
@@ -97,7 +97,7 @@ pub record Keeps (v : Core) (put taken : Place) (other : SettingsSaid) : Type 0 
   pub offers : put.offered ≤ taken.sent
   pub count_is : min (taken.sent - put.offered) 4294967295 ≤ v.count
 
-abbrev pub run_of : Core → SettingsSaid → RunOf
+abbrev pub run_of : Core → SettingsModel → RunOf
 run_of v other = record {
   received_begin = has_received v.state;
   first = v.settings.next_outgoing_id;
@@ -106,7 +106,7 @@ run_of v other = record {
 }
 
 -- its first number and its window are of four bytes
-abbrev pub FitsSettings : SettingsSaid → Type 0
+abbrev pub FitsSettings : SettingsModel → Type 0
 FitsSettings s = (s.next_outgoing_id < 2 ^ 32) × (s.incoming_window < 2 ^ 32)
 
 pub record Ledger (a b : Core) (to_a to_b : List SessionFrame) (put_a taken_a put_b taken_b : Place) : Type 0 where

@@ -7,7 +7,7 @@ use Rattle.amqp_session.specs.declared.frame.SessionFrameBody.{SessionFrameBody}
 use Rattle.amqp_session.specs.declared.frame.SessionFrameBody.TheVariants as Body
 use Rattle.amqp_session.specs.declared.pair.Side.{Side}
 use Rattle.amqp_session.specs.declared.pair.Side.TheVariants.{A, B}
-use Rattle.amqp_session.specs.Settings.{SettingsSaid}
+use Rattle.amqp_session.specs.Settings.{SettingsModel}
 use Rattle.amqp_session.specs.Relay.{Relays}
 use Rattle.amqp_session.specs.Session.{SessionView}
 use Rattle.amqp_session.specs.OutgoingFrames.{calls_frames}
@@ -74,9 +74,9 @@ pub record ArrivesInOrder {R : Type 0} (H : List (PairCall R)) (p : PairView R) 
   pub to_a : bodies (calls_frames (calls_by B H)) ≡ received (calls_by A H) ++ bodies p.to_a
 
 -- a session of a new pair, as its history begins
-abbrev pub of_pair : SettingsSaid → Made
+abbrev pub of_pair : SettingsModel → Made
 of_pair s = record { settings = s; channel = 0; state = Unmapped; stop = None }
 
 -- the calls of each side's session are a history of it
-abbrev pub AreHistories : {R : Type 0} → Relays R → SettingsSaid → SettingsSaid → List (PairCall R) → PairView R → Type 0
+abbrev pub AreHistories : {R : Type 0} → Relays R → SettingsModel → SettingsModel → List (PairCall R) → PairView R → Type 0
 AreHistories g s t H p = LeadsTo g (of_pair s) (calls_by A H) p.a × LeadsTo g (of_pair t) (calls_by B H) p.b

@@ -1,8 +1,8 @@
 -- Part: every call exactly; other calls.
 -- What contracts see of a session, and the frames that it makes (AMQP 1.0 part 2, sections 2.5 and 2.7).
 use Rattle.std.specs.Prelude.{ℕ, List, [], Option, Some, None, Bool, false, if◌then◌else◌, ◌/◌, nat_le}
-use Rattle.amqp_types.specs.Error.{ErrorSaid}
-use Rattle.amqp_types.specs.Flow.{FlowSaid}
+use Rattle.amqp_types.specs.Error.{ErrorModel}
+use Rattle.amqp_types.specs.Flow.{FlowModel}
 use Rattle.amqp_types.specs.declared.states.SessionState.{SessionState}
 use Rattle.amqp_session.specs.declared.deliveries.WalkCount.{WalkCount}
 use Rattle.amqp_session.specs.declared.flow.LinkFlow.{LinkFlow}
@@ -11,7 +11,7 @@ use Rattle.amqp_session.specs.declared.frame.SessionFrameBody.TheVariants as Bod
 use Rattle.amqp_session.specs.declared.session.receiving.Receiving.{Receiving}
 use Rattle.amqp_session.specs.declared.stop.ConnectionStopReason.{ConnectionStopReason}
 use Rattle.amqp_session.specs.declared.stop.SessionStopReason.{SessionStopReason}
-use Rattle.amqp_session.specs.Settings.{SettingsSaid, begin_of}
+use Rattle.amqp_session.specs.Settings.{SettingsModel, begin_of}
 use Rattle.amqp_session.specs.States.{is_mapped}
 use Rattle.amqp_session.specs.Sending.{SendingView, new_sending, let_out, opened_by, drained}
 use Rattle.amqp_session.specs.Receiving.{nothing_received}
@@ -20,7 +20,7 @@ use Rattle.amqp_session.specs.Links.{LinksView, no_links}
 
 pub record SessionView (R : Type 0) : Type 0 where
   pub state : SessionState
-  pub settings : SettingsSaid
+  pub settings : SettingsModel
   pub outgoing_channel : ℕ
   pub incoming_channel : Option ℕ  -- that of the Begin that was received
   pub connection_stop : Option ConnectionStopReason
@@ -37,7 +37,7 @@ pub record Observed (R : Type 0) : Type 0 where
   pub last_walk : WalkCount
   pub reads : OpenReads
 
-abbrev pub new_session : {R : Type 0} → SettingsSaid → ℕ → SessionState → Option ConnectionStopReason → SessionView R
+abbrev pub new_session : {R : Type 0} → SettingsModel → ℕ → SessionState → Option ConnectionStopReason → SessionView R
 new_session settings channel state stop = record {
   state = state;
   settings = settings;
@@ -59,11 +59,11 @@ begin_frame v = record {
 }
 
 -- the End that is sent (section 2.7.8)
-abbrev pub end_frame : {R : Type 0} → SessionView R → Option ErrorSaid → SessionFrame
+abbrev pub end_frame : {R : Type 0} → SessionView R → Option ErrorModel → SessionFrame
 end_frame v error = record { channel = v.outgoing_channel; body = Body.End (record { error = error }) }
 
 -- a Flow that speaks of the session alone (section 2.7.4)
-abbrev pub session_flow : {R : Type 0} → SessionView R → FlowSaid
+abbrev pub session_flow : {R : Type 0} → SessionView R → FlowModel
 session_flow v = record {
   next_incoming_id = Some v.receiving.next_incoming_id;
   incoming_window = v.settings.incoming_window;

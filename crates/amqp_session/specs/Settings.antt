@@ -1,9 +1,9 @@
 -- Part: the promise; every call exactly; other calls.
 -- What a session begins with (AMQP 1.0 part 2, section 2.7.2).
 use Rattle.std.specs.Prelude.{ℕ, List, Option, None}
-use Rattle.amqp_types.specs.Begin.{BeginSaid}
+use Rattle.amqp_types.specs.Begin.{BeginModel}
 
-pub record SettingsSaid : Type 0 where
+pub record SettingsModel : Type 0 where
   pub next_outgoing_id : ℕ
   pub incoming_window : ℕ
   pub outgoing_window : ℕ
@@ -12,7 +12,7 @@ pub record SettingsSaid : Type 0 where
   pub desired_capabilities : Option (List (List ℕ))
   pub properties : Option (List ℕ)
 
-abbrev pub default_settings : SettingsSaid
+abbrev pub default_settings : SettingsModel
 default_settings = record {
   next_outgoing_id = 0;
   incoming_window = 5000;
@@ -24,7 +24,7 @@ default_settings = record {
 }
 
 -- the Begin that names them, the channel of the Begin that it answers, and the number of the next transfer
-abbrev pub begin_of : SettingsSaid → Option ℕ → ℕ → BeginSaid
+abbrev pub begin_of : SettingsModel → Option ℕ → ℕ → BeginModel
 begin_of s remote_channel next_outgoing_id = record {
   remote_channel = remote_channel;
   next_outgoing_id = next_outgoing_id;

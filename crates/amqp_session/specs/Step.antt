@@ -5,12 +5,12 @@ use Rattle.std.specs.Prelude.{◌≡◌, ◌<◌, ◌^◌, ◌⊎◌, ℕ, Bool,
 use Rattle.std.specs.Prelude.{unwrap_or}
 use Rattle.std.specs.Option.{option_map}
 use Rattle.amqp_types.specs.declared.definitions.DeliveryTag.{DeliveryTag}
-use Rattle.amqp_types.specs.Error.{ErrorSaid}
-use Rattle.amqp_types.specs.Begin.{BeginSaid}
-use Rattle.amqp_types.specs.End.{EndSaid}
-use Rattle.amqp_types.specs.Flow.{FlowSaid}
-use Rattle.amqp_types.specs.Transfer.{TransferSaid}
-use Rattle.amqp_types.specs.Disposition.{DispositionSaid}
+use Rattle.amqp_types.specs.Error.{ErrorModel}
+use Rattle.amqp_types.specs.Begin.{BeginModel}
+use Rattle.amqp_types.specs.End.{EndModel}
+use Rattle.amqp_types.specs.Flow.{FlowModel}
+use Rattle.amqp_types.specs.Transfer.{TransferModel}
+use Rattle.amqp_types.specs.Disposition.{DispositionModel}
 use Rattle.amqp_session.specs.declared.deliveries.Delivery.{Delivery}
 use Rattle.amqp_session.specs.declared.flow.LinkFlow.{LinkFlow}
 use Rattle.amqp_session.specs.declared.frame.SessionFrame.{SessionFrame}
@@ -37,7 +37,7 @@ use Rattle.amqp_session.specs.Session.{SessionView, begin_frame, end_frame, flow
 
 -- ---- small tests
 
-abbrev pub has_error : Option ErrorSaid → Bool
+abbrev pub has_error : Option ErrorModel → Bool
 has_error None = false
 has_error (Some e) = true
 
@@ -59,7 +59,7 @@ SendBeginStep v (Err Begins.RemoteEnded) w = ⊥
 SendBeginStep v (Err (Begins.RemoteEndedWithError e)) w = ⊥
 SendBeginStep v (Err (Begins.ConnectionStopped r)) w = ⊥
 
-abbrev pub SendEndStep : {R : Type 0} → SessionView R → Option ErrorSaid → Result SessionFrame SessionStateError → SessionView R → Type 0
+abbrev pub SendEndStep : {R : Type 0} → SessionView R → Option ErrorModel → Result SessionFrame SessionStateError → SessionView R → Type 0
 SendEndStep v error (Ok frame) w =
     (sends_end (has_error error) v.state ≡ Some w.state) × (frame ≡ end_frame v error) × (w ≡ record v { state = w.state })
 SendEndStep v error (Err Begins.IllegalState) w = (sends_end (has_error error) v.state ≡ None) × (w ≡ v)
@@ -69,7 +69,7 @@ SendEndStep v error (Err (Begins.RemoteEndedWithError e)) w = ⊥
 SendEndStep v error (Err (Begins.ConnectionStopped r)) w = ⊥
 
 -- A Begin of the peer gives the windows and its next number; its channel is kept for the Begin that answers it.
-abbrev pub begun_by : {R : Type 0} → SessionView R → ℕ → BeginSaid → SessionView R
+abbrev pub begun_by : {R : Type 0} → SessionView R → ℕ → BeginModel → SessionView R
 begun_by v channel b = record v {
   incoming_channel = Some channel;
   sending = begun v.sending b.incoming_window;
@@ -77,12 +77,12 @@ begun_by v channel b = record v {
 }
 
 -- the numbers of a Begin are of four bytes
-pub record BeginFits (b : BeginSaid) : Type 0 where
+pub record BeginFits (b : BeginModel) : Type 0 where
   pub incoming_window : b.incoming_window < 2 ^ 32
   pub next_outgoing_id : b.next_outgoing_id < 2 ^ 32
   pub outgoing_window : b.outgoing_window < 2 ^ 32
 
-abbrev pub TakeBeginStep : {R : Type 0} → SessionView R → ℕ → BeginSaid → Result (Unit {0}) SessionStateError → SessionView R → Type 0
+abbrev pub TakeBeginStep : {R : Type 0} → SessionView R → ℕ → BeginModel → Result (Unit {0}) SessionStateError → SessionView R → Type 0
 TakeBeginStep v channel b (Ok u) w =
     (takes_begin v.state ≡ Some w.state) × BeginFits b × (w ≡ record (begun_by v channel b) { state = w.state })
 TakeBeginStep v channel b (Err Begins.IllegalState) w = (takes_begin v.state ≡ None) × (w ≡ v)
@@ -93,7 +93,7 @@ TakeBeginStep v channel b (Err (Begins.ConnectionStopped r)) w = ⊥
 
 -- An End of the peer moves the state, also where it is answered as an error: one without an error that answers an own End
 -- is Ok.
-abbrev pub TakeEndStep : {R : Type 0} → SessionView R → EndSaid → Result (Unit {0}) SessionStateError → SessionView R → Type 0
+abbrev pub TakeEndStep : {R : Type 0} → SessionView R → EndModel → Result (Unit {0}) SessionStateError → SessionView R → Type 0
 TakeEndStep v e (Ok u) w =
     (takes_end v.state ≡ Some w.state) × (answers_end v.state ≡ true) × (e.error ≡ None) × (w ≡ record v { state = w.state })
 TakeEndStep v e (Err Begins.RemoteEnded) w =
@@ -127,18 +127,18 @@ SendTransferStep v h (Err e) w = ⊥
 -- ---- a Flow comes (section 2.5.6)
 
 -- the number from which its window begins: the one that it says, or that of the first transfer
-abbrev pub flow_base : {R : Type 0} → SessionView R → FlowSaid → ℕ
+abbrev pub flow_base : {R : Type 0} → SessionView R → FlowModel → ℕ
 flow_base v f = unwrap_or f.next_incoming_id v.settings.next_outgoing_id
 
 -- its numbers are of four bytes
-pub record FlowFits {R : Type 0} (v : SessionView R) (f : FlowSaid) : Type 0 where
+pub record FlowFits {R : Type 0} (v : SessionView R) (f : FlowModel) : Type 0 where
   pub incoming_window : f.incoming_window < 2 ^ 32
   pub base : flow_base v f < 2 ^ 32
   pub next_outgoing_id : f.next_outgoing_id < 2 ^ 32
   pub outgoing_window : f.outgoing_window < 2 ^ 32
 
 -- it moves both windows, in every state and whatever is then answered
-abbrev pub flow_moved : {R : Type 0} → SessionView R → FlowSaid → SessionView R
+abbrev pub flow_moved : {R : Type 0} → SessionView R → FlowModel → SessionView R
 flow_moved v f = record v {
   sending = moved v.sending (flow_base v f) f.incoming_window;
   receiving = numbered_anew f.next_outgoing_id f.outgoing_window v.receiving;
@@ -179,13 +179,13 @@ LinkFlowStep gives v input flow (Some q) result w =
     (q.asked ≡ flow) × Asks (of_flow gives) (attached_at input v.links) q × FlowAnswered (asked_at v input q) q.answer result w
 
 -- what follows once the windows have moved
-abbrev pub FlowTaken : {R : Type 0} → FlowGives R → SessionView R → FlowSaid → Option ℕ → Option (FlowQuestion R) →
+abbrev pub FlowTaken : {R : Type 0} → FlowGives R → SessionView R → FlowModel → Option ℕ → Option (FlowQuestion R) →
     Result (Option SessionOutgoingItem) SessionInnerError → SessionView R → Type 0
 FlowTaken gives v f None None result w = FlowUnasked v None result w
 FlowTaken gives v f None (Some q) result w = ⊥
 FlowTaken gives v f (Some input) asked result w = LinkFlowStep gives v input (link_flow_of input f) asked result w
 
-abbrev pub FlowStep : {R : Type 0} → FlowGives R → SessionView R → FlowSaid → Option (FlowQuestion R) →
+abbrev pub FlowStep : {R : Type 0} → FlowGives R → SessionView R → FlowModel → Option (FlowQuestion R) →
     Result (Option SessionOutgoingItem) SessionInnerError → SessionView R → Type 0
 FlowStep gives v f asked result w = FlowFits v f × FlowTaken gives (flow_moved v f) f f.handle asked result w
 
@@ -207,29 +207,29 @@ named_by v handle named =
 
 -- what follows from the relay's answer: the number that it names is of four bytes
 abbrev pub TransferAnswered : {R : Type 0} → SessionView R → ℕ → Result (Option (ℕ × DeliveryTag)) LinkRelayError →
-    Result (Option DispositionSaid) SessionInnerError → SessionView R → Type 0
+    Result (Option DispositionModel) SessionInnerError → SessionView R → Type 0
 TransferAnswered v handle (Ok named) (Ok reply) w =
     RecordFits (named_delivery handle named) × (reply ≡ None) × (w ≡ named_by v handle named)
 TransferAnswered v handle (Err e) (Err x) w = (x ≡ inner_of_relay e) × (w ≡ v)
 TransferAnswered v handle (Ok named) (Err x) w = ⊥
 TransferAnswered v handle (Err e) (Ok reply) w = ⊥
 
-abbrev pub TransferUnasked : {R : Type 0} → SessionView R → ℕ → Result (Option DispositionSaid) SessionInnerError → SessionView R → Type 0
+abbrev pub TransferUnasked : {R : Type 0} → SessionView R → ℕ → Result (Option DispositionModel) SessionInnerError → SessionView R → Type 0
 TransferUnasked v handle (Ok reply) w = ⊥
 TransferUnasked v handle (Err Refused.UnattachedHandle) w = (attached_at handle v.links ≡ None) × (w ≡ v)
 TransferUnasked v handle (Err Refused.OutOfMemory) w = IsSome (attached_at handle v.links) × (w ≡ v)
 TransferUnasked v handle (Err e) w = ⊥
 
 -- what follows once the number is counted
-abbrev pub LinkTransferStep : {R : Type 0} → TransferGives R → SessionView R → ℕ → TransferSaid → List ℕ →
-    Option (TransferQuestion R) → Result (Option DispositionSaid) SessionInnerError → SessionView R → Type 0
+abbrev pub LinkTransferStep : {R : Type 0} → TransferGives R → SessionView R → ℕ → TransferModel → List ℕ →
+    Option (TransferQuestion R) → Result (Option DispositionModel) SessionInnerError → SessionView R → Type 0
 LinkTransferStep gives v input t payload None result w = TransferUnasked v input result w
 LinkTransferStep gives v input t payload (Some q) result w =
     (q.asked ≡ (t, payload)) × Asks (of_transfer gives) (attached_at input v.links) q
     × TransferAnswered (asked_at v input q) input q.answer result w
 
-abbrev pub TakeTransferStep : {R : Type 0} → TransferGives R → SessionView R → TransferSaid → List ℕ →
-    Option (TransferQuestion R) → Result (Option DispositionSaid) SessionInnerError → SessionView R → Type 0
+abbrev pub TakeTransferStep : {R : Type 0} → TransferGives R → SessionView R → TransferModel → List ℕ →
+    Option (TransferQuestion R) → Result (Option DispositionModel) SessionInnerError → SessionView R → Type 0
 TakeTransferStep gives v t payload asked result w = LinkTransferStep gives (counted_by v) t.handle t payload asked result w
 
 -- ---- flows of this side, and stop reasons

@@ -3,7 +3,7 @@
 -- 2.5.6 and 2.7.5).
 use Rattle.std.specs.Prelude.{ℕ, ◌+◌, ◌%◌, ◌^◌, List, [], ◌∷◌, ◌++◌, Option, Some, None, Bool, false, unwrap_or, if◌then◌else◌}
 use Rattle.std.specs.Option.{option_map}
-use Rattle.amqp_types.specs.Transfer.{TransferSaid}
+use Rattle.amqp_types.specs.Transfer.{TransferModel}
 use Rattle.amqp_session.specs.declared.deliveries.Delivery.{Delivery}
 use Rattle.amqp_session.specs.declared.frame.SessionFrame.{SessionFrame}
 use Rattle.amqp_session.specs.declared.frame.SessionFrameBody.TheVariants as Body
@@ -12,7 +12,7 @@ use Rattle.amqp_session.specs.Deliveries.{with_record, listed}
 -- A transfer as it was asked for: for the link of this input handle, with this payload, the first of its delivery or not.
 pub record RequestedTransfer : Type 0 where
   pub input_handle : ℕ
-  pub transfer : TransferSaid
+  pub transfer : TransferModel
   pub payload : List ℕ
   pub is_first : Bool
 
@@ -42,7 +42,7 @@ firsts [] = 0
 firsts (h ∷ hs) = first_of h + firsts hs
 
 -- the tag under which a delivery is recorded: that of its first transfer, unless it is settled already
-abbrev pub kept_tag : Bool → TransferSaid → Option (List ℕ)
+abbrev pub kept_tag : Bool → TransferModel → Option (List ℕ)
 kept_tag first t = if first then (if unwrap_or t.settled false then None else t.delivery_tag) else None
 
 -- the record that goes with the frame

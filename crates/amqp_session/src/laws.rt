@@ -13,13 +13,13 @@ ghost use Rattle.amqp_session.specs.History.{Entry, Made, LeadsTo};
 ghost use Rattle.amqp_session.specs.Headline.{Headline, Stands};
 ghost use Rattle.amqp_session.specs.Linked.{LinksAgree, ShownAgree, AwaitedOnce};
 ghost use Rattle.amqp_session.specs.OutgoingFrames.{OnChannel, calls_frames};
-ghost use Rattle.amqp_session.specs.Settings.{SettingsSaid};
+ghost use Rattle.amqp_session.specs.Settings.{SettingsModel};
 ghost use Rattle.amqp_session.specs.Transfers.{RequestedTransfer};
 ghost use Rattle.amqp_session.specs.declared.error.AllocLinkError.{AllocLinkError};
 ghost use Rattle.amqp_session.specs.declared.flow.LinkFlow.{LinkFlow};
-ghost use Rattle.amqp_session.specs.declared.numbers.OutputHandle.{OutputHandle as HandleSaid};
+ghost use Rattle.amqp_session.specs.declared.numbers.OutputHandle.{OutputHandle as HandleModel};
 ghost use Rattle.amqp_session.specs.declared.pair.Side.{Side};
-ghost use Rattle.amqp_types.specs.Attach.{AttachSaid};
+ghost use Rattle.amqp_types.specs.Attach.{AttachModel};
 ghost use Rattle.amqp_session.specs.Pair.{PairView, Said, new_pair, AllocateLinkStep, BeginStep, AttachStep, FlowStep, TransferStep, ArriveStep};
 ghost use Rattle.amqp_session.specs.PairLedger.{FitsSettings};
 ghost use Rattle.amqp_session.specs.PairOrder.{IsMove, PairCall, PairChain, ArrivesInOrder, AreHistories};
@@ -54,12 +54,12 @@ pub fn law_of_channels<R: LinkRelay>()
 /// (AMQP 1.0 part 2, section 2.5.6).
 pub fn law_of_pairs<R: LinkRelay>()
     ensures allocate_link { let g = R.gives in
-        (side : Side) (name : List ℕ) (relay : Option R) (handle : Result HandleSaid AllocLinkError) (p q : PairView R)
+        (side : Side) (name : List ℕ) (relay : Option R) (handle : Result HandleModel AllocLinkError) (p q : PairView R)
         → AllocateLinkStep g side name relay handle p q → IsMove g side p q }
     ensures begin { let g = R.gives in
         (side : Side) (result : Said) (p q : PairView R) → BeginStep g side result p q → IsMove g side p q }
     ensures send_attach { let g = R.gives in
-        (side : Side) (a : AttachSaid) (result : Said) (p q : PairView R) → AttachStep g side a result p q → IsMove g side p q }
+        (side : Side) (a : AttachModel) (result : Said) (p q : PairView R) → AttachStep g side a result p q → IsMove g side p q }
     ensures send_flow { let g = R.gives in
         (side : Side) (l : LinkFlow) (result : Said) (p q : PairView R) → FlowStep g side l result p q → IsMove g side p q }
     ensures send_transfer { let g = R.gives in
@@ -68,10 +68,10 @@ pub fn law_of_pairs<R: LinkRelay>()
     ensures arrive { let g = R.gives in
         (side : Side) (result : Said) (p q : PairView R) → ArriveStep g side result p q → IsMove g side p q }
     ensures histories { let g = R.gives in
-        (s t : SettingsSaid) (h : List (PairCall R)) (p : PairView R) → FitsSettings s → FitsSettings t
+        (s t : SettingsModel) (h : List (PairCall R)) (p : PairView R) → FitsSettings s → FitsSettings t
         → PairChain g (new_pair s t) h p → AreHistories g s t h p }
     ensures order { let g = R.gives in
-        (s t : SettingsSaid) (h : List (PairCall R)) (p : PairView R) → PairChain g (new_pair s t) h p → ArrivesInOrder h p }
+        (s t : SettingsModel) (h : List (PairCall R)) (p : PairView R) → PairChain g (new_pair s t) h p → ArrivesInOrder h p }
 {}
 
 /// After any calls the live links' names and output handles are one to one, as the history says it and as the session shows it:

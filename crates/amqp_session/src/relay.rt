@@ -2,9 +2,9 @@
 
 ghost use Rattle.std.specs.Prelude.{ℕ, List, Bool, Option, Result, option_copied};
 ghost use Rattle.amqp_session.specs.Relay.{Relays};
-ghost use Rattle.amqp_types.specs.Attach.{AttachSaid};
-ghost use Rattle.amqp_types.specs.Detach.{DetachSaid};
-ghost use Rattle.amqp_types.specs.Transfer.{TransferSaid};
+ghost use Rattle.amqp_types.specs.Attach.{AttachModel};
+ghost use Rattle.amqp_types.specs.Detach.{DetachModel};
+ghost use Rattle.amqp_types.specs.Transfer.{TransferModel};
 ghost use Rattle.amqp_types.specs.declared.definitions.Role.{Role};
 ghost use Rattle.amqp_types.specs.declared.definitions.DeliveryTag.{DeliveryTag};
 ghost use Rattle.amqp_session.specs.declared.numbers.OutputHandle.{OutputHandle};

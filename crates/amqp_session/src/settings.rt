@@ -38,9 +38,9 @@ pub struct SessionSettings {
 
 impl Model for SessionSettings {
     ghost use Rattle.std.specs.Option.{option_map};
-    ghost use Rattle.amqp_session.specs.Settings.{SettingsSaid};
+    ghost use Rattle.amqp_session.specs.Settings.{SettingsModel};
 
-    ghost Value = { SettingsSaid };
+    ghost Value = { SettingsModel };
 
     ghost view = { λ s. record {
       next_outgoing_id = s.next_outgoing_id;

@@ -2,7 +2,7 @@
 use Rattle.std.proofs.Common.{◌≡◌, ℕ, List, [], ◌∷◌, ◌++◌, true, Result, Ok, Err, OnOk, refl, ap, sym, subst, ◌∙◌, append_assoc}
 use Rattle.std.proofs.lemmas.List.{append-nil}
 use Rattle.amqp_types.specs.declared.states.ConnectionState.{ConnectionState}
-use Rattle.amqp_types.specs.Open.{OpenSaid}
+use Rattle.amqp_types.specs.Open.{OpenModel}
 use Rattle.amqp_session.specs.Relay.{Relays}
 use Rattle.amqp_engine.specs.declared.engine.input.Input.{Input}
 use Rattle.amqp_engine.specs.declared.engine.answer.Answer.{Answer}
@@ -29,7 +29,7 @@ inputs_both [] ys = refl
 inputs_both (e ∷ xs) ys = ap (λ (is : List (Input _)). e.input ∷ is) (inputs_both xs ys)
 
 abbrev pub HistoriesLaw : {R : Type 0} → Relays R → Type 0
-HistoriesLaw g = (s : ConnectionState) (o : OpenSaid) (H : List (Entry _)) (w : EngineView _) → Legal g s o H w → Headline s o H
+HistoriesLaw g = (s : ConnectionState) (o : OpenModel) (H : List (Entry _)) (w : EngineView _) → Legal g s o H w → Headline s o H
 
 pub none : {R : Type 0} (g : Relays R) → HistoriesLaw g → (v : EngineView R) (inputs : List (Input R)) → Took g v inputs v inputs
 none g law v inputs = record {

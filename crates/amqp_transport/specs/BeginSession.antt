@@ -1,9 +1,9 @@
 -- Part: other calls.
 -- A session that the peer begins: the engine begins one, and the two Begins are turned (AMQP 1.0 part 2, section 2.5.1).
 use Rattle.std.specs.Prelude.{◌≡◌, ◌-◌, ◌^◌, ℕ, List, [], ◌∷◌, Some, None, Result, Ok, Err}
-use Rattle.amqp_types.specs.Begin.{BeginSaid}
+use Rattle.amqp_types.specs.Begin.{BeginModel}
 use Rattle.amqp_session.specs.Relay.{Relays}
-use Rattle.amqp_session.specs.Settings.{SettingsSaid}
+use Rattle.amqp_session.specs.Settings.{SettingsModel}
 use Rattle.amqp_connection.specs.declared.numbers.SessionNo.{SessionNo}
 use Rattle.amqp_frames.specs.Piece.{PieceParts, piece_bytes}
 use Rattle.amqp_engine.specs.declared.engine.answer.Answer.{Answer}
@@ -30,18 +30,18 @@ PutsOwn g old (Ok bytes) new = (left : List (Input _)) × (answers : List Answer
 PutsOwn g old (Err e) new = (left : List (Input _)) × (answers : List Answer) × Ran g [] old [] [] new left answers
 
 -- Both are written as the answer to the other: this side's by the limit, and the peer's by none.
-pub record TurnsBoth (own : List ℕ) (remote : ℕ) (theirs : BeginSaid) (limit : ℕ) (t : Turned) : Type 0 where
+pub record TurnsBoth (own : List ℕ) (remote : ℕ) (theirs : BeginModel) (limit : ℕ) (t : Turned) : Type 0 where
   pub channel : ℕ
-  pub ours : BeginSaid
+  pub ours : BeginModel
   pub read : ReadsBegin own (Ok (channel, ours))
   pub to_send : WritesAnswer channel ours remote limit (Ok t.to_send)
   pub to_take : WritesAnswer remote theirs channel (2 ^ 32 - 1) (Ok t.to_take)
 
 -- The frame is the peer's Begin; the engine takes the step of a Begin, and puts its own out; and the two are turned.
-pub record Begun {R : Type 0} (g : Relays R) (old : EngineView R) (number : SessionNo) (settings : SettingsSaid) (frame : List ℕ) (limit : ℕ)
+pub record Begun {R : Type 0} (g : Relays R) (old : EngineView R) (number : SessionNo) (settings : SettingsModel) (frame : List ℕ) (limit : ℕ)
     (t : Turned) (new : EngineView R) : Type 0 where
   pub remote : ℕ
-  pub theirs : BeginSaid
+  pub theirs : BeginModel
   pub own : List ℕ
   pub between : EngineView R
   pub read : ReadsBegin frame (Ok (remote, theirs))
@@ -49,7 +49,7 @@ pub record Begun {R : Type 0} (g : Relays R) (old : EngineView R) (number : Sess
   pub put : PutsOwn g between (Ok own) new
   pub turned : TurnsBoth own remote theirs limit t
 
-abbrev pub BeginsSession : {R : Type 0} → Relays R → EngineView R → SessionNo → SettingsSaid → List ℕ → ℕ
+abbrev pub BeginsSession : {R : Type 0} → Relays R → EngineView R → SessionNo → SettingsModel → List ℕ → ℕ
     → Result Turned BeginSessionError → EngineView R → Type 0
 BeginsSession g old number settings frame limit (Ok t) new = Begun g old number settings frame limit t new
 BeginsSession g old number settings frame limit (Err (no.Unread e)) new = ReadsBegin frame (Err e) × (new ≡ old)

@@ -6,7 +6,7 @@ use Rattle.amqp_types.specs.declared.definitions.SenderSettleMode.{SenderSettleM
 use Rattle.amqp_types.specs.declared.definitions.ReceiverSettleMode.{ReceiverSettleMode}
 use Rattle.amqp_types.specs.declared.definitions.SenderSettleMode.TheVariants.{Mixed}
 use Rattle.amqp_types.specs.declared.definitions.ReceiverSettleMode.TheVariants.{First}
-use Rattle.amqp_values.specs.declared.parts.Parts.{Parts}
+use Rattle.amqp_values.specs.declared.list_reader.ListReader.{ListReader}
 use Rattle.amqp_values.specs.Number.{IsBoolean, IsUint, IsUlong, boolean_at, uint_at, ulong_at}
 use Rattle.amqp_values.specs.Text.{IsString, string_at}
 use Rattle.amqp_values.specs.Symbols.{IsSymbols, symbols_at}
@@ -20,7 +20,7 @@ use Rattle.amqp_types.specs.Definitions.{IsReceiverMode, IsRole, IsSenderMode, f
 use Rattle.amqp_types.specs.Definitions.{receiver_mode_or_first, receiver_modes, role_at, role_text, roles}
 use Rattle.amqp_types.specs.Definitions.{sender_mode_at, sender_mode_or_mixed, sender_modes, value_text}
 
-pub record AttachSaid : Type 0 where
+pub record AttachModel : Type 0 where
   pub name : List ℕ
   pub handle : ℕ
   pub role : Role
@@ -38,7 +38,7 @@ pub record AttachSaid : Type 0 where
 
 -- ---- the grammar
 
-abbrev pub IsAttachBody : AttachSaid → List (List ℕ) → Type 0
+abbrev pub IsAttachBody : AttachModel → List (List ℕ) → Type 0
 IsAttachBody p =
     Slot (IsString p.name)
     (Slot (IsUint p.handle)
@@ -64,7 +64,7 @@ AttachSlots =
     Option (List ℕ) × (Bool × (Option ℕ × (Option ℕ × (Option (List (List ℕ)) × (Option (List (List ℕ)) × (
     Option (List ℕ) × Unit {0})))))))))))))
 
-abbrev pub attach_of : AttachSlots → AttachSaid
+abbrev pub attach_of : AttachSlots → AttachModel
 attach_of x = record {
   name = slot0 x;
   handle = slot1 x;
@@ -82,7 +82,7 @@ attach_of x = record {
   properties = slot13 x;
 }
 
-abbrev pub attach_slots : AttachSaid → AttachSlots
+abbrev pub attach_slots : AttachModel → AttachSlots
 attach_slots p =
     beside p.name
     (beside p.handle
@@ -104,7 +104,7 @@ attach_slots p =
 abbrev pub AttachRest : Type 0
 AttachRest = Option ℕ × (Option ℕ × (Option (List (List ℕ)) × (Option (List (List ℕ)) × (Option (List ℕ) × Unit {0}))))
 
-unfoldable pub attach_rest_at : Parts → Option (AttachRest × Parts)
+unfoldable pub attach_rest_at : ListReader → Option (AttachRest × ListReader)
 attach_rest_at =
     then_at (optional_at uint_at)
     (then_at (optional_at ulong_at)
@@ -113,7 +113,7 @@ attach_rest_at =
     (then_at (optional_at map_at)
     end_at))))
 
-unfoldable pub attach_body_at : Parts → Option (AttachSaid × Parts)
+unfoldable pub attach_body_at : ListReader → Option (AttachModel × ListReader)
 attach_body_at = named_at attach_of
     (then_at (required_at string_at)
     (then_at (required_at uint_at)
@@ -128,7 +128,7 @@ attach_body_at = named_at attach_of
 
 -- ---- its canonical text
 
-unfoldable pub attach_fields : AttachSaid → List (List ℕ)
+unfoldable pub attach_fields : AttachModel → List (List ℕ)
 attach_fields p =
     string_text p.name ∷
     uint_text p.handle ∷
@@ -148,7 +148,7 @@ attach_fields p =
 
 -- ---- when two are the same
 
-abbrev pub attach_first_same : Test AttachSaid
+abbrev pub attach_first_same : Test AttachModel
 attach_first_same =
     both (field (λ p. p.name) texts)
     (both (field (λ p. p.handle) numbers)
@@ -158,7 +158,7 @@ attach_first_same =
     (both (field (λ p. p.source) (maybe texts))
     (field (λ p. p.target) (maybe texts)))))))
 
-abbrev pub attach_last_same : Test AttachSaid
+abbrev pub attach_last_same : Test AttachModel
 attach_last_same =
     both (field (λ p. p.unsettled) (maybe texts))
     (both (field (λ p. p.incomplete_unsettled) flags)
@@ -168,5 +168,5 @@ attach_last_same =
     (both (field (λ p. p.desired_capabilities) (maybe (each texts)))
     (field (λ p. p.properties) (maybe texts)))))))
 
-abbrev pub attach_same : Test AttachSaid
+abbrev pub attach_same : Test AttachModel
 attach_same = both attach_first_same attach_last_same

@@ -1,7 +1,7 @@
 -- Part: the bytes; other calls; inner.
 -- Begin: its fields, and how they stand in a list (AMQP 1.0 part 2, section 2.7.2).
 use Rattle.std.specs.Prelude.{ℕ, List, [], ◌∷◌, Option}
-use Rattle.amqp_values.specs.declared.parts.Parts.{Parts}
+use Rattle.amqp_values.specs.declared.list_reader.ListReader.{ListReader}
 use Rattle.amqp_values.specs.Number.{IsUint, IsUshort, uint_at, ushort_at}
 use Rattle.amqp_values.specs.Symbols.{IsSymbols, symbols_at}
 use Rattle.amqp_values.specs.Raw.{SpellsMap, map_at}
@@ -11,7 +11,7 @@ use Rattle.amqp_values.specs.Writing.{optional_text, symbols_text, uint_or, uint
 use Rattle.amqp_values.specs.Same.{Test, both, each, field, maybe, numbers, texts}
 use Rattle.amqp_types.specs.Definitions.{value_text}
 
-pub record BeginSaid : Type 0 where
+pub record BeginModel : Type 0 where
   pub remote_channel : Option ℕ
   pub next_outgoing_id : ℕ
   pub incoming_window : ℕ
@@ -23,7 +23,7 @@ pub record BeginSaid : Type 0 where
 
 -- ---- the grammar
 
-abbrev pub IsBeginBody : BeginSaid → List (List ℕ) → Type 0
+abbrev pub IsBeginBody : BeginModel → List (List ℕ) → Type 0
 IsBeginBody p =
     Slot (Optional IsUshort p.remote_channel)
     (Slot (IsUint p.next_outgoing_id)
@@ -40,7 +40,7 @@ IsBeginBody p =
 abbrev pub BeginSlots : Type 0
 BeginSlots = Option ℕ × (ℕ × (ℕ × (ℕ × (ℕ × (Option (List (List ℕ)) × (Option (List (List ℕ)) × (Option (List ℕ) × Unit {0})))))))
 
-abbrev pub begin_of : BeginSlots → BeginSaid
+abbrev pub begin_of : BeginSlots → BeginModel
 begin_of x = record {
   remote_channel = slot0 x;
   next_outgoing_id = slot1 x;
@@ -52,7 +52,7 @@ begin_of x = record {
   properties = slot7 x;
 }
 
-abbrev pub begin_slots : BeginSaid → BeginSlots
+abbrev pub begin_slots : BeginModel → BeginSlots
 begin_slots p =
     beside p.remote_channel
     (beside p.next_outgoing_id
@@ -64,7 +64,7 @@ begin_slots p =
     (beside p.properties
     tt)))))))
 
-unfoldable pub begin_body_at : Parts → Option (BeginSaid × Parts)
+unfoldable pub begin_body_at : ListReader → Option (BeginModel × ListReader)
 begin_body_at = named_at begin_of
     (then_at (optional_at ushort_at)
     (then_at (required_at uint_at)
@@ -78,7 +78,7 @@ begin_body_at = named_at begin_of
 
 -- ---- its canonical text
 
-unfoldable pub begin_fields : BeginSaid → List (List ℕ)
+unfoldable pub begin_fields : BeginModel → List (List ℕ)
 begin_fields p =
     optional_text ushort_text p.remote_channel ∷
     uint_text p.next_outgoing_id ∷
@@ -92,7 +92,7 @@ begin_fields p =
 
 -- ---- when two are the same
 
-abbrev pub begin_same : Test BeginSaid
+abbrev pub begin_same : Test BeginModel
 begin_same =
     both (field (λ p. p.remote_channel) (maybe numbers))
     (both (field (λ p. p.next_outgoing_id) numbers)

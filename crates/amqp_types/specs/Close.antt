@@ -1,18 +1,18 @@
 -- Part: the bytes; other calls; inner.
 -- Close: its fields, and how they stand in a list (AMQP 1.0 part 2, section 2.7.9).
 use Rattle.std.specs.Prelude.{ℕ, List, [], ◌∷◌, Option}
-use Rattle.amqp_values.specs.declared.parts.Parts.{Parts}
+use Rattle.amqp_values.specs.declared.list_reader.ListReader.{ListReader}
 use Rattle.amqp_values.specs.Slots.{Slot, NoMore, then_at, end_at, named_at, Optional, optional_at}
 use Rattle.amqp_values.specs.Writing.{optional_text}
 use Rattle.amqp_values.specs.Same.{Test, field, maybe}
-use Rattle.amqp_types.specs.Error.{ErrorSaid, IsError, error_at, error_text, error_same}
+use Rattle.amqp_types.specs.Error.{ErrorModel, IsError, error_at, error_text, error_same}
 
-pub record CloseSaid : Type 0 where
-  pub error : Option ErrorSaid
+pub record CloseModel : Type 0 where
+  pub error : Option ErrorModel
 
 -- ---- the grammar
 
-abbrev pub IsCloseBody : CloseSaid → List (List ℕ) → Type 0
+abbrev pub IsCloseBody : CloseModel → List (List ℕ) → Type 0
 IsCloseBody p =
     Slot (Optional IsError p.error)
     NoMore
@@ -20,28 +20,28 @@ IsCloseBody p =
 -- ---- its reader
 
 abbrev pub CloseSlots : Type 0
-CloseSlots = Option ErrorSaid × Unit {0}
+CloseSlots = Option ErrorModel × Unit {0}
 
-abbrev pub close_of : CloseSlots → CloseSaid
+abbrev pub close_of : CloseSlots → CloseModel
 close_of (error, end) = record { error = error }
 
-abbrev pub close_slots : CloseSaid → CloseSlots
+abbrev pub close_slots : CloseModel → CloseSlots
 close_slots p = (p.error, tt)
 
-unfoldable pub close_body_at : Parts → Option (CloseSaid × Parts)
+unfoldable pub close_body_at : ListReader → Option (CloseModel × ListReader)
 close_body_at = named_at close_of
     (then_at (optional_at error_at)
     end_at)
 
 -- ---- its canonical text
 
-unfoldable pub close_fields : CloseSaid → List (List ℕ)
+unfoldable pub close_fields : CloseModel → List (List ℕ)
 close_fields p =
     optional_text error_text p.error ∷
     []
 
 -- ---- when two are the same
 
-abbrev pub close_same : Test CloseSaid
+abbrev pub close_same : Test CloseModel
 close_same =
     field (λ p. p.error) (maybe error_same)

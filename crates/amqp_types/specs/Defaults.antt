@@ -6,16 +6,16 @@ use Rattle.amqp_values.specs.Writing.{described_text}
 use Rattle.amqp_types.specs.declared.definitions.Role.{Role}
 use Rattle.amqp_types.specs.declared.definitions.SenderSettleMode.TheVariants.{Mixed}
 use Rattle.amqp_types.specs.declared.definitions.ReceiverSettleMode.TheVariants.{First}
-use Rattle.amqp_types.specs.Error.{ErrorSaid, error_text}
-use Rattle.amqp_types.specs.Open.{OpenSaid}
-use Rattle.amqp_types.specs.Begin.{BeginSaid}
-use Rattle.amqp_types.specs.Attach.{AttachSaid}
-use Rattle.amqp_types.specs.Flow.{FlowSaid}
-use Rattle.amqp_types.specs.Transfer.{TransferSaid}
-use Rattle.amqp_types.specs.Disposition.{DispositionSaid}
-use Rattle.amqp_types.specs.Detach.{DetachSaid}
+use Rattle.amqp_types.specs.Error.{ErrorModel, error_text}
+use Rattle.amqp_types.specs.Open.{OpenModel}
+use Rattle.amqp_types.specs.Begin.{BeginModel}
+use Rattle.amqp_types.specs.Attach.{AttachModel}
+use Rattle.amqp_types.specs.Flow.{FlowModel}
+use Rattle.amqp_types.specs.Transfer.{TransferModel}
+use Rattle.amqp_types.specs.Disposition.{DispositionModel}
+use Rattle.amqp_types.specs.Detach.{DetachModel}
 
-abbrev pub plain_open : List ℕ → OpenSaid
+abbrev pub plain_open : List ℕ → OpenModel
 plain_open container_id = record {
   container_id = container_id;
   hostname = None;
@@ -29,7 +29,7 @@ plain_open container_id = record {
   properties = None;
 }
 
-abbrev pub plain_begin : ℕ → ℕ → ℕ → BeginSaid
+abbrev pub plain_begin : ℕ → ℕ → ℕ → BeginModel
 plain_begin next_outgoing_id incoming_window outgoing_window = record {
   remote_channel = None;
   next_outgoing_id = next_outgoing_id;
@@ -41,7 +41,7 @@ plain_begin next_outgoing_id incoming_window outgoing_window = record {
   properties = None;
 }
 
-abbrev pub plain_attach : List ℕ → ℕ → Role → AttachSaid
+abbrev pub plain_attach : List ℕ → ℕ → Role → AttachModel
 plain_attach name handle role = record {
   name = name;
   handle = handle;
@@ -59,7 +59,7 @@ plain_attach name handle role = record {
   properties = None;
 }
 
-abbrev pub plain_flow : Option ℕ → ℕ → ℕ → ℕ → FlowSaid
+abbrev pub plain_flow : Option ℕ → ℕ → ℕ → ℕ → FlowModel
 plain_flow next_incoming_id incoming_window next_outgoing_id outgoing_window = record {
   next_incoming_id = next_incoming_id;
   incoming_window = incoming_window;
@@ -74,7 +74,7 @@ plain_flow next_incoming_id incoming_window next_outgoing_id outgoing_window = r
   properties = None;
 }
 
-abbrev pub plain_transfer : ℕ → TransferSaid
+abbrev pub plain_transfer : ℕ → TransferModel
 plain_transfer handle = record {
   handle = handle;
   delivery_id = None;
@@ -89,7 +89,7 @@ plain_transfer handle = record {
   batchable = false;
 }
 
-abbrev pub plain_disposition : Role → ℕ → DispositionSaid
+abbrev pub plain_disposition : Role → ℕ → DispositionModel
 plain_disposition role first = record {
   role = role;
   first = first;
@@ -99,12 +99,12 @@ plain_disposition role first = record {
   batchable = false;
 }
 
-abbrev pub plain_detach : ℕ → DetachSaid
+abbrev pub plain_detach : ℕ → DetachModel
 plain_detach handle = record { handle = handle; closed = false; error = None }
 
-abbrev pub plain_error : List ℕ → ErrorSaid
+abbrev pub plain_error : List ℕ → ErrorModel
 plain_error condition = record { condition = condition; description = None; info = None }
 
 -- the outcome rejected with this error (part 3, section 3.4.3)
-abbrev pub rejected_text : ErrorSaid → List ℕ
+abbrev pub rejected_text : ErrorModel → List ℕ
 rejected_text e = described_text 0x25 (error_text e ∷ [])

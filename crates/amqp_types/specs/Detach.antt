@@ -1,22 +1,22 @@
 -- Part: the bytes; other calls; inner.
 -- Detach: its fields, and how they stand in a list (AMQP 1.0 part 2, section 2.7.7).
 use Rattle.std.specs.Prelude.{ℕ, List, [], ◌∷◌, Option, Bool, false}
-use Rattle.amqp_values.specs.declared.parts.Parts.{Parts}
+use Rattle.amqp_values.specs.declared.list_reader.ListReader.{ListReader}
 use Rattle.amqp_values.specs.Number.{IsBoolean, IsUint, boolean_at, uint_at}
 use Rattle.amqp_values.specs.Slots.{Slot, NoMore, then_at, end_at, named_at, required_at, Optional, optional_at, OrDefault, default_at}
 use Rattle.amqp_values.specs.Writing.{optional_text, uint_text}
 use Rattle.amqp_values.specs.Same.{Test, both, field, flags, maybe, numbers}
 use Rattle.amqp_types.specs.Definitions.{flag_text}
-use Rattle.amqp_types.specs.Error.{ErrorSaid, IsError, error_at, error_text, error_same}
+use Rattle.amqp_types.specs.Error.{ErrorModel, IsError, error_at, error_text, error_same}
 
-pub record DetachSaid : Type 0 where
+pub record DetachModel : Type 0 where
   pub handle : ℕ
   pub closed : Bool
-  pub error : Option ErrorSaid
+  pub error : Option ErrorModel
 
 -- ---- the grammar
 
-abbrev pub IsDetachBody : DetachSaid → List (List ℕ) → Type 0
+abbrev pub IsDetachBody : DetachModel → List (List ℕ) → Type 0
 IsDetachBody p =
     Slot (IsUint p.handle)
     (Slot (OrDefault false IsBoolean p.closed)
@@ -26,15 +26,15 @@ IsDetachBody p =
 -- ---- its reader
 
 abbrev pub DetachSlots : Type 0
-DetachSlots = ℕ × (Bool × (Option ErrorSaid × Unit {0}))
+DetachSlots = ℕ × (Bool × (Option ErrorModel × Unit {0}))
 
-abbrev pub detach_of : DetachSlots → DetachSaid
+abbrev pub detach_of : DetachSlots → DetachModel
 detach_of (handle, (closed, (error, end))) = record { handle = handle; closed = closed; error = error }
 
-abbrev pub detach_slots : DetachSaid → DetachSlots
+abbrev pub detach_slots : DetachModel → DetachSlots
 detach_slots p = (p.handle, (p.closed, (p.error, tt)))
 
-unfoldable pub detach_body_at : Parts → Option (DetachSaid × Parts)
+unfoldable pub detach_body_at : ListReader → Option (DetachModel × ListReader)
 detach_body_at = named_at detach_of
     (then_at (required_at uint_at)
     (then_at (default_at false boolean_at)
@@ -43,7 +43,7 @@ detach_body_at = named_at detach_of
 
 -- ---- its canonical text
 
-unfoldable pub detach_fields : DetachSaid → List (List ℕ)
+unfoldable pub detach_fields : DetachModel → List (List ℕ)
 detach_fields p =
     uint_text p.handle ∷
     flag_text p.closed ∷
@@ -52,7 +52,7 @@ detach_fields p =
 
 -- ---- when two are the same
 
-abbrev pub detach_same : Test DetachSaid
+abbrev pub detach_same : Test DetachModel
 detach_same =
     both (field (λ p. p.handle) numbers)
     (both (field (λ p. p.closed) flags)

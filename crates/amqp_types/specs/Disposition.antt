@@ -2,7 +2,7 @@
 -- Disposition: its fields, and how they stand in a list (AMQP 1.0 part 2, section 2.7.6).
 use Rattle.std.specs.Prelude.{ℕ, List, [], ◌∷◌, Option, Bool, false}
 use Rattle.amqp_types.specs.declared.definitions.Role.{Role}
-use Rattle.amqp_values.specs.declared.parts.Parts.{Parts}
+use Rattle.amqp_values.specs.declared.list_reader.ListReader.{ListReader}
 use Rattle.amqp_values.specs.Number.{IsBoolean, IsUint, boolean_at, uint_at}
 use Rattle.amqp_values.specs.Raw.{SpellsRaw, raw_at}
 use Rattle.amqp_values.specs.Slots.{beside, slot0, slot1, slot2, slot3, slot4, slot5}
@@ -11,7 +11,7 @@ use Rattle.amqp_values.specs.Writing.{optional_text, uint_text}
 use Rattle.amqp_values.specs.Same.{Test, both, field, flags, maybe, numbers, texts}
 use Rattle.amqp_types.specs.Definitions.{IsRole, flag_text, role_at, role_text, roles, value_text}
 
-pub record DispositionSaid : Type 0 where
+pub record DispositionModel : Type 0 where
   pub role : Role
   pub first : ℕ
   pub last : Option ℕ
@@ -21,7 +21,7 @@ pub record DispositionSaid : Type 0 where
 
 -- ---- the grammar
 
-abbrev pub IsDispositionBody : DispositionSaid → List (List ℕ) → Type 0
+abbrev pub IsDispositionBody : DispositionModel → List (List ℕ) → Type 0
 IsDispositionBody p =
     Slot (IsRole p.role)
     (Slot (IsUint p.first)
@@ -36,7 +36,7 @@ IsDispositionBody p =
 abbrev pub DispositionSlots : Type 0
 DispositionSlots = Role × (ℕ × (Option ℕ × (Bool × (Option (List ℕ) × (Bool × Unit {0})))))
 
-abbrev pub disposition_of : DispositionSlots → DispositionSaid
+abbrev pub disposition_of : DispositionSlots → DispositionModel
 disposition_of x = record {
   role = slot0 x;
   first = slot1 x;
@@ -46,7 +46,7 @@ disposition_of x = record {
   batchable = slot5 x;
 }
 
-abbrev pub disposition_slots : DispositionSaid → DispositionSlots
+abbrev pub disposition_slots : DispositionModel → DispositionSlots
 disposition_slots p =
     beside p.role
     (beside p.first
@@ -56,7 +56,7 @@ disposition_slots p =
     (beside p.batchable
     tt)))))
 
-unfoldable pub disposition_body_at : Parts → Option (DispositionSaid × Parts)
+unfoldable pub disposition_body_at : ListReader → Option (DispositionModel × ListReader)
 disposition_body_at = named_at disposition_of
     (then_at (required_at role_at)
     (then_at (required_at uint_at)
@@ -68,7 +68,7 @@ disposition_body_at = named_at disposition_of
 
 -- ---- its canonical text
 
-unfoldable pub disposition_fields : DispositionSaid → List (List ℕ)
+unfoldable pub disposition_fields : DispositionModel → List (List ℕ)
 disposition_fields p =
     role_text p.role ∷
     uint_text p.first ∷
@@ -80,7 +80,7 @@ disposition_fields p =
 
 -- ---- when two are the same
 
-abbrev pub disposition_same : Test DispositionSaid
+abbrev pub disposition_same : Test DispositionModel
 disposition_same =
     both (field (λ p. p.role) roles)
     (both (field (λ p. p.first) numbers)

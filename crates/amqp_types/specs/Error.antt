@@ -1,7 +1,7 @@
 -- Part: the bytes; other calls; inner.
 -- Error: its fields, and how they stand in a list (AMQP 1.0 part 2, section 2.8.14).
 use Rattle.std.specs.Prelude.{ℕ, List, [], ◌∷◌, Option}
-use Rattle.amqp_values.specs.declared.parts.Parts.{Parts}
+use Rattle.amqp_values.specs.declared.list_reader.ListReader.{ListReader}
 use Rattle.amqp_values.specs.Text.{IsString, IsSymbol, string_at, symbol_at}
 use Rattle.amqp_values.specs.Raw.{SpellsMap, map_at}
 use Rattle.amqp_values.specs.Slots.{Slot, NoMore, then_at, end_at, named_at, required_at, Optional, optional_at}
@@ -10,21 +10,21 @@ use Rattle.amqp_values.specs.Writing.{described_text, optional_text, string_text
 use Rattle.amqp_values.specs.Same.{Test, both, field, maybe, texts}
 use Rattle.amqp_types.specs.Definitions.{value_text}
 
-pub record ErrorSaid : Type 0 where
+pub record ErrorModel : Type 0 where
   pub condition : List ℕ
   pub description : Option (List ℕ)
   pub info : Option (List ℕ)
 
 -- ---- the grammar
 
-abbrev pub IsErrorBody : ErrorSaid → List (List ℕ) → Type 0
+abbrev pub IsErrorBody : ErrorModel → List (List ℕ) → Type 0
 IsErrorBody p =
     Slot (IsSymbol p.condition)
     (Slot (Optional IsString p.description)
     (Slot (Optional SpellsMap p.info)
     NoMore))
 
-abbrev pub IsError : ErrorSaid → List ℕ → Type 0
+abbrev pub IsError : ErrorModel → List ℕ → Type 0
 IsError = IsDescribed 0x1d IsErrorBody
 
 -- ---- its reader
@@ -32,37 +32,37 @@ IsError = IsDescribed 0x1d IsErrorBody
 abbrev pub ErrorSlots : Type 0
 ErrorSlots = List ℕ × (Option (List ℕ) × (Option (List ℕ) × Unit {0}))
 
-abbrev pub error_of : ErrorSlots → ErrorSaid
+abbrev pub error_of : ErrorSlots → ErrorModel
 error_of (condition, (description, (info, end))) = record { condition = condition; description = description; info = info }
 
-abbrev pub error_slots : ErrorSaid → ErrorSlots
+abbrev pub error_slots : ErrorModel → ErrorSlots
 error_slots p = (p.condition, (p.description, (p.info, tt)))
 
-unfoldable pub error_body_at : Parts → Option (ErrorSaid × Parts)
+unfoldable pub error_body_at : ListReader → Option (ErrorModel × ListReader)
 error_body_at = named_at error_of
     (then_at (required_at symbol_at)
     (then_at (optional_at string_at)
     (then_at (optional_at map_at)
     end_at)))
 
-unfoldable pub error_at : List ℕ → Option (ErrorSaid × List ℕ)
+unfoldable pub error_at : List ℕ → Option (ErrorModel × List ℕ)
 error_at = described_at 0x1d error_body_at
 
 -- ---- its canonical text
 
-unfoldable pub error_fields : ErrorSaid → List (List ℕ)
+unfoldable pub error_fields : ErrorModel → List (List ℕ)
 error_fields p =
     symbol_text p.condition ∷
     optional_text string_text p.description ∷
     optional_text value_text p.info ∷
     []
 
-abbrev pub error_text : ErrorSaid → List ℕ
+abbrev pub error_text : ErrorModel → List ℕ
 error_text p = described_text 0x1d (error_fields p)
 
 -- ---- when two are the same
 
-abbrev pub error_same : Test ErrorSaid
+abbrev pub error_same : Test ErrorModel
 error_same =
     both (field (λ p. p.condition) texts)
     (both (field (λ p. p.description) (maybe texts))

@@ -1,7 +1,7 @@
 -- Part: the bytes; other calls; inner.
 -- Flow: its fields, and how they stand in a list (AMQP 1.0 part 2, section 2.7.4).
 use Rattle.std.specs.Prelude.{ℕ, List, [], ◌∷◌, Option, Bool, false}
-use Rattle.amqp_values.specs.declared.parts.Parts.{Parts}
+use Rattle.amqp_values.specs.declared.list_reader.ListReader.{ListReader}
 use Rattle.amqp_values.specs.Number.{IsBoolean, IsUint, boolean_at, uint_at}
 use Rattle.amqp_values.specs.Raw.{SpellsMap, map_at}
 use Rattle.amqp_values.specs.Slots.{beside, slot0, slot1, slot2, slot3, slot4, slot5, slot6, slot7, slot8, slot9, slot10}
@@ -10,7 +10,7 @@ use Rattle.amqp_values.specs.Writing.{optional_text, uint_text}
 use Rattle.amqp_values.specs.Same.{Test, both, field, flags, maybe, numbers, texts}
 use Rattle.amqp_types.specs.Definitions.{flag_text, value_text}
 
-pub record FlowSaid : Type 0 where
+pub record FlowModel : Type 0 where
   pub next_incoming_id : Option ℕ
   pub incoming_window : ℕ
   pub next_outgoing_id : ℕ
@@ -25,7 +25,7 @@ pub record FlowSaid : Type 0 where
 
 -- ---- the grammar
 
-abbrev pub IsFlowBody : FlowSaid → List (List ℕ) → Type 0
+abbrev pub IsFlowBody : FlowModel → List (List ℕ) → Type 0
 IsFlowBody p =
     Slot (Optional IsUint p.next_incoming_id)
     (Slot (IsUint p.incoming_window)
@@ -47,7 +47,7 @@ FlowSlots =
     Option ℕ × (ℕ × (ℕ × (ℕ × (Option ℕ × (Option ℕ × (Option ℕ × (Option ℕ × (Bool × (Bool × (
     Option (List ℕ) × Unit {0}))))))))))
 
-abbrev pub flow_of : FlowSlots → FlowSaid
+abbrev pub flow_of : FlowSlots → FlowModel
 flow_of x = record {
   next_incoming_id = slot0 x;
   incoming_window = slot1 x;
@@ -62,7 +62,7 @@ flow_of x = record {
   properties = slot10 x;
 }
 
-abbrev pub flow_slots : FlowSaid → FlowSlots
+abbrev pub flow_slots : FlowModel → FlowSlots
 flow_slots p =
     beside p.next_incoming_id
     (beside p.incoming_window
@@ -77,7 +77,7 @@ flow_slots p =
     (beside p.properties
     tt))))))))))
 
-unfoldable pub flow_body_at : Parts → Option (FlowSaid × Parts)
+unfoldable pub flow_body_at : ListReader → Option (FlowModel × ListReader)
 flow_body_at = named_at flow_of
     (then_at (optional_at uint_at)
     (then_at (required_at uint_at)
@@ -94,7 +94,7 @@ flow_body_at = named_at flow_of
 
 -- ---- its canonical text
 
-unfoldable pub flow_fields : FlowSaid → List (List ℕ)
+unfoldable pub flow_fields : FlowModel → List (List ℕ)
 flow_fields p =
     optional_text uint_text p.next_incoming_id ∷
     uint_text p.incoming_window ∷
@@ -111,7 +111,7 @@ flow_fields p =
 
 -- ---- when two are the same
 
-abbrev pub flow_first_same : Test FlowSaid
+abbrev pub flow_first_same : Test FlowModel
 flow_first_same =
     both (field (λ p. p.next_incoming_id) (maybe numbers))
     (both (field (λ p. p.incoming_window) numbers)
@@ -120,7 +120,7 @@ flow_first_same =
     (both (field (λ p. p.handle) (maybe numbers))
     (field (λ p. p.delivery_count) (maybe numbers))))))
 
-abbrev pub flow_last_same : Test FlowSaid
+abbrev pub flow_last_same : Test FlowModel
 flow_last_same =
     both (field (λ p. p.link_credit) (maybe numbers))
     (both (field (λ p. p.available) (maybe numbers))
@@ -128,5 +128,5 @@ flow_last_same =
     (both (field (λ p. p.echo) flags)
     (field (λ p. p.properties) (maybe texts)))))
 
-abbrev pub flow_same : Test FlowSaid
+abbrev pub flow_same : Test FlowModel
 flow_same = both flow_first_same flow_last_same

@@ -1,6 +1,5 @@
 pub mod Definitions
 pub mod Error
-pub mod Part
 pub mod Open
 pub mod Begin
 pub mod Attach
@@ -13,6 +12,6 @@ pub mod Close
 pub mod Kinds
 pub mod Performatives
 pub mod Defaults
-pub mod Held
 pub mod Spelled
 pub mod Items
+pub mod Inner

@@ -1,7 +1,7 @@
 -- Part: the bytes; other calls; inner.
 -- Open: its fields, and how they stand in a list (AMQP 1.0 part 2, section 2.7.1).
 use Rattle.std.specs.Prelude.{ℕ, List, [], ◌∷◌, Option}
-use Rattle.amqp_values.specs.declared.parts.Parts.{Parts}
+use Rattle.amqp_values.specs.declared.list_reader.ListReader.{ListReader}
 use Rattle.amqp_values.specs.Number.{IsUint, IsUshort, uint_at, ushort_at}
 use Rattle.amqp_values.specs.Text.{IsString, string_at}
 use Rattle.amqp_values.specs.Symbols.{IsSymbols, symbols_at}
@@ -12,7 +12,7 @@ use Rattle.amqp_values.specs.Writing.{optional_text, string_text, symbols_text, 
 use Rattle.amqp_values.specs.Same.{Test, both, each, field, maybe, numbers, texts}
 use Rattle.amqp_types.specs.Definitions.{value_text}
 
-pub record OpenSaid : Type 0 where
+pub record OpenModel : Type 0 where
   pub container_id : List ℕ
   pub hostname : Option (List ℕ)
   pub max_frame_size : ℕ
@@ -26,7 +26,7 @@ pub record OpenSaid : Type 0 where
 
 -- ---- the grammar
 
-abbrev pub IsOpenBody : OpenSaid → List (List ℕ) → Type 0
+abbrev pub IsOpenBody : OpenModel → List (List ℕ) → Type 0
 IsOpenBody p =
     Slot (IsString p.container_id)
     (Slot (Optional IsString p.hostname)
@@ -47,7 +47,7 @@ OpenSlots =
     List ℕ × (Option (List ℕ) × (ℕ × (ℕ × (Option ℕ × (Option (List (List ℕ)) × (Option (List (List ℕ)) × (
     Option (List (List ℕ)) × (Option (List (List ℕ)) × (Option (List ℕ) × Unit {0})))))))))
 
-abbrev pub open_of : OpenSlots → OpenSaid
+abbrev pub open_of : OpenSlots → OpenModel
 open_of x = record {
   container_id = slot0 x;
   hostname = slot1 x;
@@ -61,7 +61,7 @@ open_of x = record {
   properties = slot9 x;
 }
 
-abbrev pub open_slots : OpenSaid → OpenSlots
+abbrev pub open_slots : OpenModel → OpenSlots
 open_slots p =
     beside p.container_id
     (beside p.hostname
@@ -75,7 +75,7 @@ open_slots p =
     (beside p.properties
     tt)))))))))
 
-unfoldable pub open_body_at : Parts → Option (OpenSaid × Parts)
+unfoldable pub open_body_at : ListReader → Option (OpenModel × ListReader)
 open_body_at = named_at open_of
     (then_at (required_at string_at)
     (then_at (optional_at string_at)
@@ -91,7 +91,7 @@ open_body_at = named_at open_of
 
 -- ---- its canonical text
 
-unfoldable pub open_fields : OpenSaid → List (List ℕ)
+unfoldable pub open_fields : OpenModel → List (List ℕ)
 open_fields p =
     string_text p.container_id ∷
     optional_text string_text p.hostname ∷
@@ -107,7 +107,7 @@ open_fields p =
 
 -- ---- when two are the same
 
-abbrev pub open_first_same : Test OpenSaid
+abbrev pub open_first_same : Test OpenModel
 open_first_same =
     both (field (λ p. p.container_id) texts)
     (both (field (λ p. p.hostname) (maybe texts))
@@ -115,7 +115,7 @@ open_first_same =
     (both (field (λ p. p.channel_max) numbers)
     (field (λ p. p.idle_time_out) (maybe numbers)))))
 
-abbrev pub open_last_same : Test OpenSaid
+abbrev pub open_last_same : Test OpenModel
 open_last_same =
     both (field (λ p. p.outgoing_locales) (maybe (each texts)))
     (both (field (λ p. p.incoming_locales) (maybe (each texts)))
@@ -123,5 +123,5 @@ open_last_same =
     (both (field (λ p. p.desired_capabilities) (maybe (each texts)))
     (field (λ p. p.properties) (maybe texts)))))
 
-abbrev pub open_same : Test OpenSaid
+abbrev pub open_same : Test OpenModel
 open_same = both open_first_same open_last_same

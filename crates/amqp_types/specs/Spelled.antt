@@ -6,9 +6,9 @@ use Rattle.amqp_values.specs.declared.error.ReadError.{ReadError}
 use Rattle.amqp_values.specs.Reading.{Answers, ReadsFront}
 use Rattle.amqp_types.specs.declared.performatives.Performative.{Performative}
 use Rattle.amqp_types.specs.declared.performatives.Performative.TheVariants.{Transfer}
-use Rattle.amqp_types.specs.declared.performatives.transfer.TransferText.{TransferText}
+use Rattle.amqp_types.specs.declared.performatives.transfer.TransferFragment.{TransferFragment}
 use Rattle.amqp_types.specs.Performatives.{IsPerformative, performative_text}
-use Rattle.amqp_types.specs.Transfer.{TransferSaid, said_in}
+use Rattle.amqp_types.specs.Transfer.{TransferModel, said_in}
 
 -- the canonical text spells the performative, if it has at most 4294967295 bytes
 abbrev pub IsSpelledIfShort : Performative → Type 0
@@ -22,8 +22,8 @@ IsReadBack p =
     → Answers {Y = Performative × List ℕ} (λ x. x) result (Some (p, rest))
 
 -- the texts of a transfer and of each transfer that it is cut into spell them
-abbrev pub TextsAreSpelled : TransferSaid → Type 0
-TextsAreSpelled t = (text : TransferText) → IsSpelledIfShort (Transfer (said_in text t))
+abbrev pub TextsAreSpelled : TransferModel → Type 0
+TextsAreSpelled t = (text : TransferFragment) → IsSpelledIfShort (Transfer (said_in text t))
 
 abbrev pub CutIsSpelled : Performative → Type 0
-CutIsSpelled p = (t : TransferSaid) → p ≡ Transfer t → TextsAreSpelled t
+CutIsSpelled p = (t : TransferModel) → p ≡ Transfer t → TextsAreSpelled t

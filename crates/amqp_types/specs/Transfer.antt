@@ -2,9 +2,9 @@
 -- Transfer: its fields, and how they stand in a list (AMQP 1.0 part 2, section 2.7.5).
 use Rattle.std.specs.Prelude.{ℕ, List, [], ◌∷◌, Option, Some, None, Bool, true, false}
 use Rattle.amqp_types.specs.declared.definitions.ReceiverSettleMode.{ReceiverSettleMode}
-use Rattle.amqp_types.specs.declared.performatives.transfer.TransferText.{TransferText}
-use Rattle.amqp_types.specs.declared.performatives.transfer.TransferText.TheVariants as text
-use Rattle.amqp_values.specs.declared.parts.Parts.{Parts}
+use Rattle.amqp_types.specs.declared.performatives.transfer.TransferFragment.{TransferFragment}
+use Rattle.amqp_types.specs.declared.performatives.transfer.TransferFragment.TheVariants as text
+use Rattle.amqp_values.specs.declared.list_reader.ListReader.{ListReader}
 use Rattle.amqp_values.specs.Number.{IsBoolean, IsUint, boolean_at, uint_at}
 use Rattle.amqp_values.specs.Text.{IsBinary, binary_at}
 use Rattle.amqp_values.specs.Raw.{SpellsRaw, raw_at}
@@ -14,7 +14,7 @@ use Rattle.amqp_values.specs.Writing.{binary_text, boolean_text, optional_text, 
 use Rattle.amqp_values.specs.Same.{Test, both, field, flags, maybe, numbers, texts}
 use Rattle.amqp_types.specs.Definitions.{IsReceiverMode, flag_text, receiver_mode_at, receiver_mode_text, receiver_modes, value_text}
 
-pub record TransferSaid : Type 0 where
+pub record TransferModel : Type 0 where
   pub handle : ℕ
   pub delivery_id : Option ℕ
   pub delivery_tag : Option (List ℕ)
@@ -29,7 +29,7 @@ pub record TransferSaid : Type 0 where
 
 -- ---- the grammar
 
-abbrev pub IsTransferBody : TransferSaid → List (List ℕ) → Type 0
+abbrev pub IsTransferBody : TransferModel → List (List ℕ) → Type 0
 IsTransferBody p =
     Slot (IsUint p.handle)
     (Slot (Optional IsUint p.delivery_id)
@@ -51,7 +51,7 @@ TransferSlots =
     ℕ × (Option ℕ × (Option (List ℕ) × (Option ℕ × (Option Bool × (Bool × (Option ReceiverSettleMode × (
     Option (List ℕ) × (Bool × (Bool × (Bool × Unit {0}))))))))))
 
-abbrev pub transfer_of : TransferSlots → TransferSaid
+abbrev pub transfer_of : TransferSlots → TransferModel
 transfer_of x = record {
   handle = slot0 x;
   delivery_id = slot1 x;
@@ -66,7 +66,7 @@ transfer_of x = record {
   batchable = slot10 x;
 }
 
-abbrev pub transfer_slots : TransferSaid → TransferSlots
+abbrev pub transfer_slots : TransferModel → TransferSlots
 transfer_slots p =
     beside p.handle
     (beside p.delivery_id
@@ -81,7 +81,7 @@ transfer_slots p =
     (beside p.batchable
     tt))))))))))
 
-unfoldable pub transfer_body_at : Parts → Option (TransferSaid × Parts)
+unfoldable pub transfer_body_at : ListReader → Option (TransferModel × ListReader)
 transfer_body_at = named_at transfer_of
     (then_at (required_at uint_at)
     (then_at (optional_at uint_at)
@@ -98,7 +98,7 @@ transfer_body_at = named_at transfer_of
 
 -- ---- its canonical text
 
-unfoldable pub transfer_fields : TransferSaid → List (List ℕ)
+unfoldable pub transfer_fields : TransferModel → List (List ℕ)
 transfer_fields p =
     uint_text p.handle ∷
     optional_text uint_text p.delivery_id ∷
@@ -116,22 +116,22 @@ transfer_fields p =
 -- ---- the transfers of a delivery that is cut (section 2.6.14)
 
 -- a later one does not say again what the first one said of the delivery
-abbrev pub continuation : TransferSaid → TransferSaid
+abbrev pub continuation : TransferModel → TransferModel
 continuation t = record t { delivery_id = None; delivery_tag = None; message_format = None; settled = None; rcv_settle_mode = None }
 
-abbrev pub said_in : TransferText → TransferSaid → TransferSaid
+abbrev pub said_in : TransferFragment → TransferModel → TransferModel
 said_in text.Whole t = t
 said_in text.First t = record t { more = true }
 said_in text.Middle t = record (continuation t) { more = true }
 said_in text.Last t = continuation t
 
 -- with the widest number that its delivery can get: five bytes, where an absent one takes one
-abbrev pub widest : TransferSaid → TransferSaid
+abbrev pub widest : TransferModel → TransferModel
 widest t = record t { delivery_id = Some 4294967295 }
 
 -- ---- when two are the same
 
-abbrev pub transfer_first_same : Test TransferSaid
+abbrev pub transfer_first_same : Test TransferModel
 transfer_first_same =
     both (field (λ p. p.handle) numbers)
     (both (field (λ p. p.delivery_id) (maybe numbers))
@@ -140,7 +140,7 @@ transfer_first_same =
     (both (field (λ p. p.settled) (maybe flags))
     (field (λ p. p.more) flags)))))
 
-abbrev pub transfer_last_same : Test TransferSaid
+abbrev pub transfer_last_same : Test TransferModel
 transfer_last_same =
     both (field (λ p. p.rcv_settle_mode) (maybe receiver_modes))
     (both (field (λ p. p.state) (maybe texts))
@@ -148,5 +148,5 @@ transfer_last_same =
     (both (field (λ p. p.aborted) flags)
     (field (λ p. p.batchable) flags))))
 
-abbrev pub transfer_same : Test TransferSaid
+abbrev pub transfer_same : Test TransferModel
 transfer_same = both transfer_first_same transfer_last_same

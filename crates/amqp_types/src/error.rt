@@ -3,12 +3,13 @@
 ghost use Rattle.std.specs.Prelude.{◌≡◌, List, ℕ, Option};
 ghost use Rattle.amqp_values.specs.Reading.{Gives};
 ghost use Rattle.amqp_types.specs.Error.{error_body_at, error_fields};
-ghost use Rattle.amqp_types.specs.Error.{ErrorSaid, error_at};
+ghost use Rattle.amqp_types.specs.Error.{ErrorModel, error_at};
 
 use crate::leaf;
-use amqp_values::composite::described;
-use amqp_values::row::Row3;
-use amqp_values::{Composite, Field, Fields, Leaf, Parts, ReadError, Symbol, codes, row_of};
+use amqp_values::{
+    Composite, Field, Fields, Leaf, ListReader, ReadError, Row3, Symbol, codes, described,
+    field_list,
+};
 use bytes::Bytes;
 use std::alloc::Global;
 use std::fmt::{self, Display, Formatter};
@@ -28,9 +29,9 @@ pub struct Error {
 impl Model for Error {
     ghost use Rattle.std.specs.Prelude.{string_bytes};
     ghost use Rattle.std.specs.Option.{option_map};
-    ghost use Rattle.amqp_types.specs.Error.{ErrorSaid};
+    ghost use Rattle.amqp_types.specs.Error.{ErrorModel};
 
-    ghost Value = { ErrorSaid };
+    ghost Value = { ErrorModel };
 
     ghost view = { λ p. record {
       condition = p.condition;
@@ -68,7 +69,7 @@ impl Composite for Error {
     ghost body_at = { error_body_at };
 
     #[tactic(auto, unfolding(crate::specs::Error::error_body_at))]
-    fn fields(alloc: Global, parts: &mut Parts) -> Result<Error, ReadError> {
+    fn fields(alloc: Global, parts: &mut ListReader) -> Result<Error, ReadError> {
         let condition = parts.required(alloc)?;
         let description = parts.next(alloc)?;
         let info = parts.next(alloc)?;
@@ -82,7 +83,7 @@ impl Composite for Error {
 }
 
 impl Field for Error {
-    ghost Seen = { ErrorSaid };
+    ghost Seen = { ErrorModel };
 
     ghost view = { λ e. e };
 
@@ -101,7 +102,7 @@ impl Error {
     pub(crate) fn parts(&self) -> Row3<Leaf<'_>>
         ensures { result ≡ error_fields self.now }
     {
-        row_of![
+        field_list![
             Leaf::Symbol(&self.condition),
             leaf::optional_string(&self.description),
             leaf::optional_fields(&self.info),

@@ -7,10 +7,10 @@ ghost use Rattle.amqp_types.specs.Kinds.{KindsAreRead};
 ghost use Rattle.amqp_types.specs.Performatives.{ListsAreRead};
 ghost use Rattle.amqp_types.specs.Spelled.{CutIsSpelled, IsReadBack, IsSpelledIfShort, TextsAreSpelled};
 
-use crate::known;
 use crate::performatives::{
     Attach, Begin, Close, Detach, Disposition, End, Flow, Open, Performative, Transfer,
 };
+use crate::value_bounds;
 
 /// [`Items`](crate::Items) ends after as many calls of `next` as its count says, and the parts that it gave, joined, are the
 /// data after the count.
@@ -36,71 +36,71 @@ pub fn text_is_read(performative: &Performative)
     ensures cut { CutIsSpelled performative.now }
     ensures read { IsReadBack performative.now }
 {
-    known::performative(performative);
+    value_bounds::performative(performative);
 }
 
 /// The canonical text of an Open spells it, if it has at most 4294967295 bytes.
-#[tactic(auto, using(crate::proofs::BodyCanonical::open_canonical))]
+#[tactic(auto, using(crate::proofs::BodyCanonicalLemmas::open_canonical))]
 pub fn open_is_spelled(p: &Open)
     ensures { IsSpelledIfShort (performative.Open p.now) }
 {
-    known::open(p);
+    value_bounds::open(p);
 }
 
 /// The canonical text of a Begin spells it, if it has at most 4294967295 bytes.
-#[tactic(auto, using(crate::proofs::BodyCanonical::begin_canonical))]
+#[tactic(auto, using(crate::proofs::BodyCanonicalLemmas::begin_canonical))]
 pub fn begin_is_spelled(p: &Begin)
     ensures { IsSpelledIfShort (performative.Begin p.now) }
 {
-    known::begin(p);
+    value_bounds::begin(p);
 }
 
 /// The canonical text of an Attach spells it, if it has at most 4294967295 bytes.
-#[tactic(auto, using(crate::proofs::BodyCanonical::attach_canonical))]
+#[tactic(auto, using(crate::proofs::BodyCanonicalLemmas::attach_canonical))]
 pub fn attach_is_spelled(p: &Attach)
     ensures { IsSpelledIfShort (performative.Attach p.now) }
 {
-    known::attach(p);
+    value_bounds::attach(p);
 }
 
 /// The canonical text of a Flow spells it, if it has at most 4294967295 bytes.
-#[tactic(auto, using(crate::proofs::BodyCanonical::flow_canonical))]
+#[tactic(auto, using(crate::proofs::BodyCanonicalLemmas::flow_canonical))]
 pub fn flow_is_spelled(p: &Flow)
     ensures { IsSpelledIfShort (performative.Flow p.now) }
 {
-    known::flow(p);
+    value_bounds::flow(p);
 }
 
 /// The canonical text of a Disposition spells it, if it has at most 4294967295 bytes.
-#[tactic(auto, using(crate::proofs::BodyCanonical::disposition_canonical))]
+#[tactic(auto, using(crate::proofs::BodyCanonicalLemmas::disposition_canonical))]
 pub fn disposition_is_spelled(p: &Disposition)
     ensures { IsSpelledIfShort (performative.Disposition p.now) }
 {
-    known::disposition(p);
+    value_bounds::disposition(p);
 }
 
 /// The canonical text of a Detach spells it, if it has at most 4294967295 bytes.
-#[tactic(auto, using(crate::proofs::BodyCanonical::detach_canonical))]
+#[tactic(auto, using(crate::proofs::BodyCanonicalLemmas::detach_canonical))]
 pub fn detach_is_spelled(p: &Detach)
     ensures { IsSpelledIfShort (performative.Detach p.now) }
 {
-    known::detach(p);
+    value_bounds::detach(p);
 }
 
 /// The canonical text of an End spells it, if it has at most 4294967295 bytes.
-#[tactic(auto, using(crate::proofs::BodyCanonical::end_canonical))]
+#[tactic(auto, using(crate::proofs::BodyCanonicalLemmas::end_canonical))]
 pub fn end_is_spelled(p: &End)
     ensures { IsSpelledIfShort (performative.End p.now) }
 {
-    known::end(p);
+    value_bounds::end(p);
 }
 
 /// The canonical text of a Close spells it, if it has at most 4294967295 bytes.
-#[tactic(auto, using(crate::proofs::BodyCanonical::close_canonical))]
+#[tactic(auto, using(crate::proofs::BodyCanonicalLemmas::close_canonical))]
 pub fn close_is_spelled(p: &Close)
     ensures { IsSpelledIfShort (performative.Close p.now) }
 {
-    known::close(p);
+    value_bounds::close(p);
 }
 
 /// The canonical text of a Transfer spells it, and so does that of each transfer that it is cut into, if it has at most
@@ -108,5 +108,5 @@ pub fn close_is_spelled(p: &Close)
 pub fn transfer_is_spelled(p: &Transfer)
     ensures { TextsAreSpelled p.now }
 {
-    known::transfer(p);
+    value_bounds::transfer(p);
 }

@@ -3,15 +3,15 @@
 
 mod copies;
 mod defaults;
-pub mod definitions;
-pub mod error;
-mod known;
+mod definitions;
+mod error;
+mod field_ref;
 pub mod laws;
 mod leaf;
-pub mod outcomes;
-mod part;
-pub mod performatives;
-pub mod states;
+mod outcomes;
+mod performatives;
+mod states;
+mod value_bounds;
 
 pub use amqp_values::{Fields, Items, Raw, ReadError, Symbol, ValueRef, WriteError, is_terminal};
 pub use definitions::{
@@ -22,6 +22,6 @@ pub use error::Error;
 pub use outcomes::rejected;
 pub use performatives::{
     Attach, Begin, Close, Detach, Disposition, End, Flow, Kind, Open, Performative, Transfer,
-    TransferText,
+    TransferFragment,
 };
 pub use states::{ConnectionState, SessionState};

@@ -6,9 +6,8 @@ ghost use Rattle.amqp_values.specs.Raw.{IsRaw};
 ghost use Rattle.amqp_types.specs.Defaults.{rejected_text};
 
 use crate::error::Error;
-use crate::part::Part;
-use amqp_values::writing::{described_len, put_described};
-use amqp_values::{Raw, ReadError, codes, row_of};
+use crate::field_ref::FieldRef;
+use amqp_values::{Raw, ReadError, codes, described_len, field_list, put_described};
 use bytes::{Bytes, BytesMut};
 use std::alloc::{AllocError, Global};
 
@@ -20,7 +19,7 @@ pub fn rejected(alloc: Global, error: &Error) -> Result<Raw, ReadError>
     ensures text { IfOk result (λ raw. raw ≡ rejected_text error.now) }
     ensures malformed { result ≡ Err Malformed → length (rejected_text error.now) < 2 ^ 32 → IsRaw (rejected_text error.now) → ⊥ }
 {
-    let fields = row_of![Part::Error(error)];
+    let fields = field_list![FieldRef::Error(error)];
     let len = described_len(&fields);
     if len > u128::from(u32::MAX) {
         return Err(ReadError::Malformed);
@@ -40,7 +39,7 @@ fn text_of(alloc: Global, error: &Error, len: usize) -> Result<Bytes, AllocError
     let mut text = BytesMut::with_capacity(alloc, len)?;
     put_described(
         codes::REJECTED,
-        &row_of![Part::Error(error)],
+        &field_list![FieldRef::Error(error)],
         len,
         &mut text,
     );

@@ -6,19 +6,18 @@ ghost use Rattle.amqp_values.specs.Reading.{Answers, Gives, ReadsFront};
 ghost use Rattle.amqp_values.specs.Writing.{IsTooLarge};
 ghost use Rattle.amqp_types.specs.Performatives.{IsPerformative, body_at, performative_at, performative_text};
 
-pub mod attach;
-pub mod begin;
-pub mod close;
-pub mod detach;
-pub mod disposition;
-pub mod end;
-pub mod flow;
-pub mod kind;
-pub mod open;
-pub mod transfer;
+mod attach;
+mod begin;
+mod close;
+mod detach;
+mod disposition;
+mod end;
+mod flow;
+mod kind;
+mod open;
+mod transfer;
 
-use amqp_values::composite::read_list;
-use amqp_values::{Composite, ReadError, WriteError};
+use amqp_values::{Composite, ReadError, WriteError, read_list};
 pub use attach::Attach;
 pub use begin::Begin;
 use bytes::{Bytes, BytesMut};
@@ -30,7 +29,7 @@ pub use flow::Flow;
 pub use kind::Kind;
 pub use open::Open;
 use std::alloc::Global;
-pub use transfer::{Transfer, TransferText};
+pub use transfer::{Transfer, TransferFragment};
 
 /// A performative (part 2, section 2.7).
 #[derive(Clone, Debug, Drop, PartialEq)]

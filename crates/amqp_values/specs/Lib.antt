@@ -6,10 +6,10 @@ pub mod Slots
 pub mod Composite
 pub mod Writing
 pub mod Same
-pub mod Kind
+pub mod FormatClass
 pub mod Walk
 pub mod Grammar
 pub mod Raw
 pub mod Parts
 pub mod Outcome
-pub mod Held
+pub mod Inner

@@ -2,29 +2,29 @@
 -- The parts of lists and maps.
 use Rattle.std.specs.Prelude.{◌≡◌, ℕ, zero, suc, ◌-◌, ◌%◌, List, [], ◌∷◌, ◌++◌, length, take, drop, Option, Some, None}
 use Rattle.std.specs.Prelude.{Bool, ◌==◌, if◌then◌else◌}
-use Rattle.amqp_values.specs.declared.kind.Kind.{Kind}
-use Rattle.amqp_values.specs.declared.kind.Kind.TheVariants as kind
-use Rattle.amqp_values.specs.Kind.{kind_of}
+use Rattle.amqp_values.specs.declared.format_class.FormatClass.{FormatClass}
+use Rattle.amqp_values.specs.declared.format_class.FormatClass.TheVariants as class
+use Rattle.amqp_values.specs.FormatClass.{class_of}
 use Rattle.amqp_values.specs.Reading.{◌>>=◌, byte_at, count_at, region_at, IsNumber, joined}
 use Rattle.amqp_values.specs.Walk.{value_at}
 use Rattle.amqp_values.specs.Grammar.{IsValue, Values}
 
 -- The parts of a list or a map behind its constructor: as many as its count says, and joined they are the data after the
 -- count. Those of a map are its keys and values in turn, so their number is even.
-pub data ItemsIn : Kind → List ℕ → List (List ℕ) → Type 0 where
-  no_items : ItemsIn kind.List0 [] []
+pub data ItemsIn : FormatClass → List ℕ → List (List ℕ) → Type 0 where
+  no_items : ItemsIn class.List0 [] []
   list_items : (wide : Bool) (size count : List ℕ) (parts : List (List ℕ))
       → IsNumber wide size (length (count ++ joined parts)) → IsNumber wide count (length parts)
-      → Values 64 parts → ItemsIn (kind.List wide) (size ++ (count ++ joined parts)) parts
+      → Values 64 parts → ItemsIn (class.List wide) (size ++ (count ++ joined parts)) parts
   map_items : (wide : Bool) (size count : List ℕ) (parts : List (List ℕ)) → IsNumber wide size (length (count ++ joined parts))
       → IsNumber wide count (length parts)
-      → length parts % 2 ≡ 0 → Values 64 parts → ItemsIn (kind.Map wide) (size ++ (count ++ joined parts)) parts
+      → length parts % 2 ≡ 0 → Values 64 parts → ItemsIn (class.Map wide) (size ++ (count ++ joined parts)) parts
 
 pub record IsItems (bytes : List ℕ) (parts : List (List ℕ)) : Type 0 where
   pub code : ℕ
   pub body : List ℕ
   pub whole : bytes ≡ code ∷ body
-  pub items : ItemsIn (kind_of code) body parts
+  pub items : ItemsIn (class_of code) body parts
 
 -- the items of a list or a map are given, all of them and in their order; of any other value none are
 abbrev pub Lends : List ℕ → Option (List (List ℕ)) → Type 0
@@ -51,14 +51,14 @@ pub record AllParts (n : ℕ) (bytes : List ℕ) : Type 0 where
   pub count : n ≡ length (parts_at n bytes)
 
 -- a count, and the data after it
-abbrev pub open_in : Kind → List ℕ → Option (ℕ × List ℕ)
-open_in kind.List0 bytes = Some (0, bytes)
-open_in (kind.List wide) bytes = region_at wide bytes >>= λ r. count_at wide r.0
-open_in (kind.Map wide) bytes = region_at wide bytes >>= λ r. count_at wide r.0
+abbrev pub open_in : FormatClass → List ℕ → Option (ℕ × List ℕ)
+open_in class.List0 bytes = Some (0, bytes)
+open_in (class.List wide) bytes = region_at wide bytes >>= λ r. count_at wide r.0
+open_in (class.Map wide) bytes = region_at wide bytes >>= λ r. count_at wide r.0
 open_in k bytes = None
 
 unfoldable pub open_at : List ℕ → Option (ℕ × List ℕ)
-open_at bytes = byte_at bytes >>= λ c. open_in (kind_of c.0) c.1
+open_at bytes = byte_at bytes >>= λ c. open_in (class_of c.0) c.1
 
 -- ---- a described value: its descriptor, and the value inside
 pub record IsDescribed (bytes descriptor inner : List ℕ) : Type 0 where

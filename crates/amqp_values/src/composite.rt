@@ -1,35 +1,35 @@
 //! Composites: described lists, read by the table of their fields.
 
 ghost use Rattle.std.specs.Prelude.{◌≡◌, ℕ, List, Option};
-ghost use Rattle.amqp_values.specs.declared.parts.Parts.{Parts};
+ghost use Rattle.amqp_values.specs.declared.list_reader.ListReader.{ListReader};
 ghost use Rattle.amqp_values.specs.Reading.{Gives};
 ghost use Rattle.amqp_values.specs.Composite.{list_at, composite_at, code_of, meaning_at, name_at, descriptor_at, described_at};
 
 use crate::codes;
 use crate::cursor::{take_byte, take_count, take_region, take_u64};
 use crate::error::ReadError;
-use crate::parts::Parts;
+use crate::list_reader::ListReader;
 use bytes::Bytes;
 use std::alloc::Global;
 
 /// A type whose fields stand in a described list (AMQP 1.0 part 1, section 1.4).
 pub trait Composite: Drop {
-    ghost body_at: { Parts → Option (Self × Parts) };
+    ghost body_at: { ListReader → Option (Self × ListReader) };
 
     /// The fields, in order: all parts are taken, and no more than the table has. `Malformed` where one is not of its
     /// type, a mandatory one is null or absent, or a part is left over; `OutOfMemory` as the fields answer it.
-    fn fields(alloc: Global, parts: &mut Parts) -> Result<Self, ReadError>
+    fn fields(alloc: Global, parts: &mut ListReader) -> Result<Self, ReadError>
         ensures { Gives (λ x. x) result parts.new (body_at parts.old) };
 }
 
 #[tactic(auto, unfolding(crate::specs::Composite::list_at))]
 #[inline(always)]
-fn list(bytes: &mut Bytes) -> Result<Parts, ReadError>
+fn list(bytes: &mut Bytes) -> Result<ListReader, ReadError>
     ensures { Gives (λ p. p) result bytes.new (list_at bytes.old) }
 {
     let wide = match take_byte(bytes)? {
         codes::LIST0 => {
-            return Ok(Parts {
+            return Ok(ListReader {
                 left: 0,
                 bytes: Bytes::new(),
             });
@@ -46,7 +46,7 @@ fn list(bytes: &mut Bytes) -> Result<Parts, ReadError>
         Ok(left) => left,
         Err(error) => return Err(error),
     };
-    Ok(Parts { left, bytes })
+    Ok(ListReader { left, bytes })
 }
 
 /// The composite whose list stands at the front, behind its descriptor.

@@ -3,34 +3,38 @@
 
 mod array;
 pub mod codes;
-pub mod composite;
+mod composite;
 mod cursor;
-pub mod encode;
-pub mod error;
-pub mod field;
-pub mod fields;
-mod kind;
-pub mod leaf;
-pub mod outcome;
-pub mod parts;
-pub mod raw;
-pub mod row;
-pub mod symbol;
+mod encode;
+mod error;
+mod field;
+mod fields;
+mod format_class;
+mod leaf;
+mod list_reader;
+mod outcome;
+mod raw;
+mod row;
+mod symbol;
 mod symbols;
 mod text;
-pub mod value;
+mod value;
 mod walk;
-pub mod writing;
+mod writing;
 
-pub use composite::Composite;
+pub use composite::{Composite, described, descriptor, read_list};
 pub use encode::Encode;
 pub use error::{ReadError, WriteError};
 pub use field::Field;
 pub use fields::Fields;
 pub use leaf::{Binary, Leaf};
+pub use list_reader::ListReader;
 pub use outcome::is_terminal;
-pub use parts::Parts;
 pub use raw::Raw;
-pub use row::Row;
+pub use row::{
+    Cons, Cons2, Cons4, Extent, NoMore, Row, Row1, Row2, Row3, Row4, Row5, Row6, Row7, Row8, Row9,
+    Row10, Row11, Row12, Row14,
+};
 pub use symbol::Symbol;
 pub use value::{Items, ValueRef};
+pub use writing::{described_len, put_described};

@@ -74,7 +74,7 @@ impl Raw {
     }
 
     /// The outcome accepted (part 3, section 3.4.2). Takes no memory.
-    #[tactic(auto, using(crate::proofs::Outcomes::outcome_is_raw))]
+    #[tactic(auto, using(crate::proofs::OutcomeLemmas::outcome_is_raw))]
     pub fn accepted() -> Raw
         ensures { result ≡ outcome_text 0x24 }
     {
@@ -89,7 +89,7 @@ impl Raw {
     }
 
     /// The outcome released (part 3, section 3.4.4). Takes no memory.
-    #[tactic(auto, using(crate::proofs::Outcomes::outcome_is_raw))]
+    #[tactic(auto, using(crate::proofs::OutcomeLemmas::outcome_is_raw))]
     pub fn released() -> Raw
         ensures { result ≡ outcome_text 0x26 }
     {
@@ -104,7 +104,7 @@ impl Raw {
     }
 
     /// The outcome modified, in which neither field is set (part 3, section 3.4.5): as released, by the standard. Takes no memory.
-    #[tactic(auto, using(crate::proofs::Outcomes::outcome_is_raw))]
+    #[tactic(auto, using(crate::proofs::OutcomeLemmas::outcome_is_raw))]
     pub fn modified() -> Raw
         ensures { result ≡ outcome_text 0x27 }
     {

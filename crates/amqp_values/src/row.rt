@@ -48,14 +48,14 @@ pub struct NoMore;
 
 /// A field, and those behind it.
 #[derive(Drop)]
-pub struct Then<T: Encode, R: Row>(pub T, pub R);
+pub struct Cons<T: Encode, R: Row>(pub T, pub R);
 
 /// Two fields, and those behind them. What is proved of a row takes twice as long for each level of its type, so rows of many
 /// fields have two at a level.
 #[derive(Drop)]
-pub struct Two<A: Encode, B: Encode, R: Row>(pub A, pub B, pub R);
+pub struct Cons2<A: Encode, B: Encode, R: Row>(pub A, pub B, pub R);
 
-impl<T: Encode, R: Row> Model for Then<T, R> {
+impl<T: Encode, R: Row> Model for Cons<T, R> {
     ghost use Rattle.std.specs.Prelude.{ℕ, List, ◌∷◌};
 
     ghost Value = { List (List ℕ) };
@@ -63,7 +63,7 @@ impl<T: Encode, R: Row> Model for Then<T, R> {
     ghost view = { λ r. T.text r.0 ∷ R.texts r.1 };
 }
 
-impl<A: Encode, B: Encode, R: Row> Model for Two<A, B, R> {
+impl<A: Encode, B: Encode, R: Row> Model for Cons2<A, B, R> {
     ghost use Rattle.std.specs.Prelude.{ℕ, List, ◌∷◌};
 
     ghost Value = { List (List ℕ) };
@@ -105,7 +105,7 @@ impl Row for NoMore {
     fn put(&self, _count: usize, _out: &mut BytesMut) {}
 }
 
-impl<T: Encode, R: Row> Row for Then<T, R> {
+impl<T: Encode, R: Row> Row for Cons<T, R> {
     ghost texts = { λ r. r };
 
     ghost most = { T.most + R.most };
@@ -124,7 +124,7 @@ impl<T: Encode, R: Row> Row for Then<T, R> {
     }
 }
 
-impl<A: Encode, B: Encode, R: Row> Row for Two<A, B, R> {
+impl<A: Encode, B: Encode, R: Row> Row for Cons2<A, B, R> {
     ghost texts = { λ r. r };
 
     ghost most = { A.most + (B.most + R.most) };
@@ -144,7 +144,7 @@ impl<A: Encode, B: Encode, R: Row> Row for Two<A, B, R> {
     }
 }
 
-impl<A: Encode, B: Encode, R: Row> Two<A, B, R> {
+impl<A: Encode, B: Encode, R: Row> Cons2<A, B, R> {
     /// Appends the texts of the first `count` fields behind the first one, to a buffer that has room for them.
     #[inline(always)]
     fn put_behind(&self, count: usize, out: &mut BytesMut)
@@ -162,38 +162,50 @@ impl<A: Encode, B: Encode, R: Row> Two<A, B, R> {
 
 /// The row of these fields.
 #[macro_export]
-macro_rules! row_of {
-    () => { $crate::row::NoMore };
-    ($only:expr $(,)?) => { $crate::row::Then($only, $crate::row::NoMore) };
-    ($first:expr, $second:expr $(, $others:expr)* $(,)?) => { $crate::row::Two($first, $second, $crate::row_of!($($others),*)) };
+macro_rules! field_list {
+    () => { $crate::NoMore };
+    ($only:expr $(,)?) => { $crate::Cons($only, $crate::NoMore) };
+    ($first:expr, $second:expr $(, $others:expr)* $(,)?) => { $crate::Cons2($first, $second, $crate::field_list!($($others),*)) };
 }
 
-// Rows of one type of field, by the number of their fields.
-pub type Row1<T> = Then<T, NoMore>;
+/// One field of one type.
+pub type Row1<T> = Cons<T, NoMore>;
 
-pub type Row2<T> = Two<T, T, NoMore>;
+/// Two fields of one type.
+pub type Row2<T> = Cons2<T, T, NoMore>;
 
-pub type Row3<T> = Two<T, T, Row1<T>>;
+/// Three fields of one type.
+pub type Row3<T> = Cons2<T, T, Row1<T>>;
 
-pub type Row4<T> = Two<T, T, Row2<T>>;
+/// Four fields of one type.
+pub type Row4<T> = Cons2<T, T, Row2<T>>;
 
-pub type Row5<T> = Two<T, T, Row3<T>>;
+/// Five fields of one type.
+pub type Row5<T> = Cons2<T, T, Row3<T>>;
 
-pub type Row6<T> = Two<T, T, Row4<T>>;
+/// Six fields of one type.
+pub type Row6<T> = Cons2<T, T, Row4<T>>;
 
-pub type Row7<T> = Two<T, T, Row5<T>>;
+/// Seven fields of one type.
+pub type Row7<T> = Cons2<T, T, Row5<T>>;
 
-pub type Row8<T> = Two<T, T, Row6<T>>;
+/// Eight fields of one type.
+pub type Row8<T> = Cons2<T, T, Row6<T>>;
 
-pub type Row9<T> = Two<T, T, Row7<T>>;
+/// Nine fields of one type.
+pub type Row9<T> = Cons2<T, T, Row7<T>>;
 
-pub type Row10<T> = Two<T, T, Row8<T>>;
+/// Ten fields of one type.
+pub type Row10<T> = Cons2<T, T, Row8<T>>;
 
-pub type Row11<T> = Two<T, T, Row9<T>>;
+/// Eleven fields of one type.
+pub type Row11<T> = Cons2<T, T, Row9<T>>;
 
-pub type Row12<T> = Two<T, T, Row10<T>>;
+/// Twelve fields of one type.
+pub type Row12<T> = Cons2<T, T, Row10<T>>;
 
-pub type Row14<T> = Two<T, T, Row12<T>>;
+/// Fourteen fields of one type.
+pub type Row14<T> = Cons2<T, T, Row12<T>>;
 
 /// Four fields, and those behind them.
-pub type Then4<A, B, C, D, R> = Two<A, B, Two<C, D, R>>;
+pub type Cons4<A, B, C, D, R> = Cons2<A, B, Cons2<C, D, R>>;

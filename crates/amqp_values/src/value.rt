@@ -6,7 +6,7 @@ ghost use Rattle.std.specs.Option.{option_map};
 ghost use Rattle.amqp_values.specs.Grammar.{IsValue};
 ghost use Rattle.amqp_values.specs.Parts.{Lends, LendsDescriptor, LendsInner, front_at, halves_at, open_at};
 
-use crate::kind::{Kind, kind_at};
+use crate::format_class::{FormatClass, class_at};
 use crate::walk::{count, first, region, value_rest};
 use std::marker::Model;
 
@@ -74,7 +74,7 @@ impl<'a> PartialEq for Items<'a> {
     ghost laws = { partial_equiv_from_equiv (lists_equiv nat_list_eq_equiv) };
 
     /// Whether the parts that are left are spelled alike.
-    #[tactic(auto, using(crate::proofs::Alike::same_parts))]
+    #[tactic(auto, using(crate::proofs::SameItemsLemmas::same_parts))]
     fn eq(&self, other: &Items<'a>) -> bool {
         self.left == other.left && self.bytes == other.bytes
     }
@@ -139,9 +139,9 @@ fn open(bytes: &[u8]) -> Option<(u32, &[u8])>
     ensures { option_map (λ x. (x.0, x.1.now)) result ≡ open_at bytes.now }
 {
     let (code, data) = first(bytes)?;
-    match kind_at(code) {
-        Kind::List0 => Some((0, data)),
-        Kind::List(wide) | Kind::Map(wide) => {
+    match class_at(code) {
+        FormatClass::List0 => Some((0, data)),
+        FormatClass::List(wide) | FormatClass::Map(wide) => {
             let (inner, _) = region(wide, data)?;
             count(wide, inner)
         }

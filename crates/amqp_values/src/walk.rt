@@ -8,7 +8,7 @@ ghost use Rattle.amqp_values.specs.Walk.{is_dataless, level, may_hold, repeat, r
 ghost use Rattle.amqp_values.specs.Walk.{value_at, value_of};
 
 use crate::codes;
-use crate::kind::{Kind, kind_at};
+use crate::format_class::{FormatClass, class_at};
 
 /// A length or a count of one byte, or of four, and the rest.
 pub(crate) fn count(wide: bool, bytes: &[u8]) -> Option<(u32, &[u8])>
@@ -68,7 +68,7 @@ fn value(bytes: &[u8], depth: u8) -> Option<&[u8]>
 {
     let (code, rest) = first(bytes)?;
     if code != 0 {
-        return data(kind_at(code), rest, depth);
+        return data(class_at(code), rest, depth);
     }
     if depth == 0 {
         return None;
@@ -80,36 +80,36 @@ fn value(bytes: &[u8], depth: u8) -> Option<&[u8]>
 /// The bytes behind the data of one value of this kind.
 #[cycle(walk)]
 #[tactic(auto, unfolding(crate::specs::Walk::data_of))]
-fn data(kind: Kind, bytes: &[u8], depth: u8) -> Option<&[u8]>
-    ensures { option_map (λ r. r.now) result ≡ data_of (under depth) kind bytes.now }
+fn data(class: FormatClass, bytes: &[u8], depth: u8) -> Option<&[u8]>
+    ensures { option_map (λ r. r.now) result ≡ data_of (under depth) class bytes.now }
 {
-    match kind {
-        Kind::Fixed(n) => {
+    match class {
+        FormatClass::Fixed(n) => {
             let (_, rest) = cut(n, bytes)?;
             Some(rest)
         }
-        Kind::Flag => match bytes {
+        FormatClass::Flag => match bytes {
             [0 | 1, rest @ ..] => Some(rest),
             _ => None,
         },
-        Kind::Variable(wide) => {
+        FormatClass::Variable(wide) => {
             let (_, rest) = region(wide, bytes)?;
             Some(rest)
         }
-        Kind::List0 if depth == 0 => None,
-        Kind::List0 => Some(bytes),
-        Kind::List(wide) | Kind::Map(wide) | Kind::Array(wide) => compound(
-            kind, wide, bytes, depth,
+        FormatClass::List0 if depth == 0 => None,
+        FormatClass::List0 => Some(bytes),
+        FormatClass::List(wide) | FormatClass::Map(wide) | FormatClass::Array(wide) => compound(
+            class, wide, bytes, depth,
         ),
-        Kind::Unknown => None,
+        FormatClass::Unknown => None,
     }
 }
 
 /// The bytes behind a size, a count and the parts or elements, which have to fill the size exactly.
 #[cycle(walk)]
 #[tactic(auto, unfolding(crate::specs::Walk::inside))]
-fn compound(kind: Kind, wide: bool, bytes: &[u8], depth: u8) -> Option<&[u8]>
-    ensures { option_map (λ r. r.now) result ≡ compound_of (under depth) kind wide bytes.now }
+fn compound(class: FormatClass, wide: bool, bytes: &[u8], depth: u8) -> Option<&[u8]>
+    ensures { option_map (λ r. r.now) result ≡ compound_of (under depth) class wide bytes.now }
 {
     if depth == 0 {
         return None;
@@ -117,22 +117,22 @@ fn compound(kind: Kind, wide: bool, bytes: &[u8], depth: u8) -> Option<&[u8]>
     let below = depth - 1;
     let (region, rest) = region(wide, bytes)?;
     let (count, inner) = count(wide, region)?;
-    let left = inside(kind, count, inner, below)?;
+    let left = inside(class, count, inner, below)?;
     if left.is_empty() { Some(rest) } else { None }
 }
 
 /// What is left of a region behind its count.
 #[cycle(walk)]
 #[tactic(auto, unfolding(crate::specs::Walk::inside))]
-fn inside(kind: Kind, count: u32, bytes: &[u8], depth: u8) -> Option<&[u8]>
-    ensures { option_map (λ r. r.now) result ≡ inside (level depth) kind count bytes.now }
+fn inside(class: FormatClass, count: u32, bytes: &[u8], depth: u8) -> Option<&[u8]>
+    ensures { option_map (λ r. r.now) result ≡ inside (level depth) class count bytes.now }
 {
-    match kind {
-        Kind::List(_) => values(count, bytes, depth),
-        Kind::Map(_) if count % 2 == 0 => values(count, bytes, depth),
-        Kind::Array(_) if count > 0 => elements(count, bytes, depth),
-        Kind::Array(_) if bytes.is_empty() => Some(bytes),
-        Kind::Array(_) => constructor(bytes, depth),
+    match class {
+        FormatClass::List(_) => values(count, bytes, depth),
+        FormatClass::Map(_) if count % 2 == 0 => values(count, bytes, depth),
+        FormatClass::Array(_) if count > 0 => elements(count, bytes, depth),
+        FormatClass::Array(_) if bytes.is_empty() => Some(bytes),
+        FormatClass::Array(_) => constructor(bytes, depth),
         _ => None,
     }
 }
@@ -158,7 +158,7 @@ fn elements(count: u32, bytes: &[u8], depth: u8) -> Option<&[u8]>
 {
     let (code, rest) = first(bytes)?;
     if code != 0 {
-        return run(kind_at(code), count, rest, depth);
+        return run(class_at(code), count, rest, depth);
     }
     if depth == 0 {
         return None;
@@ -176,7 +176,7 @@ fn constructor(bytes: &[u8], depth: u8) -> Option<&[u8]>
     for _ in 0..bytes.len() {
         let (code, behind) = first(rest)?;
         if code != 0 {
-            return if may_hold(kind_at(code), depth) {
+            return if may_hold(class_at(code), depth) {
                 Some(behind)
             } else {
                 None
@@ -192,35 +192,36 @@ fn constructor(bytes: &[u8], depth: u8) -> Option<&[u8]>
 
 /// The bytes behind so many data of one kind. Data of no bytes are looked at once, however many there are.
 #[cycle(walk)]
-fn run(kind: Kind, count: u32, bytes: &[u8], depth: u8) -> Option<&[u8]>
+fn run(class: FormatClass, count: u32, bytes: &[u8], depth: u8) -> Option<&[u8]>
     requires { 0 < count }
-    ensures { option_map (λ r. r.now) result ≡ run_of (under depth) kind count bytes.now }
+    ensures { option_map (λ r. r.now) result ≡ run_of (under depth) class count bytes.now }
 {
-    if is_dataless(kind) {
-        return data(kind, bytes, depth);
+    if is_dataless(class) {
+        return data(class, bytes, depth);
     }
     let mut rest = bytes;
     for _ in 0..count {
-        rest = data(kind, rest, depth)?;
+        rest = data(class, rest, depth)?;
     }
     Some(rest)
 }
 
 /// Whether an array may have a constructor of this kind and no element, where so much depth is left.
-#[tactic(auto, using(crate::proofs::Under::under_some, crate::proofs::Under::under_none, crate::proofs::Under::under_more))]
-fn may_hold(kind: Kind, depth: u8) -> bool
-    ensures { result ≡ may_hold (under depth) kind }
+#[tactic(auto, using(crate::proofs::DepthBoundLemmas::under_some, crate::proofs::DepthBoundLemmas::under_none, crate::proofs::DepthBoundLemmas::under_more))]
+fn may_hold(class: FormatClass, depth: u8) -> bool
+    ensures { result ≡ may_hold (under depth) class }
 {
-    match kind {
-        Kind::Fixed(_) | Kind::Flag | Kind::Variable(_) | Kind::List0 => true,
-        Kind::List(_) | Kind::Map(_) | Kind::Array(_) => depth > 0,
-        Kind::Unknown => false,
+    match class {
+        FormatClass::Fixed(_) | FormatClass::Flag | FormatClass::Variable(_) | FormatClass::List0 =>
+            true,
+        FormatClass::List(_) | FormatClass::Map(_) | FormatClass::Array(_) => depth > 0,
+        FormatClass::Unknown => false,
     }
 }
 
 /// The bytes behind the first value, if its depth is at most `depth`. `None` where no front of the bytes is such a
 /// value.
-#[tactic(auto, using(crate::proofs::Bare::bare_is_read), unfolding(crate::specs::Walk::value_at))]
+#[tactic(auto, using(crate::proofs::SmallDescribedLemmas::bare_is_read), unfolding(crate::specs::Walk::value_at))]
 #[inline(always)]
 pub(crate) fn value_rest(bytes: &[u8], depth: u8) -> Option<&[u8]>
     ensures { option_map (λ r. r.now) result ≡ value_at depth bytes.now }
@@ -233,12 +234,12 @@ pub(crate) fn value_rest(bytes: &[u8], depth: u8) -> Option<&[u8]>
 }
 
 /// Whether the data of this kind have no bytes.
-fn is_dataless(kind: Kind) -> bool
-    ensures { result ≡ is_dataless kind }
+fn is_dataless(class: FormatClass) -> bool
+    ensures { result ≡ is_dataless class }
 {
-    match kind {
-        Kind::Fixed(n) => n == 0,
-        Kind::List0 => true,
+    match class {
+        FormatClass::Fixed(n) => n == 0,
+        FormatClass::List0 => true,
         _ => false,
     }
 }

@@ -38,7 +38,7 @@ fn size_in(len: usize) -> usize
 }
 
 /// Appends the list of these fields, whose text has this length.
-#[tactic(auto, unfolding(crate::specs::Writing::list_text), using(crate::proofs::Trim::trim_take))]
+#[tactic(auto, unfolding(crate::specs::Writing::list_text), using(crate::proofs::TrimLemmas::trim_take))]
 #[inline(always)]
 fn put_list<R: Row>(fields: &R, len: usize, out: &mut BytesMut)
     requires few { length (R.texts fields.now) ≤ 16 }

@@ -1,7 +1,7 @@
 -- Part: other calls.
 -- The error conditions of the standard (part 2, sections 2.8.15 to 2.8.18; the last one is of part 4, section 4.5.8).
 use Rattle.std.specs.Prelude.{ℕ, List, None, codes}
-use Rattle.amqp_types.specs.Error.{ErrorSaid}
+use Rattle.amqp_types.specs.Error.{ErrorModel}
 use Rattle.fe2o3_amqp.specs.declared.conditions.ErrorCondition.{ErrorCondition}
 use Rattle.fe2o3_amqp.specs.declared.conditions.ErrorCondition.TheVariants as is
 
@@ -34,5 +34,5 @@ condition_text is.Stolen = codes "amqp:link:stolen"
 condition_text is.UnknownTransaction = codes "amqp:transaction:unknown-id"
 
 -- the error that says this condition, and nothing more (section 2.8.14)
-abbrev pub error_of : ErrorCondition → ErrorSaid
+abbrev pub error_of : ErrorCondition → ErrorModel
 error_of condition = record { condition = condition_text condition; description = None; info = None }

@@ -2,8 +2,8 @@
 -- What the relay of a transcript answers.
 use Rattle.std.specs.Prelude.{ℕ, List, Bool, true, false, Option, Some, None, if◌then◌else◌}
 use Rattle.amqp_types.specs.declared.definitions.DeliveryTag.{DeliveryTag}
-use Rattle.amqp_types.specs.Detach.{DetachSaid}
-use Rattle.amqp_types.specs.Transfer.{TransferSaid}
+use Rattle.amqp_types.specs.Detach.{DetachModel}
+use Rattle.amqp_types.specs.Transfer.{TransferModel}
 use Rattle.amqp_session.specs.declared.flow.LinkFlow.{LinkFlow}
 use Rattle.amqp_session.specs.declared.numbers.OutputHandle.{OutputHandle}
 
@@ -22,10 +22,10 @@ opened_unless (Some true) delivery = None
 opened_unless (Some false) delivery = delivery
 opened_unless None delivery = delivery
 
-abbrev pub opened_by : TransferSaid → Option (ℕ × DeliveryTag)
+abbrev pub opened_by : TransferModel → Option (ℕ × DeliveryTag)
 opened_by t = opened_unless t.settled (named t.delivery_id t.delivery_tag)
 
 -- a detach that the peer began is answered on the output handle
-abbrev pub answer_of : OutputHandle → DetachSaid → Bool → Option DetachSaid
+abbrev pub answer_of : OutputHandle → DetachModel → Bool → Option DetachModel
 answer_of handle detach true = Some (record { handle = handle.0; closed = detach.closed; error = None })
 answer_of handle detach false = None

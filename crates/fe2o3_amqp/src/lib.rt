@@ -36,7 +36,7 @@ pub use amqp_engine::{
     StepError, Stopped,
 };
 pub use amqp_frames::{
-    DeliveryPart, Frame, FrameBody, FrameDecoder, FrameEncoder, FrameHead, Heads, Piece,
+    DeliveryPart, Frame, FrameBody, FrameDecoder, FrameEncoder, FrameHead, HeaderPool, Piece,
     SendBuffer, split_delivery,
 };
 pub use amqp_session::{
@@ -50,7 +50,7 @@ pub use amqp_types::{
     Attach, Begin, Close, ConnectionState, DeliveryNumber, DeliveryTag, Detach, Disposition, End,
     Fields, Flow, Handle, Items, Kind, Open, Performative, Raw, ReadError, ReceiverSettleMode,
     Role, SenderSettleMode, SequenceNo, SessionState, Symbol, Transfer, TransferNumber,
-    TransferText, Uint, ValueRef, WriteError, is_terminal, rejected,
+    TransferFragment, Uint, ValueRef, WriteError, is_terminal, rejected,
 };
 pub use conditions::ErrorCondition;
 pub use refusals::{PeerAnswer, answer_to};

@@ -6,7 +6,7 @@ ghost use Rattle.amqp_types.specs.Performatives.{performative_text};
 use crate::digits::{dense, read};
 use crate::same::same;
 use amqp_types::laws::text_is_read;
-use amqp_types::{DeliveryTag, Handle, Performative, Transfer, TransferText};
+use amqp_types::{DeliveryTag, Handle, Performative, Transfer, TransferFragment};
 use bytes::{Bytes, BytesMut};
 use std::alloc::Global;
 use std::test::Fail;
@@ -110,7 +110,7 @@ fn delivery() -> Transfer {
     }
 }
 
-fn put_in(alloc: Global, transfer: &Transfer, text: TransferText) -> Result<String, Fail> {
+fn put_in(alloc: Global, transfer: &Transfer, text: TransferFragment) -> Result<String, Fail> {
     let len = transfer.encoded_len_in(text);
     if 1000 < len {
         return Err("a long text".into());
@@ -121,7 +121,7 @@ fn put_in(alloc: Global, transfer: &Transfer, text: TransferText) -> Result<Stri
 }
 
 /// Whether this text of the transfer has these digits, and the length that is said of it.
-fn is_cut_as(alloc: Global, text: TransferText, want: &str) -> Result<bool, Fail> {
+fn is_cut_as(alloc: Global, text: TransferFragment, want: &str) -> Result<bool, Fail> {
     let transfer = delivery();
     let said = put_in(alloc, &transfer, text);
     let len = transfer.encoded_len_in(text);
@@ -133,10 +133,10 @@ fn is_cut_as(alloc: Global, text: TransferText, want: &str) -> Result<bool, Fail
 #[test]
 fn the_texts_of_a_transfer_that_is_cut(rt: HostRuntime) -> Result<(), Fail> {
     let rows = [
-        (TransferText::Whole, "005314c00b054343a004000000014342"),
-        (TransferText::First, "005314c00c064343a00400000001434241"),
-        (TransferText::Middle, "005314c007064340404040 41"),
-        (TransferText::Last, "005314c0020143"),
+        (TransferFragment::Whole, "005314c00b054343a004000000014342"),
+        (TransferFragment::First, "005314c00c064343a00400000001434241"),
+        (TransferFragment::Middle, "005314c007064340404040 41"),
+        (TransferFragment::Last, "005314c0020143"),
     ];
     for (text, want) in rows {
         same(

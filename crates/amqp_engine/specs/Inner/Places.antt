@@ -5,7 +5,7 @@ use Rattle.std.specs.Ordering.{nat_cmp}
 use Rattle.std.specs.Map.{lookup, set_value}
 use Rattle.std.specs.FinMap as map
 use Rattle.std.specs.BinaryHeap.{IsHeap}
-use Rattle.amqp_types.specs.Error.{ErrorSaid}
+use Rattle.amqp_types.specs.Error.{ErrorModel}
 use Rattle.amqp_engine.specs.declared.engine.handle_state.SessionSlot.{SessionSlot}
 use Rattle.amqp_connection.specs.declared.numbers.SessionNo.{SessionNo}
 use Rattle.amqp_session.specs.declared.error.SessionStateError.TheVariants as ended
@@ -35,7 +35,7 @@ pub record KeptView : Type 0 where
   pub places : map.FinMap nat_cmp Bool
   pub room : ℕ
 
-abbrev pub kept_view : Option CloseOutcome → Option (Option ErrorSaid) → List (ℕ × SessionSlot) → ℕ → KeptView
+abbrev pub kept_view : Option CloseOutcome → Option (Option ErrorModel) → List (ℕ × SessionSlot) → ℕ → KeptView
 kept_view outcome close places room = record {
   outcomes = record { connection = outcome; sessions = pick (λ p. p.outcome) places };
   wishes = record { close = close; ends = pick (λ p. p.wish) places };
@@ -84,7 +84,7 @@ has_entries [] = false
 has_entries (x ∷ xs) = true
 
 -- The End of the lowest number is taken; the others stay.
-abbrev pub TakesEnd : Wishes → Option (SessionNo × Option ErrorSaid) → Wishes → Type 0
+abbrev pub TakesEnd : Wishes → Option (SessionNo × Option ErrorModel) → Wishes → Type 0
 TakesEnd w None w' = (map.entries w.ends ≡ []) × (w' ≡ w)
 TakesEnd w (Some e) w' = (map.entries w.ends ≡ (e.0.0, e.1) ∷ map.entries w'.ends) × (w'.close ≡ w.close)
 
@@ -95,10 +95,10 @@ abbrev pub Seated : {X : Type 0} → List (ℕ × X) → map.FinMap nat_cmp Bool
 Seated es places = (n : ℕ) → is_some (lookup (nat_eq n) es) ≡ is_some (map.get places n)
 
 -- this is the copy of the error that the answer names
-abbrev pub IsCloseCopy : Option ConnectionStateError → Option ErrorSaid → Type 0
+abbrev pub IsCloseCopy : Option ConnectionStateError → Option ErrorModel → Type 0
 IsCloseCopy (Some (closed.RemoteClosedWithError e)) copy = copy ≡ Some e
 IsCloseCopy told copy = Unit {0}
 
-abbrev pub IsEndCopy : Option StepError → Option ErrorSaid → Type 0
+abbrev pub IsEndCopy : Option StepError → Option ErrorModel → Type 0
 IsEndCopy (Some (no.SessionState (ended.RemoteEndedWithError e))) copy = copy ≡ Some e
 IsEndCopy told copy = Unit {0}

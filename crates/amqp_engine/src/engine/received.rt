@@ -23,7 +23,7 @@ use amqp_types::{
     Attach, Begin, Close, ConnectionState, Detach, Disposition, End, Error, Flow, Kind, Open,
     Transfer,
 };
-use amqp_values::composite::read_list;
+use amqp_values::read_list;
 use bytes::Bytes;
 
 /// Why the connection stops with a Close of the peer.

@@ -2,7 +2,7 @@
 
 ghost use Rattle.std.specs.Prelude.{◌≡◌, None, [], string_bytes};
 ghost use Rattle.amqp_engine.specs.Calls.{end_reason, remote_end_reason, EndCalls, AllocateLinkCalls, AllocateIncomingCalls, AttachCalls, DetachCalls, ReceivedAttachCalls, ReceivedDetachCalls, FlowCalls, TransferCalls, SettleCalls, StopCalls, ReceivedBeginCalls, ReceivedEndCalls, ReceivedFlowCalls, ReceivedTransferCalls, DispositionCalls, ReceivedDispositionCalls};
-ghost use Rattle.amqp_types.specs.Disposition.{DispositionSaid};
+ghost use Rattle.amqp_types.specs.Disposition.{DispositionModel};
 ghost use Rattle.amqp_session.specs.declared.frame.SessionFrameBody.TheVariants as said;
 ghost use Rattle.amqp_connection.specs.Connection.{refusal_of};
 ghost use Rattle.amqp_engine.specs.Sessions.{Answered, SendsAll, RecordedEnd, comes_to_end};
@@ -271,7 +271,7 @@ fn send_each<R: LinkRelay>(
 
 /// The disposition of a session's frame.
 fn disposition_in(frame: SessionFrame) -> Disposition
-    requires { (d : DispositionSaid) × (frame.body ≡ said.Disposition d) }
+    requires { (d : DispositionModel) × (frame.body ≡ said.Disposition d) }
     ensures { frame.body ≡ said.Disposition result }
 {
     match frame.body {

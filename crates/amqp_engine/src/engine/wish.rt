@@ -13,9 +13,9 @@ pub(crate) struct Wish {
 
 impl Model for Wish {
     ghost use Rattle.std.specs.Prelude.{Option};
-    ghost use Rattle.amqp_types.specs.Error.{ErrorSaid};
+    ghost use Rattle.amqp_types.specs.Error.{ErrorModel};
 
-    ghost Value = { Option ErrorSaid };
+    ghost Value = { Option ErrorModel };
 
     ghost view = { λ w. w.error };
 }

@@ -2,7 +2,7 @@
 -- The order in which a walk goes over a table.
 use Rattle.std.specs.Prelude.{◌≡◌, ◌≤◌, ◌+◌, ◌-◌, ◌*◌, ◌^◌, ℕ, Bool, true, false, if◌then◌else◌, nat_lt, List, [], ◌∷◌, ◌++◌, take, drop}
 use Rattle.std.specs.Prelude.{length}
-use Rattle.amqp_types.specs.Disposition.{DispositionSaid}
+use Rattle.amqp_types.specs.Disposition.{DispositionModel}
 use Rattle.amqp_session.specs.declared.deliveries.Delivery.{Delivery}
 use Rattle.amqp_session.specs.Relay.{DispositionQuestion}
 use Rattle.amqp_session.specs.declared.deliveries.WalkCount.{WalkCount}
@@ -11,7 +11,7 @@ use Rattle.amqp_session.specs.declared.session.range.SerialRange.{SerialRange}
 use Rattle.amqp_session.specs.Disposing.{is_meant, meant, span, agreed}
 
 -- the range that a disposition names
-abbrev pub range_of : DispositionSaid → SerialRange
+abbrev pub range_of : DispositionModel → SerialRange
 range_of d = record { first = d.first; span = span d.first d.last }
 
 -- the place of the table that is this far behind another, where the front is behind the end
@@ -23,12 +23,12 @@ abbrev pub turned : ℕ → List Delivery → List Delivery
 turned from rows = drop from rows ++ take from rows
 
 -- all of these are meant, or none
-abbrev pub EachMeant : DispositionSaid → Bool → List Delivery → Type 0
+abbrev pub EachMeant : DispositionModel → Bool → List Delivery → Type 0
 EachMeant d b [] = Unit {0}
 EachMeant d b (r ∷ rs) = (is_meant d.first d.last r.number ≡ b) × EachMeant d b rs
 
 -- the first n are those that are meant
-pub record IsSplit (d : DispositionSaid) (rows : List Delivery) (n : ℕ) : Type 0 where
+pub record IsSplit (d : DispositionModel) (rows : List Delivery) (n : ℕ) : Type 0 where
   pub near : EachMeant d true (take n rows)
   pub far : EachMeant d false (drop n rows)
 
@@ -41,7 +41,7 @@ abbrev pub noted_by : Bool → Bool → ℕ → List DeliveryRange → List Deli
 noted_by settled answer n runs = if settled then runs else (if answer then extended n runs else runs)
 
 -- how much of a table a walk for a disposition has read, where it went over the records, and where it did not
-pub record IsWalked (d : DispositionSaid) (rows : List Delivery) (went : Bool) (walk : WalkCount) : Type 0 where
+pub record IsWalked (d : DispositionModel) (rows : List Delivery) (went : Bool) (walk : WalkCount) : Type 0 where
   pub turns : walk.turns ≤ length (meant d rows) + 1
   pub each_read : went ≡ true → length (meant d rows) ≤ walk.turns
   pub comparisons : 2 ^ walk.comparisons ≤ 2 * length rows + 1

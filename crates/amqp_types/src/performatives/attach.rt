@@ -10,9 +10,10 @@ ghost use Rattle.amqp_types.specs.Performatives.{performative_text};
 
 use crate::definitions::{Handle, ReceiverSettleMode, Role, SenderSettleMode};
 use crate::leaf;
-use amqp_values::row::Row14;
-use amqp_values::writing::{described_len, put_described};
-use amqp_values::{Composite, Fields, Leaf, Parts, Raw, ReadError, Symbol, codes, row_of};
+use amqp_values::{
+    Composite, Fields, Leaf, ListReader, Raw, ReadError, Row14, Symbol, codes, described_len,
+    field_list, put_described,
+};
 use bytes::BytesMut;
 use std::alloc::Global;
 use std::marker::Model;
@@ -53,9 +54,9 @@ pub struct Attach {
 impl Model for Attach {
     ghost use Rattle.std.specs.Prelude.{string_bytes};
     ghost use Rattle.std.specs.Option.{option_map};
-    ghost use Rattle.amqp_types.specs.Attach.{AttachSaid};
+    ghost use Rattle.amqp_types.specs.Attach.{AttachModel};
 
-    ghost Value = { AttachSaid };
+    ghost Value = { AttachModel };
 
     ghost view = { λ p. record {
       name = string_bytes p.name;
@@ -121,7 +122,7 @@ impl Composite for Attach {
 
     #[tactic(auto, unfolding(crate::specs::Attach::attach_body_at))]
     #[inline(always)]
-    fn fields(alloc: Global, parts: &mut Parts) -> Result<Attach, ReadError> {
+    fn fields(alloc: Global, parts: &mut ListReader) -> Result<Attach, ReadError> {
         let name = parts.required(alloc)?;
         let handle = parts.required(alloc)?;
         let role = parts.required(alloc)?;
@@ -162,7 +163,7 @@ struct Rest {
 }
 
 #[tactic(auto, unfolding(crate::specs::Attach::attach_rest_at))]
-fn take_rest(alloc: Global, parts: &mut Parts) -> Result<Rest, ReadError>
+fn take_rest(alloc: Global, parts: &mut ListReader) -> Result<Rest, ReadError>
     ensures { let symbols = option_map (λ v. v.items) in
         Gives (λ r. beside r.initial_delivery_count (beside r.max_message_size
         (beside (symbols r.offered_capabilities) (beside (symbols r.desired_capabilities) (beside r.properties tt)))))
@@ -190,7 +191,7 @@ impl Attach {
     pub(crate) fn parts(&self) -> Row14<Leaf<'_>>
         ensures { result ≡ attach_fields self.now }
     {
-        row_of![
+        field_list![
             Leaf::String(self.name.as_str()),
             Leaf::Uint(self.handle.0),
             leaf::role(self.role),

@@ -8,9 +8,10 @@ ghost use Rattle.amqp_types.specs.Performatives.{performative_text};
 
 use crate::definitions::Handle;
 use crate::leaf;
-use amqp_values::row::Row8;
-use amqp_values::writing::{described_len, put_described};
-use amqp_values::{Composite, Fields, Leaf, Parts, ReadError, Symbol, codes, row_of};
+use amqp_values::{
+    Composite, Fields, Leaf, ListReader, ReadError, Row8, Symbol, codes, described_len, field_list,
+    put_described,
+};
 use bytes::BytesMut;
 use std::alloc::Global;
 use std::marker::Model;
@@ -38,9 +39,9 @@ pub struct Begin {
 
 impl Model for Begin {
     ghost use Rattle.std.specs.Option.{option_map};
-    ghost use Rattle.amqp_types.specs.Begin.{BeginSaid};
+    ghost use Rattle.amqp_types.specs.Begin.{BeginModel};
 
-    ghost Value = { BeginSaid };
+    ghost Value = { BeginModel };
 
     ghost view = { λ p. record {
       remote_channel = p.remote_channel;
@@ -79,7 +80,7 @@ impl Composite for Begin {
 
     #[tactic(auto, unfolding(crate::specs::Begin::begin_body_at))]
     #[inline(always)]
-    fn fields(alloc: Global, parts: &mut Parts) -> Result<Begin, ReadError> {
+    fn fields(alloc: Global, parts: &mut ListReader) -> Result<Begin, ReadError> {
         let remote_channel = parts.next(alloc)?;
         let next_outgoing_id = parts.required(alloc)?;
         let incoming_window = parts.required(alloc)?;
@@ -109,7 +110,7 @@ impl Begin {
     pub(crate) fn parts(&self) -> Row8<Leaf<'_>>
         ensures { result ≡ begin_fields self.now }
     {
-        row_of![
+        field_list![
             leaf::optional_ushort(self.remote_channel),
             Leaf::Uint(self.next_outgoing_id),
             Leaf::Uint(self.incoming_window),

@@ -7,10 +7,10 @@ ghost use Rattle.amqp_types.specs.declared.performatives.Performative.TheVariant
 ghost use Rattle.amqp_types.specs.Performatives.{performative_text};
 
 use crate::error::Error;
-use crate::part::Part;
-use amqp_values::row::Row1;
-use amqp_values::writing::{described_len, put_described};
-use amqp_values::{Composite, Parts, ReadError, codes, row_of};
+use crate::field_ref::FieldRef;
+use amqp_values::{
+    Composite, ListReader, ReadError, Row1, codes, described_len, field_list, put_described,
+};
 use bytes::BytesMut;
 use std::alloc::Global;
 use std::marker::Model;
@@ -23,9 +23,9 @@ pub struct Close {
 }
 
 impl Model for Close {
-    ghost use Rattle.amqp_types.specs.Close.{CloseSaid};
+    ghost use Rattle.amqp_types.specs.Close.{CloseModel};
 
-    ghost Value = { CloseSaid };
+    ghost Value = { CloseModel };
 
     ghost view = { λ p. record {
       error = p.error;
@@ -50,7 +50,7 @@ impl Composite for Close {
 
     #[tactic(auto, unfolding(crate::specs::Close::close_body_at))]
     #[inline(always)]
-    fn fields(alloc: Global, parts: &mut Parts) -> Result<Close, ReadError> {
+    fn fields(alloc: Global, parts: &mut ListReader) -> Result<Close, ReadError> {
         let error = parts.next(alloc)?;
         parts.finish()?;
         Ok(Close { error })
@@ -61,10 +61,10 @@ impl Close {
     /// The fields, borrowed for writing.
     #[tactic(auto, unfolding(crate::specs::Close::close_fields))]
     #[inline(always)]
-    pub(crate) fn parts(&self) -> Row1<Part<'_>>
+    pub(crate) fn parts(&self) -> Row1<FieldRef<'_>>
         ensures { result ≡ close_fields self.now }
     {
-        row_of![Part::optional(&self.error)]
+        field_list![FieldRef::optional(&self.error)]
     }
 
     /// The length in bytes of the canonical text. Takes no memory and writes nothing.

@@ -8,11 +8,11 @@ ghost use Rattle.amqp_types.specs.Performatives.{performative_text};
 
 use crate::definitions::Handle;
 use crate::error::Error;
+use crate::field_ref::FieldRef;
 use crate::leaf;
-use crate::part::Part;
-use amqp_values::row::Row3;
-use amqp_values::writing::{described_len, put_described};
-use amqp_values::{Composite, Leaf, Parts, ReadError, codes, row_of};
+use amqp_values::{
+    Composite, Leaf, ListReader, ReadError, Row3, codes, described_len, field_list, put_described,
+};
 use bytes::BytesMut;
 use std::alloc::Global;
 use std::marker::Model;
@@ -29,9 +29,9 @@ pub struct Detach {
 }
 
 impl Model for Detach {
-    ghost use Rattle.amqp_types.specs.Detach.{DetachSaid};
+    ghost use Rattle.amqp_types.specs.Detach.{DetachModel};
 
-    ghost Value = { DetachSaid };
+    ghost Value = { DetachModel };
 
     ghost view = { λ p. record {
       handle = p.handle.0;
@@ -58,7 +58,7 @@ impl Composite for Detach {
 
     #[tactic(auto, unfolding(crate::specs::Detach::detach_body_at))]
     #[inline(always)]
-    fn fields(alloc: Global, parts: &mut Parts) -> Result<Detach, ReadError> {
+    fn fields(alloc: Global, parts: &mut ListReader) -> Result<Detach, ReadError> {
         let handle = parts.required(alloc)?;
         let closed = parts.or(alloc, false)?;
         let error = parts.next(alloc)?;
@@ -75,13 +75,13 @@ impl Detach {
     /// The fields, borrowed for writing.
     #[tactic(auto, unfolding(crate::specs::Detach::detach_fields))]
     #[inline(always)]
-    pub(crate) fn parts(&self) -> Row3<Part<'_>>
+    pub(crate) fn parts(&self) -> Row3<FieldRef<'_>>
         ensures { result ≡ detach_fields self.now }
     {
-        row_of![
-            Part::Leaf(Leaf::Uint(self.handle.0)),
-            Part::Leaf(leaf::flag(self.closed)),
-            Part::optional(&self.error),
+        field_list![
+            FieldRef::Leaf(Leaf::Uint(self.handle.0)),
+            FieldRef::Leaf(leaf::flag(self.closed)),
+            FieldRef::optional(&self.error),
         ]
     }
 

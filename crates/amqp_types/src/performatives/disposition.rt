@@ -8,9 +8,10 @@ ghost use Rattle.amqp_types.specs.Performatives.{performative_text};
 
 use crate::definitions::Role;
 use crate::leaf;
-use amqp_values::row::Row6;
-use amqp_values::writing::{described_len, put_described};
-use amqp_values::{Composite, Leaf, Parts, Raw, ReadError, codes, row_of};
+use amqp_values::{
+    Composite, Leaf, ListReader, Raw, ReadError, Row6, codes, described_len, field_list,
+    put_described,
+};
 use bytes::BytesMut;
 use std::alloc::Global;
 use std::marker::Model;
@@ -33,9 +34,9 @@ pub struct Disposition {
 }
 
 impl Model for Disposition {
-    ghost use Rattle.amqp_types.specs.Disposition.{DispositionSaid};
+    ghost use Rattle.amqp_types.specs.Disposition.{DispositionModel};
 
-    ghost Value = { DispositionSaid };
+    ghost Value = { DispositionModel };
 
     ghost view = { λ p. record {
       role = p.role;
@@ -70,7 +71,7 @@ impl Composite for Disposition {
 
     #[tactic(auto, unfolding(crate::specs::Disposition::disposition_body_at))]
     #[inline(always)]
-    fn fields(alloc: Global, parts: &mut Parts) -> Result<Disposition, ReadError> {
+    fn fields(alloc: Global, parts: &mut ListReader) -> Result<Disposition, ReadError> {
         let role = parts.required(alloc)?;
         let first = parts.required(alloc)?;
         let last = parts.next(alloc)?;
@@ -96,7 +97,7 @@ impl Disposition {
     pub(crate) fn parts(&self) -> Row6<Leaf<'_>>
         ensures { result ≡ disposition_fields self.now }
     {
-        row_of![
+        field_list![
             leaf::role(self.role),
             Leaf::Uint(self.first),
             leaf::optional_uint(self.last),

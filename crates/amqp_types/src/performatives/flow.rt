@@ -8,9 +8,10 @@ ghost use Rattle.amqp_types.specs.Performatives.{performative_text};
 
 use crate::definitions::Handle;
 use crate::leaf;
-use amqp_values::row::Row11;
-use amqp_values::writing::{described_len, put_described};
-use amqp_values::{Composite, Fields, Leaf, Parts, ReadError, codes, row_of};
+use amqp_values::{
+    Composite, Fields, Leaf, ListReader, ReadError, Row11, codes, described_len, field_list,
+    put_described,
+};
 use bytes::BytesMut;
 use std::alloc::Global;
 use std::marker::Model;
@@ -44,9 +45,9 @@ pub struct Flow {
 
 impl Model for Flow {
     ghost use Rattle.std.specs.Option.{option_map};
-    ghost use Rattle.amqp_types.specs.Flow.{FlowSaid};
+    ghost use Rattle.amqp_types.specs.Flow.{FlowModel};
 
-    ghost Value = { FlowSaid };
+    ghost Value = { FlowModel };
 
     ghost view = { λ p. record {
       next_incoming_id = p.next_incoming_id;
@@ -106,7 +107,7 @@ impl Composite for Flow {
 
     #[tactic(auto, unfolding(crate::specs::Flow::flow_body_at))]
     #[inline(always)]
-    fn fields(alloc: Global, parts: &mut Parts) -> Result<Flow, ReadError> {
+    fn fields(alloc: Global, parts: &mut ListReader) -> Result<Flow, ReadError> {
         let next_incoming_id = parts.next(alloc)?;
         let incoming_window = parts.required(alloc)?;
         let next_outgoing_id = parts.required(alloc)?;
@@ -142,7 +143,7 @@ impl Flow {
     pub(crate) fn parts(&self) -> Row11<Leaf<'_>>
         ensures { result ≡ flow_fields self.now }
     {
-        row_of![
+        field_list![
             leaf::optional_uint(self.next_incoming_id),
             Leaf::Uint(self.incoming_window),
             Leaf::Uint(self.next_outgoing_id),

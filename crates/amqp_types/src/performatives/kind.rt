@@ -4,8 +4,7 @@ ghost use Rattle.std.specs.Prelude.{◌≡◌};
 ghost use Rattle.amqp_values.specs.Reading.{Gives};
 ghost use Rattle.amqp_types.specs.Kinds.{kind_at, kind_of};
 
-use amqp_values::composite::descriptor;
-use amqp_values::{ReadError, codes};
+use amqp_values::{ReadError, codes, descriptor};
 use bytes::Bytes;
 
 /// One of the nine performatives.

@@ -7,9 +7,10 @@ ghost use Rattle.amqp_types.specs.declared.performatives.Performative.TheVariant
 ghost use Rattle.amqp_types.specs.Performatives.{performative_text};
 
 use crate::{copies, leaf};
-use amqp_values::row::Row10;
-use amqp_values::writing::{described_len, put_described};
-use amqp_values::{Composite, Fields, Leaf, Parts, ReadError, Symbol, codes, row_of};
+use amqp_values::{
+    Composite, Fields, Leaf, ListReader, ReadError, Row10, Symbol, codes, described_len,
+    field_list, put_described,
+};
 use bytes::BytesMut;
 use std::alloc::{AllocError, Global};
 use std::marker::Model;
@@ -42,9 +43,9 @@ pub struct Open {
 impl Model for Open {
     ghost use Rattle.std.specs.Prelude.{string_bytes};
     ghost use Rattle.std.specs.Option.{option_map};
-    ghost use Rattle.amqp_types.specs.Open.{OpenSaid};
+    ghost use Rattle.amqp_types.specs.Open.{OpenModel};
 
-    ghost Value = { OpenSaid };
+    ghost Value = { OpenModel };
 
     ghost view = { λ p. record {
       container_id = string_bytes p.container_id;
@@ -121,7 +122,7 @@ impl Composite for Open {
 
     #[tactic(auto, unfolding(crate::specs::Open::open_body_at))]
     #[inline(always)]
-    fn fields(alloc: Global, parts: &mut Parts) -> Result<Open, ReadError> {
+    fn fields(alloc: Global, parts: &mut ListReader) -> Result<Open, ReadError> {
         let container_id = parts.required(alloc)?;
         let hostname = parts.next(alloc)?;
         let max_frame_size = parts.or(alloc, u32::MAX)?;
@@ -155,7 +156,7 @@ impl Open {
     pub(crate) fn parts(&self) -> Row10<Leaf<'_>>
         ensures { result ≡ open_fields self.now }
     {
-        row_of![
+        field_list![
             Leaf::String(self.container_id.as_str()),
             leaf::optional_string(&self.hostname),
             leaf::uint_or(self.max_frame_size, u32::MAX),

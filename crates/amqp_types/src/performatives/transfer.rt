@@ -9,9 +9,10 @@ ghost use Rattle.amqp_types.specs.Performatives.{performative_text};
 
 use crate::definitions::{DeliveryTag, Handle, ReceiverSettleMode};
 use crate::leaf;
-use amqp_values::row::{Row3, Then4};
-use amqp_values::writing::{described_len, put_described};
-use amqp_values::{Binary, Composite, Leaf, Parts, Raw, ReadError, codes, row_of};
+use amqp_values::{
+    Binary, Composite, Cons4, Leaf, ListReader, Raw, ReadError, Row3, codes, described_len,
+    field_list, put_described,
+};
 use bytes::BytesMut;
 use std::alloc::Global;
 use std::marker::Model;
@@ -46,7 +47,7 @@ pub struct Transfer {
 /// Which text of a transfer is meant. Where a delivery does not fit one frame, it is cut: each transfer but the last says
 /// that more follow, and only the first one says what concerns the whole delivery (AMQP 1.0 part 2, section 2.6.14).
 #[derive(Clone, Copy, Debug, PartialEq, Eq)]
-pub enum TransferText {
+pub enum TransferFragment {
     /// The transfer as it is.
     Whole,
     /// The transfer that begins a delivery that is cut.
@@ -59,9 +60,9 @@ pub enum TransferText {
 
 impl Model for Transfer {
     ghost use Rattle.std.specs.Option.{option_map};
-    ghost use Rattle.amqp_types.specs.Transfer.{TransferSaid};
+    ghost use Rattle.amqp_types.specs.Transfer.{TransferModel};
 
-    ghost Value = { TransferSaid };
+    ghost Value = { TransferModel };
 
     ghost view = { λ p. record {
       handle = p.handle.0;
@@ -121,7 +122,7 @@ impl Composite for Transfer {
 
     #[tactic(auto, unfolding(crate::specs::Transfer::transfer_body_at))]
     #[inline(always)]
-    fn fields(alloc: Global, parts: &mut Parts) -> Result<Transfer, ReadError> {
+    fn fields(alloc: Global, parts: &mut ListReader) -> Result<Transfer, ReadError> {
         let handle = parts.required(alloc)?;
         let delivery_id = parts.next(alloc)?;
         let delivery_tag = parts.next(alloc)?;
@@ -151,12 +152,12 @@ impl Composite for Transfer {
 }
 
 /// The fields, borrowed for writing, by types of their own.
-pub(crate) type TransferRow<'a> = Then4<
+pub(crate) type TransferRow<'a> = Cons4<
     u32,
     Option<u32>,
     Option<Binary<'a>>,
     Option<u32>,
-    Then4<Option<bool>, Option<bool>, Option<u8>, Leaf<'a>, Row3<Option<bool>>>,
+    Cons4<Option<bool>, Option<bool>, Option<u8>, Leaf<'a>, Row3<Option<bool>>>,
 >;
 
 impl Transfer {
@@ -182,7 +183,7 @@ impl Transfer {
     fn parts_numbered(&self, number: Option<u32>, more: bool) -> TransferRow<'_>
         ensures { result ≡ transfer_fields (record self.now { delivery_id = number; more = more }) }
     {
-        row_of![
+        field_list![
             self.handle.0,
             number,
             leaf::optional_tag(&self.delivery_tag),
@@ -203,7 +204,7 @@ impl Transfer {
     fn parts_continued(&self, more: bool) -> TransferRow<'_>
         ensures { result ≡ transfer_fields (record (continuation self.now) { more = more }) }
     {
-        row_of![
+        field_list![
             self.handle.0,
             None,
             None,
@@ -220,19 +221,19 @@ impl Transfer {
 
     /// The fields of one of the texts.
     #[inline(always)]
-    fn parts_in(&self, text: TransferText) -> TransferRow<'_>
+    fn parts_in(&self, text: TransferFragment) -> TransferRow<'_>
         ensures { result ≡ transfer_fields (said_in text self.now) }
     {
         match text {
-            TransferText::Whole => self.parts(),
-            TransferText::First => self.parts_with(true),
-            TransferText::Middle => self.parts_continued(true),
-            TransferText::Last => self.parts_continued(self.more),
+            TransferFragment::Whole => self.parts(),
+            TransferFragment::First => self.parts_with(true),
+            TransferFragment::Middle => self.parts_continued(true),
+            TransferFragment::Last => self.parts_continued(self.more),
         }
     }
 
     /// The length in bytes of one of the texts. Takes no memory, and neither clones nor writes anything.
-    pub fn encoded_len_in(&self, text: TransferText) -> u128
+    pub fn encoded_len_in(&self, text: TransferFragment) -> u128
         ensures value { result ≡ length (performative_text (performative.Transfer (said_in text self.now))) }
         ensures bound { result < 2 ^ 127 }
     {
@@ -241,19 +242,19 @@ impl Transfer {
 
     /// The fields of one of the texts, with the widest number.
     #[inline(always)]
-    fn widest_parts_in(&self, text: TransferText) -> TransferRow<'_>
+    fn widest_parts_in(&self, text: TransferFragment) -> TransferRow<'_>
         ensures { result ≡ transfer_fields (said_in text (widest self.now)) }
     {
         match text {
-            TransferText::Whole => self.parts_numbered(Some(u32::MAX), self.more),
-            TransferText::First => self.parts_numbered(Some(u32::MAX), true),
-            TransferText::Middle | TransferText::Last => self.parts_in(text),
+            TransferFragment::Whole => self.parts_numbered(Some(u32::MAX), self.more),
+            TransferFragment::First => self.parts_numbered(Some(u32::MAX), true),
+            TransferFragment::Middle | TransferFragment::Last => self.parts_in(text),
         }
     }
 
     /// The length in bytes of one of the texts of the transfer with the widest number that its delivery can get: that takes five bytes
     /// where it stands, and an absent one takes one. So the text is no longer whatever number a session gives it. Takes no memory.
-    pub fn widest_len_in(&self, text: TransferText) -> u128
+    pub fn widest_len_in(&self, text: TransferFragment) -> u128
         ensures value { result ≡ length (performative_text (performative.Transfer (said_in text (widest self.now)))) }
         ensures bound { result < 2 ^ 127 }
     {
@@ -261,7 +262,7 @@ impl Transfer {
     }
 
     /// Appends one of the texts, whose length is `len`, to a buffer that has room for it.
-    pub fn put_in(&self, text: TransferText, len: usize, out: &mut BytesMut)
+    pub fn put_in(&self, text: TransferFragment, len: usize, out: &mut BytesMut)
         requires len_is { len ≡ length (performative_text (performative.Transfer (said_in text self.now))) }
         requires room { length (performative_text (performative.Transfer (said_in text self.now))) ≤ out.old.spare }
         requires fits { length (performative_text (performative.Transfer (said_in text self.now))) < 2 ^ 32 }

@@ -1,6 +1,6 @@
 use Rattle.std.proofs.Common.{◌≡◌, ◌+◌, vec_capacity}
 use Rattle.amqp_blocks.specs.Chunked.{start_of, HasPlace}
-use Rattle.amqp_blocks.specs.Changes.{IsPassed}
+use Rattle.amqp_blocks.specs.Inner.Changes.{IsPassed}
 use Rattle.amqp_blocks.proofs.cascade.pass_back.Given as goal
 
 abbrev pub invariant-loop-block : goal.invariant-loop-block

@@ -1,7 +1,7 @@
 use Rattle.std.proofs.Common.{◌≡◌, refl, ℕ, ◌+◌, ◌<◌, ◌≤◌, ◌++◌, List, length, take, drop, ap, sym, subst, ◌∙◌, arith, suc, get_or, slice_index, length-append, length-drop}
 use Rattle.std.proofs.lemmas.List.{length-take-le}
 use Rattle.amqp_blocks.specs.Chunked.{Block, items_of, ends_from, start_of}
-use Rattle.amqp_blocks.specs.Changes.{IsTrimmed}
+use Rattle.amqp_blocks.specs.Inner.Changes.{IsTrimmed}
 use Rattle.amqp_blocks.proofs.PlaceLemmas.{ends_long, start_more, start_few}
 use Rattle.amqp_blocks.proofs.LeaveLemmas.{some_block, settle_is, ends_low, length_without}
 use Rattle.amqp_blocks.proofs.CutLemmas.{cut_is, drop_later, take_earlier, drop_seam, at_dropped, first_behind, no_more, ends_drop, ends_enough_behind, places_behind}

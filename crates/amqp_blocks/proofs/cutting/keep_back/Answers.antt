@@ -1,6 +1,6 @@
 use Rattle.std.proofs.Common.{List, length, take, drop, ap, sym, subst, ◌∙◌, arith, length-set}
 use Rattle.amqp_blocks.specs.Chunked.{Block}
-use Rattle.amqp_blocks.specs.Changes.{IsTrimmed}
+use Rattle.amqp_blocks.specs.Inner.Changes.{IsTrimmed}
 use Rattle.amqp_blocks.proofs.CutLemmas.{take_set_under, trimmed_in, trimmed_none}
 use Rattle.amqp_blocks.proofs.cutting.keep_back.Goals as goal
 

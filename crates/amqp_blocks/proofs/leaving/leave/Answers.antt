@@ -1,6 +1,6 @@
 use Rattle.std.proofs.Common.{ℕ, ◌^◌, ◌+◌, ◌<◌, ◌≤◌, List, length, drop, take, ap, sym, subst, ◌∙◌, refl, arith, slice_index, length-set}
 use Rattle.amqp_blocks.specs.Chunked.{items_of, ends_from, start_of}
-use Rattle.amqp_blocks.specs.Changes.{EachSomeBut}
+use Rattle.amqp_blocks.specs.Inner.Changes.{EachSomeBut}
 use Rattle.amqp_blocks.proofs.PlaceLemmas.{ends_long, start_few}
 use Rattle.amqp_blocks.proofs.LeaveLemmas.{size_thinned, ends_enough, ends_high, sunk_or_risen, items_thinned, length_without, some_but_set, some_at}
 use Rattle.amqp_blocks.proofs.CutLemmas.{ends_take}

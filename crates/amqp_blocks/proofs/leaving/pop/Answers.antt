@@ -1,6 +1,6 @@
 use Rattle.std.proofs.Common.{◌+◌, ◌∷◌, length, ap, sym, subst, ◌∙◌, refl, arith, length-set}
 use Rattle.amqp_blocks.specs.Chunked.{items_of, ends_from}
-use Rattle.amqp_blocks.specs.Changes.{EachSomeBut}
+use Rattle.amqp_blocks.specs.Inner.Changes.{EachSomeBut}
 use Rattle.amqp_blocks.proofs.LeaveLemmas.{ends_risen, items_popped, some_but_set, some_at}
 use Rattle.amqp_blocks.proofs.leaving.pop.Goals as goal
 

@@ -1,6 +1,6 @@
 -- `amqp_call` where a client lies: it is the one that was taken out, and the one that is put back.
 use Rattle.std.proofs.Common.{sym, subst, ap, ◌∙◌, ℕ, ◌<◌, Some, lit<}
-use Rattle.amqp_c.proofs.Placing.{of_some, calls_there}
+use Rattle.amqp_c.proofs.PlaceLemmas.{of_some, calls_there}
 use Rattle.amqp_c.proofs.exports.amqp_call.Goals as goal
 
 pub returns-in-Some-clause-called : goal.returns-in-Some-clause-called

@@ -1,5 +1,5 @@
 -- `amqp_new` where a client was made: it lies there, or is let go where there is no memory for its box.
-use Rattle.amqp_c.proofs.Placing.{made_there}
+use Rattle.amqp_c.proofs.PlaceLemmas.{made_there}
 use Rattle.amqp_c.proofs.exports.amqp_new.Goals as goal
 
 pub returns-in-Ok-clause-made : goal.returns-in-Ok-clause-made

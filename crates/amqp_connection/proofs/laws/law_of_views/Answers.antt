@@ -1,5 +1,5 @@
 use Rattle.amqp_connection.proofs.HistoryLemmas.{stands}
-use Rattle.amqp_connection.proofs.OneEach.{one_each}
+use Rattle.amqp_connection.proofs.OpenCloseCountLemmas.{one_each}
 use Rattle.amqp_connection.proofs.laws.law_of_views.Goals as goal
 
 pub returns-clause-stands : goal.returns-clause-stands

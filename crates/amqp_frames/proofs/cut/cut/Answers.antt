@@ -1,8 +1,8 @@
 use Rattle.std.proofs.Common.{◌-◌, arith}
 use Rattle.amqp_frames.specs.Cut.{IsCut, LeavesRoom}
-use Rattle.amqp_frames.proofs.Growth.{first_longer, middle_longer}
-use Rattle.amqp_frames.proofs.Cutting.{is_cut}
-use Rattle.amqp_frames.proofs.DecodedAgain.{transfer_is_decoded}
+use Rattle.amqp_frames.proofs.TransferLengthLemmas.{first_longer, middle_longer}
+use Rattle.amqp_frames.proofs.PayloadCutLemmas.{is_cut}
+use Rattle.amqp_frames.proofs.EncodedFrameLemmas.{transfer_is_decoded}
 use Rattle.amqp_frames.proofs.cut.cut.Goals as goal
 
 pub in_pieces-requires-clause-some : goal.in_pieces-requires-clause-some

@@ -2,7 +2,7 @@ use Rattle.std.proofs.Common.{◌≡◌, ◌++◌, ◌-◌, ◌*◌, ◌/◌, []
 use Rattle.amqp_frames.specs.Frame.{header_text}
 use Rattle.amqp_frames.specs.Piece.{PieceParts}
 use Rattle.amqp_frames.specs.Cut.{middle_text}
-use Rattle.amqp_frames.proofs.Cutting.{in_pieces, adds_from}
+use Rattle.amqp_frames.proofs.PayloadCutLemmas.{in_pieces, adds_from}
 use Rattle.amqp_frames.proofs.cut.in_pieces.Goals as goal
 
 pub returns : goal.returns

@@ -1,6 +1,6 @@
 use Rattle.std.proofs.Common.{length, ◌≤◌, ◌+◌, ◌*◌, arith, ap, ◌∙◌}
 use Rattle.amqp_frames.specs.Piece.{PieceParts}
-use Rattle.amqp_frames.proofs.Cutting.{adds_more, enough}
+use Rattle.amqp_frames.proofs.PayloadCutLemmas.{adds_more, enough}
 use Rattle.amqp_frames.proofs.cut.put_parts.Goals as goal
 
 pub loop-i-preserved : goal.loop-i-preserved

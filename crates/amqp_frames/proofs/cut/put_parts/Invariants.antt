@@ -1,5 +1,5 @@
 use Rattle.std.proofs.Common.{◌+◌, ◌-◌, ◌*◌, ◌<◌, vec_len, vec_capacity}
-use Rattle.amqp_frames.specs.Pieces.{Adds}
+use Rattle.amqp_frames.specs.Inner.Pieces.{Adds}
 use Rattle.amqp_frames.proofs.cut.put_parts.Given as goal
 
 abbrev pub invariant-loop-i : goal.invariant-loop-i

@@ -1,4 +1,4 @@
-use Rattle.amqp_frames.proofs.Decoded.{header_is}
+use Rattle.amqp_frames.proofs.DecodedFrameLemmas.{header_is}
 use Rattle.amqp_frames.proofs.decoder.channel.Goals as goal
 
 pub returns : goal.returns

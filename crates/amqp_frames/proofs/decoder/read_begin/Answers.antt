@@ -9,8 +9,8 @@ use Rattle.amqp_frames.specs.declared.error.Error.{Error}
 use Rattle.amqp_frames.specs.Frame.{body_of}
 use Rattle.amqp_frames.specs.FrameError.{error_of}
 use Rattle.amqp_frames.specs.Head.{ReadsFrameOf}
-use Rattle.amqp_frames.proofs.Decoded.{failed}
-use Rattle.amqp_frames.proofs.Headed.{body_read, body_not_read}
+use Rattle.amqp_frames.proofs.DecodedFrameLemmas.{failed}
+use Rattle.amqp_frames.proofs.FrameHeadLemmas.{body_read, body_not_read}
 use Rattle.amqp_frames.proofs.decoder.read_begin.Goals as goal
 
 pub returns-in_err-read_list : goal.returns-in_err-read_list

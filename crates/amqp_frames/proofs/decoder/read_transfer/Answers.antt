@@ -7,7 +7,7 @@ use Rattle.amqp_frames.specs.declared.frame.FrameBody.TheVariants.{Transfer}
 use Rattle.amqp_frames.specs.declared.error.Error.{Error}
 use Rattle.amqp_frames.specs.Frame.{body_of}
 use Rattle.amqp_frames.specs.Head.{NoBodyOf, ReadsBodyOf}
-use Rattle.amqp_frames.proofs.Headed.{body_read, body_not_read}
+use Rattle.amqp_frames.proofs.FrameHeadLemmas.{body_read, body_not_read}
 use Rattle.amqp_frames.proofs.decoder.read_transfer.Goals as goal
 
 pub returns-in-Err : goal.returns-in-Err

@@ -1,4 +1,4 @@
-use Rattle.amqp_frames.proofs.DecodedAgain.{whole_is_decoded, cut_is_decoded, empty_is_decoded}
+use Rattle.amqp_frames.proofs.EncodedFrameLemmas.{whole_is_decoded, cut_is_decoded, empty_is_decoded}
 use Rattle.amqp_frames.proofs.laws.encoded_is_decoded.Goals as goal
 
 pub returns : goal.returns

@@ -1,4 +1,4 @@
-use Rattle.amqp_frames.proofs.RoundTripLaws.{piece_is_decoded}
+use Rattle.amqp_frames.proofs.RoundTripLemmas.{piece_is_decoded}
 use Rattle.amqp_frames.proofs.laws.whole_is_read.Goals as goal
 
 pub returns : goal.returns

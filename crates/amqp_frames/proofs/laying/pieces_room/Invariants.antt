@@ -1,5 +1,5 @@
 use Rattle.std.proofs.Common.{◌≡◌, ◌+◌, length}
-use Rattle.amqp_frames.specs.Woven.{pieces_room}
+use Rattle.amqp_frames.specs.Inner.Woven.{pieces_room}
 use Rattle.amqp_frames.proofs.laying.pieces_room.Given as goal
 
 -- what is counted, and what the rest takes up

@@ -1,6 +1,6 @@
 use Rattle.std.proofs.Common.{◌≡◌, ◌++◌, ◌≤◌, length}
 use Rattle.amqp_frames.specs.Wire.{wire_of}
-use Rattle.amqp_frames.specs.Woven.{pieces_room}
+use Rattle.amqp_frames.specs.Inner.Woven.{pieces_room}
 use Rattle.amqp_frames.proofs.laying.put_pieces.Given as goal
 
 -- what was appended, and what the rest will append; and there is room for that

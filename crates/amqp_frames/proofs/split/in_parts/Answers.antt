@@ -1,8 +1,8 @@
 use Rattle.std.proofs.Common.{◌≡◌, ◌++◌, ◌-◌, ◌*◌, ◌/◌, [], ◌∷◌, ℕ, true, false, take, drop, length, refl, ap, ◌∙◌}
-use Rattle.amqp_types.specs.Transfer.{TransferSaid, continuation, said_in}
-use Rattle.amqp_types.specs.declared.performatives.transfer.TransferText.TheVariants as text
+use Rattle.amqp_types.specs.Transfer.{TransferModel, continuation, said_in}
+use Rattle.amqp_types.specs.declared.performatives.transfer.TransferFragment.TheVariants as text
 use Rattle.amqp_frames.specs.declared.split.DeliveryPart.{DeliveryPart}
-use Rattle.amqp_frames.proofs.Splitting.{in_parts, adds_from}
+use Rattle.amqp_frames.proofs.DeliverySplitLemmas.{in_parts, adds_from}
 use Rattle.amqp_frames.proofs.split.in_parts.Goals as goal
 
 pub returns : goal.returns
@@ -21,6 +21,6 @@ returns c =
     (adds_from (said_in text.Middle t) c.args.step c.push_reserved-2.new.self.items (first ∷ []) c.put_middle.new.parts.items c.split_to.new.self c.put_middle.new.rest
     (c.args.step * ((c.len.result - c.args.front - 1) / c.args.step)) (c.args.step * ((length p - c.args.front - 1) / c.args.step))
     one (ap (λ (n : ℕ). c.args.step * ((n - c.args.front - 1) / c.args.step)) c.len.ensures.value) c.in_ok-put_middle.ensures.added)
-    (refl, c.in_ok-continued.ensures ∙ ap (λ (x : TransferSaid). record (continuation t) { more = x.more }) c.transfer.view_is)
+    (refl, c.in_ok-continued.ensures ∙ ap (λ (x : TransferModel). record (continuation t) { more = x.more }) c.transfer.view_is)
     refl
     c.push_reserved-3.ensures.items

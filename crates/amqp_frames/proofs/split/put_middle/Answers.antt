@@ -1,9 +1,9 @@
 use Rattle.std.proofs.Common.{length, false, ◌≤◌, ◌+◌, ◌*◌, arith, refl}
 use Rattle.amqp_types.specs.Transfer.{said_in}
-use Rattle.amqp_types.specs.declared.performatives.transfer.TransferText.TheVariants as text
+use Rattle.amqp_types.specs.declared.performatives.transfer.TransferFragment.TheVariants as text
 use Rattle.amqp_frames.specs.declared.split.DeliveryPart.{DeliveryPart}
-use Rattle.amqp_frames.proofs.Cutting.{enough}
-use Rattle.amqp_frames.proofs.Splitting.{adds_more}
+use Rattle.amqp_frames.proofs.PayloadCutLemmas.{enough}
+use Rattle.amqp_frames.proofs.DeliverySplitLemmas.{adds_more}
 use Rattle.amqp_frames.proofs.split.put_middle.Goals as goal
 
 pub split_to-requires : goal.split_to-requires

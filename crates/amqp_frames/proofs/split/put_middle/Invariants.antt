@@ -1,7 +1,7 @@
 use Rattle.std.proofs.Common.{◌+◌, ◌-◌, ◌*◌, ◌<◌, vec_len, vec_capacity}
 use Rattle.amqp_types.specs.Transfer.{said_in}
-use Rattle.amqp_types.specs.declared.performatives.transfer.TransferText.TheVariants as text
-use Rattle.amqp_frames.specs.Parts.{AddsParts}
+use Rattle.amqp_types.specs.declared.performatives.transfer.TransferFragment.TheVariants as text
+use Rattle.amqp_frames.specs.Inner.Parts.{AddsParts}
 use Rattle.amqp_frames.proofs.split.put_middle.Given as goal
 
 abbrev pub invariant-loop-i : goal.invariant-loop-i

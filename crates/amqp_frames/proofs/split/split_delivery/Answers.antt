@@ -2,8 +2,8 @@ use Rattle.std.proofs.Common.{◌-◌, true, arith, inr}
 use Rattle.amqp_types.specs.Transfer.{widest}
 use Rattle.amqp_frames.specs.Cut.{LeavesRoom}
 use Rattle.amqp_frames.specs.Split.{IsOnePiece}
-use Rattle.amqp_frames.proofs.Growth.{first_longer}
-use Rattle.amqp_frames.proofs.Splitting.{is_split}
+use Rattle.amqp_frames.proofs.TransferLengthLemmas.{first_longer}
+use Rattle.amqp_frames.proofs.DeliverySplitLemmas.{is_split}
 use Rattle.amqp_frames.proofs.split.split_delivery.Goals as goal
 
 pub in_parts-requires-clause-some : goal.in_parts-requires-clause-some

@@ -1,4 +1,4 @@
-use Rattle.amqp_types.proofs.PerformativeLaws.{lists_read}
+use Rattle.amqp_types.proofs.PerformativeLemmas.{lists_read}
 use Rattle.amqp_types.proofs.laws.lists_are_read.Goals as goal
 
 pub returns : goal.returns

@@ -1,6 +1,6 @@
 use Rattle.amqp_types.specs.Performatives.{performative_text}
-use Rattle.amqp_types.proofs.PerformativeCanonical.{performative_canonical}
-use Rattle.amqp_types.proofs.CutCanonical.{cut_spelled}
+use Rattle.amqp_types.proofs.PerformativeCanonicalLemmas.{performative_canonical}
+use Rattle.amqp_types.proofs.CutTransferLemmas.{cut_spelled}
 use Rattle.amqp_types.proofs.laws.text_is_read.Goals as goal
 
 pub returns : goal.returns

@@ -1,4 +1,4 @@
-use Rattle.amqp_types.proofs.CutCanonical.{texts_spelled}
+use Rattle.amqp_types.proofs.CutTransferLemmas.{texts_spelled}
 use Rattle.amqp_types.proofs.laws.transfer_is_spelled.Goals as goal
 
 pub returns : goal.returns

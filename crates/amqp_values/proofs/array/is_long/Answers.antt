@@ -1,6 +1,6 @@
 use Rattle.std.proofs.Common.{◌∙◌, List, ℕ, length, sym, ap, ltb, not}
 use Rattle.std.proofs.Math.Numerals.{add-one}
-use Rattle.amqp_values.proofs.ArrayItems.{all_more, all_fails, whole}
+use Rattle.amqp_values.proofs.ArrayItemLemmas.{all_more, all_fails, whole}
 use Rattle.amqp_values.proofs.array.is_long.Goals as goal
 
 pub loop-symbol-preserved : goal.loop-symbol-preserved

@@ -1,8 +1,8 @@
 use Rattle.std.proofs.Common.{◌++◌, List, ℕ, length, take, ap, sym, ◌∙◌, arith, append_assoc}
 use Rattle.std.proofs.lemmas.List.{length-append}
 use Rattle.amqp_values.specs.Writing.{item_text, run_text}
-use Rattle.amqp_values.proofs.ArrayItems.{short_item}
-use Rattle.amqp_values.proofs.Loops.{joined_more, room_for}
+use Rattle.amqp_values.proofs.ArrayItemLemmas.{short_item}
+use Rattle.amqp_values.proofs.WrittenPartLemmas.{joined_more, room_for}
 use Rattle.amqp_values.proofs.array.put_run.Goals as goal
 
 pub put_item-requires-clause-room : goal.put_item-requires-clause-room

@@ -1,7 +1,7 @@
 use Rattle.std.proofs.Common.{length, take, ap, arith}
 use Rattle.std.proofs.lemmas.List.{length-append}
 use Rattle.amqp_values.specs.Writing.{item_text, run_text}
-use Rattle.amqp_values.proofs.Loops.{joined_more}
+use Rattle.amqp_values.proofs.WrittenPartLemmas.{joined_more}
 use Rattle.amqp_values.proofs.array.run_len.Goals as goal
 
 pub loop-symbol-preserved : goal.loop-symbol-preserved

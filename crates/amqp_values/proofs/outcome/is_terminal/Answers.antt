@@ -1,7 +1,7 @@
 use Rattle.std.proofs.Common.{◌∙◌, ap, subst}
 use Rattle.amqp_values.specs.Parts.{IsDescribed}
 use Rattle.amqp_values.specs.Outcome.{stands_for_outcome}
-use Rattle.amqp_values.proofs.Final.{terminal_by}
+use Rattle.amqp_values.proofs.TerminalStateLemmas.{terminal_by}
 use Rattle.amqp_values.proofs.outcome.is_terminal.Goals as goal
 
 pub returns-in-Some : goal.returns-in-Some

@@ -1,7 +1,7 @@
 use Rattle.std.proofs.Common.{Vec, Global, arith}
 use Rattle.amqp_values.specs.declared.symbol.Symbol.{Symbol}
 use Rattle.amqp_values.specs.Symbols.{run_at}
-use Rattle.amqp_values.proofs.Runs.{run_more, run_failed, run_whole}
+use Rattle.amqp_values.proofs.SymbolRunLemmas.{run_more, run_failed, run_whole}
 use Rattle.amqp_values.proofs.symbols.fill.Goals as goal
 
 pub loop-preserved : goal.loop-preserved

@@ -1,5 +1,5 @@
 use Rattle.std.proofs.Common.{sym, ◌∙◌}
-use Rattle.amqp_values.proofs.Runs.{counted_more, counted_fails, counted_done, no_bytes}
+use Rattle.amqp_values.proofs.SymbolRunLemmas.{counted_more, counted_fails, counted_done, no_bytes}
 use Rattle.amqp_values.proofs.symbols.is_run.Goals as goal
 
 pub loop-preserved : goal.loop-preserved

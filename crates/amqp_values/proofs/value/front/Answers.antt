@@ -1,5 +1,5 @@
 use Rattle.std.proofs.Common.{sym}
-use Rattle.amqp_values.proofs.Law.{shorter}
+use Rattle.amqp_values.proofs.RawValueLemmas.{shorter}
 use Rattle.amqp_values.proofs.value.front.Goals as goal
 
 pub overflow_sub-bytes : goal.overflow_sub-bytes

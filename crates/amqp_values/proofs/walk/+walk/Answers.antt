@@ -1,7 +1,7 @@
 use Rattle.std.proofs.Common.{sym, ◌∙◌, rules, arith, ◌<◌, ◌-◌, length, ◌≡◌, None, true, false}
 use Rattle.amqp_values.specs.Walk.{value_of, data_of, elements_of, inside, under, constructor_of, may_hold}
-use Rattle.amqp_values.specs.Kind.{kind_of}
-use Rattle.amqp_values.proofs.Under.{repeat_more, repeat_fails, repeat_done, run_is, under_none, under_more, dataless_run, constructor_fails, constructor_holds, constructor_holds_not, constructor_ground, constructor_value_fails, constructor_more, constructor_done, not_ground}
+use Rattle.amqp_values.specs.FormatClass.{class_of}
+use Rattle.amqp_values.proofs.DepthBoundLemmas.{repeat_more, repeat_fails, repeat_done, run_is, under_none, under_more, dataless_run, constructor_fails, constructor_holds, constructor_holds_not, constructor_ground, constructor_value_fails, constructor_more, constructor_done, not_ground}
 use Rattle.amqp_values.proofs.walk.+walk.Goals as goal
 
 pub values-returns-in_err-rest : goal.values-returns-in_err-rest
@@ -14,15 +14,15 @@ pub values-returns : goal.values-returns
 values-returns t c = sym (repeat_done (value_of (under c.args.depth)) c.args.count c.loop.counter c.loop.rest.now _ c.loop-test.false c.loop.invariant)
 
 pub run-returns-in_err-rest : goal.run-returns-in_err-rest
-run-returns-in_err-rest t c = rw c.from_residual.ensures (sym (run_is (under c.args.depth) c.args.kind c.args.count c.args.bytes.now
-    ∙ repeat_fails (data_of (under c.args.depth) c.args.kind) c.args.count c.loop.counter c.loop.rest.now _ c.loop-test.true (sym c.in_err-rest.ensures) c.loop.invariant))
+run-returns-in_err-rest t c = rw c.from_residual.ensures (sym (run_is (under c.args.depth) c.args.class c.args.count c.args.bytes.now
+    ∙ repeat_fails (data_of (under c.args.depth) c.args.class) c.args.count c.loop.counter c.loop.rest.now _ c.loop-test.true (sym c.in_err-rest.ensures) c.loop.invariant))
 
 pub run-loop-preserved : goal.run-loop-preserved
-run-loop-preserved t c = repeat_more (data_of (under c.args.depth) c.args.kind) c.args.count c.loop.counter c.loop.rest.now c.in_ok-rest.rest.now _ c.loop-test.true (sym c.in_ok-rest.ensures) c.loop.invariant
+run-loop-preserved t c = repeat_more (data_of (under c.args.depth) c.args.class) c.args.count c.loop.counter c.loop.rest.now c.in_ok-rest.rest.now _ c.loop-test.true (sym c.in_ok-rest.ensures) c.loop.invariant
 
 pub run-returns : goal.run-returns
-run-returns t c = sym (run_is (under c.args.depth) c.args.kind c.args.count c.args.bytes.now
-    ∙ repeat_done (data_of (under c.args.depth) c.args.kind) c.args.count c.loop.counter c.loop.rest.now _ c.loop-test.false c.loop.invariant)
+run-returns t c = sym (run_is (under c.args.depth) c.args.class c.args.count c.args.bytes.now
+    ∙ repeat_done (data_of (under c.args.depth) c.args.class) c.args.count c.loop.counter c.loop.rest.now _ c.loop-test.false c.loop.invariant)
 
 pub compound-returns-then-depth-eq0 : goal.compound-returns-then-depth-eq0
 unfolding inside
@@ -73,19 +73,19 @@ unfolding value_of
 value-returns t c = let h : 0 < c.args.depth = omega arith in rw (under_more c.args.depth h) (search rules)
 
 pub run-returns-then-is_dataless : goal.run-returns-then-is_dataless
-run-returns-then-is_dataless t c = c.data.ensures ∙ sym (dataless_run (under c.args.depth) c.args.kind c.args.count c.args.bytes.now c.requires (sym c.is_dataless.ensures ∙ c.if-is_dataless.true))
+run-returns-then-is_dataless t c = c.data.ensures ∙ sym (dataless_run (under c.args.depth) c.args.class c.args.count c.args.bytes.now c.requires (sym c.is_dataless.ensures ∙ c.if-is_dataless.true))
 
 pub constructor-returns-in_err-code : goal.constructor-returns-in_err-code
 constructor-returns-in_err-code t c = rw c.from_residual.ensures (sym (sym c.loop.invariant ∙ constructor_fails (under c.args.depth) (length c.args.bytes.now - c.loop.counter) c.loop.rest.now (sym c.in_err-code.ensures)))
 
 pub constructor-returns-then-may_hold : goal.constructor-returns-then-may_hold
 constructor-returns-then-may_hold t c =
-    let m : may_hold (under c.args.depth) (kind_of c.in_ok-code.code) ≡ true = rw c.kind_at.ensures at (sym c.may_hold.ensures ∙ c.if-may_hold.true) in
+    let m : may_hold (under c.args.depth) (class_of c.in_ok-code.code) ≡ true = rw c.class_at.ensures at (sym c.may_hold.ensures ∙ c.if-may_hold.true) in
     sym (sym c.loop.invariant ∙ constructor_holds (under c.args.depth) (length c.args.bytes.now - c.loop.counter) c.in_ok-code.code c.loop.rest.now c.in_ok-code.behind.now (omega arith) (sym c.in_ok-code.ensures) c.if-code-ne0.true m)
 
 pub constructor-returns-else-may_hold : goal.constructor-returns-else-may_hold
 constructor-returns-else-may_hold t c =
-    let m : may_hold (under c.args.depth) (kind_of c.in_ok-code.code) ≡ false = rw c.kind_at.ensures at (sym c.may_hold.ensures ∙ c.if-may_hold.false) in
+    let m : may_hold (under c.args.depth) (class_of c.in_ok-code.code) ≡ false = rw c.class_at.ensures at (sym c.may_hold.ensures ∙ c.if-may_hold.false) in
     sym (sym c.loop.invariant ∙ constructor_holds_not (under c.args.depth) (length c.args.bytes.now - c.loop.counter) c.in_ok-code.code c.loop.rest.now c.in_ok-code.behind.now (sym c.in_ok-code.ensures) c.if-code-ne0.true m)
 
 pub constructor-returns-then-depth-eq0 : goal.constructor-returns-then-depth-eq0

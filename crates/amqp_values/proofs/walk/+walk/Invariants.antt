@@ -24,7 +24,7 @@ abbrev pub decreases-inside : goal.decreases-inside
 decreases-inside l = 8 * l.depth + 4
 
 abbrev pub invariant-run-loop : goal.invariant-run-loop
-invariant-run-loop l = repeat (l.count - l.counter) (data_of (under l.depth) l.kind) l.rest ≡ repeat l.count (data_of (under l.depth) l.kind) l.bytes
+invariant-run-loop l = repeat (l.count - l.counter) (data_of (under l.depth) l.class) l.rest ≡ repeat l.count (data_of (under l.depth) l.class) l.bytes
 
 abbrev pub invariant-values-loop : goal.invariant-values-loop
 invariant-values-loop l = repeat (l.count - l.counter) (value_of (under l.depth)) l.rest ≡ repeat l.count (value_of (under l.depth)) l.bytes

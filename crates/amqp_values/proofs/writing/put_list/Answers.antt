@@ -2,8 +2,8 @@ use Rattle.std.proofs.Common.{◌≡◌, ◌++◌, List, ℕ, eqb, false, length
 use Rattle.std.proofs.lemmas.Bool.{ne_eqb}
 use Rattle.amqp_values.specs.Reading.{joined}
 use Rattle.amqp_values.specs.Writing.{trim, list_head, list_text}
-use Rattle.amqp_values.proofs.Loops.{length_trim}
-use Rattle.amqp_values.proofs.Trim.{trim_take}
+use Rattle.amqp_values.proofs.WrittenPartLemmas.{length_trim}
+use Rattle.amqp_values.proofs.TrimLemmas.{trim_take}
 use Rattle.amqp_values.proofs.writing.put_list.Goals as goal
 
 pub put_head-requires-clause-few : goal.put_head-requires-clause-few

@@ -30,7 +30,7 @@ use Rattle.std.proofs.BoxSteps.Steps.{box_out, box_in}
 use Rattle.std.proofs.raw_atomic.Walks.{proved_at, leaves}
 use Rattle.std.specs.contracts.boxed.Box.from_raw as made
 use Rattle.std.proofs.boxed.Box.from_raw.Met.{met}
-use Rattle.raw_box.proofs.Steps.{Raw}
+use Rattle.raw_box.proofs.BoxRowLemmas.{Raw}
 use Rattle.raw_box.specs.contracts.RawBox.into_box.{ended, clauses}
 use Rattle.raw_box.specs.contracts.RawBox.into_box.Key.{name as #self}
 use Rattle.raw_box.proofs.RawBox.into_box.Statement.{statement}

@@ -33,7 +33,7 @@ use Rattle.std.proofs.raw_atomic.Walks.{proved_at, leaves}
 use Rattle.std.specs.Box.Ownership.{box_owns}
 use Rattle.std.specs.contracts.boxed.Box.into_raw_with_allocator as taken
 use Rattle.std.proofs.boxed.Box.into_raw_with_allocator.Met.{met}
-use Rattle.raw_box.proofs.Steps.{Raw}
+use Rattle.raw_box.proofs.BoxRowLemmas.{Raw}
 use Rattle.raw_box.specs.contracts.RawBox.of.{ended, clauses}
 use Rattle.raw_box.specs.contracts.RawBox.of.Key.{name as #self}
 use Rattle.raw_box.proofs.RawBox.of.Statement.{statement}

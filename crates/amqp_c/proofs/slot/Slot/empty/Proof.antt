@@ -25,7 +25,7 @@ use Rattle.std.proofs.ResultValues.{and_tt}
 use Rattle.std.proofs.raw_atomic.Walks.{proved_at, leaves}
 use Rattle.std.specs.contracts.alloc.Global as heap
 use Rattle.std.specs.declared.option.Option.TheVariants.{None}
-use Rattle.amqp_c.proofs.Steps.{heap_al, Held}
+use Rattle.amqp_c.proofs.SlotStepLemmas.{heap_al, Held}
 use Rattle.amqp_c.specs.declared.slot.Slot.{Slot}
 use Rattle.amqp_c.specs.contracts.slot.Slot as slot
 use Rattle.amqp_c.specs.contracts.slot.Slot.empty.{ended, clauses}

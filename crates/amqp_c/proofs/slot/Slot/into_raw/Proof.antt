@@ -22,7 +22,7 @@ use Rattle.std.proofs.raw_atomic.Walks.{proved_at, leaves}
 use Rattle.std.specs.Prelude.{IsSome}
 use Rattle.std.specs.declared.option.Option.TheVariants.{Some}
 use Rattle.amqp_client.specs.Client.{ClientView}
-use Rattle.amqp_c.proofs.Steps.{Held, From, held_box, held_in, holds}
+use Rattle.amqp_c.proofs.SlotStepLemmas.{Held, From, held_box, held_in, holds}
 use Rattle.amqp_c.specs.contracts.slot.Slot as slot
 use Rattle.amqp_c.specs.contracts.slot.Slot.into_raw.{ended, clauses}
 use Rattle.amqp_c.specs.contracts.slot.Slot.into_raw.Key.{name as #self}

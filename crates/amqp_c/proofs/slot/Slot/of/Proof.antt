@@ -21,7 +21,7 @@ use Rattle.std.proofs.BoxSteps.Form.{D, word, box_typed}
 use Rattle.std.proofs.BoxSteps.Steps.{box_out, box_in}
 use Rattle.std.proofs.raw_atomic.Walks.{proved_at, leaves}
 use Rattle.std.specs.declared.option.Option.TheVariants.{Some}
-use Rattle.amqp_c.proofs.Steps.{Held, From}
+use Rattle.amqp_c.proofs.SlotStepLemmas.{Held, From}
 use Rattle.amqp_c.specs.declared.slot.Slot.{Slot}
 use Rattle.amqp_c.specs.contracts.slot.Slot as slot
 use Rattle.amqp_c.specs.contracts.slot.Slot.of.{ended, clauses}

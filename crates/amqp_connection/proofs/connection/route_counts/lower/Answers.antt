@@ -1,6 +1,6 @@
 use Rattle.std.proofs.Common.{sym, subst, ◌∙◌}
 use Rattle.amqp_connection.specs.RouteCounts.{Lowered}
-use Rattle.amqp_connection.proofs.Counting.{take_writes, gone}
+use Rattle.amqp_connection.proofs.RouteCountLemmas.{take_writes, gone}
 use Rattle.amqp_connection.proofs.connection.route_counts.lower.Goals as goal
 
 pub returns-then-count-eq1 : goal.returns-then-count-eq1

@@ -1,5 +1,5 @@
 use Rattle.std.proofs.Common.{◌+◌, ap}
-use Rattle.amqp_connection.proofs.Counting.{put_writes, raised}
+use Rattle.amqp_connection.proofs.RouteCountLemmas.{put_writes, raised}
 use Rattle.amqp_connection.proofs.connection.route_counts.raise.Goals as goal
 
 pub returns : goal.returns

@@ -1,7 +1,7 @@
 use Rattle.std.proofs.Common.{None, Some, [], refl, sym, ap, subst, inl, inr}
 use Rattle.amqp_types.specs.declared.performatives.kind.Kind.TheVariants as kind
-use Rattle.amqp_frames.proofs.Decoded.{failed}
-use Rattle.amqp_frames.proofs.Headed.{not_opened}
+use Rattle.amqp_frames.proofs.DecodedFrameLemmas.{failed}
+use Rattle.amqp_frames.proofs.FrameHeadLemmas.{not_opened}
 use Rattle.amqp_frames.specs.declared.frame.FrameBody.TheVariants.{Empty}
 use Rattle.amqp_connection.specs.Connection.{refusal_of}
 use Rattle.amqp_engine.specs.Engine.{NoneReceived}

@@ -1,7 +1,7 @@
 use Rattle.std.proofs.Common.{rules, Some, None, Ok, Err, [], sym, ap, subst, ◌∙◌}
 use Rattle.std.specs.Option.{option_copied_mut}
 use Rattle.std.specs.HashMap.{HashMap}
-use Rattle.amqp_types.specs.Begin.{BeginSaid}
+use Rattle.amqp_types.specs.Begin.{BeginModel}
 use Rattle.amqp_connection.specs.Connection.{BeginRouteStep}
 use Rattle.amqp_engine.specs.EngineView.{EngineView}
 use Rattle.amqp_engine.specs.Calls.{ReceivedBeginCalls}
@@ -20,7 +20,7 @@ pub returns-in_err-number : goal.returns-in_err-number
 returns-in_err-number g c =
     let begin = c.in_ok-begin.begin in
     let step = subst (λ (v : EngineView _). BeginRouteStep v.connection c.args.channel.0 begin.remote_channel (Err c.in_err-number.field-0.0) c.route_begin.new.self) c.self.view_is
-    (subst (λ r. BeginRouteStep c.self.inside.connection c.args.channel.0 r (Err c.in_err-number.field-0.0) c.route_begin.new.self) (ap (λ (b : BeginSaid). b.remote_channel) c.begin.view_is) c.in_err-number.ensures) in
+    (subst (λ r. BeginRouteStep c.self.inside.connection c.args.channel.0 r (Err c.in_err-number.field-0.0) c.route_begin.new.self) (ap (λ (b : BeginModel). b.remote_channel) c.begin.view_is) c.in_err-number.ensures) in
     was_read g.R.LinkRelay.gives begin_fields c.args.self.now _ c.args.channel.0 c.args.fields c.read_list.new.bytes begin _ c.in_ok-begin.ensures
     (None, [], reaches_none g.R.LinkRelay.gives (BeginRouteStep c.args.self.now.connection c.args.channel.0 begin.remote_channel) (ReceivedBeginCalls c.args.channel.0 begin) _ _ c.route_begin.new.self c.in_err-number.field-0.0 _ c.self.view_is step (search rules))
 
@@ -29,7 +29,7 @@ returns-in_default g c =
     let begin = c.in_ok-begin.begin in
     let n = c.in_ok-number.number.0 in
     let step = subst (λ (v : EngineView _). BeginRouteStep v.connection c.args.channel.0 begin.remote_channel (Ok n) c.route_begin.new.self) c.self.view_is
-    (subst (λ r. BeginRouteStep c.self.inside.connection c.args.channel.0 r (Ok n) c.route_begin.new.self) (ap (λ (b : BeginSaid). b.remote_channel) c.begin.view_is) c.in_ok-number.ensures) in
+    (subst (λ r. BeginRouteStep c.self.inside.connection c.args.channel.0 r (Ok n) c.route_begin.new.self) (ap (λ (b : BeginModel). b.remote_channel) c.begin.view_is) c.in_ok-number.ensures) in
     let none = viewed_none n c.self.inside.sessions.entries (sym c.get_mut.ensures.value ∙ ap option_copied_mut c.in_default.is) in
     let stays = ap (λ (m : HashMap _ _ _). m.entries) c.get_mut.follows.holds-at-none in
     was_read g.R.LinkRelay.gives begin_fields c.args.self.now _ c.args.channel.0 c.args.fields c.read_list.new.bytes begin _ c.in_ok-begin.ensures
@@ -40,7 +40,7 @@ returns g c =
     let begin = c.in_ok-begin.begin in
     let n = c.in_ok-number.number.0 in
     let step = subst (λ (v : EngineView _). BeginRouteStep v.connection c.args.channel.0 begin.remote_channel (Ok n) c.route_begin.new.self) c.self.view_is
-    (subst (λ r. BeginRouteStep c.self.inside.connection c.args.channel.0 r (Ok n) c.route_begin.new.self) (ap (λ (b : BeginSaid). b.remote_channel) c.begin.view_is) c.in_ok-number.ensures) in
+    (subst (λ r. BeginRouteStep c.self.inside.connection c.args.channel.0 r (Ok n) c.route_begin.new.self) (ap (λ (b : BeginModel). b.remote_channel) c.begin.view_is) c.in_ok-number.ensures) in
     let known = viewed_some n c.self.inside.sessions.entries c.in-Some.session.now (sym c.in-Some.ensures.value) in
     let set = (c.get_mut.follows.holds c.begin_received.new.session) in
     was_read g.R.LinkRelay.gives begin_fields c.args.self.now _ c.args.channel.0 c.args.fields c.read_list.new.bytes begin _ c.in_ok-begin.ensures (

@@ -3,8 +3,8 @@ use Rattle.std.specs.Prelude.{Result, Ok, Err}
 use Rattle.amqp_frames.specs.declared.decoder.FrameHead.{FrameHead}
 use Rattle.amqp_frames.specs.declared.error.Error.{Error}
 use Rattle.amqp_frames.specs.Head.{Opens}
-use Rattle.amqp_frames.proofs.Decoded.{failed}
-use Rattle.amqp_frames.proofs.Headed.{opened_from}
+use Rattle.amqp_frames.proofs.DecodedFrameLemmas.{failed}
+use Rattle.amqp_frames.proofs.FrameHeadLemmas.{opened_from}
 use Rattle.amqp_frames.proofs.decoder.FrameDecoder.head.Goals as goal
 
 pub returns-in_err-kind : goal.returns-in_err-kind

@@ -1,6 +1,6 @@
 use Rattle.std.proofs.Common.{rules}
 use Rattle.amqp_frames.specs.Cut.{Whole}
-use Rattle.amqp_frames.proofs.Sent.{sent_whole}
+use Rattle.amqp_frames.proofs.SentFrameLemmas.{sent_whole}
 use Rattle.amqp_frames.proofs.encoder.FrameEncoder.encode_to.Goals as goal
 
 pub returns-then-is_within : goal.returns-then-is_within

@@ -1,4 +1,4 @@
-use Rattle.amqp_frames.proofs.Weaving.{empty_then, empty_else}
+use Rattle.amqp_frames.proofs.SharedPartLemmas.{empty_then, empty_else}
 use Rattle.amqp_frames.proofs.woven.Woven.is_empty.Goals as goal
 
 pub returns-then-is_empty : goal.returns-then-is_empty

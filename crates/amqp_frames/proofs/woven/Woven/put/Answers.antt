@@ -1,4 +1,4 @@
-use Rattle.amqp_frames.proofs.Weaving.{put}
+use Rattle.amqp_frames.proofs.SharedPartLemmas.{put}
 use Rattle.amqp_frames.proofs.woven.Woven.put.Goals as goal
 
 pub returns-clause-waits : goal.returns-clause-waits

@@ -1,5 +1,5 @@
 use Rattle.amqp_frames.specs.Frame.{text_of}
-use Rattle.amqp_frames.proofs.Weaving.{put}
+use Rattle.amqp_frames.proofs.SharedPartLemmas.{put}
 use Rattle.amqp_frames.proofs.woven.Woven.put_text.Goals as goal
 
 pub returns-clause-waits : goal.returns-clause-waits

@@ -1,6 +1,6 @@
 use Rattle.std.proofs.Common.{◌-◌, refl}
 use Rattle.amqp_frames.specs.declared.woven.SharedPart.{SharedPart}
-use Rattle.amqp_frames.proofs.Weaving.{more_parts, shared}
+use Rattle.amqp_frames.proofs.SharedPartLemmas.{more_parts, shared}
 use Rattle.amqp_frames.proofs.woven.Woven.share.Goals as goal
 
 pub invariant_of-self : goal.invariant_of-self

@@ -1,4 +1,4 @@
-use Rattle.amqp_frames.proofs.Weaving.{before_taken}
+use Rattle.amqp_frames.proofs.SharedPartLemmas.{before_taken}
 use Rattle.amqp_frames.proofs.woven.Woven.take_some.Goals as goal
 
 pub returns-clause-taken : goal.returns-clause-taken

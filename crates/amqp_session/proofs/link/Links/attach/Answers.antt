@@ -1,6 +1,6 @@
 use Rattle.std.proofs.Common.{◌≡◌, None, ap, subst, ◌∙◌}
 use Rattle.std.specs.FinMap as map
-use Rattle.amqp_types.specs.Attach.{AttachSaid}
+use Rattle.amqp_types.specs.Attach.{AttachModel}
 use Rattle.amqp_session.specs.declared.numbers.InputHandle.{InputHandle}
 use Rattle.amqp_session.specs.declared.error.SessionInnerError.TheVariants as Refused
 use Rattle.amqp_session.specs.Links.{names_of, handles_of, inputs_of}
@@ -10,7 +10,7 @@ use Rattle.amqp_session.proofs.link.Links.attach.Goals as goal
 
 pub returns-in_default-reserve-clause-step : goal.returns-in_default-reserve-clause-step
 returns-in_default-reserve-clause-step g c =
-    let name = c.as_str.ensures.value ∙ ap (λ (a : AttachSaid). a.name) c.attach.view_is in
+    let name = c.as_str.ensures.value ∙ ap (λ (a : AttachModel). a.name) c.attach.view_is in
     let names = names_of c.self.inside.names.entries in
     let refused = subst (λ n. AttachRefused (map.get names n) Refused.OutOfMemory) name (waited_full (map.get names c.as_str.result.now) c.in_default.ensures.none) in
     rw (c.of-in_default-reserve.ensures.answer, ← c.self.view_is) (
@@ -26,7 +26,7 @@ returns-in-Err-clause-step g c =
 
 pub returns-in-Ok-attach-clause-step : goal.returns-in-Ok-attach-clause-step
 returns-in-Ok-attach-clause-step g c =
-    let is : c.from-input.result.0 ≡ c.args.attach.handle = ap (λ (i : InputHandle). i.0) c.from-input.ensures ∙ ap (λ (a : AttachSaid). a.handle) c.attach.view_is in
+    let is : c.from-input.result.0 ≡ c.args.attach.handle = ap (λ (i : InputHandle). i.0) c.from-input.ensures ∙ ap (λ (a : AttachModel). a.handle) c.attach.view_is in
     rw (c.of-in-Ok-attach.ensures.answer, ← c.self.view_is) (attaches_ok g.R.LinkRelay.gives.attach_gives
     (record { names = names_of c.self.inside.names.entries; handles = handles_of c.self.inside.handles; inputs = inputs_of c.self.inside.inputs.entries })
     c.args.attach _ _ (inputs_of c.reserve.new.self.entries) c.from-input.result.0 c.in-Ok-attach.link c.in-Ok-attach.ensures is (ap inputs_of c.reserve.ensures.entries) c.put-replaced.ensures.put)

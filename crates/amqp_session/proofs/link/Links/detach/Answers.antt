@@ -1,6 +1,6 @@
 use Rattle.std.proofs.Common.{◌≡◌, Bool, Some, None, not, refl, ap, sym, ◌∙◌}
 use Rattle.std.specs.FinMap as map
-use Rattle.amqp_types.specs.Detach.{DetachSaid}
+use Rattle.amqp_types.specs.Detach.{DetachModel}
 use Rattle.amqp_session.specs.declared.numbers.InputHandle.{InputHandle}
 use Rattle.amqp_session.specs.Links.{names_of, handles_of, inputs_of}
 use Rattle.amqp_session.proofs.LinksAfterRelayLemmas.{none_dropped, one_dropped}
@@ -8,7 +8,7 @@ use Rattle.amqp_session.proofs.link.Links.detach.Goals as goal
 
 pub returns-in_default : goal.returns-in_default
 returns-in_default g c =
-    let is : c.from-input.result.0 ≡ c.args.detach.handle = ap (λ (i : InputHandle). i.0) c.from-input.ensures ∙ ap (λ (d : DetachSaid). d.handle) c.detach.view_is in
+    let is : c.from-input.result.0 ≡ c.args.detach.handle = ap (λ (i : InputHandle). i.0) c.from-input.ensures ∙ ap (λ (d : DetachModel). d.handle) c.detach.view_is in
     let none = ap (map.get (inputs_of c.self.inside.inputs.entries)) (sym is) ∙ sym c.take.ensures.value ∙ c.in_default.is in
     let gone = c.take.ensures.removed ∙ ap (map.remove (inputs_of c.self.inside.inputs.entries)) is in
     rw (c.of.ensures.answer, c.of.ensures.left, ← c.self.view_is) (
@@ -19,7 +19,7 @@ returns-in_default g c =
 
 pub returns : goal.returns
 returns g c =
-    let is : c.from-input.result.0 ≡ c.args.detach.handle = ap (λ (i : InputHandle). i.0) c.from-input.ensures ∙ ap (λ (d : DetachSaid). d.handle) c.detach.view_is in
+    let is : c.from-input.result.0 ≡ c.args.detach.handle = ap (λ (i : InputHandle). i.0) c.from-input.ensures ∙ ap (λ (d : DetachModel). d.handle) c.detach.view_is in
     let there = ap (map.get (inputs_of c.self.inside.inputs.entries)) (sym is) ∙ sym c.take.ensures.value ∙ c.in-Some.is in
     rw (c.of-2.ensures.answer, c.of-2.ensures.left, ← c.self.view_is) (
       Some (record {

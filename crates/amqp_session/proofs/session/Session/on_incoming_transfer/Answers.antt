@@ -1,5 +1,5 @@
 use Rattle.std.proofs.Common.{◌≡◌, Some, None, Ok, Err, refl, ap}
-use Rattle.amqp_types.specs.Transfer.{TransferSaid}
+use Rattle.amqp_types.specs.Transfer.{TransferModel}
 use Rattle.amqp_session.proofs.FlowLemmas.{sender_room_taken, named_is, unasked_is}
 use Rattle.amqp_session.proofs.session.Session.on_incoming_transfer.Goals as goal
 
@@ -20,7 +20,7 @@ returns-in-Ok-Err-clause-step g c =
 pub returns-in-Ok-Ok-clause-step : goal.returns-in-Ok-Ok-clause-step
 returns-in-Ok-Ok-clause-step g c =
     let a = rw c.in-Ok-Ok.field-0-is at c.in-Ok-Ok.ensures.asked in
-    let handle : c.transfer.inside.handle.0 ≡ c.args.transfer.handle = ap (λ (t : TransferSaid). t.handle) c.transfer.view_is in
+    let handle : c.transfer.inside.handle.0 ≡ c.args.transfer.handle = ap (λ (t : TransferModel). t.handle) c.transfer.view_is in
     let fits = rw handle at c.record_named.ensures.fits in
     let rows = rw handle at c.record_named.ensures.rows in
     rw (← c.self.view_is, a.put, c.count_transfer.ensures) (

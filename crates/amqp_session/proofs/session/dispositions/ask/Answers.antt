@@ -1,6 +1,6 @@
 use Rattle.std.proofs.Common.{None, ◌/◌, ◌≡◌, ◌≤◌, ◌+◌, ◌-◌, ◌%◌, ◌^◌, min, vec_capacity, List, length, arith, sym, IsSome, inr, true, refl, ap, subst, ◌∙◌, Result, Ok, Err, IfOk, OnOk, OnErr, map}
 use Rattle.std.proofs.lemmas.List.{length-map}
-use Rattle.amqp_types.specs.Disposition.{DispositionSaid}
+use Rattle.amqp_types.specs.Disposition.{DispositionModel}
 use Rattle.amqp_session.specs.declared.deliveries.Delivery.{Delivery}
 use Rattle.amqp_session.specs.declared.deliveries.WalkCount.{WalkCount}
 use Rattle.amqp_session.specs.declared.session.range.SerialRange.{SerialRange}
@@ -50,7 +50,7 @@ returns-clause-asked g c =
     let are = split_meant c.args.said.now c.args.rows.now.rows c.place_of-from.result c.ask_each.result order split in
     let a = c.ask_each.ensures.asked in
     let runs = subst (λ b. AreRuns c.args.said.now.first (noted b a.0) a.2) c.requires.settled a.3 in
-    let state = ap (λ (y : DispositionSaid). y.state) c.said.view_is in
+    let state = ap (λ (y : DispositionModel). y.state) c.said.view_is in
     if_ok c.with_state.result (λ echoes e. (a.0, rw (are, ← same) a.1, record { runs = a.2; are_runs = runs; are_said = e a.2 a.4 ∙ ap (λ s. map (echo_of s) a.2) state })) c.with_state.ensures.echoes
 
 pub returns-clause-refused : goal.returns-clause-refused
@@ -65,7 +65,7 @@ returns-clause-refused g c =
     let runs = subst (λ b. AreRuns c.args.said.now.first (noted b a.0) a.2) c.requires.settled a.3 in
     let some = some_number c.args.said.now.first (agreed a.0) a.2 runs in
     let len = ap length a.4 ∙ length-map a.2 (echo_of None) in
-    let state = ap (λ (y : DispositionSaid). y.state) c.said.view_is in
+    let state = ap (λ (y : DispositionModel). y.state) c.said.view_is in
     on_err c.with_state.result (λ e. inr (a.0, (subst IsSome state e.0, some (omega (arith, len, e.1))), rw (are, ← same) a.1)) c.with_state.ensures.refused
 
 pub returns-clause-rows : goal.returns-clause-rows

@@ -1,6 +1,6 @@
 use Rattle.std.proofs.Common.{rules, map, None, vec_len, ◌≡◌, ◌≤◌, ◌<◌, ◌+◌, ◌-◌, ◌%◌, ◌^◌, [], List, length, take, Some, refl, ap, sym, subst, ◌∙◌, arith, slice_get}
 use Rattle.std.proofs.lemmas.List.{length-map}
-use Rattle.amqp_types.specs.Disposition.{DispositionSaid}
+use Rattle.amqp_types.specs.Disposition.{DispositionModel}
 use Rattle.amqp_session.specs.declared.deliveries.Delivery.{Delivery}
 use Rattle.amqp_session.specs.declared.session.range.SerialRange.{SerialRange}
 use Rattle.amqp_session.specs.Disposing.{distance, span, echo_of, AsksEach, has_agreed}
@@ -58,7 +58,7 @@ note-requires g c settled =
     let behind = end_later d.first _ (distance d.first c.delivery-delivery.result.now.number) a.2 s.near a.5 in
     let vec : vec_len c.loop-count.echoes ≡ length c.loop-count.echoes.items = search rules in
     let len : vec_len c.loop-count.echoes ≡ length a.2 = vec ∙ ap length a.4 ∙ length-map a.2 (echo_of None) in
-    let room = c.requires.room (ap (λ (y : DispositionSaid). y.settled) (sym c.said.view_is) ∙ settled) in (
+    let room = c.requires.room (ap (λ (y : DispositionModel). y.settled) (sym c.said.view_is) ∙ settled) in (
       a.2,
       a.4,
       λ own. let half = few_runs d.first c.delivery-delivery.result.now.number a.2 hf hn own behind a.3.apart in
@@ -87,7 +87,7 @@ loop-count-preserved g c =
     let old = v.asked.2 in
     let behind = end_later d.first (reach d.first 0 (take k order)) (distance d.first x.number) old s.near v.asked.5 in
     let runs = noted_more d.first x.number d.settled (has_agreed q.0) v.asked.0 more.0 old hf hn more.2 behind v.asked.3 in
-    let items = c.note.ensures.items old v.asked.4 ∙ ap (λ b. map (echo_of None) (noted_by b c.ask_disposition-answer.result x.number old)) (ap (λ (y : DispositionSaid). y.settled) c.said.view_is) ∙ ap (λ b. map (echo_of None) (noted_by d.settled b x.number old)) q.2 in
+    let items = c.note.ensures.items old v.asked.4 ∙ ap (λ b. map (echo_of None) (noted_by b c.ask_disposition-answer.result x.number old)) (ap (λ (y : DispositionModel). y.settled) c.said.view_is) ∙ ap (λ b. map (echo_of None) (noted_by d.settled b x.number old)) q.2 in
     record {
       asked = (more.0, rw s.grow more.1, noted_by d.settled (has_agreed q.0) x.number old, runs.0, items, rw (s.grow, reach_more d.first 0 (take k order) x) runs.1);
       near = rw s.grow (each_more d _ (take k order) x v.near (meant_is d x.number c.requires.forward near));

@@ -1,6 +1,6 @@
 use Rattle.std.proofs.Common.{sym, ◌∙◌, subst}
 use Rattle.amqp_values.specs.Raw.{IsRaw}
-use Rattle.amqp_values.proofs.Mapped.{map_code}
+use Rattle.amqp_values.proofs.MapLemmas.{map_code}
 use Rattle.amqp_values.proofs.fields.Fields.take.Goals as goal
 
 pub invariant_of-result : goal.invariant_of-result

@@ -1,6 +1,6 @@
 use Rattle.std.proofs.Common.{refl, sym, ap, ◌∙◌}
 use Rattle.amqp_values.specs.Raw.{is_raw_text}
-use Rattle.amqp_values.proofs.Outcomes.{raw_text_is_raw, other_text_is_not}
+use Rattle.amqp_values.proofs.OutcomeLemmas.{raw_text_is_raw, other_text_is_not}
 use Rattle.amqp_values.proofs.raw.Raw.of_bytes.Goals as goal
 
 pub invariant_of-result : goal.invariant_of-result

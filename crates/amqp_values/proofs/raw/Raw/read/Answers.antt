@@ -1,6 +1,6 @@
 use Rattle.amqp_values.specs.Raw.{SpellsRaw, raw_at}
-use Rattle.amqp_values.proofs.Format.{is_read}
-use Rattle.amqp_values.proofs.Law.{raw_format}
+use Rattle.amqp_values.proofs.ReaderLemmas.{is_read}
+use Rattle.amqp_values.proofs.RawValueLemmas.{raw_format}
 use Rattle.amqp_values.proofs.raw.Raw.read.Goals as goal
 
 pub returns : goal.returns

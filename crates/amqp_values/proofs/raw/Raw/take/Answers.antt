@@ -1,5 +1,5 @@
 use Rattle.std.proofs.Common.{sym}
-use Rattle.amqp_values.proofs.Law.{shorter, raw_is}
+use Rattle.amqp_values.proofs.RawValueLemmas.{shorter, raw_is}
 use Rattle.amqp_values.proofs.raw.Raw.take.Goals as goal
 
 pub overflow_sub-len : goal.overflow_sub-len

@@ -1,6 +1,6 @@
 use Rattle.std.proofs.Common.{◌≡◌, ◌∙◌, sym, true}
 use Rattle.amqp_values.specs.Text.{is_ascii}
-use Rattle.amqp_values.proofs.Utf8.{ok_of, ascii_utf8}
+use Rattle.amqp_values.proofs.Utf8Lemmas.{ok_of, ascii_utf8}
 use Rattle.amqp_values.proofs.symbol.Symbol.of_bytes.Goals as goal
 
 pub unwrap-text-requires : goal.unwrap-text-requires

@@ -1,6 +1,6 @@
 use Rattle.std.proofs.Common.{◌≡◌, ◌∙◌, string_bytes, subst}
 use Rattle.std.specs.Str.{IsUtf8}
-use Rattle.amqp_values.proofs.Utf8.{string_is, no_string}
+use Rattle.amqp_values.proofs.Utf8Lemmas.{string_is, no_string}
 use Rattle.amqp_values.proofs.text.StringField.read.Goals as goal
 
 pub returns-in-Ok : goal.returns-in-Ok

@@ -1,6 +1,6 @@
 use Rattle.std.proofs.Common.{◌≡◌, ◌<◌, ◌-◌, suc, length, sym, ap, ◌∙◌, arith}
 use Rattle.amqp_values.specs.Parts.{parts_at}
-use Rattle.amqp_values.proofs.Cut.{next_none, next_value, next_all, next_parts}
+use Rattle.amqp_values.proofs.ListPartLemmas.{next_none, next_value, next_all, next_parts}
 use Rattle.amqp_values.proofs.value.ItemsIterator.next.Goals as goal
 
 pub returns-in_err-first-clause-steps : goal.returns-in_err-first-clause-steps

@@ -1,4 +1,4 @@
-use Rattle.amqp_values.proofs.Alike.{same_behind}
+use Rattle.amqp_values.proofs.SameItemsLemmas.{same_behind}
 use Rattle.amqp_values.proofs.value.ItemsPartialEq.eq.Goals as goal
 
 pub returns-then-self-other : goal.returns-then-self-other

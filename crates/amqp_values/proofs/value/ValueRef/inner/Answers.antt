@@ -1,6 +1,6 @@
 use Rattle.std.proofs.Common.{◌≡◌, sym, arith, None}
 use Rattle.amqp_values.specs.Parts.{halves_at}
-use Rattle.amqp_values.proofs.Cut.{halved, unhalved}
+use Rattle.amqp_values.proofs.ListPartLemmas.{halved, unhalved}
 use Rattle.amqp_values.proofs.value.ValueRef.inner.Goals as goal
 
 pub returns-in_err-inner : goal.returns-in_err-inner

@@ -1,6 +1,6 @@
 use Rattle.std.proofs.Common.{◌≡◌, sym, arith, None}
 use Rattle.amqp_values.specs.Parts.{open_at}
-use Rattle.amqp_values.proofs.Cut.{opened, shut}
+use Rattle.amqp_values.proofs.ListPartLemmas.{opened, shut}
 use Rattle.amqp_values.proofs.value.ValueRef.items.Goals as goal
 
 pub returns-in_err-left : goal.returns-in_err-left

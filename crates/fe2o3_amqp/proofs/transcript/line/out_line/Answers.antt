@@ -1,6 +1,6 @@
 use Rattle.std.proofs.Common.{◌≡◌, ◌++◌, List, ℕ, ap, ◌∙◌, append_assoc, codes, string_bytes}
 use Rattle.hex.specs.Hex.{encode_lower, lower_digits}
-use Rattle.fe2o3_amqp.proofs.Digits.{encode_with-append}
+use Rattle.fe2o3_amqp.proofs.DigitLemmas.{encode_with-append}
 use Rattle.fe2o3_amqp.proofs.transcript.line.out_line.Goals as goal
 
 pub returns : goal.returns

@@ -3,7 +3,7 @@ use Rattle.std.specs.FinMap as map
 use Rattle.std.specs.BinaryHeap.{heap_items}
 use Rattle.std.specs.Map.{lookup}
 use Rattle.amqp_session.proofs.FiniteMapLemmas.{inserted, get_at}
-use Rattle.amqp_connection.proofs.Lowest.{lowest_at, lowest_next, all_held, each_popped, empty}
+use Rattle.amqp_connection.proofs.LowestChannelLemmas.{lowest_at, lowest_next, all_held, each_popped, empty}
 use Rattle.amqp_connection.proofs.connection.channel_table.ChannelTable.allot.Goals as goal
 
 first_is : (xs : List ℕ) (a b : ℕ) → 0 < length xs → a ≡ slice_index_or xs 0 a → b ≡ slice_index_or xs 0 b → a ≡ b

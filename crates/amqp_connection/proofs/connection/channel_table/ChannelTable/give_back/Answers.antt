@@ -2,7 +2,7 @@ use Rattle.std.proofs.Common.{rules, ◌≡◌, ◌+◌, ◌-◌, IsSome, ap, sy
 use Rattle.std.specs.FinMap as map
 use Rattle.std.specs.BinaryHeap.{heap_items}
 use Rattle.amqp_session.proofs.FiniteMapLemmas.{get_at, removed}
-use Rattle.amqp_connection.proofs.Lowest.{each_pushed}
+use Rattle.amqp_connection.proofs.LowestChannelLemmas.{each_pushed}
 use Rattle.amqp_connection.proofs.connection.channel_table.ChannelTable.give_back.Goals as goal
 
 pub unwrap-requires : goal.unwrap-requires

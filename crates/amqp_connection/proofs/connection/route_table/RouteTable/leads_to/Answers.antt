@@ -1,6 +1,6 @@
 use Rattle.std.proofs.Common.{sym, subst, ◌∙◌}
 use Rattle.amqp_connection.specs.RouteCounts.{IsLedTo}
-use Rattle.amqp_connection.proofs.Counting.{led}
+use Rattle.amqp_connection.proofs.RouteCountLemmas.{led}
 use Rattle.amqp_connection.proofs.connection.route_table.RouteTable.leads_to.Goals as goal
 
 pub returns : goal.returns

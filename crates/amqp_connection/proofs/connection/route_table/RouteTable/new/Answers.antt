@@ -1,4 +1,4 @@
-use Rattle.amqp_connection.proofs.Counting.{counted_new}
+use Rattle.amqp_connection.proofs.RouteCountLemmas.{counted_new}
 use Rattle.amqp_connection.proofs.connection.route_table.RouteTable.new.Goals as goal
 
 pub invariant_of-result : goal.invariant_of-result

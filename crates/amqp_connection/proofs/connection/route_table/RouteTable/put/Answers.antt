@@ -4,7 +4,7 @@ use Rattle.std.specs.FinMap as map
 use Rattle.amqp_session.specs.Hashing.{numbered}
 use Rattle.amqp_session.proofs.FiniteMapLemmas.{get_at, inserted}
 use Rattle.amqp_connection.specs.RouteCounts.{Counted, Lowered, Raised, count_at, leads}
-use Rattle.amqp_connection.proofs.Counting.{count_small, counted_put, has_count_still, same_option, there}
+use Rattle.amqp_connection.proofs.RouteCountLemmas.{count_small, counted_put, has_count_still, same_option, there}
 use Rattle.amqp_connection.proofs.connection.route_table.RouteTable.put.Goals as goal
 
 pub returns-then-eq-clause-ok : goal.returns-then-eq-clause-ok

@@ -2,7 +2,7 @@ use Rattle.std.proofs.Common.{ap, sym, subst, ◌∙◌, arith}
 use Rattle.std.specs.FinMap as map
 use Rattle.amqp_session.specs.Hashing.{numbered}
 use Rattle.amqp_connection.specs.RouteCounts.{Counted, Lowered, leads}
-use Rattle.amqp_connection.proofs.Counting.{counted_take, has_count}
+use Rattle.amqp_connection.proofs.RouteCountLemmas.{counted_take, has_count}
 use Rattle.amqp_connection.proofs.connection.route_table.RouteTable.take.Goals as goal
 
 pub lower-requires : goal.lower-requires

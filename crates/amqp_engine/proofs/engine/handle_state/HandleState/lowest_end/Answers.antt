@@ -2,7 +2,7 @@ use Rattle.std.proofs.Common.{rules, ap, sym, ◌∙◌}
 use Rattle.std.specs.FinMap as map
 use Rattle.std.specs.BinaryHeap.{heap_items}
 use Rattle.amqp_engine.specs.Inner.Places.{has_entries}
-use Rattle.amqp_connection.proofs.Lowest.{empty}
+use Rattle.amqp_connection.proofs.LowestChannelLemmas.{empty}
 use Rattle.amqp_engine.proofs.EndQueueLemmas.{no_entry, none_noted, some_noted}
 use Rattle.amqp_engine.proofs.engine.handle_state.HandleState.lowest_end.Goals as goal
 

@@ -3,7 +3,7 @@ use Rattle.std.specs.FinMap as map
 use Rattle.std.specs.BinaryHeap.{heap_items, heap_len}
 use Rattle.amqp_engine.specs.Inner.Places.{TakesEnd, Swaps, Queued, pick}
 use Rattle.amqp_engine.proofs.EndQueueLemmas.{no_entry, none_noted}
-use Rattle.amqp_connection.proofs.Lowest.{empty}
+use Rattle.amqp_connection.proofs.LowestChannelLemmas.{empty}
 use Rattle.amqp_engine.proofs.SessionSlotLemmas.{same_pick, queued_taken, took_first}
 use Rattle.amqp_engine.proofs.engine.handle_state.HandleState.take_end.Goals as goal
 
