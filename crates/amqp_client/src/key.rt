@@ -1,6 +1,6 @@
 //! The key of the engine's maps, as the caller drew it.
 
-use amqp_session::KeyHash;
+use amqp_session::keys::KeyHash;
 use std::hash::RandomState;
 use std::io;
 use std::random::RandomSource;

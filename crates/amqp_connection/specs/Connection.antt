@@ -94,15 +94,15 @@ SendCloseStep v error (Err state.IllegalState) w = (closes_by error v.state ≡ 
 SendCloseStep v error (Err e) w = ⊥
 
 -- how the peer's Close is told: as an error, unless it answers a Close of this side and has none
-abbrev pub told : ConnectionState → Option ErrorModel → Option ConnectionStateError
-told s (Some e) = Some (state.RemoteClosedWithError e)
-told CloseReceived None = Some state.RemoteClosed
-told s None = None
+abbrev pub close_error : ConnectionState → Option ErrorModel → Option ConnectionStateError
+close_error s (Some e) = Some (state.RemoteClosedWithError e)
+close_error CloseReceived None = Some state.RemoteClosed
+close_error s None = None
 
 abbrev pub IncomingCloseStep : ConnectionView → CloseModel → Option ConnectionStateError → ConnectionView → Type 0
 IncomingCloseStep v c (Some state.IllegalState) w = (takes_close v.state ≡ None) × (w ≡ v)
 IncomingCloseStep v c refusal w =
-    (s : ConnectionState) × (takes_close v.state ≡ Some s) × (refusal ≡ told s c.error) × (w ≡ record v { state = s })
+    (s : ConnectionState) × (takes_close v.state ≡ Some s) × (refusal ≡ close_error s c.error) × (w ≡ record v { state = s })
 
 -- ---- channels: the lowest one that is not held goes to a session
 

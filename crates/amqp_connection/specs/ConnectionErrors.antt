@@ -5,7 +5,7 @@ use Rattle.amqp_connection.specs.declared.error.ConnectionStateError.TheVariants
 use Rattle.amqp_connection.specs.declared.error.ConnectionInnerError.{ConnectionInnerError}
 use Rattle.amqp_connection.specs.declared.error.ConnectionInnerError.TheVariants as inner
 use Rattle.amqp_connection.specs.declared.error.Error.{Error}
-use Rattle.amqp_connection.specs.declared.error.Error.TheVariants as told
+use Rattle.amqp_connection.specs.declared.error.Error.TheVariants as close_error
 use Rattle.amqp_connection.specs.declared.error.AllocSessionError.{AllocSessionError}
 use Rattle.amqp_connection.specs.declared.error.AllocSessionError.TheVariants as full
 use Rattle.amqp_connection.specs.declared.open_error.OpenError.{OpenError}
@@ -23,20 +23,20 @@ inner_of (state.TransportError t) = inner.TransportError t
 inner_of state.OutOfMemory = inner.OutOfMemory
 
 abbrev pub error_of_state : ConnectionStateError → Error
-error_of_state state.IllegalState = told.IllegalState
-error_of_state state.RemoteClosed = told.RemoteClosed
-error_of_state (state.RemoteClosedWithError e) = told.RemoteClosedWithError e
-error_of_state (state.TransportError t) = told.TransportError t
-error_of_state state.OutOfMemory = told.OutOfMemory
+error_of_state state.IllegalState = close_error.IllegalState
+error_of_state state.RemoteClosed = close_error.RemoteClosed
+error_of_state (state.RemoteClosedWithError e) = close_error.RemoteClosedWithError e
+error_of_state (state.TransportError t) = close_error.TransportError t
+error_of_state state.OutOfMemory = close_error.OutOfMemory
 
 abbrev pub error_of_inner : ConnectionInnerError → Error
-error_of_inner (inner.TransportError t) = told.TransportError t
-error_of_inner inner.IllegalState = told.IllegalState
-error_of_inner (inner.NotImplemented t) = told.NotImplemented t
-error_of_inner (inner.NotFound t) = told.NotFound t
-error_of_inner inner.RemoteClosed = told.RemoteClosed
-error_of_inner (inner.RemoteClosedWithError e) = told.RemoteClosedWithError e
-error_of_inner inner.OutOfMemory = told.OutOfMemory
+error_of_inner (inner.TransportError t) = close_error.TransportError t
+error_of_inner inner.IllegalState = close_error.IllegalState
+error_of_inner (inner.NotImplemented t) = close_error.NotImplemented t
+error_of_inner (inner.NotFound t) = close_error.NotFound t
+error_of_inner inner.RemoteClosed = close_error.RemoteClosed
+error_of_inner (inner.RemoteClosedWithError e) = close_error.RemoteClosedWithError e
+error_of_inner inner.OutOfMemory = close_error.OutOfMemory
 
 abbrev pub open_of_state : ConnectionStateError → OpenError
 open_of_state state.IllegalState = opens.IllegalState

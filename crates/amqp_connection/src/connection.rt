@@ -13,7 +13,8 @@ mod route_counts;
 mod route_table;
 mod routing;
 
-use amqp_session::{ConnectionStopReason, KeyHash};
+use amqp_session::ConnectionStopReason;
+use amqp_session::keys::KeyHash;
 use amqp_types::{ConnectionState, Open};
 use channel_table::ChannelTable;
 use route_table::RouteTable;

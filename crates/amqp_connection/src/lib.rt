@@ -1,11 +1,11 @@
 //! The connection of AMQP 1.0: its states, its Opens, the channels of its sessions, and the routes of received frames.
 #![tactic(auto)]
 
-pub mod connection;
-pub mod error;
+mod connection;
+mod error;
 pub mod laws;
-pub mod numbers;
-pub mod open_error;
+mod numbers;
+mod open_error;
 
 pub use connection::Connection;
 pub use error::{

@@ -25,14 +25,14 @@ use Rattle.amqp_engine.specs.Entry.{Entry}
 use Rattle.amqp_engine.specs.Event.{Quiet, event, event_by, received_event}
 use Rattle.amqp_engine.proofs.BareHistoryLemmas.{Chain, LeadsTo}
 use Rattle.amqp_engine.specs.ByHistory.{of_session, is_forgotten, session_state}
-use Rattle.amqp_engine.specs.Headline.{Asked, AllAsked, FramesAre, RanShort, asked_calls, own_frames}
+use Rattle.amqp_engine.specs.Headline.{Asked, AllAsked, FramesAre, OutOfMemoryIsInert, asked_calls, own_frames}
 use Rattle.amqp_engine.proofs.BegunSessionLemmas.{some_none}
 use Rattle.amqp_engine.proofs.StepEffectLemmas.{IsPlain, Effect, Stays, Changes}
 use Rattle.amqp_engine.proofs.StepChainLemmas.{Passage, passage, chain_split, open_law}
 use Rattle.amqp_engine.proofs.SessionProjectionLemmas.{Legal, legal, numbers_are, same_some}
 
 abbrev pub ViewsLaw : {R : Type 0} → Relays R → Type 0
-ViewsLaw g = (m : session.Made) (h : List (session.Entry _)) (v : SessionView _) → session.LeadsTo g m h v → single.Stands m h v
+ViewsLaw g = (m : session.Made) (h : List (session.SessionCall _)) (v : SessionView _) → session.LeadsTo g m h v → single.Stands m h v
 
 same_value : (a b : ℕ) → Some a ≡ Some b → a ≡ b
 same_value a b e = cc
@@ -50,7 +50,7 @@ there_state g law n k before m s (inr p) there =
 
 -- that of one that was never there is the first one
 absent_state : {R : Type 0} (g : Relays R) (n : ℕ) (k : ConnectionView) (before : List (Entry R)) (m : EngineView R) → Legal g n k before m → lookup (nat_eq n) m.sessions ≡ None → is_forgotten n before ≡ false → Unmapped ≡ session_state n before
-absent_state g n k before m (inl a) none stays = sym (ap (λ (cs : List (session.Entry _)). single.state_from Unmapped cs) a.no_calls)
+absent_state g n k before m (inl a) none stays = sym (ap (λ (cs : List (session.SessionCall _)). single.state_from Unmapped cs) a.no_calls)
 absent_state g n k before m (inr p) none stays = absurd (some_none (sym (p.there ∙ ap (λ b. cond b None (Some p.last)) stays) ∙ none))
 
 abbrev Is : {R : Type 0} → Entry R → SessionState → Type 0
@@ -108,7 +108,7 @@ plain_not_short (Some (no.Session y)) p x = cc
 plain_not_short (Some (no.AllocLink y)) p x = cc
 plain_not_short (Some y) p x = absurd p
 
-pub ran_short : {R : Type 0} (g : Relays R) (made : ConnectionState) (o : OpenModel) (H : List (Entry R)) (w : EngineView R) → LeadsTo g made o H w → RanShort H
+pub ran_short : {R : Type 0} (g : Relays R) (made : ConnectionState) (o : OpenModel) (H : List (Entry R)) (w : EngineView R) → LeadsTo g made o H w → OutOfMemoryIsInert H
 ran_short g made o H w l before after e is short =
     let r = chain_split g before (e ∷ after) (new_engine made o) w (subst (λ (es : List (Entry _)). Chain g (new_engine made o) es w) is l) in
     by r.2.0 r.2.1 (passage g r.2.0 r.2.1 e r.2.3)
@@ -117,7 +117,7 @@ ran_short g made o H w l before after e is short =
     quiet = ap (λ x. event_by e.input e.received e.reached x e.frames) short ∙ short_event e.input e.received e.reached e.frames
 
     none : (u t : EngineView _) → Passage g u e t → e.calls ≡ [] → e.frames ≡ []
-    none u t p c = p.frames_are ∙ ap (λ x. own_frames u.connection.local_open x ++ sent (calls_frames e.calls)) quiet ∙ ap (λ (cs : List (session.Entry _)). sent (calls_frames cs)) c
+    none u t p c = p.frames_are ∙ ap (λ x. own_frames u.connection.local_open x ++ sent (calls_frames e.calls)) quiet ∙ ap (λ (cs : List (session.SessionCall _)). sent (calls_frames cs)) c
 
     by : (u t : EngineView _) → Passage g u e t → (e.reached ≡ None) × (e.frames ≡ [])
     by u t p = effects p.effect

@@ -10,7 +10,7 @@ use Rattle.amqp_engine.specs.Entry.{Entry}
 use Rattle.amqp_engine.specs.History as whole
 
 -- frames that waited left from the front, and nothing else changed but what is kept
-pub record Taken {R : Type 0} (v w : EngineView R) : Type 0 where
+pub record OutputTaken {R : Type 0} (v w : EngineView R) : Type 0 where
   pub gone : List Frame
   pub left : v.waiting ≡ gone ++ w.waiting
   pub connection_is : w.connection ≡ v.connection
@@ -19,17 +19,17 @@ pub record Taken {R : Type 0} (v w : EngineView R) : Type 0 where
   pub limit_is : w.limit ≡ v.limit
 
 abbrev pub Chain : {R : Type 0} → Relays R → EngineView R → List (Entry R) → EngineView R → Type 0
-Chain g v [] w = Taken v w
-Chain g v (e ∷ es) w = (u : EngineView _) × (m : EngineView _) × Taken v u × Step g u e m × Chain g m es w
+Chain g v [] w = OutputTaken v w
+Chain g v (e ∷ es) w = (u : EngineView _) × (m : EngineView _) × OutputTaken v u × Step g u e m × Chain g m es w
 
 abbrev pub LeadsTo : {R : Type 0} → Relays R → ConnectionState → OpenModel → List (Entry R) → EngineView R → Type 0
 LeadsTo g state o H w = Chain g (new_engine state o) H w
 
-taken : {R : Type 0} (v w : EngineView R) → whole.Taken v w → Taken v w
+taken : {R : Type 0} (v w : EngineView R) → whole.OutputTaken v w → OutputTaken v w
 taken v w t = record { gone = t.gone; left = t.left; connection_is = t.connection_is; sessions_is = t.sessions_is; forgotten_is = t.forgotten_is; limit_is = t.limit_is }
 
 -- what an entry leaves to be kept, and then what leaves
-later : {R : Type 0} (e : Entry R) (m n w : EngineView R) → Keeps e m n → Taken n w → Taken m w
+later : {R : Type 0} (e : Entry R) (m n w : EngineView R) → Keeps e m n → OutputTaken n w → OutputTaken m w
 later e m n w k t = record {
   gone = t.gone;
   left = sym (ap (λ (x : EngineView _). x.waiting) k) ∙ t.left;

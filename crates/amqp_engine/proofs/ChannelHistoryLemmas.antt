@@ -19,7 +19,7 @@ use Rattle.amqp_connection.specs.Connection.{ConnectionView, Holds}
 use Rattle.amqp_engine.specs.EngineView.{EngineView, new_engine}
 use Rattle.amqp_engine.specs.Entry.{Entry}
 use Rattle.amqp_engine.specs.Event.{Event, Quiet, SentOpen, SentClose, AcceptedOpen, CameClose, Began, Released, Forgot, Routed, Unrouted, event, is_number}
-use Rattle.amqp_engine.proofs.BareHistoryLemmas.{Taken, Chain, LeadsTo}
+use Rattle.amqp_engine.proofs.BareHistoryLemmas.{OutputTaken, Chain, LeadsTo}
 use Rattle.amqp_engine.specs.ByHistory.{calls_at, forgotten_by, held_by, held_from, held, route_by, route_from, route}
 use Rattle.amqp_engine.specs.Headline.{HeldOnce}
 use Rattle.amqp_connection.proofs.HistoryLemmas.{inserted_at, removed_at, went}
@@ -130,7 +130,7 @@ abbrev pub IsOn : {R : Type 0} → EngineView R → ℕ → ℕ → Type 0
 IsOn v n c = (s : SessionView _) × (lookup (nat_eq n) v.sessions ≡ Some s) × (s.outgoing_channel ≡ c)
 
 -- no call moves a session to another channel
-on_it_still : {R : Type 0} (g : Relays R) (cs : List (session.Entry R)) (s t : SessionView R) → session.Chain g s cs t → t.outgoing_channel ≡ s.outgoing_channel
+on_it_still : {R : Type 0} (g : Relays R) (cs : List (session.SessionCall R)) (s t : SessionView R) → session.SessionChain g s cs t → t.outgoing_channel ≡ s.outgoing_channel
 on_it_still g [] s t c = ap (λ (x : SessionView _). x.outgoing_channel) c
 on_it_still g (e ∷ cs) s t c = on_it_still g cs c.0 t c.2 ∙ ap (λ (x : Rest). x.outgoing_channel) (does g s c.0 e c.1).rest_is
 
@@ -139,7 +139,7 @@ pub record Kept {R : Type 0} (v : EngineView R) : Type 0 where
   pub once : (c d n : ℕ) → map.get v.connection.session_by_outgoing_channel c ≡ Some n → map.get v.connection.session_by_outgoing_channel d ≡ Some n → c ≡ d
   pub routed : (c n : ℕ) → map.get v.connection.session_by_incoming_channel c ≡ Some n → IsThere v n
 
-pub kept_taken : {R : Type 0} (v u : EngineView R) → Taken v u → Kept v → Kept u
+pub kept_taken : {R : Type 0} (v u : EngineView R) → OutputTaken v u → Kept v → Kept u
 kept_taken v u t k =
     let held : u.connection.session_by_outgoing_channel ≡ v.connection.session_by_outgoing_channel = H u.connection v.connection t.connection_is in
     let routes : u.connection.session_by_incoming_channel ≡ v.connection.session_by_incoming_channel = R' u.connection v.connection t.connection_is in

@@ -13,7 +13,7 @@ use Rattle.amqp_engine.specs.Calls.{SentEach}
 use Rattle.amqp_engine.specs.Sessions.{SendsAll}
 use Rattle.amqp_engine.specs.Waits.{disposition_frame}
 
-sent_push : {R : Type 0} (ds : List DispositionModel) (calls : List (session.Entry R)) (d : DispositionModel) (terminal : Bool) (f : SessionFrame) →
+sent_push : {R : Type 0} (ds : List DispositionModel) (calls : List (session.SessionCall R)) (d : DispositionModel) (terminal : Bool) (f : SessionFrame) →
     SentEach ds calls → SentEach (ds ++ d ∷ []) (calls ++ session.SendsDisposition d terminal f ∷ [])
 sent_push [] calls d terminal f s = (terminal, f, [], ap (λ cs. cs ++ session.SendsDisposition d terminal f ∷ []) s, refl)
 sent_push (x ∷ ds) calls d terminal f s = (
@@ -24,12 +24,12 @@ sent_push (x ∷ ds) calls d terminal f s = (
   sent_push ds s.2 d terminal f s.4,
 )
 
-chain_push : {R : Type 0} (g : Relays R) (v m w : SessionView R) (calls : List (session.Entry R)) (e : session.Entry R) →
-    session.Chain g v calls m → session.Step g m e w → session.Chain g v (calls ++ e ∷ []) w
-chain_push g v m w [] e c s = (w, subst (λ (x : SessionView _). session.Step g x e w) c s, refl)
+chain_push : {R : Type 0} (g : Relays R) (v m w : SessionView R) (calls : List (session.SessionCall R)) (e : session.SessionCall R) →
+    session.SessionChain g v calls m → session.SessionStep g m e w → session.SessionChain g v (calls ++ e ∷ []) w
+chain_push g v m w [] e c s = (w, subst (λ (x : SessionView _). session.SessionStep g x e w) c s, refl)
 chain_push g v m w (x ∷ xs) e c s = (c.0, c.1, chain_push g c.0 m w xs e c.2 s)
 
-frames_push : {R : Type 0} (calls : List (session.Entry R)) (e : session.Entry R) → calls_frames (calls ++ e ∷ []) ≡ calls_frames calls ++ call_frames e
+frames_push : {R : Type 0} (calls : List (session.SessionCall R)) (e : session.SessionCall R) → calls_frames (calls ++ e ∷ []) ≡ calls_frames calls ++ call_frames e
 frames_push [] e = append-nil (call_frames e)
 frames_push (x ∷ xs) e = ap (λ fs. call_frames x ++ fs) (frames_push xs e) ∙ sym (append_assoc (call_frames x) (calls_frames xs) (call_frames e))
 

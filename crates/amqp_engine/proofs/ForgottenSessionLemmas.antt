@@ -12,7 +12,7 @@ use Rattle.indexmap.specs.IndexMap.{swap_remove_entry}
 use Rattle.indexmap.proofs.MapLemmas.{Found-position, swap_remove_entry-found, swap_remove_entry-missing}
 use Rattle.amqp_types.specs.Error.{ErrorModel}
 use Rattle.amqp_session.proofs.FiniteMapLemmas.{remove_none, same_test}
-use Rattle.amqp_session.specs.Session.{Observed}
+use Rattle.amqp_session.specs.Session.{SessionModel}
 use Rattle.amqp_connection.specs.Channels.{mark}
 use Rattle.amqp_connection.proofs.LowestChannelLemmas.{same_number}
 use Rattle.amqp_engine.specs.declared.engine.handle_state.SessionSlot.{SessionSlot}
@@ -95,13 +95,13 @@ stood old new n k b w t = w k ∙ ap (λ c. cond c None (lookup (nat_eq k) old))
 here : (n : ℕ) → nat_eq n n ≡ true
 here n = grind (arith, nat_tests)
 
-pub sessions_without : {R : Type 0} (old new : List (ℕ × Observed R)) (n : ℕ) → Clears old new n → Without n (views_of old) (views_of new)
+pub sessions_without : {R : Type 0} (old new : List (ℕ × SessionModel R)) (n : ℕ) → Clears old new n → Without n (views_of old) (views_of new)
 sessions_without old new n w = record {
   gone = viewed n new ∙ ap (option_map (λ o. o.view)) (stood old new n n true w (here n));
   others = λ k t. viewed k new ∙ ap (option_map (λ o. o.view)) (stood old new n k false w t) ∙ sym (viewed k old);
 }
 
-pub walks_without : {R : Type 0} (old new : List (ℕ × Observed R)) (n : ℕ) → Clears old new n → Without n (walks_of old) (walks_of new)
+pub walks_without : {R : Type 0} (old new : List (ℕ × SessionModel R)) (n : ℕ) → Clears old new n → Without n (walks_of old) (walks_of new)
 walks_without old new n w = record {
   gone = walked n new ∙ ap (option_map (λ o. o.last_walk)) (stood old new n n true w (here n));
   others = λ k t. walked k new ∙ ap (option_map (λ o. o.last_walk)) (stood old new n k false w t) ∙ sym (walked k old);
@@ -132,7 +132,7 @@ used_or v n b none is = by (map.get v.forgotten n) refl b is
     by (Some x) e false is = absurd (let y : false ≡ true = is in cc)
 
 -- what is left of an engine whose session goes
-pub lets_go : {R : Type 0} (c : ConnectionView) (old new : List (ℕ × Observed R)) (n limit : ℕ) (used used' : Numbers) (fs : List Frame) (o : Outcomes) (q : Wishes) → Clears old new n → used' ≡ map.insert used n true →
+pub lets_go : {R : Type 0} (c : ConnectionView) (old new : List (ℕ × SessionModel R)) (n limit : ℕ) (used used' : Numbers) (fs : List Frame) (o : Outcomes) (q : Wishes) → Clears old new n → used' ≡ map.insert used n true →
     LetsGo (parts used o q c old limit fs) n (parts used' o q c new limit fs)
 lets_go c old new n limit used used' fs o q w is = record {
   sessions = sessions_without old new n w;

@@ -14,29 +14,29 @@ use Rattle.amqp_session.specs.declared.error.TryEndError.{TryEndError}
 use Rattle.amqp_connection.specs.declared.error.TryCloseError.{TryCloseError}
 use Rattle.amqp_engine.specs.EngineView.{EngineView}
 use Rattle.amqp_engine.specs.Kept.{Wishes, CloseOutcome, EndOutcome}
-use Rattle.amqp_engine.specs.History.{IsEnded, Taken}
-use Rattle.amqp_engine.specs.Handles.{CloseAnswer, EndAnswer, SessionHandleView, close_told, close_noted, close_taken, CloseCall, TriesClose, TryCloseCall}
-use Rattle.amqp_engine.specs.Handles.{end_told, end_noted, end_taken, WishesEnd, EndCall, TriesEnd, AsksEnd, TryEndCall}
-use Rattle.amqp_engine.proofs.OutputLemmas.{Taken-none, Taken-more}
+use Rattle.amqp_engine.specs.History.{IsEnded, OutputTaken}
+use Rattle.amqp_engine.specs.Handles.{CloseAnswer, EndAnswer, SessionHandleView, close_answer_at, close_noted, close_taken, CloseCall, TriesClose, TryCloseCall}
+use Rattle.amqp_engine.specs.Handles.{end_answer_at, end_noted, end_taken, WishesEnd, EndCall, TriesEnd, AsksEnd, TryEndCall}
+use Rattle.amqp_engine.proofs.OutputLemmas.{OutputTaken-none, OutputTaken-more}
 use Rattle.amqp_engine.proofs.SessionProjectionLemmas.{same_number}
 use Rattle.amqp_engine.proofs.HandledRunLemmas.{rewished}
 use Rattle.amqp_session.proofs.FiniteMapLemmas.{same_test}
 
 -- it stays
-stayed : {R : Type 0} (v w : EngineView R) → w ≡ v → Taken v w
-stayed v w e = subst (λ (x : EngineView _). Taken v x) (sym e) (Taken-none v)
+stayed : {R : Type 0} (v w : EngineView R) → w ≡ v → OutputTaken v w
+stayed v w e = subst (λ (x : EngineView _). OutputTaken v x) (sym e) (OutputTaken-none v)
 
 -- a wish is noted
-pub noted : {R : Type 0} (v w : EngineView R) (q : Wishes) → w ≡ record v { wishes = q } → Taken v w
-noted v w q e = subst (λ (x : EngineView _). Taken v x) (sym e) (rewished v q)
+pub noted : {R : Type 0} (v w : EngineView R) (q : Wishes) → w ≡ record v { wishes = q } → OutputTaken v w
+noted v w q e = subst (λ (x : EngineView _). OutputTaken v x) (sym e) (rewished v q)
 
 -- ---- of a connection
 
-pub close_leaves : {R : Type 0} (told : Bool) (error : Option ErrorModel) (v w : EngineView R) (answer : CloseAnswer) → CloseCall told error v answer w → Taken v w
+pub close_leaves : {R : Type 0} (answered : Bool) (error : Option ErrorModel) (v w : EngineView R) (answer : CloseAnswer) → CloseCall answered error v answer w → OutputTaken v w
 close_leaves true error v w answer c = stayed v w c.1
 close_leaves false error v w answer c = noted v w _ c.1
 
-closed : {R : Type 0} (v : EngineView R) → v.connection.state ≡ at.End → Taken v (close_taken v)
+closed : {R : Type 0} (v : EngineView R) → v.connection.state ≡ at.End → OutputTaken v (close_taken v)
 closed v e = record {
   gone = [];
   left = refl;
@@ -47,34 +47,34 @@ closed v e = record {
   outcomes_are = record { close = inr (e, refl); ends = λ n. inl refl };
 }
 
-told_at_end : (s : ConnectionState) (o : Option CloseOutcome) (a : CloseAnswer) → close_told s o ≡ Some a → s ≡ at.End
+told_at_end : (s : ConnectionState) (o : Option CloseOutcome) (a : CloseAnswer) → close_answer_at s o ≡ Some a → s ≡ at.End
 told_at_end at.End o a e = refl
 told_at_end s o a e = absurd cc
 
-close_tried : {R : Type 0} (v w : EngineView R) (answer : Result CloseAnswer TryCloseError) (told' : Bool) (o : Option CloseAnswer) → close_told v.connection.state v.outcomes.connection ≡ o →
-    TriesClose o v answer told' w → Taken v w
-close_tried v w answer told' None e c = stayed v w c.2
-close_tried v w answer told' (Some a) e c = subst (λ (x : EngineView _). Taken v x) (sym c.2) (closed v (told_at_end v.connection.state v.outcomes.connection a e))
+close_tried : {R : Type 0} (v w : EngineView R) (answer : Result CloseAnswer TryCloseError) (answered' : Bool) (o : Option CloseAnswer) → close_answer_at v.connection.state v.outcomes.connection ≡ o →
+    TriesClose o v answer answered' w → OutputTaken v w
+close_tried v w answer answered' None e c = stayed v w c.2
+close_tried v w answer answered' (Some a) e c = subst (λ (x : EngineView _). OutputTaken v x) (sym c.2) (closed v (told_at_end v.connection.state v.outcomes.connection a e))
 
-pub try_close_leaves : {R : Type 0} (told : Bool) (v w : EngineView R) (answer : Result CloseAnswer TryCloseError) (told' : Bool) → TryCloseCall told v answer told' w → Taken v w
-try_close_leaves true v w answer told' c = stayed v w c.2
-try_close_leaves false v w answer told' c =
-    Taken-more v (close_noted None v) w (noted v (close_noted None v) _ refl) (close_tried (close_noted None v) w answer told' _ refl c)
+pub try_close_leaves : {R : Type 0} (answered : Bool) (v w : EngineView R) (answer : Result CloseAnswer TryCloseError) (answered' : Bool) → TryCloseCall answered v answer answered' w → OutputTaken v w
+try_close_leaves true v w answer answered' c = stayed v w c.2
+try_close_leaves false v w answer answered' c =
+    OutputTaken-more v (close_noted None v) w (noted v (close_noted None v) _ refl) (close_tried (close_noted None v) w answer answered' _ refl c)
 
 -- ---- of a session
 
-wishes_end : {R : Type 0} (n : ℕ) (s : Option (SessionView R)) (error : Option ErrorModel) (v w : EngineView R) (answer : EndAnswer) → WishesEnd n s error v answer w → Taken v w
+wishes_end : {R : Type 0} (n : ℕ) (s : Option (SessionView R)) (error : Option ErrorModel) (v w : EngineView R) (answer : EndAnswer) → WishesEnd n s error v answer w → OutputTaken v w
 wishes_end n None error v w answer c = stayed v w c.1
 wishes_end n (Some s) error v w answer c = noted v w _ c.1
 
-end_by : {R : Type 0} (h : SessionHandleView) (error : Option ErrorModel) (v w : EngineView R) (answer : EndAnswer) (told : Bool) → h.told ≡ told → EndCall h error v answer w → Taken v w
+end_by : {R : Type 0} (h : SessionHandleView) (error : Option ErrorModel) (v w : EngineView R) (answer : EndAnswer) (answered : Bool) → h.answered ≡ answered → EndCall h error v answer w → OutputTaken v w
 end_by h error v w answer true e c = stayed v w (c.0 e).1
 end_by h error v w answer false e c = wishes_end h.number (lookup (nat_eq h.number) v.sessions) error v w answer (c.1 e)
 
-pub end_leaves : {R : Type 0} (h : SessionHandleView) (error : Option ErrorModel) (v w : EngineView R) (answer : EndAnswer) → EndCall h error v answer w → Taken v w
-end_leaves h error v w answer c = end_by h error v w answer h.told refl c
+pub end_leaves : {R : Type 0} (h : SessionHandleView) (error : Option ErrorModel) (v w : EngineView R) (answer : EndAnswer) → EndCall h error v answer w → OutputTaken v w
+end_leaves h error v w answer c = end_by h error v w answer h.answered refl c
 
-ended : {R : Type 0} (n : ℕ) (v : EngineView R) → IsEnded n v → Taken v (end_taken n v)
+ended : {R : Type 0} (n : ℕ) (v : EngineView R) → IsEnded n v → OutputTaken v (end_taken n v)
 ended n v is = record {
   gone = [];
   left = refl;
@@ -93,23 +93,23 @@ ended n v is = record {
     )
     by k false e = inl (get-remove nat_cmp_total v.outcomes.sessions n k ∙ ap (λ b. cond b None (map.get v.outcomes.sessions k)) (same_test k n ∙ e))
 
-told_unmapped : (s : SessionState) (o : Option EndOutcome) (a : EndAnswer) → end_told s o ≡ Some a → s ≡ stands.Unmapped
+told_unmapped : (s : SessionState) (o : Option EndOutcome) (a : EndAnswer) → end_answer_at s o ≡ Some a → s ≡ stands.Unmapped
 told_unmapped stands.Unmapped o a e = refl
 told_unmapped s o a e = absurd cc
 
-end_tried : {R : Type 0} (n : ℕ) (s : SessionView R) (v w : EngineView R) (answer : Result EndAnswer TryEndError) (told : Bool) (o : Option EndAnswer) → lookup (nat_eq n) v.sessions ≡ Some s →
-    end_told s.state (map.get v.outcomes.sessions n) ≡ o → TriesEnd n o v answer told w → Taken v w
-end_tried n s v w answer told None is e c = stayed v w c.2
-end_tried n s v w answer told (Some a) is e c =
-    subst (λ (x : EngineView _). Taken v x) (sym c.2) (ended n v (s, is, told_unmapped s.state (map.get v.outcomes.sessions n) a e))
+end_tried : {R : Type 0} (n : ℕ) (s : SessionView R) (v w : EngineView R) (answer : Result EndAnswer TryEndError) (answered : Bool) (o : Option EndAnswer) → lookup (nat_eq n) v.sessions ≡ Some s →
+    end_answer_at s.state (map.get v.outcomes.sessions n) ≡ o → TriesEnd n o v answer answered w → OutputTaken v w
+end_tried n s v w answer answered None is e c = stayed v w c.2
+end_tried n s v w answer answered (Some a) is e c =
+    subst (λ (x : EngineView _). OutputTaken v x) (sym c.2) (ended n v (s, is, told_unmapped s.state (map.get v.outcomes.sessions n) a e))
 
-asks_end : {R : Type 0} (n : ℕ) (s : Option (SessionView R)) (v w : EngineView R) (answer : Result EndAnswer TryEndError) (told : Bool) → lookup (nat_eq n) v.sessions ≡ s → AsksEnd n s v answer told w → Taken v w
-asks_end n None v w answer told is c = stayed v w c.2
-asks_end n (Some s) v w answer told is c = Taken-more v (end_noted n None v) w (noted v (end_noted n None v) _ refl) (end_tried n s (end_noted n None v) w answer told _ is refl c)
+asks_end : {R : Type 0} (n : ℕ) (s : Option (SessionView R)) (v w : EngineView R) (answer : Result EndAnswer TryEndError) (answered : Bool) → lookup (nat_eq n) v.sessions ≡ s → AsksEnd n s v answer answered w → OutputTaken v w
+asks_end n None v w answer answered is c = stayed v w c.2
+asks_end n (Some s) v w answer answered is c = OutputTaken-more v (end_noted n None v) w (noted v (end_noted n None v) _ refl) (end_tried n s (end_noted n None v) w answer answered _ is refl c)
 
-try_end_by : {R : Type 0} (h : SessionHandleView) (v w : EngineView R) (answer : Result EndAnswer TryEndError) (h' : SessionHandleView) (told : Bool) → h.told ≡ told → TryEndCall h v answer h' w → Taken v w
+try_end_by : {R : Type 0} (h : SessionHandleView) (v w : EngineView R) (answer : Result EndAnswer TryEndError) (h' : SessionHandleView) (answered : Bool) → h.answered ≡ answered → TryEndCall h v answer h' w → OutputTaken v w
 try_end_by h v w answer h' true e c = stayed v w (c.1 e).2
-try_end_by h v w answer h' false e c = asks_end h.number _ v w answer h'.told refl (c.2 e)
+try_end_by h v w answer h' false e c = asks_end h.number _ v w answer h'.answered refl (c.2 e)
 
-pub try_end_leaves : {R : Type 0} (h : SessionHandleView) (v w : EngineView R) (answer : Result EndAnswer TryEndError) (h' : SessionHandleView) → TryEndCall h v answer h' w → Taken v w
-try_end_leaves h v w answer h' c = try_end_by h v w answer h' h.told refl c
+pub try_end_leaves : {R : Type 0} (h : SessionHandleView) (v w : EngineView R) (answer : Result EndAnswer TryEndError) (h' : SessionHandleView) → TryEndCall h v answer h' w → OutputTaken v w
+try_end_leaves h v w answer h' c = try_end_by h v w answer h' h.answered refl c

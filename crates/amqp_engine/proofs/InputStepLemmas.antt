@@ -37,7 +37,7 @@ use Rattle.amqp_engine.specs.EngineView.{EngineView}
 use Rattle.amqp_engine.specs.Waits.{sent}
 use Rattle.amqp_engine.specs.Calls.{Calls, received_calls}
 use Rattle.amqp_engine.specs.Sessions.{Untouched, Called, Unknown, Reaches, Begun, BeginRequest, ReleaseRequest, ForgetRequest}
-use Rattle.amqp_engine.specs.Engine.{Carries, Received, ReceivedFrame, OpenRequest, CloseRequest, ReceivedOpen, ReceivedClose, Finds, recorded, NoneReceived}
+use Rattle.amqp_engine.specs.Engine.{InputStep, Received, ReceivedFrame, OpenRequest, CloseRequest, ReceivedOpen, ReceivedClose, Finds, recorded, NoneReceived}
 use Rattle.amqp_engine.specs.Entry.{Entry}
 use Rattle.amqp_engine.specs.ByHistory.{close_reason, remote_reason}
 use Rattle.amqp_engine.specs.Event.{Event, Quiet, SentOpen, SentClose, AcceptedOpen, CameClose, Began, Released, event, event_by, received_event, channel_of}
@@ -47,7 +47,7 @@ use Rattle.amqp_engine.proofs.BegunSessionLemmas.{some_none}
 use Rattle.amqp_engine.proofs.StepEffectLemmas.{Moved, NoneMoves, IsPlain, Deed, close_refusal, stops, close_calls, quiet, request_plain, received_plain, alone, same_engine, one_moved, at_connection, refuses, calls_one, calls_none, does}
 
 -- an entry of these
-abbrev of : {R : Type 0} → Input R → Option Frame → Option ℕ → List (session.Entry R) → Option StepError → List Frame → Entry R
+abbrev of : {R : Type 0} → Input R → Option Frame → Option ℕ → List (session.SessionCall R) → Option StepError → List Frame → Entry R
 of i received reached calls refusal frames = record { input = i; received = received; reached = reached; calls = calls; refusal = refusal; frames = frames }
 
 none_waiting : ¬ (None ≡ Some no.OutputWaiting)
@@ -68,7 +68,7 @@ refused_peer : (v k : ConnectionView) (o : OpenModel) (e : ConnectionStateError)
 refused_peer v k o state.IllegalState s = s.1
 refused_peer v k o e s = absurd s
 
-opens : {R : Type 0} (g : Relays R) (v w : EngineView R) (received : Option Frame) (reached : Option ℕ) (calls : List (session.Entry R)) (r : Option StepError) (frames : List Frame) →
+opens : {R : Type 0} (g : Relays R) (v w : EngineView R) (received : Option Frame) (reached : Option ℕ) (calls : List (session.SessionCall R)) (r : Option StepError) (frames : List Frame) →
     v.waiting ≡ [] → frames ≡ w.waiting → Untouched reached calls → OpenRequest v r w → Deed g v (of input.Open received reached calls r frames) w
 opens g v w received reached calls None frames idle fe u s = alone g v w _ SentOpen refl none_waiting u (record {
   moved = record {
@@ -87,7 +87,7 @@ opens g v w received reached calls (Some (no.ConnectionState e)) frames idle fe 
     alone g v w _ Quiet refl (λ x. cc) u (same_engine v w frames same (fe ∙ ap (λ (x : EngineView _). x.waiting) same ∙ idle))
 opens g v w received reached calls (Some e) frames idle fe u s = absurd s
 
-closes : {R : Type 0} (g : Relays R) (v w : EngineView R) (error : Option ErrorModel) (received : Option Frame) (reached : Option ℕ) (calls : List (session.Entry R)) (r : Option StepError) (frames : List Frame) →
+closes : {R : Type 0} (g : Relays R) (v w : EngineView R) (error : Option ErrorModel) (received : Option Frame) (reached : Option ℕ) (calls : List (session.SessionCall R)) (r : Option StepError) (frames : List Frame) →
     v.waiting ≡ [] → frames ≡ w.waiting → Untouched reached calls → CloseRequest v error r w → Deed g v (of (input.Close error) received reached calls r frames) w
 closes g v w error received reached calls None frames idle fe u s = alone g v w _ (SentClose error) refl none_waiting u (record {
   moved = record {
@@ -110,16 +110,16 @@ closes g v w error received reached calls (Some e) frames idle fe u s = absurd s
 
 -- the channel of a Begin that goes out
 begin_channel : {R : Type 0} (g : Relays R) (settings : SettingsModel) (channel : ℕ) (stop : Option ConnectionStopReason) (f : SessionFrame) (after : SessionView R) →
-    session.Chain g (new_session settings channel Unmapped stop) (session.SendsBegin (Ok f) ∷ []) after → f.channel ≡ channel
+    session.SessionChain g (new_session settings channel Unmapped stop) (session.SendsBegin (Ok f) ∷ []) after → f.channel ≡ channel
 begin_channel g settings channel stop f after c = ap (λ (x : SessionFrame). x.channel) c.1.1
 
-begins : {R : Type 0} (g : Relays R) (v w : EngineView R) (k : SessionNo) (settings : SettingsModel) (received : Option Frame) (reached : Option ℕ) (calls : List (session.Entry R)) (r : Option StepError) (frames : List Frame) →
+begins : {R : Type 0} (g : Relays R) (v w : EngineView R) (k : SessionNo) (settings : SettingsModel) (received : Option Frame) (reached : Option ℕ) (calls : List (session.SessionCall R)) (r : Option StepError) (frames : List Frame) →
     v.waiting ≡ [] → frames ≡ w.waiting → BeginRequest g v k.0 settings reached calls r w → Deed g v (of (input.Begin k settings) received reached calls r frames) w
 begins g v w k settings received reached calls None frames idle fe s =
     let b : Begun g v k.0 settings calls w = s.1 in
     let shown : frames ≡ sent (calls_frames calls) = fe ∙ ap (λ (x : EngineView _). x.waiting) b.put in
-    let chain = subst (λ (cs : List (session.Entry _)). session.Chain g (new_session settings b.channel Unmapped v.connection.stop_reason) cs b.after) b.asked.1 b.steps in
-    let channel : channel_of frames ≡ b.channel = ap channel_of (shown ∙ ap (λ (cs : List (session.Entry _)). sent (calls_frames cs)) b.asked.1)
+    let chain = subst (λ (cs : List (session.SessionCall _)). session.SessionChain g (new_session settings b.channel Unmapped v.connection.stop_reason) cs b.after) b.asked.1 b.steps in
+    let channel : channel_of frames ≡ b.channel = ap channel_of (shown ∙ ap (λ (cs : List (session.SessionCall _)). sent (calls_frames cs)) b.asked.1)
     ∙ begin_channel g settings b.channel v.connection.stop_reason b.asked.0 b.after chain in
     record {
       taken = none_waiting;
@@ -161,7 +161,7 @@ released v c n h = record {
   chain = (given_back v c, (subst (λ (x : Option ℕ). IsSome x) (sym h) refl, refl), refl);
 }
 
-releases : {R : Type 0} (g : Relays R) (v w : EngineView R) (k : SessionNo) (received : Option Frame) (reached : Option ℕ) (calls : List (session.Entry R)) (r : Option StepError) (frames : List Frame) →
+releases : {R : Type 0} (g : Relays R) (v w : EngineView R) (k : SessionNo) (received : Option Frame) (reached : Option ℕ) (calls : List (session.SessionCall R)) (r : Option StepError) (frames : List Frame) →
     v.waiting ≡ [] → frames ≡ w.waiting → ReleaseRequest v k.0 reached calls r w → Deed g v (of (input.Release k) received reached calls r frames) w
 releases g v w k received reached calls None frames idle fe s =
     alone g v w _ (Released k.0) refl none_waiting s.0
@@ -171,11 +171,11 @@ releases g v w k received reached calls (Some (no.Connection e)) frames idle fe 
 releases g v w k received reached calls (Some e) frames idle fe s = absurd s
 
 -- a session is let go
-forgets : {R : Type 0} (g : Relays R) (v w : EngineView R) (k : SessionNo) (received : Option Frame) (reached : Option ℕ) (calls : List (session.Entry R)) (r : Option StepError) (frames : List Frame) →
+forgets : {R : Type 0} (g : Relays R) (v w : EngineView R) (k : SessionNo) (received : Option Frame) (reached : Option ℕ) (calls : List (session.SessionCall R)) (r : Option StepError) (frames : List Frame) →
     v.waiting ≡ [] → frames ≡ w.waiting → ForgetRequest v k.0 reached calls r w → Deed g v (of (input.Forget k) received reached calls r frames) w
 forgets g v w k received reached calls None frames idle fe s =
     let put = s.2.put in
-    let sent_none : sent (calls_frames calls) ≡ [] = ap (λ (cs : List (session.Entry _)). sent (calls_frames cs)) s.0.1 in
+    let sent_none : sent (calls_frames calls) ≡ [] = ap (λ (cs : List (session.SessionCall _)). sent (calls_frames cs)) s.0.1 in
     record {
       taken = none_waiting;
       moved = record { calls = []; happens = refl; chain = ap (λ (x : EngineView _). x.connection) put };
@@ -401,7 +401,7 @@ none_waits bytes (Some (no.Frame e)) n = λ x. cc
 none_waits bytes (Some no.OutOfMemory) n = λ x. cc
 none_waits bytes r n = absurd n
 
-arrives : {R : Type 0} (g : Relays R) (v w : EngineView R) (bytes : List ℕ) (received : Option Frame) (reached : Option ℕ) (calls : List (session.Entry R)) (r : Option StepError) (frames : List Frame) →
+arrives : {R : Type 0} (g : Relays R) (v w : EngineView R) (bytes : List ℕ) (received : Option Frame) (reached : Option ℕ) (calls : List (session.SessionCall R)) (r : Option StepError) (frames : List Frame) →
     v.waiting ≡ [] → frames ≡ w.waiting → Received g v bytes received reached calls r w → Deed g v (of (input.Received bytes) received reached calls r frames) w
 arrives {R = R} g v w bytes received reached calls r frames idle fe (inl s) =
     refuses g v w _ (ap (λ x. event_by {R = R} (input.Received bytes) x reached r frames) s.1) (none_waits bytes r s.0) idle fe s.2
@@ -411,8 +411,8 @@ arrives {R = R} g v w bytes received reached calls r frames idle fe (inr s) =
 
 -- ---- a step
 
-carries : {R : Type 0} (g : Relays R) (v w : EngineView R) (i : Input R) (received : Option Frame) (reached : Option ℕ) (calls : List (session.Entry R)) (r : Option StepError) (frames : List Frame) →
-    v.waiting ≡ [] → frames ≡ w.waiting → Carries g v i received reached calls r w → Deed g v (of i received reached calls r frames) w
+carries : {R : Type 0} (g : Relays R) (v w : EngineView R) (i : Input R) (received : Option Frame) (reached : Option ℕ) (calls : List (session.SessionCall R)) (r : Option StepError) (frames : List Frame) →
+    v.waiting ≡ [] → frames ≡ w.waiting → InputStep g v i received reached calls r w → Deed g v (of i received reached calls r frames) w
 carries g v w (input.Received bytes) received reached calls r frames idle fe s = arrives g v w bytes received reached calls r frames idle fe s
 carries g v w input.Open received reached calls r frames idle fe s = opens g v w received reached calls r frames idle fe s.1 s.2
 carries g v w (input.Close error) received reached calls r frames idle fe s = closes g v w error received reached calls r frames idle fe s.1 s.2
@@ -430,5 +430,5 @@ carries g v w (input.Disposition k d) received reached calls r frames idle fe s 
 carries g v w (input.Settle k role first last) received reached calls r frames idle fe s = does g v w _ k.0 _ refl (request_plain (input.Settle k role first last)) (λ t a. a) idle fe s.1
 carries g v w (input.Stop k reason) received reached calls r frames idle fe s = does g v w _ k.0 _ refl (request_plain (input.Stop k reason)) (λ t a. a) idle fe s.1
 
-pub deed : {R : Type 0} (g : Relays R) (v w : EngineView R) (e : Entry R) → v.waiting ≡ [] → e.frames ≡ w.waiting → Carries g v e.input e.received e.reached e.calls e.refusal w → Deed g v e w
+pub deed : {R : Type 0} (g : Relays R) (v w : EngineView R) (e : Entry R) → v.waiting ≡ [] → e.frames ≡ w.waiting → InputStep g v e.input e.received e.reached e.calls e.refusal w → Deed g v e w
 deed g v w e idle fe s = carries g v w e.input e.received e.reached e.calls e.refusal e.frames idle fe s

@@ -18,7 +18,7 @@ use Rattle.amqp_connection.specs.Connection.{ConnectionView}
 use Rattle.amqp_engine.specs.EngineView.{EngineView}
 use Rattle.amqp_engine.specs.Calls.{Calls}
 use Rattle.amqp_engine.specs.Sessions.{Called, Unknown, Does, Reaches, BeginRequest, ReleaseRequest, ForgetRequest}
-use Rattle.amqp_engine.specs.Engine.{Step, Carries, ReceivedFrame, ReceivedOpen, OpenRequest, CloseRequest, Finds}
+use Rattle.amqp_engine.specs.Engine.{Step, InputStep, ReceivedFrame, ReceivedOpen, OpenRequest, CloseRequest, Finds}
 use Rattle.amqp_engine.specs.Entry.{Entry}
 
 abbrev Same : {R : Type 0} → EngineView R → EngineView R → Type 0
@@ -37,7 +37,7 @@ closes v w error None s = as_put _ w s.3
 closes v w error (Some (no.ConnectionState e)) s = as_put _ w s.2
 closes v w error (Some e) s = absurd s
 
-begins : {R : Type 0} (g : Relays R) (v w : EngineView R) (n : ℕ) (settings : SettingsModel) (reached : Option ℕ) (calls : List (session.Entry R)) (r : Option StepError) → BeginRequest g v n settings reached calls r w → Same v w
+begins : {R : Type 0} (g : Relays R) (v w : EngineView R) (n : ℕ) (settings : SettingsModel) (reached : Option ℕ) (calls : List (session.SessionCall R)) (r : Option StepError) → BeginRequest g v n settings reached calls r w → Same v w
 begins g v w n settings reached calls None s = as_put _ w s.1.put
 begins g v w n settings reached calls (Some no.SessionInUse) s = as_put _ w s.0.1
 begins g v w n settings reached calls (Some (no.AllocSession e)) s = as_put _ w s.0.1
@@ -45,22 +45,22 @@ begins g v w n settings reached calls (Some (no.SessionState unbegun.OutOfMemory
 begins g v w n settings reached calls (Some no.OutOfMemory) s = as_put _ w s.0.1
 begins g v w n settings reached calls (Some e) s = absurd s
 
-releases : {R : Type 0} (v w : EngineView R) (n : ℕ) (reached : Option ℕ) (calls : List (session.Entry R)) (r : Option StepError) → ReleaseRequest v n reached calls r w → Same v w
+releases : {R : Type 0} (v w : EngineView R) (n : ℕ) (reached : Option ℕ) (calls : List (session.SessionCall R)) (r : Option StepError) → ReleaseRequest v n reached calls r w → Same v w
 releases v w n reached calls None s = as_put _ w s.1.3
 releases v w n reached calls (Some no.NoSession) s = as_put _ w s.0.1
 releases v w n reached calls (Some (no.Connection e)) s = as_put _ w s.0.1
 releases v w n reached calls (Some e) s = absurd s
 
-forgets : {R : Type 0} (v w : EngineView R) (n : ℕ) (reached : Option ℕ) (calls : List (session.Entry R)) (r : Option StepError) → ForgetRequest v n reached calls r w → Same v w
+forgets : {R : Type 0} (v w : EngineView R) (n : ℕ) (reached : Option ℕ) (calls : List (session.SessionCall R)) (r : Option StepError) → ForgetRequest v n reached calls r w → Same v w
 forgets v w n reached calls None s = as_put _ w s.2.put
 forgets v w n reached calls (Some no.OutOfMemory) s = as_put _ w s.0.1
 forgets v w n reached calls (Some e) s = as_put _ w s.0.1
 
-does : {R : Type 0} (g : Relays R) (v w : EngineView R) (n : ℕ) (asks : Calls R) (reached : Option ℕ) (calls : List (session.Entry R)) (r : Option StepError) → Does g v n asks reached calls r w → Same v w
+does : {R : Type 0} (g : Relays R) (v w : EngineView R) (n : ℕ) (asks : Calls R) (reached : Option ℕ) (calls : List (session.SessionCall R)) (r : Option StepError) → Does g v n asks reached calls r w → Same v w
 does g v w n asks reached calls r (inl s) = as_put _ w s.1.put
 does g v w n asks reached calls r (inr s) = as_put _ w s.1.same
 
-reaches : {R : Type 0} (g : Relays R) (finds : Result ℕ ConnectionInnerError → ConnectionView → Type 0) (v w : EngineView R) (asks : Calls R) (reached : Option ℕ) (calls : List (session.Entry R)) (r : Option StepError) →
+reaches : {R : Type 0} (g : Relays R) (finds : Result ℕ ConnectionInnerError → ConnectionView → Type 0) (v w : EngineView R) (asks : Calls R) (reached : Option ℕ) (calls : List (session.SessionCall R)) (r : Option StepError) →
     Reaches g finds v asks reached calls r w → Same v w
 reaches g finds v w asks reached calls r (inl s) = as_put _ w s.6
 reaches g finds v w asks reached calls r (inr s) = by s.4
@@ -74,7 +74,7 @@ takes_open v w o None s = as_put _ w s.2
 takes_open v w o (Some (no.ConnectionState e)) s = as_put _ w s.2
 takes_open v w o (Some e) s = absurd s
 
-frame : {R : Type 0} (g : Relays R) (v w : EngineView R) (c : ℕ) (b : FrameBody) (reached : Option ℕ) (calls : List (session.Entry R)) (r : Option StepError) → ReceivedFrame g v c b reached calls r w → Same v w
+frame : {R : Type 0} (g : Relays R) (v w : EngineView R) (c : ℕ) (b : FrameBody) (reached : Option ℕ) (calls : List (session.SessionCall R)) (r : Option StepError) → ReceivedFrame g v c b reached calls r w → Same v w
 frame g v w c body.Empty reached calls r s = as_put _ w s.0.1
 frame g v w c (body.Open o) reached calls r s = takes_open v w o r s.1
 frame g v w c (body.Close p) reached calls r s = as_put _ w s.1.4
@@ -86,7 +86,7 @@ frame g v w c (body.Disposition p) reached calls r s = reaches g (Finds v.connec
 frame g v w c (body.Flow p) reached calls r s = reaches g (Finds v.connection c (body.Flow p)) v w _ reached calls r s
 frame g v w c (body.Transfer p payload) reached calls r s = reaches g (Finds v.connection c (body.Transfer p payload)) v w _ reached calls r s
 
-carries : {R : Type 0} (g : Relays R) (v w : EngineView R) (i : Input R) (received : Option Frame) (reached : Option ℕ) (calls : List (session.Entry R)) (r : Option StepError) → Carries g v i received reached calls r w → Same v w
+carries : {R : Type 0} (g : Relays R) (v w : EngineView R) (i : Input R) (received : Option Frame) (reached : Option ℕ) (calls : List (session.SessionCall R)) (r : Option StepError) → InputStep g v i received reached calls r w → Same v w
 carries g v w (input.Received bytes) received reached calls r (inl s) = as_put _ w s.2.1
 carries g v w (input.Received bytes) received reached calls r (inr s) = frame g v w s.0.channel s.0.body reached calls r s.4
 carries g v w input.Open received reached calls r s = opens v w r s.2

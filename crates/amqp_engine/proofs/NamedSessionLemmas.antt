@@ -10,7 +10,7 @@ use Rattle.amqp_engine.specs.declared.engine.step_error.StepError.TheVariants as
 use Rattle.amqp_engine.specs.EngineView.{EngineView, new_engine}
 use Rattle.amqp_engine.specs.Calls.{Calls}
 use Rattle.amqp_engine.specs.Sessions.{Does}
-use Rattle.amqp_engine.specs.Engine.{Step, Carries}
+use Rattle.amqp_engine.specs.Engine.{Step, InputStep}
 use Rattle.amqp_engine.specs.Entry.{Entry}
 use Rattle.amqp_engine.proofs.BareHistoryLemmas.{Chain, LeadsTo}
 use Rattle.amqp_engine.specs.ByHistory.{live}
@@ -37,7 +37,7 @@ does g v w k n asks e is plain s = subst (λ x. Says v x e) (same_value k n is) 
     by (inl c) = inl ((c.1.before, c.1.known), c.0, plain_known e.refusal (plain c.1.before.state e.calls e.refusal c.1.asked))
     by (inr u) = inr (u.1.unknown, u.0, u.1.refused)
 
-carries : {R : Type 0} (g : Relays R) (v w : EngineView R) (n : ℕ) (i : Input R) (e : Entry R) → names i ≡ Some n → Carries g v i e.received e.reached e.calls e.refusal w → Says v n e
+carries : {R : Type 0} (g : Relays R) (v w : EngineView R) (n : ℕ) (i : Input R) (e : Entry R) → names i ≡ Some n → InputStep g v i e.received e.reached e.calls e.refusal w → Says v n e
 carries g v w n (input.End k error) e is s = does g v w k.0 n _ e is (request_plain (input.End k error)) s.1
 carries g v w n (input.AllocateLink k name relay) e is s = does g v w k.0 n _ e is (request_plain (input.AllocateLink k name relay)) s.1
 carries g v w n (input.AllocateIncomingLink k name relay h) e is s = does g v w k.0 n _ e is (request_plain (input.AllocateIncomingLink k name relay h)) s.1

@@ -23,9 +23,9 @@ use Rattle.amqp_engine.proofs.SessionProjectionLemmas.{Legal, legal, same_some}
 
 pub of_both : {R : Type 0} (n : ℕ) (xs ys : List (Entry R)) → of_session n (xs ++ ys) ≡ of_session n xs ++ of_session n ys
 of_both n [] ys = refl
-of_both n (e ∷ xs) ys = ap (λ (cs : List (session.Entry _)). calls_at n e ++ cs) (of_both n xs ys) ∙ sym (append_assoc (calls_at n e) (of_session n xs) (of_session n ys))
+of_both n (e ∷ xs) ys = ap (λ (cs : List (session.SessionCall _)). calls_at n e ++ cs) (of_both n xs ys) ∙ sym (append_assoc (calls_at n e) (of_session n xs) (of_session n ys))
 
-frames_both : {R : Type 0} (xs ys : List (session.Entry R)) → calls_frames (xs ++ ys) ≡ calls_frames xs ++ calls_frames ys
+frames_both : {R : Type 0} (xs ys : List (session.SessionCall R)) → calls_frames (xs ++ ys) ≡ calls_frames xs ++ calls_frames ys
 frames_both [] ys = refl
 frames_both (c ∷ xs) ys = ap (λ (fs : List SessionFrame). call_frames c ++ fs) (frames_both xs ys) ∙ sym (append_assoc (call_frames c) (calls_frames xs) (calls_frames ys))
 
@@ -49,13 +49,13 @@ calls_here n e r =
 -- the frames of one entry, among those of its session
 part_on : {R : Type 0} (c n : ℕ) (before after : List (Entry R)) (e : Entry R) → e.reached ≡ Some n → OnChannel c (calls_frames (of_session n (before ++ e ∷ after))) → OnChannel c (calls_frames e.calls)
 part_on c n before after e r a =
-    let all = subst (λ (cs : List (session.Entry _)). OnChannel c (calls_frames cs)) (of_both n before (e ∷ after)) a in
+    let all = subst (λ (cs : List (session.SessionCall _)). OnChannel c (calls_frames cs)) (of_both n before (e ∷ after)) a in
     let rest = back_on c (calls_frames (of_session n before)) (calls_frames (of_session n (e ∷ after))) (subst (λ (fs : List SessionFrame). OnChannel c fs) (frames_both (of_session n before) (of_session n (e ∷ after))) all) in
     let here = front_on c (calls_frames (calls_at n e)) (calls_frames (of_session n after)) (subst (λ (fs : List SessionFrame). OnChannel c fs) (frames_both (calls_at n e) (of_session n after)) rest) in
-    subst (λ (cs : List (session.Entry _)). OnChannel c (calls_frames cs)) (calls_here n e r) here
+    subst (λ (cs : List (session.SessionCall _)). OnChannel c (calls_frames cs)) (calls_here n e r) here
 
 abbrev pub ChannelsLaw : {R : Type 0} → Relays R → Type 0
-ChannelsLaw g = (m : session.Made) (h : List (session.Entry _)) (v : SessionView _) → session.LeadsTo g m h v → OnChannel m.channel (calls_frames h)
+ChannelsLaw g = (m : session.Made) (h : List (session.SessionCall _)) (v : SessionView _) → session.LeadsTo g m h v → OnChannel m.channel (calls_frames h)
 
 pub on_channel : {R : Type 0} (g : Relays R) → ChannelsLaw g → (made : ConnectionState) (o : OpenModel) (H : List (Entry R)) (w : EngineView R) → LeadsTo g made o H w → OnItsChannel made H
 on_channel g law made o H w l before after e is n m b r =

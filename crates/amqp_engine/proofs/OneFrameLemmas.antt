@@ -26,7 +26,7 @@ use Rattle.amqp_engine.specs.Event.{Event, SentOpen, SentClose, event}
 use Rattle.amqp_engine.specs.Headline.{Asked, Headline, own_frames}
 use Rattle.amqp_engine.specs.Legal.{Legal}
 use Rattle.amqp_engine.specs.OneFrame.{AllShort, AreInFrames, InOneFrame, NoLimitBelow, SpeaksInFrames, TransfersAreFrames}
-use Rattle.amqp_engine.specs.Output.{IsOut, IsOuts, Speaks}
+use Rattle.amqp_engine.specs.Output.{IsOut, IsOuts, OutputOf}
 use Rattle.amqp_engine.specs.Views.{Stands}
 use Rattle.amqp_engine.specs.Waits as waits
 use Rattle.amqp_engine.proofs.BareHistoryLemmas.{apart}
@@ -123,11 +123,11 @@ transfers_both (f ∷ xs) ys =
     ap (λ (fs : List SessionFrame). single.transfer_in f.body f ++ fs) (transfers_both xs ys) ∙ sym (append_assoc (single.transfer_in f.body f) (single.transfers_in xs) (single.transfers_in ys))
 
 -- the transfers that calls hand out are those among their frames
-handed_is : {R : Type 0} (cs : List (session.Entry R)) → single.handed cs ≡ single.transfers_in (calls_frames cs)
+handed_is : {R : Type 0} (cs : List (session.SessionCall R)) → single.handed cs ≡ single.transfers_in (calls_frames cs)
 handed_is [] = refl
 handed_is (c ∷ cs) = ap (λ (fs : List SessionFrame). single.transfers_in (call_frames c) ++ fs) (handed_is cs) ∙ sym (transfers_both (call_frames c) (calls_frames cs))
 
-handed_both : {R : Type 0} (xs ys : List (session.Entry R)) → single.handed (xs ++ ys) ≡ single.handed xs ++ single.handed ys
+handed_both : {R : Type 0} (xs ys : List (session.SessionCall R)) → single.handed (xs ++ ys) ≡ single.handed xs ++ single.handed ys
 handed_both [] ys = refl
 handed_both (c ∷ xs) ys =
     ap (λ (fs : List SessionFrame). single.transfers_in (call_frames c) ++ fs) (handed_both xs ys) ∙ sym (append_assoc (single.transfers_in (call_frames c)) (single.handed xs) (single.handed ys))
@@ -138,7 +138,7 @@ session_short : {R : Type 0} (m : ℕ) (s : ConnectionState) (o : OpenModel) (T 
 session_short m s o T head short n = go (begun s n T) refl
   where
     go : (b : Option session.Made) → begun s n T ≡ b → FromSession m (single.handed (of_session n T))
-    go None e = subst (λ (cs : List (session.Entry _)). FromSession m (single.handed cs)) (sym (head.unknown n e)) tt
+    go None e = subst (λ (cs : List (session.SessionCall _)). FromSession m (single.handed cs)) (sym (head.unknown n e)) tt
     go (Some made) e =
         let a = (head.each n made e).accounts in
         subst (FromSession m) (sym a.handed_out) (numbered_short m made.channel 0 (take (length (single.handed (of_session n T))) (single.accepted (of_session n T)))
@@ -147,17 +147,17 @@ session_short m s o T head short n = go (begun s n T) refl
 part_short : {R : Type 0} (m : ℕ) (s : ConnectionState) (o : OpenModel) (T : List (Entry R)) → Headline s o T → Keeps m T → (n : ℕ) (before after : List (Entry R)) (e : Entry R) → T ≡ before ++ e ∷ after → e.reached ≡ Some n → FromSession m (single.handed e.calls)
 part_short m s o T head short n before after e is r =
     let split : of_session n T ≡ of_session n before ++ of_session n (e ∷ after) = ap (of_session n) is ∙ of_both n before (e ∷ after) in
-    let all = subst (λ (cs : List (session.Entry _)). FromSession m (single.handed cs)) split (session_short m s o T head short n) in
+    let all = subst (λ (cs : List (session.SessionCall _)). FromSession m (single.handed cs)) split (session_short m s o T head short n) in
     let rest = session_back m (single.handed (of_session n before)) (single.handed (of_session n (e ∷ after)))
     (subst (FromSession m) (handed_both (of_session n before) (of_session n (e ∷ after))) all) in
-    let cs = ap (λ (xs : List (session.Entry _)). xs ++ of_session n after) (calls_here n e r) in
+    let cs = ap (λ (xs : List (session.SessionCall _)). xs ++ of_session n after) (calls_here n e r) in
     session_front m (single.handed e.calls) (single.handed (of_session n after))
     (subst (FromSession m) (ap single.handed cs ∙ handed_both e.calls (of_session n after)) rest)
 
 calls_short : {R : Type 0} (m : ℕ) (s : ConnectionState) (o : OpenModel) (T : List (Entry R)) → Headline s o T → Keeps m T → (before after : List (Entry R)) (e : Entry R) → T ≡ before ++ e ∷ after → (r : Option ℕ) → e.reached ≡ r → Shorts m (waits.sent (calls_frames e.calls))
 calls_short m s o T head short before after e is None r =
     let none : e.calls ≡ [] = subst (λ x. Asked before x e) r (head.all_asked before after e is) in
-    subst (λ (cs : List (session.Entry _)). Shorts m (waits.sent (calls_frames cs))) (sym none) tt
+    subst (λ (cs : List (session.SessionCall _)). Shorts m (waits.sent (calls_frames cs))) (sym none) tt
 calls_short m s o T head short before after e is (Some n) r = all_of m (calls_frames e.calls) (subst (FromSession m) (handed_is e.calls) (part_short m s o T head short n before after e is r))
 
 own_short : (m : ℕ) (o : OpenModel) → (ev : Event) → Shorts m (own_frames o ev)
@@ -201,7 +201,7 @@ each_back m (e ∷ xs) ys a = each_back m xs ys a.1
 -- ---- what a run puts out
 
 speaks : {R : Type 0} (m limit : ℕ) (waiting left : List Frame) (es : List (Entry R)) (out : List Answer) → NoLimitBelow m limit es → Shorts m waiting → EachShort m es
-    → Speaks limit waiting es left out → SpeaksInFrames waiting es left out
+    → OutputOf limit waiting es left out → SpeaksInFrames waiting es left out
 speaks m limit waiting left [] out le s a p = (p.gone, p.left, all_out m limit p.gone out le (front m p.gone left (subst (Shorts m) p.left s)) p.answers)
 speaks m limit waiting left (e ∷ es) out le s a p =
     (p.0, p.1, p.2, all_out m limit waiting p.0 le.0 s p.3, speaks m (limit_by limit (event e)) e.frames left es p.1 le.1 a.0 a.1 p.4)

@@ -14,14 +14,14 @@ use Rattle.amqp_frames.specs.declared.frame.FrameBody.TheVariants as body
 use Rattle.amqp_session.specs.declared.error.SessionStateError.{SessionStateError}
 use Rattle.amqp_session.specs.declared.error.SessionStateError.TheVariants as ended
 use Rattle.amqp_session.specs.Relay.{Relays}
-use Rattle.amqp_session.specs.Session.{SessionView, Observed}
+use Rattle.amqp_session.specs.Session.{SessionView, SessionModel}
 use Rattle.amqp_session.specs.Step.{TakeEndStep}
 use Rattle.amqp_session.specs.History as session
 use Rattle.amqp_connection.specs.declared.error.ConnectionStateError.{ConnectionStateError}
 use Rattle.amqp_connection.specs.declared.error.ConnectionStateError.TheVariants as closed
 use Rattle.amqp_frames.specs.declared.frame.Frame.{Frame}
 use Rattle.amqp_engine.specs.declared.engine.step_error.StepError.{StepError}
-use Rattle.amqp_connection.specs.Connection.{ConnectionView, IncomingCloseStep, told}
+use Rattle.amqp_connection.specs.Connection.{ConnectionView, IncomingCloseStep, close_error}
 use Rattle.amqp_engine.specs.Kept.{Outcomes, Wishes, CloseOutcome, EndOutcome, close_answer, end_answer, close_kept, end_kept}
 use Rattle.amqp_engine.specs.Inner.Places.{IsCloseCopy, IsEndCopy, Seated}
 use Rattle.amqp_engine.specs.EngineView.{EngineView, views_of}
@@ -34,7 +34,7 @@ use Rattle.amqp_engine.proofs.SessionListLemmas.{viewed}
 
 -- ---- a Close
 
-told_error : (s : ConnectionState) (error : Option ErrorModel) (e : ErrorModel) → Some (closed.RemoteClosedWithError e) ≡ told s error → error ≡ Some e
+told_error : (s : ConnectionState) (error : Option ErrorModel) (e : ErrorModel) → Some (closed.RemoteClosedWithError e) ≡ close_error s error → error ≡ Some e
 told_error s (Some x) e is = cc
 told_error CloseReceived None e is = absurd cc
 told_error s None e is = absurd cc
@@ -72,7 +72,7 @@ ended_copy v w e (Err x) s = absurd s
 pub end_copy : {R : Type 0} (g : Relays R) (v w : SessionView R) (c : ℕ) (e : EndModel) (r : Option StepError) (frames : List Frame) (copy : Option ErrorModel) →
     copy ≡ e.error → Answered g v (ReceivedEndCalls c e) r frames w → IsEndCopy r copy
 end_copy {R} g v w c e r frames copy same a =
-    let steps = subst (λ (cs : List (session.Entry R)). session.Chain g v cs w) a.asked.1 a.steps in
+    let steps = subst (λ (cs : List (session.SessionCall R)). session.SessionChain g v cs w) a.asked.1 a.steps in
     subst (λ x. IsEndCopy r x) (sym same) (subst (λ x. IsEndCopy x e.error) (sym a.asked.2) (ended_copy v steps.0 e a.asked.0 steps.1))
 
 -- ---- sessions have places
@@ -82,12 +82,12 @@ known_by (Some x) (Some y) e h = refl
 known_by (Some x) None e h = absurd cc
 known_by None b e h = absurd cc
 
-viewed_some : {R : Type 0} (o : Option (Observed R)) → is_some (option_map (λ x. x.view) o) ≡ is_some o
+viewed_some : {R : Type 0} (o : Option (SessionModel R)) → is_some (option_map (λ x. x.view) o) ≡ is_some o
 viewed_some (Some x) = refl
 viewed_some None = refl
 
 -- a session that is there has a place
-pub seat_known : {R : Type 0} (es : List (ℕ × Observed R)) (n : ℕ) (places : map.FinMap nat_cmp Bool) → Seated es places → IsSome (lookup (nat_eq n) (views_of es)) → IsSome (map.get places n)
+pub seat_known : {R : Type 0} (es : List (ℕ × SessionModel R)) (n : ℕ) (places : map.FinMap nat_cmp Bool) → Seated es places → IsSome (lookup (nat_eq n) (views_of es)) → IsSome (map.get places n)
 seat_known es n places seated h =
     known_by (lookup (nat_eq n) (views_of es)) (map.get places n) (ap is_some (viewed n es) ∙ viewed_some (lookup (nat_eq n) es) ∙ seated n) h
 

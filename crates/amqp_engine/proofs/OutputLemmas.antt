@@ -7,7 +7,7 @@ use Rattle.amqp_engine.specs.declared.engine.answer.Answer.{Answer}
 use Rattle.amqp_engine.specs.Waits.{FirstIs}
 use Rattle.amqp_engine.specs.EngineView.{EngineView}
 use Rattle.amqp_engine.specs.Entry.{Entry}
-use Rattle.amqp_engine.specs.History.{IsClosed, IsEnded, OutcomesTaken, Taken, OnlyLeft}
+use Rattle.amqp_engine.specs.History.{IsClosed, IsEnded, OutcomesTaken, OutputTaken, OnlyLeft}
 use Rattle.amqp_engine.specs.Kept.{Outcomes}
 use Rattle.amqp_connection.specs.Connection.{ConnectionView}
 use Rattle.amqp_session.specs.Session.{SessionView}
@@ -16,7 +16,7 @@ use Rattle.std.specs.FinMap as map
 use Rattle.amqp_types.specs.declared.states.SessionState.TheVariants.{Unmapped}
 use Rattle.amqp_engine.specs.Event.{event}
 use Rattle.amqp_engine.specs.ByHistory.{limit_by, limit_after}
-use Rattle.amqp_engine.specs.Output.{FirstFits, IsOut, IsOuts, PutOut, Speaks, NextAnswer, answer_of}
+use Rattle.amqp_engine.specs.Output.{FirstFits, IsOut, IsOuts, PutOut, OutputOf, NextAnswer, answer_of}
 
 -- ---- what leaves
 
@@ -41,11 +41,11 @@ outcomes_more u v w k ss s t = record { close = close s.close t.close; ends = λ
     ended n (inr a) (inl b) = inr (a.0, b ∙ a.1)
     ended n a (inr b) = inr (subst (λ (es : List (ℕ × SessionView _)). (x : SessionView _) × (lookup (nat_eq n) es ≡ Some x) × (x.state ≡ Unmapped)) ss b.0, b.1)
 
-pub Taken-none : {R : Type 0} (v : EngineView R) → Taken v v
-Taken-none v = record { gone = []; left = refl; connection_is = refl; sessions_is = refl; forgotten_is = refl; limit_is = refl; outcomes_are = outcomes_same v v refl }
+pub OutputTaken-none : {R : Type 0} (v : EngineView R) → OutputTaken v v
+OutputTaken-none v = record { gone = []; left = refl; connection_is = refl; sessions_is = refl; forgotten_is = refl; limit_is = refl; outcomes_are = outcomes_same v v refl }
 
-pub Taken-more : {R : Type 0} (u v w : EngineView R) → Taken u v → Taken v w → Taken u w
-Taken-more u v w s t = record {
+pub OutputTaken-more : {R : Type 0} (u v w : EngineView R) → OutputTaken u v → OutputTaken v w → OutputTaken u w
+OutputTaken-more u v w s t = record {
   gone = s.gone ++ t.gone;
   left = s.left ∙ ap (λ (ts : List Frame). s.gone ++ ts) t.left ∙ sym (append_assoc s.gone t.gone w.waiting);
   connection_is = t.connection_is ∙ s.connection_is;
@@ -80,7 +80,7 @@ put_none v answers = record {
   out = [];
   appended = sym (append-nil answers);
   put = record { gone = []; left = refl; answers = refl };
-  taken = record { taken = Taken-none v; outcomes_stay = refl; wishes_stay = refl };
+  taken = record { taken = OutputTaken-none v; outcomes_stay = refl; wishes_stay = refl };
 }
 
 pub put_more : {R : Type 0} (v u w : EngineView R) (answers answers1 answers2 : List Answer) (a : Answer) → PutSoFar v answers u answers1 → NextAnswer u a w → answers2 ≡ answers1 ++ a ∷ [] → PutSoFar v answers w answers2
@@ -90,7 +90,7 @@ put_more v u w answers answers1 answers2 a p n pushed =
     let left : v.waiting ≡ (p.put.gone ++ f ∷ []) ++ w.waiting =
     p.put.left ∙ ap (λ (xs : List Frame). p.put.gone ++ xs) (n.2 ∙ ap (λ (xs : List Frame). f ∷ xs) (sym same)) ∙ sym (append_assoc p.put.gone (f ∷ []) w.waiting) in
     let out : IsOut v.limit f a = subst (λ k. IsOut k f a) p.taken.taken.limit_is n.3 in
-    let more : Taken u w = record {
+    let more : OutputTaken u w = record {
       gone = f ∷ [];
       left = n.2 ∙ ap (λ (xs : List Frame). f ∷ xs) (sym same);
       connection_is = ap (λ (x : EngineView _). x.connection) n.4;
@@ -104,7 +104,7 @@ put_more v u w answers answers1 answers2 a p n pushed =
       appended = pushed ∙ ap (λ (xs : List Answer). xs ++ a ∷ []) p.appended ∙ append_assoc answers p.out (a ∷ []);
       put = record { gone = p.put.gone ++ f ∷ []; left = left; answers = outs_more v.limit p.put.gone f p.out a p.put.answers out };
       taken = record {
-        taken = Taken-more v u w p.taken.taken more;
+        taken = OutputTaken-more v u w p.taken.taken more;
         outcomes_stay = ap (λ (x : EngineView _). x.outcomes) n.4 ∙ p.taken.outcomes_stay;
         wishes_stay = ap (λ (x : EngineView _). x.wishes) n.4 ∙ p.taken.wishes_stay;
       };
@@ -119,7 +119,7 @@ whole : (limit : ℕ) (waiting : List Frame) (out : List Answer) → PutOut limi
 whole limit waiting out p = subst (λ (fs : List Frame). IsOuts limit fs out) (sym (p.left ∙ append-nil p.gone)) p.answers
 
 pub speaks_more : {R : Type 0} (limit : ℕ) (waiting : List Frame) (es : List (Entry R)) (out : List Answer) (e : Entry R) (waiting' : List Frame) (out' : List Answer) →
-    Speaks limit waiting es [] out → PutOut (limit_by (limit_after limit es) (event e)) e.frames waiting' out' → Speaks limit waiting (es ++ e ∷ []) waiting' (out ++ answer_of e.refusal ∷ out')
+    OutputOf limit waiting es [] out → PutOut (limit_by (limit_after limit es) (event e)) e.frames waiting' out' → OutputOf limit waiting (es ++ e ∷ []) waiting' (out ++ answer_of e.refusal ∷ out')
 speaks_more limit waiting [] out e waiting' out' s p = (out, out', refl, whole limit waiting out s, p)
 speaks_more limit waiting (x ∷ es) out e waiting' out' s p = (
   s.0,

@@ -22,7 +22,7 @@ use Rattle.amqp_connection.specs.Connection.{ConnectionView, EndRouteStep, Route
 use Rattle.amqp_engine.specs.EngineView.{EngineView, new_engine}
 use Rattle.amqp_engine.specs.Calls.{Calls}
 use Rattle.amqp_engine.specs.Sessions.{Called, Unknown, Reaches}
-use Rattle.amqp_engine.specs.Engine.{Step, NoneReceived, Carries, ReceivedFrame, ReceivedOpen, Finds}
+use Rattle.amqp_engine.specs.Engine.{Step, NoneReceived, InputStep, ReceivedFrame, ReceivedOpen, Finds}
 use Rattle.amqp_engine.specs.Entry.{Entry}
 use Rattle.amqp_engine.proofs.BareHistoryLemmas.{Chain, LeadsTo}
 use Rattle.amqp_engine.specs.ByHistory.{state_from, route}
@@ -42,7 +42,7 @@ has_none bytes (Some (no.Frame e)) n = n
 has_none bytes (Some no.OutOfMemory) n = tt
 has_none bytes r n = absurd n
 
-input_receives : {R : Type 0} (g : Relays R) (v w : EngineView R) (i : Input R) (e : Entry R) → Carries g v i e.received e.reached e.calls e.refusal w → Receives i e
+input_receives : {R : Type 0} (g : Relays R) (v w : EngineView R) (i : Input R) (e : Entry R) → InputStep g v i e.received e.reached e.calls e.refusal w → Receives i e
 input_receives g v w (input.Received bytes) e (inl s) = received_none bytes e.received e.refusal s.1 (has_none bytes e.refusal s.0)
 input_receives g v w (input.Received bytes) e (inr s) = subst (λ x. HasReceived bytes x e.refusal) (sym s.3) (s.1, s.2)
 input_receives g v w i e s = s.0
@@ -68,7 +68,7 @@ received_frame : {R : Type 0} (g : Relays R) (v w : EngineView R) (e : Entry R) 
 received_frame g v w e f is (inl s) = absurd (some_none (sym is ∙ s.2))
 received_frame g v w e f is (inr s) = by e.input s.2
   where
-    by : (i : Input _) → Carries g v i e.received e.reached e.calls e.refusal w → ReceivedFrame g v f.channel f.body e.reached e.calls e.refusal w
+    by : (i : Input _) → InputStep g v i e.received e.reached e.calls e.refusal w → ReceivedFrame g v f.channel f.body e.reached e.calls e.refusal w
     by (input.Received bytes) (inl x) = absurd (some_none (sym is ∙ x.1))
     by (input.Received bytes) (inr x) = subst (λ (h : Frame). ReceivedFrame g v h.channel h.body e.reached e.calls e.refusal w) (same_frame x.0 f (sym x.3 ∙ is)) x.4
     by i x = absurd (some_none (sym is ∙ x.0))
@@ -128,7 +128,7 @@ frames_reach g made o H w l before after e is f received short =
 same_value : (a b : ℕ) → Some a ≡ Some b → a ≡ b
 same_value a b e = cc
 
-begin_found : {R : Type 0} (g : Relays R) (v w : EngineView R) (c : ℕ) (b : BeginModel) (n : ℕ) (reached : Option ℕ) (calls : List (session.Entry R)) (r : Option StepError) → reached ≡ Some n → ReceivedFrame g v c (body.Begin b) reached calls r w →
+begin_found : {R : Type 0} (g : Relays R) (v w : EngineView R) (c : ℕ) (b : BeginModel) (n : ℕ) (reached : Option ℕ) (calls : List (session.SessionCall R)) (r : Option StepError) → reached ≡ Some n → ReceivedFrame g v c (body.Begin b) reached calls r w →
     (d : ℕ) × (b.remote_channel ≡ Some d) × (map.get v.connection.session_by_outgoing_channel d ≡ Some n)
 begin_found g v w c b n reached calls r is (inl s) = absurd (some_none (sym is ∙ s.3))
 begin_found g v w c b n reached calls r is (inr s) = (s.2.1.0, s.2.1.1, s.2.1.2 ∙ ap (λ x. Some x) (same_value s.0 n (sym s.3 ∙ is)))
@@ -152,7 +152,7 @@ plain_known (Some (no.Session y)) p x = cc
 plain_known (Some (no.AllocLink y)) p x = cc
 plain_known (Some y) p x = absurd p
 
-reaches_known : {R : Type 0} (g : Relays R) (finds : Result ℕ ConnectionInnerError → ConnectionView → Type 0) (v w : EngineView R) (asks : Calls R) (reached : Option ℕ) (calls : List (session.Entry R)) (r : Option StepError) →
+reaches_known : {R : Type 0} (g : Relays R) (finds : Result ℕ ConnectionInnerError → ConnectionView → Type 0) (v w : EngineView R) (asks : Calls R) (reached : Option ℕ) (calls : List (session.SessionCall R)) (r : Option StepError) →
     Plain asks → ((n : ℕ) (k : ConnectionView) → finds (Ok n) k → IsThere v n) → Reaches g finds v asks reached calls r w → ¬ (r ≡ Some no.NoSession)
 reaches_known g finds v w asks reached calls r plain there (inl s) = λ e. let x = sym s.5 ∙ e in cc
 reaches_known g finds v w asks reached calls r plain there (inr s) = by s.4
@@ -170,7 +170,7 @@ close_known : (told : Option ConnectionStateError) (r : Option StepError) → r 
 close_known None r e = λ x. let y = sym e ∙ x in cc
 close_known (Some t) r e = λ x. let y = sym e ∙ x in cc
 
-frame_known : {R : Type 0} (g : Relays R) (v w : EngineView R) (c : ℕ) (b : FrameBody) (reached : Option ℕ) (calls : List (session.Entry R)) (r : Option StepError) → Kept v → ReceivedFrame g v c b reached calls r w → ¬ (r ≡ Some no.NoSession)
+frame_known : {R : Type 0} (g : Relays R) (v w : EngineView R) (c : ℕ) (b : FrameBody) (reached : Option ℕ) (calls : List (session.SessionCall R)) (r : Option StepError) → Kept v → ReceivedFrame g v c b reached calls r w → ¬ (r ≡ Some no.NoSession)
 frame_known g v w c body.Empty reached calls r k s = λ e. let x = sym s.1 ∙ e in cc
 frame_known g v w c (body.Open o) reached calls r k s = open_known v w o r s.1
 frame_known g v w c (body.Close p) reached calls r k s = close_known s.1.0 r s.1.3

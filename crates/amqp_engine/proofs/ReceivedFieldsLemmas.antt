@@ -24,7 +24,7 @@ use Rattle.amqp_engine.specs.Kept.{Outcomes, outcomes_with}
 use Rattle.amqp_engine.proofs.KindFieldsLemmas.{Reads}
 
 abbrev pub SomeReceivedFrame : {R : Type 0} → Relays R → EngineView R → ℕ → FrameBody → Option StepError → EngineView R → Type 0
-SomeReceivedFrame g v c b refusal w = (reached : Option ℕ) × (calls : List (session.Entry _)) × ReceivedFrame g v c b reached calls refusal w
+SomeReceivedFrame g v c b refusal w = (reached : Option ℕ) × (calls : List (session.SessionCall _)) × ReceivedFrame g v c b reached calls refusal w
 
 unread_of : {R X : Type 0} (g : Relays R) (k : Kind) {V : Type 0} (r : Reads k V) (v : EngineView R) (c : ℕ) (fields left : List ℕ) (e : ReadError)
     (result : Result X StepError) → Gives {X = V} (λ x. x) (Err e) left (composite_at r.reader fields) → IsErrAnd result (λ x. x ≡ no.Frame (error_of e)) →

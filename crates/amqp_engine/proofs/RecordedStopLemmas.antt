@@ -26,7 +26,7 @@ use Rattle.amqp_engine.specs.Sessions.{RecordedEnd, comes_to_end}
 use Rattle.amqp_engine.specs.Engine.{moved, recorded}
 
 pub recorded_chain : {R : Type 0} (g : Relays R) (v w : SessionView R) (reason : SessionStopReason) (error : Option ErrorModel) (ends : Bool) →
-    reason ≡ remote_end_reason error → RecordedEnd v reason ends w → session.Chain g v (recorded_remote_end ends error) w
+    reason ≡ remote_end_reason error → RecordedEnd v reason ends w → session.SessionChain g v (recorded_remote_end ends error) w
 recorded_chain g v w reason error true e r = (w, subst (λ x. StopStep v x w) e r, refl)
 recorded_chain g v w reason error false e r = r
 

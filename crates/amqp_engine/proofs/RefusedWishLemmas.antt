@@ -22,9 +22,9 @@ use Rattle.amqp_engine.specs.Waits.{sent}
 use Rattle.amqp_engine.specs.EngineView.{EngineView}
 use Rattle.amqp_engine.specs.Calls.{EndCalls, state_refusal, recorded_end}
 use Rattle.amqp_engine.specs.Sessions.{Called, Does}
-use Rattle.amqp_engine.specs.Engine.{Step, Steps, Carries, CloseRequest, kept, left}
+use Rattle.amqp_engine.specs.Engine.{Step, Steps, InputStep, CloseRequest, kept, left}
 use Rattle.amqp_engine.specs.Entry.{Entry}
-use Rattle.amqp_engine.specs.Inner.Hearing.{IsWish}
+use Rattle.amqp_engine.specs.Inner.Flushing.{IsWish}
 
 same_some : {X : Type 0} (x y : X) → Some x ≡ Some y → x ≡ y
 same_some x y e = cc
@@ -53,22 +53,22 @@ unsent : {R : Type 0} (v w : SessionView R) (error : Option ErrorModel) (e : Ses
 unsent v w error unended.IllegalState s = s.1
 unsent v w error e s = absurd s
 
-called_end : {R : Type 0} (g : Relays R) (v w : EngineView R) (n : ℕ) (error : Option ErrorModel) (calls : List (session.Entry R)) (r : StepError) → v.waiting ≡ [] → Called g v n (EndCalls error) calls (Some r) w → Still v w
+called_end : {R : Type 0} (g : Relays R) (v w : EngineView R) (n : ℕ) (error : Option ErrorModel) (calls : List (session.SessionCall R)) (r : StepError) → v.waiting ≡ [] → Called g v n (EndCalls error) calls (Some r) w → Still v w
 called_end {R} g v w n error calls r idle c = by c.asked.0 c.asked.1 c.asked.2
   where
     by : (result : Result SessionFrame SessionStateError) → calls ≡ session.SendsEnd error result ∷ recorded_end error result → Some r ≡ state_refusal result → Still v w
     by (Ok f) is refused = absurd cc
     by (Err e) is refused =
-        let steps = subst (λ (cs : List (session.Entry R)). session.Chain g c.before cs c.after) is c.steps in
+        let steps = subst (λ (cs : List (session.SessionCall R)). session.SessionChain g c.before cs c.after) is c.steps in
         let after : c.after ≡ c.before = steps.2 ∙ unsent c.before steps.0 error e steps.1 in
         let walks = set_value (nat_eq n) v.walks c.walk in
         c.put ∙ ap (λ (s : SessionView R). record v { sessions = set_value (nat_eq n) v.sessions s; walks = walks; waiting = sent (calls_frames calls) }) after
         ∙ ap (λ es. record v { sessions = es; walks = walks; waiting = sent (calls_frames calls) }) (set_same v.sessions n c.before c.known)
-        ∙ ap (λ (cs : List (session.Entry R)). record v { walks = walks; waiting = sent (calls_frames cs) }) is
+        ∙ ap (λ (cs : List (session.SessionCall R)). record v { walks = walks; waiting = sent (calls_frames cs) }) is
         ∙ ap (λ (fs : List Frame). record v { walks = walks; waiting = fs }) (sym idle)
         ∙ ap (λ x. record v { walks = x }) (sym (ap (λ (x : EngineView R). x.walks) c.put))
 
-refused_end : {R : Type 0} (g : Relays R) (v w : EngineView R) (n : ℕ) (error : Option ErrorModel) (reached : Option ℕ) (calls : List (session.Entry R)) (r : StepError) → v.waiting ≡ [] → Does g v n (EndCalls error) reached calls (Some r) w → Still v w
+refused_end : {R : Type 0} (g : Relays R) (v w : EngineView R) (n : ℕ) (error : Option ErrorModel) (reached : Option ℕ) (calls : List (session.SessionCall R)) (r : StepError) → v.waiting ≡ [] → Does g v n (EndCalls error) reached calls (Some r) w → Still v w
 refused_end g v w n error reached calls r idle (inl s) = called_end g v w n error calls r idle s.1
 refused_end g v w n error reached calls r idle (inr s) = still v w s.1.same
 
@@ -83,8 +83,8 @@ refused_close v w error e s = absurd s
 abbrev SameStep : {R : Type 0} → EngineView R → EngineView R → Option Frame → Type 0
 SameStep v w received = (received ≡ None) × Still v w
 
-carried : {R : Type 0} (g : Relays R) (v w : EngineView R) (i : Input R) (received : Option Frame) (reached : Option ℕ) (calls : List (session.Entry R)) (r : StepError) →
-    IsWish i → v.waiting ≡ [] → Carries g v i received reached calls (Some r) w → SameStep v w received
+carried : {R : Type 0} (g : Relays R) (v w : EngineView R) (i : Input R) (received : Option Frame) (reached : Option ℕ) (calls : List (session.SessionCall R)) (r : StepError) →
+    IsWish i → v.waiting ≡ [] → InputStep g v i received reached calls (Some r) w → SameStep v w received
 carried g v w (input.End n error) received reached calls r is idle s = (s.0, refused_end g v w n.0 error reached calls r idle s.1)
 carried g v w (input.Close error) received reached calls r is idle s = (s.0, refused_close v w error r s.2)
 carried g v w i received reached calls r is idle s = absurd is
@@ -92,7 +92,7 @@ carried g v w i received reached calls r is idle s = absurd is
 stepped : {R : Type 0} (g : Relays R) (v w : EngineView R) (e : Entry R) (r : StepError) → e.refusal ≡ Some r → IsWish e.input → v.waiting ≡ [] → Step g v e w → SameStep v w e.received
 stepped g v w e r refused is idle (inl s) = absurd (s.0 idle)
 stepped g v w e r refused is idle (inr s) =
-    carried g v w e.input e.received e.reached e.calls r is idle (subst (λ x. Carries g v e.input e.received e.reached e.calls x w) refused s.2)
+    carried g v w e.input e.received e.reached e.calls r is idle (subst (λ x. InputStep g v e.input e.received e.reached e.calls x w) refused s.2)
 
 -- what is refused lets nothing go
 pub not_left : {R : Type 0} (i : Input R) (r : StepError) (m : EngineView R) → left i (Some r) m ≡ m

@@ -34,24 +34,24 @@ abbrev pub EachOnePiece : ℕ → List RequestedTransfer → Type 0
 EachOnePiece m [] = Unit {0}
 EachOnePiece m (h ∷ hs) = IsOnePiece m h.is_first h.transfer h.payload × EachOnePiece m hs
 
-abbrev OfCalls : {R : Type 0} → ℕ → List (session.Entry R) → Type 0
+abbrev OfCalls : {R : Type 0} → ℕ → List (session.SessionCall R) → Type 0
 OfCalls m cs = EachOnePiece m (single.accepted cs)
 
 -- ---- lists of calls
 
-by_calls : {R : Type 0} (m : ℕ) (cs ds : List (session.Entry R)) → cs ≡ ds → OfCalls m ds → OfCalls m cs
+by_calls : {R : Type 0} (m : ℕ) (cs ds : List (session.SessionCall R)) → cs ≡ ds → OfCalls m ds → OfCalls m cs
 by_calls m cs ds e s = subst (OfCalls m) (sym e) s
 
 both_pieces : (m : ℕ) (xs ys : List RequestedTransfer) → EachOnePiece m xs → EachOnePiece m ys → EachOnePiece m (xs ++ ys)
 both_pieces m [] ys s t = t
 both_pieces m (h ∷ xs) ys s t = (s.0, both_pieces m xs ys s.1 t)
 
-accepted_both : {R : Type 0} (xs ys : List (session.Entry R)) → single.accepted (xs ++ ys) ≡ single.accepted xs ++ single.accepted ys
+accepted_both : {R : Type 0} (xs ys : List (session.SessionCall R)) → single.accepted (xs ++ ys) ≡ single.accepted xs ++ single.accepted ys
 accepted_both [] ys = refl
 accepted_both (c ∷ xs) ys =
     ap (λ (hs : List RequestedTransfer). single.accepted_by c ++ hs) (accepted_both xs ys) ∙ sym (append_assoc (single.accepted_by c) (single.accepted xs) (single.accepted ys))
 
-both_calls : {R : Type 0} (m : ℕ) (xs ys : List (session.Entry R)) → OfCalls m xs → OfCalls m ys → OfCalls m (xs ++ ys)
+both_calls : {R : Type 0} (m : ℕ) (xs ys : List (session.SessionCall R)) → OfCalls m xs → OfCalls m ys → OfCalls m (xs ++ ys)
 both_calls m xs ys s t = subst (EachOnePiece m) (sym (accepted_both xs ys)) (both_pieces m (single.accepted xs) (single.accepted ys) s t)
 
 -- ---- what a request asks of a session
@@ -80,11 +80,11 @@ flowed : (R : Type 0) (m : ℕ) (result : Result (Option DispositionModel) Sessi
 flowed R m (Ok d) item = tt
 flowed R m (Err e) item = tt
 
-echoed : {R : Type 0} (m : ℕ) (ds : List DispositionModel) (cs : List (session.Entry R)) → SentEach ds cs → OfCalls m cs
+echoed : {R : Type 0} (m : ℕ) (ds : List DispositionModel) (cs : List (session.SessionCall R)) → SentEach ds cs → OfCalls m cs
 echoed m [] cs s = by_calls m cs [] s tt
 echoed m (d ∷ ds) cs s = by_calls m cs (session.SendsDisposition d s.0 s.1 ∷ s.2) s.3 (echoed m ds s.2 s.4)
 
-received : {R : Type 0} (m c : ℕ) (b : FrameBody) (s : SessionState) (cs : List (session.Entry R)) (r : Option StepError) → received_calls c b s cs r → OfCalls m cs
+received : {R : Type 0} (m c : ℕ) (b : FrameBody) (s : SessionState) (cs : List (session.SessionCall R)) (r : Option StepError) → received_calls c b s cs r → OfCalls m cs
 received m c (body.Begin p) s cs r a = by_calls m cs _ a.1 tt
 received m c (body.End p) s cs r a = by_calls m cs _ a.1 (remote_ended _ m _ p.error)
 received m c (body.Attach p) s cs r a = by_calls m cs _ a.2 tt
@@ -96,7 +96,7 @@ received m c b s cs r a = absurd a
 
 -- ---- an input's calls
 
-asked : {R : Type 0} (m : ℕ) (i : Input R) (f : Option Frame) (s : SessionState) (cs : List (session.Entry R)) (r : Option StepError) → IsShort m i → asked_calls i f s cs r → OfCalls m cs
+asked : {R : Type 0} (m : ℕ) (i : Input R) (f : Option Frame) (s : SessionState) (cs : List (session.SessionCall R)) (r : Option StepError) → IsShort m i → asked_calls i f s cs r → OfCalls m cs
 asked m (input.Received bytes) (Some f) s cs r short a = received m f.channel f.body s cs r a
 asked m (input.Received bytes) None s cs r short a = absurd a
 asked m (input.Begin n settings) f s cs r short a = by_calls m cs _ a.1 tt

@@ -6,7 +6,7 @@ use Rattle.amqp_values.specs.Composite.{composite_at}
 use Rattle.amqp_types.specs.declared.performatives.kind.Kind.{Kind}
 use Rattle.amqp_frames.specs.declared.frame.Frame.{Frame}
 use Rattle.amqp_session.specs.Relay.{Relays}
-use Rattle.amqp_session.specs.Session.{Observed}
+use Rattle.amqp_session.specs.Session.{SessionModel}
 use Rattle.amqp_session.specs.History as session
 use Rattle.amqp_engine.specs.declared.engine.step_error.StepError.{StepError}
 use Rattle.amqp_engine.specs.declared.engine.step_error.StepError.TheVariants.{NoSession, Connection}
@@ -24,7 +24,7 @@ use Rattle.amqp_engine.proofs.AskedSessionLemmas.{reaches, reaches_unknown, reac
 
 module _ {R V : Type 0} (g : Relays R) {k : Kind} (r : Reads k V) (asks : Calls R) (v : EngineView R) (c : ℕ) (fields left : List ℕ) (p : V)
     (read : composite_at r.reader fields ≡ Some (p, left))
-    (carry : (refusal : Option StepError) (w : EngineView R) (reached : Option ℕ) (calls : List (session.Entry R)) → Reaches g (RouteStep v.connection c) v asks reached calls refusal w
+    (carry : (refusal : Option StepError) (w : EngineView R) (reached : Option ℕ) (calls : List (session.SessionCall R)) → Reaches g (RouteStep v.connection c) v asks reached calls refusal w
     → ReceivedFrame g v c (r.says p left).0 reached calls refusal w) where
   -- what an engine finds that is the same
   route : (u : EngineView R) (n : Option ℕ) → u ≡ v → get u.connection.session_by_incoming_channel c ≡ n → get v.connection.session_by_incoming_channel c ≡ n
@@ -40,7 +40,7 @@ module _ {R V : Type 0} (g : Relays R) {k : Kind} (r : Reads k V) (asks : Calls 
       (None, [], carry _ _ _ _ (reaches_none g (RouteStep v.connection c) asks v v v.connection not_found _ refl (route u None same none, refl, refl) refl))
 
   -- the session that it leads to is not there
-  pub unknown : {gone : Numbers} {o : Outcomes} {q : Wishes} (j : ConnectionView) (es es' : List (ℕ × Observed R)) (limit n : ℕ) (fs : List Frame) → parts gone o q j es limit fs ≡ v
+  pub unknown : {gone : Numbers} {o : Outcomes} {q : Wishes} (j : ConnectionView) (es es' : List (ℕ × SessionModel R)) (limit n : ℕ) (fs : List Frame) → parts gone o q j es limit fs ≡ v
       → get j.session_by_incoming_channel c ≡ Some n → lookup (nat_eq n) (views_of es) ≡ None → es' ≡ es → FieldsStep g v c (Some k) fields (Some NoSession) (parts gone o q j es' limit fs)
   unknown {gone = gone} {o = o} {q = q} j es es' limit n fs same found none stays =
       let u = parts gone o q j es limit fs in
@@ -48,8 +48,8 @@ module _ {R V : Type 0} (g : Relays R) {k : Kind} (r : Reads k V) (asks : Calls 
       (Some n, [], carry _ _ _ _ (reaches_unknown g (RouteStep v.connection c) asks v j j es es' limit n fs same (route u (Some n) same found, there u same) none stays))
 
   -- that session took it
-  pub handed : {gone : Numbers} {o : Outcomes} {q : Wishes} (j : ConnectionView) (es es' : List (ℕ × Observed R)) (limit n : ℕ) (fs waiting frames : List Frame)
-      (before after : Observed R) (refusal : Option StepError) → parts gone o q j es limit fs ≡ v → get j.session_by_incoming_channel c ≡ Some n
+  pub handed : {gone : Numbers} {o : Outcomes} {q : Wishes} (j : ConnectionView) (es es' : List (ℕ × SessionModel R)) (limit n : ℕ) (fs waiting frames : List Frame)
+      (before after : SessionModel R) (refusal : Option StepError) → parts gone o q j es limit fs ≡ v → get j.session_by_incoming_channel c ≡ Some n
       → lookup (nat_eq n) (views_of es) ≡ Some before.view → Answered g before.view asks refusal frames after.view → waiting ≡ frames → es' ≡ set_value (nat_eq n) es after
       → FieldsStep g v c (Some k) fields refusal (parts gone o q j es' limit waiting)
   handed {gone = gone} {o = o} {q = q} j es es' limit n fs waiting frames before after refusal same found known a out set =

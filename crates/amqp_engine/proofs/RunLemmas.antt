@@ -11,26 +11,26 @@ use Rattle.amqp_engine.specs.declared.engine.answer.Answer.{Answer}
 use Rattle.amqp_engine.specs.EngineView.{EngineView, new_engine}
 use Rattle.amqp_engine.specs.Entry.{Entry}
 use Rattle.amqp_engine.specs.Kept.{Outcomes, outcomes_after}
-use Rattle.amqp_engine.specs.History.{Taken, Chain}
+use Rattle.amqp_engine.specs.History.{OutputTaken, Chain}
 use Rattle.amqp_engine.specs.Legal.{Legal}
 use Rattle.amqp_engine.specs.Event.{event}
 use Rattle.amqp_engine.specs.ByHistory.{limit_by, limit_after}
-use Rattle.amqp_engine.specs.Output.{IsOuts, PutOut, Speaks, answer_of}
+use Rattle.amqp_engine.specs.Output.{IsOuts, PutOut, OutputOf, answer_of}
 use Rattle.amqp_engine.specs.Headline.{Headline}
 use Rattle.amqp_engine.specs.Views.{Stands, outcomes_from}
 use Rattle.amqp_engine.specs.Promise.{IsTaken, inputs_of}
 use Rattle.amqp_engine.specs.Ran.{Ran}
 use Rattle.amqp_engine.specs.TwoRuns.{TwoRunsAreOne}
 use Rattle.amqp_engine.specs.Inner.Running.{Running}
-use Rattle.amqp_engine.proofs.OutputLemmas.{Taken-more}
+use Rattle.amqp_engine.proofs.OutputLemmas.{OutputTaken-more}
 
 pub inputs_of-append : {R : Type 0} (xs ys : List (Entry R)) → inputs_of (xs ++ ys) ≡ inputs_of xs ++ inputs_of ys
 inputs_of-append [] ys = refl
 inputs_of-append (e ∷ xs) ys = ap (λ (is' : List (Input _)). e.input ∷ is') (inputs_of-append xs ys)
 
-Chain-later : {R : Type 0} (gives : Relays R) (u v w : EngineView R) (es : List (Entry R)) → Taken u v → Chain gives v es w → Chain gives u es w
-Chain-later gives u v w [] t c = Taken-more u v w t c
-Chain-later gives u v w (e ∷ es) t c = (c.0, c.1, c.2, Taken-more u v c.0 t c.3, c.4, c.5, c.6)
+Chain-later : {R : Type 0} (gives : Relays R) (u v w : EngineView R) (es : List (Entry R)) → OutputTaken u v → Chain gives v es w → Chain gives u es w
+Chain-later gives u v w [] t c = OutputTaken-more u v w t c
+Chain-later gives u v w (e ∷ es) t c = (c.0, c.1, c.2, OutputTaken-more u v c.0 t c.3, c.4, c.5, c.6)
 
 pub Chain-append : {R : Type 0} (gives : Relays R) (xs ys : List (Entry R)) (u v w : EngineView R) → Chain gives u xs v → Chain gives v ys w → Chain gives u (xs ++ ys) w
 Chain-append gives [] ys u v w c d = Chain-later gives u v w ys c d
@@ -52,7 +52,7 @@ outs_append limit (f ∷ fs) gs outs more h k = (h.0, h.1 ++ more, ap (λ (xs : 
 
 -- a front of what waits is put out, and then the rest by the first entry behind it
 put_then : {R : Type 0} (limit : ℕ) (waiting waiting1 : List Frame) (es : List (Entry R)) (waiting2 : List Frame) (out more : List Answer) →
-    PutOut limit waiting waiting1 out → Speaks limit waiting1 es waiting2 more → Speaks limit waiting es waiting2 (out ++ more)
+    PutOut limit waiting waiting1 out → OutputOf limit waiting1 es waiting2 more → OutputOf limit waiting es waiting2 (out ++ more)
 put_then limit waiting waiting1 [] waiting2 out more p q = record {
   gone = p.gone ++ q.gone;
   left = p.left ∙ ap (λ (fs : List Frame). p.gone ++ fs) q.left ∙ sym (append_assoc p.gone q.gone waiting2);
@@ -67,7 +67,7 @@ put_then limit waiting waiting1 (e ∷ es) waiting2 out more p s = (
 )
 
 speaks_append : {R : Type 0} (limit : ℕ) (waiting : List Frame) (es fs : List (Entry R)) (waiting1 waiting2 : List Frame) (out more : List Answer) →
-    Speaks limit waiting es waiting1 out → Speaks (limit_after limit es) waiting1 fs waiting2 more → Speaks limit waiting (es ++ fs) waiting2 (out ++ more)
+    OutputOf limit waiting es waiting1 out → OutputOf (limit_after limit es) waiting1 fs waiting2 more → OutputOf limit waiting (es ++ fs) waiting2 (out ++ more)
 speaks_append limit waiting [] fs waiting1 waiting2 out more s t = put_then limit waiting waiting1 fs waiting2 out more s t
 speaks_append limit waiting (e ∷ es) fs waiting1 waiting2 out more s t = (
   s.0,
@@ -88,7 +88,7 @@ Running-append gives v u w es fs answers answers1 others others' a b = record {
   outcomes_are = b.outcomes_are ∙ ap (λ o. outcomes_from o fs) a.outcomes_are ∙ sym (outcomes_from-append v.outcomes es fs);
   out = a.out ++ b.out;
   appended = ap (λ (xs : List Answer). xs ++ b.out) a.appended ∙ append_assoc answers a.out b.out;
-  said = speaks_append v.limit v.waiting es fs u.waiting w.waiting a.out b.out a.said (subst (λ k. Speaks k u.waiting fs w.waiting b.out) a.limit_is b.said);
+  said = speaks_append v.limit v.waiting es fs u.waiting w.waiting a.out b.out a.said (subst (λ k. OutputOf k u.waiting fs w.waiting b.out) a.limit_is b.said);
 }
 
 -- ---- what is said of it at the end

@@ -12,12 +12,12 @@ use Rattle.amqp_engine.specs.EngineView.{EngineView, new_engine}
 use Rattle.amqp_engine.specs.Engine.{Steps}
 use Rattle.amqp_engine.specs.Entry.{Entry}
 use Rattle.amqp_engine.specs.Kept.{outcomes_after}
-use Rattle.amqp_engine.specs.History.{Taken, OnlyLeft, Chain}
+use Rattle.amqp_engine.specs.History.{OutputTaken, OnlyLeft, Chain}
 use Rattle.amqp_engine.specs.Legal.{Legal}
 use Rattle.amqp_engine.specs.Inner.Running.{Running}
 use Rattle.amqp_engine.specs.Event.{event}
 use Rattle.amqp_engine.specs.ByHistory.{limit_by, limit_after}
-use Rattle.amqp_engine.specs.Output.{PutOut, Speaks, NextOutput, answer_of}
+use Rattle.amqp_engine.specs.Output.{PutOut, OutputOf, NextOutput, answer_of}
 use Rattle.amqp_engine.specs.Promise.{IsTaken, inputs_of}
 use Rattle.amqp_engine.specs.Ran.{Ran}
 use Rattle.amqp_engine.specs.Stepped.{Stepped, Stays}
@@ -25,7 +25,7 @@ use Rattle.amqp_engine.specs.Stepped as one
 use Rattle.amqp_frames.specs.Piece.{PieceParts}
 use Rattle.amqp_engine.specs.declared.engine.answer.OutputError.{OutputError}
 use Rattle.amqp_engine.specs.declared.engine.answer.OutputError.TheVariants as output
-use Rattle.amqp_engine.proofs.OutputLemmas.{Taken-none, Taken-more, speaks_more, limit_more}
+use Rattle.amqp_engine.proofs.OutputLemmas.{OutputTaken-none, OutputTaken-more, speaks_more, limit_more}
 use Rattle.amqp_engine.proofs.RunLemmas.{Chain-append, inputs_of-append, outcomes_from-append, HeadlineLaw, StandsLaw, legal_more, running_ran}
 use Rattle.amqp_engine.proofs.StepChainLemmas.{passage, taken}
 use Rattle.amqp_engine.proofs.KeptStateLemmas.{step_outcomes, step_wishes}
@@ -63,10 +63,10 @@ Running-more gives v v1 v2 v3 entries answers answers1 answers2 answers3 out inp
     ap (λ (x : EngineView _). x.limit) step.keeps ∙ (passage gives v1 step.done e step.step).limit_is ∙ ap (λ k. limit_by k (event e)) g.limit_is in
     let put2 : PutOut (limit_by (limit_after v.limit entries) (event e)) e.frames v3.waiting out =
     subst (λ k. PutOut k e.frames v3.waiting out) limit2 (subst (λ (fs : List Frame). PutOut v2.limit fs v3.waiting out) (sym frames) put) in
-    let before : Speaks v.limit v.waiting entries [] g.out = subst (λ (fs : List Frame). Speaks v.limit v.waiting entries fs g.out) idle g.said in
+    let before : OutputOf v.limit v.waiting entries [] g.out = subst (λ (fs : List Frame). OutputOf v.limit v.waiting entries fs g.out) idle g.said in
     record {
       all_taken = All-push IsTaken entries e g.all_taken now.0;
-      chain = Chain-append gives entries (e ∷ []) v v1 v3 g.chain (v1, step.done, v2, Taken-none v1, step.step, step.keeps, t.taken);
+      chain = Chain-append gives entries (e ∷ []) v v1 v3 g.chain (v1, step.done, v2, OutputTaken-none v1, step.step, step.keeps, t.taken);
       limit_is = t.taken.limit_is ∙ limit2 ∙ sym (limit_more v.limit entries e);
       outcomes_are = t.outcomes_stay ∙ ap (λ (x : EngineView _). x.outcomes) step.keeps
           ∙ ap (λ o. outcomes_after e.input e.received e.reached e.refusal o) (step_outcomes gives v1 step.done e step.step ∙ g.outcomes_are) ∙ sym (outcomes_from-append v.outcomes entries (e ∷ []));
@@ -112,34 +112,34 @@ Taking-more gives v v1 v2 v3 inputs inputs1 inputs2 answers answers1 answers2 an
 -- ---- what is said of it at the end
 
 -- frames left, or handles took outcomes
-pub Chain-end : {R : Type 0} (gives : Relays R) (es : List (Entry R)) (v u w : EngineView R) → Chain gives v es u → Taken u w → Chain gives v es w
-Chain-end gives [] v u w c t = Taken-more v u w c t
+pub Chain-end : {R : Type 0} (gives : Relays R) (es : List (Entry R)) (v u w : EngineView R) → Chain gives v es u → OutputTaken u w → Chain gives v es w
+Chain-end gives [] v u w c t = OutputTaken-more v u w c t
 Chain-end gives (e ∷ es) v u w c t = (c.0, c.1, c.2, c.3, c.4, c.5, Chain-end gives es c.2 u w c.6 t)
 
-pub legal_left : {R : Type 0} (gives : Relays R) (v w : EngineView R) → Taken v w → Stays gives v w
+pub legal_left : {R : Type 0} (gives : Relays R) (v w : EngineView R) → OutputTaken v w → Stays gives v w
 unfolding Legal
 legal_left gives v w t = λ state o H l. Chain-end gives H (new_engine state o) v w l t
 
-front : {R : Type 0} (v : EngineView R) (f : Frame) (fs : List Frame) → v.waiting ≡ f ∷ fs → Taken v (record v { waiting = fs })
+front : {R : Type 0} (v : EngineView R) (f : Frame) (fs : List Frame) → v.waiting ≡ f ∷ fs → OutputTaken v (record v { waiting = fs })
 front v f fs e = record { gone = f ∷ []; left = e; connection_is = refl; sessions_is = refl; forgotten_is = refl; limit_is = refl; outcomes_are = record { close = inl refl; ends = λ n. inl refl } }
 
-pub next_left : {R X : Type 0} (v : EngineView R) (result : Result (Option X) OutputError) (view : X → List PieceParts) (w : EngineView R) → NextOutput view v result w → Taken v w
-next_left v (Ok None) view w n = subst (λ (x : EngineView _). Taken v x) (sym n.1) (Taken-none v)
-next_left v (Ok (Some x)) view w n = subst (λ (y : EngineView _). Taken v y) (sym n.6) (front v n.0 n.1 n.2)
-next_left v (Err (output.TooLarge f)) view w n = subst (λ (y : EngineView _). Taken v y) (sym n.3) (front v f n.0 n.1)
-next_left v (Err output.Memory) view w n = subst (λ (x : EngineView _). Taken v x) (sym n.1) (Taken-none v)
+pub next_left : {R X : Type 0} (v : EngineView R) (result : Result (Option X) OutputError) (view : X → List PieceParts) (w : EngineView R) → NextOutput view v result w → OutputTaken v w
+next_left v (Ok None) view w n = subst (λ (x : EngineView _). OutputTaken v x) (sym n.1) (OutputTaken-none v)
+next_left v (Ok (Some x)) view w n = subst (λ (y : EngineView _). OutputTaken v y) (sym n.6) (front v n.0 n.1 n.2)
+next_left v (Err (output.TooLarge f)) view w n = subst (λ (y : EngineView _). OutputTaken v y) (sym n.3) (front v f n.0 n.1)
+next_left v (Err output.Memory) view w n = subst (λ (x : EngineView _). OutputTaken v x) (sym n.1) (OutputTaken-none v)
 
 -- a step, and how the history goes on by it
 pub stepped : {R : Type 0} (gives : Relays R) → HeadlineLaw gives → (v : EngineView R) (i : Input R) (r : Option StepError) (w : EngineView R) → Steps gives v i r w → Stepped gives v i r w
 stepped gives law v i r w step =
     let e = one.entry_of step in
-    let chain : Chain gives v (e ∷ []) w = (v, step.done, w, Taken-none v, step.step, step.keeps, Taken-none w) in
+    let chain : Chain gives v (e ∷ []) w = (v, step.done, w, OutputTaken-none v, step.step, step.keeps, OutputTaken-none w) in
     record { step = step; goes_on = λ state o H l. let all = legal_more gives state o H (e ∷ []) v w l chain in (all, law state o (H ++ e ∷ []) w all) }
 
 -- the history of a new engine
 pub legal_new : {R : Type 0} (gives : Relays R) (state : ConnectionState) (o : OpenModel) (v : EngineView R) → v ≡ new_engine state o → Legal gives state o [] v
 unfolding Legal
-legal_new gives state o v e = subst (λ (x : EngineView _). Taken (new_engine state o) x) (sym e) (Taken-none (new_engine state o))
+legal_new gives state o v e = subst (λ (x : EngineView _). OutputTaken (new_engine state o) x) (sym e) (OutputTaken-none (new_engine state o))
 
 pub Taking-Ran : {R : Type 0} (gives : Relays R) (v v' : EngineView R) (inputs inputs' : List (Input R)) (answers answers' : List Answer) → HeadlineLaw gives → StandsLaw gives →
     Taking gives v inputs answers v' inputs' answers' → Ran gives [] v inputs answers v' inputs' answers'

@@ -4,11 +4,11 @@ use Rattle.std.specs.Option.{option_map, option_copied}
 use Rattle.std.specs.Map.{lookup, set_value}
 use Rattle.std.specs.FinMap as map
 use Rattle.std.specs.Ordering.{nat_cmp}
-use Rattle.amqp_session.specs.Session.{Observed}
+use Rattle.amqp_session.specs.Session.{SessionModel}
 use Rattle.amqp_engine.specs.EngineView.{views_of, walks_of}
 use Rattle.amqp_engine.specs.Inner.Places.{Seated}
 
-pub viewed : {R : Type 0} (n : ℕ) (es : List (ℕ × Observed R)) → lookup (nat_eq n) (views_of es) ≡ option_map (λ o. o.view) (lookup (nat_eq n) es)
+pub viewed : {R : Type 0} (n : ℕ) (es : List (ℕ × SessionModel R)) → lookup (nat_eq n) (views_of es) ≡ option_map (λ o. o.view) (lookup (nat_eq n) es)
 viewed n [] = refl
 viewed n (e ∷ es) = by (viewed n es) (nat_eq n e.0) refl
   where
@@ -17,22 +17,22 @@ viewed n (e ∷ es) = by (viewed n es) (nat_eq n e.0) refl
     by rest false p = rw p rest
 
 -- the session that stands under a number
-pub viewed_some : {R : Type 0} (n : ℕ) (es : List (ℕ × Observed R)) (o : Observed R) → lookup (nat_eq n) es ≡ Some o → lookup (nat_eq n) (views_of es) ≡ Some o.view
+pub viewed_some : {R : Type 0} (n : ℕ) (es : List (ℕ × SessionModel R)) (o : SessionModel R) → lookup (nat_eq n) es ≡ Some o → lookup (nat_eq n) (views_of es) ≡ Some o.view
 viewed_some n es o is = viewed n es ∙ ap (option_map (λ x. x.view)) is
 
-pub viewed_none : {R : Type 0} (n : ℕ) (es : List (ℕ × Observed R)) → lookup (nat_eq n) es ≡ None → lookup (nat_eq n) (views_of es) ≡ None
+pub viewed_none : {R : Type 0} (n : ℕ) (es : List (ℕ × SessionModel R)) → lookup (nat_eq n) es ≡ None → lookup (nat_eq n) (views_of es) ≡ None
 viewed_none n es is = viewed n es ∙ ap (option_map (λ x. x.view)) is
 
 -- where no view stands, no session does
-pub unviewed : {R : Type 0} (n : ℕ) (es : List (ℕ × Observed R)) → lookup (nat_eq n) (views_of es) ≡ None → lookup (nat_eq n) es ≡ None
+pub unviewed : {R : Type 0} (n : ℕ) (es : List (ℕ × SessionModel R)) → lookup (nat_eq n) (views_of es) ≡ None → lookup (nat_eq n) es ≡ None
 unviewed {R = R} n es is = by (lookup (nat_eq n) es) (sym (viewed n es) ∙ is)
   where
-    by : (o : Option (Observed R)) → option_map (λ x. x.view) o ≡ None → o ≡ None
+    by : (o : Option (SessionModel R)) → option_map (λ x. x.view) o ≡ None → o ≡ None
     by None e = refl
     by (Some x) e = absurd cc
 
 -- one session goes on
-pub viewed_set : {R : Type 0} (n : ℕ) (es : List (ℕ × Observed R)) (o : Observed R) → views_of (set_value (nat_eq n) es o) ≡ set_value (nat_eq n) (views_of es) o.view
+pub viewed_set : {R : Type 0} (n : ℕ) (es : List (ℕ × SessionModel R)) (o : SessionModel R) → views_of (set_value (nat_eq n) es o) ≡ set_value (nat_eq n) (views_of es) o.view
 viewed_set n [] o = refl
 viewed_set n (e ∷ es) o = by (viewed_set n es o) (nat_eq n e.0) refl
   where
@@ -41,26 +41,26 @@ viewed_set n (e ∷ es) o = by (viewed_set n es o) (nat_eq n e.0) refl
     by rest false p = rw p (ap (λ xs. (e.0, e.1.view) ∷ xs) rest)
 
 -- one more session comes
-pub viewed_push : {R : Type 0} (es : List (ℕ × Observed R)) (n : ℕ) (o : Observed R) → views_of (es ++ (n, o) ∷ []) ≡ views_of es ++ (n, o.view) ∷ []
+pub viewed_push : {R : Type 0} (es : List (ℕ × SessionModel R)) (n : ℕ) (o : SessionModel R) → views_of (es ++ (n, o) ∷ []) ≡ views_of es ++ (n, o.view) ∷ []
 viewed_push [] n o = refl
 viewed_push (e ∷ es) n o = ap (λ xs. (e.0, e.1.view) ∷ xs) (viewed_push es n o)
 
 -- a session that was found, or none
-pub found_in : {R : Type 0} (r : Option (Bor (Observed R))) (n : ℕ) (es : List (ℕ × Observed R)) → option_copied r ≡ lookup (nat_eq n) es → IfSome r (λ s. lookup (nat_eq n) (views_of es) ≡ Some s.now.view)
+pub found_in : {R : Type 0} (r : Option (Bor (SessionModel R))) (n : ℕ) (es : List (ℕ × SessionModel R)) → option_copied r ≡ lookup (nat_eq n) es → IfSome r (λ s. lookup (nat_eq n) (views_of es) ≡ Some s.now.view)
 found_in None n es e = tt
 found_in (Some s) n es e = viewed_some n es s.now (sym e)
 
-pub known_in : {R : Type 0} (r : Option (Bor (Observed R))) (n : ℕ) (es : List (ℕ × Observed R)) → option_copied r ≡ lookup (nat_eq n) es → is_some r ≡ is_some (lookup (nat_eq n) (views_of es))
+pub known_in : {R : Type 0} (r : Option (Bor (SessionModel R))) (n : ℕ) (es : List (ℕ × SessionModel R)) → option_copied r ≡ lookup (nat_eq n) es → is_some r ≡ is_some (lookup (nat_eq n) (views_of es))
 known_in None n es e = ap is_some (sym (viewed_none n es (sym e)))
 known_in (Some s) n es e = ap is_some (sym (viewed_some n es s.now (sym e)))
 
-pub viewed_there : {R : Type 0} (n : ℕ) (es : List (ℕ × Observed R)) (o : Option (Observed R)) (b : Bool) → lookup (nat_eq n) es ≡ o → b ≡ is_some o → b ≡ true → IsSome (lookup (nat_eq n) (views_of es))
+pub viewed_there : {R : Type 0} (n : ℕ) (es : List (ℕ × SessionModel R)) (o : Option (SessionModel R)) (b : Bool) → lookup (nat_eq n) es ≡ o → b ≡ is_some o → b ≡ true → IsSome (lookup (nat_eq n) (views_of es))
 viewed_there n es None b is e t = absurd cc
 viewed_there n es (Some o) b is e t = subst IsSome (sym (viewed_some n es o is)) refl
 
 -- ---- the counts of their walks
 
-pub walked : {R : Type 0} (n : ℕ) (es : List (ℕ × Observed R)) → lookup (nat_eq n) (walks_of es) ≡ option_map (λ o. o.last_walk) (lookup (nat_eq n) es)
+pub walked : {R : Type 0} (n : ℕ) (es : List (ℕ × SessionModel R)) → lookup (nat_eq n) (walks_of es) ≡ option_map (λ o. o.last_walk) (lookup (nat_eq n) es)
 walked n [] = refl
 walked n (e ∷ es) = by (walked n es) (nat_eq n e.0) refl
   where
@@ -68,7 +68,7 @@ walked n (e ∷ es) = by (walked n es) (nat_eq n e.0) refl
     by rest true p = rw p refl
     by rest false p = rw p rest
 
-pub walked_set : {R : Type 0} (n : ℕ) (es : List (ℕ × Observed R)) (o : Observed R) → walks_of (set_value (nat_eq n) es o) ≡ set_value (nat_eq n) (walks_of es) o.last_walk
+pub walked_set : {R : Type 0} (n : ℕ) (es : List (ℕ × SessionModel R)) (o : SessionModel R) → walks_of (set_value (nat_eq n) es o) ≡ set_value (nat_eq n) (walks_of es) o.last_walk
 walked_set n [] o = refl
 walked_set n (e ∷ es) o = by (walked_set n es o) (nat_eq n e.0) refl
   where
@@ -76,11 +76,11 @@ walked_set n (e ∷ es) o = by (walked_set n es o) (nat_eq n e.0) refl
     by rest true p = rw p refl
     by rest false p = rw p (ap (λ xs. (e.0, e.1.last_walk) ∷ xs) rest)
 
-pub walked_push : {R : Type 0} (es : List (ℕ × Observed R)) (n : ℕ) (o : Observed R) → walks_of (es ++ (n, o) ∷ []) ≡ walks_of es ++ (n, o.last_walk) ∷ []
+pub walked_push : {R : Type 0} (es : List (ℕ × SessionModel R)) (n : ℕ) (o : SessionModel R) → walks_of (es ++ (n, o) ∷ []) ≡ walks_of es ++ (n, o.last_walk) ∷ []
 walked_push [] n o = refl
 walked_push (e ∷ es) n o = ap (λ xs. (e.0, e.1.last_walk) ∷ xs) (walked_push es n o)
 
-pub walk_in : {R : Type 0} (r : Option (Bor (Observed R))) (n : ℕ) (es : List (ℕ × Observed R)) → option_copied r ≡ lookup (nat_eq n) es → IfSome r (λ s. lookup (nat_eq n) (walks_of es) ≡ Some s.now.last_walk)
+pub walk_in : {R : Type 0} (r : Option (Bor (SessionModel R))) (n : ℕ) (es : List (ℕ × SessionModel R)) → option_copied r ≡ lookup (nat_eq n) es → IfSome r (λ s. lookup (nat_eq n) (walks_of es) ≡ Some s.now.last_walk)
 walk_in None n es e = tt
 walk_in (Some s) n es e = walked n es ∙ ap (option_map (λ x. x.last_walk)) (sym e)
 

@@ -70,22 +70,22 @@ before_end (e ∷ es) n k x y h = by (before_end es n k x y) (nat_eq n e.0) refl
 -- ---- the calls of one session
 
 not_number : {R : Type 0} (n : ℕ) (e : Entry R) → e.calls ≡ [] → calls_at n e ≡ []
-not_number n e c = ap (λ (cs : List (session.Entry _)). cond (is_number n e.reached) cs []) c ∙ cond_same (is_number n e.reached) []
+not_number n e c = ap (λ (cs : List (session.SessionCall _)). cond (is_number n e.reached) cs []) c ∙ cond_same (is_number n e.reached) []
 
 pub calls_there : {R : Type 0} (n k : ℕ) (e : Entry R) (b : Bool) → e.reached ≡ Some k → nat_eq n k ≡ b → calls_at n e ≡ cond b e.calls []
 calls_there n k e b r p = ap (λ o. cond (is_number n o) e.calls []) r ∙ ap (λ x. cond x e.calls []) p
 
-chain_append : {R : Type 0} (g : Relays R) (xs ys : List (session.Entry R)) (v m w : SessionView R) → session.Chain g v xs m → session.Chain g m ys w → session.Chain g v (xs ++ ys) w
-chain_append g [] ys v m w c d = subst (λ (x : SessionView _). session.Chain g x ys w) c d
+chain_append : {R : Type 0} (g : Relays R) (xs ys : List (session.SessionCall R)) (v m w : SessionView R) → session.SessionChain g v xs m → session.SessionChain g m ys w → session.SessionChain g v (xs ++ ys) w
+chain_append g [] ys v m w c d = subst (λ (x : SessionView _). session.SessionChain g x ys w) c d
 chain_append g (e ∷ xs) ys v m w c d = (c.0, c.1, chain_append g xs ys c.0 m w c.2 d)
 
 -- no call leaves a session as it is
-none_made : {R : Type 0} (g : Relays R) (s : SessionView R) (cs : List (session.Entry R)) → cs ≡ [] → session.Chain g s cs s
-none_made g s cs e = subst (λ (xs : List (session.Entry _)). session.Chain g s xs s) (sym e) refl
+none_made : {R : Type 0} (g : Relays R) (s : SessionView R) (cs : List (session.SessionCall R)) → cs ≡ [] → session.SessionChain g s cs s
+none_made g s cs e = subst (λ (xs : List (session.SessionCall _)). session.SessionChain g s xs s) (sym e) refl
 
 -- what the calls leave of a session that is there: another view, or nothing where it is forgotten
-abbrev pub Goes : {R : Type 0} → Relays R → EngineView R → ℕ → Bool → SessionView R → List (session.Entry R) → Type 0
-Goes g m n gone s calls = (t : SessionView _) × (lookup (nat_eq n) m.sessions ≡ cond gone None (Some t)) × session.Chain g s calls t
+abbrev pub Goes : {R : Type 0} → Relays R → EngineView R → ℕ → Bool → SessionView R → List (session.SessionCall R) → Type 0
+Goes g m n gone s calls = (t : SessionView _) × (lookup (nat_eq n) m.sessions ≡ cond gone None (Some t)) × session.SessionChain g s calls t
 
 -- ---- which numbers are used up
 
@@ -138,7 +138,7 @@ changed g n u m e s (inr x) h = by (nat_eq n x.number) refl
         let from : x.before ≡ s = same_some x.before s _ x.known (ap (λ k. lookup (nat_eq k) u.sessions) (sym same) ∙ h) in (
           x.after,
           ap (λ k. lookup (nat_eq k) m.sessions) same ∙ ap (lookup (nat_eq x.number)) x.put ∙ put_there u.sessions x.number x.before x.after x.known,
-          subst (λ (cs : List (session.Entry _)). session.Chain g s cs x.after) (sym (calls_there n x.number e true x.reached_is p)) (subst (λ (y : SessionView _). session.Chain g y e.calls x.after) from x.chain),
+          subst (λ (cs : List (session.SessionCall _)). session.SessionChain g s cs x.after) (sym (calls_there n x.number e true x.reached_is p)) (subst (λ (y : SessionView _). session.SessionChain g y e.calls x.after) from x.chain),
         )
     by false p = (s, ap (lookup (nat_eq n)) x.put ∙ put_other u.sessions n x.number x.after p ∙ h, none_made g s (calls_at n e) (calls_there n x.number e false x.reached_is p))
 
@@ -190,7 +190,7 @@ gone g (e ∷ es) n v w c h used =
     let before : is_some (map.get c.0.forgotten n) ≡ true = ap (λ (m : Numbers). is_some (map.get m n)) c.2.forgotten_is ∙ used in
     let a = gone_step g n c.0 c.1 e p.effect (ap (lookup (nat_eq n)) c.2.sessions_is ∙ h) before in
     let r = gone g es n c.1 w c.4 a.0 (step_number g n c.0 c.1 e p ∙ ap (forgotten_by n (event e)) before ∙ still_gone n (event e)) in
-    (r.0, ap (λ (cs : List (session.Entry _)). cs ++ of_session n es) a.1 ∙ r.1)
+    (r.0, ap (λ (cs : List (session.SessionCall _)). cs ++ of_session n es) a.1 ∙ r.1)
 
 -- the part of a session that is there is legal
 pub part : {R : Type 0} (g : Relays R) (es : List (Entry R)) (n : ℕ) (v w : EngineView R) (s : SessionView R) → Chain g v es w → lookup (nat_eq n) v.sessions ≡ Some s → Goes g w n (forgotten_from n false es) s (of_session n es)
@@ -241,7 +241,7 @@ Legal g n k es w = Absent n k es w ⊎ Part g n k es w
 same_rest : {R : Type 0} (g : Relays R) (n : ℕ) (e : Entry R) (k l : ConnectionView) (es : List (Entry R)) (w : EngineView R) → calls_at n e ≡ [] → begun_at n k (e ∷ es) ≡ begun_at n l es → forgotten_by n (event e) false ≡ false → Legal g n l es w → Legal g n k (e ∷ es) w
 same_rest g n e k l es w se be fo (inl a) = inl (record {
   unbegun = be ∙ a.unbegun;
-  no_calls = ap (λ (xs : List (session.Entry _)). xs ++ of_session n es) se ∙ a.no_calls;
+  no_calls = ap (λ (xs : List (session.SessionCall _)). xs ++ of_session n es) se ∙ a.no_calls;
   unforgotten = ap (λ b. forgotten_from n b es) fo ∙ a.unforgotten;
   unknown = a.unknown;
 })
@@ -250,7 +250,7 @@ same_rest g n e k l es w se be fo (inr p) = inr (record {
   last = p.last;
   begun_is = be ∙ p.begun_is;
   unmapped = p.unmapped;
-  legal = subst (λ (xs : List (session.Entry _)). session.LeadsTo g p.made (xs ++ of_session n es) p.last) (sym se) p.legal;
+  legal = subst (λ (xs : List (session.SessionCall _)). session.LeadsTo g p.made (xs ++ of_session n es) p.last) (sym se) p.legal;
   there = p.there ∙ sym (ap (λ b. cond (forgotten_from n b es) None (Some p.last)) fo);
 })
 
@@ -306,8 +306,8 @@ legal g (e ∷ es) n v w c h =
         apart : (b : Bool) → nat_eq n s.number ≡ b → Legal g n v.connection (e ∷ es) w
         apart true z =
             let r = more s.after (there ∙ ap (λ b. cond b (Some s.after) None) z) in
-            let began : session.Chain g (new_session s.settings s.channel Unmapped v.connection.stop_reason) e.calls s.after =
-            subst (λ (k : ConnectionView). session.Chain g (new_session s.settings s.channel Unmapped k.stop_reason) e.calls s.after) c.2.connection_is s.chain in
+            let began : session.SessionChain g (new_session s.settings s.channel Unmapped v.connection.stop_reason) e.calls s.after =
+            subst (λ (k : ConnectionView). session.SessionChain g (new_session s.settings s.channel Unmapped k.stop_reason) e.calls s.after) c.2.connection_is s.chain in
             inr (record {
               made = how;
               last = r.0;
@@ -315,7 +315,7 @@ legal g (e ∷ es) n v w c h =
               unmapped = refl;
               legal = (
                 s.fits,
-                subst (λ (xs : List (session.Entry _)). session.Chain g (new_session s.settings s.channel Unmapped v.connection.stop_reason) (xs ++ of_session n es) r.0) (sym (calls_there n s.number e true s.reached_is z)) (chain_append g e.calls (of_session n es) _ s.after r.0 began r.2),
+                subst (λ (xs : List (session.SessionCall _)). session.SessionChain g (new_session s.settings s.channel Unmapped v.connection.stop_reason) (xs ++ of_session n es) r.0) (sym (calls_there n s.number e true s.reached_is z)) (chain_append g e.calls (of_session n es) _ s.after r.0 began r.2),
               );
               there = r.1 ∙ sym (ap (λ ev. cond (forgotten_from n (forgotten_by n ev false) es) None (Some r.0)) s.event_is);
             })

@@ -23,7 +23,7 @@ use Rattle.amqp_engine.specs.Waits.{sent}
 use Rattle.amqp_engine.specs.Engine.{Step}
 use Rattle.amqp_engine.specs.Entry.{Entry}
 use Rattle.amqp_engine.specs.Event.{Event, Quiet, SentOpen, SentClose, AcceptedOpen, CameClose, Began, Released, Forgot, Routed, Unrouted, event, event_by}
-use Rattle.amqp_engine.proofs.BareHistoryLemmas.{Taken, Chain}
+use Rattle.amqp_engine.proofs.BareHistoryLemmas.{OutputTaken, Chain}
 use Rattle.amqp_engine.specs.ByHistory.{remote_close_reason, state_by, state_from, reason_by, reason_from, remote_open_by, remote_open_from, channel_max_by, channel_max_from, limit_by, limit_after, numbers_by, waiting_by, last_frames_from}
 use Rattle.amqp_engine.specs.Headline.{own_frames}
 use Rattle.amqp_engine.proofs.BegunSessionLemmas.{some_none}
@@ -61,7 +61,7 @@ passage g v w e (inl s) =
       effect = inl (subst NoneMoves (sym is) tt, inl (record { sessions_is = ap (λ (x : EngineView _). x.sessions) same; no_calls = s.3.0.1; none_reached = inl s.3.0.0 }));
       forgotten_is = ap (λ (x : EngineView _). x.forgotten) same ∙ ap (λ x. numbers_by x v.forgotten) (sym is);
       limit_is = ap (λ (x : EngineView _). x.limit) same ∙ ap (limit_by v.limit) (sym is);
-      frames_are = s.4 ∙ sym (ap (λ x. own_frames v.connection.local_open x ++ sent (calls_frames e.calls)) is ∙ ap (λ (cs : List (session.Entry _)). sent (calls_frames cs)) s.3.0.1);
+      frames_are = s.4 ∙ sym (ap (λ x. own_frames v.connection.local_open x ++ sent (calls_frames e.calls)) is ∙ ap (λ (cs : List (session.SessionCall _)). sent (calls_frames cs)) s.3.0.1);
       session_frames = λ n r. absurd (some_none (sym r ∙ s.3.0.0));
       waiting_is = ap (λ (x : EngineView _). x.waiting) same ∙ sym (waits_still e e.refusal v.waiting s.1);
     }
@@ -86,7 +86,7 @@ taken g v w e idle (inr s) = ((deed g v w e s.0 s.1 s.2).taken, s.1)
 
 pub by_history : {R X : Type 0} (g : Relays R) (get : EngineView R → X) (by : Entry R → X → X) (from : X → List (Entry R) → X) →
     ((x : X) → from x [] ≡ x) → ((x : X) (e : Entry R) (es : List (Entry R)) → from x (e ∷ es) ≡ from (by e x) es) →
-    ((v w : EngineView R) → Taken v w → get w ≡ get v) → ((v w : EngineView R) (e : Entry R) → Passage g v e w → get w ≡ by e (get v)) →
+    ((v w : EngineView R) → OutputTaken v w → get w ≡ get v) → ((v w : EngineView R) (e : Entry R) → Passage g v e w → get w ≡ by e (get v)) →
     (es : List (Entry R)) (v w : EngineView R) → Chain g v es w → get w ≡ from (get v) es
 by_history g get by from none more left step [] v w c = left v w c ∙ sym (none (get v))
 by_history g get by from none more left step (e ∷ es) v w c =
@@ -211,7 +211,7 @@ append_assoc : {X : Type 0} (xs ys zs : List X) → (xs ++ ys) ++ zs ≡ xs ++ (
 append_assoc [] ys zs = refl
 append_assoc (x ∷ xs) ys zs = ap (λ as'. x ∷ as') (append_assoc xs ys zs)
 
-left_taken : {R : Type 0} (all : List Frame) (v w : EngineView R) → Taken v w → Left all v.waiting → Left all w.waiting
+left_taken : {R : Type 0} (all : List Frame) (v w : EngineView R) → OutputTaken v w → Left all v.waiting → Left all w.waiting
 left_taken all v w t l = (l.0 ++ t.gone, l.1 ∙ ap (λ (fs : List Frame). l.0 ++ fs) t.left ∙ sym (append_assoc l.0 t.gone w.waiting))
 
 waits_by : {R : Type 0} (e : Entry R) (r : Option StepError) (all waiting : List Frame) → Left all waiting → Left (waiting_by r e all) (waiting_by r e waiting)

@@ -27,7 +27,7 @@ use Rattle.amqp_engine.specs.declared.engine.step_error.StepError.TheVariants as
 use Rattle.amqp_connection.specs.declared.error.ConnectionStateError.{ConnectionStateError}
 use Rattle.amqp_connection.specs.declared.error.ConnectionStateError.TheVariants as state
 use Rattle.amqp_connection.specs.States.{takes_close}
-use Rattle.amqp_connection.specs.Connection.{ConnectionView, Holds, told, open_frame, close_frame}
+use Rattle.amqp_connection.specs.Connection.{ConnectionView, Holds, close_error, open_frame, close_frame}
 use Rattle.amqp_connection.specs.History as connection
 use Rattle.amqp_numbers.specs.Ranges.{Numbers}
 use Rattle.amqp_engine.specs.EngineView.{EngineView}
@@ -50,7 +50,7 @@ after_close v c = record v { state = unwrap_or (takes_close v.state) v.state; st
 -- how the peer's Close is refused, by the state that it leads to, and whether the connection is then stopped
 abbrev pub close_refusal : Option ConnectionState → Option ErrorModel → Option ConnectionStateError
 close_refusal None error = Some state.IllegalState
-close_refusal (Some s) error = told s error
+close_refusal (Some s) error = close_error s error
 
 abbrev pub stops : Option ConnectionState → Option ErrorModel → List connection.Entry
 stops (Some at.CloseReceived) error = connection.Stop (remote_reason error) ∷ []
@@ -91,7 +91,7 @@ IsPlain (Some (no.AllocLink e)) = Unit {0}
 IsPlain (Some e) = ⊥
 
 abbrev pub Plain : {R : Type 0} → Calls R → Type 0
-Plain asks = (s : SessionState) (cs : List (session.Entry _)) (r : Option StepError) → asks s cs r → IsPlain r
+Plain asks = (s : SessionState) (cs : List (session.SessionCall _)) (r : Option StepError) → asks s cs r → IsPlain r
 
 plain_state : {X : Type 0} (x : Result X SessionStateError) (r : Option StepError) → r ≡ state_refusal x → IsPlain r
 plain_state (Ok x) r e = subst IsPlain (sym e) tt
@@ -148,7 +148,7 @@ pub record Changes {R : Type 0} (g : Relays R) (v : EngineView R) (e : Entry R) 
   pub known : lookup (nat_eq number) v.sessions ≡ Some before
   pub asked : asked_calls e.input e.received before.state e.calls e.refusal
   pub plain : IsPlain e.refusal
-  pub chain : session.Chain g before e.calls after
+  pub chain : session.SessionChain g before e.calls after
   pub put : w.sessions ≡ set_value (nat_eq number) v.sessions after
 
 pub record Begins {R : Type 0} (g : Relays R) (v : EngineView R) (e : Entry R) (w : EngineView R) : Type 0 where
@@ -163,7 +163,7 @@ pub record Begins {R : Type 0} (g : Relays R) (v : EngineView R) (e : Entry R) (
   pub unused : map.get v.forgotten number ≡ None
   pub fits : settings.next_outgoing_id < 2 ^ 32
   pub asked : asked_calls e.input e.received Unmapped e.calls e.refusal
-  pub chain : session.Chain g (new_session settings channel Unmapped v.connection.stop_reason) e.calls after
+  pub chain : session.SessionChain g (new_session settings channel Unmapped v.connection.stop_reason) e.calls after
   pub sessions_is : w.sessions ≡ v.sessions ++ (number, after) ∷ []
 
 pub record Forgets {R : Type 0} (v : EngineView R) (e : Entry R) (w : EngineView R) : Type 0 where
@@ -225,7 +225,7 @@ alone g v w e ev is taken u a = record {
   forgotten_is = a.forgotten_is ∙ sym (same_numbers ev v.forgotten a.none_moves) ∙ ap (λ x. numbers_by x v.forgotten) (sym is);
   limit_is = a.limit_is ∙ ap (limit_by v.limit) (sym is);
   frames_are = a.frames_are ∙ ap (own_frames v.connection.local_open) (sym is) ∙ sym (append-nil (own_frames v.connection.local_open (event e)))
-      ∙ sym (ap (λ (cs : List (session.Entry _)). own_frames v.connection.local_open (event e) ++ sent (calls_frames cs)) u.1);
+      ∙ sym (ap (λ (cs : List (session.SessionCall _)). own_frames v.connection.local_open (event e) ++ sent (calls_frames cs)) u.1);
   session_frames = λ n r. absurd (some_none (sym r ∙ u.0));
 }
 
@@ -305,8 +305,8 @@ calls_none g v w k e ev n is m nb l o idle fe u =
       effect = inl (subst NoneMoves (sym is) nb, inl (record { sessions_is = ap (λ (x : EngineView _). x.sessions) u.same; no_calls = u.no_calls; none_reached = inr u.refused }));
       forgotten_is = ap (λ (x : EngineView _). x.forgotten) u.same ∙ sym (same_numbers ev v.forgotten nb) ∙ ap (λ x. numbers_by x v.forgotten) (sym is);
       limit_is = ap (λ (x : EngineView _). x.limit) u.same ∙ sym l ∙ ap (limit_by v.limit) (sym is);
-      frames_are = none ∙ sym (ap (λ (fs : List Frame). fs ++ sent (calls_frames e.calls)) own ∙ ap (λ (cs : List (session.Entry _)). sent (calls_frames cs)) u.no_calls);
-      session_frames = λ m r. none ∙ sym (ap (λ (cs : List (session.Entry _)). sent (calls_frames cs)) u.no_calls);
+      frames_are = none ∙ sym (ap (λ (fs : List Frame). fs ++ sent (calls_frames e.calls)) own ∙ ap (λ (cs : List (session.SessionCall _)). sent (calls_frames cs)) u.no_calls);
+      session_frames = λ m r. none ∙ sym (ap (λ (cs : List (session.SessionCall _)). sent (calls_frames cs)) u.no_calls);
     }
 
 -- a request on a session

@@ -130,11 +130,11 @@ route c H = route_from c None H
 
 -- ---- sessions
 
-abbrev pub calls_at : {R : Type 0} → ℕ → Entry R → List (session.Entry R)
+abbrev pub calls_at : {R : Type 0} → ℕ → Entry R → List (session.SessionCall R)
 calls_at n e = cond (is_number n e.reached) e.calls []
 
 -- the history of session n: the calls of it, in order
-abbrev pub of_session : {R : Type 0} → ℕ → List (Entry R) → List (session.Entry R)
+abbrev pub of_session : {R : Type 0} → ℕ → List (Entry R) → List (session.SessionCall R)
 of_session n [] = []
 of_session n (e ∷ es) = calls_at n e ++ of_session n es
 

@@ -36,7 +36,7 @@ use Rattle.amqp_engine.specs.declared.engine.step_error.StepError.TheVariants as
 
 -- the calls of a session in this state, with their answers, and the refusal
 abbrev pub Calls : Type 0 → Type 1
-Calls R = SessionState → List (session.Entry R) → Option StepError → Type 0
+Calls R = SessionState → List (session.SessionCall R) → Option StepError → Type 0
 
 -- ---- refusals
 
@@ -63,7 +63,7 @@ end_reason None = stop.Ended
 end_reason (Some e) = stop.EndedWithError
 
 -- an End that goes out is recorded
-abbrev pub recorded_end : {R : Type 0} → Option ErrorModel → Result SessionFrame SessionStateError → List (session.Entry R)
+abbrev pub recorded_end : {R : Type 0} → Option ErrorModel → Result SessionFrame SessionStateError → List (session.SessionCall R)
 recorded_end error (Ok f) = session.RecordsStop (end_reason error) ∷ []
 recorded_end error (Err e) = []
 
@@ -121,7 +121,7 @@ is_end_received (Some at.EndReceived) = true
 is_end_received next = false
 
 -- it is recorded then
-abbrev pub recorded_remote_end : {R : Type 0} → Bool → Option ErrorModel → List (session.Entry R)
+abbrev pub recorded_remote_end : {R : Type 0} → Bool → Option ErrorModel → List (session.SessionCall R)
 recorded_remote_end true error = session.RecordsStop (remote_end_reason error) ∷ []
 recorded_remote_end false error = []
 
@@ -136,7 +136,7 @@ ReceivedAttachCalls a s calls refusal = (asked : Option (AttachQuestion _)) × (
 
 -- the detach that a relay answers goes out, and the peer is to answer it no more
 abbrev pub answer_to : {R : Type 0} → Result (Option DetachModel) SessionInnerError →
-    Result (Option SessionFrame) SessionInnerError → List (session.Entry R)
+    Result (Option SessionFrame) SessionInnerError → List (session.SessionCall R)
 answer_to (Ok (Some d)) sent = session.SendsDetach d false sent ∷ []
 answer_to (Ok None) sent = []
 answer_to (Err e) sent = []
@@ -157,20 +157,20 @@ echoes_of (Ok None) = []
 echoes_of (Err e) = []
 
 -- each of them goes out, in order
-abbrev pub SentEach : {R : Type 0} → List DispositionModel → List (session.Entry R) → Type 0
+abbrev pub SentEach : {R : Type 0} → List DispositionModel → List (session.SessionCall R) → Type 0
 SentEach [] calls = calls ≡ []
-SentEach {R} (d ∷ ds) calls = (terminal : Bool) × (f : SessionFrame) × (others : List (session.Entry R))
+SentEach {R} (d ∷ ds) calls = (terminal : Bool) × (f : SessionFrame) × (others : List (session.SessionCall R))
     × (calls ≡ session.SendsDisposition d terminal f ∷ others) × SentEach ds others
 
 abbrev pub ReceivedDispositionCalls : {R : Type 0} → DispositionModel → Calls R
 ReceivedDispositionCalls d s calls refusal =
     (asked : List (DispositionQuestion _)) × (result : Result (Option (List DispositionModel)) SessionInnerError)
-    × (sent : List (session.Entry _)) × SentEach (echoes_of result) sent
+    × (sent : List (session.SessionCall _)) × SentEach (echoes_of result) sent
     × (calls ≡ session.TakesDisposition d asked result ∷ sent) × (refusal ≡ session_refusal result)
 
 -- after a transfer that is accepted, the session is asked for a flow of its own
 abbrev pub flow_after : {R : Type 0} → Result (Option DispositionModel) SessionInnerError → Option SessionOutgoingItem →
-    List (session.Entry R)
+    List (session.SessionCall R)
 flow_after (Ok d) item = session.SendsSessionFlow item ∷ []
 flow_after (Err e) item = []
 

@@ -74,8 +74,8 @@ ReceivedCloseStep v c refusal w =
     (k : ConnectionView) × IncomingCloseStep v c refusal k × (w ≡ recorded (takes_close v.state) (remote_reason c.error) k)
 
 abbrev pub ReceivedClose : {R : Type 0} → EngineView R → CloseModel → Option StepError → EngineView R → Type 0
-ReceivedClose v c refusal w = (told : Option ConnectionStateError) × (k : ConnectionView) × ReceivedCloseStep v.connection c told k
-    × (refusal ≡ option_map (λ e. no.ConnectionState e) told) × (w ≡ record v { connection = k })
+ReceivedClose v c refusal w = (error : Option ConnectionStateError) × (k : ConnectionView) × ReceivedCloseStep v.connection c error k
+    × (refusal ≡ option_map (λ e. no.ConnectionState e) error) × (w ≡ record v { connection = k })
 
 -- ---- received frames of sessions
 
@@ -87,7 +87,7 @@ Finds v c b found w = RouteStep v c found w
 
 -- ---- received frames
 
-abbrev pub ReceivedFrame : {R : Type 0} → Relays R → EngineView R → ℕ → FrameBody → Option ℕ → List (session.Entry R) →
+abbrev pub ReceivedFrame : {R : Type 0} → Relays R → EngineView R → ℕ → FrameBody → Option ℕ → List (session.SessionCall R) →
     Option StepError → EngineView R → Type 0
 ReceivedFrame g v c body.Empty reached calls refusal w = Nothing v reached calls w × (refusal ≡ None)
 ReceivedFrame g v c (body.Open o) reached calls refusal w = Untouched reached calls × ReceivedOpen v o refusal w
@@ -115,14 +115,14 @@ NoneReceived bytes refusal = ⊥
 
 -- The fields of this kind say no body that was received, or they say one.
 abbrev pub ReceivedOf : {R : Type 0} → Relays R → EngineView R → ℕ → Option Kind → List ℕ → Option Frame → Option ℕ →
-    List (session.Entry R) → Option StepError → EngineView R → Type 0
+    List (session.SessionCall R) → Option StepError → EngineView R → Type 0
 ReceivedOf g v c k fields received reached calls refusal w =
     (NoneReceivedOf k fields refusal × (received ≡ None) × Nothing v reached calls w)
     ⊎ ((b : FrameBody) × (rest : List ℕ) × IsBodyOf k b fields rest × (received ≡ Some (record { channel = c; body = b }))
     × ReceivedFrame g v c b reached calls refusal w)
 
 -- The bytes hold no frame that was received, or they hold one.
-abbrev pub Received : {R : Type 0} → Relays R → EngineView R → List ℕ → Option Frame → Option ℕ → List (session.Entry R) →
+abbrev pub Received : {R : Type 0} → Relays R → EngineView R → List ℕ → Option Frame → Option ℕ → List (session.SessionCall R) →
     Option StepError → EngineView R → Type 0
 Received g v bytes received reached calls refusal w =
     (NoneReceived bytes refusal × (received ≡ None) × Nothing v reached calls w)
@@ -136,7 +136,7 @@ left i refusal m = record m { outcomes = outcomes_without i refusal m.outcomes }
 -- some body stands in the fields and is received, or none stands there
 abbrev pub FieldsStep : {R : Type 0} → Relays R → EngineView R → ℕ → Option Kind → List ℕ → Option StepError → EngineView R → Type 0
 FieldsStep g v c k fields refusal w =
-    (received : Option Frame) × (reached : Option ℕ) × (calls : List (session.Entry _))
+    (received : Option Frame) × (reached : Option ℕ) × (calls : List (session.SessionCall _))
     × ReceivedOf g v c k fields received reached calls refusal w
 
 -- what is kept of an answer, beside what was done
@@ -146,53 +146,53 @@ kept received reached refusal m = record m { outcomes = outcomes_by received rea
 -- so it is, and the outcome is kept
 abbrev pub FieldsKept : {R : Type 0} → Relays R → EngineView R → ℕ → Option Kind → List ℕ → Option StepError → EngineView R → Type 0
 FieldsKept g v c k fields refusal w =
-    (received : Option Frame) × (reached : Option ℕ) × (calls : List (session.Entry _)) × (m : EngineView _)
+    (received : Option Frame) × (reached : Option ℕ) × (calls : List (session.SessionCall _)) × (m : EngineView _)
     × ReceivedOf g v c k fields received reached calls refusal m × (w ≡ kept received reached refusal m)
 
 -- some frame stands in the bytes and is received, or none stands there; the outcome is kept
 abbrev pub ReceivedStep : {R : Type 0} → Relays R → EngineView R → List ℕ → Option StepError → EngineView R → Type 0
 ReceivedStep g v bytes refusal w =
-    (received : Option Frame) × (reached : Option ℕ) × (calls : List (session.Entry _)) × (m : EngineView _)
+    (received : Option Frame) × (reached : Option ℕ) × (calls : List (session.SessionCall _)) × (m : EngineView _)
     × Received g v bytes received reached calls refusal m × (w ≡ kept received reached refusal m)
 
 -- ---- a step
 
-abbrev pub Carries : {R : Type 0} → Relays R → EngineView R → Input R → Option Frame → Option ℕ → List (session.Entry R) →
+abbrev pub InputStep : {R : Type 0} → Relays R → EngineView R → Input R → Option Frame → Option ℕ → List (session.SessionCall R) →
     Option StepError → EngineView R → Type 0
-Carries g v (input.Received bytes) received reached calls refusal w = Received g v bytes received reached calls refusal w
-Carries g v input.Open received reached calls refusal w = (received ≡ None) × Untouched reached calls × OpenRequest v refusal w
-Carries g v (input.Close error) received reached calls refusal w =
+InputStep g v (input.Received bytes) received reached calls refusal w = Received g v bytes received reached calls refusal w
+InputStep g v input.Open received reached calls refusal w = (received ≡ None) × Untouched reached calls × OpenRequest v refusal w
+InputStep g v (input.Close error) received reached calls refusal w =
     (received ≡ None) × Untouched reached calls × CloseRequest v error refusal w
-Carries g v (input.Begin n settings) received reached calls refusal w =
+InputStep g v (input.Begin n settings) received reached calls refusal w =
     (received ≡ None) × BeginRequest g v n.0 settings reached calls refusal w
-Carries g v (input.Release n) received reached calls refusal w = (received ≡ None) × ReleaseRequest v n.0 reached calls refusal w
-Carries g v (input.Forget n) received reached calls refusal w = (received ≡ None) × ForgetRequest v n.0 reached calls refusal w
-Carries g v (input.End n error) received reached calls refusal w =
+InputStep g v (input.Release n) received reached calls refusal w = (received ≡ None) × ReleaseRequest v n.0 reached calls refusal w
+InputStep g v (input.Forget n) received reached calls refusal w = (received ≡ None) × ForgetRequest v n.0 reached calls refusal w
+InputStep g v (input.End n error) received reached calls refusal w =
     (received ≡ None) × Does g v n.0 (request_calls (input.End n error)) reached calls refusal w
-Carries g v (input.AllocateLink n name relay) received reached calls refusal w =
+InputStep g v (input.AllocateLink n name relay) received reached calls refusal w =
     (received ≡ None) × Does g v n.0 (request_calls (input.AllocateLink n name relay)) reached calls refusal w
-Carries g v (input.AllocateIncomingLink n name relay h) received reached calls refusal w =
+InputStep g v (input.AllocateIncomingLink n name relay h) received reached calls refusal w =
     (received ≡ None) × Does g v n.0 (request_calls (input.AllocateIncomingLink n name relay h)) reached calls refusal w
-Carries g v (input.Attach n a) received reached calls refusal w =
+InputStep g v (input.Attach n a) received reached calls refusal w =
     (received ≡ None) × Does g v n.0 (request_calls (input.Attach n a)) reached calls refusal w
-Carries g v (input.Detach n d expects_echo) received reached calls refusal w =
+InputStep g v (input.Detach n d expects_echo) received reached calls refusal w =
     (received ≡ None) × Does g v n.0 (request_calls (input.Detach n d expects_echo)) reached calls refusal w
-Carries g v (input.Flow n l) received reached calls refusal w =
+InputStep g v (input.Flow n l) received reached calls refusal w =
     (received ≡ None) × Does g v n.0 (request_calls (input.Flow n l)) reached calls refusal w
-Carries g v (input.Transfer n h t payload first) received reached calls refusal w =
+InputStep g v (input.Transfer n h t payload first) received reached calls refusal w =
     (received ≡ None) × Does g v n.0 (request_calls (input.Transfer n h t payload first)) reached calls refusal w
-Carries g v (input.Disposition n d) received reached calls refusal w =
+InputStep g v (input.Disposition n d) received reached calls refusal w =
     (received ≡ None) × Does g v n.0 (request_calls (input.Disposition n d)) reached calls refusal w
-Carries g v (input.Settle n role first last) received reached calls refusal w =
+InputStep g v (input.Settle n role first last) received reached calls refusal w =
     (received ≡ None) × Does g v n.0 (request_calls (input.Settle n role first last)) reached calls refusal w
-Carries g v (input.Stop n reason) received reached calls refusal w =
+InputStep g v (input.Stop n reason) received reached calls refusal w =
     (received ≡ None) × Does g v n.0 (request_calls (input.Stop n reason)) reached calls refusal w
 
 -- the input is carried out, and the outcome is kept
 abbrev pub CarriedStep : {R : Type 0} → Relays R → EngineView R → Input R → Option StepError → EngineView R → Type 0
 CarriedStep g v i refusal w =
-    (received : Option Frame) × (reached : Option ℕ) × (calls : List (session.Entry _)) × (m : EngineView _)
-    × Carries g v i received reached calls refusal m × (w ≡ left i refusal (kept received reached refusal m))
+    (received : Option Frame) × (reached : Option ℕ) × (calls : List (session.SessionCall _)) × (m : EngineView _)
+    × InputStep g v i received reached calls refusal m × (w ≡ left i refusal (kept received reached refusal m))
 
 -- what waits stops all else
 abbrev pub WaitingStep : {R : Type 0} → EngineView R → Entry R → EngineView R → Type 0
@@ -203,7 +203,7 @@ WaitingStep v e w =
 -- Where nothing waits, the frames handed out are those that wait then. What is kept for handles stays.
 abbrev pub Step : {R : Type 0} → Relays R → EngineView R → Entry R → EngineView R → Type 0
 Step g v e w =
-    WaitingStep v e w ⊎ ((v.waiting ≡ []) × (e.frames ≡ w.waiting) × Carries g v e.input e.received e.reached e.calls e.refusal w)
+    WaitingStep v e w ⊎ ((v.waiting ≡ []) × (e.frames ≡ w.waiting) × InputStep g v e.input e.received e.reached e.calls e.refusal w)
 
 -- then the outcome of the entry is kept
 abbrev pub Keeps : {R : Type 0} → Entry R → EngineView R → EngineView R → Type 0
@@ -213,7 +213,7 @@ Keeps e m w = w ≡ left e.input e.refusal (kept e.received e.reached e.refusal 
 pub record Steps {R : Type 0} (g : Relays R) (v : EngineView R) (i : Input R) (refusal : Option StepError) (w : EngineView R) : Type 0 where
   pub received : Option Frame
   pub reached : Option ℕ
-  pub calls : List (session.Entry R)
+  pub calls : List (session.SessionCall R)
   pub frames : List Frame
   pub done : EngineView R
   pub step : Step g v (record { input = i; received = received; reached = reached; calls = calls; refusal = refusal; frames = frames }) done

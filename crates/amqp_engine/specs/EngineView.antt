@@ -5,7 +5,7 @@ use Rattle.std.specs.Option.{option_map}
 use Rattle.amqp_types.specs.declared.states.ConnectionState.{ConnectionState}
 use Rattle.amqp_types.specs.Open.{OpenModel}
 use Rattle.amqp_session.specs.declared.deliveries.WalkCount.{WalkCount}
-use Rattle.amqp_session.specs.Session.{SessionView, Observed}
+use Rattle.amqp_session.specs.Session.{SessionView, SessionModel}
 use Rattle.amqp_session.specs.declared.numbers.OutputHandle.{OutputHandle}
 use Rattle.amqp_session.specs.Linking.{named_at}
 use Rattle.amqp_frames.specs.declared.frame.Frame.{Frame}
@@ -31,11 +31,11 @@ pub record EngineView (R : Type 0) : Type 0 where
   pub wishes : Wishes
 
 -- the sessions without the counts of their walks
-abbrev pub views_of : {R : Type 0} → List (ℕ × Observed R) → List (ℕ × SessionView R)
+abbrev pub views_of : {R : Type 0} → List (ℕ × SessionModel R) → List (ℕ × SessionView R)
 views_of es = map (λ e. (e.0, e.1.view)) es
 
 -- those counts
-abbrev pub walks_of : {R : Type 0} → List (ℕ × Observed R) → List (ℕ × WalkCount)
+abbrev pub walks_of : {R : Type 0} → List (ℕ × SessionModel R) → List (ℕ × WalkCount)
 walks_of es = map (λ e. (e.0, e.1.last_walk)) es
 
 -- ---- the limit of a piece: the size that a side allows, without the size field; no peer may ask for less than 512 bytes

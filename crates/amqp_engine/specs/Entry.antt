@@ -13,6 +13,6 @@ pub record Entry (R : Type 0) : Type 0 where
   pub input : Input R
   pub received : Option Frame
   pub reached : Option ℕ
-  pub calls : List (session.Entry R)
+  pub calls : List (session.SessionCall R)
   pub refusal : Option StepError
   pub frames : List Frame

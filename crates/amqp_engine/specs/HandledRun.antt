@@ -41,21 +41,21 @@ ClosesLast w None w' = w'.close ≡ w.close
 ClosesLast w (Some error) w' = (w.close ≡ Some error) × NoWishes w'
 
 -- Wishes are heard, each as its request: the Ends by rising number, and then the Close. Those not yet come to stay.
-pub record Hears {R : Type 0} (w : Wishes) (heard : List (Entry R)) (w' : Wishes) : Type 0 where
+pub record Flushes {R : Type 0} (w : Wishes) (flushed : List (Entry R)) (w' : Wishes) : Type 0 where
   pub ends : List (ℕ × Option ErrorModel)
   pub close : Option (Option ErrorModel)
   pub ends_first : finite.entries w.ends ≡ ends ++ finite.entries w'.ends
   pub close_last : ClosesLast w close w'
-  pub are : inputs_of heard ≡ map end_request ends ++ close_requests close
+  pub are : inputs_of flushed ≡ map end_request ends ++ close_requests close
 
 -- A run of a handled engine is a run of the wishes that are accepted, and of the inputs.
 pub record HandledRan {R : Type 0} (g : Relays R) (v : EngineView R) (inputs : List (Input R)) (answers : List Answer)
     (v' : EngineView R) (inputs' : List (Input R)) (answers' : List Answer) : Type 0 where
-  pub heard : List (Entry R)
-  pub hears : Hears v.wishes heard v'.wishes
-  pub ran : Ran g (accepted heard) v inputs answers v' inputs' answers'
+  pub flushed : List (Entry R)
+  pub flushes : Flushes v.wishes flushed v'.wishes
+  pub ran : Ran g (accepted flushed) v inputs answers v' inputs' answers'
   -- what is heard is asked for when nothing waits, also what is refused: that changes nothing, and leaves no answer
-  pub all_taken : All IsTaken heard
-  pub asked : Chain g v (heard ++ ran.entries) v'
+  pub all_taken : All IsTaken flushed
+  pub asked : Chain g v (flushed ++ ran.entries) v'
   -- no input is taken before all wishes were heard
   pub wishes_first : (ran.entries ≡ []) ⊎ NoWishes v'.wishes

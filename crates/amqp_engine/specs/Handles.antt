@@ -33,17 +33,17 @@ is_end s = false
 
 -- closed at both ends
 abbrev pub is_closed : {R : Type 0} → Bool → EngineView R → Bool
-is_closed told v = told || is_end v.connection.state
+is_closed answered v = answered || is_end v.connection.state
 
 abbrev pub close_answer_of : CloseOutcome → CloseAnswer
 close_answer_of (Ok u) = Ok u
 close_answer_of (Err e) = Err (error_of_state e)
 
 -- What is told: nothing before the state is End; then the outcome, once.
-abbrev pub close_told : ConnectionState → Option CloseOutcome → Option CloseAnswer
-close_told at.End None = Some (Err unclosed.IllegalState)
-close_told at.End (Some o) = Some (close_answer_of o)
-close_told s o = None
+abbrev pub close_answer_at : ConnectionState → Option CloseOutcome → Option CloseAnswer
+close_answer_at at.End None = Some (Err unclosed.IllegalState)
+close_answer_at at.End (Some o) = Some (close_answer_of o)
+close_answer_at s o = None
 
 abbrev pub close_noted : {R : Type 0} → Option ErrorModel → EngineView R → EngineView R
 close_noted error v = record v { wishes = close_wished error v.wishes }
@@ -57,20 +57,20 @@ CloseCall true error v answer w = (answer ≡ Err unclosed.IllegalState) × (w �
 CloseCall false error v answer w = (answer ≡ Ok tt) × (w ≡ close_noted error v)
 
 abbrev pub TriesClose : {R : Type 0} → Option CloseAnswer → EngineView R → Result CloseAnswer TryCloseError → Bool → EngineView R → Type 0
-TriesClose None v answer told w = (answer ≡ Err not_closed.RemoteCloseNotReceived) × (told ≡ false) × (w ≡ v)
-TriesClose (Some o) v answer told w = (answer ≡ Ok o) × (told ≡ true) × (w ≡ close_taken v)
+TriesClose None v answer answered w = (answer ≡ Err not_closed.RemoteCloseNotReceived) × (answered ≡ false) × (w ≡ v)
+TriesClose (Some o) v answer answered w = (answer ≡ Ok o) × (answered ≡ true) × (w ≡ close_taken v)
 
 -- A Close is wished where none is, and the outcome is told, where there is one.
 abbrev pub TryCloseCall : {R : Type 0} → Bool → EngineView R → Result CloseAnswer TryCloseError → Bool → EngineView R → Type 0
-TryCloseCall true v answer told w = (answer ≡ Err not_closed.AlreadyClosed) × (told ≡ true) × (w ≡ v)
-TryCloseCall false v answer told w =
-    TriesClose (close_told v.connection.state v.outcomes.connection) (close_noted None v) answer told w
+TryCloseCall true v answer answered w = (answer ≡ Err not_closed.AlreadyClosed) × (answered ≡ true) × (w ≡ v)
+TryCloseCall false v answer answered w =
+    TriesClose (close_answer_at v.connection.state v.outcomes.connection) (close_noted None v) answer answered w
 
 -- ---- of a session: a handle sees its number, and whether it was told the outcome
 
 pub record SessionHandleView : Type 0 where
   pub number : ℕ
-  pub told : Bool
+  pub answered : Bool
 
 abbrev pub EndAnswer : Type 0
 EndAnswer = Result (Unit {0}) ended.Error
@@ -85,17 +85,17 @@ has_ended None = true
 has_ended (Some s) = is_unmapped s.state
 
 abbrev pub is_ended : {R : Type 0} → SessionHandleView → EngineView R → Bool
-is_ended h v = h.told || has_ended (lookup (nat_eq h.number) v.sessions)
+is_ended h v = h.answered || has_ended (lookup (nat_eq h.number) v.sessions)
 
 abbrev pub end_answer_of : EndOutcome → EndAnswer
 end_answer_of (Ok u) = Ok u
 end_answer_of (Err e) = Err (session.error_of_state e)
 
 -- What is told: nothing before the state is Unmapped; then the outcome, once.
-abbrev pub end_told : SessionState → Option EndOutcome → Option EndAnswer
-end_told stands.Unmapped None = Some (Err unended.IllegalState)
-end_told stands.Unmapped (Some o) = Some (end_answer_of o)
-end_told s o = None
+abbrev pub end_answer_at : SessionState → Option EndOutcome → Option EndAnswer
+end_answer_at stands.Unmapped None = Some (Err unended.IllegalState)
+end_answer_at stands.Unmapped (Some o) = Some (end_answer_of o)
+end_answer_at s o = None
 
 abbrev pub end_noted : {R : Type 0} → ℕ → Option ErrorModel → EngineView R → EngineView R
 end_noted n error v = record v { wishes = end_wished n error v.wishes }
@@ -111,20 +111,20 @@ WishesEnd n (Some s) error v answer w = (answer ≡ Ok tt) × (w ≡ end_noted n
 -- so it is, unless the outcome was told
 abbrev pub EndCall : {R : Type 0} → SessionHandleView → Option ErrorModel → EngineView R → EndAnswer → EngineView R → Type 0
 EndCall h error v answer w =
-    (h.told ≡ true → (answer ≡ Err unended.IllegalState) × (w ≡ v))
-    × (h.told ≡ false → WishesEnd h.number (lookup (nat_eq h.number) v.sessions) error v answer w)
+    (h.answered ≡ true → (answer ≡ Err unended.IllegalState) × (w ≡ v))
+    × (h.answered ≡ false → WishesEnd h.number (lookup (nat_eq h.number) v.sessions) error v answer w)
 
 abbrev pub TriesEnd : {R : Type 0} → ℕ → Option EndAnswer → EngineView R → Result EndAnswer TryEndError → Bool → EngineView R → Type 0
-TriesEnd n None v answer told w = (answer ≡ Err not_ended.RemoteEndNotReceived) × (told ≡ false) × (w ≡ v)
-TriesEnd n (Some o) v answer told w = (answer ≡ Ok o) × (told ≡ true) × (w ≡ end_taken n v)
+TriesEnd n None v answer answered w = (answer ≡ Err not_ended.RemoteEndNotReceived) × (answered ≡ false) × (w ≡ v)
+TriesEnd n (Some o) v answer answered w = (answer ≡ Ok o) × (answered ≡ true) × (w ≡ end_taken n v)
 
 -- An End is wished where none is, and the outcome is told, where there is one; of a number that was never begun, IllegalState.
 abbrev pub AsksEnd : {R : Type 0} → ℕ → Option (SessionView R) → EngineView R → Result EndAnswer TryEndError → Bool → EngineView R → Type 0
-AsksEnd n None v answer told w = (answer ≡ Ok (Err unended.IllegalState)) × (told ≡ true) × (w ≡ v)
-AsksEnd n (Some s) v answer told w = TriesEnd n (end_told s.state (map.get v.outcomes.sessions n)) (end_noted n None v) answer told w
+AsksEnd n None v answer answered w = (answer ≡ Ok (Err unended.IllegalState)) × (answered ≡ true) × (w ≡ v)
+AsksEnd n (Some s) v answer answered w = TriesEnd n (end_answer_at s.state (map.get v.outcomes.sessions n)) (end_noted n None v) answer answered w
 
 abbrev pub TryEndCall : {R : Type 0} →
     SessionHandleView → EngineView R → Result EndAnswer TryEndError → SessionHandleView → EngineView R → Type 0
 TryEndCall h v answer h' w =
-    (h'.number ≡ h.number) × (h.told ≡ true → (answer ≡ Err not_ended.AlreadyEnded) × (h'.told ≡ true) × (w ≡ v))
-    × (h.told ≡ false → AsksEnd h.number (lookup (nat_eq h.number) v.sessions) v answer h'.told w)
+    (h'.number ≡ h.number) × (h.answered ≡ true → (answer ≡ Err not_ended.AlreadyEnded) × (h'.answered ≡ true) × (w ≡ v))
+    × (h.answered ≡ false → AsksEnd h.number (lookup (nat_eq h.number) v.sessions) v answer h'.answered w)

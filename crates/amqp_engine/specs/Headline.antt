@@ -108,8 +108,8 @@ abbrev pub AllKnown : {R : Type 0} → List (Entry R) → Type 0
 AllKnown H = Each H (λ before e. (f : Frame) → e.received ≡ Some f → ¬ (e.refusal ≡ Some no.NoSession))
 
 -- where memory was refused before, no session is reached, and nothing goes out
-abbrev pub RanShort : {R : Type 0} → List (Entry R) → Type 0
-RanShort H = Each H (λ before e. e.refusal ≡ Some no.OutOfMemory → (e.reached ≡ None) × (e.frames ≡ []))
+abbrev pub OutOfMemoryIsInert : {R : Type 0} → List (Entry R) → Type 0
+OutOfMemoryIsInert H = Each H (λ before e. e.refusal ≡ Some no.OutOfMemory → (e.reached ≡ None) × (e.frames ≡ []))
 
 -- no session holds two channels
 abbrev pub HeldOnce : {R : Type 0} → List (Entry R) → Type 0
@@ -172,7 +172,7 @@ pub record Headline {R : Type 0} (s : ConnectionState) (o : OpenModel) (H : List
   pub frames_reach : FramesReach s H
   pub routes_follow : RoutesFollow H
   pub all_known : AllKnown H
-  pub ran_short : RanShort H
+  pub ran_short : OutOfMemoryIsInert H
   pub held_once : HeldOnce H
   -- what reaches a session is what is asked of it, and what goes out is what it hands out
   pub all_asked : AllAsked H

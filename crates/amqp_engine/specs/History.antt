@@ -28,7 +28,7 @@ pub record OutcomesTaken {R : Type 0} (v w : EngineView R) : Type 0 where
       (map.get w.outcomes.sessions n ≡ map.get v.outcomes.sessions n) ⊎ (IsEnded n v × (map.get w.outcomes.sessions n ≡ None))
 
 -- Frames that waited left from the front, and handles took outcomes; connection and sessions stayed. Wishes are no part of it.
-pub record Taken {R : Type 0} (v w : EngineView R) : Type 0 where
+pub record OutputTaken {R : Type 0} (v w : EngineView R) : Type 0 where
   pub gone : List Frame
   pub left : v.waiting ≡ gone ++ w.waiting
   pub connection_is : w.connection ≡ v.connection
@@ -39,16 +39,16 @@ pub record Taken {R : Type 0} (v w : EngineView R) : Type 0 where
 
 -- frames that waited left from the front, and nothing else changed
 pub record OnlyLeft {R : Type 0} (v w : EngineView R) : Type 0 where
-  pub taken : Taken v w
+  pub taken : OutputTaken v w
   pub outcomes_stay : w.outcomes ≡ v.outcomes
   pub wishes_stay : w.wishes ≡ v.wishes
 
 -- a chain of steps, of each of which the outcome is kept; between and after them waiting frames leave from the front, and
 -- handles take outcomes
 abbrev pub Chain : {R : Type 0} → Relays R → EngineView R → List (Entry R) → EngineView R → Type 0
-Chain g v [] w = Taken v w
+Chain g v [] w = OutputTaken v w
 Chain g v (e ∷ es) w = (u : EngineView _) × (m : EngineView _) × (n : EngineView _)
-    × Taken v u × Step g u e m × Keeps e m n × Chain g n es w
+    × OutputTaken v u × Step g u e m × Keeps e m n × Chain g n es w
 
 -- a legal history of an engine that was new in this state and with this Open
 abbrev pub LeadsTo : {R : Type 0} → Relays R → ConnectionState → OpenModel → List (Entry R) → EngineView R → Type 0

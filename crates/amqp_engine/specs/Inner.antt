@@ -1,5 +1,5 @@
 -- What the contracts of private functions cite, and no public one does.
 pub mod Running
-pub mod Hearing
+pub mod Flushing
 pub mod Places
 pub mod Putting

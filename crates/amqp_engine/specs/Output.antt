@@ -40,10 +40,10 @@ pub record PutOut (limit : ℕ) (waiting waiting' : List Frame) (outs : List Ans
 
 -- All that waited is put out; then come the answer of the first entry and its frames, and so on. After the last entry a
 -- front of its frames is put out, and the others wait.
-abbrev pub Speaks : {R : Type 0} → ℕ → List Frame → List (Entry R) → List Frame → List Answer → Type 0
-Speaks limit waiting [] waiting' out = PutOut limit waiting waiting' out
-Speaks limit waiting (e ∷ es) waiting' out = (first : List Answer) × (rest : List Answer) × (out ≡ first ++ (answer_of e.refusal ∷ rest))
-    × IsOuts limit waiting first × Speaks (limit_by limit (event e)) e.frames es waiting' rest
+abbrev pub OutputOf : {R : Type 0} → ℕ → List Frame → List (Entry R) → List Frame → List Answer → Type 0
+OutputOf limit waiting [] waiting' out = PutOut limit waiting waiting' out
+OutputOf limit waiting (e ∷ es) waiting' out = (first : List Answer) × (rest : List Answer) × (out ≡ first ++ (answer_of e.refusal ∷ rest))
+    × IsOuts limit waiting first × OutputOf (limit_by limit (event e)) e.frames es waiting' rest
 
 -- ---- one frame at a time
 

@@ -13,7 +13,7 @@ use Rattle.amqp_engine.specs.Entry.{Entry}
 use Rattle.amqp_engine.specs.ByHistory.{limit_after}
 use Rattle.amqp_engine.specs.Headline.{Headline}
 use Rattle.amqp_engine.specs.Legal.{Legal}
-use Rattle.amqp_engine.specs.Output.{Speaks}
+use Rattle.amqp_engine.specs.Output.{OutputOf}
 
 abbrev pub inputs_of : {R : Type 0} → List (Entry R) → List (Input R)
 inputs_of [] = []
@@ -38,7 +38,7 @@ pub record Promise {R : Type 0} (g : Relays R) (wished entries : List (Entry R))
   -- what is appended to the answers is what waited and the output of the entries, but for the frames that wait now
   pub out : List Answer
   pub appended : answers' ≡ answers ++ out
-  pub said : Speaks v.limit v.waiting (wished ++ entries) v'.waiting out
+  pub said : OutputOf v.limit v.waiting (wished ++ entries) v'.waiting out
   -- by the limit after them a later call goes on
   pub limit_is : v'.limit ≡ limit_after v.limit (wished ++ entries)
   -- the history goes on by them

@@ -15,7 +15,7 @@ use Rattle.amqp_frames.specs.declared.frame.Frame.{Frame}
 use Rattle.amqp_session.specs.Relay.{Relays}
 use Rattle.amqp_session.specs.Settings.{SettingsModel}
 use Rattle.amqp_session.specs.declared.deliveries.WalkCount.{WalkCount}
-use Rattle.amqp_session.specs.Session.{SessionView, Observed, new_session}
+use Rattle.amqp_session.specs.Session.{SessionView, SessionModel, new_session}
 use Rattle.amqp_session.specs.Step.{StopStep, SendBeginStep}
 use Rattle.amqp_session.specs.OutgoingFrames.{calls_frames}
 use Rattle.amqp_session.specs.History as session
@@ -43,27 +43,27 @@ comes_to_end before after = false
 -- The session was asked, made these calls, and answered. What it handed out waits.
 pub record Answered {R : Type 0} (g : Relays R) (v : SessionView R) (asks : Calls R) (refusal : Option StepError)
     (waiting : List Frame) (w : SessionView R) : Type 0 where
-  pub calls : List (session.Entry R)
+  pub calls : List (session.SessionCall R)
   pub asked : asks v.state calls refusal
-  pub steps : session.Chain g v calls w
+  pub steps : session.SessionChain g v calls w
   pub handed_out : waiting ≡ sent (calls_frames calls)
 
 -- Each disposition goes out, in order; the session's channel stays, and each frame is on it.
 abbrev pub SendsAll : {R : Type 0} → Relays R → SessionView R → List DispositionModel → SessionView R → Type 0
-SendsAll {R} g v ds w = (calls : List (session.Entry R)) × SentEach ds calls × session.Chain g v calls w
+SendsAll {R} g v ds w = (calls : List (session.SessionCall R)) × SentEach ds calls × session.SessionChain g v calls w
     × (calls_frames calls ≡ map (disposition_frame v.outgoing_channel) ds) × (w.outgoing_channel ≡ v.outgoing_channel)
 
 -- ---- one session, among those of an engine
 
 -- Session n made these calls, and went on to another view and another walk; all else stayed. What it handed out waits.
-pub record Called {R : Type 0} (g : Relays R) (v : EngineView R) (n : ℕ) (asks : Calls R) (calls : List (session.Entry R))
+pub record Called {R : Type 0} (g : Relays R) (v : EngineView R) (n : ℕ) (asks : Calls R) (calls : List (session.SessionCall R))
     (refusal : Option StepError) (w : EngineView R) : Type 0 where
   pub before : SessionView R
   pub after : SessionView R
   pub walk : WalkCount
   pub known : lookup (nat_eq n) v.sessions ≡ Some before
   pub asked : asks before.state calls refusal
-  pub steps : session.Chain g before calls after
+  pub steps : session.SessionChain g before calls after
   pub put : w ≡ record v {
     sessions = set_value (nat_eq n) v.sessions after;
     walks = set_value (nat_eq n) v.walks walk;
@@ -71,7 +71,7 @@ pub record Called {R : Type 0} (g : Relays R) (v : EngineView R) (n : ℕ) (asks
   }
 
 -- no session has the number
-pub record Unknown {R : Type 0} (v : EngineView R) (n : ℕ) (calls : List (session.Entry R)) (refusal : Option StepError)
+pub record Unknown {R : Type 0} (v : EngineView R) (n : ℕ) (calls : List (session.SessionCall R)) (refusal : Option StepError)
     (w : EngineView R) : Type 0 where
   pub unknown : lookup (nat_eq n) v.sessions ≡ None
   pub no_calls : calls ≡ []
@@ -79,14 +79,14 @@ pub record Unknown {R : Type 0} (v : EngineView R) (n : ℕ) (calls : List (sess
   pub same : w ≡ v
 
 -- A request names session n: it reaches it, if there is one.
-abbrev pub Does : {R : Type 0} → Relays R → EngineView R → ℕ → Calls R → Option ℕ → List (session.Entry R) → Option StepError →
+abbrev pub Does : {R : Type 0} → Relays R → EngineView R → ℕ → Calls R → Option ℕ → List (session.SessionCall R) → Option StepError →
     EngineView R → Type 0
 Does g v n asks reached calls refusal w =
     ((reached ≡ Some n) × Called g v n asks calls refusal w) ⊎ ((reached ≡ None) × Unknown v n calls refusal w)
 
 -- A frame reaches the session that the connection finds, or the connection says why there is none.
 abbrev pub Reaches : {R : Type 0} → Relays R → (Result ℕ ConnectionInnerError → ConnectionView → Type 0) → EngineView R →
-    Calls R → Option ℕ → List (session.Entry R) → Option StepError → EngineView R → Type 0
+    Calls R → Option ℕ → List (session.SessionCall R) → Option StepError → EngineView R → Type 0
 Reaches g finds v asks reached calls refusal w =
     ((e : ConnectionInnerError) × (k : ConnectionView) × finds (Err e) k × (reached ≡ None) × (calls ≡ [])
     × (refusal ≡ Some (no.Connection e)) × (w ≡ record v { connection = k }))
@@ -96,7 +96,7 @@ Reaches g finds v asks reached calls refusal w =
 -- ---- a session comes, and gives its channel back
 
 -- A session that was not there is made on the channel that the connection gave, and sends its Begin.
-pub record Begun {R : Type 0} (g : Relays R) (v : EngineView R) (n : ℕ) (settings : SettingsModel) (calls : List (session.Entry R))
+pub record Begun {R : Type 0} (g : Relays R) (v : EngineView R) (n : ℕ) (settings : SettingsModel) (calls : List (session.SessionCall R))
     (w : EngineView R) : Type 0 where
   pub channel : ℕ
   pub connection : ConnectionView
@@ -107,7 +107,7 @@ pub record Begun {R : Type 0} (g : Relays R) (v : EngineView R) (n : ℕ) (setti
   pub fits : settings.next_outgoing_id < 2 ^ 32
   pub allocated : AllocateStep v.connection n (Ok channel) connection
   pub asked : BeginCalls at.Unmapped calls None
-  pub steps : session.Chain g (new_session settings channel at.Unmapped v.connection.stop_reason) calls after
+  pub steps : session.SessionChain g (new_session settings channel at.Unmapped v.connection.stop_reason) calls after
   pub put : w ≡ record v {
     connection = connection;
     sessions = v.sessions ++ (n, after) ∷ [];
@@ -116,16 +116,16 @@ pub record Begun {R : Type 0} (g : Relays R) (v : EngineView R) (n : ℕ) (setti
   }
 
 -- a new session sends its Begin; memory may be refused
-abbrev pub BegunStep : {R : Type 0} → SessionView R → Result (Observed R × SessionFrame) SessionStateError → Type 0
+abbrev pub BegunStep : {R : Type 0} → SessionView R → Result (SessionModel R × SessionFrame) SessionStateError → Type 0
 BegunStep new (Ok p) = SendBeginStep new (Ok p.1) p.0.view
 BegunStep new (Err e) = e ≡ unbegun.OutOfMemory
 
 -- no session is reached, and none is called
-abbrev pub Untouched : {R : Type 0} → Option ℕ → List (session.Entry R) → Type 0
+abbrev pub Untouched : {R : Type 0} → Option ℕ → List (session.SessionCall R) → Type 0
 Untouched reached calls = (reached ≡ None) × (calls ≡ [])
 
 -- A refusal: no session is reached, and nothing changes.
-abbrev pub Nothing : {R : Type 0} → EngineView R → Option ℕ → List (session.Entry R) → EngineView R → Type 0
+abbrev pub Nothing : {R : Type 0} → EngineView R → Option ℕ → List (session.SessionCall R) → EngineView R → Type 0
 Nothing v reached calls w = Untouched reached calls × (w ≡ v)
 
 -- A number is used for one session: of those that are there, and of those that were forgotten.
@@ -139,7 +139,7 @@ abbrev pub Used : {R : Type 0} → EngineView R → ℕ → Bool → Type 0
 Used v n true = IsUsed v n
 Used v n false = IsFresh v n
 
-abbrev pub BeginRequest : {R : Type 0} → Relays R → EngineView R → ℕ → SettingsModel → Option ℕ → List (session.Entry R) →
+abbrev pub BeginRequest : {R : Type 0} → Relays R → EngineView R → ℕ → SettingsModel → Option ℕ → List (session.SessionCall R) →
     Option StepError → EngineView R → Type 0
 BeginRequest g v n settings reached calls None w = (reached ≡ Some n) × Begun g v n settings calls w
 BeginRequest g v n settings reached calls (Some no.SessionInUse) w = Nothing v reached calls w × IsUsed v n
@@ -151,7 +151,7 @@ BeginRequest g v n settings reached calls (Some no.OutOfMemory) w = Nothing v re
 BeginRequest g v n settings reached calls (Some e) w = ⊥
 
 -- The channel of session n is given back, where it still holds it. Its route stays, and so does the session.
-abbrev pub ReleaseRequest : {R : Type 0} → EngineView R → ℕ → Option ℕ → List (session.Entry R) → Option StepError → EngineView R → Type 0
+abbrev pub ReleaseRequest : {R : Type 0} → EngineView R → ℕ → Option ℕ → List (session.SessionCall R) → Option StepError → EngineView R → Type 0
 ReleaseRequest v n reached calls None w = Untouched reached calls
     × ((s : SessionView _) × (lookup (nat_eq n) v.sessions ≡ Some s) × Holds v.connection s.outgoing_channel n
     × (w ≡ record v { connection = given_back v.connection s.outgoing_channel }))
@@ -198,7 +198,7 @@ Over v n (Some no.SessionInUse) =
 Over v n (Some e) = ⊥
 
 -- A session that is over is let go. Memory may be refused for its number.
-abbrev pub ForgetRequest : {R : Type 0} → EngineView R → ℕ → Option ℕ → List (session.Entry R) → Option StepError → EngineView R → Type 0
+abbrev pub ForgetRequest : {R : Type 0} → EngineView R → ℕ → Option ℕ → List (session.SessionCall R) → Option StepError → EngineView R → Type 0
 ForgetRequest v n reached calls None w = Untouched reached calls × Over v n None × LetsGo v n w
 ForgetRequest v n reached calls (Some no.OutOfMemory) w = Nothing v reached calls w × Over v n None
 ForgetRequest v n reached calls (Some e) w = Nothing v reached calls w × Over v n (Some e)

@@ -74,7 +74,7 @@ impl<R: LinkRelay> HandledEngine<R> {
     /// may be made.
     pub fn session_handle(&self, number: SessionNo) -> Option<SessionHandle>
         ensures known { is_some result ≡ is_some (lookup (nat_eq number.0) self.now.sessions) }
-        ensures new { IfSome result (λ h. h ≡ record { number = number.0; told = false }) }
+        ensures new { IfSome result (λ h. h ≡ record { number = number.0; answered = false }) }
     {
         match self.engine.session(number) {
             Some(_) => Some(SessionHandle::new(number)),

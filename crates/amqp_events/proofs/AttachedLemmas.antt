@@ -14,7 +14,7 @@ use Rattle.amqp_session.specs.Session.{SessionView}
 use Rattle.amqp_session.specs.Step.{FlowTaken, flow_moved}
 use Rattle.amqp_session.specs.Linking.{TakeDetachStep}
 use Rattle.amqp_session.specs.Disposing.{AsksAt, AsksEach, HasAsked, SaysStateAgain, TakeDispositionStep, behind}
-use Rattle.amqp_session.specs.History.{Entry, Made, LeadsTo, Chain, Step, SendsBegin, SendsEnd, TakesBegin, TakesEnd, AllocatesLink, AllocatesIncomingLink, DeallocatesLink, TakesAttach, TakesFlow, TakesTransfer, TakesDisposition, TakesDetach, SendsAttach, SendsFlow, SendsTransfer, SendsDisposition, SendsDetach, SendsSessionFlow, RecordsStop, Settles}
+use Rattle.amqp_session.specs.History.{SessionCall, Made, LeadsTo, SessionChain, SessionStep, SendsBegin, SendsEnd, TakesBegin, TakesEnd, AllocatesLink, AllocatesIncomingLink, DeallocatesLink, TakesAttach, TakesFlow, TakesTransfer, TakesDisposition, TakesDetach, SendsAttach, SendsFlow, SendsTransfer, SendsDisposition, SendsDetach, SendsSessionFlow, RecordsStop, Settles}
 use Rattle.amqp_session.specs.Linked.{input_at, input_from, input_by, asked_from, where_goes, speaks_of}
 use Rattle.amqp_session.specs.Headline.{Stands}
 use Rattle.amqp_session.proofs.LinkNameLemmas.{same_number}
@@ -133,8 +133,8 @@ module _ (g : Relays Queued) where
   seated true link o s = absurd cc
   seated false link o s = untold link
 
-  one_call : (e : Entry Queued) (h : ℕ) (v w : SessionView Queued) (link : AttachedLink Queued) → attached_at h v.links ≡ Some link → stays_under h e ≡ true
-      → Step g v e w → Goes link (told_by h e) (input_by h (Some link) e)
+  one_call : (e : SessionCall Queued) (h : ℕ) (v w : SessionView Queued) (link : AttachedLink Queued) → attached_at h v.links ≡ Some link → stays_under h e ≡ true
+      → SessionStep g v e w → Goes link (told_by h e) (input_by h (Some link) e)
   one_call (SendsBegin r) h v w link at s t = untold link
   one_call (SendsEnd x r) h v w link at s t = untold link
   one_call (TakesBegin c b r) h v w link at s t = untold link
@@ -172,21 +172,21 @@ module _ (g : Relays Queued) where
 
   -- ---- a history
 
-  pub chain_split : (xs ys : List (Entry Queued)) (v w : SessionView Queued) → Chain g v (xs ++ ys) w → (u : SessionView Queued) × Chain g v xs u × Chain g u ys w
+  pub chain_split : (xs ys : List (SessionCall Queued)) (v w : SessionView Queued) → SessionChain g v (xs ++ ys) w → (u : SessionView Queued) × SessionChain g v xs u × SessionChain g u ys w
   chain_split [] ys v w c = (v, refl, c)
   chain_split (x ∷ xs) ys v w c = let r = chain_split xs ys c.0 w c.2 in (r.0, (c.0, c.1, r.1), r.2)
 
-  chain_more : (xs : List (Entry Queued)) (e : Entry Queued) (v u w : SessionView Queued) → Chain g v xs u → Step g u e w → Chain g v (xs ++ e ∷ []) w
-  chain_more [] e v u w c s = (w, subst (λ (x : SessionView Queued). Step g x e w) c s, refl)
+  chain_more : (xs : List (SessionCall Queued)) (e : SessionCall Queued) (v u w : SessionView Queued) → SessionChain g v xs u → SessionStep g u e w → SessionChain g v (xs ++ e ∷ []) w
+  chain_more [] e v u w c s = (w, subst (λ (x : SessionView Queued). SessionStep g x e w) c s, refl)
   chain_more (x ∷ xs) e v u w c s = (c.0, c.1, chain_more xs e c.0 u w c.2 s)
 
-  pub input_on : (h : ℕ) (xs ys : List (Entry Queued)) (o : Option (AttachedLink Queued)) → input_from h o (xs ++ ys) ≡ input_from h (input_from h o xs) ys
+  pub input_on : (h : ℕ) (xs ys : List (SessionCall Queued)) (o : Option (AttachedLink Queued)) → input_from h o (xs ++ ys) ≡ input_from h (input_from h o xs) ys
   input_on h [] ys o = refl
   input_on h (x ∷ xs) ys o = input_on h xs ys (input_by h o x)
 
-  pub hears : (m : Made) (es before : List (Entry Queued)) (v w : SessionView Queued) (h : ℕ) (link : AttachedLink Queued)
-      → ((H : List (Entry Queued)) (x : SessionView Queued) → LeadsTo g m H x → Stands m H x)
-      → LeadsTo g m before v → input_at h before ≡ Some link → All (StaysUnder h) es → Chain g v es w
+  pub hears : (m : Made) (es before : List (SessionCall Queued)) (v w : SessionView Queued) (h : ℕ) (link : AttachedLink Queued)
+      → ((H : List (SessionCall Queued)) (x : SessionView Queued) → LeadsTo g m H x → Stands m H x)
+      → LeadsTo g m before v → input_at h before ≡ Some link → All (StaysUnder h) es → SessionChain g v es w
       → Goes link (told_in h es) (input_from h (Some link) es)
   hears m [] before v w h link shown l at all c = untold link
   hears m (e ∷ es) before v w h link shown l at all c =

@@ -22,7 +22,7 @@ use Rattle.amqp_frames.specs.declared.error.Error.{Error}
 use Rattle.amqp_frames.specs.declared.error.Error.TheVariants as no
 use Rattle.amqp_frames.specs.Frame.{IsBody, IsFrame, IsSaid, Decodes, body_of}
 use Rattle.amqp_frames.specs.Inner.Decoding.{IsHeader, Names}
-use Rattle.amqp_frames.specs.Head.{head_told, IsFields, IsBodyOf, IsHead, IsLongEnough, MayAskForMemory, NamesKind, HasNoHead, NoBodyOf, Opens, ReadsBodyOf, ReadsFrameOf}
+use Rattle.amqp_frames.specs.Head.{as_head, IsFields, IsBodyOf, IsHead, IsLongEnough, MayAskForMemory, NamesKind, HasNoHead, NoBodyOf, Opens, ReadsBodyOf, ReadsFrameOf}
 use Rattle.amqp_frames.specs.FrameError.{error_of}
 use Rattle.amqp_frames.proofs.DecodedFrameLemmas.{same_header, same_body, has_header, same_frame, framed}
 
@@ -257,10 +257,10 @@ decodes_frame bytes left h o (Ok x) b =
 decodes_frame bytes left h o (Err e) b = not_decoded bytes left h e o b
 
 -- the same, as a head tells them
-pub decodes_told : (bytes left : List ℕ) (head : Result FrameHead Error) (n : ℕ) (k : Option Kind) → Opens bytes left head → head ≡ head_told (Ok (n, k))
+pub decodes_told : (bytes left : List ℕ) (head : Result FrameHead Error) (n : ℕ) (k : Option Kind) → Opens bytes left head → head ≡ as_head (Ok (n, k))
     → (r : Result (Frame × List ℕ) Error) → ReadsFrameOf n k left r → Decodes bytes r
 decodes_told bytes left head n k o is r b = decodes_frame bytes left (record { channel = n; kind = k }) (subst (λ (h : Result FrameHead Error). Opens bytes left h) is o) r b
 
 -- a head that was refused
-pub refused_told : (bytes left : List ℕ) (head : Result FrameHead Error) (e : Error) → Opens bytes left head → head ≡ head_told (Err e) → Decodes bytes (Err e)
+pub refused_told : (bytes left : List ℕ) (head : Result FrameHead Error) (e : Error) → Opens bytes left head → head ≡ as_head (Err e) → Decodes bytes (Err e)
 refused_told bytes left head e o is = not_opened bytes e (subst (λ (h : Result FrameHead Error). Opens bytes left h) is o)

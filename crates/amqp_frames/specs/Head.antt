@@ -97,9 +97,9 @@ Opens bytes left (Ok h) =
 Opens bytes left (Err e) = HasNoHead bytes e
 
 -- a head, from its channel and its kind
-abbrev pub head_told : Result (ℕ × Option Kind) Error → Result FrameHead Error
-head_told (Ok x) = Ok (record { channel = x.0; kind = x.1 })
-head_told (Err e) = Err e
+abbrev pub as_head : Result (ℕ × Option Kind) Error → Result FrameHead Error
+as_head (Ok x) = Ok (record { channel = x.0; kind = x.1 })
+as_head (Err e) = Err e
 
 -- the one body of this kind, and what is behind it
 abbrev pub ReadsBodyOf : Option Kind → List ℕ → Result (FrameBody × List ℕ) Error → Type 0

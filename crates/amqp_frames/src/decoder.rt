@@ -4,7 +4,7 @@ ghost use Rattle.std.specs.Prelude.{◌≡◌, ◌<◌, ◌≤◌, length, None,
 ghost use Rattle.amqp_types.specs.declared.performatives.kind.Kind.TheVariants as kind;
 ghost use Rattle.amqp_frames.specs.Inner.Decoding.{Names, ReadsHeader};
 ghost use Rattle.amqp_frames.specs.Frame.{Decodes};
-ghost use Rattle.amqp_frames.specs.Head.{Opens, ReadsFrameOf, head_told};
+ghost use Rattle.amqp_frames.specs.Head.{Opens, ReadsFrameOf, as_head};
 
 use crate::error::Error;
 use crate::frame::{Frame, FrameBody};
@@ -62,7 +62,7 @@ impl FrameDecoder {
         // Each kind's fields are read by a function of its own, which gives the whole answer, and one `match` calls them: a function
         // pays at its entry for the size of its locals, those of the arms that are not taken too, and for each `?` and each
         // `match` inside another one with the size of what it hands on.
-        match told(self.head(&mut fields)) {
+        match channel_and_kind(self.head(&mut fields)) {
             Ok((channel, None)) => read_empty(channel, fields),
             Ok((channel, Some(Kind::Open))) => read_open(alloc, channel, fields),
             Ok((channel, Some(Kind::Begin))) => read_begin(alloc, channel, fields),
@@ -80,8 +80,8 @@ impl FrameDecoder {
 
 /// What a head tells.
 #[inline(always)]
-fn told(head: Result<FrameHead, Error>) -> Result<(u16, Option<Kind>), Error>
-    ensures { head ≡ head_told result }
+fn channel_and_kind(head: Result<FrameHead, Error>) -> Result<(u16, Option<Kind>), Error>
+    ensures { head ≡ as_head result }
 {
     match head {
         Ok(FrameHead { channel, kind }) => Ok((channel, kind)),

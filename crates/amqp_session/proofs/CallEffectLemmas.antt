@@ -35,7 +35,7 @@ use Rattle.amqp_session.specs.Linked.{taken_by}
 use Rattle.amqp_session.proofs.OutputHandleLemmas.{at_insert, taken_release, taken_leave, taken_drop}
 use Rattle.amqp_types.specs.Attach.{AttachModel}
 use Rattle.std.specs.FinMap as map
-use Rattle.amqp_session.specs.History.{Entry, AllocatesLink, AllocatesIncomingLink, DeallocatesLink, TakesAttach, TakesDetach, SendsAttach, SendsDetach, SendsBegin, SendsEnd, TakesBegin, TakesEnd, TakesFlow, TakesTransfer, TakesDisposition, SendsDisposition, SendsFlow, SendsTransfer, SendsSessionFlow, RecordsStop, Settles, Step}
+use Rattle.amqp_session.specs.History.{SessionCall, AllocatesLink, AllocatesIncomingLink, DeallocatesLink, TakesAttach, TakesDetach, SendsAttach, SendsDetach, SendsBegin, SendsEnd, TakesBegin, TakesEnd, TakesFlow, TakesTransfer, TakesDisposition, SendsDisposition, SendsFlow, SendsTransfer, SendsSessionFlow, RecordsStop, Settles, SessionStep}
 use Rattle.amqp_session.specs.OutgoingFrames.{inner_frames, call_frames, OnChannel}
 use Rattle.amqp_session.specs.Received.{named_of, named_with, channel_by}
 use Rattle.amqp_session.specs.Headline.{transfers_in, state_by}
@@ -66,7 +66,7 @@ rest v = record {
 }
 
 -- the numbers of what the peer sends, after a call
-abbrev pub receives : {R : Type 0} → Receiving → Entry R → Receiving
+abbrev pub receives : {R : Type 0} → Receiving → SessionCall R → Receiving
 receives r (TakesBegin channel b (Ok u)) = numbered_anew b.next_outgoing_id b.outgoing_window r
 receives r (TakesFlow f asked result) = numbered_anew f.next_outgoing_id f.outgoing_window r
 receives r (TakesTransfer t payload asked result) = counted r
@@ -75,11 +75,11 @@ receives r (SendsDisposition d true frame) = widened (num_messages d.first d.las
 receives r e = r
 
 -- the stop reason, after a call
-abbrev pub stops : {R : Type 0} → Option SessionStopReason → Entry R → Option SessionStopReason
+abbrev pub stops : {R : Type 0} → Option SessionStopReason → SessionCall R → Option SessionStopReason
 stops old (RecordsStop reason) = Some (unwrap_or old reason)
 stops old e = old
 
-abbrev pub rest_by : {R : Type 0} → Rest → Entry R → Rest
+abbrev pub rest_by : {R : Type 0} → Rest → SessionCall R → Rest
 rest_by r e = record r {
   state = state_by r.state e;
   incoming_channel = channel_by r.incoming_channel e;
@@ -90,7 +90,7 @@ rest_by r e = record r {
 
 -- ---- the sending half before anything goes out, and whether anything may
 
-abbrev pub sending_by : {R : Type 0} → SessionView R → Entry R → SendingView
+abbrev pub sending_by : {R : Type 0} → SessionView R → SessionCall R → SendingView
 sending_by v (TakesBegin channel b (Ok u)) = begun v.sending b.incoming_window
 sending_by v (TakesFlow f asked result) = moved v.sending (flow_base v f) f.incoming_window
 sending_by v (SendsTransfer h (Ok item)) = joined v.sending h
@@ -100,13 +100,13 @@ abbrev pub may_let : {R : Type 0} → SessionView R → Result (Option SessionOu
 may_let v (Ok item) = is_mapped v.state
 may_let v (Err e) = false
 
-abbrev pub lets_by : {R : Type 0} → SessionView R → Entry R → Bool
+abbrev pub lets_by : {R : Type 0} → SessionView R → SessionCall R → Bool
 lets_by v (TakesFlow f asked result) = may_let v result
 lets_by v (SendsTransfer h result) = may_let v result
 lets_by v e = false
 
 -- the numbers that a call says are of four bytes
-abbrev pub WordFits : {R : Type 0} → SessionView R → Entry R → Type 0
+abbrev pub WordFits : {R : Type 0} → SessionView R → SessionCall R → Type 0
 WordFits v (TakesBegin channel b (Ok u)) = BeginFits b
 WordFits v (TakesFlow f asked result) = FlowFits v f
 WordFits v e = Unit {0}
@@ -186,23 +186,23 @@ module _ {R : Type 0} (g : Relays R) where
 
   -- ---- what a transfer of the peer changes
 
-  abbrev Taken : SessionView R → Option Delivery → SessionView R → Type 0
-  Taken v named w =
+  abbrev HandleUse : SessionView R → Option Delivery → SessionView R → Type 0
+  HandleUse v named w =
       (w.sending ≡ v.sending) × (w.deliveries.receiver ≡ v.deliveries.receiver)
       × (rest w ≡ record (rest v) { named = with_record named v.deliveries.sender })
       × RecordFits named
       × (w.links.handles ≡ v.links.handles)
 
-  takes : (v u w : SessionView R) (named : Option Delivery) → u.sending ≡ v.sending → u.deliveries.receiver ≡ v.deliveries.receiver → rest u ≡ record (rest v) { named = with_record named v.deliveries.sender } → u.links ≡ v.links → RecordFits named → w ≡ u → Taken v named w
+  takes : (v u w : SessionView R) (named : Option Delivery) → u.sending ≡ v.sending → u.deliveries.receiver ≡ v.deliveries.receiver → rest u ≡ record (rest v) { named = with_record named v.deliveries.sender } → u.links ≡ v.links → RecordFits named → w ≡ u → HandleUse v named w
   takes v u w named a b c d f e = rw e (a, b, c, f, ap (λ (l : LinksView _). l.handles) d)
 
-  answered_takes : (v w : SessionView R) (h : ℕ) (a : _) (result : _) → TransferAnswered v h a result w → Taken v (named_delivery h (named_of a)) w
+  answered_takes : (v w : SessionView R) (h : ℕ) (a : _) (result : _) → TransferAnswered v h a result w → HandleUse v (named_delivery h (named_of a)) w
   answered_takes v w h (Ok named) (Ok reply) t = takes v _ w (named_delivery h named) refl refl refl refl t.0 t.2
   answered_takes v w h (Err e) (Err x) t = takes v v w None refl refl refl refl tt t.1
   answered_takes v w h (Ok named) (Err x) t = absurd t
   answered_takes v w h (Err e) (Ok reply) t = absurd t
 
-  unasked_takes : (v w : SessionView R) (h : ℕ) (result : _) → TransferUnasked v h result w → Taken v None w
+  unasked_takes : (v w : SessionView R) (h : ℕ) (result : _) → TransferUnasked v h result w → HandleUse v None w
   unasked_takes v w h (Ok reply) t = absurd t
   unasked_takes v w h (Err Refused.UnattachedHandle) t = takes v v w None refl refl refl refl tt t.1
   unasked_takes v w h (Err Refused.OutOfMemory) t = takes v v w None refl refl refl refl tt t.1
@@ -210,7 +210,7 @@ module _ {R : Type 0} (g : Relays R) where
 
   -- ---- the table
 
-  pub record Does (v : SessionView R) (e : Entry R) (w : SessionView R) : Type 0 where
+  pub record Does (v : SessionView R) (e : SessionCall R) (w : SessionView R) : Type 0 where
     pub goes : Goes (lets_by v e) v.outgoing_channel (sending_by v e) (transfers_in (call_frames e)) w.sending
     pub opens : w.deliveries.receiver ≡ cond (lets_by v e) (opened_by (sending_by v e) (keeps Receiver e v.deliveries.receiver)) (keeps Receiver e v.deliveries.receiver)
     pub rest_is : rest w ≡ rest_by (rest v) e
@@ -220,11 +220,11 @@ module _ {R : Type 0} (g : Relays R) where
     pub handles_are : (k : ℕ) → map.get w.links.handles k ≡ taken_by k (map.get v.links.handles k) e
 
   -- a call leaves every handle as it is taken
-  abbrev Places : Entry R → Type 0
+  abbrev Places : SessionCall R → Type 0
   Places e = (k : ℕ) (o : Option (Option (List ℕ))) → o ≡ taken_by k o e
 
   -- a call that lets nothing out
-  stills : (v u w : SessionView R) (e : Entry R) → w ≡ u → lets_by v e ≡ false → transfers_in (call_frames e) ≡ [] → u.sending ≡ sending_by v e → u.deliveries.receiver ≡ keeps Receiver e v.deliveries.receiver → rest u ≡ rest_by (rest v) e →
+  stills : (v u w : SessionView R) (e : SessionCall R) → w ≡ u → lets_by v e ≡ false → transfers_in (call_frames e) ≡ [] → u.sending ≡ sending_by v e → u.deliveries.receiver ≡ keeps Receiver e v.deliveries.receiver → rest u ≡ rest_by (rest v) e →
       OnChannel v.outgoing_channel (call_frames e) → u.links ≡ v.links → WordFits v e → RecordFits (named_with e) → Places e → Does v e w
   stills v u w e same quiet none sending rows others on links fits named_is places = rw same record {
     goes = rw quiet (none, sending);
@@ -237,11 +237,11 @@ module _ {R : Type 0} (g : Relays R) where
   }
 
   -- a call that is refused
-  unmoved : (v w : SessionView R) (e : Entry R) → w ≡ v → v.deliveries.receiver ≡ keeps Receiver e v.deliveries.receiver → lets_by v e ≡ false → call_frames e ≡ [] → sending_by v e ≡ v.sending → rest v ≡ rest_by (rest v) e → WordFits v e → RecordFits (named_with e) → Places e → Does v e w
+  unmoved : (v w : SessionView R) (e : SessionCall R) → w ≡ v → v.deliveries.receiver ≡ keeps Receiver e v.deliveries.receiver → lets_by v e ≡ false → call_frames e ≡ [] → sending_by v e ≡ v.sending → rest v ≡ rest_by (rest v) e → WordFits v e → RecordFits (named_with e) → Places e → Does v e w
   unmoved v w e same kept quiet none sending others fits named_is places = stills v v w e same quiet (ap transfers_in none) (sym sending) kept others (rw none tt) refl fits named_is places
 
   -- a call that hands out one frame, which is no transfer
-  says : (v u w : SessionView R) (e : Entry R) (f h : SessionFrame) → w ≡ u → f ≡ h → call_frames e ≡ f ∷ [] → lets_by v e ≡ false → transfers_in (h ∷ []) ≡ [] → u.sending ≡ sending_by v e → u.deliveries.receiver ≡ keeps Receiver e v.deliveries.receiver →
+  says : (v u w : SessionView R) (e : SessionCall R) (f h : SessionFrame) → w ≡ u → f ≡ h → call_frames e ≡ f ∷ [] → lets_by v e ≡ false → transfers_in (h ∷ []) ≡ [] → u.sending ≡ sending_by v e → u.deliveries.receiver ≡ keeps Receiver e v.deliveries.receiver →
       rest u ≡ rest_by (rest v) e → h.channel ≡ v.outgoing_channel → u.links ≡ v.links → WordFits v e → RecordFits (named_with e) → Places e → Does v e w
   says v u w e f h same is one quiet none sending rows others on links fits named_is places =
       stills v u w e same quiet (ap transfers_in one ∙ ap (λ (x : SessionFrame). transfers_in (x ∷ [])) is ∙ none) sending rows others (rw one (one_on v.outgoing_channel f h is on)) links fits named_is places
@@ -250,7 +250,7 @@ module _ {R : Type 0} (g : Relays R) where
   in_state : (r : Rest) (s : SessionState) (o : Option SessionState) → o ≡ Some s → record r { state = s } ≡ record r { state = unwrap_or o r.state }
   in_state r s o e = ap (λ x. record r { state = x }) (sym (ap (λ y. unwrap_or y r.state) e))
 
-  out_does : (v u w : SessionView R) (e : Entry R) (b : Bool) → Out b u (call_frames e) w → lets_by v e ≡ b → u.sending ≡ sending_by v e → u.deliveries.receiver ≡ keeps Receiver e v.deliveries.receiver → u.outgoing_channel ≡ v.outgoing_channel →
+  out_does : (v u w : SessionView R) (e : SessionCall R) (b : Bool) → Out b u (call_frames e) w → lets_by v e ≡ b → u.sending ≡ sending_by v e → u.deliveries.receiver ≡ keeps Receiver e v.deliveries.receiver → u.outgoing_channel ≡ v.outgoing_channel →
       rest u ≡ rest_by (rest v) e → u.links ≡ v.links → WordFits v e → RecordFits (named_with e) → Places e → Does v e w
   out_does v u w e b o is sending rows channel others links fits named_is places = record {
     goes = rw (is, ← sending, ← channel) o.0;
@@ -262,7 +262,7 @@ module _ {R : Type 0} (g : Relays R) where
     handles_are = λ k. ap (λ m. map.get m k) o.4 ∙ ap (λ (l : LinksView _). map.get l.handles k) links ∙ places k (map.get v.links.handles k);
   }
 
-  taken_does : (v w : SessionView R) (e : Entry R) → Taken (counted_by v) (named_with e) w → v.deliveries.receiver ≡ keeps Receiver e v.deliveries.receiver → lets_by v e ≡ false → call_frames e ≡ [] → sending_by v e ≡ v.sending →
+  taken_does : (v w : SessionView R) (e : SessionCall R) → HandleUse (counted_by v) (named_with e) w → v.deliveries.receiver ≡ keeps Receiver e v.deliveries.receiver → lets_by v e ≡ false → call_frames e ≡ [] → sending_by v e ≡ v.sending →
       record (rest (counted_by v)) { named = with_record (named_with e) v.deliveries.sender } ≡ rest_by (rest v) e → WordFits v e → Places e → Does v e w
   taken_does v w e t kept quiet none sending others fits places = record {
     goes = rw (quiet, none, sending) (refl, t.0);
@@ -275,7 +275,7 @@ module _ {R : Type 0} (g : Relays R) where
   }
 
   -- a call that changes links alone
-  link_does : (v w : SessionView R) (l : LinksView R) (e : Entry R) → w ≡ record v { links = l } → v.deliveries.receiver ≡ keeps Receiver e v.deliveries.receiver → lets_by v e ≡ false → transfers_in (call_frames e) ≡ [] → sending_by v e ≡ v.sending → rest v ≡ rest_by (rest v) e →
+  link_does : (v w : SessionView R) (l : LinksView R) (e : SessionCall R) → w ≡ record v { links = l } → v.deliveries.receiver ≡ keeps Receiver e v.deliveries.receiver → lets_by v e ≡ false → transfers_in (call_frames e) ≡ [] → sending_by v e ≡ v.sending → rest v ≡ rest_by (rest v) e →
       OnChannel v.outgoing_channel (call_frames e) → WordFits v e → RecordFits (named_with e) → ((k : ℕ) → map.get l.handles k ≡ taken_by k (map.get v.links.handles k) e) → Does v e w
   link_does v w l e same kept quiet none sending others on fits named_is places = rw same record {
     goes = rw (quiet, sending) (none, refl);
@@ -309,7 +309,7 @@ module _ {R : Type 0} (g : Relays R) where
       ask_keeps (Some q) b = ap (λ (z : LinksView _). z.handles) b.2
 
   -- a call that asks relays, and may take deliveries away
-  asked_does : (v w : SessionView R) (l : LinksView R) (o : OpenView) (e : Entry R) → w ≡ record v { links = l; deliveries = o } → l.handles ≡ v.links.handles → o.receiver ≡ keeps Receiver e v.deliveries.receiver →
+  asked_does : (v w : SessionView R) (l : LinksView R) (o : OpenView) (e : SessionCall R) → w ≡ record v { links = l; deliveries = o } → l.handles ≡ v.links.handles → o.receiver ≡ keeps Receiver e v.deliveries.receiver →
       lets_by v e ≡ false → call_frames e ≡ [] → sending_by v e ≡ v.sending → record (rest v) { named = o.sender } ≡ rest_by (rest v) e → WordFits v e → RecordFits (named_with e) → Places e → Does v e w
   asked_does v w l o e same links kept quiet none sending others fits named_is places = rw same record {
     goes = rw (quiet, none, sending) (refl, refl);
@@ -325,7 +325,7 @@ module _ {R : Type 0} (g : Relays R) where
   refused_does v w d asked (inl s) = unmoved v w _ s.1 refl refl refl refl refl tt tt (λ k o. refl)
   refused_does v w d asked (inr s) = asked_does v w w.links v.deliveries _ s.1.1 (asks_keep g.disposition_gives d (meant d (rows_of d v)) asked v.links w.links s.1.0) refl refl refl refl refl tt tt (λ k o. refl)
 
-  pub does : (v w : SessionView R) (e : Entry R) → Step g v e w → Does v e w
+  pub does : (v w : SessionView R) (e : SessionCall R) → SessionStep g v e w → Does v e w
   does v w (SendsBegin (Ok f)) s = says v _ w _ f _ s.2 s.1 refl refl refl refl refl (in_state (rest v) w.state (sends_begin v.state) s.0) refl refl tt tt (λ k o. refl)
   does v w (SendsBegin (Err Begins.IllegalState)) s = unmoved v w _ s.1 refl refl refl refl refl tt tt (λ k o. refl)
   does v w (SendsBegin (Err Begins.OutOfMemory)) s = unmoved v w _ s.1 refl refl refl refl refl tt tt (λ k o. refl)

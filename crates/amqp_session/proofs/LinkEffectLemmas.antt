@@ -21,7 +21,7 @@ use Rattle.amqp_types.specs.Disposition.{DispositionModel}
 use Rattle.amqp_session.specs.declared.deliveries.Delivery.{Delivery}
 use Rattle.amqp_session.specs.Disposing.{AsksAt, AsksEach, behind}
 use Rattle.amqp_session.specs.Linked.{asked_from, live_by, input_by, where_goes, speaks_of, handle_of}
-use Rattle.amqp_session.specs.History.{Entry, AllocatesLink, AllocatesIncomingLink, DeallocatesLink, TakesAttach, TakesDetach, SendsAttach, SendsDetach, SendsBegin, SendsEnd, TakesBegin, TakesEnd, TakesFlow, TakesTransfer, TakesDisposition, SendsDisposition, SendsFlow, SendsTransfer, SendsSessionFlow, RecordsStop, Settles, Step}
+use Rattle.amqp_session.specs.History.{SessionCall, AllocatesLink, AllocatesIncomingLink, DeallocatesLink, TakesAttach, TakesDetach, SendsAttach, SendsDetach, SendsBegin, SendsEnd, TakesBegin, TakesEnd, TakesFlow, TakesTransfer, TakesDisposition, SendsDisposition, SendsFlow, SendsTransfer, SendsSessionFlow, RecordsStop, Settles, SessionStep}
 use Rattle.amqp_session.proofs.OutputHandleLemmas.{at_insert, at_remove}
 use Rattle.amqp_session.proofs.CallEffectLemmas.{attach_keeps}
 use Rattle.amqp_session.proofs.LinkNameLemmas.{same_number, Agree, agree_like, agree_linked, agree_release, agree_leave, agree_dropped, names_linked, names_release, names_leave, attach_waits}
@@ -148,7 +148,7 @@ module _ {R : Type 0} (g : Relays R) where
   -- ---- the table
 
   -- names and input handles are as the call says, and names and output handles agree after it
-  pub record LinksBy (old : LinksView R) (e : Entry R) (new : LinksView R) : Type 0 where
+  pub record LinksBy (old : LinksView R) (e : SessionCall R) (new : LinksView R) : Type 0 where
     pub names_are : (name : List ℕ) → map.get new.names name ≡ live_by name (map.get old.names name) e
     pub inputs_are : (h : ℕ) → map.get new.inputs h ≡ input_by h (map.get old.inputs h) e
     pub agree : Agree new
@@ -157,7 +157,7 @@ module _ {R : Type 0} (g : Relays R) where
   links_of v = v.links
 
   -- a call that leaves all links
-  kept : (old new : LinksView R) (e : Entry R) → Agree old → new ≡ old → ((name : List ℕ) (o : Option (LiveLink R)) → o ≡ live_by name o e) →
+  kept : (old new : LinksView R) (e : SessionCall R) → Agree old → new ≡ old → ((name : List ℕ) (o : Option (LiveLink R)) → o ≡ live_by name o e) →
       ((h : ℕ) (o : Option (AttachedLink R)) → o ≡ input_by h o e) → LinksBy old e new
   kept old new e a same names inputs = record {
     names_are = λ name. ap (λ (x : LinksView R). map.get x.names name) same ∙ names name (map.get old.names name);
@@ -166,14 +166,14 @@ module _ {R : Type 0} (g : Relays R) where
   }
 
   -- a call that leaves those under input handles
-  named : (old new : LinksView R) (e : Entry R) → Agree new →
+  named : (old new : LinksView R) (e : SessionCall R) → Agree new →
       ((name : List ℕ) → map.get new.names name ≡ live_by name (map.get old.names name) e) → new.inputs ≡ old.inputs →
       ((h : ℕ) (o : Option (AttachedLink R)) → o ≡ input_by h o e) → LinksBy old e new
   named old new e a names same inputs =
       record { names_are = names; inputs_are = λ h. ap (λ m. map.get m h) same ∙ inputs h (map.get old.inputs h); agree = a }
 
   -- a call that asks a relay
-  asks : {Q A : Type 0} → (old new : LinksView R) (e : Entry R) (input : Option ℕ) (q : Question R Q A) → Agree old →
+  asks : {Q A : Type 0} → (old new : LinksView R) (e : SessionCall R) (input : Option ℕ) (q : Question R Q A) → Agree old →
       Goes old input q new → ((name : List ℕ) (o : Option (LiveLink R)) → o ≡ live_by name o e) →
       ((h : ℕ) (o : Option (AttachedLink R)) → cond (speaks_of h input) (where_goes q.after o) o ≡ input_by h o e) → LinksBy old e new
   asks old new e input q a t names inputs = record {
@@ -203,7 +203,7 @@ module _ {R : Type 0} (g : Relays R) where
   leave_inputs l new h false true r = release_inputs l new h r.0 r.1
   leave_inputs l new h false false r = absurd r
 
-  pub links_by : (v w : SessionView R) (e : Entry R) → Agree v.links → Step g v e w → LinksBy v.links e w.links
+  pub links_by : (v w : SessionView R) (e : SessionCall R) → Agree v.links → SessionStep g v e w → LinksBy v.links e w.links
   links_by v w (AllocatesLink name relay (Ok h)) a s =
       subst (λ (x : SessionView R). LinksBy v.links (AllocatesLink name relay (Ok h)) x.links) (sym s.3)
       (named v.links (linked name h relay v.links) (AllocatesLink name relay (Ok h)) (agree_linked v.links name h relay s.0.1 s.1 a)

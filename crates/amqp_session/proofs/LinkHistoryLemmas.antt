@@ -8,10 +8,10 @@ use Rattle.std.specs.FinMap.{get-empty}
 use Rattle.amqp_session.specs.Links.{LinksView}
 use Rattle.amqp_session.specs.Relay.{Relays}
 use Rattle.amqp_session.specs.Session.{SessionView, new_session}
-use Rattle.amqp_session.specs.History.{Entry, AllocatesLink, AllocatesIncomingLink, DeallocatesLink, TakesDetach, SendsDetach, Made, Chain, LeadsTo}
+use Rattle.amqp_session.specs.History.{SessionCall, AllocatesLink, AllocatesIncomingLink, DeallocatesLink, TakesDetach, SendsDetach, Made, SessionChain, LeadsTo}
 use Rattle.amqp_session.specs.Received.{has_kind}
 use Rattle.amqp_session.specs.Linking.{live_name, name_at, Leaves}
-use Rattle.amqp_session.specs.Linked.{Taken, taken_by, without_live, left_by_detach, handle_of, OneToOne, LinksAgree, ShownAgree, allots, AwaitedOnce}
+use Rattle.amqp_session.specs.Linked.{HandleUse, taken_by, without_live, left_by_detach, handle_of, OneToOne, LinksAgree, ShownAgree, allots, AwaitedOnce}
 use Rattle.amqp_session.proofs.CallEffectLemmas.{does}
 use Rattle.amqp_session.proofs.OutputHandleLemmas.{at_insert, not_live_stays, not_live_left}
 use Rattle.amqp_session.proofs.LinkNameLemmas.{one, one_live, live_answered}
@@ -19,7 +19,7 @@ use Rattle.amqp_session.proofs.SessionViewLemmas.{stands_law, agree_law, chain-s
 
 -- ---- names and output handles
 
-one_to_one : (handle : List ℕ → Option ℕ) (taken : ℕ → Taken) →
+one_to_one : (handle : List ℕ → Option ℕ) (taken : ℕ → HandleUse) →
     ((name : List ℕ) (h : ℕ) → handle name ≡ Some h ↔ taken h ≡ Some (Some name)) →
     OneToOne handle taken
 one_to_one handle taken a = record {
@@ -34,11 +34,11 @@ one_to_one handle taken a = record {
 same : (h : ℕ) → nat_eq h h ≡ true
 same h = grind (arith, nat_tests, common_steps)
 
-either : (b : Bool) (x y : Taken) → live_name x ≡ None → live_name y ≡ None → live_name (cond b x y) ≡ None
+either : (b : Bool) (x y : HandleUse) → live_name x ≡ None → live_name y ≡ None → live_name (cond b x y) ≡ None
 either true x y e n = e
 either false x y e n = n
 
-not_live_by : {R : Type 0} → (k : ℕ) (o : Taken) (e : Entry R) → allots k e ≡ false → live_name o ≡ None →
+not_live_by : {R : Type 0} → (k : ℕ) (o : HandleUse) (e : SessionCall R) → allots k e ≡ false → live_name o ≡ None →
     live_name (taken_by k o e) ≡ None
 not_live_by k o (AllocatesLink name relay (Ok h)) none n = ap (λ b. live_name (cond b (Some (Some name)) o)) none ∙ n
 not_live_by k o (AllocatesIncomingLink name relay input (Ok h)) none n = ap (λ b. live_name (cond b (Some (Some name)) o)) none ∙ n
@@ -48,7 +48,7 @@ not_live_by k o (SendsDetach d expects_echo result) none n =
 not_live_by k o (TakesDetach d (Some q) result) none n = live_answered (nat_eq k q.handle.0) o ∙ n
 not_live_by k o e none n = n
 
-first_is_not : {R : Type 0} → (kind : Entry R → Bool) (e : Entry R) (H : List (Entry R)) → has_kind kind (e ∷ H) ≡ false →
+first_is_not : {R : Type 0} → (kind : SessionCall R → Bool) (e : SessionCall R) (H : List (SessionCall R)) → has_kind kind (e ∷ H) ≡ false →
     (kind e ≡ false) × (has_kind kind H ≡ false)
 first_is_not kind e H h = by (kind e) refl h
   where
@@ -57,8 +57,8 @@ first_is_not kind e H h = by (kind e) refl h
     by false t x = (t, x)
 
 module _ {R : Type 0} (g : Relays R) where
-  not_live_chain : (k : ℕ) (H : List (Entry R)) (v w : SessionView R) → has_kind (allots k) H ≡ false → name_at k v.links ≡ None →
-      Chain g v H w →
+  not_live_chain : (k : ℕ) (H : List (SessionCall R)) (v w : SessionView R) → has_kind (allots k) H ≡ false → name_at k v.links ≡ None →
+      SessionChain g v H w →
       name_at k w.links ≡ None
   not_live_chain k [] v w none n c = subst (λ (x : SessionView R). name_at k x.links ≡ None) (sym c) n
   not_live_chain k (e ∷ H) v w none n c =
@@ -67,7 +67,7 @@ module _ {R : Type 0} (g : Relays R) where
       not_live_chain k H c.0 w f.1 (ap live_name (d.handles_are k) ∙ not_live_by k (map.get v.links.handles k) e f.0 n) c.2
 
   -- a link was live, so its handle was allotted
-  must_allot : (k : ℕ) (H : List (Entry R)) (v w : SessionView R) (name : List ℕ) → name_at k v.links ≡ None → Chain g v H w →
+  must_allot : (k : ℕ) (H : List (SessionCall R)) (v w : SessionView R) (name : List ℕ) → name_at k v.links ≡ None → SessionChain g v H w →
       name_at k w.links ≡ Some name →
       has_kind (allots k) H ≡ true
   must_allot k H v w name n c live = by (has_kind (allots k) H) refl
@@ -84,7 +84,7 @@ module _ {R : Type 0} (g : Relays R) where
 
   -- ---- the laws
 
-  pub links_agree : (m : Made) (H : List (Entry R)) (v : SessionView R) → LeadsTo g m H v → LinksAgree H
+  pub links_agree : (m : Made) (H : List (SessionCall R)) (v : SessionView R) → LeadsTo g m H v → LinksAgree H
   links_agree m H v l =
       let b = stands_law g m H v l in
       let a = agree_law g m H v l in
@@ -93,18 +93,18 @@ module _ {R : Type 0} (g : Relays R) where
         λ e. sym (ap handle_of (b.names_are name)) ∙ (a name h).1 (b.handles_are h ∙ e),
       ))
 
-  pub shown_agree : (m : Made) (H : List (Entry R)) (v : SessionView R) → LeadsTo g m H v → ShownAgree v.links
+  pub shown_agree : (m : Made) (H : List (SessionCall R)) (v : SessionView R) → LeadsTo g m H v → ShownAgree v.links
   shown_agree m H v l = one_to_one _ _ (agree_law g m H v l)
 
-  pub awaited_once : (m : Made) (H : List (Entry R)) (v : SessionView R) → LeadsTo g m H v → AwaitedOnce H
+  pub awaited_once : (m : Made) (H : List (SessionCall R)) (v : SessionView R) → LeadsTo g m H v → AwaitedOnce H
   awaited_once m H v l =
       let new : SessionView R = new_session m.settings m.channel m.state m.stop in record {
         allotted = λ before after d f is.
-            let r = chain-split g before (SendsDetach d true (Ok (Some f)) ∷ after) new v (subst (λ K. Chain g new K v) is l.1) in
+            let r = chain-split g before (SendsDetach d true (Ok (Some f)) ∷ after) new v (subst (λ K. SessionChain g new K v) is l.1) in
             must_allot d.handle before new r.0 r.2.1.1.0 (ap live_name (get-empty nat_cmp d.handle)) r.1 r.2.1.1.1;
         again = λ before between after d e f h is same.
-            let rest : List (Entry R) = between ++ SendsDetach e true (Ok (Some h)) ∷ after in
-            let r = chain-split g before (SendsDetach d true (Ok (Some f)) ∷ rest) new v (subst (λ K. Chain g new K v) is l.1) in
+            let rest : List (SessionCall R) = between ++ SendsDetach e true (Ok (Some h)) ∷ after in
+            let r = chain-split g before (SendsDetach d true (Ok (Some f)) ∷ rest) new v (subst (λ K. SessionChain g new K v) is l.1) in
             let q = chain-split g between (SendsDetach e true (Ok (Some h)) ∷ after) r.2.0 v r.2.2 in
             must_allot d.handle between r.2.0 q.0 q.2.1.1.0 (awaited_after r.0.links r.2.0.links d.handle r.2.1.1) q.1
             (ap (λ k. name_at k q.0.links) same ∙ q.2.1.1.1);

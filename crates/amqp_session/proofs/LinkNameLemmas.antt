@@ -16,7 +16,7 @@ use Rattle.amqp_session.specs.History.{TakesAttach}
 use Rattle.amqp_session.specs.Links.{LinksView, no_links}
 use Rattle.amqp_session.specs.Relay.{AttachGives, AttachQuestion}
 use Rattle.amqp_session.specs.Linking.{live_name, name_at, linked, released, left_awaited, Releases, Leaves, AttachAnswered, Attaches, dropped}
-use Rattle.amqp_session.specs.Linked.{Taken, answered, unless_on, where_waits, handle_of, live_by}
+use Rattle.amqp_session.specs.Linked.{HandleUse, answered, unless_on, where_waits, handle_of, live_by}
 use Rattle.amqp_session.proofs.FiniteMapLemmas.{same_text}
 use Rattle.amqp_session.proofs.OutputHandleLemmas.{at_insert, at_remove, taken_drop}
 
@@ -48,15 +48,15 @@ one e = cc
 pub one_live : (x y : List ℕ) → Some (Some x) ≡ Some (Some y) → x ≡ y
 one_live x y e = one (one e)
 
-pub taken_live : (o : Taken) (name : List ℕ) → live_name o ≡ Some name → o ≡ Some (Some name)
+pub taken_live : (o : HandleUse) (name : List ℕ) → live_name o ≡ Some name → o ≡ Some (Some name)
 taken_live None name e = absurd (cc)
 taken_live (Some None) name e = absurd (cc)
 taken_live (Some (Some n)) name e = ap Some e
 
-not_live : (y : Taken) (name : List ℕ) → live_name y ≡ None → y ≡ Some (Some name) → ⊥
+not_live : (y : HandleUse) (name : List ℕ) → live_name y ≡ None → y ≡ Some (Some name) → ⊥
 not_live y name none e = let x : None ≡ Some name = sym none ∙ ap live_name e in cc
 
-pub live_answered : (b : Bool) (o : Taken) → live_name (cond b (answered o) o) ≡ live_name o
+pub live_answered : (b : Bool) (o : HandleUse) → live_name (cond b (answered o) o) ≡ live_name o
 live_answered false o = refl
 live_answered true None = refl
 live_answered true (Some None) = refl
@@ -84,7 +84,7 @@ module _ {R : Type 0} where
   )
   agree_put l n k w none free a q h false false s t = a q h
 
-  agree_gone : (l : LinksView R) (n : List ℕ) (k : ℕ) (y : Taken) → live_name y ≡ None → map.get l.handles k ≡ Some (Some n) → Agree l →
+  agree_gone : (l : LinksView R) (n : List ℕ) (k : ℕ) (y : HandleUse) → live_name y ≡ None → map.get l.handles k ≡ Some (Some n) → Agree l →
       (q : List ℕ) (h : ℕ) (b c : Bool) → bytes_eq q n ≡ b → nat_eq h k ≡ c →
       handle_of (cond b None (map.get l.names q)) ≡ Some h ↔ cond c y (map.get l.handles h) ≡ Some (Some q)
   agree_gone l n k y dead was a q h true true s t = (λ e. absurd (cc), λ e. absurd (not_live y q dead e))

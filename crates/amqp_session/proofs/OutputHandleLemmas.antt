@@ -8,7 +8,7 @@ use Rattle.std.specs.FinMap as map
 use Rattle.std.specs.FinMap.{get-insert, get-remove}
 use Rattle.amqp_session.specs.Links.{LinksView, Handles}
 use Rattle.amqp_session.specs.Linking.{live_name, is_awaited, awaits, Releases, Leaves, dropped}
-use Rattle.amqp_session.specs.Linked.{Taken, without_live, left_by_detach, answered}
+use Rattle.amqp_session.specs.Linked.{HandleUse, without_live, left_by_detach, answered}
 use Rattle.amqp_session.proofs.FiniteMapLemmas.{same_test}
 
 pub at_insert : {X : Type 0} → (m : map.FinMap nat_cmp X) (h k : ℕ) (x : X) → map.get (map.insert m h x) k ≡ cond (nat_eq k h) (Some x) (map.get m k)
@@ -18,41 +18,41 @@ pub at_remove : {X : Type 0} → (m : map.FinMap nat_cmp X) (h k : ℕ) → map.
 at_remove m h k = get-remove nat_cmp_total m h k ∙ ap (λ b. cond b None (map.get m k)) (same_test k h)
 
 -- a change at one handle, by what was there
-changed : (m : Handles) (h k : ℕ) (f : Taken → Taken) (x : Taken) → f (map.get m h) ≡ x → cond (nat_eq k h) x (map.get m k) ≡ cond (nat_eq k h) (f (map.get m k)) (map.get m k)
+changed : (m : Handles) (h k : ℕ) (f : HandleUse → HandleUse) (x : HandleUse) → f (map.get m h) ≡ x → cond (nat_eq k h) x (map.get m k) ≡ cond (nat_eq k h) (f (map.get m k)) (map.get m k)
 changed m h k f x e = by (nat_eq k h) refl
   where
     by : (b : Bool) → nat_eq k h ≡ b → cond b x (map.get m k) ≡ cond b (f (map.get m k)) (map.get m k)
     by true t = let is : h ≡ k = grind (arith, nat_tests, common_steps) in sym e ∙ ap (λ n. f (map.get m n)) is
     by false t = refl
 
-unchanged : (m : Handles) (h k : ℕ) (f : Taken → Taken) → f (map.get m h) ≡ map.get m h → map.get m k ≡ cond (nat_eq k h) (f (map.get m k)) (map.get m k)
+unchanged : (m : Handles) (h k : ℕ) (f : HandleUse → HandleUse) → f (map.get m h) ≡ map.get m h → map.get m k ≡ cond (nat_eq k h) (f (map.get m k)) (map.get m k)
 unchanged m h k f e = by (nat_eq k h) refl
   where
     by : (b : Bool) → nat_eq k h ≡ b → map.get m k ≡ cond b (f (map.get m k)) (map.get m k)
     by true t = let is : h ≡ k = grind (arith, nat_tests, common_steps) in ap (map.get m) (sym is) ∙ sym e ∙ ap (λ n. f (map.get m n)) is
     by false t = refl
 
-live_gone : (o : Taken) (name : List ℕ) → live_name o ≡ Some name → without_live o ≡ None
+live_gone : (o : HandleUse) (name : List ℕ) → live_name o ≡ Some name → without_live o ≡ None
 live_gone None name e = refl
 live_gone (Some None) name e = absurd (cc)
 live_gone (Some (Some n)) name e = refl
 
-pub not_live_stays : (o : Taken) → live_name o ≡ None → without_live o ≡ o
+pub not_live_stays : (o : HandleUse) → live_name o ≡ None → without_live o ≡ o
 not_live_stays None e = refl
 not_live_stays (Some None) e = refl
 not_live_stays (Some (Some n)) e = absurd (cc)
 
-live_left : (o : Taken) (name : List ℕ) → live_name o ≡ Some name → left_by_detach true o ≡ Some None
+live_left : (o : HandleUse) (name : List ℕ) → live_name o ≡ Some name → left_by_detach true o ≡ Some None
 live_left None name e = absurd (cc)
 live_left (Some None) name e = refl
 live_left (Some (Some n)) name e = refl
 
-pub not_live_left : (b : Bool) (o : Taken) → live_name o ≡ None → left_by_detach b o ≡ o
+pub not_live_left : (b : Bool) (o : HandleUse) → live_name o ≡ None → left_by_detach b o ≡ o
 not_live_left b None e = refl
 not_live_left b (Some None) e = refl
 not_live_left b (Some (Some n)) e = absurd (cc)
 
-released_is_left : (o : Taken) → without_live o ≡ left_by_detach false o
+released_is_left : (o : HandleUse) → without_live o ≡ left_by_detach false o
 released_is_left None = refl
 released_is_left (Some None) = refl
 released_is_left (Some (Some n)) = refl
@@ -70,13 +70,13 @@ taken_leave l new h k false false r = absurd r
 taken_answer : (m : Handles) (h k : ℕ) (b : Bool) → is_awaited (map.get m h) ≡ b → map.get (cond b (map.remove m h) m) k ≡ cond (nat_eq k h) (answered (map.get m k)) (map.get m k)
 taken_answer m h k true e = at_remove m h k ∙ changed m h k answered None (by (map.get m h) e)
   where
-    by : (o : Taken) → is_awaited o ≡ true → answered o ≡ None
+    by : (o : HandleUse) → is_awaited o ≡ true → answered o ≡ None
     by None x = refl
     by (Some None) x = refl
     by (Some (Some n)) x = absurd (cc)
 taken_answer m h k false e = unchanged m h k answered (by (map.get m h) e)
   where
-    by : (o : Taken) → is_awaited o ≡ false → answered o ≡ o
+    by : (o : HandleUse) → is_awaited o ≡ false → answered o ≡ o
     by None x = refl
     by (Some None) x = absurd (cc)
     by (Some (Some n)) x = refl

@@ -19,7 +19,7 @@ use Rattle.amqp_session.specs.Transfers.{RequestedTransfer}
 use Rattle.amqp_session.specs.Session.{SessionView, flow_frame}
 use Rattle.amqp_session.specs.Linking.{attach_frame}
 use Rattle.amqp_session.specs.OutgoingFrames.{call_frames, calls_frames}
-use Rattle.amqp_session.specs.History.{Entry, Step, Chain, AllocatesLink, SendsBegin, SendsAttach, SendsFlow, SendsTransfer}
+use Rattle.amqp_session.specs.History.{SessionCall, SessionStep, SessionChain, AllocatesLink, SendsBegin, SendsAttach, SendsFlow, SendsTransfer}
 use Rattle.amqp_session.specs.History.{SendsSessionFlow, TakesBegin, TakesAttach, TakesFlow, TakesTransfer}
 use Rattle.amqp_session.specs.Pair.{PairView, new_pair, Said, Makes, BeginAt, FrameAt, TransferAt, ArriveAt, TakesBody, FlowFollows}
 use Rattle.amqp_session.specs.Pair.{AllocateLinkStep, BeginStep, AttachStep, FlowStep, TransferStep, ArriveStep}
@@ -33,8 +33,8 @@ use Rattle.amqp_session.specs.PairLedger.{FitsSettings}
 -- It takes these frames, of which it leaves some.
 record Did {R : Type 0} (g : Relays R) (v : SessionView R) (taken : List SessionFrameBody) (going : List SessionFrame)
     (w : SessionView R) (going' : List SessionFrame) : Type 0 where
-  pub calls : List (Entry R)
-  pub chain : Chain g v calls w
+  pub calls : List (SessionCall R)
+  pub chain : SessionChain g v calls w
   pub takes : received calls ≡ taken
   pub puts : going' ≡ going ++ calls_frames calls
 
@@ -42,7 +42,7 @@ module _ {R : Type 0} (g : Relays R) where
   nothing : (v w : SessionView R) (going going' : List SessionFrame) → w ≡ v → going' ≡ going → Did g v [] going w going'
   nothing v w going going' e eg = record { calls = []; chain = e; takes = refl; puts = eg ∙ sym (append-nil going) }
 
-  one : (e : Entry R) (v w : SessionView R) (going going' : List SessionFrame) → Makes g v going e w going' →
+  one : (e : SessionCall R) (v w : SessionView R) (going going' : List SessionFrame) → Makes g v going e w going' →
       Did g v (received_by e) going w going'
   one e v w going going' m = record {
     calls = e ∷ [];
@@ -58,7 +58,7 @@ module _ {R : Type 0} (g : Relays R) where
     | inr sent ↦ one (SendsBegin sent.frame) v w going going' sent.makes
   ]
 
-  frame_did : (e : Entry R) (v w : SessionView R) (going going' : List SessionFrame) (result : Said) → received_by e ≡ [] →
+  frame_did : (e : SessionCall R) (v w : SessionView R) (going going' : List SessionFrame) (result : Said) → received_by e ≡ [] →
       FrameAt g e v going result w going' → Did g v [] going w going'
   frame_did e v w going going' (Ok u) none s = subst (λ taken. Did g v taken going w going') none (one e v w going going' s.1)
   frame_did e v w going going' (Err Refused.IllegalState) none s = nothing v w going going' s.1.0 s.1.1
@@ -73,7 +73,7 @@ module _ {R : Type 0} (g : Relays R) where
   ]
 
   -- behind a call that hands out nothing
-  then : (e : Entry R) (v m w : SessionView R) (taken : List SessionFrameBody) (going going' : List SessionFrame) → Step g v e m →
+  then : (e : SessionCall R) (v m w : SessionView R) (taken : List SessionFrameBody) (going going' : List SessionFrame) → SessionStep g v e m →
       call_frames e ≡ [] → Did g m taken going w going' → Did g v (received_by e ++ taken) going w going'
   then e v m w taken going going' s none d = record {
     calls = e ∷ d.calls;
@@ -103,12 +103,12 @@ module _ {R : Type 0} (g : Relays R) where
 
   -- a call that takes nothing off the way
   quiet : (v w : SessionView R) (coming coming' going going' : List SessionFrame) → Did g v [] going w going' → coming' ≡ coming →
-      (calls : List (Entry R)) × MovesAt g calls v coming going w coming' going'
+      (calls : List (SessionCall R)) × MovesAt g calls v coming going w coming' going'
   quiet v w coming coming' going going' d e =
       (d.calls, (d.chain, ap bodies (sym e) ∙ ap (λ (bs : List SessionFrameBody). bs ++ bodies coming') (sym d.takes), d.puts))
 
   arrive_moves : (v w : SessionView R) (coming coming' going going' : List SessionFrame) (result : Said) →
-      ArriveAt g v coming going result w coming' going' → (calls : List (Entry R)) × MovesAt g calls v coming going w coming' going'
+      ArriveAt g v coming going result w coming' going' → (calls : List (SessionCall R)) × MovesAt g calls v coming going w coming' going'
   arrive_moves v w [] coming' going going' result s = quiet v w [] coming' going going' (nothing v w going going' s.2.0 s.2.1) s.1
   arrive_moves v w (f ∷ fs) coming' going going' result s = elim s [
     | inl no_room ↦
@@ -173,25 +173,25 @@ bodies_append : (L M : List SessionFrame) → bodies (L ++ M) ≡ bodies L ++ bo
 bodies_append [] M = refl
 bodies_append (f ∷ L) M = ap (λ (bs : List SessionFrameBody). f.body ∷ bs) (bodies_append L M)
 
-frames_append : {R : Type 0} (c d : List (Entry R)) → calls_frames (c ++ d) ≡ calls_frames c ++ calls_frames d
+frames_append : {R : Type 0} (c d : List (SessionCall R)) → calls_frames (c ++ d) ≡ calls_frames c ++ calls_frames d
 frames_append [] d = refl
 frames_append (e ∷ c) d =
     ap (λ (fs : List SessionFrame). call_frames e ++ fs) (frames_append c d)
     ∙ sym (append_assoc (call_frames e) (calls_frames c) (calls_frames d))
 
-received_append : {R : Type 0} (c d : List (Entry R)) → received (c ++ d) ≡ received c ++ received d
+received_append : {R : Type 0} (c d : List (SessionCall R)) → received (c ++ d) ≡ received c ++ received d
 received_append [] d = refl
 received_append (e ∷ c) d =
     ap (λ (bs : List SessionFrameBody). received_by e ++ bs) (received_append c d)
     ∙ sym (append_assoc (received_by e) (received c) (received d))
 
-chain_append : {R : Type 0} (g : Relays R) (c d : List (Entry R)) (u v w : SessionView R) → Chain g u c v → Chain g v d w →
-    Chain g u (c ++ d) w
-chain_append g [] d u v w h k = subst (λ x. Chain g x d w) h k
+chain_append : {R : Type 0} (g : Relays R) (c d : List (SessionCall R)) (u v w : SessionView R) → SessionChain g u c v → SessionChain g v d w →
+    SessionChain g u (c ++ d) w
+chain_append g [] d u v w h k = subst (λ x. SessionChain g x d w) h k
 chain_append g (e ∷ c) d u v w h k = (h.0, h.1, chain_append g c d h.0 v w h.2 k)
 
 -- the sender of a run moves, and then all that follows keeps it in order
-sent_on : {R : Type 0} (calls sends takes : List (Entry R)) (way way' on : List SessionFrame) → way' ≡ way ++ calls_frames calls →
+sent_on : {R : Type 0} (calls sends takes : List (SessionCall R)) (way way' on : List SessionFrame) → way' ≡ way ++ calls_frames calls →
     bodies way' ++ bodies (calls_frames sends) ≡ received takes ++ bodies on →
     bodies way ++ bodies (calls_frames (calls ++ sends)) ≡ received takes ++ bodies on
 sent_on calls sends takes way way' on e h =
@@ -202,7 +202,7 @@ sent_on calls sends takes way way' on e h =
     ∙ h
 
 -- its taker moves
-taken_on : {R : Type 0} (calls sends takes : List (Entry R)) (way way' on : List SessionFrame) →
+taken_on : {R : Type 0} (calls sends takes : List (SessionCall R)) (way way' on : List SessionFrame) →
     bodies way ≡ received calls ++ bodies way' →
     bodies way' ++ bodies (calls_frames sends) ≡ received takes ++ bodies on →
     bodies way ++ bodies (calls_frames sends) ≡ received (calls ++ takes) ++ bodies on
@@ -214,21 +214,21 @@ taken_on calls sends takes way way' on e h =
     ∙ ap (λ (bs : List SessionFrameBody). bs ++ bodies on) (sym (received_append calls takes))
 
 record Keeps {R : Type 0} (g : Relays R) (H : List (PairCall R)) (p q : PairView R) : Type 0 where
-  pub a_goes : Chain g p.a (calls_by A H) q.a
-  pub b_goes : Chain g p.b (calls_by B H) q.b
+  pub a_goes : SessionChain g p.a (calls_by A H) q.a
+  pub b_goes : SessionChain g p.b (calls_by B H) q.b
   pub to_b : bodies p.to_b ++ bodies (calls_frames (calls_by A H)) ≡ received (calls_by B H) ++ bodies q.to_b
   pub to_a : bodies p.to_a ++ bodies (calls_frames (calls_by B H)) ≡ received (calls_by A H) ++ bodies q.to_a
 
-moved : {R : Type 0} (g : Relays R) (side : Side) (calls : List (Entry R)) (H : List (PairCall R)) (p m q : PairView R) →
+moved : {R : Type 0} (g : Relays R) (side : Side) (calls : List (SessionCall R)) (H : List (PairCall R)) (p m q : PairView R) →
     PairMoves g side calls p m → Keeps g H m q → Keeps g (record { side = side; calls = calls } ∷ H) p q
 moved g A calls H p m q s k = record {
   a_goes = chain_append g calls (calls_by A H) p.a m.a q.a s.0.0 k.a_goes;
-  b_goes = subst (λ v. Chain g v (calls_by B H) q.b) s.1 k.b_goes;
+  b_goes = subst (λ v. SessionChain g v (calls_by B H) q.b) s.1 k.b_goes;
   to_b = sent_on calls (calls_by A H) (calls_by B H) p.to_b m.to_b q.to_b s.0.2 k.to_b;
   to_a = taken_on calls (calls_by B H) (calls_by A H) p.to_a m.to_a q.to_a s.0.1 k.to_a;
 }
 moved g B calls H p m q s k = record {
-  a_goes = subst (λ v. Chain g v (calls_by A H) q.a) s.1 k.a_goes;
+  a_goes = subst (λ v. SessionChain g v (calls_by A H) q.a) s.1 k.a_goes;
   b_goes = chain_append g calls (calls_by B H) p.b m.b q.b s.0.0 k.b_goes;
   to_b = taken_on calls (calls_by A H) (calls_by B H) p.to_b m.to_b q.to_b s.0.1 k.to_b;
   to_a = sent_on calls (calls_by B H) (calls_by A H) p.to_a m.to_a q.to_a s.0.2 k.to_a;

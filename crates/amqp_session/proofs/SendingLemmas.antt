@@ -8,7 +8,7 @@ use Rattle.amqp_session.specs.Serial.{In, remaining}
 use Rattle.amqp_session.specs.Transfers.{RequestedTransfer, frame_of, first_of, numbered, firsts}
 use Rattle.amqp_session.specs.Sending.{SendingView, joined, moved, begun, let_out, drained}
 use Rattle.amqp_session.specs.Items.{HandsOut, item_frames}
-use Rattle.amqp_session.specs.Headline.{transfer_in, transfers_in, carried, Books}
+use Rattle.amqp_session.specs.Headline.{transfer_in, transfers_in, carried, SendingMatches}
 use Rattle.amqp_session.proofs.HandedOutLemmas.{numbered_same}
 
 -- ---- numbers past the wrap
@@ -78,8 +78,8 @@ numbered_first c n (suc m) (suc k) (x ∷ hs) h f e g = numbered_first c (n + fi
 
 -- ---- the books of the sending half
 
-pub Books-joined : (c i : ℕ) (A : List RequestedTransfer) (F : List SessionFrame) (w : ℕ × ℕ) (v : SendingView) (h : RequestedTransfer) → Books c i A F w v → Books c i (A ++ h ∷ []) F w (joined v h)
-Books-joined c i A F w v h b =
+pub SendingMatches-joined : (c i : ℕ) (A : List RequestedTransfer) (F : List SessionFrame) (w : ℕ × ℕ) (v : SendingView) (h : RequestedTransfer) → SendingMatches c i A F w v → SendingMatches c i (A ++ h ∷ []) F w (joined v h)
+SendingMatches-joined c i A F w v h b =
     let taken : take (length F) (A ++ h ∷ []) ≡ take (length F) A = take-append-le (length F) A (h ∷ []) b.no_more in
     let dropped : drop (length F) (A ++ h ∷ []) ≡ drop (length F) A ++ h ∷ [] = drop-append-le (length F) A (h ∷ []) b.no_more in
     record {
@@ -93,8 +93,8 @@ Books-joined c i A F w v h b =
       no_more = omega (arith, b.no_more, length-append A (h ∷ []));
     }
 
-pub Books-moved : (c i : ℕ) (A : List RequestedTransfer) (F : List SessionFrame) (w : ℕ × ℕ) (v : SendingView) (base width : ℕ) → width < 2 ^ 32 → base < 2 ^ 32 → Books c i A F w v → Books c i A F (base, width) (moved v base width)
-Books-moved c i A F w v base width hw hb b = record {
+pub SendingMatches-moved : (c i : ℕ) (A : List RequestedTransfer) (F : List SessionFrame) (w : ℕ × ℕ) (v : SendingView) (base width : ℕ) → width < 2 ^ 32 → base < 2 ^ 32 → SendingMatches c i A F w v → SendingMatches c i A F (base, width) (moved v base width)
+SendingMatches-moved c i A F w v base width hw hb b = record {
   next_is = b.next_is;
   delivery_is = b.delivery_is;
   held_is = b.held_is;
@@ -105,8 +105,8 @@ Books-moved c i A F w v base width hw hb b = record {
   no_more = b.no_more;
 }
 
-pub Books-begun : (c i : ℕ) (A : List RequestedTransfer) (F : List SessionFrame) (w : ℕ × ℕ) (v : SendingView) (n : ℕ) → n < 2 ^ 32 → Books c i A F w v → Books c i A F ((i + length F) % 2 ^ 32, n) (begun v n)
-Books-begun c i A F w v n fits b = record {
+pub SendingMatches-begun : (c i : ℕ) (A : List RequestedTransfer) (F : List SessionFrame) (w : ℕ × ℕ) (v : SendingView) (n : ℕ) → n < 2 ^ 32 → SendingMatches c i A F w v → SendingMatches c i A F ((i + length F) % 2 ^ 32, n) (begun v n)
+SendingMatches-begun c i A F w v n fits b = record {
   next_is = b.next_is;
   delivery_is = b.delivery_is;
   held_is = b.held_is;
@@ -117,8 +117,8 @@ Books-begun c i A F w v n fits b = record {
   no_more = b.no_more;
 }
 
-pub Books-drained : (c i : ℕ) (A : List RequestedTransfer) (F : List SessionFrame) (w : ℕ × ℕ) (v : SendingView) → Books c i A F w v → Books c i A (F ++ let_out c v) w (drained v)
-Books-drained c i A F w v b =
+pub SendingMatches-drained : (c i : ℕ) (A : List RequestedTransfer) (F : List SessionFrame) (w : ℕ × ℕ) (v : SendingView) → SendingMatches c i A F w v → SendingMatches c i A (F ++ let_out c v) w (drained v)
+SendingMatches-drained c i A F w v b =
     let more : length (F ++ let_out c v) ≡ length F + min v.remote_incoming_window (length v.held) =
     length-append F (let_out c v) ∙ ap (λ k. length F + k) (length-numbered c v.next_delivery (take v.remote_incoming_window v.held) ∙ length-take v.remote_incoming_window v.held) in
     let left : length v.held ≡ length A - length F = ap length b.held_is ∙ length-drop (length F) A in
@@ -147,9 +147,9 @@ abbrev pub Goes : Bool → ℕ → SendingView → List SessionFrame → Sending
 Goes true c v out w = (out ≡ let_out c v) × (w ≡ drained v)
 Goes false c v out w = (out ≡ []) × (w ≡ v)
 
-pub Books-goes : (b : Bool) (c i : ℕ) (A : List RequestedTransfer) (F out : List SessionFrame) (w : ℕ × ℕ) (v u : SendingView) → Goes b c v out u → Books c i A F w v → Books c i A (F ++ out) w u
-Books-goes true c i A F out w v u g b = rw (g.0, g.1) (Books-drained c i A F w v b)
-Books-goes false c i A F out w v u g b = rw (g.0, g.1, append-nil F) b
+pub SendingMatches-goes : (b : Bool) (c i : ℕ) (A : List RequestedTransfer) (F out : List SessionFrame) (w : ℕ × ℕ) (v u : SendingView) → Goes b c v out u → SendingMatches c i A F w v → SendingMatches c i A (F ++ out) w u
+SendingMatches-goes true c i A F out w v u g b = rw (g.0, g.1) (SendingMatches-drained c i A F w v b)
+SendingMatches-goes false c i A F out w v u g b = rw (g.0, g.1, append-nil F) b
 
 pub goes_by : (b : Bool) (c : ℕ) (v u : SendingView) (out : List SessionFrame) → out ≡ transfers_in (cond b (let_out c v) []) → u ≡ cond b (drained v) v → Goes b c v out u
 goes_by true c v u out e q = (e ∙ transfers_in-numbered c v.next_delivery (take v.remote_incoming_window v.held), q)

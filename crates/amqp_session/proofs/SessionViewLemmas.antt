@@ -18,13 +18,13 @@ use Rattle.amqp_session.specs.Received.{named_with, takes_away, channel_by}
 use Rattle.amqp_session.specs.Relay.{Relays}
 use Rattle.amqp_session.specs.Session.{SessionView, new_session}
 use Rattle.amqp_session.specs.Step.{flow_base, SendTransferStep}
-use Rattle.amqp_session.specs.History.{Entry, TakesBegin, TakesFlow, SendsTransfer, Made, Step, Chain, LeadsTo}
-use Rattle.amqp_session.specs.Headline.{transfers_in, accepted_by, handed, accepted, waiting, number, window_by, window_from, window, state_by, state_from, Answers, LetsOut, Headline, Books, begun_in, sent_with, open_at, Receives, Opens, Stands}
+use Rattle.amqp_session.specs.History.{SessionCall, TakesBegin, TakesFlow, SendsTransfer, Made, SessionStep, SessionChain, LeadsTo}
+use Rattle.amqp_session.specs.Headline.{transfers_in, accepted_by, handed, accepted, waiting, number, window_by, window_from, window, state_by, state_from, Answers, LetsOut, Headline, SendingMatches, begun_in, sent_with, open_at, Receives, Opens, Stands}
 use Rattle.amqp_session.specs.Deliveries.{of_role}
 use Rattle.amqp_types.specs.declared.definitions.Role.{Role}
 use Rattle.amqp_types.specs.declared.definitions.Role.TheVariants.{Sender, Receiver}
 use Rattle.amqp_session.proofs.TableRecordLemmas.{opened_each, with_record_each}
-use Rattle.amqp_session.proofs.SendingLemmas.{inside_at, used_up, length-numbered, numbered_first, Books-joined, Books-moved, Books-begun, Goes, Books-goes}
+use Rattle.amqp_session.proofs.SendingLemmas.{inside_at, used_up, length-numbered, numbered_first, SendingMatches-joined, SendingMatches-moved, SendingMatches-begun, Goes, SendingMatches-goes}
 use Rattle.amqp_session.proofs.HandedOutLemmas.{opened_same}
 use Rattle.amqp_session.proofs.CallEffectLemmas.{Rest, stops, sending_by, lets_by, WordFits, Does, does}
 use Rattle.amqp_session.proofs.SettledTableLemmas.{keeps, keeps_each}
@@ -50,25 +50,25 @@ rows_go false c v u out rows rows' W n g e same d = e ∙ sym (ap (λ (ts : List
 
 module _ {R : Type 0} (g : Relays R) where
   -- the books once a call is taken, before anything goes out
-  Books-before : (m : Made) (A : List RequestedTransfer) (F : List SessionFrame) (n : ℕ × ℕ) (v : SessionView R) (e : Entry R) → v.settings ≡ m.settings → WordFits v e → Books m.channel m.settings.next_outgoing_id A F n v.sending →
-      Books m.channel m.settings.next_outgoing_id (A ++ accepted_by e) F (window_by m (m.settings.next_outgoing_id + length F) n e) (sending_by v e)
-  Books-before m A F n v (TakesBegin channel begin (Ok u)) same fits b = rw (append-nil A) (Books-begun _ _ A F n v.sending begin.incoming_window fits.incoming_window b)
-  Books-before m A F n v (TakesFlow f asked result) same fits b =
+  SendingMatches-before : (m : Made) (A : List RequestedTransfer) (F : List SessionFrame) (n : ℕ × ℕ) (v : SessionView R) (e : SessionCall R) → v.settings ≡ m.settings → WordFits v e → SendingMatches m.channel m.settings.next_outgoing_id A F n v.sending →
+      SendingMatches m.channel m.settings.next_outgoing_id (A ++ accepted_by e) F (window_by m (m.settings.next_outgoing_id + length F) n e) (sending_by v e)
+  SendingMatches-before m A F n v (TakesBegin channel begin (Ok u)) same fits b = rw (append-nil A) (SendingMatches-begun _ _ A F n v.sending begin.incoming_window fits.incoming_window b)
+  SendingMatches-before m A F n v (TakesFlow f asked result) same fits b =
       let base : flow_base v f ≡ unwrap_or f.next_incoming_id m.settings.next_outgoing_id = ap (λ (x : SettingsModel). unwrap_or f.next_incoming_id x.next_outgoing_id) same in
-      rw (append-nil A) (subst (λ k. Books m.channel m.settings.next_outgoing_id A F (k, f.incoming_window) (moved v.sending (flow_base v f) f.incoming_window)) base (Books-moved _ _ A F n v.sending (flow_base v f) f.incoming_window fits.incoming_window fits.base b))
-  Books-before m A F n v (SendsTransfer h (Ok item)) same fits b = Books-joined _ _ A F n v.sending h b
-  Books-before m A F n v e same fits b = rw (append-nil A) b
+      rw (append-nil A) (subst (λ k. SendingMatches m.channel m.settings.next_outgoing_id A F (k, f.incoming_window) (moved v.sending (flow_base v f) f.incoming_window)) base (SendingMatches-moved _ _ A F n v.sending (flow_base v f) f.incoming_window fits.incoming_window fits.base b))
+  SendingMatches-before m A F n v (SendsTransfer h (Ok item)) same fits b = SendingMatches-joined _ _ A F n v.sending h b
+  SendingMatches-before m A F n v e same fits b = rw (append-nil A) b
 
   -- a call, by its effect
-  goes_on : (m : Made) (v w : SessionView R) (e : Entry R) → v.outgoing_channel ≡ m.channel → Does g v e w → Goes (lets_by v e) m.channel (sending_by v e) (transfers_in (call_frames e)) w.sending
+  goes_on : (m : Made) (v w : SessionView R) (e : SessionCall R) → v.outgoing_channel ≡ m.channel → Does g v e w → Goes (lets_by v e) m.channel (sending_by v e) (transfers_in (call_frames e)) w.sending
   goes_on m v w e on d = subst (λ c. Goes (lets_by v e) c (sending_by v e) (transfers_in (call_frames e)) w.sending) on d.goes
 
-  before_is : (m : Made) (H : List (Entry R)) (v w : SessionView R) (e : Entry R) → Stands m H v → Does g v e w →
-      Books m.channel m.settings.next_outgoing_id (accepted H ++ accepted_by e) (handed H) (window_by m (m.settings.next_outgoing_id + length (handed H)) (window m H) e) (sending_by v e)
-  before_is m H v w e b d = Books-before m (accepted H) (handed H) (window m H) v e b.settings_is d.word_fits b.sending_is
+  before_is : (m : Made) (H : List (SessionCall R)) (v w : SessionView R) (e : SessionCall R) → Stands m H v → Does g v e w →
+      SendingMatches m.channel m.settings.next_outgoing_id (accepted H ++ accepted_by e) (handed H) (window_by m (m.settings.next_outgoing_id + length (handed H)) (window m H) e) (sending_by v e)
+  before_is m H v w e b d = SendingMatches-before m (accepted H) (handed H) (window m H) v e b.settings_is d.word_fits b.sending_is
 
   -- a call opens the deliveries whose first frames go out with it
-  sent_step : (m : Made) (H : List (Entry R)) (v w : SessionView R) (e : Entry R) → Stands m H v → Does g v e w → w.deliveries.receiver ≡ opened (begun_in H) (sent_with H e) (keeps Receiver e v.deliveries.receiver)
+  sent_step : (m : Made) (H : List (SessionCall R)) (v w : SessionView R) (e : SessionCall R) → Stands m H v → Does g v e w → w.deliveries.receiver ≡ opened (begun_in H) (sent_with H e) (keeps Receiver e v.deliveries.receiver)
   sent_step m H v w e b d =
       let k = before_is m H v w e b d in
       let waits = sym (drop-append-le (length (handed H)) (accepted H) (accepted_by e) b.sending_is.no_more) ∙ sym k.held_is in
@@ -77,19 +77,19 @@ module _ {R : Type 0} (g : Relays R) where
 
   -- ---- histories
 
-  handed-append : (G H : List (Entry R)) → handed (G ++ H) ≡ handed G ++ handed H
+  handed-append : (G H : List (SessionCall R)) → handed (G ++ H) ≡ handed G ++ handed H
   handed-append [] H = refl
   handed-append (e ∷ G) H = ap (λ ts. transfers_in (call_frames e) ++ ts) (handed-append G H) ∙ sym (append_assoc (transfers_in (call_frames e)) (handed G) (handed H))
 
-  accepted-append : (G H : List (Entry R)) → accepted (G ++ H) ≡ accepted G ++ accepted H
+  accepted-append : (G H : List (SessionCall R)) → accepted (G ++ H) ≡ accepted G ++ accepted H
   accepted-append [] H = refl
   accepted-append (e ∷ G) H = ap (λ hs. accepted_by e ++ hs) (accepted-append G H) ∙ sym (append_assoc (accepted_by e) (accepted G) (accepted H))
 
-  state_from-append : (s : SessionState) (G H : List (Entry R)) → state_from s (G ++ H) ≡ state_from (state_from s G) H
+  state_from-append : (s : SessionState) (G H : List (SessionCall R)) → state_from s (G ++ H) ≡ state_from (state_from s G) H
   state_from-append s [] H = refl
   state_from-append s (e ∷ G) H = state_from-append (state_by s e) G H
 
-  window_from-append : (m : Made) (n : ℕ) (w : ℕ × ℕ) (G H : List (Entry R)) → window_from m n w (G ++ H) ≡ window_from m (n + length (handed G)) (window_from m n w G) H
+  window_from-append : (m : Made) (n : ℕ) (w : ℕ × ℕ) (G H : List (SessionCall R)) → window_from m n w (G ++ H) ≡ window_from m (n + length (handed G)) (window_from m n w G) H
   window_from-append m n w [] H = ap (λ k. window_from m k w H) (omega arith)
   window_from-append m n w (e ∷ G) H =
       let out : List SessionFrame = transfers_in (call_frames e) in
@@ -97,7 +97,7 @@ module _ {R : Type 0} (g : Relays R) where
       window_from-append m (n + length out) (window_by m n w e) G H ∙ ap (λ k. window_from m k (window_from m (n + length out) (window_by m n w e) G) H) same
 
   -- and the record of each number is the newest one
-  opens_more : (m : Made) (H : List (Entry R)) (e : Entry R) (v u : SessionView R) → Stands m H v → Does g v e u → (role : Role) → Opens role (H ++ e ∷ []) (of_role role u.deliveries)
+  opens_more : (m : Made) (H : List (SessionCall R)) (e : SessionCall R) (v u : SessionView R) → Stands m H v → Does g v e u → (role : Role) → Opens role (H ++ e ∷ []) (of_role role u.deliveries)
   opens_more m H e v u b d Receiver =
       let kept = keeps_each Receiver e v.deliveries.receiver (λ n. open_at Receiver n H) ((b.open_are Receiver).table, (b.open_are Receiver).each) in
       let o = opened_each (begun_in H) (sent_with H e) (keeps Receiver e v.deliveries.receiver) u.deliveries.receiver (λ n. cond (takes_away Receiver e n) None (open_at Receiver n H)) (sent_step m H v u e b d) kept in
@@ -111,7 +111,7 @@ module _ {R : Type 0} (g : Relays R) where
   opens_new Receiver = record { table = (tt, tt); each = λ n. refl }
   opens_new Sender = record { table = (tt, tt); each = λ n. refl }
 
-  pub stands-more : (m : Made) (H : List (Entry R)) (e : Entry R) (v u : SessionView R) → Stands m H v → Agree v.links → Step g v e u → Stands m (H ++ e ∷ []) u
+  pub stands-more : (m : Made) (H : List (SessionCall R)) (e : SessionCall R) (v u : SessionView R) → Stands m H v → Agree v.links → SessionStep g v e u → Stands m (H ++ e ∷ []) u
   stands-more m H e v u b a s = let d = does g v u e s in let l = links_by g v u e a s in let r = d.rest_is in record {
     receiving_is = subst (λ (x : Receiving). Receives (H ++ e ∷ []) x) (sym (ap (λ (x : Rest). x.receiving) r)) (receives_more H v v.receiving e d.word_fits b.receiving_is);
     open_are = λ role. opens_more m H e v u b d role;
@@ -125,11 +125,11 @@ module _ {R : Type 0} (g : Relays R) where
     inputs_are = λ h. l.inputs_are h ∙ ap (λ o. input_by h o e) (b.inputs_are h) ∙ sym (input_more h None H e);
     sending_is =
         rw (accepted-append H (e ∷ []), handed-append H (e ∷ []), window_from-append m m.settings.next_outgoing_id (0, 0) H (e ∷ []), append-nil (accepted_by e), append-nil (transfers_in (call_frames e)))
-        (Books-goes (lets_by v e) _ _ (accepted H ++ accepted_by e) (handed H) _ _ _ _ (goes_on m v u e b.outgoing_channel_is d) (before_is m H v u e b d));
+        (SendingMatches-goes (lets_by v e) _ _ (accepted H ++ accepted_by e) (handed H) _ _ _ _ (goes_on m v u e b.outgoing_channel_is d) (before_is m H v u e b d));
     state_is = ap (λ (x : Rest). x.state) r ∙ ap (λ x. state_by x e) b.state_is ∙ sym (state_from-append m.state H (e ∷ []));
   }
 
-  stands-chain : (m : Made) (G H : List (Entry R)) (v u : SessionView R) → Stands m G v → Agree v.links → Chain g v H u → Stands m (G ++ H) u
+  stands-chain : (m : Made) (G H : List (SessionCall R)) (v u : SessionView R) → Stands m G v → Agree v.links → SessionChain g v H u → Stands m (G ++ H) u
   stands-chain m G [] v u b a c = rw (append-nil G, c) b
   stands-chain m G (e ∷ H) v u b a c =
       subst (λ K. Stands m K u) (append_assoc G (e ∷ []) H) (stands-chain m (G ++ e ∷ []) H c.0 u (stands-more m G e v c.0 b a c.1) (links_by g v c.0 e a c.1).agree c.2)
@@ -160,31 +160,31 @@ module _ {R : Type 0} (g : Relays R) where
   }
 
   -- the law of views
-  pub stands_law : (m : Made) (H : List (Entry R)) (v : SessionView R) → LeadsTo g m H v → Stands m H v
+  pub stands_law : (m : Made) (H : List (SessionCall R)) (v : SessionView R) → LeadsTo g m H v → Stands m H v
   stands_law m H v l = stands-chain m [] H (new_session m.settings m.channel m.state m.stop) v (stands-new m l.0) (agree_new R) l.1
 
   -- in every history names and output handles agree
-  pub agree_chain : (H : List (Entry R)) (v u : SessionView R) → Agree v.links → Chain g v H u → Agree u.links
+  pub agree_chain : (H : List (SessionCall R)) (v u : SessionView R) → Agree v.links → SessionChain g v H u → Agree u.links
   agree_chain [] v u a c = subst (λ (x : SessionView R). Agree x.links) (sym c) a
   agree_chain (e ∷ H) v u a c = agree_chain H c.0 u (links_by g v c.0 e a c.1).agree c.2
 
-  pub agree_law : (m : Made) (H : List (Entry R)) (v : SessionView R) → LeadsTo g m H v → Agree v.links
+  pub agree_law : (m : Made) (H : List (SessionCall R)) (v : SessionView R) → LeadsTo g m H v → Agree v.links
   agree_law m H v l = agree_chain H (new_session m.settings m.channel m.state m.stop) v (agree_new R) l.1
 
-  pub chain-split : (xs ys : List (Entry R)) (v u : SessionView R) → Chain g v (xs ++ ys) u → (m : SessionView R) × Chain g v xs m × Chain g m ys u
+  pub chain-split : (xs ys : List (SessionCall R)) (v u : SessionView R) → SessionChain g v (xs ++ ys) u → (m : SessionView R) × SessionChain g v xs m × SessionChain g m ys u
   chain-split [] ys v u c = (v, refl, c)
   chain-split (e ∷ xs) ys v u c = let r = chain-split xs ys c.0 u c.2 in (r.0, (c.0, c.1, r.1), r.2)
 
   -- ---- the headline
 
-  let_out_inside : (c i : ℕ) (A : List RequestedTransfer) (F : List SessionFrame) (w : ℕ × ℕ) (v : SendingView) (k : ℕ) → Books c i A F w v → k < length (let_out c v) → In (((i + length F) % 2 ^ 32 + k) % 2 ^ 32) w
+  let_out_inside : (c i : ℕ) (A : List RequestedTransfer) (F : List SessionFrame) (w : ℕ × ℕ) (v : SendingView) (k : ℕ) → SendingMatches c i A F w v → k < length (let_out c v) → In (((i + length F) % 2 ^ 32 + k) % 2 ^ 32) w
   let_out_inside c i A F w v k b h =
       let len = length-numbered c v.next_delivery (take v.remote_incoming_window v.held) ∙ length-take v.remote_incoming_window v.held in
       let next_fits : v.next_outgoing_id < 2 ^ 32 = omega (arith, b.next_is) in
       let below : k < remaining v.next_outgoing_id w = omega (arith, len, b.window_is) in
       subst (λ n. In ((n + k) % 2 ^ 32) w) b.next_is (inside_at v.next_outgoing_id w.0 w.1 k next_fits b.base_fits b.width_fits below)
 
-  goes_inside : (b : Bool) (c i : ℕ) (A : List RequestedTransfer) (F out : List SessionFrame) (w : ℕ × ℕ) (v u : SendingView) (k : ℕ) → Goes b c v out u → Books c i A F w v → k < length out → In (((i + length F) % 2 ^ 32 + k) % 2 ^ 32) w
+  goes_inside : (b : Bool) (c i : ℕ) (A : List RequestedTransfer) (F out : List SessionFrame) (w : ℕ × ℕ) (v u : SendingView) (k : ℕ) → Goes b c v out u → SendingMatches c i A F w v → k < length out → In (((i + length F) % 2 ^ 32 + k) % 2 ^ 32) w
   goes_inside true c i A F out w v u k g' b h = let_out_inside c i A F w v k b (subst (λ (ts : List SessionFrame). k < length ts) g'.0 h)
   goes_inside false c i A F out w v u k g' b h = absurd (omega (arith, h, ap length g'.0))
 
@@ -195,10 +195,10 @@ module _ {R : Type 0} (g : Relays R) where
   goes_waits true c v out u e g' = rw g'.1 (drained_waits v)
   goes_waits false c v out u e g' = absurd (cc)
 
-  does_wait : (v w : SessionView R) (e : Entry R) → Does g v e w → lets_by v e ≡ true → (w.sending.held ≡ []) ⊎ (w.sending.remote_incoming_window ≡ 0)
+  does_wait : (v w : SessionView R) (e : SessionCall R) → Does g v e w → lets_by v e ≡ true → (w.sending.held ≡ []) ⊎ (w.sending.remote_incoming_window ≡ 0)
   does_wait v w e d l = goes_waits (lets_by v e) v.outgoing_channel (sending_by v e) (transfers_in (call_frames e)) w.sending l d.goes
 
-  call_waits : (v w : SessionView R) (e : Entry R) → Step g v e w → LetsOut v.state e → (w.sending.held ≡ []) ⊎ (w.sending.remote_incoming_window ≡ 0)
+  call_waits : (v w : SessionView R) (e : SessionCall R) → SessionStep g v e w → LetsOut v.state e → (w.sending.held ≡ []) ⊎ (w.sending.remote_incoming_window ≡ 0)
   call_waits v w (TakesFlow f asked (Ok item)) s l = does_wait v w (TakesFlow f asked (Ok item)) (does g v w (TakesFlow f asked (Ok item)) s) l
   call_waits v w (SendsTransfer h (Ok item)) s l = does_wait v w (SendsTransfer h (Ok item)) (does g v w (SendsTransfer h (Ok item)) s) s.0
   call_waits v w (TakesFlow f asked (Err e)) s l = absurd l
@@ -211,29 +211,29 @@ module _ {R : Type 0} (g : Relays R) where
   answers v w h (Err Refused.OutOfMemory) s = (s.0, s.1)
   answers v w h (Err e) s = absurd s
 
-  waits_by : (m : Made) (H : List (Entry R)) (v : SessionView R) → Stands m H v → (v.sending.held ≡ []) ⊎ (v.sending.remote_incoming_window ≡ 0) → (waiting H ≡ []) ⊎ ¬ (In (number m H) (window m H))
+  waits_by : (m : Made) (H : List (SessionCall R)) (v : SessionView R) → Stands m H v → (v.sending.held ≡ []) ⊎ (v.sending.remote_incoming_window ≡ 0) → (waiting H ≡ []) ⊎ ¬ (In (number m H) (window m H))
   waits_by m H v b (inl none) = inl (sym b.sending_is.held_is ∙ none)
   waits_by m H v b (inr used) =
       let left : remaining (number m H) (window m H) ≡ 0 = ap (λ n. remaining n (window m H)) (sym b.sending_is.next_is) ∙ sym b.sending_is.window_is ∙ used in
       inr (λ inside. let z = used_up (number m H) (window m H).0 (window m H).1 left inside in absurd (omega (arith, z)))
 
-  pub headline_law : (m : Made) (H : List (Entry R)) (v : SessionView R) → LeadsTo g m H v → Headline m H
+  pub headline_law : (m : Made) (H : List (SessionCall R)) (v : SessionView R) → LeadsTo g m H v → Headline m H
   headline_law m H v l = record {
     accounts = let b = stands_law m H v l in record { handed_out = b.sending_is.handed_out; no_more = b.sending_is.no_more };
     first_alone = λ k h f asked out.
         let b = stands_law m H v l in
         numbered_first m.channel 0 (length (handed H)) k (accepted H) h f asked (subst (λ (fs : List SessionFrame). slice_get fs k ≡ Some f) b.sending_is.handed_out out);
     all_answered = λ before after h result is.
-        let r = chain-split before (SendsTransfer h result ∷ after) (new_session m.settings m.channel m.state m.stop) v (subst (λ K. Chain g (new_session m.settings m.channel m.state m.stop) K v) is l.1) in
+        let r = chain-split before (SendsTransfer h result ∷ after) (new_session m.settings m.channel m.state m.stop) v (subst (λ K. SessionChain g (new_session m.settings m.channel m.state m.stop) K v) is l.1) in
         let b = stands_law m before r.0 (l.0, r.1) in
         subst (λ s. Answers s h result) b.state_is (answers r.0 r.2.0 h result r.2.1);
     inside = λ before after e is k h.
-        let r = chain-split before (e ∷ after) (new_session m.settings m.channel m.state m.stop) v (subst (λ K. Chain g (new_session m.settings m.channel m.state m.stop) K v) is l.1) in
+        let r = chain-split before (e ∷ after) (new_session m.settings m.channel m.state m.stop) v (subst (λ K. SessionChain g (new_session m.settings m.channel m.state m.stop) K v) is l.1) in
         let b = stands_law m before r.0 (l.0, r.1) in
         let d = does g r.0 r.2.0 e r.2.1 in
         rw (window_from-append m m.settings.next_outgoing_id (0, 0) before (e ∷ [])) (goes_inside (lets_by r.0 e) _ _ (accepted before ++ accepted_by e) (handed before) _ _ _ _ k (goes_on m r.0 r.2.0 e b.outgoing_channel_is d) (before_is m before r.0 r.2.0 e b d) h);
     waits_only = λ before after e is lets.
-        let r = chain-split before (e ∷ after) (new_session m.settings m.channel m.state m.stop) v (subst (λ K. Chain g (new_session m.settings m.channel m.state m.stop) K v) is l.1) in
+        let r = chain-split before (e ∷ after) (new_session m.settings m.channel m.state m.stop) v (subst (λ K. SessionChain g (new_session m.settings m.channel m.state m.stop) K v) is l.1) in
         let b = stands_law m before r.0 (l.0, r.1) in
         let ends = call_waits r.0 r.2.0 e r.2.1 (subst (λ s. LetsOut s e) (sym b.state_is) lets) in
         waits_by m (before ++ e ∷ []) r.2.0 (stands-more m before e r.0 r.2.0 b (agree_law m before r.0 (l.0, r.1)) r.2.1) ends;

@@ -7,11 +7,11 @@ use Rattle.amqp_types.specs.declared.definitions.Role.TheVariants.{Sender, Recei
 use Rattle.amqp_session.specs.declared.deliveries.Delivery.{Delivery}
 use Rattle.amqp_session.specs.Deliveries.{EachNumber, IsRising, IsTable, record_at, OpenView, of_role, with_role, is_role, peer_role}
 use Rattle.amqp_session.specs.Disposing.{is_meant, not_meant, out_of_range}
-use Rattle.amqp_session.specs.History.{Entry, TakesDisposition, Settles}
+use Rattle.amqp_session.specs.History.{SessionCall, TakesDisposition, Settles}
 use Rattle.amqp_session.specs.Received.{takes_away}
 
 -- the records of a role that a call leaves
-abbrev pub keeps : {R : Type 0} → Role → Entry R → List Delivery → List Delivery
+abbrev pub keeps : {R : Type 0} → Role → SessionCall R → List Delivery → List Delivery
 keeps role (TakesDisposition d asked (Ok None)) rows = cond (is_role role d.role) (not_meant d rows) rows
 keeps role (Settles own first last count) rows = cond (is_role role (peer_role own)) (out_of_range first last rows) rows
 keeps role e rows = rows
@@ -62,7 +62,7 @@ without true first last rows old b =
 without false first last rows old b = b
 
 -- a table of a role after a call, where each number's record was this before
-pub keeps_each : {R : Type 0} → (role : Role) (e : Entry R) (rows : List Delivery) (old : ℕ → Option Delivery) →
+pub keeps_each : {R : Type 0} → (role : Role) (e : SessionCall R) (rows : List Delivery) (old : ℕ → Option Delivery) →
     IsTable rows × ((n : ℕ) → record_at n rows ≡ old n) →
     IsTable (keeps role e rows) × ((n : ℕ) → record_at n (keeps role e rows) ≡ cond (takes_away role e n) None (old n))
 keeps_each role (TakesDisposition d asked (Ok None)) rows old b = without (is_role role d.role) d.first d.last rows old b

@@ -33,54 +33,54 @@ use Rattle.amqp_session.specs.Disposing.{TakeDispositionStep, SendDispositionSte
 
 -- One call: its arguments, the questions to relays with their answers, and its answer; of a disposition that is sent also whether
 -- its state is terminal.
-pub data Entry (R : Type 0) : Type 0 where
-  SendsBegin : Result SessionFrame SessionStateError → Entry R
-  SendsEnd : Option ErrorModel → Result SessionFrame SessionStateError → Entry R
-  TakesBegin : ℕ → BeginModel → Result (Unit {0}) SessionStateError → Entry R
-  TakesEnd : ℕ → EndModel → Result (Unit {0}) SessionStateError → Entry R
-  AllocatesLink : List ℕ → Option R → Result OutputHandle AllocLinkError → Entry R
-  AllocatesIncomingLink : List ℕ → R → InputHandle → Result OutputHandle AllocLinkError → Entry R
-  DeallocatesLink : OutputHandle → Bool → Entry R
-  TakesAttach : AttachModel → Option (AttachQuestion R) → Result (Unit {0}) SessionInnerError → Entry R
-  TakesFlow : FlowModel → Option (FlowQuestion R) → Result (Option SessionOutgoingItem) SessionInnerError → Entry R
-  TakesTransfer : TransferModel → List ℕ → Option (TransferQuestion R) → Result (Option DispositionModel) SessionInnerError → Entry R
-  TakesDisposition : DispositionModel → List (DispositionQuestion R) → Result (Option (List DispositionModel)) SessionInnerError → Entry R
-  TakesDetach : DetachModel → Option (DetachQuestion R) → Result (Option DetachModel) SessionInnerError → Entry R
-  SendsAttach : AttachModel → SessionFrame → Entry R
-  SendsFlow : LinkFlow → SessionFrame → Entry R
-  SendsTransfer : RequestedTransfer → Result (Option SessionOutgoingItem) SessionInnerError → Entry R
-  SendsDisposition : DispositionModel → Bool → SessionFrame → Entry R
-  SendsDetach : DetachModel → Bool → Result (Option SessionFrame) SessionInnerError → Entry R
-  SendsSessionFlow : Option SessionOutgoingItem → Entry R
-  RecordsStop : SessionStopReason → Entry R
-  Settles : Role → ℕ → Option ℕ → ℕ → Entry R
+pub data SessionCall (R : Type 0) : Type 0 where
+  SendsBegin : Result SessionFrame SessionStateError → SessionCall R
+  SendsEnd : Option ErrorModel → Result SessionFrame SessionStateError → SessionCall R
+  TakesBegin : ℕ → BeginModel → Result (Unit {0}) SessionStateError → SessionCall R
+  TakesEnd : ℕ → EndModel → Result (Unit {0}) SessionStateError → SessionCall R
+  AllocatesLink : List ℕ → Option R → Result OutputHandle AllocLinkError → SessionCall R
+  AllocatesIncomingLink : List ℕ → R → InputHandle → Result OutputHandle AllocLinkError → SessionCall R
+  DeallocatesLink : OutputHandle → Bool → SessionCall R
+  TakesAttach : AttachModel → Option (AttachQuestion R) → Result (Unit {0}) SessionInnerError → SessionCall R
+  TakesFlow : FlowModel → Option (FlowQuestion R) → Result (Option SessionOutgoingItem) SessionInnerError → SessionCall R
+  TakesTransfer : TransferModel → List ℕ → Option (TransferQuestion R) → Result (Option DispositionModel) SessionInnerError → SessionCall R
+  TakesDisposition : DispositionModel → List (DispositionQuestion R) → Result (Option (List DispositionModel)) SessionInnerError → SessionCall R
+  TakesDetach : DetachModel → Option (DetachQuestion R) → Result (Option DetachModel) SessionInnerError → SessionCall R
+  SendsAttach : AttachModel → SessionFrame → SessionCall R
+  SendsFlow : LinkFlow → SessionFrame → SessionCall R
+  SendsTransfer : RequestedTransfer → Result (Option SessionOutgoingItem) SessionInnerError → SessionCall R
+  SendsDisposition : DispositionModel → Bool → SessionFrame → SessionCall R
+  SendsDetach : DetachModel → Bool → Result (Option SessionFrame) SessionInnerError → SessionCall R
+  SendsSessionFlow : Option SessionOutgoingItem → SessionCall R
+  RecordsStop : SessionStopReason → SessionCall R
+  Settles : Role → ℕ → Option ℕ → ℕ → SessionCall R
 
 -- the session goes from one view to the other by this call
-abbrev pub Step : {R : Type 0} → Relays R → SessionView R → Entry R → SessionView R → Type 0
-Step g v (SendsBegin result) w = SendBeginStep v result w
-Step g v (SendsEnd error result) w = SendEndStep v error result w
-Step g v (TakesBegin channel b result) w = TakeBeginStep v channel b result w
-Step g v (TakesEnd channel e result) w = TakeEndStep v e result w
-Step g v (AllocatesLink name relay result) w = AllocateLinkStep v name relay result w
-Step g v (AllocatesIncomingLink name relay input result) w = AllocateIncomingStep v name relay input result w
-Step g v (DeallocatesLink handle was) w = DeallocateStep v handle was w
-Step g v (TakesAttach a asked result) w = TakeAttachStep g.attach_gives v a asked result w
-Step g v (TakesFlow f asked result) w = FlowStep g.flow_gives v f asked result w
-Step g v (TakesTransfer t payload asked result) w = TakeTransferStep g.transfer_gives v t payload asked result w
-Step g v (TakesDisposition d asked result) w = TakeDispositionStep g.disposition_gives v d asked result w
-Step g v (TakesDetach d asked result) w = TakeDetachStep g.detach_gives v d asked result w
-Step g v (SendsAttach a frame) w = SendAttachStep v a frame w
-Step g v (SendsFlow l frame) w = SendFlowStep v l frame w
-Step g v (SendsTransfer h result) w = SendTransferStep v h result w
-Step g v (SendsDisposition d terminal frame) w = SendDispositionStep v d terminal frame w
-Step g v (SendsDetach d expects_echo result) w = SendDetachStep v d expects_echo result w
-Step g v (SendsSessionFlow item) w = SessionFlowStep v item w
-Step g v (RecordsStop reason) w = StopStep v reason w
-Step g v (Settles role first last count) w = SettleStep v role first last count w
+abbrev pub SessionStep : {R : Type 0} → Relays R → SessionView R → SessionCall R → SessionView R → Type 0
+SessionStep g v (SendsBegin result) w = SendBeginStep v result w
+SessionStep g v (SendsEnd error result) w = SendEndStep v error result w
+SessionStep g v (TakesBegin channel b result) w = TakeBeginStep v channel b result w
+SessionStep g v (TakesEnd channel e result) w = TakeEndStep v e result w
+SessionStep g v (AllocatesLink name relay result) w = AllocateLinkStep v name relay result w
+SessionStep g v (AllocatesIncomingLink name relay input result) w = AllocateIncomingStep v name relay input result w
+SessionStep g v (DeallocatesLink handle was) w = DeallocateStep v handle was w
+SessionStep g v (TakesAttach a asked result) w = TakeAttachStep g.attach_gives v a asked result w
+SessionStep g v (TakesFlow f asked result) w = FlowStep g.flow_gives v f asked result w
+SessionStep g v (TakesTransfer t payload asked result) w = TakeTransferStep g.transfer_gives v t payload asked result w
+SessionStep g v (TakesDisposition d asked result) w = TakeDispositionStep g.disposition_gives v d asked result w
+SessionStep g v (TakesDetach d asked result) w = TakeDetachStep g.detach_gives v d asked result w
+SessionStep g v (SendsAttach a frame) w = SendAttachStep v a frame w
+SessionStep g v (SendsFlow l frame) w = SendFlowStep v l frame w
+SessionStep g v (SendsTransfer h result) w = SendTransferStep v h result w
+SessionStep g v (SendsDisposition d terminal frame) w = SendDispositionStep v d terminal frame w
+SessionStep g v (SendsDetach d expects_echo result) w = SendDetachStep v d expects_echo result w
+SessionStep g v (SendsSessionFlow item) w = SessionFlowStep v item w
+SessionStep g v (RecordsStop reason) w = StopStep v reason w
+SessionStep g v (Settles role first last count) w = SettleStep v role first last count w
 
-abbrev pub Chain : {R : Type 0} → Relays R → SessionView R → List (Entry R) → SessionView R → Type 0
-Chain g v [] w = w ≡ v
-Chain g v (e ∷ es) w = (m : SessionView _) × Step g v e m × Chain g m es w
+abbrev pub SessionChain : {R : Type 0} → Relays R → SessionView R → List (SessionCall R) → SessionView R → Type 0
+SessionChain g v [] w = w ≡ v
+SessionChain g v (e ∷ es) w = (m : SessionView _) × SessionStep g v e m × SessionChain g m es w
 
 -- What a session is made with.
 pub record Made : Type 0 where
@@ -90,5 +90,5 @@ pub record Made : Type 0 where
   pub stop : Option ConnectionStopReason
 
 -- a legal history of a session that was made so, and the view that it leads to
-abbrev pub LeadsTo : {R : Type 0} → Relays R → Made → List (Entry R) → SessionView R → Type 0
-LeadsTo g m H w = (m.settings.next_outgoing_id < 2 ^ 32) × Chain g (new_session m.settings m.channel m.state m.stop) H w
+abbrev pub LeadsTo : {R : Type 0} → Relays R → Made → List (SessionCall R) → SessionView R → Type 0
+LeadsTo g m H w = (m.settings.next_outgoing_id < 2 ^ 32) × SessionChain g (new_session m.settings m.channel m.state m.stop) H w

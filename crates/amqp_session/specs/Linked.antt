@@ -11,36 +11,36 @@ use Rattle.std.specs.FinMap as map
 use Rattle.amqp_session.specs.Links.{LinksView}
 use Rattle.amqp_session.specs.Relay.{DispositionQuestion, goes_on}
 use Rattle.amqp_session.specs.Received.{has_kind}
-use Rattle.amqp_session.specs.History.{Entry, AllocatesLink, AllocatesIncomingLink, DeallocatesLink, TakesAttach, TakesFlow, TakesTransfer}
+use Rattle.amqp_session.specs.History.{SessionCall, AllocatesLink, AllocatesIncomingLink, DeallocatesLink, TakesAttach, TakesFlow, TakesTransfer}
 use Rattle.amqp_session.specs.History.{TakesDisposition, TakesDetach, SendsDetach}
 
 -- ---- output handles (section 2.6.2)
 
 -- How a handle is taken: not at all; by the live link of a name; or by none, where the peer's answer to the detach of its last
 -- link is awaited.
-abbrev pub Taken : Type 0
-Taken = Option (Option (List ℕ))
+abbrev pub HandleUse : Type 0
+HandleUse = Option (Option (List ℕ))
 
 -- a live link is released
-abbrev pub without_live : Taken → Taken
+abbrev pub without_live : HandleUse → HandleUse
 without_live None = None
 without_live (Some None) = Some None
 without_live (Some (Some name)) = None
 
 -- a live link is detached, and the peer is to answer or not
-abbrev pub left_by_detach : Bool → Taken → Taken
+abbrev pub left_by_detach : Bool → HandleUse → HandleUse
 left_by_detach expects_echo None = None
 left_by_detach expects_echo (Some None) = Some None
 left_by_detach expects_echo (Some (Some name)) = if expects_echo then Some None else None
 
 -- the peer answers
-abbrev pub answered : Taken → Taken
+abbrev pub answered : HandleUse → HandleUse
 answered None = None
 answered (Some None) = None
 answered (Some (Some name)) = Some (Some name)
 
 -- how a handle is taken after a call
-abbrev pub taken_by : {R : Type 0} → ℕ → Taken → Entry R → Taken
+abbrev pub taken_by : {R : Type 0} → ℕ → HandleUse → SessionCall R → HandleUse
 taken_by k old (AllocatesLink name relay (Ok h)) = if nat_eq k h.0 then Some (Some name) else old
 taken_by k old (AllocatesIncomingLink name relay input (Ok h)) = if nat_eq k h.0 then Some (Some name) else old
 taken_by k old (DeallocatesLink h was) = if nat_eq k h.0 then without_live old else old
@@ -48,12 +48,12 @@ taken_by k old (SendsDetach d expects_echo result) = if nat_eq k d.handle then l
 taken_by k old (TakesDetach d (Some q) result) = if nat_eq k q.handle.0 then answered old else old
 taken_by k old e = old
 
-abbrev pub taken_from : {R : Type 0} → ℕ → Taken → List (Entry R) → Taken
+abbrev pub taken_from : {R : Type 0} → ℕ → HandleUse → List (SessionCall R) → HandleUse
 taken_from k old [] = old
 taken_from k old (e ∷ es) = taken_from k (taken_by k old e) es
 
 -- after a history: none is taken at first
-abbrev pub taken_at : {R : Type 0} → ℕ → List (Entry R) → Taken
+abbrev pub taken_at : {R : Type 0} → ℕ → List (SessionCall R) → HandleUse
 taken_at k H = taken_from k None H
 
 -- ---- names (sections 2.6.1 and 2.6.3)
@@ -71,7 +71,7 @@ where_waits relay (Some n) = Some (record n { waiting = relay })
 -- The live link of a name after a call, with its output handle and the relay that waits for the peer's attach, if any. An
 -- allotment makes it, and a release or a detach of this side on its handle ends it. The peer's attach under the name leaves
 -- none waiting where it is accepted; else the relay that was asked goes on to wait.
-abbrev pub live_by : {R : Type 0} → List ℕ → Option (LiveLink R) → Entry R → Option (LiveLink R)
+abbrev pub live_by : {R : Type 0} → List ℕ → Option (LiveLink R) → SessionCall R → Option (LiveLink R)
 live_by name old (AllocatesLink new relay (Ok h)) = if bytes_eq name new then Some (record { handle = h; waiting = relay }) else old
 live_by name old (AllocatesIncomingLink new relay input (Ok h)) =
     if bytes_eq name new then Some (record { handle = h; waiting = None }) else old
@@ -81,12 +81,12 @@ live_by name old (TakesAttach a (Some q) (Ok u)) = if bytes_eq name a.name then 
 live_by name old (TakesAttach a (Some q) (Err e)) = if bytes_eq name a.name then where_waits (Some q.after) old else old
 live_by name old e = old
 
-abbrev pub live_from : {R : Type 0} → List ℕ → Option (LiveLink R) → List (Entry R) → Option (LiveLink R)
+abbrev pub live_from : {R : Type 0} → List ℕ → Option (LiveLink R) → List (SessionCall R) → Option (LiveLink R)
 live_from name old [] = old
 live_from name old (e ∷ es) = live_from name (live_by name old e) es
 
 -- after a history: no link is live at first
-abbrev pub live_at : {R : Type 0} → List ℕ → List (Entry R) → Option (LiveLink R)
+abbrev pub live_at : {R : Type 0} → List ℕ → List (SessionCall R) → Option (LiveLink R)
 live_at name H = live_from name None H
 
 -- ---- input handles (section 2.6.2)
@@ -109,7 +109,7 @@ asked_from h old (q ∷ qs) = asked_from h (if nat_eq h q.asked.delivery.input_h
 -- The relay under an input handle after a call, with the output handle of its link. It is put there by an allotment for an
 -- incoming link and by the peer's attach where that is accepted, goes on with each flow, transfer and disposition that asked it, and
 -- is gone with the peer's detach.
-abbrev pub input_by : {R : Type 0} → ℕ → Option (AttachedLink R) → Entry R → Option (AttachedLink R)
+abbrev pub input_by : {R : Type 0} → ℕ → Option (AttachedLink R) → SessionCall R → Option (AttachedLink R)
 input_by h old (AllocatesIncomingLink name relay input (Ok k)) =
     if nat_eq h input.0 then Some (record { handle = k; relay = relay }) else old
 input_by h old (TakesAttach a (Some q) (Ok u)) = if nat_eq h a.handle then Some (goes_on q) else old
@@ -119,12 +119,12 @@ input_by h old (TakesDisposition d asked result) = asked_from h old asked
 input_by h old (TakesDetach d (Some q) result) = if nat_eq h d.handle then None else old
 input_by h old e = old
 
-abbrev pub input_from : {R : Type 0} → ℕ → Option (AttachedLink R) → List (Entry R) → Option (AttachedLink R)
+abbrev pub input_from : {R : Type 0} → ℕ → Option (AttachedLink R) → List (SessionCall R) → Option (AttachedLink R)
 input_from h old [] = old
 input_from h old (e ∷ es) = input_from h (input_by h old e) es
 
 -- after a history: no relay stands there at first
-abbrev pub input_at : {R : Type 0} → ℕ → List (Entry R) → Option (AttachedLink R)
+abbrev pub input_at : {R : Type 0} → ℕ → List (SessionCall R) → Option (AttachedLink R)
 input_at h H = input_from h None H
 
 -- ---- what holds of the links of every history
@@ -136,30 +136,30 @@ handle_of (Some n) = Some n.handle.0
 
 -- The live names with their output handles, and how each output handle is taken: a live link has its handle for itself, and a
 -- handle that is awaited has no live link.
-pub record OneToOne (handle : List ℕ → Option ℕ) (taken : ℕ → Taken) : Type 0 where
+pub record OneToOne (handle : List ℕ → Option ℕ) (taken : ℕ → HandleUse) : Type 0 where
   pub agree : (name : List ℕ) (h : ℕ) → handle name ≡ Some h ↔ taken h ≡ Some (Some name)
   pub one_name : (name other : List ℕ) (h : ℕ) → handle name ≡ Some h → handle other ≡ Some h → name ≡ other
   pub one_handle : (name : List ℕ) (h k : ℕ) → taken h ≡ Some (Some name) → taken k ≡ Some (Some name) → h ≡ k
   pub never_awaited : (name : List ℕ) (h : ℕ) → handle name ≡ Some h → ¬ (taken h ≡ Some None)
 
 -- as a history says it, and as a session shows it
-abbrev pub LinksAgree : {R : Type 0} → List (Entry R) → Type 0
+abbrev pub LinksAgree : {R : Type 0} → List (SessionCall R) → Type 0
 LinksAgree H = OneToOne (λ name. handle_of (live_at name H)) (λ h. taken_at h H)
 
 abbrev pub ShownAgree : {R : Type 0} → LinksView R → Type 0
 ShownAgree l = OneToOne (λ name. handle_of (map.get l.names name)) (λ h. map.get l.handles h)
 
 -- this output handle is allotted
-abbrev pub allots : {R : Type 0} → ℕ → Entry R → Bool
+abbrev pub allots : {R : Type 0} → ℕ → SessionCall R → Bool
 allots k (AllocatesLink name relay (Ok h)) = nat_eq k h.0
 allots k (AllocatesIncomingLink name relay input (Ok h)) = nat_eq k h.0
 allots k e = false
 
 -- A detach of this side that the peer is to answer goes out at most once for each allotment of its output handle: the handle was
 -- allotted before the first one, and again between any two.
-pub record AwaitedOnce {R : Type 0} (H : List (Entry R)) : Type 0 where
-  pub allotted : (before after : List (Entry R)) (d : DetachModel) (f : SessionFrame) →
+pub record AwaitedOnce {R : Type 0} (H : List (SessionCall R)) : Type 0 where
+  pub allotted : (before after : List (SessionCall R)) (d : DetachModel) (f : SessionFrame) →
       H ≡ before ++ SendsDetach d true (Ok (Some f)) ∷ after → has_kind (allots d.handle) before ≡ true
-  pub again : (before between after : List (Entry R)) (d e : DetachModel) (f g : SessionFrame) →
+  pub again : (before between after : List (SessionCall R)) (d e : DetachModel) (f g : SessionFrame) →
       H ≡ before ++ SendsDetach d true (Ok (Some f)) ∷ (between ++ SendsDetach e true (Ok (Some g)) ∷ after) →
       d.handle ≡ e.handle → has_kind (allots d.handle) between ≡ true

@@ -6,7 +6,7 @@ use Rattle.amqp_session.specs.declared.frame.SessionOutgoingItem.{SessionOutgoin
 use Rattle.amqp_session.specs.declared.error.SessionStateError.{SessionStateError}
 use Rattle.amqp_session.specs.declared.error.SessionInnerError.{SessionInnerError}
 use Rattle.amqp_session.specs.Items.{item_frames, first_frame}
-use Rattle.amqp_session.specs.History.{Entry, SendsBegin, SendsEnd, TakesFlow, SendsAttach, SendsFlow, SendsTransfer, SendsDisposition}
+use Rattle.amqp_session.specs.History.{SessionCall, SendsBegin, SendsEnd, TakesFlow, SendsAttach, SendsFlow, SendsTransfer, SendsDisposition}
 use Rattle.amqp_session.specs.History.{SendsDetach, SendsSessionFlow}
 
 abbrev pub state_frames : Result SessionFrame SessionStateError → List SessionFrame
@@ -22,7 +22,7 @@ detach_frames (Ok f) = first_frame f
 detach_frames (Err e) = []
 
 -- of one call
-abbrev pub call_frames : {R : Type 0} → Entry R → List SessionFrame
+abbrev pub call_frames : {R : Type 0} → SessionCall R → List SessionFrame
 call_frames (SendsBegin result) = state_frames result
 call_frames (SendsEnd error result) = state_frames result
 call_frames (TakesFlow f asked result) = inner_frames result
@@ -35,7 +35,7 @@ call_frames (SendsSessionFlow item) = item_frames item
 call_frames c = []
 
 -- of all, in order
-abbrev pub calls_frames : {R : Type 0} → List (Entry R) → List SessionFrame
+abbrev pub calls_frames : {R : Type 0} → List (SessionCall R) → List SessionFrame
 calls_frames [] = []
 calls_frames (c ∷ cs) = call_frames c ++ calls_frames cs
 

@@ -32,7 +32,7 @@ use Rattle.amqp_session.specs.Session.{SessionView, new_session, flow_frame}
 use Rattle.amqp_session.specs.Linking.{attach_frame}
 use Rattle.amqp_session.specs.OutgoingFrames.{call_frames}
 use Rattle.amqp_session.specs.Headline.{transfers_in}
-use Rattle.amqp_session.specs.History.{Entry, Step, AllocatesLink, SendsBegin, SendsAttach, SendsFlow, SendsTransfer, SendsSessionFlow}
+use Rattle.amqp_session.specs.History.{SessionCall, SessionStep, AllocatesLink, SendsBegin, SendsAttach, SendsFlow, SendsTransfer, SendsSessionFlow}
 use Rattle.amqp_session.specs.History.{TakesBegin, TakesAttach, TakesFlow, TakesTransfer}
 
 pub record PairView (R : Type 0) : Type 0 where
@@ -70,8 +70,8 @@ abbrev pub Effect : Type 0 → Type 1
 Effect R = SessionView R → List SessionFrame → Said → SessionView R → List SessionFrame → Type 0
 
 -- The session makes a call, and what it hands out goes behind the frames on the way to the other side.
-abbrev pub Makes : {R : Type 0} → Relays R → SessionView R → List SessionFrame → Entry R → SessionView R → List SessionFrame → Type 0
-Makes g v going e w going' = Step g v e w × (going' ≡ going ++ call_frames e)
+abbrev pub Makes : {R : Type 0} → Relays R → SessionView R → List SessionFrame → SessionCall R → SessionView R → List SessionFrame → Type 0
+Makes g v going e w going' = SessionStep g v e w × (going' ≡ going ++ call_frames e)
 
 -- Nothing changes.
 abbrev pub Stays : {R : Type 0} → SessionView R → List SessionFrame → SessionView R → List SessionFrame → Type 0
@@ -103,7 +103,7 @@ BeginAt g v going result w going' =
     (IsSome (sends_begin v.state) × HasNoRoom v going result w going') ⊎ BeginIsSent g v going result w going'
 
 -- A frame of a link is sent by this call: in Mapped alone.
-abbrev pub FrameAt : {R : Type 0} → Relays R → Entry R → Effect R
+abbrev pub FrameAt : {R : Type 0} → Relays R → SessionCall R → Effect R
 FrameAt g e v going (Ok u) w going' = (is_mapped v.state ≡ true) × Makes g v going e w going'
 FrameAt g e v going (Err Refused.IllegalState) w going' = (is_mapped v.state ≡ false) × Stays v going w going'
 FrameAt g e v going (Err Refused.OutOfMemory) w going' = (is_mapped v.state ≡ true) × Stays v going w going'
@@ -152,7 +152,7 @@ pub record TransferIsTaken {R : Type 0} (g : Relays R) (t : TransferModel) (payl
   pub asked : Option (TransferQuestion R)
   pub reply : Result (Option DispositionModel) SessionInnerError
   pub counted : SessionView R
-  pub takes : Step g v (TakesTransfer t payload asked reply) counted
+  pub takes : SessionStep g v (TakesTransfer t payload asked reply) counted
   pub follows : FlowFollows g counted going reply w going'
   pub says : result ≡ answer_of reply
 
@@ -198,9 +198,9 @@ Acts B Does result p q = Does p.b p.to_a result q.b q.to_a × (q.a ≡ p.a) × (
 abbrev pub AllocateLinkStep : {R : Type 0} → Relays R → Side → List ℕ → Option R → Result OutputHandle AllocLinkError →
     PairView R → PairView R → Type 0
 AllocateLinkStep g A name relay handle p q =
-    Step g p.a (AllocatesLink name relay handle) q.a × (q.to_b ≡ p.to_b) × (q.b ≡ p.b) × (q.to_a ≡ p.to_a)
+    SessionStep g p.a (AllocatesLink name relay handle) q.a × (q.to_b ≡ p.to_b) × (q.b ≡ p.b) × (q.to_a ≡ p.to_a)
 AllocateLinkStep g B name relay handle p q =
-    Step g p.b (AllocatesLink name relay handle) q.b × (q.to_a ≡ p.to_a) × (q.a ≡ p.a) × (q.to_b ≡ p.to_b)
+    SessionStep g p.b (AllocatesLink name relay handle) q.b × (q.to_a ≡ p.to_a) × (q.a ≡ p.a) × (q.to_b ≡ p.to_b)
 
 abbrev pub BeginStep : {R : Type 0} → Relays R → Side → Said → PairView R → PairView R → Type 0
 BeginStep g side result p q = Acts side (BeginAt g) result p q

@@ -11,7 +11,7 @@ use Rattle.amqp_session.specs.Settings.{SettingsModel}
 use Rattle.amqp_session.specs.Relay.{Relays}
 use Rattle.amqp_session.specs.Session.{SessionView}
 use Rattle.amqp_session.specs.OutgoingFrames.{calls_frames}
-use Rattle.amqp_session.specs.History.{Entry, Chain, Made, LeadsTo, TakesBegin, TakesAttach, TakesFlow, TakesTransfer}
+use Rattle.amqp_session.specs.History.{SessionCall, SessionChain, Made, LeadsTo, TakesBegin, TakesAttach, TakesFlow, TakesTransfer}
 use Rattle.amqp_session.specs.Pair.{PairView}
 
 -- what frames say
@@ -20,7 +20,7 @@ bodies [] = []
 bodies (f ∷ fs) = f.body ∷ bodies fs
 
 -- what a call of a session takes from the peer
-abbrev pub received_by : {R : Type 0} → Entry R → List SessionFrameBody
+abbrev pub received_by : {R : Type 0} → SessionCall R → List SessionFrameBody
 received_by (TakesBegin channel b result) = Body.Begin b ∷ []
 received_by (TakesAttach a asked result) = Body.Attach a ∷ []
 received_by (TakesFlow f asked result) = Body.Flow f ∷ []
@@ -28,29 +28,29 @@ received_by (TakesTransfer t payload asked result) = Body.Transfer t payload ∷
 received_by c = []
 
 -- of all, in order
-abbrev pub received : {R : Type 0} → List (Entry R) → List SessionFrameBody
+abbrev pub received : {R : Type 0} → List (SessionCall R) → List SessionFrameBody
 received [] = []
 received (c ∷ cs) = received_by c ++ received cs
 
 -- One side's session makes these calls: what they take comes off the way to it, from the front, and what they hand out goes behind
 -- what is on the way to the other.
-abbrev pub MovesAt : {R : Type 0} → Relays R → List (Entry R) → SessionView R → List SessionFrame → List SessionFrame →
+abbrev pub MovesAt : {R : Type 0} → Relays R → List (SessionCall R) → SessionView R → List SessionFrame → List SessionFrame →
     SessionView R → List SessionFrame → List SessionFrame → Type 0
 MovesAt g calls v coming going w coming' going' =
-    Chain g v calls w × (bodies coming ≡ received calls ++ bodies coming') × (going' ≡ going ++ calls_frames calls)
+    SessionChain g v calls w × (bodies coming ≡ received calls ++ bodies coming') × (going' ≡ going ++ calls_frames calls)
 
-abbrev pub PairMoves : {R : Type 0} → Relays R → Side → List (Entry R) → PairView R → PairView R → Type 0
+abbrev pub PairMoves : {R : Type 0} → Relays R → Side → List (SessionCall R) → PairView R → PairView R → Type 0
 PairMoves g A calls p q = MovesAt g calls p.a p.to_a p.to_b q.a q.to_a q.to_b × (q.b ≡ p.b)
 PairMoves g B calls p q = MovesAt g calls p.b p.to_b p.to_a q.b q.to_b q.to_a × (q.a ≡ p.a)
 
 -- a call of this side of a pair
 abbrev pub IsMove : {R : Type 0} → Relays R → Side → PairView R → PairView R → Type 0
-IsMove {R} g side p q = (calls : List (Entry R)) × PairMoves g side calls p q
+IsMove {R} g side p q = (calls : List (SessionCall R)) × PairMoves g side calls p q
 
 -- a call of a pair: whose it is, and the calls that its session makes
 pub record PairCall (R : Type 0) : Type 0 where
   pub side : Side
-  pub calls : List (Entry R)
+  pub calls : List (SessionCall R)
 
 -- calls lead a pair from one view to another
 abbrev pub PairChain : {R : Type 0} → Relays R → PairView R → List (PairCall R) → PairView R → Type 0
@@ -64,7 +64,7 @@ own A B calls = []
 own B A calls = []
 own B B calls = calls
 
-abbrev pub calls_by : {R : Type 0} → Side → List (PairCall R) → List (Entry R)
+abbrev pub calls_by : {R : Type 0} → Side → List (PairCall R) → List (SessionCall R)
 calls_by side [] = []
 calls_by side (e ∷ H) = own side e.side e.calls ++ calls_by side H
 

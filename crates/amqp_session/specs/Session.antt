@@ -32,7 +32,7 @@ pub record SessionView (R : Type 0) : Type 0 where
 
 -- A session as contracts see it: its view, and beside it the counts of its latest walk, and what its tables of open deliveries
 -- have counted.
-pub record Observed (R : Type 0) : Type 0 where
+pub record SessionModel (R : Type 0) : Type 0 where
   pub view : SessionView R
   pub last_walk : WalkCount
   pub reads : OpenReads

@@ -9,7 +9,7 @@ ghost use Rattle.amqp_session.specs.declared.frame.SessionOutgoingItem.{SessionO
 ghost use Rattle.amqp_session.specs.States.{is_mapped};
 ghost use Rattle.amqp_session.specs.Step.{SessionFlowStep};
 ghost use Rattle.amqp_session.specs.Session.{SessionView};
-ghost use Rattle.amqp_session.specs.History.{Entry, Made, LeadsTo};
+ghost use Rattle.amqp_session.specs.History.{SessionCall, Made, LeadsTo};
 ghost use Rattle.amqp_session.specs.Headline.{Headline, Stands};
 ghost use Rattle.amqp_session.specs.Linked.{LinksAgree, ShownAgree, AwaitedOnce};
 ghost use Rattle.amqp_session.specs.OutgoingFrames.{OnChannel, calls_frames};
@@ -37,15 +37,15 @@ use std::hash::{Hash, Hasher};
 /// accepted transfer or mapped Flow one waits only while it is used up (AMQP 1.0 part 2, sections 2.5.6 and 2.6).
 pub fn law_of_views<R: LinkRelay>()
     ensures stands { let g = R.gives in
-        (m : Made) (h : List (Entry R)) (v : SessionView R) → LeadsTo g m h v → Stands m h v }
+        (m : Made) (h : List (SessionCall R)) (v : SessionView R) → LeadsTo g m h v → Stands m h v }
     ensures headline { let g = R.gives in
-        (m : Made) (h : List (Entry R)) (v : SessionView R) → LeadsTo g m h v → Headline m h }
+        (m : Made) (h : List (SessionCall R)) (v : SessionView R) → LeadsTo g m h v → Headline m h }
 {}
 
 /// Every frame that a session hands out, of whatever kind, is on the channel that the session was made with.
 pub fn law_of_channels<R: LinkRelay>()
     ensures { let g = R.gives in
-        (m : Made) (h : List (Entry R)) (v : SessionView R) → LeadsTo g m h v → OnChannel m.channel (calls_frames h) }
+        (m : Made) (h : List (SessionCall R)) (v : SessionView R) → LeadsTo g m h v → OnChannel m.channel (calls_frames h) }
 {}
 
 /// Each call of a pair is a move of one side: calls of its session, which take frames from the front of those on the way to it, and append
@@ -80,11 +80,11 @@ pub fn law_of_pairs<R: LinkRelay>()
 /// handle was allotted before the first one, and again between any two (AMQP 1.0 part 2, sections 2.6.1 to 2.6.6).
 pub fn law_of_links<R: LinkRelay>()
     ensures history { let g = R.gives in
-        (m : Made) (h : List (Entry R)) (v : SessionView R) → LeadsTo g m h v → LinksAgree h }
+        (m : Made) (h : List (SessionCall R)) (v : SessionView R) → LeadsTo g m h v → LinksAgree h }
     ensures shown { let g = R.gives in
-        (m : Made) (h : List (Entry R)) (v : SessionView R) → LeadsTo g m h v → ShownAgree v.links }
+        (m : Made) (h : List (SessionCall R)) (v : SessionView R) → LeadsTo g m h v → ShownAgree v.links }
     ensures awaited_once { let g = R.gives in
-        (m : Made) (h : List (Entry R)) (v : SessionView R) → LeadsTo g m h v → AwaitedOnce h }
+        (m : Made) (h : List (SessionCall R)) (v : SessionView R) → LeadsTo g m h v → AwaitedOnce h }
 {}
 
 /// After the session was asked for a session flow in `Mapped`, the count of the transfers that came since the last one is 0

@@ -1,19 +1,19 @@
 //! Sessions of AMQP 1.0: transfers within the peer's window, links and what they relay, and why a session stopped.
 #![tactic(auto)]
 
-pub mod deliveries;
-pub mod error;
-pub mod flow;
-pub mod frame;
+mod deliveries;
+mod error;
+mod flow;
+mod frame;
 pub mod keys;
 pub mod laws;
-pub mod link;
-pub mod numbers;
-pub mod pair;
-pub mod relay;
-pub mod session;
-pub mod settings;
-pub mod stop;
+mod link;
+mod numbers;
+mod pair;
+mod relay;
+mod session;
+mod settings;
+mod stop;
 
 pub use deliveries::WalkCount;
 pub use error::{
@@ -22,7 +22,6 @@ pub use error::{
 };
 pub use flow::LinkFlow;
 pub use frame::{SessionFrame, SessionFrameBody, SessionOutgoingItem};
-pub use keys::KeyHash;
 pub use numbers::{IncomingChannel, InputHandle, OutgoingChannel, OutputHandle};
 pub use pair::{SessionPair, Side};
 pub use relay::LinkRelay;

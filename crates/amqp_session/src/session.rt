@@ -71,9 +71,9 @@ impl<R> Model for Session<R> {
     ghost use Rattle.std.specs.Coded.{codes};
     ghost use Rattle.std.specs.Option.{option_map};
     ghost use Rattle.amqp_session.specs.Links.{links_code};
-    ghost use Rattle.amqp_session.specs.Session.{Observed};
+    ghost use Rattle.amqp_session.specs.Session.{SessionModel};
 
-    ghost Value = { Observed R };
+    ghost Value = { SessionModel R };
 
     ghost coded = { Prim.hlevel (codes, links_code) };
 

@@ -21,65 +21,65 @@ use Rattle.fe2o3_amqp.specs.declared.refusals.PeerAnswer.{PeerAnswer}
 use Rattle.fe2o3_amqp.specs.declared.refusals.PeerAnswer.TheVariants as by
 
 -- the bytes: of a frame of this side's that is too large, and of a failed transport, the peer is told nothing
-abbrev pub frame_told : Error → Option PeerAnswer
-frame_told (frame.Io text) = None
-frame_told frame.DecodeError = Some (by.Close is.DecodeError)
-frame_told frame.NotImplemented = Some (by.Close is.NotImplemented)
-frame_told frame.TooLarge = None
-frame_told frame.OutOfMemory = Some (by.Close is.ResourceLimitExceeded)
+abbrev pub frame_answer : Error → Option PeerAnswer
+frame_answer (frame.Io text) = None
+frame_answer frame.DecodeError = Some (by.Close is.DecodeError)
+frame_answer frame.NotImplemented = Some (by.Close is.NotImplemented)
+frame_answer frame.TooLarge = None
+frame_answer frame.OutOfMemory = Some (by.Close is.ResourceLimitExceeded)
 
 -- an Open or a Close: memory is asked for by this side's own Open alone
-abbrev pub state_told : ConnectionStateError → Option PeerAnswer
-state_told state.IllegalState = Some (by.Close is.IllegalState)
-state_told state.RemoteClosed = None
-state_told (state.RemoteClosedWithError e) = None
-state_told (state.TransportError text) = None
-state_told state.OutOfMemory = None
+abbrev pub state_answer : ConnectionStateError → Option PeerAnswer
+state_answer state.IllegalState = Some (by.Close is.IllegalState)
+state_answer state.RemoteClosed = None
+state_answer (state.RemoteClosedWithError e) = None
+state_answer (state.TransportError text) = None
+state_answer state.OutOfMemory = None
 
 -- a frame of a session, on the way to it
-abbrev pub inner_told : ConnectionInnerError → Option PeerAnswer
-inner_told (inner.TransportError text) = None
-inner_told inner.IllegalState = Some (by.Close is.IllegalState)
-inner_told (inner.NotImplemented text) = Some (by.Close is.NotImplemented)
-inner_told (inner.NotFound text) = Some (by.Close is.NotFound)
-inner_told inner.RemoteClosed = None
-inner_told (inner.RemoteClosedWithError e) = None
-inner_told inner.OutOfMemory = Some (by.Close is.ResourceLimitExceeded)
+abbrev pub connection_answer : ConnectionInnerError → Option PeerAnswer
+connection_answer (inner.TransportError text) = None
+connection_answer inner.IllegalState = Some (by.Close is.IllegalState)
+connection_answer (inner.NotImplemented text) = Some (by.Close is.NotImplemented)
+connection_answer (inner.NotFound text) = Some (by.Close is.NotFound)
+connection_answer inner.RemoteClosed = None
+connection_answer (inner.RemoteClosedWithError e) = None
+connection_answer inner.OutOfMemory = Some (by.Close is.ResourceLimitExceeded)
 
 -- a Begin or an End, at its session: memory is asked for by this side's own Begin alone
-abbrev pub session_state_told : SessionStateError → Option PeerAnswer
-session_state_told begun.IllegalState = Some (by.End is.IllegalState)
-session_state_told (begun.ConnectionStopped reason) = None
-session_state_told begun.RemoteEnded = None
-session_state_told (begun.RemoteEndedWithError e) = None
-session_state_told begun.OutOfMemory = None
+abbrev pub session_state_answer : SessionStateError → Option PeerAnswer
+session_state_answer begun.IllegalState = Some (by.End is.IllegalState)
+session_state_answer (begun.ConnectionStopped reason) = None
+session_state_answer begun.RemoteEnded = None
+session_state_answer (begun.RemoteEndedWithError e) = None
+session_state_answer begun.OutOfMemory = None
 
 -- any other frame of a session: a transfer of this side's alone is in an illegal state
-abbrev pub session_told : SessionInnerError → Option PeerAnswer
-session_told session.UnattachedHandle = Some (by.End is.UnattachedHandle)
-session_told session.RemoteAttachingLinkNameNotFound = Some (by.End is.NotFound)
-session_told session.HandleInUse = Some (by.End is.HandleInUse)
-session_told session.IllegalState = None
-session_told (session.ConnectionStopped reason) = None
-session_told session.TransferFrameToSender = Some (by.End is.NotAllowed)
-session_told session.RemoteEnded = None
-session_told (session.RemoteEndedWithError e) = None
-session_told session.UnknownTxnId = Some (by.End is.UnknownTransaction)
-session_told session.OutOfMemory = Some (by.End is.ResourceLimitExceeded)
+abbrev pub session_answer : SessionInnerError → Option PeerAnswer
+session_answer session.UnattachedHandle = Some (by.End is.UnattachedHandle)
+session_answer session.RemoteAttachingLinkNameNotFound = Some (by.End is.NotFound)
+session_answer session.HandleInUse = Some (by.End is.HandleInUse)
+session_answer session.IllegalState = None
+session_answer (session.ConnectionStopped reason) = None
+session_answer session.TransferFrameToSender = Some (by.End is.NotAllowed)
+session_answer session.RemoteEnded = None
+session_answer (session.RemoteEndedWithError e) = None
+session_answer session.UnknownTxnId = Some (by.End is.UnknownTransaction)
+session_answer session.OutOfMemory = Some (by.End is.ResourceLimitExceeded)
 
 -- all refusals: those without a row of their own above are of this side's requests
-abbrev pub told_of : StepError → Option PeerAnswer
-told_of no.OutputWaiting = None
-told_of (no.Frame e) = frame_told e
-told_of (no.ConnectionState e) = state_told e
-told_of (no.Connection e) = inner_told e
-told_of (no.AllocSession e) = None
-told_of (no.SessionState e) = session_state_told e
-told_of (no.Session e) = session_told e
-told_of (no.AllocLink e) = None
-told_of no.SessionInUse = None
-told_of no.NoSession = None
-told_of no.OutOfMemory = Some (by.Close is.ResourceLimitExceeded)
+abbrev pub step_answer : StepError → Option PeerAnswer
+step_answer no.OutputWaiting = None
+step_answer (no.Frame e) = frame_answer e
+step_answer (no.ConnectionState e) = state_answer e
+step_answer (no.Connection e) = connection_answer e
+step_answer (no.AllocSession e) = None
+step_answer (no.SessionState e) = session_state_answer e
+step_answer (no.Session e) = session_answer e
+step_answer (no.AllocLink e) = None
+step_answer no.SessionInUse = None
+step_answer no.NoSession = None
+step_answer no.OutOfMemory = Some (by.Close is.ResourceLimitExceeded)
 
 -- The states in which this side's Close went out: nothing may follow it (sections 2.4.3 and 2.4.6).
 abbrev pub has_closed : ConnectionState → Bool
@@ -91,4 +91,4 @@ has_closed its.End = true
 has_closed s = false
 
 abbrev pub answer_of : StepError → ConnectionState → Option PeerAnswer
-answer_of e s = if has_closed s then None else told_of e
+answer_of e s = if has_closed s then None else step_answer e

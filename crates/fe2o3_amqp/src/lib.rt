@@ -39,18 +39,19 @@ pub use amqp_frames::{
     DeliveryPart, Frame, FrameBody, FrameDecoder, FrameEncoder, FrameHead, HeaderPool, Piece,
     SendBuffer, split_delivery,
 };
+pub use amqp_session::keys::KeyHash;
 pub use amqp_session::{
     AllocLinkError, BeginError, ConnectionStopReason, DEFAULT_WINDOW, IncomingChannel, InputHandle,
-    KeyHash, LinkFlow, LinkRelay, LinkRelayError, OutgoingChannel, OutputHandle, Session,
-    SessionFrame, SessionFrameBody, SessionInnerError, SessionOutgoingItem, SessionPair,
-    SessionSettings, SessionStateError, SessionStopReason, Side, TryEndError, WalkCount,
+    LinkFlow, LinkRelay, LinkRelayError, OutgoingChannel, OutputHandle, Session, SessionFrame,
+    SessionFrameBody, SessionInnerError, SessionOutgoingItem, SessionPair, SessionSettings,
+    SessionStateError, SessionStopReason, Side, TryEndError, WalkCount,
     num_messages_settled_by_disposition,
 };
 pub use amqp_types::{
     Attach, Begin, Close, ConnectionState, DeliveryNumber, DeliveryTag, Detach, Disposition, End,
     Fields, Flow, Handle, Items, Kind, Open, Performative, Raw, ReadError, ReceiverSettleMode,
-    Role, SenderSettleMode, SequenceNo, SessionState, Symbol, Transfer, TransferNumber,
-    TransferFragment, Uint, ValueRef, WriteError, is_terminal, rejected,
+    Role, SenderSettleMode, SequenceNo, SessionState, Symbol, Transfer, TransferFragment,
+    TransferNumber, Uint, ValueRef, WriteError, is_terminal, rejected,
 };
 pub use conditions::ErrorCondition;
 pub use refusals::{PeerAnswer, answer_to};

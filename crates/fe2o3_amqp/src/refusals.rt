@@ -1,7 +1,7 @@
 //! How a refused frame is answered: the condition, and the frame that carries it to the peer.
 
 ghost use Rattle.std.specs.Prelude.{◌≡◌};
-ghost use Rattle.fe2o3_amqp.specs.Refusals.{answer_of, told_of, frame_told, state_told, inner_told, session_state_told, session_told, has_closed};
+ghost use Rattle.fe2o3_amqp.specs.Refusals.{answer_of, step_answer, frame_answer, state_answer, connection_answer, session_state_answer, session_answer, has_closed};
 
 use crate::conditions::ErrorCondition;
 use amqp_connection::{ConnectionInnerError, ConnectionStateError};
@@ -56,18 +56,18 @@ pub fn answer_to(error: &StepError, state: ConnectionState) -> Option<PeerAnswer
     if has_closed(state) {
         return None;
     }
-    told_of(error)
+    step_answer(error)
 }
 
-fn told_of(error: &StepError) -> Option<PeerAnswer>
-    ensures { result ≡ told_of error.now }
+fn step_answer(error: &StepError) -> Option<PeerAnswer>
+    ensures { result ≡ step_answer error.now }
 {
     match error {
-        StepError::Frame(inner) => frame_told(inner),
-        StepError::ConnectionState(inner) => state_told(inner),
-        StepError::Connection(inner) => inner_told(inner),
-        StepError::SessionState(inner) => session_state_told(inner),
-        StepError::Session(inner) => session_told(inner),
+        StepError::Frame(inner) => frame_answer(inner),
+        StepError::ConnectionState(inner) => state_answer(inner),
+        StepError::Connection(inner) => connection_answer(inner),
+        StepError::SessionState(inner) => session_state_answer(inner),
+        StepError::Session(inner) => session_answer(inner),
         StepError::OutOfMemory => Some(PeerAnswer::Close(ErrorCondition::ResourceLimitExceeded)),
         StepError::OutputWaiting
         | StepError::AllocSession(_)
@@ -77,8 +77,8 @@ fn told_of(error: &StepError) -> Option<PeerAnswer>
     }
 }
 
-fn frame_told(error: &FrameError) -> Option<PeerAnswer>
-    ensures { result ≡ frame_told error.now }
+fn frame_answer(error: &FrameError) -> Option<PeerAnswer>
+    ensures { result ≡ frame_answer error.now }
 {
     match error {
         FrameError::DecodeError => Some(PeerAnswer::Close(ErrorCondition::DecodeError)),
@@ -88,8 +88,8 @@ fn frame_told(error: &FrameError) -> Option<PeerAnswer>
     }
 }
 
-fn state_told(error: &ConnectionStateError) -> Option<PeerAnswer>
-    ensures { result ≡ state_told error.now }
+fn state_answer(error: &ConnectionStateError) -> Option<PeerAnswer>
+    ensures { result ≡ state_answer error.now }
 {
     match error {
         ConnectionStateError::IllegalState => Some(PeerAnswer::Close(ErrorCondition::IllegalState)),
@@ -100,8 +100,8 @@ fn state_told(error: &ConnectionStateError) -> Option<PeerAnswer>
     }
 }
 
-fn inner_told(error: &ConnectionInnerError) -> Option<PeerAnswer>
-    ensures { result ≡ inner_told error.now }
+fn connection_answer(error: &ConnectionInnerError) -> Option<PeerAnswer>
+    ensures { result ≡ connection_answer error.now }
 {
     match error {
         ConnectionInnerError::IllegalState => Some(PeerAnswer::Close(ErrorCondition::IllegalState)),
@@ -118,8 +118,8 @@ fn inner_told(error: &ConnectionInnerError) -> Option<PeerAnswer>
     }
 }
 
-fn session_state_told(error: &SessionStateError) -> Option<PeerAnswer>
-    ensures { result ≡ session_state_told error.now }
+fn session_state_answer(error: &SessionStateError) -> Option<PeerAnswer>
+    ensures { result ≡ session_state_answer error.now }
 {
     match error {
         SessionStateError::IllegalState => Some(PeerAnswer::End(ErrorCondition::IllegalState)),
@@ -130,8 +130,8 @@ fn session_state_told(error: &SessionStateError) -> Option<PeerAnswer>
     }
 }
 
-fn session_told(error: &SessionInnerError) -> Option<PeerAnswer>
-    ensures { result ≡ session_told error.now }
+fn session_answer(error: &SessionInnerError) -> Option<PeerAnswer>
+    ensures { result ≡ session_answer error.now }
 {
     match error {
         SessionInnerError::UnattachedHandle => {

@@ -2,7 +2,7 @@
 
 ghost use Rattle.std.specs.Prelude.{◌≡◌, is_some};
 ghost use Rattle.amqp_connection.specs.States.{sends_open, takes_open, takes_close};
-ghost use Rattle.amqp_connection.specs.Connection.{SendOpenStep, IncomingOpenStep, SendCloseStep, IncomingCloseStep, closes_by, told, refusal_of};
+ghost use Rattle.amqp_connection.specs.Connection.{SendOpenStep, IncomingOpenStep, SendCloseStep, IncomingCloseStep, closes_by, close_error, refusal_of};
 
 use super::Connection;
 use crate::error::ConnectionStateError;
@@ -64,7 +64,7 @@ fn after_incoming_close(state: ConnectionState) -> Option<ConnectionState>
 
 /// How the peer's Close is answered, in the state that it led to.
 fn answer_close(state: ConnectionState, error: Option<Error>) -> Result<(), ConnectionStateError>
-    ensures { refusal_of result ≡ told state error }
+    ensures { refusal_of result ≡ close_error state error }
 {
     match error {
         Some(error) => Err(ConnectionStateError::RemoteClosedWithError(error)),

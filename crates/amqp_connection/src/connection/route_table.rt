@@ -5,8 +5,8 @@ ghost use Rattle.std.specs.FinMap as map;
 ghost use Rattle.amqp_connection.specs.RouteCounts.{IsLedTo};
 
 use super::route_counts;
-use amqp_session::keys::{self, Hints, Numbered};
-use amqp_session::{IncomingChannel, KeyHash};
+use amqp_session::IncomingChannel;
+use amqp_session::keys::{self, Hints, KeyHash, Numbered};
 use indexmap::IndexMap;
 use std::alloc::{AllocError, Global};
 use std::marker::Model;

@@ -97,8 +97,8 @@ Seated es places = (n : ℕ) → is_some (lookup (nat_eq n) es) ≡ is_some (map
 -- this is the copy of the error that the answer names
 abbrev pub IsCloseCopy : Option ConnectionStateError → Option ErrorModel → Type 0
 IsCloseCopy (Some (closed.RemoteClosedWithError e)) copy = copy ≡ Some e
-IsCloseCopy told copy = Unit {0}
+IsCloseCopy reply copy = Unit {0}
 
 abbrev pub IsEndCopy : Option StepError → Option ErrorModel → Type 0
 IsEndCopy (Some (no.SessionState (ended.RemoteEndedWithError e))) copy = copy ≡ Some e
-IsEndCopy told copy = Unit {0}
+IsEndCopy reply copy = Unit {0}

@@ -7,7 +7,7 @@ use Rattle.amqp_engine.specs.EngineView.{EngineView}
 use Rattle.amqp_engine.specs.Entry.{Entry}
 use Rattle.amqp_engine.specs.History.{Chain}
 use Rattle.amqp_engine.specs.ByHistory.{limit_after}
-use Rattle.amqp_engine.specs.Output.{Speaks}
+use Rattle.amqp_engine.specs.Output.{OutputOf}
 use Rattle.amqp_engine.specs.Promise.{IsTaken}
 use Rattle.amqp_engine.specs.Views.{outcomes_from}
 
@@ -19,4 +19,4 @@ pub record Running {R : Type 0} (gives : Relays R) (v : EngineView R) (entries :
   pub outcomes_are : v'.outcomes ≡ outcomes_from v.outcomes entries
   pub out : List Answer
   pub appended : answers' ≡ answers ++ out
-  pub said : Speaks v.limit v.waiting entries v'.waiting out
+  pub said : OutputOf v.limit v.waiting entries v'.waiting out

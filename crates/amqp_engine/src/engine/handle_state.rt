@@ -42,13 +42,13 @@ pub(crate) fn copy_of(error: &Option<Error>) -> Result<Option<Error>, AllocError
 
 /// What is kept of a Close that was answered so: its answer, with the copy of its error.
 pub(crate) fn close_answer(
-    told: &Result<(), ConnectionStateError>,
+    reply: &Result<(), ConnectionStateError>,
     copy: Option<Error>,
 ) -> Option<CloseOutcome>
-    requires copied { IsCloseCopy (refusal_of told.now) copy }
-    ensures { result ≡ close_answer (option_map (λ e. no.ConnectionState e) (refusal_of told.now)) }
+    requires copied { IsCloseCopy (refusal_of reply.now) copy }
+    ensures { result ≡ close_answer (option_map (λ e. no.ConnectionState e) (refusal_of reply.now)) }
 {
-    match told {
+    match reply {
         Ok(()) => {
             drop(copy);
             Some(Ok(()))
@@ -68,11 +68,11 @@ pub(crate) fn close_answer(
 }
 
 /// What is kept of an End that was answered so: its answer, with the copy of its error.
-pub(crate) fn end_answer(told: &Result<(), StepError>, copy: Option<Error>) -> Option<EndOutcome>
-    requires copied { IsEndCopy (refusal_of told.now) copy }
-    ensures { result ≡ end_answer (refusal_of told.now) }
+pub(crate) fn end_answer(reply: &Result<(), StepError>, copy: Option<Error>) -> Option<EndOutcome>
+    requires copied { IsEndCopy (refusal_of reply.now) copy }
+    ensures { result ≡ end_answer (refusal_of reply.now) }
 {
-    match told {
+    match reply {
         Ok(()) => {
             drop(copy);
             Some(Ok(()))

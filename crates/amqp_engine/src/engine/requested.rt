@@ -20,9 +20,10 @@ use super::sessions::{
 };
 use super::step_error::StepError;
 use amqp_connection::{ConnectionInnerError, SessionNo};
+use amqp_session::keys::KeyHash;
 use amqp_session::{
-    ConnectionStopReason, InputHandle, KeyHash, LinkFlow, LinkRelay, OutgoingChannel, Session,
-    SessionFrame, SessionSettings, SessionStateError, SessionStopReason, keys,
+    ConnectionStopReason, InputHandle, LinkFlow, LinkRelay, OutgoingChannel, Session, SessionFrame,
+    SessionSettings, SessionStateError, SessionStopReason, keys,
 };
 use amqp_types::{
     Attach, DeliveryNumber, Detach, Disposition, Error, Role, SessionState, Transfer,
@@ -328,7 +329,7 @@ impl<R: LinkRelay> Engine<R> {
         settings: SessionSettings,
     ) -> Result<(), StepError>
         requires { self.old.waiting ≡ [] }
-        ensures { (reached : Option ℕ) × (calls : List (session.Entry R))
+        ensures { (reached : Option ℕ) × (calls : List (session.SessionCall R))
             × BeginRequest R.gives self.old number.0 settings reached calls (refusal_of result) self.new }
     {
         if self.is_used(number) {
@@ -369,7 +370,7 @@ impl<R: LinkRelay> Engine<R> {
     /// Gives the session's channel back, where it still holds it.
     #[inline(never)]
     fn request_release(&mut self, number: SessionNo) -> Result<(), StepError>
-        ensures { (reached : Option ℕ) × (calls : List (session.Entry R))
+        ensures { (reached : Option ℕ) × (calls : List (session.SessionCall R))
             × ReleaseRequest self.old number.0 reached calls (refusal_of result) self.new }
     {
         let Some(session) = self.sessions.get(&number.0) else {

@@ -2,7 +2,7 @@
 
 ghost use Rattle.std.specs.Prelude.{◌≡◌, None, Some, false};
 ghost use Rattle.amqp_types.specs.declared.states.ConnectionState.TheVariants.{End};
-ghost use Rattle.amqp_engine.specs.Handles.{is_end, is_closed, close_told, close_answer_of, CloseCall, TryCloseCall};
+ghost use Rattle.amqp_engine.specs.Handles.{is_end, is_closed, close_answer_at, close_answer_of, CloseCall, TryCloseCall};
 ghost use Rattle.amqp_engine.specs.Stepped.{Stays};
 
 use super::HandledEngine;
@@ -23,7 +23,7 @@ use std::marker::Model;
 /// ```
 #[derive(Debug, Drop)]
 pub struct ConnectionHandle {
-    is_told: bool,
+    has_answered: bool,
 }
 
 impl Model for ConnectionHandle {
@@ -31,7 +31,7 @@ impl Model for ConnectionHandle {
 
     ghost Value = { Bool };
 
-    ghost view = { λ h. h.is_told };
+    ghost view = { λ h. h.has_answered };
 }
 
 /// Whether the connection is closed at both ends in this state.
@@ -52,8 +52,8 @@ fn answer_of(outcome: CloseOutcome) -> Result<(), Error>
 }
 
 /// What a handle gives where the state is `End`.
-fn told(outcome: Option<CloseOutcome>) -> Result<(), Error>
-    ensures { Some result ≡ close_told End outcome }
+fn answer_at_end(outcome: Option<CloseOutcome>) -> Result<(), Error>
+    ensures { Some result ≡ close_answer_at End outcome }
 {
     match outcome {
         Some(outcome) => answer_of(outcome),
@@ -66,14 +66,16 @@ impl ConnectionHandle {
     pub(super) fn new() -> ConnectionHandle
         ensures { result ≡ false }
     {
-        ConnectionHandle { is_told: false }
+        ConnectionHandle {
+            has_answered: false,
+        }
     }
 
     /// Whether the connection is in `End`, or this handle has given the answer.
     pub fn is_closed<R: LinkRelay>(&self, engine: &HandledEngine<R>) -> bool
         ensures { result ≡ is_closed self.now engine.now }
     {
-        self.is_told || is_end(*engine.engine.connection().local_state())
+        self.has_answered || is_end(*engine.engine.connection().local_state())
     }
 
     /// Requests that the connection is closed, in any state of it: the engine notes it, and the next run sends a Close, after the Ends that
@@ -107,7 +109,7 @@ impl ConnectionHandle {
     ) -> Result<(), Error>
         ensures { CloseCall self.now error engine.old result engine.new }
     {
-        if self.is_told {
+        if self.has_answered {
             drop(error);
             return Err(Error::IllegalState);
         }
@@ -127,14 +129,14 @@ impl ConnectionHandle {
         ensures said { TryCloseCall self.old engine.old result self.new engine.new }
         ensures legal { Stays R.gives engine.old engine.new }
     {
-        if self.is_told {
+        if self.has_answered {
             return Err(TryCloseError::AlreadyClosed);
         }
         engine.engine.note_close(None);
         if !is_end(*engine.engine.connection().local_state()) {
             return Err(TryCloseError::RemoteCloseNotReceived);
         }
-        self.is_told = true;
-        Ok(told(engine.engine.take_close_outcome()))
+        self.has_answered = true;
+        Ok(answer_at_end(engine.engine.take_close_outcome()))
     }
 }

@@ -4,7 +4,7 @@ ghost use Rattle.std.specs.Prelude.{◌≡◌, ◌<◌, [], OnOk, OnErr};
 ghost use Rattle.std.specs.Vec.{vec_len, vec_capacity};
 ghost use Rattle.amqp_engine.specs.Promise.{Ends, NoneLeft};
 ghost use Rattle.amqp_engine.specs.HandledRun.{NoWishes, HandledRan};
-ghost use Rattle.amqp_engine.specs.Inner.Hearing.{IsWish, Asked, Hearing};
+ghost use Rattle.amqp_engine.specs.Inner.Flushing.{IsWish, Asked, Flushing};
 
 use super::HandledEngine;
 use crate::engine::{Answer, Input, Stopped};
@@ -39,7 +39,7 @@ impl<R: LinkRelay> HandledEngine<R> {
 
     /// Puts out what waits, and requests what handles have noted.
     fn flush_requests(&mut self, answers: &mut Vec<Answer>) -> Result<(), AllocError>
-        ensures heard { Hearing R.gives self.old answers.old.items self.new answers.new.items }
+        ensures flushed { Flushing R.gives self.old answers.old.items self.new answers.new.items }
         ensures ok { OnOk result (NoWishes self.new.wishes) }
         ensures idle { OnOk result (self.new.waiting ≡ []) }
         ensures stopped { OnErr result (¬ ((self.new.waiting ≡ []) × NoWishes self.new.wishes)) }

@@ -3,7 +3,7 @@
 ghost use Rattle.std.specs.Prelude.{◌≡◌, None, Some, false, nat_eq};
 ghost use Rattle.std.specs.Map.{lookup};
 ghost use Rattle.amqp_types.specs.declared.states.SessionState.TheVariants.{Unmapped};
-ghost use Rattle.amqp_engine.specs.Handles.{is_unmapped, has_ended, is_ended, end_told, end_answer_of, EndCall, TryEndCall};
+ghost use Rattle.amqp_engine.specs.Handles.{is_unmapped, has_ended, is_ended, end_answer_at, end_answer_of, EndCall, TryEndCall};
 ghost use Rattle.amqp_engine.specs.Stepped.{Stays};
 
 use super::HandledEngine;
@@ -26,7 +26,7 @@ use std::marker::Model;
 #[derive(Debug, Drop)]
 pub struct SessionHandle {
     number: SessionNo,
-    is_told: bool,
+    has_answered: bool,
 }
 
 impl Model for SessionHandle {
@@ -34,7 +34,7 @@ impl Model for SessionHandle {
 
     ghost Value = { SessionHandleView };
 
-    ghost view = { λ h. record { number = h.number.0; told = h.is_told } };
+    ghost view = { λ h. record { number = h.number.0; answered = h.has_answered } };
 }
 
 /// Whether a session is ended at both ends in this state.
@@ -55,8 +55,8 @@ fn answer_of(outcome: EndOutcome) -> Result<(), Error>
 }
 
 /// What a handle gives where the state is `Unmapped`.
-fn told(outcome: Option<EndOutcome>) -> Result<(), Error>
-    ensures { Some result ≡ end_told Unmapped outcome }
+fn answer_at_end(outcome: Option<EndOutcome>) -> Result<(), Error>
+    ensures { Some result ≡ end_answer_at Unmapped outcome }
 {
     match outcome {
         Some(outcome) => answer_of(outcome),
@@ -67,11 +67,11 @@ fn told(outcome: Option<EndOutcome>) -> Result<(), Error>
 impl SessionHandle {
     /// A handle that has given no answer yet.
     pub(super) fn new(number: SessionNo) -> SessionHandle
-        ensures { result ≡ record { number = number.0; told = false } }
+        ensures { result ≡ record { number = number.0; answered = false } }
     {
         SessionHandle {
             number,
-            is_told: false,
+            has_answered: false,
         }
     }
 
@@ -79,7 +79,7 @@ impl SessionHandle {
     pub fn is_ended<R: LinkRelay>(&self, engine: &HandledEngine<R>) -> bool
         ensures { result ≡ is_ended self.now engine.now }
     {
-        if self.is_told {
+        if self.has_answered {
             return true;
         }
         match engine.engine.session(self.number) {
@@ -127,7 +127,7 @@ impl SessionHandle {
     ) -> Result<(), Error>
         ensures { EndCall self.now error engine.old result engine.new }
     {
-        if self.is_told || engine.engine.session(self.number).is_none() {
+        if self.has_answered || engine.engine.session(self.number).is_none() {
             drop(error);
             return Err(Error::IllegalState);
         }
@@ -147,11 +147,11 @@ impl SessionHandle {
         ensures said { TryEndCall self.old engine.old result self.new engine.new }
         ensures legal { Stays R.gives engine.old engine.new }
     {
-        if self.is_told {
+        if self.has_answered {
             return Err(TryEndError::AlreadyEnded);
         }
         let Some(session) = engine.engine.session(self.number) else {
-            self.is_told = true;
+            self.has_answered = true;
             return Ok(Err(Error::IllegalState));
         };
         let is_ended = is_unmapped(*session.local_state());
@@ -159,7 +159,7 @@ impl SessionHandle {
         if !is_ended {
             return Err(TryEndError::RemoteEndNotReceived);
         }
-        self.is_told = true;
-        Ok(told(engine.engine.take_end_outcome(self.number)))
+        self.has_answered = true;
+        Ok(answer_at_end(engine.engine.take_end_outcome(self.number)))
     }
 }

@@ -10,7 +10,7 @@ returns-in-Ok-clause-asked g c =
     let pushed = rw c.unwrap.ensures at c.push.ensures.items in
     record {
       refusal = None;
-      told = c.step.new.self;
+      stepped = c.step.new.self;
       step = subst (λ (v : EngineView _). Steps g.R.LinkRelay.gives v c.args.wish None c.step.new.self) c.self.view_is c.in-Ok.ensures.step;
       so = (s.0, s.1 ∙ ap (λ (xs : List Answer). xs ++ s.0) pushed, c.put_out.ensures.taken, s.2);
     }
@@ -18,7 +18,7 @@ returns-in-Ok-clause-asked g c =
 pub returns-in-Err-clause-asked : goal.returns-in-Err-clause-asked
 returns-in-Err-clause-asked g c = record {
   refusal = Some c.in-Err.refused;
-  told = c.step.new.self;
+  stepped = c.step.new.self;
   step = subst (λ (v : EngineView _). Steps g.R.LinkRelay.gives v c.args.wish (Some c.in-Err.refused) c.step.new.self) c.self.view_is c.in-Err.ensures.step;
   so = (refl, refl);
 }

@@ -3,7 +3,7 @@ use Rattle.amqp_session.specs.declared.frame.SessionFrame.{SessionFrame}
 use Rattle.amqp_session.specs.Items.{HandsOut, is_some_list, first_frame}
 use Rattle.amqp_session.specs.States.{is_mapped}
 use Rattle.amqp_session.specs.Sending.{let_out}
-use Rattle.amqp_session.specs.Session.{Observed}
+use Rattle.amqp_session.specs.Session.{SessionModel}
 use Rattle.amqp_session.proofs.FlowLemmas.{mapped_goes, parts_gone, room_taken}
 use Rattle.amqp_session.proofs.session.Session.flow_of_mapped.Goals as goal
 
@@ -18,7 +18,7 @@ returns-in-Err-clause-step g c =
 pub returns-in-Ok-ask_flow-clause-step : goal.returns-in-Ok-ask_flow-clause-step
 returns-in-Ok-ask_flow-clause-step g c =
     let a = c.in-Ok-ask_flow.ensures in
-    let mapped : is_mapped c.self.inside.state ≡ true = ap (λ (o : Observed _). is_mapped o.view.state) c.self.view_is ∙ c.requires.mapped in
+    let mapped : is_mapped c.self.inside.state ≡ true = ap (λ (o : SessionModel _). is_mapped o.view.state) c.self.view_is ∙ c.requires.mapped in
     let out = subst (λ (f : Option SessionFrame). HandsOut (is_some_list (let_out c.self.inside.outgoing_channel.0 c.self.inside.sending)) (first_frame f ++ let_out c.self.inside.outgoing_channel.0 c.self.inside.sending) c.emit_drained.result) c.echo-first.ensures c.emit_drained.ensures.item in
     rw (← c.self.view_is, a.put) (
       Some (record { before = a.before; handle = a.handle; asked = c.args.flow; answer = Ok c.in-Ok-ask_flow.echo; after = a.after }),

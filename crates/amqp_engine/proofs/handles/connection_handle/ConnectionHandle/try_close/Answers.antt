@@ -9,4 +9,4 @@ returns-then-not-is_end-clause-legal g c =
     legal_left g.R.LinkRelay.gives _ _ (noted _ _ _ (c.note_close.ensures ∙ ap (close_noted None) c.engine.view_is))
 
 pub returns-clause-legal : goal.returns-clause-legal
-returns-clause-legal g c = legal_left g.R.LinkRelay.gives _ _ (try_close_leaves c.args.self.now c.args.engine.now c.take_close_outcome.new.self (Ok c.told.result) true (search rules))
+returns-clause-legal g c = legal_left g.R.LinkRelay.gives _ _ (try_close_leaves c.args.self.now c.args.engine.now c.take_close_outcome.new.self (Ok c.answer_at_end.result) true (search rules))

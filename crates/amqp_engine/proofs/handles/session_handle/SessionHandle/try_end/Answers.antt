@@ -10,4 +10,4 @@ returns-then-not-is_ended-clause-legal g c =
 
 pub returns-clause-legal : goal.returns-clause-legal
 returns-clause-legal g c =
-    legal_left g.R.LinkRelay.gives _ _ (try_end_leaves c.args.self.now c.args.engine.now c.take_end_outcome.new.self (Ok c.told.result) (record { number = c.self.inside.number.0; told = true }) (search rules))
+    legal_left g.R.LinkRelay.gives _ _ (try_end_leaves c.args.self.now c.args.engine.now c.take_end_outcome.new.self (Ok c.answer_at_end.result) (record { number = c.self.inside.number.0; answered = true }) (search rules))

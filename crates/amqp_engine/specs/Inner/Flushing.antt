@@ -13,7 +13,7 @@ use Rattle.amqp_engine.specs.Entry.{Entry}
 use Rattle.amqp_engine.specs.History.{OnlyLeft, Chain}
 use Rattle.amqp_engine.specs.Output.{PutOut}
 use Rattle.amqp_engine.specs.Promise.{IsTaken}
-use Rattle.amqp_engine.specs.HandledRun.{Hears, accepted}
+use Rattle.amqp_engine.specs.HandledRun.{Flushes, accepted}
 use Rattle.amqp_engine.specs.Inner.Running.{Running}
 
 -- A wish is asked for. Where it is accepted it is answered, and its frame is put out, or waits.
@@ -25,18 +25,18 @@ AskedSo (Some r) u answers v' answers' = (v' ≡ u) × (answers' ≡ answers)
 pub record Asked {R : Type 0} (g : Relays R) (v : EngineView R) (i : Input R) (answers : List Answer) (v' : EngineView R)
     (answers' : List Answer) : Type 0 where
   pub refusal : Option StepError
-  pub told : EngineView R
-  pub step : Steps g v i refusal told
-  pub so : AskedSo refusal told answers v' answers'
+  pub stepped : EngineView R
+  pub step : Steps g v i refusal stepped
+  pub so : AskedSo refusal stepped answers v' answers'
 
 -- the wishes that have been heard so far
-pub record Hearing {R : Type 0} (g : Relays R) (v : EngineView R) (answers : List Answer) (v' : EngineView R) (answers' : List Answer) :
+pub record Flushing {R : Type 0} (g : Relays R) (v : EngineView R) (answers : List Answer) (v' : EngineView R) (answers' : List Answer) :
     Type 0 where
-  pub heard : List (Entry R)
-  pub hears : Hears v.wishes heard v'.wishes
-  pub all_taken : All IsTaken heard
-  pub asked : Chain g v heard v'
-  pub running : Running g v (accepted heard) answers v' answers'
+  pub flushed : List (Entry R)
+  pub flushes : Flushes v.wishes flushed v'.wishes
+  pub all_taken : All IsTaken flushed
+  pub asked : Chain g v flushed v'
+  pub running : Running g v (accepted flushed) answers v' answers'
 
 -- an End or a Close is asked for
 abbrev pub IsWish : {R : Type 0} → Input R → Type 0
