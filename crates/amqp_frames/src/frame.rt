@@ -16,21 +16,31 @@ pub struct Frame {
     pub body: FrameBody,
 }
 
-/// The body of a frame: a performative, or nothing.
+/// The body of a frame: a performative, or nothing (AMQP 1.0 part 2, section 2.3.3).
 #[derive(Drop, PartialEq)]
 pub enum FrameBody {
+    /// Attaches a link (section 2.7.3).
     Attach(Attach),
+    /// Tells the windows of a session, and the credit of a link (section 2.7.4).
     Flow(Flow),
+    /// Carries a delivery, or a part of one (section 2.7.5), with its payload.
     Transfer {
+        /// What the transfer says.
         performative: Transfer,
         /// The message, or the part of it that this transfer carries. A decoded payload shares the received bytes.
         payload: Bytes,
     },
+    /// Tells the state of deliveries (section 2.7.6).
     Disposition(Disposition),
+    /// Detaches a link (section 2.7.7).
     Detach(Detach),
+    /// Begins a session (section 2.7.2).
     Begin(Begin),
+    /// Ends a session (section 2.7.8).
     End(End),
+    /// Opens a connection (section 2.7.1).
     Open(Open),
+    /// Closes a connection (section 2.7.9).
     Close(Close),
     /// No body: the frame only shows that its sender is alive.
     Empty,

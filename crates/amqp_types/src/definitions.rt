@@ -46,15 +46,20 @@ pub enum Role {
 /// How the sending end of a link settles (part 2, section 2.8.2).
 #[derive(Clone, Copy, Debug, PartialEq, Eq)]
 pub enum SenderSettleMode {
+    /// 0: the sender sends all deliveries unsettled.
     Unsettled,
+    /// 1: the sender sends all deliveries settled.
     Settled,
+    /// 2: the sender may send both; the default.
     Mixed,
 }
 
 /// How the receiving end of a link settles (part 2, section 2.8.3).
 #[derive(Clone, Copy, Debug, PartialEq, Eq)]
 pub enum ReceiverSettleMode {
+    /// 0: the receiver settles spontaneously; the default.
     First,
+    /// 1: the receiver settles after it has sent its disposition and the sender has settled.
     Second,
 }
 

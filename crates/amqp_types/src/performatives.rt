@@ -34,14 +34,23 @@ pub use transfer::{Transfer, TransferFragment};
 /// A performative (part 2, section 2.7).
 #[derive(Clone, Debug, Drop, PartialEq)]
 pub enum Performative {
+    /// Opens a connection (section 2.7.1).
     Open(Open),
+    /// Begins a session (section 2.7.2).
     Begin(Begin),
+    /// Attaches a link (section 2.7.3).
     Attach(Attach),
+    /// Tells the windows of a session, and the credit of a link (section 2.7.4).
     Flow(Flow),
+    /// Carries a delivery, or a part of one (section 2.7.5).
     Transfer(Transfer),
+    /// Tells the state of deliveries (section 2.7.6).
     Disposition(Disposition),
+    /// Detaches a link (section 2.7.7).
     Detach(Detach),
+    /// Ends a session (section 2.7.8).
     End(End),
+    /// Closes a connection (section 2.7.9).
     Close(Close),
 }
 

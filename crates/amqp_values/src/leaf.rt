@@ -14,14 +14,23 @@ use bytes::BytesMut;
 /// A value that a part of a list may hold, borrowed.
 #[derive(Drop)]
 pub enum Leaf<'a> {
+    /// Nothing, or a field that has its default.
     Null,
+    /// A `boolean` (AMQP 1.0 part 1, section 1.6.2).
     Boolean(bool),
+    /// A `ubyte` (1.6.3).
     Ubyte(u8),
+    /// A `ushort` (1.6.4).
     Ushort(u16),
+    /// A `uint` (1.6.5).
     Uint(u32),
+    /// A `ulong` (1.6.6).
     Ulong(u64),
+    /// A `binary` (1.6.19).
     Binary(&'a [u8]),
+    /// A `string` (1.6.20).
     String(&'a str),
+    /// A `symbol` (1.6.21).
     Symbol(&'a Symbol),
     /// Multiple symbols.
     Symbols(&'a [Symbol]),

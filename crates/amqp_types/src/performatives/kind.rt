@@ -10,14 +10,23 @@ use bytes::Bytes;
 /// One of the nine performatives.
 #[derive(Clone, Copy, Debug, PartialEq, Eq)]
 pub enum Kind {
+    /// The kind of [`Open`](crate::Open), with the descriptor 0x10 (section 2.7.1).
     Open,
+    /// The kind of [`Begin`](crate::Begin), with the descriptor 0x11 (section 2.7.2).
     Begin,
+    /// The kind of [`Attach`](crate::Attach), with the descriptor 0x12 (section 2.7.3).
     Attach,
+    /// The kind of [`Flow`](crate::Flow), with the descriptor 0x13 (section 2.7.4).
     Flow,
+    /// The kind of [`Transfer`](crate::Transfer), with the descriptor 0x14 (section 2.7.5).
     Transfer,
+    /// The kind of [`Disposition`](crate::Disposition), with the descriptor 0x15 (section 2.7.6).
     Disposition,
+    /// The kind of [`Detach`](crate::Detach), with the descriptor 0x16 (section 2.7.7).
     Detach,
+    /// The kind of [`End`](crate::End), with the descriptor 0x17 (section 2.7.8).
     End,
+    /// The kind of [`Close`](crate::Close), with the descriptor 0x18 (section 2.7.9).
     Close,
 }
 
