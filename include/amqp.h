@@ -2,7 +2,7 @@
    socket and reads no clock. The library is written in Rattle, and its three exports are proved; what stands here is C, and is tested alone.
 
    A program makes an engine with its Open, asks for what it wants (amqp_open, amqp_begin, amqp_link, amqp_attach ..), hands over the bytes that
-   come behind the protocol headers (amqp_receive), sends the bytes that wait (amqp_send), and takes what came for its links (amqp_next_event).
+   come after the protocol headers (amqp_receive), sends the bytes that wait (amqp_send), and takes what came for its links (amqp_next_event).
 
        amqp engine = AMQP_EMPTY;
        uint8_t open[256], out[4096];
@@ -15,7 +15,7 @@
 
    The folder amqp/ has the exports, the calls that are made of them, writers of performatives, and readers of events and of fields. All numbers
    in inputs and outputs are in network order; PERF stands for the bytes of one performative (AMQP 1.0 part 2, section 2.7): its descriptor and
-   its list, as in a frame behind the header.
+   its list, as in a frame after the header.
 
    What the caller owes:
    - The place is all zero before the first call (AMQP_EMPTY), and from then on only these calls write it.

@@ -275,8 +275,8 @@ def definition(piece, file, href, taken):
             lines.append(f"<i>{escape(line)}</i>")
         elif name and name not in taken:
             taken.add(name)
-            before, _, behind = line.partition(name)
-            lines.append(f'{escape(before)}<b id="{file.path}.{escape(name)}">{escape(name)}</b>{linked(behind, WORD, other)}')
+            before, _, after = line.partition(name)
+            lines.append(f'{escape(before)}<b id="{file.path}.{escape(name)}">{escape(name)}</b>{linked(after, WORD, other)}')
         else:
             lines.append(linked(line, WORD, other))
     return '<pre class="definition">' + "\n".join(lines) + "</pre>"

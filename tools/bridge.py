@@ -221,7 +221,7 @@ class Bridge:
 
 
 def read():
-    """The words of the command: four, and behind them the login and how many messages."""
+    """The words of the command: four, and after them the login and how many messages."""
     words, said = sys.argv[1:], {"--sasl": "", "--messages": "20"}
     for name in said:
         if name in words[:-1]:

@@ -14,7 +14,7 @@ what this side sent is asked for. The engine gives its own channels, handles and
 What this side asks for before its session is mapped waits for the peer's Begin, and its Close waits for that. A detach that answers the
 peer's, a flow of the session alone, and empty frames are left out: the engine answers by itself, or has no need of them.
 What the peer had sent before it read this side's Close is no breach, also where the engine refuses it: it is shown as in flight.
-Behind a `DecodeError` stands what is wrong with the recorded frame, by a reader of its own (strict.py), since the engine does not say it: the
+After a `DecodeError` stands what is wrong with the recorded frame, by a reader of its own (strict.py), since the engine does not say it: the
 field, and the byte of the frame, counted from 0 without its size.
 The status is 0 where all was read and run, whatever was refused; 1 where a file or the program cannot be read or run.
 """
@@ -34,7 +34,7 @@ from shared.command import command, told
 # Two lines that are always refused, and change nothing: no line of a transcript is answered so
 MARK, MARKED = "release 4294967295\nrecv \n", "err NoSession\nerr DecodeError\n"
 # Refusals that are no breach
-PEER_ENDED, IN_FLIGHT = "the peer ended", "in flight behind this side's Close"
+PEER_ENDED, IN_FLIGHT = "the peer ended", "in flight after this side's Close"
 
 
 # ---- recordings
@@ -107,7 +107,7 @@ class Transcript:
         # sessions by this side's recorded channel, and by the peer's; the channels that are held here
         self.sessions, self.by_own, self.by_peer, self.held, self.is_open = [], {}, {}, set(), False
         # the place of a Close that waits; from this side's Close on, what may still be in flight, and the places of it
-        self.closing, self.behind, self.in_flight = None, None, set()
+        self.closing, self.late, self.in_flight = None, None, set()
 
     def parsed(self, of):
         try:
@@ -143,7 +143,7 @@ class Transcript:
                 self.open(at)
             if frame.code == CLOSE and self.closing is not None:
                 self.close(self.closing)
-            if self.behind and self.behind.has(frame, frame.channel in self.by_peer):
+            if self.late and self.late.has(frame, frame.channel in self.by_peer):
                 self.in_flight.add(at)
             before = frame.bytes()
             self.translate(at, frame)
@@ -155,7 +155,7 @@ class Transcript:
 
     def translate(self, at, frame):
         """The numbers of the peer's frame, as this side's are here; and what has to be asked for before it comes."""
-        if frame.code == BEGIN and not self.behind:
+        if frame.code == BEGIN and not self.late:
             self.by_peer[frame.channel] = self.answered(at, frame)
             frame[0] = ushort(self.by_peer[frame.channel].channel)
         session = self.by_peer.get(frame.channel)
@@ -236,7 +236,7 @@ class Transcript:
 
     def close(self, at):
         self.said(at, "close")
-        self.closing, self.behind = None, InFlight()
+        self.closing, self.late = None, InFlight()
 
     def link(self, at, session, name):
         session.links[name] = session.handles.give()
@@ -327,7 +327,7 @@ def answers(lines, program):
             continue
         said = ran.stdout.split(MARKED)
         if ran.returncode or len(said) != len(left) + 1:
-            told(f"{program}: it ended with status {ran.returncode}, behind {len(said) - 1} of {len(left)} lines")
+            told(f"{program}: it ended with status {ran.returncode}, after {len(said) - 1} of {len(left)} lines")
         names = {place: re.findall(r"^err (.*)$", it, re.M) for (place, _), it in zip(left, said)}
         return [{**names, **unread}[place] for place in range(len(lines))]
 

@@ -18,7 +18,7 @@ fail() {
     exit 1
 }
 
-# The crates of the repository that this one stands on, and itself behind them: each line of crates.txt is NAME: DEP ..
+# The crates of the repository that this one stands on, and itself after them: each line of crates.txt is NAME: DEP ..
 needed() {
     awk -v top="$top" -F: '
         /^[a-z]/ { line[$1] = $2 }
@@ -39,7 +39,7 @@ copy() {
     tar -C "$1" --anchored --exclude=./out --exclude=./mutants --exclude=./must-fail --exclude=./must-not-compile -cf - . | tar -C "$2" --no-same-owner -xf -
 }
 
-# The lines of DEST/crates.txt that are its own, and behind them those of the crates.
+# The lines of DEST/crates.txt that are its own, and after them those of the crates.
 merged() {
     local pattern
     pattern="^(${names//$'\n'/|})[ :]"

@@ -142,7 +142,7 @@ pub struct Engine {
     place: Place,
 }
 
-// All that an engine holds lies behind its place, and calls take it by `&mut`.
+// All that an engine holds lies after its place, and calls take it by `&mut`.
 unsafe impl Send for Engine {}
 
 impl Drop for Engine {
@@ -230,14 +230,14 @@ impl Engine {
         Ok((!said.is_empty()).then_some(number))
     }
 
-    /// Takes received bytes, as they come behind the protocol headers, in any splitting. How many were taken, whatever the outcome: give the rest
-    /// again, and where memory was refused again even if nothing is left. It stops behind a frame that left events, or that was refused.
+    /// Takes received bytes, as they come after the protocol headers, in any splitting. How many were taken, whatever the outcome: give the rest
+    /// again, and where memory was refused again even if nothing is left. It stops after a frame that left events, or that was refused.
     pub fn receive(&mut self, bytes: &[u8]) -> (usize, Result<(), Error>) {
         let (status, taken) = self.call(Operation::Receive, bytes, &mut []);
         (taken, self.outcome(status))
     }
 
-    /// Puts the bytes that wait to be sent behind what `out` holds. They are to be sent whatever the outcome.
+    /// Puts the bytes that wait to be sent after what `out` holds. They are to be sent whatever the outcome.
     pub fn send(&mut self, out: &mut Vec<u8>) -> Result<(), Error> {
         let mut room = [0; 4096];
         loop {
@@ -273,7 +273,7 @@ impl Engine {
         self.ask(Operation::End, &[&session.to_be_bytes(), error])
     }
 
-    /// The session's channel is given back, behind the exchange of End.
+    /// The session's channel is given back, after the exchange of End.
     pub fn release(&mut self, session: u32) -> Result<(), Error> {
         self.ask(Operation::Release, &[&session.to_be_bytes()])
     }

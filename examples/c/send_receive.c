@@ -85,7 +85,7 @@ static void exchange_headers(uint8_t protocol)
         fail("the peer speaks another protocol");
 }
 
-/* A frame of SASL, behind its header of 8 bytes. */
+/* A frame of SASL, after its header of 8 bytes. */
 static amqp_bytes sasl_frame(uint8_t *room, size_t size)
 {
     read_all(room, 4);

@@ -68,7 +68,7 @@ static inline int32_t amqp_join_and_ask(amqp *place, uint32_t operation, const u
     return amqp_join_and_call(place, operation, head, head_length, body, body_length, rest, rest_length, NULL, 0, &written);
 }
 
-/* Writes a number in network order; the place behind it. For use within these headers. */
+/* Writes a number in network order; the place after it. For use within these headers. */
 static inline uint8_t *amqp_u32_at(uint8_t *at, uint32_t number)
 {
     at[0] = (uint8_t)(number >> 24);
@@ -106,8 +106,8 @@ static inline int32_t amqp_start(amqp *place, const amqp_settings *settings, con
     return amqp_join_and_call(place, 0, head, sizeof head, open, open_length, NULL, 0, NULL, 0, NULL);
 }
 
-/* Takes received bytes, as they come behind the protocol headers: frames with their sizes, in any splitting. What does not make a whole frame
-   is kept. Stops behind a frame that is refused (REFUSED), and behind one that left events (DONE); `taken` says how many of the bytes were
+/* Takes received bytes, as they come after the protocol headers: frames with their sizes, in any splitting. What does not make a whole frame
+   is kept. Stops after a frame that is refused (REFUSED), and after one that left events (DONE); `taken` says how many of the bytes were
    taken, in each of these cases and with NO_MEMORY: give the rest again, where memory was refused even if nothing is left, since a whole frame
    may be kept. EVENTS_WAIT where events wait. A size below 8 or above this side's max-frame-size is refused as `BadSize`, and nothing is taken from
    then on. */
@@ -157,7 +157,7 @@ static inline int32_t amqp_end(amqp *place, uint32_t session, const uint8_t *err
     return amqp_of_session(place, AMQP_END, session, error, error_length);
 }
 
-/* The session's channel is given back for another, behind the exchange of End. */
+/* The session's channel is given back for another, after the exchange of End. */
 static inline int32_t amqp_release(amqp *place, uint32_t session)
 {
     return amqp_of_session(place, AMQP_RELEASE, session, NULL, 0);

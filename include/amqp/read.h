@@ -143,7 +143,7 @@ static inline int amqp_read_bytes(amqp_bytes value, amqp_bytes *inside)
     return 1;
 }
 
-/* The descriptor of a described value, as a number, and the value behind it. */
+/* The descriptor of a described value, as a number, and the value after it. */
 static inline int amqp_read_described(amqp_bytes from, uint64_t *descriptor, amqp_bytes *value)
 {
     size_t length;

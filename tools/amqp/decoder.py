@@ -45,7 +45,7 @@ def number(b, at, width):
 
 
 def parts(b, at, code):
-    """The parts of the data at `at` behind the code of a list, a map or an array: (start, value, end) of each."""
+    """The parts of the data at `at` after the code of a list, a map or an array: (start, value, end) of each."""
     if code == 0x45:
         return [], None
     kind, width = COMPOUND[code]
@@ -62,7 +62,7 @@ def parts(b, at, code):
 
 
 def data(b, at, code):
-    """The data at `at` behind this code: type, value, end."""
+    """The data at `at` after this code: type, value, end."""
     if code in FIXED:
         name, width, of = FIXED[code]
         return name, of(b[at : at + width]), at + width
@@ -71,14 +71,14 @@ def data(b, at, code):
         size, at = number(b, at, width)
         return name, of(b[at : at + size]), at + size
     kind, width = COMPOUND[code]
-    size, behind = number(b, at, width)
+    size, after = number(b, at, width)
     found, item = parts(b, at, code)
     inner = [said for _, said, _ in found]
     if kind == "array":
         inner = {"arr": item, "items": inner}
     elif kind == "map":
         inner = {"map": [list(pair) for pair in zip(inner[::2], inner[1::2])]}
-    return kind, inner, behind + size
+    return kind, inner, after + size
 
 
 def value(b, at):

@@ -37,18 +37,18 @@ def end_of(of, at):
 
 def parts(of, at):
     """The parts of the list at `at`, each as its bytes, and where the list ends."""
-    code, behind = number(of, at, 1)
+    code, after = number(of, at, 1)
     if code == 0x45:
-        return [], behind
+        return [], after
     if code not in (0xC0, 0xD0):
         raise Malformed
     end, width = end_of(of, at), 1 if code == 0xC0 else 4
-    count, behind = number(of, behind + width, width)
+    count, after = number(of, after + width, width)
     found = []
     for _ in range(count):
-        found.append(of[behind : end_of(of, behind)])
-        behind += len(found[-1])
-    if behind != end:
+        found.append(of[after : end_of(of, after)])
+        after += len(found[-1])
+    if after != end:
         raise Malformed
     return found, end
 

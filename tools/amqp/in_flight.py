@@ -1,4 +1,4 @@
-"""What of the peer's frames comes lawfully behind this side's Close, for transcript.py.
+"""What of the peer's frames comes lawfully after this side's Close, for transcript.py.
 
 The peer may have sent it before it read the Close: up to its own Close each frame may come that could have come before (AMQP 1.0 part 2, sections
 2.4.3, 2.4.4 and 2.4.6). The engine takes no Begin and no End there, and knows nothing of what those would have begun.
@@ -6,7 +6,7 @@ The peer may have sent it before it read the Close: up to its own Close each fra
 
 from amqp.frames import ATTACH, BEGIN, CLOSE, DETACH, END, FLOW, OPEN, TRANSFER, integer
 
-# By what names a lawful frame is refused there. What is malformed is so behind a Close too.
+# By what names a lawful frame is refused there. What is malformed is so after a Close too.
 OF_LAWFUL = ("IllegalState", "NotFound", "RemoteAttachingLinkNameNotFound", "UnattachedHandle")
 
 

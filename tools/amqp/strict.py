@@ -54,13 +54,13 @@ class Bytes:
         return self.number(1)
 
     def part(self, width):
-        """The bytes behind a size of this width."""
+        """The bytes after a size of this width."""
         size = self.number(width)
         return Bytes(self.take(size), self.start + self.at - size)
 
     def end(self):
         if self.left():
-            raise self.wrong(f"{self.left()} bytes are left behind the last part")
+            raise self.wrong(f"{self.left()} bytes are left after the last part")
 
 
 def constructor(of):
@@ -75,7 +75,7 @@ def constructor(of):
 
 
 def data(of, code):
-    """Reads the data behind a code; the depth of the value."""
+    """Reads the data after a code; the depth of the value."""
     if code in WIDTHS:
         found = of.take(WIDTHS[code])
         if code == 0x56 and found[0] > 1:
@@ -167,7 +167,7 @@ def symbols(of, code):
 
 
 def described(of, code, names, what):
-    """Which of these composites the bytes hold behind their code: descriptor and list."""
+    """Which of these composites the bytes hold after their code: descriptor and list."""
     if code != 0x00:
         raise of.wrong(f"no {what}, but the code {code:02x}", 1)
     begun = of.at
@@ -234,7 +234,7 @@ def field(of, name, kind, need, is_there):
 
 
 def body(found):
-    """The name of the performative that stands behind the frame's header."""
+    """The name of the performative that stands after the frame's header."""
     of = Bytes(found[4:], 4)
     return described(of, of.code(), TABLES, "performative")
 

@@ -71,13 +71,13 @@ def main():
     for name, frame in zip(NAMES, frames):
         row(program, f"decode {name}", "decode", [frame], beside=proton[name])
     row(program, "decode, mean of the nine", "decode", frames, beside=proton["mean"])
-    row(program, "decode transfer, 64 bytes behind", "decode", [transfer])
+    row(program, "decode transfer, 64 bytes after", "decode", [transfer])
     row(program, "read, mean of the nine", "read", frames)
     row(program, "length, mean of the nine", "length", frames)
     for name, frame in zip(NAMES, frames):
         row(program, f"encode {name}", "encode", [frame])
     row(program, "encode, mean of the nine", "encode", frames)
-    row(program, "encode transfer, 64 bytes behind", "encode", [transfer])
+    row(program, "encode transfer, 64 bytes after", "encode", [transfer])
     row(program, "a piece of 16 kB cut at 508", "encode", [frames[NAMES.index("transfer")] + "78" * 16384], limit=508)
 
 

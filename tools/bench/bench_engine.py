@@ -43,7 +43,7 @@ class Row:
         self.open_before, self.sessions = open_before, sessions
         # what one count stands for
         self.each = each
-        # the largest count, and how many deliveries are open behind each
+        # the largest count, and how many deliveries are open after each
         self.largest, self.left = largest or 10**6, left
         self.proton = proton
         # the engine's part, where it is another than to give answers
@@ -136,7 +136,7 @@ def rows():
 
 
 def rows_to_time():
-    """All rows that are timed: ten settled behind a hundred thousand are too few for it."""
+    """All rows that are timed: ten settled after a hundred thousand are too few for it."""
     yield from (row for row in rows() if row.mode != "peak")
     yield from of_widths([WIDE])
 

@@ -7,7 +7,7 @@
    bench_proton open N FILE BATCH       sends N transfers unsettled, and then takes what the peer settles, until FILE ends
    bench_proton keep N FILE BATCH       takes the transfers of FILE, and leaves each unsettled until the peer settles it
 
-   FILE holds pieces, each behind its length in four bytes: what the peer says first, and then what it says for each BATCH. The last
+   FILE holds pieces, each after its length in four bytes: what the peer says first, and then what it says for each BATCH. The last
    line of the output is what was done. */
 
 #include <proton/codec.h>

@@ -1,11 +1,11 @@
 #!/usr/bin/env python3
-"""How much memory the program `amqp_replay` holds at most over long lives: behind a thousand lines, and behind a million.
+"""How much memory the program `amqp_replay` holds at most over long lives: after a thousand lines, and after a million.
 
     tools/bench/peaks.py [PROGRAM [WORD..]]
 
 PROGRAM is the program of `crates/amqp_replay`, as `rt run` builds it; where none is named it is built first. With words only those lives
 are run whose name has one of them. A life is a few lines that begin it, and then the same exchange again and again, with the next numbers and
-names. It is flat where the peak behind a million lines is that behind a thousand and no more than 1 MB. The status is 1 where one grows.
+names. It is flat where the peak after a million lines is that after a thousand and no more than 1 MB. The status is 1 where one grows.
 
 The peak is the kernel's high-water mark of the process itself (`VmHWM`), read when the last line has been answered: what `getrusage` tells
 of a child is no less than what its parent held when it began it. A life counts only where the program printed as many frames as were due, and

@@ -27,7 +27,7 @@ def edits(root):
 
 
 def functions(crate):
-    """The functions of a crate, by the path that an edit names: a method's type stands behind the module that has the type."""
+    """The functions of a crate, by the path that an edit names: a method's type stands after the module that has the type."""
     home = {it.name: file.module for file in crate.files.values() for it in file.items if it.kind in ("struct", "enum", "trait")}
     found = {}
     for file in crate.files.values():

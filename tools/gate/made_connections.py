@@ -6,7 +6,7 @@ from amqp.canonical import boolean, composite, string, symbol, tag, uint, ushort
 from amqp.frames import ATTACH, BEGIN, CLOSE, DETACH, DISPOSITION, END, FLOW, NULL, OPEN, TRANSFER
 
 ENDED, CLOSED = "RemoteEnded (the peer ended)", "RemoteClosed (the peer ended)"
-FLEW = "(in flight behind this side's Close)"
+FLEW = "(in flight after this side's Close)"
 SENDER, RECEIVER = boolean(False), boolean(True)
 
 
@@ -73,7 +73,7 @@ def many_lives(seed):
 
 
 def in_flight():
-    """What the server had sent before it read the client's Close, and, behind a `None`, what it could not have sent."""
+    """What the server had sent before it read the client's Close, and, after a `None`, what it could not have sent."""
     transfer = frame("B", 0, TRANSFER, uint(7), uint(0), tag({"bin": "00"}), uint(0), boolean(True))
     lawful = [
         begin("B", 1),

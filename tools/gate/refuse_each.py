@@ -7,7 +7,7 @@ It compiles refuse_nth.c with the machine's compiler (and installs gcc where the
 amqp_replay as `rt run` or `rt ci` left them in out/; where one is missing it has `rt run` make it. Nothing of this is proved.
 
 oom_script runs once undisturbed, and then once for each N with the N-th request refused, until a run meets no refusal. But for the lines
-behind `~`, which tell the refusals, it has to print what it prints undisturbed: each piece in its order, nothing twice and nothing left out.
+after `~`, which tell the refusals, it has to print what it prints undisturbed: each piece in its order, nothing twice and nothing left out.
 In the second script a transfer that its session refuses is not offered again: the numbers are counted once, and nothing is recorded.
 Calls that take no memory are made while every request is refused, and have to make none. amqp_replay has to end with the whole output, or
 with status 3 and a beginning of it.
@@ -215,7 +215,7 @@ def refuses_none(sweep, run, nth):
 
 
 def second_script(lines):
-    """The lines before the second script, of the script, and behind it."""
+    """The lines before the second script, of the script, and after it."""
     first, after = (lines.index("# " + it) for it in (expected_memory.REFUSED, expected_memory.CODEC))
     return lines[:first], lines[first:after], lines[after:]
 

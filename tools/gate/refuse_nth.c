@@ -4,7 +4,7 @@
    REFUSE_LOG=F   at the end F gets a line for each mark that the program wrote: how many requests there were before it, how
                   many of them were refused, and the mark; and a line `end`
 
-   A mark is a line that begins with @, written to standard error. Behind @refuse every request is refused, until @grant. */
+   A mark is a line that begins with @, written to standard error. After @refuse every request is refused, until @grant. */
 #define _GNU_SOURCE
 #include <dlfcn.h>
 #include <errno.h>

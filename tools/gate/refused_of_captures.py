@@ -34,7 +34,7 @@ def wanted():
 
 
 def shown(frames, size):
-    """The frames as a followed stream, in chunks of this size: the protocol's header first, then each frame behind its own size."""
+    """The frames as a followed stream, in chunks of this size: the protocol's header first, then each frame after its own size."""
     lines, started = ["Follow: tcp,raw"], set()
     for side, frame in frames:
         of = (b"" if side in started else b"AMQP\0\1\0\0") + (len(frame) + 4).to_bytes(4, "big") + frame

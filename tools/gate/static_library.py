@@ -3,7 +3,7 @@
 
     tools/gate/static_library.py
 
-`rt lib` does the same where `rt check` built the libraries below; those that `rt ci` left it would prove anew. It is for the gate, right behind `rt ci`:
+`rt lib` does the same where `rt check` built the libraries below; those that `rt ci` left it would prove anew. It is for the gate, right after `rt ci`:
 nothing may have changed since. The crate itself is proved once more as it is compiled.
 """
 

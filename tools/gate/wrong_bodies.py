@@ -32,7 +32,7 @@ Written by `tools/gate/wrong_bodies.py --write` from the line `function:` of eac
 An edit puts a wrong body in the place of a function's, and its name says what is wrong with it. Those of `src/MODULE.rt` stand in
 `crates/NAME/mutants/MODULE.edits`. `tools/gate/refused_together.py NAME/EDIT` tries one, and the gate tries all: it passes where a goal
 of that very function cannot be proved. Most laws have no code to change: an edit of one changes its statement, or a definition, whose file
-then stands behind the edit's name, and shows nothing of the code. What the contracts say is in [CLAIMS.md](CLAIMS.md).
+then stands after the edit's name, and shows nothing of the code. What the contracts say is in [CLAIMS.md](CLAIMS.md).
 
 The static library `amqp_c` has its edits in a folder of its own, `crates/amqp_c/must-fail`: `rt ci` tries each by itself, and so does `rt must-fail amqp_c`. `raw_box` has none: the proofs of its two functions are written by hand along the steps of their bodies, and refuse every other body, a right one too.
 
@@ -54,7 +54,7 @@ def home(edit):
 
 
 def public(crate):
-    """The paths of a crate's public functions, as an edit names them: a method's type stands behind the module that has the type."""
+    """The paths of a crate's public functions, as an edit names them: a method's type stands after the module that has the type."""
     for item in crate.public.values():
         found = [(item.name,)] if item.kind == "fn" else []
         found += [(item.name, it.name) for it in methods(crate, item)] if item.kind != "trait" else []

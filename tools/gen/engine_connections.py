@@ -108,7 +108,7 @@ def no_frames(rows):
     rows.ask("recv ", "err DecodeError")
     rows.ask("recv 0200000000531045", "err DecodeError")
     rows.ask("close", OUR_CLOSE)
-    rows.row("Digits are read in either case, and bytes behind a performative are dropped")
+    rows.row("Digits are read in either case, and bytes after a performative are dropped")
     rows.ask(recv(opening("a", 262144, 255)).upper().replace("RECV", "recv") + "FFff")
     rows.ask("open", OUR_OPEN)
 

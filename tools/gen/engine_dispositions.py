@@ -34,7 +34,7 @@ def echoes(rows, said, *runs, state=ACCEPTED):
 
 
 def of_what_was_sent(rows):
-    rows.row("Two deliveries go out; an unsettled disposition of both is echoed each time it comes, and behind a settled one no more")
+    rows.row("Two deliveries go out; an unsettled disposition of both is echoed each time it comes, and after a settled one no more")
     rows.open()
     rows.begin(0)
     rows.ask("recv 02000000005311c009046000004352085208")
@@ -163,7 +163,7 @@ def several_links(rows):
 
 
 def asked_for(rows):
-    linked(rows, "A disposition goes out in canonical spelling, and leaves what is open; what stands behind it is dropped")
+    linked(rows, "A disposition goes out in canonical spelling, and leaves what is open; what stands after it is dropped")
     takes(rows, 0, 1)
     sends(rows, 0)
     for text in [
@@ -186,7 +186,7 @@ def outside_mapped(rows):
     rows.open()
     rows.begin(0)
     rows.ask("send 0 " + disposition(0, 1, True), out(disposition(0, 1, True)))
-    linked(rows, "Behind an End of this side's a disposition is echoed, and one that is asked for goes out, until the peer's End comes")
+    linked(rows, "After an End of this side's a disposition is echoed, and one that is asked for goes out, until the peer's End comes")
     sends(rows, 0, 1)
     rows.ask("end 0", out(end()))
     echoes(rows, disposition(0, 1), (0, 1))
@@ -261,7 +261,7 @@ def settled_in_each_state(rows):
     hear(rows, attach("a", 0))
     sends(rows, 0)
     echoes(rows, disposition(0), (0, 0))
-    linked(rows, "Behind an End of this side's it is let go too, and behind the peer's answer nothing is refused")
+    linked(rows, "After an End of this side's it is let go too, and after the peer's answer nothing is refused")
     sends(rows, 0, 1)
     rows.ask("end 0", out(end()))
     settle(rows, "sender", 0)
@@ -270,14 +270,14 @@ def settled_in_each_state(rows):
     settle(rows, "sender", 1)
     rows.ask("release 0")
     settle(rows, "sender", 0, 1)
-    linked(rows, "Behind an End of the peer's, and behind its answer")
+    linked(rows, "After an End of the peer's, and after its answer")
     sends(rows, 0)
     hear(rows, end(), "err RemoteEnded")
     settle(rows, "sender", 0)
     rows.ask("end 0", out(end()))
     settle(rows, "sender", 0)
     settle(rows, "receiver", 0, 9)
-    linked(rows, "Behind a Close of both")
+    linked(rows, "After a Close of both")
     sends(rows, 0, 1)
     rows.ask("close", OUR_CLOSE)
     settle(rows, "sender", 0)

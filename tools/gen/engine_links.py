@@ -99,7 +99,7 @@ def outside_mapped(rows):
     hear(rows, end(), "err RemoteEnded")
     rows.ask("link 0 a", "err SessionStopped")
     rows.ask("send 0 " + attach("a", 7), out(attach("a", 7)))
-    mapped(rows, "Behind an End the peer's attach and detach still reach the links")
+    mapped(rows, "After an End the peer's attach and detach still reach the links")
     rows.ask("link 0 a")
     rows.ask("end 0", out(end()))
     hear(rows, attach("a", 5))
@@ -107,7 +107,7 @@ def outside_mapped(rows):
 
 
 def sent(rows):
-    mapped(rows, "An attach goes out on the session's channel, in canonical spelling, and what stands behind it is dropped")
+    mapped(rows, "An attach goes out on the session's channel, in canonical spelling, and what stands after it is dropped")
     rows.ask("link 0 a")
     fields = ["b10000000161", "7000000000", "5601"]
     size = 4 + sum(map(len, fields)) // 2

@@ -35,7 +35,7 @@ def windows(rows):
     rows.ask(send("a", "ff"), ILLEGAL)
     rows.ask(recv(begin(0, 0, 8, 8), 5))
     rows.ask(send("b", "fe"), sent(0, "b", "fe"))
-    rows.row("Behind an End a flow lets nothing out, no transfer is taken, and there is no second End")
+    rows.row("After an End a flow lets nothing out, no transfer is taken, and there is no second End")
     rows.open()
     rows.begin(0)
     rows.ask(recv(begin(0, 0, 1, 8), 5))

@@ -42,7 +42,7 @@ class Exchange:
         self.sent += code == TRANSFER
 
     def grants(self, handle, count):
-        """The broker's flow for a link on which the client sends: behind the session's numbers the link's, with a credit of 500."""
+        """The broker's flow for a link on which the client sends: after the session's numbers the link's, with a credit of 500."""
         self.broker(FLOW, [*self.numbers(), uint(handle), uint(count), uint(500)])
 
     def numbers(self):
@@ -112,7 +112,7 @@ def sends_and_receives(it):
 
 
 def gives_back(it):
-    """The first message is accepted; the second is released, and comes again behind more credit."""
+    """The first message is accepted; the second is released, and comes again after more credit."""
     it.client(DISPOSITION, [RECEIVER, uint(0), NULL, YES, ACCEPTED])
     it.client(DISPOSITION, [RECEIVER, uint(1), NULL, YES, RELEASED])
     it.flow(1, 2, 1)

@@ -111,7 +111,7 @@ class ClientRows(Rows):
 
 
 def made(rows):
-    rows.row("A client is made of a key, four numbers of room, and an Open with nothing behind it")
+    rows.row("A client is made of a key, four numbers of room, and an Open with nothing after it")
     rows.ask("new -", str(BAD_ARGUMENT))
     rows.ask("new " + KEY, str(BAD_ARGUMENT))
     rows.ask("new " + KEY + u32(1) * 4, str(BAD_ARGUMENT))
@@ -201,10 +201,10 @@ def splits(rows):
     rows.refused(RECEIVE, "BadSize", "amqp:connection:framing-error", u32(513) + "02000000", 4)
     rows.refused(RECEIVE, "BadSize", "amqp:connection:framing-error", wire(""), 0)
     rows.refused(RECEIVE, "BadSize", "amqp:connection:framing-error", "", 0)
-    rows.row("What is asked goes on behind that")
+    rows.row("What is asked goes on after that")
     rows.op(CLOSE, error("amqp:connection:framing-error"))
     rows.sends(wire(closing("amqp:connection:framing-error")))
-    rows.row("A size of 8 is the least, that of an empty frame; one of 7 comes behind it, in two parts")
+    rows.row("A size of 8 is the least, that of an empty frame; one of 7 comes after it, in two parts")
     rows.opened()
     rows.receives(u32(8) + "02000000")
     rows.receives(u32(8) + "02000000" + u32(7)[:4])

@@ -5,7 +5,7 @@
 
 Each row is a transcript for an engine of its own in HeaderExchange, whose Open is named `replay`, or calls of a connection alone, or of handles
 with the runs of their engine. Beside each line stands what it has to print (AMQP 1.0 part 2, sections 2.4 to 2.6; docs/PROTOCOL.md for the
-tables). Behind them stand whole recorded exchanges. Nothing is taken from the program's output.
+tables). After them stand whole recorded exchanges. Nothing is taken from the program's output.
 """
 
 import sys

@@ -7,7 +7,7 @@ over ranges, to links of each settle mode (proton-duo-outcomes). The name of the
 
 The engine takes the client's place: what the server sent comes as `recv` lines, and what the client sent is asked for by `open`, `begin`,
 `link`, `send`, `end` and `close` lines, each where it was recorded, but:
-- a link is allotted where its attach was recorded, or behind the server's Begin where it was recorded before that, since a session that is
+- a link is allotted where its attach was recorded, or after the server's Begin where it was recorded before that, since a session that is
   not mapped allots none. The handles agree with the recorded ones in all four.
 - the detach by which the client answered the server's is the relay's: it goes out by itself.
 - in proton-duo-window each transfer is asked for one place before it was recorded, so that it waits for the window that the server opens in
@@ -16,7 +16,7 @@ The engine takes the client's place: what the server sent comes as `recv` lines,
 - the dispositions by which the client settled what the server had told it of unsettled are the relay's: they go out by themselves. In
   proton-duo-outcomes the client sent one for each delivery and without a state, where the relay sends one for each run and repeats the
   state; and it was silent on delivery 18, of which the server spoke twice before it settled it.
-- in proton-duo-outcomes the server's End comes behind the client's Close, and is refused: the connection is no longer open.
+- in proton-duo-outcomes the server's End comes after the client's Close, and is refused: the connection is no longer open.
 
 What is expected is worked out from the recorded fields, by client.py and not by the engine.
 """

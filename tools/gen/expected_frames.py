@@ -5,7 +5,7 @@
 
 Each value comes from what another implementation's decoder said of the frame (captures/NAME.fields.jsonl). Only the
 spellings of raw values and maps, which the decoder does not give, are cut from the frame's bytes (captures/NAME.txt);
-they are decoded by decoder.py, and have to be what the other decoder said. Behind them stand frames of which a byte was changed
+they are decoded by decoder.py, and have to be what the other decoder said. After them stand frames of which a byte was changed
 (expected_hostile.py).
 """
 

@@ -129,7 +129,7 @@ def received(refused=None):
             said.append("~ the session refuses the transfer")
         else:
             opens += 1
-            # a session flow goes out behind an accepted transfer, where half of the window was taken since the last one
+            # a session flow goes out after an accepted transfer, where half of the window was taken since the last one
             if count >= WINDOW // 2:
                 said.append(out(flow(number + 1, WINDOW, 0, 5000)))
                 count = 0

@@ -5,7 +5,7 @@
 
 Each side of each recording (captures) is the peer of an engine that has sent its Open and one Begin and asks for nothing
 else. What the engine then refuses is worked out here from the recorded fields (AMQP 1.0 part 2, sections 2.4 and 2.5): it has one session
-and no link. Behind the recordings stand streams with which something is wrong, and transfers in pieces of at most 24 bytes.
+and no link. After the recordings stand streams with which something is wrong, and transfers in pieces of at most 24 bytes.
 """
 
 import json
@@ -137,7 +137,7 @@ PIECES = [
 
 
 def in_pieces(pieces):
-    """The transfer as one frame, and its pieces, each behind its size. The payload counts up from 0."""
+    """The transfer as one frame, and its pieces, each after its size. The payload counts up from 0."""
     lens = [length for _, length in pieces]
     payload = bytes(range(sum(lens)))
     ends = [sum(lens[: at + 1]) for at in range(len(lens))]

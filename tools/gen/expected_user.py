@@ -76,7 +76,7 @@ def told(found, variant, name):
     return f"{variant} {name}".strip() + f": {said[0]}"
 
 
-def behind_close(of):
+def after_close(of):
     """The states in which nothing is told."""
     return re.search(r"Nothing is told in ([^:]*):", of)[1].replace(" and ", ", ").split(", ")
 
@@ -91,7 +91,7 @@ def spelled(prefix, name):
 
 def main():
     of = page()
-    found, quiet = table(of), behind_close(of)
+    found, quiet = table(of), after_close(of)
     lines = [CONVERSIONS]
     lines += [told(found, variant, name) for variant, names in REFUSALS.items() for name in names.split()]
     lines += [f"{state}: {'nothing' if state in quiet else 'told'}" for state in STATES.split()]

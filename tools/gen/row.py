@@ -26,7 +26,7 @@ class Rows:
         self.said.extend(answers)
 
     def note(self):
-        """Puts behind each line so far, for readers, what its hexadecimal says. The programs read no further than ` ;`."""
+        """Puts after each line so far, for readers, what its hexadecimal says. The programs read no further than ` ;`."""
         self.asked = [noted(line) for line in self.asked]
 
     def write(self, crate):
@@ -40,7 +40,7 @@ PERFORMATIVES = {"recv": 3, "send": 3, "first": 3, "later": 3} | dict.fromkeys([
 
 
 def noted(line):
-    """The line, and behind it what its frame or performative says."""
+    """The line, and after it what its frame or performative says."""
     words = line.split(" ")
     if words[0] == "times":
         words = words[2:]
@@ -163,7 +163,7 @@ def out(body, channel=0):
 
 
 def wire(body, channel=0):
-    """The frame as it goes out, behind its size, which counts its own four bytes."""
+    """The frame as it goes out, after its size, which counts its own four bytes."""
     frame = out(body, channel).removeprefix("out ")
     return f"{len(frame) // 2 + 4:08x}{frame}"
 

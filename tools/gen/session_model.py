@@ -128,7 +128,7 @@ class Script:
         self.rows.ask(f"{'link-incoming' if asks else 'link-deaf'} {handle} {name}", f"handle {output}")
 
     def range(self):
-        """The first and the last number of a range, mostly a short one; the last may be missing, or behind half of the circle."""
+        """The first and the last number of a range, mostly a short one; the last may be missing, or after half of the circle."""
         first = self.near()
         kind = self.chance.randrange(12)
         if kind == 0:

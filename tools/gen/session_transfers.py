@@ -115,7 +115,7 @@ def by_flows(rows):
 
 def by_transfers(rows):
     """A window opens while so many wait, by a flow that is refused; a transfer goes out alone as one frame where none waited, and else
-    behind those that did."""
+    after those that did."""
     for held, window in [(0, 0), (0, 3), (1, 0), (1, 1), (1, 2), (2, 2)]:
         gone = min(held + 1, window)
         rows.row(f"{held} wait, the window is {window}, and one more is asked for: {gone} go out")

@@ -64,7 +64,7 @@ class File:
                 self.shown.append(other or last)
 
     def end_of(self, at):
-        """Behind the bracket that closes the one at `at`."""
+        """After the bracket that closes the one at `at`."""
         depth = 0
         for place in range(at, len(self.code)):
             depth += (self.code[place] in "{([") - (self.code[place] in "})]")
@@ -73,7 +73,7 @@ class File:
         raise ValueError("a bracket that nothing closes")
 
     def until(self, at, stops, clauses=False):
-        """The first place behind `at`, outside of brackets, of one of these characters, or of a clause."""
+        """The first place after `at`, outside of brackets, of one of these characters, or of a clause."""
         while at < len(self.code):
             if self.code[at] in stops or clauses and self.code[at].isspace() and CLAUSE.match(self.code, at):
                 return at

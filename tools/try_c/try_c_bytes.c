@@ -6,7 +6,7 @@ static unsigned digit(char it)
     return it <= '9' ? (unsigned)(it - '0') : (unsigned)(it - 'a' + 10);
 }
 
-/* Sets the size behind which this place is. */
+/* Sets the size after which this place is. */
 static void sized(uint8_t *out, size_t start, size_t length)
 {
     if (start & 1)

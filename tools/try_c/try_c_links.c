@@ -115,7 +115,7 @@ static amqp receiving(void)
     return engine;
 }
 
-/* Two transfers come: receive stops behind the first, and takes nothing until its event is taken. */
+/* Two transfers come: receive stops after the first, and takes nothing until its event is taken. */
 static void try_transfer_events(amqp *engine)
 {
     amqp_event event;

@@ -101,7 +101,7 @@ static int32_t asked(amqp *engine, uint32_t operation, const char *digits)
     return status;
 }
 
-/* Inputs that are nearly an operation's: another performative, bytes behind it, a role or a mode that is none, a name that is no UTF-8. */
+/* Inputs that are nearly an operation's: another performative, bytes after it, a role or a mode that is none, a name that is no UTF-8. */
 static void try_other_forms(void)
 {
     static const struct { uint32_t operation; const char *digits; } forms[] = {

@@ -4,7 +4,7 @@
     tools/try_c/try_c_recorded.py > FILE
 
 A line is `exchange NAME`, then what is done: `call OPERATION INPUT` with the operation's number and its input in hexadecimal (`-` for none), or
-`recv FRAME` with a frame that the peer sent, its size included. Behind those of an exchange stand the frames that have to go out, each as
+`recv FRAME` with a frame that the peer sent, its size included. After those of an exchange stand the frames that have to go out, each as
 `out FRAME`, and the refusals that have to be told, each as `err NAME`; then `end`. What is expected is worked out from the recordings, by client.py.
 """
 
@@ -42,7 +42,7 @@ def number(spelled):
 
 
 def link(session, name, attach):
-    """LINK, with the role and the receiver settle mode of the attach that goes out behind it."""
+    """LINK, with the role and the receiver settle mode of the attach that goes out after it."""
     said = fields(attach)
     role = said[2] == b"\x41"
     mode = number(said[4]) if len(said) > 4 and said[4] != b"\x40" else 0

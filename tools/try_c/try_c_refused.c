@@ -1,6 +1,6 @@
 /* A whole connection by the library for C, for try_c.sh to run with each request for memory refused in turn (refuse_nth.c). What is answered
    AMQP_NO_MEMORY is asked again, and what is refused as OutOfMemory too, a frame of the peer's as well; so all that goes out and all that comes
-   has to be as it is when nothing is refused. It is printed, in hexadecimal; behind ~ stands how often a call was asked again. */
+   has to be as it is when nothing is refused. It is printed, in hexadecimal; after ~ stands how often a call was asked again. */
 #include "try_c.h"
 
 static amqp engine;
@@ -113,7 +113,7 @@ static void go_on(void)
     ASK(amqp_transfer(&engine, 7, 5, 1, text, length, payload, 600));
     length = amqp_write_flow(text, sizeof text, 1, NULL, 10, 0, 0);
     ASK(amqp_flow(&engine, 7, text, length));
-    /* no numbers go out behind this, since a transfer that is refused is counted all the same */
+    /* no numbers go out after this, since a transfer that is refused is counted all the same */
     hear("[02000003 005314 c0(05 5206 43 a0(61) 43 42) 010203]");
     length = amqp_write_disposition(text, sizeof text, AMQP_RECEIVER, 0, 0, 1, AMQP_ACCEPTED);
     ASK(amqp_disposition(&engine, 7, text, length));

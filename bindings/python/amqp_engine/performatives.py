@@ -78,7 +78,7 @@ class Performative:
         """The performative whose bytes these are, all of them. Raises `Malformed` where they are not."""
         value, end = read(of)
         if end != len(of):
-            raise Malformed(f"bytes behind a {cls.__name__}")
+            raise Malformed(f"bytes after a {cls.__name__}")
         return cls.of(value)
 
 
@@ -194,7 +194,7 @@ class Flow(Performative):
 
 @dataclass
 class Transfer(Performative):
-    """A delivery, or a part of one. The payload stands behind it. The engine gives the number of the delivery."""
+    """A delivery, or a part of one. The payload stands after it. The engine gives the number of the delivery."""
 
     handle: int
     delivery_id: Optional[int] = None

@@ -34,7 +34,7 @@ class LoginRefused(ConnectionError):
 
 
 def frame(code: int, fields: List[Any]) -> bytes:
-    """A frame of SASL behind its size."""
+    """A frame of SASL after its size."""
     body = b"\x02\x01\x00\x00" + write(Described(Ulong(code), fields))
     return (len(body) + 4).to_bytes(4, "big") + body
 

@@ -66,7 +66,7 @@ def frames_of(data: bytes) -> Iterator[bytes]:
 
 
 def sized(frame: bytes) -> bytes:
-    """A frame behind its size."""
+    """A frame after its size."""
     return (len(frame) + 4).to_bytes(4, "big") + frame
 
 
@@ -96,7 +96,7 @@ class Server:
         self._at = 0
 
     def _next_frame(self) -> Optional[bytes]:
-        """The next frame, with its size, once it is whole. One of no lawful size is given to the engine at once, which refuses it, and nothing behind it."""
+        """The next frame, with its size, once it is whole. One of no lawful size is given to the engine at once, which refuses it, and nothing after it."""
         left = len(self._rest) - self._at
         if left < 4 or self._is_broken:
             return None

@@ -213,7 +213,7 @@ def write(value: Any) -> bytes:
 
 
 def _short(zero: Optional[bytes], short: int, code: int, width: int, signed: bool = False):
-    """Writes a number: nothing behind the code of zero, one byte where it fits, else all."""
+    """Writes a number: nothing after the code of zero, one byte where it fits, else all."""
 
     def writer(value: int) -> bytes:
         if value == 0 and zero is not None:

@@ -136,7 +136,7 @@ module _ {T : Type 0} where
       let z : length b.items + start_of bs k ≡ r = omega (arith, e, l) in
       items_drop bs k (start_of bs k) refl ∙ sym (drop-append-add b.items (items_of bs) (start_of bs k)) ∙ ap (λ n. drop n (b.items ++ items_of bs)) z
 
-  -- ---- the part that stays behind the cut
+  -- ---- the part that stays after the cut
 
   pub items_trimmed : (bs cs : List (Block T)) (at : ℕ) → IsTrimmed bs at cs → ((b : Block T) → b ≡ get_or bs 0 b → at ≤ length b.items) → items_of cs ≡ drop at (items_of bs)
   items_trimmed bs cs zero u w = ap items_of u
@@ -189,11 +189,11 @@ module _ {T : Type 0} where
       (c, refl, f ∙ ap (λ n. drop n b.items) z ∙ ap (λ (x : Block T). drop (suc at) x.items) e)
   trimmed_in (d ∷ ds) (suc j) (suc at) b c p h e f = trimmed_in ds j (suc at) b c p (omega arith) e f
 
-  -- no running length behind a cut is below what is cut
-  pub ends_enough_behind : (n count at : ℕ) (bs : List (Block T)) → ((b : Block T) → b ≡ get_or bs 0 b → at ≤ length b.items) → count ≤ n + at → (k : ℕ) → k < length (ends_from n bs) → count ≤ get_or (ends_from n bs) k 0
-  ends_enough_behind n count at [] w e k h = absurd (omega arith)
-  ends_enough_behind n count at (b ∷ bs) w e zero h = let q = w b refl in omega (arith, q, e)
-  ends_enough_behind n count at (b ∷ bs) w e (suc k) h =
+  -- no running length after a cut is below what is cut
+  pub ends_enough_after : (n count at : ℕ) (bs : List (Block T)) → ((b : Block T) → b ≡ get_or bs 0 b → at ≤ length b.items) → count ≤ n + at → (k : ℕ) → k < length (ends_from n bs) → count ≤ get_or (ends_from n bs) k 0
+  ends_enough_after n count at [] w e k h = absurd (omega arith)
+  ends_enough_after n count at (b ∷ bs) w e zero h = let q = w b refl in omega (arith, q, e)
+  ends_enough_after n count at (b ∷ bs) w e (suc k) h =
       let q = w b refl in
       let m = ends_low (n + length b.items) bs k (omega (arith, h)) in
       omega (arith, q, e, m)
@@ -204,15 +204,15 @@ module _ {T : Type 0} where
   at_dropped (b ∷ bs) (suc j) d = at_dropped bs j d
 
   -- the block of the second place, as what follows begins with it
-  pub first_behind : (bs : List (Block T)) (j at : ℕ) → (0 < at → (j < length bs) × HasItem bs j at) → (b : Block T) → b ≡ get_or (drop j bs) 0 b → 0 < at → at < length b.items
-  first_behind bs j at w b e p = (w p).1 b (e ∙ at_dropped bs j b)
+  pub first_after : (bs : List (Block T)) (j at : ℕ) → (0 < at → (j < length bs) × HasItem bs j at) → (b : Block T) → b ≡ get_or (drop j bs) 0 b → 0 < at → at < length b.items
+  first_after bs j at w b e p = (w p).1 b (e ∙ at_dropped bs j b)
 
   -- a cut that leaves nothing in front: the base rises
-  behind_all : (base rank count start at : ℕ) (front bs back : List (Block T)) (fronts : List ℕ) (items : List T) → IsFront base rank items front fronts → length fronts ≡ 0 → rank ≤ length items → IsTrimmed bs at back → ((b : Block T) → b ≡ get_or bs 0 b → at ≤ length b.items) → rank + count ≡ start + at → fronts ++ ends_from (base + start) bs ≡ ends_from (base + count) (front ++ back)
-  behind_all base rank count start at [] bs back fronts items f z low u fits q =
+  after_all : (base rank count start at : ℕ) (front bs back : List (Block T)) (fronts : List ℕ) (items : List T) → IsFront base rank items front fronts → length fronts ≡ 0 → rank ≤ length items → IsTrimmed bs at back → ((b : Block T) → b ≡ get_or bs 0 b → at ≤ length b.items) → rank + count ≡ start + at → fronts ++ ends_from (base + start) bs ≡ ends_from (base + count) (front ++ back)
+  after_all base rank count start at [] bs back fronts items f z low u fits q =
       let none : rank ≡ 0 = sym (ap length f.is ∙ length-take-le rank items low) in
       ap (λ (ks : List ℕ). ks ++ ends_from (base + start) bs) f.stops ∙ sym (map_none (ends_from (base + start) bs)) ∙ ends_trimmed (base + count) (base + start) 0 at bs back u fits (omega (arith, q, none))
-  behind_all base rank count start at (b ∷ front) bs back fronts items f z low u fits q = absurd (let l = ap length f.stops in omega (arith, l, z))
+  after_all base rank count start at (b ∷ front) bs back fronts items f z low u fits q = absurd (let l = ap length f.stops in omega (arith, l, z))
 
   -- what is known once a stretch is cut out
   pub record Cut (base rank count : ℕ) (bs ds : List (Block T)) (ends : List ℕ) : Type 0 where
@@ -222,7 +222,7 @@ module _ {T : Type 0} where
 
   pub cut_is : (base risen rank count j at n : ℕ) (bs front back ds : List (Block T)) (es fronts left new : List ℕ) → IsChunked base bs es → IsFront base rank (items_of bs) front fronts → n ≡ length fronts → IsTrimmed (drop j bs) at back → (0 < at → (j < length bs) × HasItem bs j at) → rank ≤ length (items_of bs) → rank + count ≡ start_of bs j + at → ds ≡ front ++ back → left ≡ fronts ++ drop j es → (n ≡ 0 → (new ≡ left) × (risen ≡ base + count)) → (0 < n → (risen ≡ base) × (new ≡ take n left ++ map (λ e. e - count) (drop n left))) → Cut risen rank count bs ds new
   cut_is base risen rank count j at n bs front back ds es fronts left new v f z u w low q e s first other =
-      let some = first_behind bs j at w in
+      let some = first_after bs j at w in
       let fits : (b : Block T) → b ≡ get_or (drop j bs) 0 b → at ≤ length b.items = λ b p. no_more at (length b.items) (some b p) in
       let kept : items_of back ≡ drop (rank + count) (items_of bs) = items_trimmed (drop j bs) back at u fits ∙ ap (drop at) (items_drop bs j (start_of bs j) refl) ∙ drop-drop at (start_of bs j) (items_of bs) ∙ ap (λ n. drop n (items_of bs)) (sym q) in
       let long : length (items_of front) ≡ rank = ap length f.is ∙ length-take-le rank (items_of bs) low in
@@ -238,7 +238,7 @@ module _ {T : Type 0} where
           | inr none ↦
               let o = first (omega (arith, none)) in
               o.0 ∙ s ∙ ap (λ (ks : List ℕ). fronts ++ ks) gone
-              ∙ behind_all base rank count (start_of bs j) at front (drop j bs) back fronts (items_of bs) f (omega (arith, none, z)) low u fits q
+              ∙ after_all base rank count (start_of bs j) at front (drop j bs) back fronts (items_of bs) f (omega (arith, none, z)) low u fits q
               ∙ ap (ends_from (base + count)) (sym e) ∙ ap (λ m. ends_from m ds) (sym o.1)
         ];
         some = subst EachSome (sym e) (some_append front back f.some (some_trimmed (drop j bs) back at u some (some_drop bs j v.some)));
@@ -249,10 +249,10 @@ module _ {T : Type 0} where
   trimmed_none bs zero e = refl
   trimmed_none bs (suc at) e = absurd (omega (arith, e))
 
-  -- the second place is not behind all items
-  pub places_behind : (bs : List (Block T)) (j at : ℕ) → (0 < at → (j < length bs) × HasItem bs j at) → start_of bs j + at ≤ length (items_of bs)
-  places_behind bs j zero w = let f = start_few bs j in omega (arith, f)
-  places_behind bs j (suc at) w =
+  -- the second place is not after all items
+  pub places_after : (bs : List (Block T)) (j at : ℕ) → (0 < at → (j < length bs) × HasItem bs j at) → start_of bs j + at ≤ length (items_of bs)
+  places_after bs j zero w = let f = start_few bs j in omega (arith, f)
+  places_after bs j (suc at) w =
       let in_it = w (omega arith) in
       let b = some_block bs j in_it.0 in
       let more = start_more bs j b.0 in_it.0 b.1 in

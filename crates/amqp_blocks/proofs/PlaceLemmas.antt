@@ -92,15 +92,15 @@ module _ {T : Type 0} where
       omega (arith, o, s)
 
   pub within_block : (base : ℕ) (bs : List (Block T)) (ends : List ℕ) (block at rank : ℕ) (b : Block T) → ends ≡ ends_from base bs → block < length bs → rank ≡ start_of bs block + at → base + rank < slice_index ends block → b ≡ get_or bs block b → at < length b.items
-  within_block base bs ends block at rank b e h r behind f =
+  within_block base bs ends block at rank b e h r after f =
       let s : slice_index ends block ≡ base + start_of bs (suc block) = end_is base bs ends block (suc block) e h refl in
       let m = start_more bs block b h f in
-      omega (arith, s, m, r, behind)
+      omega (arith, s, m, r, after)
 
   pub ends_long : (base : ℕ) (bs : List (Block T)) (ends : List ℕ) → ends ≡ ends_from base bs → length ends ≡ length bs
   ends_long base bs ends e = ap length e ∙ ends_length base bs
 
-  -- the last end is behind each rank
+  -- the last end is after each rank
   pub reaches : (base : ℕ) (bs : List (Block T)) (ends : List ℕ) (rank : ℕ) → ends ≡ ends_from base bs → rank < length (items_of bs) → (0 < length ends) × (base + rank < slice_index ends (length ends - 1))
   reaches base bs ends rank e h =
       let long = ends_long base bs ends e in
@@ -128,7 +128,7 @@ module _ {T : Type 0} where
   start_is base bs ends (suc k) s e h first other =
       other (omega arith) ∙ end_is base bs ends (suc k - 1) (suc k) e (omega arith) (omega arith)
 
-  -- a place that may be behind the last block
+  -- a place that may be after the last block
   pub placed_end : (base : ℕ) (bs : List (Block T)) (ends : List ℕ) (block at rank : ℕ) → ends ≡ ends_from base bs → block ≤ length bs → (block ≡ 0 → at ≡ rank) → (0 < block → slice_index ends (block - 1) + at ≡ base + rank) → rank ≡ start_of bs block + at
   placed_end base bs ends zero at rank e h first other = let f = first refl in omega (arith, f)
   placed_end base bs ends (suc block) at rank e h first other =
@@ -143,10 +143,10 @@ module _ {T : Type 0} where
     pub item : HasItem bs block at
 
   pub located : (base : ℕ) (bs : List (Block T)) (ends : List ℕ) (block at rank : ℕ) → ends ≡ ends_from base bs → block < length ends → (block ≡ 0 → at ≡ rank) → (0 < block → slice_index ends (block - 1) + at ≡ base + rank) → base + rank < slice_index ends block → Located bs rank block at
-  located base bs ends block at rank e lt first other behind =
+  located base bs ends block at rank e lt first other after =
       let h : block < length bs = let long = ends_long base bs ends e in omega (arith, lt, long) in
       let r = placed base bs ends block at rank e h first other in
-      record { block_is = h; rank_is = r; item = λ b f. within_block base bs ends block at rank b e h r behind f }
+      record { block_is = h; rank_is = r; item = λ b f. within_block base bs ends block at rank b e h r after f }
 
   pub start_mono : (bs : List (Block T)) (i j : ℕ) → i ≤ j → start_of bs i ≤ start_of bs j
   start_mono bs zero j h = omega arith
@@ -156,16 +156,16 @@ module _ {T : Type 0} where
       let m = start_mono bs i j (omega arith) in
       omega (arith, m, length-append b.items (items_of (take i bs)), length-append b.items (items_of (take j bs)))
 
-  -- a place behind all of a block is in a later one
+  -- a place after all of a block is in a later one
   pub comes_later : (base : ℕ) (bs : List (Block T)) (ends : List ℕ) (i j to : ℕ) → ends ≡ ends_from base bs → i < length bs → j ≤ length bs → start_of bs (suc i) < to → (j < length ends → base + to < slice_index ends j) → i < j
-  comes_later base bs ends i j to e h w gt behind =
+  comes_later base bs ends i j to e h w gt after =
       let long = ends_long base bs ends e in
       elim (cases_lt i j) [
         | inl lt ↦ lt
         | inr ge ↦
             let lt : j < length bs = omega (arith, h, ge) in
             let s = end_is base bs ends j (suc j) e lt refl in
-            let b = behind (omega (arith, lt, long)) in
+            let b = after (omega (arith, lt, long)) in
             let m = start_mono bs (suc j) (suc i) (omega (arith, ge)) in
             absurd (omega (arith, s, b, m, gt))
       ]

@@ -71,7 +71,7 @@ module _ {T : Type 0} where
         more_items,
       )
 
-  -- no end is behind the last item
+  -- no end is after the last item
   pub ends_high : (n : ℕ) (bs : List (Block T)) (i k : ℕ) → k < length (drop i (ends_from n bs)) → get_or (drop i (ends_from n bs)) k 0 ≤ n + length (items_of bs)
   ends_high n [] zero k h = absurd (omega (arith, h))
   ends_high n [] (suc i) k h = absurd (omega (arith, h))

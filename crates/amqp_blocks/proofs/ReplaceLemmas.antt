@@ -11,10 +11,10 @@ module _ {X : Type 0} where
   set_front (z ∷ zs) ys zero x h = refl
   set_front (z ∷ zs) ys (suc i) x h = ap (λ ws. z ∷ ws) (set_front zs ys i x (omega arith))
 
-  set_behind : (xs ys : List X) (i k : ℕ) (x : X) → k ≡ length xs + i → xs ++ set ys i x ≡ set (xs ++ ys) k x
-  set_behind [] ys i k x e = let z : i ≡ k = omega (arith, e) in ap (λ n. set ys n x) z
-  set_behind (z ∷ zs) ys i zero x e = absurd (omega (arith, e))
-  set_behind (z ∷ zs) ys i (suc k) x e = ap (λ ws. z ∷ ws) (set_behind zs ys i k x (omega (arith, e)))
+  set_after : (xs ys : List X) (i k : ℕ) (x : X) → k ≡ length xs + i → xs ++ set ys i x ≡ set (xs ++ ys) k x
+  set_after [] ys i k x e = let z : i ≡ k = omega (arith, e) in ap (λ n. set ys n x) z
+  set_after (z ∷ zs) ys i zero x e = absurd (omega (arith, e))
+  set_after (z ∷ zs) ys i (suc k) x e = ap (λ ws. z ∷ ws) (set_after zs ys i k x (omega (arith, e)))
 
 module _ {T : Type 0} where
   items_set : (bs : List (Block T)) (i at r : ℕ) (b c : Block T) (x : T) → i < length bs → b ≡ get_or bs i b → at < length b.items → c.items ≡ set b.items at x → r ≡ start_of bs i + at → items_of (set bs i c) ≡ set (items_of bs) r x
@@ -25,7 +25,7 @@ module _ {T : Type 0} where
       ap (λ (xs : List T). xs ++ items_of ds) (f ∙ ap (λ (xs : List T). set xs at x) same) ∙ set_front d.items (items_of ds) at x (omega (arith, w, ap length same)) ∙ ap (λ n. set (d.items ++ items_of ds) n x) z
   items_set (d ∷ ds) (suc i) at r b c x h e w f q =
       let l = length-append d.items (items_of (take i ds)) in
-      ap (λ (xs : List T). d.items ++ xs) (items_set ds i at (start_of ds i + at) b c x (omega arith) e w f refl) ∙ set_behind d.items (items_of ds) (start_of ds i + at) r x (omega (arith, q, l))
+      ap (λ (xs : List T). d.items ++ xs) (items_set ds i at (start_of ds i + at) b c x (omega arith) e w f refl) ∙ set_after d.items (items_of ds) (start_of ds i + at) r x (omega (arith, q, l))
 
   pub items_replaced : (bs cs : List (Block T)) (i at r : ℕ) (x : T) → i < length bs → (u : IsReplaced bs i at x cs) → at < length u.from.items → r ≡ start_of bs i + at → items_of cs ≡ set (items_of bs) r x
   items_replaced bs cs i at r x h u w q = ap items_of u.set ∙ items_set bs i at r u.from u.to x h u.was w u.items q

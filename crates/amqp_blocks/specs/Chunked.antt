@@ -86,7 +86,7 @@ module _ {T : Type 0} where
   abbrev pub without : ℕ → ℕ → List T → List T
   without r count xs = take r xs ++ drop (r + count) xs
 
--- the block that a target is in: it ends behind it, and the one before does not
+-- the block that a target is in: it ends after it, and the one before does not
 abbrev pub HoldsTarget : List ℕ → ℕ → ℕ → Type 0
 HoldsTarget ends target block =
     (block < length ends) × (0 < block → slice_index ends (block - 1) ≤ target) × (target < slice_index ends block)

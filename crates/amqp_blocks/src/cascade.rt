@@ -41,9 +41,9 @@ fn nearest<T>(blocks: &Vec<VecDeque<T>>, block: usize) -> usize
     ensures place { HasPlace blocks.now.items result }
 {
     for away in 0..blocks.len() {
-        let behind = block + away;
-        if is_free(blocks, behind) {
-            return behind;
+        let after = block + away;
+        if is_free(blocks, after) {
+            return after;
         }
         let before = block.saturating_sub(away);
         if is_free(blocks, before) {
@@ -53,7 +53,7 @@ fn nearest<T>(blocks: &Vec<VecDeque<T>>, block: usize) -> usize
     unreachable!()
 }
 
-/// The place behind a block's last item.
+/// The place after a block's last item.
 pub(crate) fn end_of<T>(blocks: &Vec<VecDeque<T>>, block: usize) -> Place
     requires block { block < length blocks.now.items }
     ensures block { result.block ≡ block }

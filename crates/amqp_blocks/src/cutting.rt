@@ -75,7 +75,7 @@ fn take_out<T: Drop>(
     ends.drain(first..next);
 }
 
-/// The items from one place to another leave. The second place is in a later block, or behind the last. Answers the base.
+/// The items from one place to another leave. The second place is in a later block, or after the last. Answers the base.
 pub(crate) fn cut_wide<T: Drop>(
     blocks: &mut Vec<VecDeque<T>>,
     ends: &mut Vec<usize>,

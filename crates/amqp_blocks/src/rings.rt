@@ -99,7 +99,7 @@ pub(crate) fn shift<T>(blocks: &mut Vec<VecDeque<T>>, place: Place, item: T) -> 
     turn_out_last(&mut blocks[place.block], place.at, item)
 }
 
-/// An item comes into the block of a place behind its first one, which comes out.
+/// An item comes into the block of a place after its first one, which comes out.
 pub(crate) fn unshift<T>(blocks: &mut Vec<VecDeque<T>>, place: Place, item: T) -> T
     requires block { place.block < length blocks.old.items }
     requires some { 0 < place.at }

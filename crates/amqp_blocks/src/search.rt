@@ -141,7 +141,7 @@ pub(crate) fn locate(ends: &Vec<usize>, base: usize, rank: usize) -> Place
     ensures block { result.block < length ends.now.items }
     ensures first { result.block ≡ 0 → result.at ≡ rank }
     ensures other { 0 < result.block → slice_index ends.now.items (result.block - 1) + result.at ≡ base + rank }
-    ensures behind { base + rank < slice_index ends.now.items result.block }
+    ensures after { base + rank < slice_index ends.now.items result.block }
 {
     let block = block_of(ends, base, rank);
     place_in(ends, base, rank, block)
@@ -156,7 +156,7 @@ pub(crate) fn locate_near(ends: &Vec<usize>, base: usize, hint: usize, rank: usi
     ensures block { result.block < length ends.now.items }
     ensures first { result.block ≡ 0 → result.at ≡ rank }
     ensures other { 0 < result.block → slice_index ends.now.items (result.block - 1) + result.at ≡ base + rank }
-    ensures behind { base + rank < slice_index ends.now.items result.block }
+    ensures after { base + rank < slice_index ends.now.items result.block }
 {
     if holds(ends, base + rank, 0) {
         return Place { block: 0, at: rank };
@@ -168,7 +168,7 @@ pub(crate) fn locate_near(ends: &Vec<usize>, base: usize, hint: usize, rank: usi
     locate(ends, base, rank)
 }
 
-/// Where a rank is that may be the length: then it is behind the last block.
+/// Where a rank is that may be the length: then it is after the last block.
 pub(crate) fn locate_end(ends: &Vec<usize>, base: usize, rank: usize) -> Place
     requires some { 0 < length ends.now.items }
     requires fits { base + rank < 2 ^ 64 }
@@ -176,7 +176,7 @@ pub(crate) fn locate_end(ends: &Vec<usize>, base: usize, rank: usize) -> Place
     ensures block { result.block ≤ length ends.now.items }
     ensures first { result.block ≡ 0 → result.at ≡ rank }
     ensures other { 0 < result.block → slice_index ends.now.items (result.block - 1) + result.at ≡ base + rank }
-    ensures behind { result.block < length ends.now.items → base + rank < slice_index ends.now.items result.block }
+    ensures after { result.block < length ends.now.items → base + rank < slice_index ends.now.items result.block }
     ensures end { result.block ≡ length ends.now.items → result.at ≡ 0 }
 {
     let count = ends.len();

@@ -156,7 +156,7 @@ impl<T> Blocks<T> {
         )
     }
 
-    /// Puts an item behind the last one. It needs room for one, and asks for no memory.
+    /// Puts an item after the last one. It needs room for one, and asks for no memory.
     #[inline(always)]
     pub fn push_back(&mut self, item: T)
         requires room { 0 < self.old.room }
@@ -174,7 +174,7 @@ impl<T> Blocks<T> {
         );
     }
 
-    /// Puts an item before that of a rank, or behind the last where the rank is the length. It needs room for one, and asks for no memory.
+    /// Puts an item before that of a rank, or after the last where the rank is the length. It needs room for one, and asks for no memory.
     pub fn insert(&mut self, rank: usize, item: T)
         requires room { 0 < self.old.room }
         requires few { length self.old.items < 2 ^ 33 }

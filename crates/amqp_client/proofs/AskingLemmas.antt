@@ -62,18 +62,18 @@ pub no_flow : {R : Type 0} (n : ℕ) (bytes : List ℕ) (f : FlowModel) → Read
 no_flow n bytes f h e i a =
     no_some a.1 (sym a.3 ∙ ap link_part (h.1 a.0 a.2) ∙ e)
 
--- a Detach and a Transfer behind their flags
-pub detach_behind : {R : Type 0} (n : ℕ) (bytes : List ℕ) (flag : ℕ) (rest : List ℕ) → HasByte bytes flag rest → (i : Input R) → AsksDetach n bytes i
+-- a Detach and a Transfer after their flags
+pub detach_after : {R : Type 0} (n : ℕ) (bytes : List ℕ) (flag : ℕ) (rest : List ℕ) → HasByte bytes flag rest → (i : Input R) → AsksDetach n bytes i
     → (d : DetachModel) × IsPerformative (its.Detach d) rest
-detach_behind n bytes flag rest e i a =
+detach_after n bytes flag rest e i a =
     (a.detach, subst (IsPerformative (its.Detach a.detach)) (same_rest (byte_at bytes) flag a.flag rest a.rest e a.has_flag) a.is_detach)
 
-pub transfer_behind : {R : Type 0} (n : ℕ) (bytes : List ℕ) (handle flag : ℕ) (behind rest : List ℕ) → HasNumber bytes handle behind → HasByte behind flag rest
+pub transfer_after : {R : Type 0} (n : ℕ) (bytes : List ℕ) (handle flag : ℕ) (after rest : List ℕ) → HasNumber bytes handle after → HasByte after flag rest
     → (i : Input R) → AsksTransfer n bytes i → (x : TransferModel × List ℕ) × IsTransfer rest x
-transfer_behind n bytes handle flag behind rest e f i a =
-    let b : a.behind ≡ behind = same_rest (number_at w32 bytes) handle a.handle behind a.behind e a.has_handle in
-    let g : HasByte behind a.flag a.rest = subst (λ t. HasByte t a.flag a.rest) b a.has_flag in
-    (a.transfer, subst (λ t. IsTransfer t a.transfer) (same_rest (byte_at behind) flag a.flag rest a.rest f g) a.is_transfer)
+transfer_after n bytes handle flag after rest e f i a =
+    let b : a.after ≡ after = same_rest (number_at w32 bytes) handle a.handle after a.after e a.has_handle in
+    let g : HasByte after a.flag a.rest = subst (λ t. HasByte t a.flag a.rest) b a.has_flag in
+    (a.transfer, subst (λ t. IsTransfer t a.transfer) (same_rest (byte_at after) flag a.flag rest a.rest f g) a.is_transfer)
 
 -- an operation that is none of these five is of a session
 pub plain_or_session : {R : Type 0} (o : Operation) (bytes : List ℕ) (r : Result (Input R) ReadError) → ¬ (o ≡ op.Open) → ¬ (o ≡ op.Close) → ¬ (o ≡ op.Release)

@@ -15,15 +15,15 @@ use Rattle.std.specs.Result.{is_ok}
 use Rattle.std.proofs.lemmas.Bool.Decides.{nat_tests}
 use Rattle.std.proofs.lemmas.Grind.{common_steps}
 
--- a list of one is all in front, or all behind
-one_split : {X : Type 0} (x : X) (front behind : List X) → x ∷ [] ≡ front ++ behind → (behind ≡ []) ⊎ (behind ≡ x ∷ [])
-one_split x [] behind e = inr (sym e)
-one_split x (y ∷ []) behind e = inl (let f : x ∷ [] ≡ y ∷ behind = e in cc)
-one_split x (y ∷ z ∷ front) behind e = let f : x ∷ [] ≡ y ∷ z ∷ (front ++ behind) = e in absurd cc
+-- a list of one is all in front, or all after
+one_split : {X : Type 0} (x : X) (front after : List X) → x ∷ [] ≡ front ++ after → (after ≡ []) ⊎ (after ≡ x ∷ [])
+one_split x [] after e = inr (sym e)
+one_split x (y ∷ []) after e = inl (let f : x ∷ [] ≡ y ∷ after = e in cc)
+one_split x (y ∷ z ∷ front) after e = let f : x ∷ [] ≡ y ∷ z ∷ (front ++ after) = e in absurd cc
 
-none_split : {X : Type 0} (front behind : List X) → [] ≡ front ++ behind → behind ≡ []
-none_split [] behind e = sym e
-none_split (y ∷ front) behind e = let f : [] ≡ y ∷ (front ++ behind) = e in absurd cc
+none_split : {X : Type 0} (front after : List X) → [] ≡ front ++ after → after ≡ []
+none_split [] after e = sym e
+none_split (y ∷ front) after e = let f : [] ≡ y ∷ (front ++ after) = e in absurd cc
 
 -- an input that is left was not taken
 pub left_is : {R : Type 0} (g : Relays R) (v v' : EngineView R) (i : Input R) (out out' : List ℕ) (left : List (Input R)) (refusals : List Refusal)

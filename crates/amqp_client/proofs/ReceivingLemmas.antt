@@ -62,7 +62,7 @@ wants_size n size h = grind (arith, nat_tests, common_steps)
 wants_frame : (n size : ℕ) → 4 ≤ n → n < size → 0 < cond (nat_lt n 4) (4 - n) (size - n)
 wants_frame n size h k = grind (arith, nat_tests, common_steps)
 
--- the call ends behind a frame, by its status
+-- the call ends after a frame, by its status
 pub frame_ends : {R : Type 0} (g : Relays R) (limit : ℕ) (m k n : MachineView R) (kept input : List ℕ) (count : ℕ) (whole left : List ℕ) (s : Status)
     → Took g limit m kept input count k whole → IsFrame limit whole → RunsOne g k (Received (drop 4 whole)) s n → KeptAfter s whole left
     → Receives g limit m kept input s count n left

@@ -20,8 +20,8 @@ taken_length waits old at h k = rw (length-append (take at waits) (drop at old),
 front_is : (waits old : List ℕ) (at : ℕ) → at ≤ length waits → take at (take at waits ++ drop at old) ≡ take at waits
 front_is waits old at k = take_at (take at waits) (drop at old) at (length-take-le at waits k)
 
-behind_is : (waits old : List ℕ) (at n : ℕ) → at ≤ length waits → drop (at + n) (take at waits ++ drop at old) ≡ drop (at + n) old
-behind_is waits old at n k =
+after_is : (waits old : List ℕ) (at n : ℕ) → at ≤ length waits → drop (at + n) (take at waits ++ drop at old) ≡ drop (at + n) old
+after_is waits old at n k =
     ap (λ m. drop (m + n) (take at waits ++ drop at old)) (sym (length-take-le at waits k))
     ∙ drop-append-add (take at waits) (drop at old) n ∙ drop-drop n at old
 
@@ -34,7 +34,7 @@ taken_more waits old at n left new left' new' t f = record {
   output_is = f.output
       ∙ ap (λ (o : List ℕ). take at o ++ (take n left ++ drop (at + n) o)) t.output_is
       ∙ ap (λ (p : List ℕ). p ++ (take n left ++ drop (at + n) (take at waits ++ drop at old))) (front_is waits old at t.there)
-      ∙ ap (λ (b : List ℕ). take at waits ++ (take n left ++ b)) (behind_is waits old at n t.there)
+      ∙ ap (λ (b : List ℕ). take at waits ++ (take n left ++ b)) (after_is waits old at n t.there)
       ∙ ap (λ (w : List ℕ). take at waits ++ (take n w ++ drop (at + n) old)) t.left_is
       ∙ sym (append_assoc (take at waits) (take n (drop at waits)) (drop (at + n) old))
       ∙ ap (λ (p : List ℕ). p ++ drop (at + n) old) (sym (take-add at n waits));

@@ -1,11 +1,11 @@
--- Bytes that are written one behind the other.
+-- Bytes that are written one after the other.
 use Rattle.std.proofs.Common.{◌≡◌, ◌≤◌, ◌<◌, ◌+◌, ◌-◌, ℕ, List, [], ◌∷◌, ◌++◌, length, take, drop, Result, Ok, Err, OnOk, refl, ap, sym, subst, ◌∙◌, append_assoc, zero-add, arith}
 use Rattle.std.proofs.lemmas.List.{length-append, take_at, drop-drop}
 use Rattle.std.proofs.Math.Seq.{drop-append-add}
 use Rattle.std.specs.Int.{w32, to_be_bytes}
 use Rattle.amqp_client.specs.Writing.{fills}
 
--- a front of the output is written; the next bytes go behind it
+-- a front of the output is written; the next bytes go after it
 fills_next : (front bytes old : List ℕ) → fills (length front) bytes (front ++ drop (length front) old) ≡ (front ++ bytes) ++ drop (length front + length bytes) old
 fills_next front bytes old =
     ap (λ (p : List ℕ). p ++ (bytes ++ drop (length front + length bytes) (front ++ drop (length front) old))) (take_at front (drop (length front) old) (length front) refl)
@@ -25,7 +25,7 @@ three a b c old o1 o2 o3 h1 h2 h3 =
 pub three_length : (a b c : List ℕ) → (length a + length b) + length c ≡ length (a ++ (b ++ c))
 three_length a b c = rw (length-append a (b ++ c), length-append b c) (omega arith)
 
--- bytes that are appended one behind the other
+-- bytes that are appended one after the other
 pub puts_three : {X E : Type 0} (r : Result X E) (old a b c o1 o2 o3 : List ℕ) → o1 ≡ old ++ a → o2 ≡ o1 ++ b → OnOk r (o3 ≡ o2 ++ c)
     → OnOk r (o3 ≡ old ++ (a ++ (b ++ c)))
 puts_three (Ok x) old a b c o1 o2 o3 h1 h2 h3 =

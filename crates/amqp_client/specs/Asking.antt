@@ -65,11 +65,11 @@ pub record AsksSettle {R : Type 0} (bytes : List ℕ) (i : Input R) : Type 0 whe
   pub role : Role
   pub first : ℕ
   pub last : ℕ
-  pub behind : List ℕ
+  pub after : List ℕ
   pub numbers : List ℕ
   pub rest : List ℕ
-  pub has_session : HasNumber bytes session behind
-  pub has_role : HasByte behind role_byte numbers
+  pub has_session : HasNumber bytes session after
+  pub has_role : HasByte after role_byte numbers
   pub role_is : role_of role_byte ≡ Some role
   pub has_first : HasNumber numbers first rest
   pub has_last : HasNumber rest last []
@@ -105,11 +105,11 @@ pub record AsksTransfer {R : Type 0} (n : ℕ) (bytes : List ℕ) (i : Input R) 
   pub handle : ℕ
   pub flag : ℕ
   pub first : Bool
-  pub behind : List ℕ
+  pub after : List ℕ
   pub rest : List ℕ
   pub transfer : TransferModel × List ℕ
-  pub has_handle : HasNumber bytes handle behind
-  pub has_flag : HasByte behind flag rest
+  pub has_handle : HasNumber bytes handle after
+  pub has_flag : HasByte after flag rest
   pub first_is : flag_of flag ≡ Some first
   pub is_transfer : IsTransfer rest transfer
   pub input_is : i ≡ input.Transfer (record { 0 = n }) (record { 0 = handle }) transfer.0 transfer.1 first

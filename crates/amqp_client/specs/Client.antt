@@ -45,7 +45,7 @@ pub record ClientView : Type 0 where
 abbrev pub new_client : OpenModel → ClientView
 new_client o = record { machine = new_machine (new_engine HeaderExchange o); kept = []; next = None }
 
--- behind 32 bytes, the key and the room, stands an Open
+-- after 32 bytes, the key and the room, stands an Open
 abbrev pub HasOpen : List ℕ → OpenModel → Type 0
 HasOpen input o = (32 ≤ length input) × IsPerformative (its.Open o) (drop 32 input)
 

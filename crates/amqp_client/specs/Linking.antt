@@ -36,9 +36,9 @@ pub record LinkModel : Type 0 where
 pub record HasPolicy (bytes : List ℕ) (l : LinkModel) : Type 0 where
   pub role_byte : ℕ
   pub mode_byte : ℕ
-  pub behind : List ℕ
-  pub has_role : HasByte bytes role_byte behind
-  pub has_mode : HasByte behind mode_byte l.name
+  pub after : List ℕ
+  pub has_role : HasByte bytes role_byte after
+  pub has_mode : HasByte after mode_byte l.name
   pub role_is : role_of role_byte ≡ Some l.role
   pub mode_is : mode_of mode_byte ≡ Some l.mode
   pub utf8 : IsUtf8 l.name
@@ -46,7 +46,7 @@ pub record HasPolicy (bytes : List ℕ) (l : LinkModel) : Type 0 where
 -- the link that the bytes of an operation name
 abbrev pub AsksLink : Operation → List ℕ → LinkModel → Type 0
 AsksLink op.Link bytes l = (rest : List ℕ) × HasNumber bytes l.session rest × (l.input ≡ None) × HasPolicy rest l
-AsksLink op.LinkOn bytes l = (h : ℕ) × (behind : List ℕ) × (rest : List ℕ) × HasNumber bytes l.session behind × HasNumber behind h rest
+AsksLink op.LinkOn bytes l = (h : ℕ) × (after : List ℕ) × (rest : List ℕ) × HasNumber bytes l.session after × HasNumber after h rest
     × (l.input ≡ Some h) × HasPolicy rest l
 AsksLink o bytes l = ⊥
 

@@ -23,7 +23,7 @@ new_machine v = record { engine = v; to_send = []; last = nothing }
 
 -- ---- one input
 
--- The engine runs this one input, and leaves these of it; what it sends goes behind what waits, and of what is refused the last is kept.
+-- The engine runs this one input, and leaves these of it; what it sends goes after what waits, and of what is refused the last is kept.
 abbrev pub RunsInput : {R : Type 0} → Relays R → MachineView R → Input R → List (Input R) → List Refusal → Bool → MachineView R → Type 0
 RunsInput g m i left refusals refused n =
     RanInto g m.engine (i ∷ []) m.to_send [] n.engine left n.to_send refusals
@@ -38,7 +38,7 @@ RunsOne g m i s n = ⊥
 
 -- ---- what is sent
 
--- A front of what waits is taken off, and stands at the front of the output: as much as fits. Behind it the output is as it was.
+-- A front of what waits is taken off, and stands at the front of the output: as much as fits. After it the output is as it was.
 pub record TakesOff (waits old : List ℕ) (n : ℕ) (left new : List ℕ) : Type 0 where
   pub count : n ≡ min (length old) (length waits)
   pub rest : left ≡ drop n waits
@@ -69,7 +69,7 @@ status_of false refused = status.NoMemory
 status_of true true = status.Refused
 status_of true false = status.Done
 
--- an item behind the others, or it is not put there
+-- an item after the others, or it is not put there
 abbrev pub Pushes : {X : Type 0} → List X → X → Bool → List X → Type 0
 Pushes old x true new = new ≡ old ++ x ∷ []
 Pushes old x false new = new ≡ old

@@ -40,7 +40,7 @@ Stands limit kept front.Part = IsPart limit kept
 Stands limit kept front.Whole = IsFrame limit kept
 Stands limit kept front.Bad = IsBad limit kept
 
--- no byte behind the frame whose size stands at the front
+-- no byte after the frame whose size stands at the front
 abbrev pub IsKept : List ℕ → Type 0
 IsKept kept = (length kept ≤ 4) ⊎ (length kept ≤ size_at kept)
 
@@ -52,14 +52,14 @@ TakesEach g limit m [] n = n ≡ m
 TakesEach g limit m (whole ∷ wholes) n =
     IsFrame limit whole × (k : MachineView _) × RunsOne g m (Received (drop 4 whole)) status.Done k × TakesEach g limit k wholes n
 
--- The bytes that were kept, and behind them the first ones that came, are these frames, which are run, and what is kept then.
+-- The bytes that were kept, and after them the first ones that came, are these frames, which are run, and what is kept then.
 pub record Took {R : Type 0} (g : Relays R) (limit : ℕ) (m : MachineView R) (kept input : List ℕ) (count : ℕ) (n : MachineView R) (left : List ℕ) : Type 0 where
   pub wholes : List (List ℕ)
   pub within : count ≤ length input
   pub bytes : kept ++ take count input ≡ joined wholes ++ left
   pub runs : TakesEach g limit m wholes n
 
--- It ends where all is taken, and what is kept is no whole frame; or behind a frame that left events, where nothing is kept.
+-- It ends where all is taken, and what is kept is no whole frame; or after a frame that left events, where nothing is kept.
 abbrev pub EndsDone : {R : Type 0} → (g : Relays R) → (limit : ℕ) → MachineView R → List ℕ → List ℕ → ℕ → MachineView R → List ℕ → Type 0
 EndsDone g limit m kept input count n left =
     (t : Took g limit m kept input count n left) × (((count ≡ length input) × IsPart limit left) ⊎ ((left ≡ []) × ¬ (t.wholes ≡ [])))
@@ -83,7 +83,7 @@ Receives g limit m kept input status.Refused count n left = EndsRefused g limit 
 Receives g limit m kept input status.NoMemory count n left = EndsEarly g limit m kept input count n left
 Receives g limit m kept input s count n left = ⊥
 
--- what is kept behind a run of it
+-- what is kept after a run of it
 abbrev pub KeptAfter : Status → List ℕ → List ℕ → Type 0
 KeptAfter status.NoMemory kept left = left ≡ kept
 KeptAfter s kept left = left ≡ []

@@ -8,7 +8,7 @@ use Rattle.amqp_client.specs.declared.status.Status.TheVariants as status
 abbrev pub fills : ℕ → List ℕ → List ℕ → List ℕ
 fills at bytes old = take at old ++ (bytes ++ drop (at + length bytes) old)
 
--- The bytes stand at the front of the output, and behind them it is as it was; or they do not fit, and all of it is. Their length is told.
+-- The bytes stand at the front of the output, and after them it is as it was; or they do not fit, and all of it is. Their length is told.
 abbrev pub Writes : List ℕ → List ℕ → Status → ℕ → List ℕ → Type 0
 Writes bytes old status.Done n new = (n ≡ length bytes) × (new ≡ bytes ++ drop n old)
 Writes bytes old status.TooSmall n new = (n ≡ length bytes) × (length old < n) × (new ≡ old)

@@ -129,10 +129,10 @@ fn forget<R>(input: &[u8]) -> Result<Input<R>, ReadError>
 fn settle<R>(input: &[u8]) -> Result<Input<R>, ReadError>
     ensures { Reads (AsksSettle input.now) result }
 {
-    let Some((session, behind)) = reading::number(input) else {
+    let Some((session, after)) = reading::number(input) else {
         return Err(ReadError::Malformed);
     };
-    let Some((role, numbers)) = reading::byte(behind) else {
+    let Some((role, numbers)) = reading::byte(after) else {
         return Err(ReadError::Malformed);
     };
     let Some(role) = reading::role(role) else {
@@ -230,10 +230,10 @@ fn flow<R>(alloc: Global, session: u32, input: &[u8]) -> Result<Input<R>, ReadEr
 fn transfer<R>(alloc: Global, session: u32, input: &[u8]) -> Result<Input<R>, ReadError>
     ensures { Reads (AsksTransfer session input.now) result }
 {
-    let Some((handle, behind)) = reading::number(input) else {
+    let Some((handle, after)) = reading::number(input) else {
         return Err(ReadError::Malformed);
     };
-    let Some((flag, rest)) = reading::byte(behind) else {
+    let Some((flag, rest)) = reading::byte(after) else {
         return Err(ReadError::Malformed);
     };
     let Some(first) = reading::flag(flag) else {

@@ -52,8 +52,8 @@ pub(crate) fn asked(operation: Operation, input: &[u8]) -> Option<LinkAsked<'_>>
 fn named(session: u32, input: Option<u32>, bytes: &[u8]) -> Option<LinkAsked<'_>>
     ensures { FindsPolicy session input bytes.now result }
 {
-    let (role, behind) = reading::byte(bytes)?;
-    let (mode, rest) = reading::byte(behind)?;
+    let (role, after) = reading::byte(bytes)?;
+    let (mode, rest) = reading::byte(after)?;
     let role = reading::role(role)?;
     let mode = reading::mode(mode)?;
     match std::str::from_utf8(rest) {

@@ -23,7 +23,7 @@ use Rattle.amqp_engine.proofs.OutputLemmas.{PutSoFar, first_taken, put_none, put
 use Rattle.amqp_engine.proofs.RunLemmas.{HeadlineLaw, StandsLaw}
 use Rattle.amqp_engine.proofs.RunSoFarLemmas.{Taking, Taking-start, Taking-more, Taking-Ran}
 
--- ---- answers, one list behind another
+-- ---- answers, one list after another
 
 sent_of-append : (xs ys : List Answer) → sent_of (xs ++ ys) ≡ sent_of xs ++ sent_of ys
 sent_of-append [] ys = refl

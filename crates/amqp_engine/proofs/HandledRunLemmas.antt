@@ -1,4 +1,4 @@
--- The wishes that a run has heard so far, and the run of the inputs behind them.
+-- The wishes that a run has heard so far, and the run of the inputs after them.
 use Rattle.std.proofs.Common.{◌≡◌, ℕ, List, All, [], ◌∷◌, ◌++◌, refl, ap, sym, subst, ◌∙◌, append_assoc, Option, Some, None, Result, Ok, Err, inl, inr, false, map as each}
 use Rattle.std.proofs.lemmas.List.{append-nil}
 use Rattle.std.proofs.lemmas.List.Elements.{All-nil, All-push}
@@ -231,7 +231,7 @@ close_left v1 v2 v3 none same stays =
 
 -- ---- the inputs
 
--- these entries, and then the inputs behind them
+-- these entries, and then the inputs after them
 ran_both : {R : Type 0} (g : Relays R) (v u w : EngineView R) (es : List (Entry R)) (inputs inputs' : List (Input R)) (answers answers1 answers2 : List Answer) → HeadlineLaw g → StandsLaw g →
     Running g v es answers u answers1 → Ran g [] u inputs answers1 w inputs' answers2 → Ran g es v inputs answers w inputs' answers2
 ran_both g v u w es inputs inputs' answers answers1 answers2 law views a r =

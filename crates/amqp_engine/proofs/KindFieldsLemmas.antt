@@ -18,7 +18,7 @@ use Rattle.amqp_frames.specs.declared.frame.FrameBody.{FrameBody}
 use Rattle.amqp_frames.specs.declared.frame.FrameBody.TheVariants as body
 use Rattle.amqp_frames.specs.Head.{IsFields, IsBodyOf}
 
--- the grammar of a kind's fields, their reader with its law, and the body that they say, with the bytes behind it
+-- the grammar of a kind's fields, their reader with its law, and the body that they say, with the bytes after it
 pub record Reads (k : Kind) (V : Type 0) : Type 1 where
   pub IsText : V → List (List ℕ) → Type 0
   pub reader : ListReader → Option (V × ListReader)
@@ -28,28 +28,28 @@ pub record Reads (k : Kind) (V : Type 0) : Type 1 where
   pub is_body : (b : FrameBody) (fields rest : List ℕ) → IsFields IsText says b fields rest → IsBodyOf (Some k) b fields rest
 
 abbrev pub open_fields : Reads kind.Open OpenModel
-open_fields = record { IsText = IsOpenBody; reader = open_body_at; law = open_body; says = λ p behind. (body.Open p, behind); is_fields = λ b f r x. x; is_body = λ b f r x. x }
+open_fields = record { IsText = IsOpenBody; reader = open_body_at; law = open_body; says = λ p after. (body.Open p, after); is_fields = λ b f r x. x; is_body = λ b f r x. x }
 
 abbrev pub begin_fields : Reads kind.Begin BeginModel
-begin_fields = record { IsText = IsBeginBody; reader = begin_body_at; law = begin_body; says = λ p behind. (body.Begin p, behind); is_fields = λ b f r x. x; is_body = λ b f r x. x }
+begin_fields = record { IsText = IsBeginBody; reader = begin_body_at; law = begin_body; says = λ p after. (body.Begin p, after); is_fields = λ b f r x. x; is_body = λ b f r x. x }
 
 abbrev pub attach_fields : Reads kind.Attach AttachModel
-attach_fields = record { IsText = IsAttachBody; reader = attach_body_at; law = attach_body; says = λ p behind. (body.Attach p, behind); is_fields = λ b f r x. x; is_body = λ b f r x. x }
+attach_fields = record { IsText = IsAttachBody; reader = attach_body_at; law = attach_body; says = λ p after. (body.Attach p, after); is_fields = λ b f r x. x; is_body = λ b f r x. x }
 
 abbrev pub flow_fields : Reads kind.Flow FlowModel
-flow_fields = record { IsText = IsFlowBody; reader = flow_body_at; law = flow_body; says = λ p behind. (body.Flow p, behind); is_fields = λ b f r x. x; is_body = λ b f r x. x }
+flow_fields = record { IsText = IsFlowBody; reader = flow_body_at; law = flow_body; says = λ p after. (body.Flow p, after); is_fields = λ b f r x. x; is_body = λ b f r x. x }
 
 abbrev pub transfer_fields : Reads kind.Transfer TransferModel
-transfer_fields = record { IsText = IsTransferBody; reader = transfer_body_at; law = transfer_body; says = λ p behind. (body.Transfer p behind, []); is_fields = λ b f r x. x; is_body = λ b f r x. x }
+transfer_fields = record { IsText = IsTransferBody; reader = transfer_body_at; law = transfer_body; says = λ p after. (body.Transfer p after, []); is_fields = λ b f r x. x; is_body = λ b f r x. x }
 
 abbrev pub disposition_fields : Reads kind.Disposition DispositionModel
-disposition_fields = record { IsText = IsDispositionBody; reader = disposition_body_at; law = disposition_body; says = λ p behind. (body.Disposition p, behind); is_fields = λ b f r x. x; is_body = λ b f r x. x }
+disposition_fields = record { IsText = IsDispositionBody; reader = disposition_body_at; law = disposition_body; says = λ p after. (body.Disposition p, after); is_fields = λ b f r x. x; is_body = λ b f r x. x }
 
 abbrev pub detach_fields : Reads kind.Detach DetachModel
-detach_fields = record { IsText = IsDetachBody; reader = detach_body_at; law = detach_body; says = λ p behind. (body.Detach p, behind); is_fields = λ b f r x. x; is_body = λ b f r x. x }
+detach_fields = record { IsText = IsDetachBody; reader = detach_body_at; law = detach_body; says = λ p after. (body.Detach p, after); is_fields = λ b f r x. x; is_body = λ b f r x. x }
 
 abbrev pub end_fields : Reads kind.End EndModel
-end_fields = record { IsText = IsEndBody; reader = end_body_at; law = end_body; says = λ p behind. (body.End p, behind); is_fields = λ b f r x. x; is_body = λ b f r x. x }
+end_fields = record { IsText = IsEndBody; reader = end_body_at; law = end_body; says = λ p after. (body.End p, after); is_fields = λ b f r x. x; is_body = λ b f r x. x }
 
 abbrev pub close_fields : Reads kind.Close CloseModel
-close_fields = record { IsText = IsCloseBody; reader = close_body_at; law = close_body; says = λ p behind. (body.Close p, behind); is_fields = λ b f r x. x; is_body = λ b f r x. x }
+close_fields = record { IsText = IsCloseBody; reader = close_body_at; law = close_body; says = λ p after. (body.Close p, after); is_fields = λ b f r x. x; is_body = λ b f r x. x }

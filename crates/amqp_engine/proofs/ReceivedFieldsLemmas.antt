@@ -104,7 +104,7 @@ not_copied g r v c fields left p a named =
     let is = r.is_body b fields rest (fields_found r.IsText r.reader r.law r.says fields left p b rest a refl) in
     (None, None, [], v, inl ((b, rest, is, named), refl, ((refl, refl), refl)), refl)
 
--- ---- behind a head
+-- ---- after a head
 
 none_received : (bytes left : List ℕ) (h : FrameHead) (refusal : Option StepError) → Opens bytes left (Ok h) → NoneReceivedOf h.kind left refusal → NoneReceived bytes refusal
 none_received bytes left h (Some (no.Frame e)) o n = not_decoded bytes left h e o n

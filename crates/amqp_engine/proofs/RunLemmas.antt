@@ -50,7 +50,7 @@ outs_append : (limit : ℕ) (fs gs : List Frame) (outs more : List Answer) → I
 outs_append limit [] gs outs more h k = subst (λ (xs : List Answer). IsOuts limit gs (xs ++ more)) (sym h) k
 outs_append limit (f ∷ fs) gs outs more h k = (h.0, h.1 ++ more, ap (λ (xs : List Answer). xs ++ more) h.2, h.3, outs_append limit fs gs h.1 more h.4 k)
 
--- a front of what waits is put out, and then the rest by the first entry behind it
+-- a front of what waits is put out, and then the rest by the first entry after it
 put_then : {R : Type 0} (limit : ℕ) (waiting waiting1 : List Frame) (es : List (Entry R)) (waiting2 : List Frame) (out more : List Answer) →
     PutOut limit waiting waiting1 out → OutputOf limit waiting1 es waiting2 more → OutputOf limit waiting es waiting2 (out ++ more)
 put_then limit waiting waiting1 [] waiting2 out more p q = record {

@@ -14,7 +14,7 @@ use Rattle.amqp_engine.specs.EngineView.{EngineView}
 use Rattle.amqp_engine.specs.Output.{NextAnswer}
 use Rattle.amqp_engine.specs.Ran.{Ran}
 
--- the bytes that are sent for answers: the pieces of each frame, each behind its size
+-- the bytes that are sent for answers: the pieces of each frame, each after its size
 abbrev pub sent_of : List Answer → List ℕ
 sent_of [] = []
 sent_of (answer.Done ∷ rest) = sent_of rest
@@ -22,7 +22,7 @@ sent_of (answer.Refused e ∷ rest) = sent_of rest
 sent_of (answer.Out pieces ∷ rest) = wire_of pieces.items ++ sent_of rest
 sent_of (answer.TooLarge f ∷ rest) = sent_of rest
 
--- the place of the input behind the one of this place: the first is 0
+-- the place of the input after the one of this place: the first is 0
 abbrev pub next_place : Option ℕ → ℕ
 next_place None = 0
 next_place (Some n) = n + 1

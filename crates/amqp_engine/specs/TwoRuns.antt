@@ -9,7 +9,7 @@ use Rattle.amqp_engine.specs.Entry.{Entry}
 use Rattle.amqp_engine.specs.Ran.{Ran}
 
 -- A run leaves inputs and, perhaps, frames that wait. A second one goes on with those inputs and more. Then one run over both lists
--- of inputs may put out just this: what the first one put out, and behind it what the second one did.
+-- of inputs may put out just this: what the first one put out, and after it what the second one did.
 abbrev pub TwoRunsAreOne : {R : Type 0} → Relays R → Type 0
 TwoRunsAreOne g =
     (wished : List (Entry _)) (v u w : EngineView _) (inputs left more rest : List (Input _)) (answers others first second : List Answer)

@@ -9,7 +9,7 @@ use Rattle.amqp_session.specs.declared.frame.SessionFrameBody.{SessionFrameBody}
 use Rattle.amqp_session.specs.declared.frame.SessionFrameBody.TheVariants as said
 use Rattle.amqp_types.specs.Disposition.{DispositionModel}
 use Rattle.amqp_engine.specs.declared.engine.output_queue.Backlog.{Backlog}
-use Rattle.amqp_engine.specs.declared.engine.output_queue.Backlog.TheVariants as behind
+use Rattle.amqp_engine.specs.declared.engine.output_queue.Backlog.TheVariants as after
 
 -- a session's frame, as the connection sends it: the same channel, and the same performative and payload
 abbrev pub body_of : SessionFrameBody → FrameBody
@@ -27,21 +27,21 @@ frame_of f = record { channel = f.channel; body = body_of f.body }
 abbrev pub sent : List SessionFrame → List Frame
 sent fs = map frame_of fs
 
--- what stands behind the first frame: frames of a session, or dispositions, each of which becomes a frame on the channel
+-- what stands after the first frame: frames of a session, or dispositions, each of which becomes a frame on the channel
 abbrev pub disposition_frame : ℕ → DispositionModel → SessionFrame
 disposition_frame channel d = record { channel = channel; body = said.Disposition d }
 
-abbrev pub behind_frames : Backlog → List SessionFrame
-behind_frames behind.Nothing = []
-behind_frames (behind.Frames fs) = fs.items
-behind_frames (behind.Dispositions channel ds) = map (disposition_frame channel.0) ds.items
+abbrev pub after_frames : Backlog → List SessionFrame
+after_frames after.Nothing = []
+after_frames (after.Frames fs) = fs.items
+after_frames (after.Dispositions channel ds) = map (disposition_frame channel.0) ds.items
 
--- the frame in front, and those behind it
+-- the frame in front, and those after it
 abbrev pub waits : Option Frame → List SessionFrame → List Frame
 waits None fs = sent fs
 waits (Some f) fs = f ∷ sent fs
 
--- none is behind where none is in front
+-- none is after where none is in front
 abbrev pub InFront : Option Frame → List SessionFrame → Type 0
 InFront None fs = fs ≡ []
 InFront (Some f) fs = Unit {0}

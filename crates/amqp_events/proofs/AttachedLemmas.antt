@@ -13,7 +13,7 @@ use Rattle.amqp_session.specs.Relay.{Relays, FlowQuestion, TransferQuestion, Dis
 use Rattle.amqp_session.specs.Session.{SessionView}
 use Rattle.amqp_session.specs.Step.{FlowTaken, flow_moved}
 use Rattle.amqp_session.specs.Linking.{TakeDetachStep}
-use Rattle.amqp_session.specs.Disposing.{AsksAt, AsksEach, HasAsked, SaysStateAgain, TakeDispositionStep, behind}
+use Rattle.amqp_session.specs.Disposing.{AsksAt, AsksEach, HasAsked, SaysStateAgain, TakeDispositionStep, prepended}
 use Rattle.amqp_session.specs.History.{SessionCall, Made, LeadsTo, SessionChain, SessionStep, SendsBegin, SendsEnd, TakesBegin, TakesEnd, AllocatesLink, AllocatesIncomingLink, DeallocatesLink, TakesAttach, TakesFlow, TakesTransfer, TakesDisposition, TakesDetach, SendsAttach, SendsFlow, SendsTransfer, SendsDisposition, SendsDetach, SendsSessionFlow, RecordsStop, Settles}
 use Rattle.amqp_session.specs.Linked.{input_at, input_from, input_by, asked_from, where_goes, speaks_of}
 use Rattle.amqp_session.specs.Headline.{Stands}
@@ -104,7 +104,7 @@ module _ (g : Relays Queued) where
     where
       by : (one : Option (DispositionQuestion Queued)) → AsksAt g.disposition_gives d r one l t.2
           → ((x : AttachedLink Queued) → attached_at h t.2 ≡ Some x → Goes x (told_of h t.1) (asked_from h (Some x) t.1))
-          → Goes link (told_of h (behind one t.1)) (asked_from h (Some link) (behind one t.1))
+          → Goes link (told_of h (prepended one t.1)) (asked_from h (Some link) (prepended one t.1))
       by None a others = others link (ap (attached_at h) a.1 ∙ at)
       by (Some q) a others =
           let o = disposed_one d r h l t.2 link q at a (nat_eq h q.asked.delivery.input_handle.0) refl in

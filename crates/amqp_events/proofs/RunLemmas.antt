@@ -1,4 +1,4 @@
--- A run of a relay over a queue: its events come behind what the queue held.
+-- A run of a relay over a queue: its events come after what the queue held.
 use Rattle.std.proofs.Common.{◌≡◌, ◌⊎◌, inl, inr, ℕ, suc, List, [], ◌∷◌, ◌++◌, Option, Result, Ok, Err, refl, ap, sym, ◌∙◌, subst}
 use Rattle.std.proofs.lemmas.List.{append_assoc, append-nil}
 use Rattle.amqp_types.specs.declared.definitions.Role.{Role}
@@ -15,8 +15,8 @@ use Rattle.amqp_events.specs.Runs.{Told, ToldAttach, ToldFlow, ToldTransfer, Tol
 
 -- ---- one event before the others
 
-behind : (q m w : QueueView) (e : Event) (es : List Event) (n : ℕ) → m ≡ record q { events = q.events ++ e ∷ [] } → w ≡ queue_after m es n → w ≡ queue_after q (e ∷ es) n
-behind q m w e es n h k =
+after : (q m w : QueueView) (e : Event) (es : List Event) (n : ℕ) → m ≡ record q { events = q.events ++ e ∷ [] } → w ≡ queue_after m es n → w ≡ queue_after q (e ∷ es) n
+after q m w e es n h k =
     k ∙ ap (λ (v : QueueView). queue_after v es n) h ∙ ap (λ (l : List Event). record q { events = l; missed = missed_after q.missed n }) (append_assoc q.events (e ∷ []) es)
 
 unmoved : (q m w : QueueView) (es : List Event) (n : ℕ) → m ≡ q → w ≡ queue_after m es n → w ≡ queue_after q es n
@@ -31,7 +31,7 @@ one_missed q m w es n h k = k ∙ ap (λ (v : QueueView). queue_after v es n) h
 if_taken : {A : Type 0} (result : Result A LinkRelayError) (old m new : Queued) (e : Event) (ts : List Told) → Tells Pushes old e (outcome result) m → (r : RunGives m ts new)
     → (es : List Event) × IfTaken result old.link e es (λ l rest. AreEventsOf ts l rest r.missed) × (new.sink ≡ queue_after old.sink es r.missed)
 if_taken (Ok answer) old m new e ts h r =
-    (e ∷ r.events, (r.events, refl, subst (λ l. AreEventsOf ts l r.events r.missed) h.1 r.are_of), behind old.sink m.sink new.sink e r.events r.missed h.0.1 r.queue)
+    (e ∷ r.events, (r.events, refl, subst (λ l. AreEventsOf ts l r.events r.missed) h.1 r.are_of), after old.sink m.sink new.sink e r.events r.missed h.0.1 r.queue)
 if_taken (Err why) old m new e ts h r =
     (r.events, subst (λ l. AreEventsOf ts l r.events r.missed) h.1 r.are_of, unmoved old.sink m.sink new.sink r.events r.missed h.0.2 r.queue)
 
@@ -47,7 +47,7 @@ heard_one old m new e ts l h r = record {
   events = e ∷ r.events;
   missed = r.missed;
   are_of = inl (r.events, refl, subst (λ l. AreEventsOf ts l r.events r.missed) l r.are_of);
-  queue = behind old.sink m.sink new.sink e r.events r.missed h.1 r.queue;
+  queue = after old.sink m.sink new.sink e r.events r.missed h.1 r.queue;
 }
 
 heard_none : (old m new : Queued) (e : Event) (ts : List Told) → m.link ≡ old.link → Misses old.sink m.sink → RunGives m ts new → Heard old new e ts

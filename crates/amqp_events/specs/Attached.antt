@@ -43,7 +43,7 @@ stays_under h e = true
 abbrev pub StaysUnder : ℕ → SessionCall Queued → Type 0
 StaysUnder h e = stays_under h e ≡ true
 
--- it stands there afterwards too, and its queue holds what it held, and behind that the events of what it was told meanwhile
+-- it stands there afterwards too, and its queue holds what it held, and after that the events of what it was told meanwhile
 pub record HearsAll (h : ℕ) (H : List (SessionCall Queued)) (link : AttachedLink Queued) (told : List Told) : Type 0 where
   pub after : Queued
   pub stands : input_at h H ≡ Some (record link { relay = after })

@@ -22,7 +22,7 @@ new_queue room = record { room = room; events = []; missed = 0 }
 abbrev pub has_room : QueueView → EventKind → Bool
 has_room q k = nat_lt (room_of (counted q.events) k) (room_of q.room k)
 
--- An event goes behind all others where there is room for it; else nothing changes.
+-- An event goes after all others where there is room for it; else nothing changes.
 abbrev pub Pushes : QueueView → Event → Result (Unit {0}) LinkRelayError → QueueView → Type 0
 Pushes old e (Ok done) new = (has_room old (kind_of e.body) ≡ true) × (new ≡ record old { events = old.events ++ e ∷ [] })
 Pushes old e (Err why) new = (has_room old (kind_of e.body) ≡ false) × (why ≡ OutOfMemory) × (new ≡ old)

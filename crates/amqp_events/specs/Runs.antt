@@ -42,12 +42,12 @@ Run g old (t ∷ ts) new = (m : Queued) × Step g old t m × Run g m ts new
 
 -- ---- the events of calls in a row, and how many were missed
 
--- of a call that may be refused: its event and what comes behind it, or what comes behind it alone
+-- of a call that may be refused: its event and what comes after it, or what comes after it alone
 abbrev pub IfTaken : {A : Type 0} → Result A LinkRelayError → LinkNames → Event → List Event → (LinkNames → List Event → Type 0) → Type 0
 IfTaken (Ok answer) link e es Others = (rest : List Event) × (es ≡ e ∷ rest) × Others e.link rest
 IfTaken (Err why) link e es Others = Others link es
 
--- of a call that may not: its event and what comes behind it, or it is one of those that were missed
+-- of a call that may not: its event and what comes after it, or it is one of those that were missed
 abbrev pub IfHeard : Event → List Event → ℕ → (List Event → ℕ → Type 0) → Type 0
 IfHeard e es missed Others =
     ((rest : List Event) × (es ≡ e ∷ rest) × Others rest missed) ⊎ ((others : ℕ) × (missed ≡ suc others) × Others es others)
@@ -67,7 +67,7 @@ abbrev pub missed_after : ℕ → ℕ → ℕ
 missed_after count zero = count
 missed_after count (suc more) = missed_after (min (2 ^ 64 - 1) (count + 1)) more
 
--- the events behind those that it held, and so many more that were missed
+-- the events after those that it held, and so many more that were missed
 abbrev pub queue_after : QueueView → List Event → ℕ → QueueView
 queue_after q es missed = record q { events = q.events ++ es; missed = missed_after q.missed missed }
 

@@ -1,4 +1,4 @@
--- No more than one body stands behind a header, and no more than one frame in bytes.
+-- No more than one body stands after a header, and no more than one frame in bytes.
 use Rattle.std.proofs.Common.{◌≡◌, ℕ, ◌≤◌, List, [], ◌∷◌, ◌++◌, length, get_or, take, drop, refl, sym, ap, subst, ◌∙◌, arith}
 use Rattle.std.proofs.lemmas.List.{take_at, drop_at}
 use Rattle.std.specs.Prelude.{Result, Ok, Err}
@@ -45,14 +45,14 @@ same_header bytes n h f rest s =
     let body : s.body ≡ drop 4 bytes = sym (drop_at s.channel s.body 2 s.two) ∙ ap (drop 2) e ∙ drop_at h.channel (drop 4 bytes) 2 h.two in
     (s.channel_is ∙ ap (from_be_bytes w16) channel ∙ sym h.channel_is, subst (λ (b : List ℕ). IsBody f.body b rest) body s.says)
 
--- the body behind this header is the one behind any head
+-- the body after this header is the one after any head
 pub same_body : (bytes : List ℕ) (n : ℕ) → IsHeader bytes n → (j : FrameHead) (left : List ℕ) (is : IsHead j bytes left) → is.body ≡ drop 4 bytes
 same_body bytes n h j left is =
     let e : is.channel ++ is.body ≡ h.channel ++ drop 4 bytes = ap (drop 2) (sym is.whole ∙ h.whole) in
     sym (drop_at is.channel is.body 2 is.two) ∙ ap (drop 2) e ∙ drop_at h.channel (drop 4 bytes) 2 h.two
 
 pub has_header : (bytes : List ℕ) (n : ℕ) → IsHeader bytes n → HasHeader bytes
-has_header bytes n h = record { behind = h.channel ++ drop 4 bytes; whole = h.whole }
+has_header bytes n h = record { after = h.channel ++ drop 4 bytes; whole = h.whole }
 
 pub same_frame : (f : Frame) (rest : List ℕ) (n : ℕ) (x : FrameBody × List ℕ) → f.channel ≡ n → ◌≡◌ {A = FrameBody × List ℕ} (f.body, rest) x → ◌≡◌ {A = Frame × List ℕ} (f, rest) (record { channel = n; body = x.0 }, x.1)
 same_frame f rest n x c e =

@@ -1,4 +1,4 @@
--- A frame is exactly a head and the fields behind it.
+-- A frame is exactly a head and the fields after it.
 use Rattle.std.proofs.Common.{◌≡◌, ℕ, ◌<◌, ◌≤◌, List, [], ◌∷◌, ◌++◌, length, drop, Option, Some, None, refl, sym, ap, subst, ◌∙◌, arith, inl, inr, append_assoc}
 use Rattle.std.specs.Prelude.{Result, Ok, Err}
 use Rattle.amqp_values.specs.declared.list_reader.ListReader.{ListReader}
@@ -29,24 +29,24 @@ use Rattle.amqp_frames.proofs.DecodedFrameLemmas.{same_header, same_body, has_he
 -- ---- the body
 
 -- a performative is a kind's descriptor and its fields
-pub record IsParted (p : Performative) (text : List ℕ) (body : FrameBody) (behind rest : List ℕ) : Type 0 where
+pub record IsParted (p : Performative) (text : List ℕ) (body : FrameBody) (after rest : List ℕ) : Type 0 where
   pub kind : Kind
   pub descriptor : List ℕ
   pub list : List ℕ
   pub named : IsKind kind descriptor
   pub whole : text ≡ descriptor ++ list
-  pub fields : (left : List ℕ) → left ≡ list ++ behind → IsBodyOf (Some kind) body left rest
+  pub fields : (left : List ℕ) → left ≡ list ++ after → IsBodyOf (Some kind) body left rest
 
-parted : (p : Performative) (text : List ℕ) (b : FrameBody) (behind rest : List ℕ) → IsPerformative p text → body_of p behind ≡ (b, rest) → IsParted p text b behind rest
-parted (performative.Open p) text b behind rest h e = record { kind = kind.Open; descriptor = h.descriptor; list = h.list; named = h.coded; whole = h.whole; fields = λ left w. record { value = p; text = h.list; behind = behind; is = h.body; whole = w; said = e } }
-parted (performative.Begin p) text b behind rest h e = record { kind = kind.Begin; descriptor = h.descriptor; list = h.list; named = h.coded; whole = h.whole; fields = λ left w. record { value = p; text = h.list; behind = behind; is = h.body; whole = w; said = e } }
-parted (performative.Attach p) text b behind rest h e = record { kind = kind.Attach; descriptor = h.descriptor; list = h.list; named = h.coded; whole = h.whole; fields = λ left w. record { value = p; text = h.list; behind = behind; is = h.body; whole = w; said = e } }
-parted (performative.Flow p) text b behind rest h e = record { kind = kind.Flow; descriptor = h.descriptor; list = h.list; named = h.coded; whole = h.whole; fields = λ left w. record { value = p; text = h.list; behind = behind; is = h.body; whole = w; said = e } }
-parted (performative.Transfer p) text b behind rest h e = record { kind = kind.Transfer; descriptor = h.descriptor; list = h.list; named = h.coded; whole = h.whole; fields = λ left w. record { value = p; text = h.list; behind = behind; is = h.body; whole = w; said = e } }
-parted (performative.Disposition p) text b behind rest h e = record { kind = kind.Disposition; descriptor = h.descriptor; list = h.list; named = h.coded; whole = h.whole; fields = λ left w. record { value = p; text = h.list; behind = behind; is = h.body; whole = w; said = e } }
-parted (performative.Detach p) text b behind rest h e = record { kind = kind.Detach; descriptor = h.descriptor; list = h.list; named = h.coded; whole = h.whole; fields = λ left w. record { value = p; text = h.list; behind = behind; is = h.body; whole = w; said = e } }
-parted (performative.End p) text b behind rest h e = record { kind = kind.End; descriptor = h.descriptor; list = h.list; named = h.coded; whole = h.whole; fields = λ left w. record { value = p; text = h.list; behind = behind; is = h.body; whole = w; said = e } }
-parted (performative.Close p) text b behind rest h e = record { kind = kind.Close; descriptor = h.descriptor; list = h.list; named = h.coded; whole = h.whole; fields = λ left w. record { value = p; text = h.list; behind = behind; is = h.body; whole = w; said = e } }
+parted : (p : Performative) (text : List ℕ) (b : FrameBody) (after rest : List ℕ) → IsPerformative p text → body_of p after ≡ (b, rest) → IsParted p text b after rest
+parted (performative.Open p) text b after rest h e = record { kind = kind.Open; descriptor = h.descriptor; list = h.list; named = h.coded; whole = h.whole; fields = λ left w. record { value = p; text = h.list; after = after; is = h.body; whole = w; said = e } }
+parted (performative.Begin p) text b after rest h e = record { kind = kind.Begin; descriptor = h.descriptor; list = h.list; named = h.coded; whole = h.whole; fields = λ left w. record { value = p; text = h.list; after = after; is = h.body; whole = w; said = e } }
+parted (performative.Attach p) text b after rest h e = record { kind = kind.Attach; descriptor = h.descriptor; list = h.list; named = h.coded; whole = h.whole; fields = λ left w. record { value = p; text = h.list; after = after; is = h.body; whole = w; said = e } }
+parted (performative.Flow p) text b after rest h e = record { kind = kind.Flow; descriptor = h.descriptor; list = h.list; named = h.coded; whole = h.whole; fields = λ left w. record { value = p; text = h.list; after = after; is = h.body; whole = w; said = e } }
+parted (performative.Transfer p) text b after rest h e = record { kind = kind.Transfer; descriptor = h.descriptor; list = h.list; named = h.coded; whole = h.whole; fields = λ left w. record { value = p; text = h.list; after = after; is = h.body; whole = w; said = e } }
+parted (performative.Disposition p) text b after rest h e = record { kind = kind.Disposition; descriptor = h.descriptor; list = h.list; named = h.coded; whole = h.whole; fields = λ left w. record { value = p; text = h.list; after = after; is = h.body; whole = w; said = e } }
+parted (performative.Detach p) text b after rest h e = record { kind = kind.Detach; descriptor = h.descriptor; list = h.list; named = h.coded; whole = h.whole; fields = λ left w. record { value = p; text = h.list; after = after; is = h.body; whole = w; said = e } }
+parted (performative.End p) text b after rest h e = record { kind = kind.End; descriptor = h.descriptor; list = h.list; named = h.coded; whole = h.whole; fields = λ left w. record { value = p; text = h.list; after = after; is = h.body; whole = w; said = e } }
+parted (performative.Close p) text b after rest h e = record { kind = kind.Close; descriptor = h.descriptor; list = h.list; named = h.coded; whole = h.whole; fields = λ left w. record { value = p; text = h.list; after = after; is = h.body; whole = w; said = e } }
 
 -- A descriptor has bytes, so no performative's text is empty.
 some_descriptor : (n : ℕ) (text : List ℕ) → IsDescriptor n text → text ≡ [] → ⊥
@@ -55,36 +55,36 @@ some_descriptor _ _ (described_small n) e = absurd cc
 some_descriptor _ _ (described_by_number bytes l) e = absurd cc
 some_descriptor _ _ (described_by_name n name text is coded) e = absurd cc
 
-front_empty : (front behind : List ℕ) → front ++ behind ≡ [] → front ≡ []
-front_empty [] behind e = refl
-front_empty (b ∷ front) behind e = absurd cc
+front_empty : (front after : List ℕ) → front ++ after ≡ [] → front ≡ []
+front_empty [] after e = refl
+front_empty (b ∷ front) after e = absurd cc
 
 said_empty : (b : FrameBody) (bytes rest : List ℕ) → bytes ≡ [] → IsSaid b bytes rest → ⊥
 said_empty b bytes rest e s =
-    let d = parted s.performative s.text b s.behind rest s.is s.says in
-    let empty : d.descriptor ++ (d.list ++ s.behind) ≡ [] = sym (append_assoc d.descriptor d.list s.behind) ∙ ap (λ (t : List ℕ). t ++ s.behind) (sym d.whole) ∙ sym s.whole ∙ e in
-    some_descriptor (code_of d.kind) d.descriptor d.named (front_empty d.descriptor (d.list ++ s.behind) empty)
+    let d = parted s.performative s.text b s.after rest s.is s.says in
+    let empty : d.descriptor ++ (d.list ++ s.after) ≡ [] = sym (append_assoc d.descriptor d.list s.after) ∙ ap (λ (t : List ℕ). t ++ s.after) (sym d.whole) ∙ sym s.whole ∙ e in
+    some_descriptor (code_of d.kind) d.descriptor d.named (front_empty d.descriptor (d.list ++ s.after) empty)
 
 -- what is read off a performative's text
-read_off : KindsAreRead → (b : FrameBody) (bytes rest : List ℕ) (s : IsSaid b bytes rest) → (d : IsParted s.performative s.text b s.behind rest) → kind_at bytes ≡ Some (d.kind, d.list ++ s.behind)
+read_off : KindsAreRead → (b : FrameBody) (bytes rest : List ℕ) (s : IsSaid b bytes rest) → (d : IsParted s.performative s.text b s.after rest) → kind_at bytes ≡ Some (d.kind, d.list ++ s.after)
 read_off kinds b bytes rest s d =
-    ap kind_at (s.whole ∙ ap (λ (t : List ℕ). t ++ s.behind) d.whole ∙ append_assoc d.descriptor d.list s.behind) ∙ kinds.again d.kind d.descriptor (d.list ++ s.behind) d.named
+    ap kind_at (s.whole ∙ ap (λ (t : List ℕ). t ++ s.after) d.whole ∙ append_assoc d.descriptor d.list s.after) ∙ kinds.again d.kind d.descriptor (d.list ++ s.after) d.named
 
 body_fields : KindsAreRead → (bytes left : List ℕ) (k : Kind) (b : FrameBody) (rest : List ℕ) → kind_at bytes ≡ Some (k, left) → IsSaid b bytes rest → IsBodyOf (Some k) b left rest
 body_fields kinds bytes left k b rest e s =
-    let d = parted s.performative s.text b s.behind rest s.is s.says in
-    let same = pair_is d.kind k (d.list ++ s.behind) left (sym (read_off kinds b bytes rest s d) ∙ e) in
+    let d = parted s.performative s.text b s.after rest s.is s.says in
+    let same = pair_is d.kind k (d.list ++ s.after) left (sym (read_off kinds b bytes rest s d) ∙ e) in
     subst (λ (j : Kind). IsBodyOf (Some j) b left rest) same.0 (d.fields left (sym same.1))
 
 said_by : {V : Type 0} (code : ℕ) (B : V → List (List ℕ) → Type 0) (wrap : V → Performative) (bytes descriptor left : List ℕ) (b : FrameBody) (rest : List ℕ)
     → ((v : V) (t : List ℕ) → IsDescribed code B v t → IsPerformative (wrap v) t) → IsDescriptor code descriptor → bytes ≡ descriptor ++ left
-    → IsFields B (λ v behind. body_of (wrap v) behind) b left rest → IsSaid b bytes rest
+    → IsFields B (λ v after. body_of (wrap v) after) b left rest → IsSaid b bytes rest
 said_by code B wrap bytes descriptor left b rest carry coded whole f = record {
   performative = wrap f.value;
   text = descriptor ++ f.text;
-  behind = f.behind;
+  after = f.after;
   is = carry f.value (descriptor ++ f.text) (record { descriptor = descriptor; list = f.text; coded = coded; body = f.is; whole = refl });
-  whole = whole ∙ ap (λ (x : List ℕ). descriptor ++ x) f.whole ∙ sym (append_assoc descriptor f.text f.behind);
+  whole = whole ∙ ap (λ (x : List ℕ). descriptor ++ x) f.whole ∙ sym (append_assoc descriptor f.text f.after);
   says = f.said;
 }
 
@@ -120,21 +120,21 @@ abbrev pub headed : ℕ → Result (Option Kind) Error → Result FrameHead Erro
 headed n (Ok k) = Ok (record { channel = n; kind = k })
 headed n (Err e) = Err e
 
-behind_header : (bytes : List ℕ) → 4 ≤ length bytes → (drop 4 bytes ≡ [] → ⊥) → 4 < length bytes
-behind_header [] h ne = absurd (omega arith)
-behind_header (a ∷ []) h ne = absurd (omega arith)
-behind_header (a ∷ b ∷ []) h ne = absurd (omega arith)
-behind_header (a ∷ b ∷ c ∷ []) h ne = absurd (omega arith)
-behind_header (a ∷ b ∷ c ∷ d ∷ []) h ne = absurd (ne refl)
-behind_header (a ∷ b ∷ c ∷ d ∷ e ∷ bytes) h ne = omega arith
+after_header : (bytes : List ℕ) → 4 ≤ length bytes → (drop 4 bytes ≡ [] → ⊥) → 4 < length bytes
+after_header [] h ne = absurd (omega arith)
+after_header (a ∷ []) h ne = absurd (omega arith)
+after_header (a ∷ b ∷ []) h ne = absurd (omega arith)
+after_header (a ∷ b ∷ c ∷ []) h ne = absurd (omega arith)
+after_header (a ∷ b ∷ c ∷ d ∷ []) h ne = absurd (ne refl)
+after_header (a ∷ b ∷ c ∷ d ∷ e ∷ bytes) h ne = omega arith
 
 long_enough : (bytes left : List ℕ) (k : Option Kind) → 4 ≤ length bytes → Names (drop 4 bytes) left (Ok k) → IsLongEnough k bytes
 long_enough bytes left None four a = four
-long_enough bytes left (Some k) four a = behind_header bytes four a.0
+long_enough bytes left (Some k) four a = after_header bytes four a.0
 
-asks_behind : (bytes : List ℕ) (k : Option Kind) → IsLongEnough k bytes → MayAskForMemory k → 4 < length bytes
-asks_behind bytes None long asks = absurd asks
-asks_behind bytes (Some k) long asks = long
+asks_after : (bytes : List ℕ) (k : Option Kind) → IsLongEnough k bytes → MayAskForMemory k → 4 < length bytes
+asks_after bytes None long asks = absurd asks
+asks_after bytes (Some k) long asks = long
 
 named : KindsAreRead → (bytes left : List ℕ) (k : Option Kind) → Names bytes left (Ok k) → NamesKind k bytes left
 named kinds bytes left None a = a
@@ -158,14 +158,14 @@ opened kinds bytes left n four h (Ok k) a = (
 )
 opened kinds bytes left n four h (Err no.DecodeError) a =
     inr (has_header bytes n h, λ j fields is. no_name kinds (drop 4 bytes) a.0 a.1 j.kind fields (subst (λ (b : List ℕ). NamesKind j.kind b fields) (same_body bytes n h j fields is) is.names))
-opened kinds bytes left n four h (Err no.OutOfMemory) a = (behind_header bytes four a, has_header bytes n h)
+opened kinds bytes left n four h (Err no.OutOfMemory) a = (after_header bytes four a, has_header bytes n h)
 opened kinds bytes left n four h (Err no.NotImplemented) a = absurd a
 opened kinds bytes left n four h (Err no.TooLarge) a = absurd a
 opened kinds bytes left n four h (Err (no.Io text)) a = absurd a
 
-pub opened_from : KindsAreRead → (bytes header behind left : List ℕ) (n : ℕ) → header ≡ bytes → behind ≡ drop 4 bytes → ((4 ≤ length header) × IsHeader header n)
-    → (r : Result (Option Kind) Error) → Names behind left r → Opens bytes left (headed n r)
-opened_from kinds bytes header behind left n e d h r a =
+pub opened_from : KindsAreRead → (bytes header after left : List ℕ) (n : ℕ) → header ≡ bytes → after ≡ drop 4 bytes → ((4 ≤ length header) × IsHeader header n)
+    → (r : Result (Option Kind) Error) → Names after left r → Opens bytes left (headed n r)
+opened_from kinds bytes header after left n e d h r a =
     opened kinds bytes left n (subst (λ (x : List ℕ). 4 ≤ length x) e h.0) (subst (λ (x : List ℕ). IsHeader x n) e h.1) r (subst (λ (x : List ℕ). Names x left r) d a)
 
 -- ---- a frame has a head
@@ -173,8 +173,8 @@ opened_from kinds bytes header behind left n e d h r a =
 head_of : (b : FrameBody) (bytes rest : List ℕ) → IsBody b bytes rest → (k : Option Kind) × (left : List ℕ) × NamesKind k bytes left
 head_of b bytes rest (inl t) = (None, [], (t.0, refl))
 head_of b bytes rest (inr s) =
-    let d = parted s.performative s.text b s.behind rest s.is s.says in
-    (Some d.kind, d.list ++ s.behind, (d.descriptor, d.named, s.whole ∙ ap (λ (t : List ℕ). t ++ s.behind) d.whole ∙ append_assoc d.descriptor d.list s.behind))
+    let d = parted s.performative s.text b s.after rest s.is s.says in
+    (Some d.kind, d.list ++ s.after, (d.descriptor, d.named, s.whole ∙ ap (λ (t : List ℕ). t ++ s.after) d.whole ∙ append_assoc d.descriptor d.list s.after))
 
 no_frame : (bytes : List ℕ) → ((h : FrameHead) (left : List ℕ) → ¬ IsHead h bytes left) → (f : Frame) (rest : List ℕ) → ¬ IsFrame f bytes rest
 no_frame bytes none f rest is =
@@ -197,12 +197,12 @@ read_found : {V : Type 0} (B : V → List (List ℕ) → Type 0) (at : ListReade
     → (fields left : List ℕ) (v : V) (b : FrameBody) (rest : List ℕ) → composite_at at fields ≡ Some (v, left) → says v left ≡ (b, rest) → IsFields B says b fields rest
 read_found B at law says fields left v b rest e s =
     let f = law.found fields v left e in
-    record { value = v; text = f.0; behind = left; is = f.1; whole = f.2; said = s }
+    record { value = v; text = f.0; after = left; is = f.1; whole = f.2; said = s }
 
 read_nothing : {V : Type 0} (B : V → List (List ℕ) → Type 0) (at : ListReader → Option (V × ListReader)) → IsReader (IsComposite B) (composite_at at) → (says : V → List ℕ → FrameBody × List ℕ)
     → (fields : List ℕ) → composite_at at fields ≡ None → (b : FrameBody) (rest : List ℕ) → IsFields B says b fields rest → ⊥
 read_nothing B at law says fields e b rest f =
-    let again : composite_at at fields ≡ Some (f.value, f.behind) = ap (composite_at at) f.whole ∙ law.again f.value f.text f.behind f.is in
+    let again : composite_at at fields ≡ Some (f.value, f.after) = ap (composite_at at) f.whole ∙ law.again f.value f.text f.after f.is in
     absurd cc
 
 reader : {V : Type 0} (B : V → List (List ℕ) → Type 0) (at : ListReader → Option (V × ListReader)) → slot.IsBody B at → IsReader (IsComposite B) (composite_at at)
@@ -219,7 +219,7 @@ no_fields B at law = read_nothing B at (reader B at law)
 -- a frame of which the head was read and the fields were not is none
 pub not_decoded : (bytes left : List ℕ) (h : FrameHead) (e : Error) → Opens bytes left (Ok h) → NoBodyOf h.kind left e → Decodes bytes (Err e)
 not_decoded bytes left h no.DecodeError o n = inr (o.1, λ f rest is. n f.body rest ((o.2 f rest).0 is).1)
-not_decoded bytes left h no.OutOfMemory o n = (asks_behind bytes h.kind o.0 n, o.1)
+not_decoded bytes left h no.OutOfMemory o n = (asks_after bytes h.kind o.0 n, o.1)
 not_decoded bytes left h no.NotImplemented o n = absurd n
 not_decoded bytes left h no.TooLarge o n = absurd n
 not_decoded bytes left h (no.Io text) o n = absurd n
@@ -235,8 +235,8 @@ body_read {V} B at law says k to from fields left v a =
   where
     one : (b : FrameBody) (rest : List ℕ) → IsFields B says b fields rest → ◌≡◌ {A = FrameBody × List ℕ} (b, rest) (says v left)
     one b rest f =
-        let again : composite_at at fields ≡ Some (f.value, f.behind) = ap (composite_at at) f.whole ∙ law.again f.value f.text f.behind f.is in
-        let same : ◌≡◌ {A = V × List ℕ} (f.value, f.behind) (v, left) = some_is _ _ (sym again ∙ a) in
+        let again : composite_at at fields ≡ Some (f.value, f.after) = ap (composite_at at) f.whole ∙ law.again f.value f.text f.after f.is in
+        let same : ◌≡◌ {A = V × List ℕ} (f.value, f.after) (v, left) = some_is _ _ (sym again ∙ a) in
         sym f.said ∙ ap (λ (x : V × List ℕ). says x.0 x.1) same
 
 pub body_not_read : {V : Type 0} (B : V → List (List ℕ) → Type 0) (at : ListReader → Option (V × ListReader)) → IsReader (IsComposite B) (composite_at at) → (says : V → List ℕ → FrameBody × List ℕ)

@@ -8,16 +8,16 @@ use Rattle.amqp_frames.specs.Frame.{text_of}
 use Rattle.amqp_frames.specs.Cut.{Whole}
 use Rattle.amqp_frames.specs.HeaderPool.{GivesRoom, IsTooLong, CutsOrLeaves, CutsHead, CutsOff, RoomAfter}
 
--- Behind the header and a text of so many bytes the rest of the room is kept.
-pub head_cut : {S X E : Type 0} (too_long : S → ℕ → Type 0) (gives : S → ℕ → ℕ → Type 0) (keeps : ℕ → S → Type 0) (before after : S) (len text behind room : ℕ) (r : Result X E)
-    → ¬ too_long before (4 + len) → gives before (4 + len) (behind + 4) → len ≡ text → room + text ≡ behind → OnOk r (keeps room after)
+-- After the header and a text of so many bytes the rest of the room is kept.
+pub head_cut : {S X E : Type 0} (too_long : S → ℕ → Type 0) (gives : S → ℕ → ℕ → Type 0) (keeps : ℕ → S → Type 0) (before after : S) (len text spare room : ℕ) (r : Result X E)
+    → ¬ too_long before (4 + len) → gives before (4 + len) (spare + 4) → len ≡ text → room + text ≡ spare → OnOk r (keeps room after)
     → OnOk r (CutsOrLeaves too_long (CutsOff gives keeps) before (4 + text) after)
-head_cut too_long gives keeps before after len text behind room (Ok x) short g l s k =
-    let all : behind + 4 ≡ room + (4 + text) = omega arith in (
-      λ _. record { room = room; given = subst (λ (n : ℕ). gives before (4 + text) n) all (subst (λ (n : ℕ). gives before (4 + n) (behind + 4)) l g); kept = k },
+head_cut too_long gives keeps before after len text spare room (Ok x) short g l s k =
+    let all : spare + 4 ≡ room + (4 + text) = omega arith in (
+      λ _. record { room = room; given = subst (λ (n : ℕ). gives before (4 + text) n) all (subst (λ (n : ℕ). gives before (4 + n) (spare + 4)) l g); kept = k },
       λ long. absurd (short (subst (λ (n : ℕ). too_long before (4 + n)) (sym l) long)),
     )
-head_cut too_long gives keeps before after len text behind room (Err e) short g l s k = tt
+head_cut too_long gives keeps before after len text spare room (Err e) short g l s k = tt
 
 -- a head that is too long leaves the room as it was
 pub head_left : {S X E : Type 0} (too_long : S → ℕ → Type 0) (cuts : S → ℕ → S → Type 0) (before : S) (len text : ℕ) (r : Result X E) → too_long before (4 + len) → len ≡ text

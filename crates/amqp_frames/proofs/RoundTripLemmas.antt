@@ -64,7 +64,7 @@ carries_payload f m pieces (inr c) = cut_body_joined f.channel m f.body pieces c
 
 -- ---- reading back
 
--- header, text and what is behind it are a frame
+-- header, text and what is after it are a frame
 reads : (channel : ℕ) (q : Performative) (text : List ℕ) (body : FrameBody) (p : PieceParts) → channel < 2 ^ 16 → IsPerformative q text
     → ◌≡◌ {A = FrameBody × List ℕ} (body_of q p.payload) (body, []) → p.head ≡ header_text channel ++ text → IsFrame (record { channel = channel; body = body }) (piece_bytes p) []
 reads channel q text body p lt is says head = record {
@@ -73,7 +73,7 @@ reads channel q text body p lt is says head = record {
   two = refl;
   channel_is = sym (from_be_bytes-to_be_bytes_2 channel lt);
   whole = ap (λ (x : List ℕ). x ++ p.payload) head;
-  says = inr (record { performative = q; text = text; behind = p.payload; is = is; whole = refl; says = says });
+  says = inr (record { performative = q; text = text; after = p.payload; is = is; whole = refl; says = says });
 }
 
 empty_reads : (channel : ℕ) (p : PieceParts) → channel < 2 ^ 16 → p.head ≡ header_text channel ++ [] → p.payload ≡ [] → IsFrame (record { channel = channel; body = Empty }) (piece_bytes p) []
@@ -86,7 +86,7 @@ empty_reads channel p lt head payload = record {
   says = inl (payload, refl, refl);
 }
 
--- behind what is no transfer nothing is left
+-- after what is no transfer nothing is left
 alone : (body : FrameBody) (payload : List ℕ) → payload ≡ [] → ◌≡◌ {A = FrameBody × List ℕ} (body, payload) (body, [])
 alone body payload e = ap (λ (x : List ℕ). let r : FrameBody × List ℕ = (body, x) in r) e
 
@@ -128,7 +128,7 @@ frame_long f bytes h =
     omega arith
 
 frame_header : (f : Frame) (bytes : List ℕ) → IsFrame f bytes [] → HasHeader bytes
-frame_header f bytes h = record { behind = h.channel ++ h.body; whole = h.whole }
+frame_header f bytes h = record { after = h.channel ++ h.body; whole = h.whole }
 
 pub frames_are_decoded : FramesAreDecoded
 frames_are_decoded f bytes h (Ok x) d = inl (ap (λ (y : Frame × List ℕ). Ok y) (sym (d.1 f [] h)))

@@ -1,4 +1,4 @@
--- A frame that is whole, behind what was to be sent.
+-- A frame that is whole, after what was to be sent.
 use Rattle.std.proofs.Common.{◌≡◌, ℕ, List, [], ◌∷◌, ◌++◌, refl, sym, ap, ◌∙◌, arith, inl}
 use Rattle.std.proofs.lemmas.List.{append-nil}
 use Rattle.std.specs.Prelude.{Ok}

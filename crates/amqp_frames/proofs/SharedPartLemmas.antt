@@ -84,10 +84,10 @@ before_taken most n m count (s ∷ ss) new bytes rest t w m_is e =
     let all : s.before ≤ length bytes = omega (arith, w.counted, w.within) in
     let same : n ≡ m = omega (arith, t.0, m_is, all) in
     let both : m + (s.before - m) ≡ s.before = omega (arith, less) in
-    let behind : List ℕ = s.part ++ woven ss (drop s.before bytes) in
+    let after : List ℕ = s.part ++ woven ss (drop s.before bytes) in
     ap (λ (xs : List SharedPart). woven xs rest) t.1
     ∙ ap (λ (k : ℕ). take (s.before - k) rest ++ (s.part ++ woven ss (drop (s.before - k) rest))) same
     ∙ ap (λ (xs : List ℕ). take (s.before - m) xs ++ (s.part ++ woven ss (drop (s.before - m) xs))) e
     ∙ ap (λ (xs : List ℕ). take (s.before - m) (drop m bytes) ++ (s.part ++ woven ss xs)) (drop-drop (s.before - m) m bytes ∙ ap (λ (k : ℕ). drop k bytes) both)
-    ∙ ap (λ (xs : List ℕ). xs ++ behind) (sym (drop-take m (s.before - m) bytes) ∙ ap (λ (k : ℕ). drop m (take k bytes)) both)
-    ∙ sym (drop-append-le m (take s.before bytes) behind (omega (arith, less, length-take-le s.before bytes all)))
+    ∙ ap (λ (xs : List ℕ). xs ++ after) (sym (drop-take m (s.before - m) bytes) ∙ ap (λ (k : ℕ). drop m (take k bytes)) both)
+    ∙ sym (drop-append-le m (take s.before bytes) after (omega (arith, less, length-take-le s.before bytes all)))

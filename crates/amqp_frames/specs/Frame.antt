@@ -14,26 +14,26 @@ use Rattle.amqp_frames.specs.declared.error.Error.TheVariants as no
 
 -- ---- the grammar
 
--- Behind a Transfer all bytes are its payload; behind any other performative they are the rest.
+-- After a Transfer all bytes are its payload; after any other performative they are the rest.
 abbrev pub body_of : Performative → List ℕ → FrameBody × List ℕ
-body_of (performative.Attach p) behind = (Attach p, behind)
-body_of (performative.Flow p) behind = (Flow p, behind)
-body_of (performative.Transfer p) behind = (Transfer p behind, [])
-body_of (performative.Disposition p) behind = (Disposition p, behind)
-body_of (performative.Detach p) behind = (Detach p, behind)
-body_of (performative.Begin p) behind = (Begin p, behind)
-body_of (performative.End p) behind = (End p, behind)
-body_of (performative.Open p) behind = (Open p, behind)
-body_of (performative.Close p) behind = (Close p, behind)
+body_of (performative.Attach p) after = (Attach p, after)
+body_of (performative.Flow p) after = (Flow p, after)
+body_of (performative.Transfer p) after = (Transfer p after, [])
+body_of (performative.Disposition p) after = (Disposition p, after)
+body_of (performative.Detach p) after = (Detach p, after)
+body_of (performative.Begin p) after = (Begin p, after)
+body_of (performative.End p) after = (End p, after)
+body_of (performative.Open p) after = (Open p, after)
+body_of (performative.Close p) after = (Close p, after)
 
--- a performative, and what is behind it
+-- a performative, and what is after it
 pub record IsSaid (body : FrameBody) (bytes rest : List ℕ) : Type 0 where
   pub performative : Performative
   pub text : List ℕ
-  pub behind : List ℕ
+  pub after : List ℕ
   pub is : IsPerformative performative text
-  pub whole : bytes ≡ text ++ behind
-  pub says : body_of performative behind ≡ (body, rest)
+  pub whole : bytes ≡ text ++ after
+  pub says : body_of performative after ≡ (body, rest)
 
 -- nothing at all, or a performative
 abbrev pub IsBody : FrameBody → List ℕ → List ℕ → Type 0
@@ -51,8 +51,8 @@ pub record IsFrame (f : Frame) (bytes rest : List ℕ) : Type 0 where
 
 -- the bytes begin with the header's first two
 pub record HasHeader (bytes : List ℕ) : Type 0 where
-  pub behind : List ℕ
-  pub whole : bytes ≡ 0x02 ∷ 0x00 ∷ behind
+  pub after : List ℕ
+  pub whole : bytes ≡ 0x02 ∷ 0x00 ∷ after
 
 -- What decoding answers: the one frame and rest that stand in the bytes; or why there is none.
 abbrev pub Decodes : List ℕ → Result (Frame × List ℕ) Error → Type 0
@@ -68,7 +68,7 @@ Decodes bytes (Err (no.Io text)) = ⊥
 abbrev pub header_text : ℕ → List ℕ
 header_text channel = 0x02 ∷ 0x00 ∷ to_be_bytes w16 channel
 
--- the performative's canonical text, and the payload behind it
+-- the performative's canonical text, and the payload after it
 abbrev pub text_of : FrameBody → List ℕ
 text_of (Attach p) = performative_text (performative.Attach p)
 text_of (Flow p) = performative_text (performative.Flow p)

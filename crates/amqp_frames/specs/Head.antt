@@ -1,5 +1,5 @@
 -- Part: other calls; inner.
--- A frame's head, which is its header and its descriptor, and the fields behind it.
+-- A frame's head, which is its header and its descriptor, and the fields after it.
 use Rattle.std.specs.Prelude.{◌≡◌, ◌<◌, ◌≤◌, ◌↔◌, ◌⊎◌, ℕ, List, [], ◌∷◌, ◌++◌, length, Option, Some, None, Result, Ok, Err}
 use Rattle.std.specs.Int.{w16, from_be_bytes}
 use Rattle.amqp_values.specs.Composite.{IsComposite}
@@ -24,28 +24,28 @@ use Rattle.amqp_frames.specs.declared.error.Error.{Error}
 use Rattle.amqp_frames.specs.declared.error.Error.TheVariants as no
 use Rattle.amqp_frames.specs.Frame.{IsFrame, HasHeader}
 
--- the fields of one performative, and what is behind them
+-- the fields of one performative, and what is after them
 pub record IsFields {V : Type 0} (B : V → List (List ℕ) → Type 0) (says : V → List ℕ → FrameBody × List ℕ)
     (body : FrameBody) (fields rest : List ℕ) : Type 0 where
   pub value : V
   pub text : List ℕ
-  pub behind : List ℕ
+  pub after : List ℕ
   pub is : IsComposite B value text
-  pub whole : fields ≡ text ++ behind
-  pub said : says value behind ≡ (body, rest)
+  pub whole : fields ≡ text ++ after
+  pub said : says value after ≡ (body, rest)
 
 -- The fields of this kind stand in the bytes, and say this body. Where there is no kind, the body is empty.
 abbrev pub IsBodyOf : Option Kind → FrameBody → List ℕ → List ℕ → Type 0
 IsBodyOf None body fields rest = (body ≡ Empty) × (rest ≡ [])
-IsBodyOf (Some kind.Open) body fields rest = IsFields IsOpenBody (λ p behind. (Open p, behind)) body fields rest
-IsBodyOf (Some kind.Begin) body fields rest = IsFields IsBeginBody (λ p behind. (Begin p, behind)) body fields rest
-IsBodyOf (Some kind.Attach) body fields rest = IsFields IsAttachBody (λ p behind. (Attach p, behind)) body fields rest
-IsBodyOf (Some kind.Flow) body fields rest = IsFields IsFlowBody (λ p behind. (Flow p, behind)) body fields rest
-IsBodyOf (Some kind.Transfer) body fields rest = IsFields IsTransferBody (λ p behind. (Transfer p behind, [])) body fields rest
-IsBodyOf (Some kind.Disposition) body fields rest = IsFields IsDispositionBody (λ p behind. (Disposition p, behind)) body fields rest
-IsBodyOf (Some kind.Detach) body fields rest = IsFields IsDetachBody (λ p behind. (Detach p, behind)) body fields rest
-IsBodyOf (Some kind.End) body fields rest = IsFields IsEndBody (λ p behind. (End p, behind)) body fields rest
-IsBodyOf (Some kind.Close) body fields rest = IsFields IsCloseBody (λ p behind. (Close p, behind)) body fields rest
+IsBodyOf (Some kind.Open) body fields rest = IsFields IsOpenBody (λ p after. (Open p, after)) body fields rest
+IsBodyOf (Some kind.Begin) body fields rest = IsFields IsBeginBody (λ p after. (Begin p, after)) body fields rest
+IsBodyOf (Some kind.Attach) body fields rest = IsFields IsAttachBody (λ p after. (Attach p, after)) body fields rest
+IsBodyOf (Some kind.Flow) body fields rest = IsFields IsFlowBody (λ p after. (Flow p, after)) body fields rest
+IsBodyOf (Some kind.Transfer) body fields rest = IsFields IsTransferBody (λ p after. (Transfer p after, [])) body fields rest
+IsBodyOf (Some kind.Disposition) body fields rest = IsFields IsDispositionBody (λ p after. (Disposition p, after)) body fields rest
+IsBodyOf (Some kind.Detach) body fields rest = IsFields IsDetachBody (λ p after. (Detach p, after)) body fields rest
+IsBodyOf (Some kind.End) body fields rest = IsFields IsEndBody (λ p after. (End p, after)) body fields rest
+IsBodyOf (Some kind.Close) body fields rest = IsFields IsCloseBody (λ p after. (Close p, after)) body fields rest
 
 -- the fields of a performative may ask for memory; where there is no body, nothing does
 abbrev pub MayAskForMemory : Option Kind → Type 0
@@ -60,7 +60,7 @@ NoBodyOf k fields no.NotImplemented = ⊥
 NoBodyOf k fields no.TooLarge = ⊥
 NoBodyOf k fields (no.Io text) = ⊥
 
--- a header has four bytes, and a body stands behind it
+-- a header has four bytes, and a body stands after it
 abbrev pub IsLongEnough : Option Kind → List ℕ → Type 0
 IsLongEnough None bytes = 4 ≤ length bytes
 IsLongEnough (Some k) bytes = 4 < length bytes
@@ -101,14 +101,14 @@ abbrev pub as_head : Result (ℕ × Option Kind) Error → Result FrameHead Erro
 as_head (Ok x) = Ok (record { channel = x.0; kind = x.1 })
 as_head (Err e) = Err e
 
--- the one body of this kind, and what is behind it
+-- the one body of this kind, and what is after it
 abbrev pub ReadsBodyOf : Option Kind → List ℕ → Result (FrameBody × List ℕ) Error → Type 0
 ReadsBodyOf k fields (Ok x) =
     IsBodyOf k x.0 fields x.1 × ((b : FrameBody) (rest : List ℕ) → IsBodyOf k b fields rest → ◌≡◌ {A = FrameBody
     × List ℕ} (b, rest) x)
 ReadsBodyOf k fields (Err e) = NoBodyOf k fields e
 
--- the one frame on this channel with a body of this kind, and what is behind it
+-- the one frame on this channel with a body of this kind, and what is after it
 abbrev pub ReadsFrameOf : ℕ → Option Kind → List ℕ → Result (Frame × List ℕ) Error → Type 0
 ReadsFrameOf n k fields (Ok x) = (x.0.channel ≡ n) × ReadsBodyOf k fields (Ok (x.0.body, x.1))
 ReadsFrameOf n k fields (Err e) = NoBodyOf k fields e

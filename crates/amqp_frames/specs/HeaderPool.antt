@@ -23,7 +23,7 @@ CutsOrLeaves too_long cuts before len after = (¬ too_long before len → cuts b
 abbrev pub CutsHead : ℕ → ℕ → ℕ → Type 0
 CutsHead = CutsOrLeaves IsTooLong (λ before len after. GivesRoom before len (after + len))
 
--- the same by what any place for heads says: which room it gives for a head, and what it keeps of the room behind one
+-- the same by what any place for heads says: which room it gives for a head, and what it keeps of the room after one
 pub record CutsOff {S : Type 0} (gives : S → ℕ → ℕ → Type 0) (keeps : ℕ → S → Type 0) (before : S) (len : ℕ) (after : S) : Type 0 where
   pub room : ℕ
   pub given : gives before len (room + len)

@@ -73,7 +73,7 @@ WholesAreRead =
 
 -- ---- decoding what was encoded
 
--- the frame of this performative; a payload stands behind a transfer alone
+-- the frame of this performative; a payload stands after a transfer alone
 abbrev pub frame_of : ℕ → Performative → List ℕ → Frame
 frame_of channel p payload = record { channel = channel; body = (body_of p payload).0 }
 

@@ -34,7 +34,7 @@ impl FrameDecoder {
     }
 
     /// Reads a frame's header and descriptor from these bytes, which are one frame without its four-byte size. It leaves the
-    /// fields and what is behind them; who then reads the fields of this kind has decoded the frame.
+    /// fields and what is after them; who then reads the fields of this kind has decoded the frame.
     ///
     /// The errors are those of [`FrameDecoder::decode`]: `DecodeError` for fewer than four bytes, and where no performative
     /// is named; `NotImplemented` for another frame type or an extended header. After an error the bytes are of no use.
@@ -50,7 +50,7 @@ impl FrameDecoder {
 
     /// The frame in these bytes, which are one frame without its four-byte size, and the rest that it leaves unread.
     ///
-    /// No body is the empty frame; behind a Transfer all is its payload, and behind any other performative it is the rest.
+    /// No body is the empty frame; after a Transfer all is its payload, and after any other performative it is the rest.
     /// `DecodeError` for fewer than four bytes, and where the body is no performative; `NotImplemented` for another frame
     /// type or an extended header (AMQP 1.0 part 2, section 2.3.1); `OutOfMemory` where memory is refused, which an empty
     /// frame never asks for.

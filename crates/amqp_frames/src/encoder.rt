@@ -83,7 +83,7 @@ impl FrameEncoder {
         self.encode_in(alloc, heads, frame)
     }
 
-    /// Appends the frame to what is to be sent: the pieces of [`FrameEncoder::encode`] in order, each behind its four-byte size. A frame
+    /// Appends the frame to what is to be sent: the pieces of [`FrameEncoder::encode`] in order, each after its four-byte size. A frame
     /// that is whole has no list of pieces, and where its payload is copied, memory is asked for only where the buffer has no room.
     ///
     /// The errors are those of [`FrameEncoder::encode`], and of each nothing is appended: what waits is always whole frames. It answers

@@ -12,7 +12,7 @@ use amqp_types::{Transfer, TransferFragment};
 use bytes::BytesMut;
 use std::alloc::{AllocError, Global};
 
-/// A buffer with the header, and room for `len` bytes behind it.
+/// A buffer with the header, and room for `len` bytes after it.
 #[inline(always)]
 fn header<H: HeadRoom>(heads: &mut H, channel: u16, len: usize) -> Result<BytesMut, AllocError>
     requires fits { len < 2 ^ 32 }

@@ -22,7 +22,7 @@ pub(crate) trait HeadRoom {
     /// The room that is given for a head of so many bytes.
     ghost gives: { Self → ℕ → ℕ → Type 0 };
 
-    /// What is kept of the room behind a head.
+    /// What is kept of the room after a head.
     ghost keeps: { ℕ → Self → Type 0 };
 
     /// Whether a head of `len` bytes has to have a buffer of its own.
@@ -152,7 +152,7 @@ impl HeadRoom for HeaderPool {
         self.next_block(room, len)
     }
 
-    /// The room behind the head is that of the next one.
+    /// The room after the head is that of the next one.
     #[inline(always)]
     fn cut(&mut self, written: BytesMut) -> Result<BytesMut, AllocError> {
         let mut rest = written;

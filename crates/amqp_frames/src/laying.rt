@@ -1,4 +1,4 @@
-//! Frames and pieces laid into a buffer that has room for them, each behind its size (AMQP 1.0 part 2, section 2.3).
+//! Frames and pieces laid into a buffer that has room for them, each after its size (AMQP 1.0 part 2, section 2.3).
 
 ghost use Rattle.std.specs.Prelude.{◌≡◌, ◌+◌, ◌≤◌, ◌<◌, ◌^◌, ◌++◌, IfSome, length};
 ghost use Rattle.std.specs.Int.{w32, to_be_bytes};

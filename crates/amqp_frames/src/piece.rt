@@ -1,4 +1,4 @@
-//! Pieces: physical frames, ready to be sent behind their four-byte size.
+//! Pieces: physical frames, ready to be sent after their four-byte size.
 
 ghost use Rattle.std.specs.Prelude.{◌≡◌, ℕ, List, ◌+◌, ◌++◌, ◌<◌, ◌^◌, length, IfOk};
 ghost use Rattle.amqp_frames.specs.Piece.{piece_bytes, JoinsBytes};

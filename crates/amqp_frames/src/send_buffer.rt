@@ -1,4 +1,4 @@
-//! Bytes that wait to be sent: frames behind their sizes, in one buffer.
+//! Bytes that wait to be sent: frames after their sizes, in one buffer.
 
 ghost use Rattle.std.specs.Prelude.{◌≡◌, ℕ, ◌+◌, ◌≤◌, ◌<◌, ◌^◌, ◌++◌, ◌==◌, [], List, OnOk, OnErr, length, drop};
 ghost use Rattle.std.specs.Int.{w32, to_be_bytes};
@@ -15,7 +15,7 @@ use std::marker::Model;
 /// Up to how many bytes a payload is copied, where the caller says nothing else.
 const COPIED: usize = 4096;
 
-/// Bytes that wait to be sent, in order. [`FrameEncoder::encode_to`](crate::FrameEncoder::encode_to) appends frames, each piece behind its
+/// Bytes that wait to be sent, in order. [`FrameEncoder::encode_to`](crate::FrameEncoder::encode_to) appends frames, each piece after its
 /// four-byte size. A transport writes [`SendBuffer::chunk`], and takes off by [`SendBuffer::advance`] what was written.
 ///
 /// A short payload is copied into the buffer; a long one is shared, and is a chunk of its own. The memory of bytes that were taken off

@@ -15,7 +15,7 @@ use std::marker::Model;
 /// A part that is shared.
 #[derive(Drop)]
 struct SharedPart {
-    /// How many bytes of the buffer stand before it, behind the shared part before it.
+    /// How many bytes of the buffer stand before it, after the shared part before it.
     before: usize,
     part: Bytes,
 }

@@ -5,7 +5,7 @@ use Rattle.std.proofs.lemmas.Grind.{common_steps}
 use Rattle.amqp_numbers.specs.declared.ranges.Range.{Range}
 use Rattle.amqp_numbers.specs.Ranges.{IsSpaced, IsLower, IsUpper, BeginFrom, next_low, is_held}
 
--- each range takes two numbers at least, with the one that is missing behind it
+-- each range takes two numbers at least, with the one that is missing after it
 pub few : (rs : List Range) (low : ℕ) → IsSpaced low rs → low ≤ 2 ^ 32 + 1 → low + 2 * length rs ≤ 2 ^ 32 + 1
 few [] low s h = omega arith
 few (r ∷ rs) low s h = let i = few rs (r.last + 2) s.3 (omega (arith, s.2)) in omega (arith, i, s.0, s.1)
@@ -40,13 +40,13 @@ pub record IsAt (rs : List Range) (low i : ℕ) (a : Range) : Type 0 where
   pub before : next_low low (take i rs) ≤ a.first
   pub order : a.first ≤ a.last
   pub fits : a.last < 2 ^ 32
-  pub behind : IsSpaced (a.last + 2) (drop (suc i) rs)
+  pub after : IsSpaced (a.last + 2) (drop (suc i) rs)
   pub within : i < length rs
 
 at : (rs : List Range) (low i : ℕ) (a : Range) → IsSpaced low rs → slice_get rs i ≡ Some a → IsAt rs low i a
 at [] low i a s e = absurd (cc)
-at (r ∷ rs) low zero a s e = let x : r ≡ a = cc in subst (λ a. IsAt (r ∷ rs) low zero a) x (record { before = s.0; order = s.1; fits = s.2; behind = s.3; within = omega arith })
-at (r ∷ rs) low (suc i) a s e = let p = at rs (r.last + 2) i a s.3 e in record { before = p.before; order = p.order; fits = p.fits; behind = p.behind; within = omega (arith, p.within) }
+at (r ∷ rs) low zero a s e = let x : r ≡ a = cc in subst (λ a. IsAt (r ∷ rs) low zero a) x (record { before = s.0; order = s.1; fits = s.2; after = s.3; within = omega arith })
+at (r ∷ rs) low (suc i) a s e = let p = at rs (r.last + 2) i a s.3 e in record { before = p.before; order = p.order; fits = p.fits; after = p.after; within = omega (arith, p.within) }
 
 next_at : (rs : List Range) (low i : ℕ) (a : Range) → slice_get rs i ≡ Some a → next_low low (take (suc i) rs) ≡ a.last + 2
 next_at [] low i a e = absurd (cc)
@@ -147,7 +147,7 @@ upper_joined rs n i a s e h =
       within = omega (arith, p.within);
       last_is = omega (arith, h, p.order);
       fits = p.fits;
-      spaced = begin_from (drop (suc i) rs) (a.last + 2) p.behind;
+      spaced = begin_from (drop (suc i) rs) (a.last + 2) p.after;
       numbers = λ q. held_drop rs i q a e ∙ ap (λ b. (b && nat_le q a.last) || is_held q (drop (suc i) rs)) (from_on q a.first n h);
     }
 

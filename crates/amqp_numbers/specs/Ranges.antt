@@ -24,18 +24,18 @@ abbrev pub is_held : ℕ → List Range → Bool
 is_held n [] = false
 is_held n (r ∷ rs) = (nat_le r.first n && nat_le n r.last) || is_held n rs
 
--- no range is empty, each begins behind the one before, and at least one number is missing between them: the first begins at the low number
--- or behind it
+-- no range is empty, each begins after the one before, and at least one number is missing between them: the first begins at the low number
+-- or after it
 abbrev pub IsSpaced : ℕ → List Range → Type 0
 IsSpaced low [] = Unit {0}
 IsSpaced low (r ∷ rs) = (low ≤ r.first) × (r.first ≤ r.last) × (r.last < 2 ^ 32) × IsSpaced (r.last + 2) rs
 
--- where a range behind these may begin, with a number missing between
+-- where a range after these may begin, with a number missing between
 abbrev pub next_low : ℕ → List Range → ℕ
 next_low low [] = low
 next_low low (r ∷ rs) = next_low (r.last + 2) rs
 
--- the first of these begins at the low number or behind it, if there is one
+-- the first of these begins at the low number or after it, if there is one
 abbrev pub BeginFrom : ℕ → List Range → Type 0
 BeginFrom low [] = Unit {0}
 BeginFrom low (r ∷ rs) = low ≤ r.first
@@ -46,13 +46,13 @@ begins_by [] rank n = false
 begins_by (r ∷ rs) zero n = nat_le r.first n
 begins_by (r ∷ rs) (suc rank) n = begins_by rs rank n
 
--- so many ranges begin at the number or before it, and the next one behind it
+-- so many ranges begin at the number or before it, and the next one after it
 abbrev pub IsRank : List Range → ℕ → ℕ → Type 0
 IsRank [] n rank = rank ≡ 0
 IsRank (r ∷ rs) n zero = n < r.first
 IsRank (r ∷ rs) n (suc rank) = (r.first ≤ n) × IsRank rs n rank
 
--- so many ranges end before the number, and the next one begins behind it
+-- so many ranges end before the number, and the next one begins after it
 abbrev pub IsApart : List Range → ℕ → ℕ → Type 0
 IsApart [] n rank = rank ≡ 0
 IsApart (r ∷ rs) n zero = n < r.first

@@ -21,7 +21,7 @@ pub(crate) fn lower_end(ranges: &Blocks<Range>, rank: usize, number: u32) -> (us
     (rank, number)
 }
 
-/// The rank behind the range that a new number comes into, and its last number. Where a range begins right behind the number, it is that one.
+/// The rank after the range that a new number comes into, and its last number. Where a range begins right after the number, it is that one.
 pub(crate) fn upper_end(ranges: &Blocks<Range>, rank: usize, number: u32) -> (usize, u32)
     requires spaced { IsSpaced 0 ranges.now.items }
     requires apart { IsApart ranges.now.items number rank }

@@ -37,7 +37,7 @@ pub unmapped_goes : {R : Type 0} → (v w : SessionView R) (echo : Option LinkFl
     HandsOut false (first_frame (option_map (flow_frame v) echo)) item → w ≡ v → FlowGoes v echo item w
 unmapped_goes v w echo item e h q = stays (is_mapped v.state) _ _ item w v e h q
 
--- in Mapped what the window lets out goes behind it
+-- in Mapped what the window lets out goes after it
 pub mapped_goes : {R : Type 0} → (v w : SessionView R) (echo : Option LinkFlow) (item : Option SessionOutgoingItem) → is_mapped v.state ≡ true →
     HandsOut (is_some_list (let_out v.outgoing_channel v.sending)) (first_frame (option_map (flow_frame v) echo) ++ let_out v.outgoing_channel v.sending) item →
     w ≡ gone_where true v → FlowGoes v echo item w

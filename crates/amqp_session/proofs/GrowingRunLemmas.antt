@@ -42,9 +42,9 @@ read_last (r ∷ rs) n x at =
     let len : length (map (echo_of None) rs) ≡ length rs = length-map rs (echo_of None) in
     last_goes_on (r ∷ rs) n (length rs) x refl (at ∙ ap (slice_get (unsaid (r ∷ rs))) (omega (arith, len)))
 
--- a number behind the last run that does not go on with it begins one of its own
-pub one_behind : (runs : List DeliveryRange) (n : ℕ) → goes_on n runs ≡ false → unsaid (extended n runs) ≡ unsaid runs ++ echo_of None (record { first = n; last = n }) ∷ []
-one_behind runs n e =
+-- a number after the last run that does not go on with it begins one of its own
+pub one_after : (runs : List DeliveryRange) (n : ℕ) → goes_on n runs ≡ false → unsaid (extended n runs) ≡ unsaid runs ++ echo_of None (record { first = n; last = n }) ∷ []
+one_after runs n e =
     let own : DeliveryRange = record { first = n; last = n } in
     ap (λ b. unsaid (cond b (longer n runs) (runs ++ own ∷ []))) e ∙ map-append (echo_of None) runs (own ∷ [])
 
@@ -239,7 +239,7 @@ few_from first n k (r ∷ q ∷ rs) hf hn t e a h s =
     let rest = few_from first n (k + 2) (q ∷ rs) hf hn t e.1 a.4 (omega (arith, s, a.2, a.3, a.4.2, e.1.0)) (omega (arith, s, a.2, a.3)) in
     omega (arith, rest)
 
--- so they are at most half as many as the numbers up to the one behind them
+-- so they are at most half as many as the numbers up to the one after them
 pub few_runs : (first n : ℕ) (runs : List DeliveryRange) → first < 2 ^ 32 → n < 2 ^ 32 → goes_on n runs ≡ false → EndBefore first (distance first n) runs →
     AreApart first runs → 2 * length runs ≤ distance first n
 few_runs first n [] hf hn t e a = omega arith

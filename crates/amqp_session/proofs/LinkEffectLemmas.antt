@@ -19,7 +19,7 @@ use Rattle.amqp_session.specs.Step.{flow_moved, counted_by, asked_at, FlowAnswer
 use Rattle.amqp_session.specs.Linking.{live_name, linked, Releases, Leaves, AttachAnswered, Attaches}
 use Rattle.amqp_types.specs.Disposition.{DispositionModel}
 use Rattle.amqp_session.specs.declared.deliveries.Delivery.{Delivery}
-use Rattle.amqp_session.specs.Disposing.{AsksAt, AsksEach, behind}
+use Rattle.amqp_session.specs.Disposing.{AsksAt, AsksEach, prepended}
 use Rattle.amqp_session.specs.Linked.{asked_from, live_by, input_by, where_goes, speaks_of, handle_of}
 use Rattle.amqp_session.specs.History.{SessionCall, AllocatesLink, AllocatesIncomingLink, DeallocatesLink, TakesAttach, TakesDetach, SendsAttach, SendsDetach, SendsBegin, SendsEnd, TakesBegin, TakesEnd, TakesFlow, TakesTransfer, TakesDisposition, SendsDisposition, SendsFlow, SendsTransfer, SendsSessionFlow, RecordsStop, Settles, SessionStep}
 use Rattle.amqp_session.proofs.OutputHandleLemmas.{at_insert, at_remove}
@@ -128,10 +128,10 @@ module _ {R : Type 0} (g : Relays R) where
     pub handles : new.handles ≡ l.handles
     pub inputs : (h : ℕ) → map.get new.inputs h ≡ asked_from h (map.get l.inputs h) asked
 
-  go_behind : (d : DispositionModel) (r : Delivery) (one : Option (DispositionQuestion R)) (others asked : List (DispositionQuestion R)) (l m new : LinksView R) →
-      AsksAt g.disposition_gives d r one l m → GoEach m others new → asked ≡ behind one others → GoEach l asked new
-  go_behind d r None others asked l m new a i e = rw e (subst (λ x. GoEach x others new) a.1 i)
-  go_behind d r (Some q) others asked l m new a i e =
+  go_after : (d : DispositionModel) (r : Delivery) (one : Option (DispositionQuestion R)) (others asked : List (DispositionQuestion R)) (l m new : LinksView R) →
+      AsksAt g.disposition_gives d r one l m → GoEach m others new → asked ≡ prepended one others → GoEach l asked new
+  go_after d r None others asked l m new a i e = rw e (subst (λ x. GoEach x others new) a.1 i)
+  go_after d r (Some q) others asked l m new a i e =
       let go = goes l m r.input_handle.0 q a.1.attached a.2 in
       rw e record {
         names = i.names ∙ go.names;
@@ -143,7 +143,7 @@ module _ {R : Type 0} (g : Relays R) where
   go_each : (d : DispositionModel) (rs : List Delivery) (asked : List (DispositionQuestion R)) (l new : LinksView R) →
       AsksEach g.disposition_gives d rs asked l new → GoEach l asked new
   go_each d [] asked l new t = rw (t.0, t.1) record { names = refl; handles = refl; inputs = λ h. refl }
-  go_each d (r ∷ rs) asked l new t = go_behind d r t.0 t.1 asked l t.2 new t.3 (go_each d rs t.1 t.2 new t.4) t.5
+  go_each d (r ∷ rs) asked l new t = go_after d r t.0 t.1 asked l t.2 new t.3 (go_each d rs t.1 t.2 new t.4) t.5
 
   -- ---- the table
 

@@ -72,7 +72,7 @@ module _ {R : Type 0} (g : Relays R) where
     | inr sent ↦ one (SendsTransfer h sent.item) v w going going' sent.makes
   ]
 
-  -- behind a call that hands out nothing
+  -- after a call that hands out nothing
   then : (e : SessionCall R) (v m w : SessionView R) (taken : List SessionFrameBody) (going going' : List SessionFrame) → SessionStep g v e m →
       call_frames e ≡ [] → Did g m taken going w going' → Did g v (received_by e ++ taken) going w going'
   then e v m w taken going going' s none d = record {

@@ -39,7 +39,7 @@ stepped_more t u v k e f =
     let n : ((t.reads.turns + k) % 2 ^ 64 + 1) % 2 ^ 64 ≡ (t.reads.turns + (k + 1)) % 2 ^ 64 = omega arith in
     f ∙ ap (λ (s : TableView). stepped 1 s) e ∙ with_turns t _ _ n
 
--- a search and a walk behind it
+-- a search and a walk after it
 pub read_by : (t u v : TableView) (k n : ℕ) → u ≡ compared k t → v ≡ stepped n u → v.reads ≡ risen (record { turns = n; comparisons = k }) t.reads
 read_by t u v k n e f = ap (λ (s : TableView). s.reads) f ∙ ap (λ (s : TableView). (stepped n s).reads) e
 
@@ -62,7 +62,7 @@ walk_since w r s ht hk t k e =
     ap (λ (x : ℕ). let o : WalkCount = record { turns = x; comparisons = (r.comparisons + (2 ^ 64 - s.comparisons)) % 2 ^ 64 % 2 ^ 32 } in o) m
     ∙ ap (λ (x : ℕ). let o : WalkCount = record { turns = w.turns; comparisons = x } in o) n
 
--- what a search and a walk behind it have counted
+-- what a search and a walk after it have counted
 pub since_is : (walk : WalkCount) (t u v : TableView) (r b : ReadCount) (k n : ℕ) →
     ((w : WalkCount) → w.turns < 2 ^ 64 → w.comparisons < 2 ^ 32 → r ≡ risen w b → walk ≡ w) →
     u ≡ compared k t → v ≡ stepped n u → r ≡ v.reads → b ≡ t.reads → n < 2 ^ 64 → k < 2 ^ 32 → walk ≡ record { turns = n; comparisons = k }

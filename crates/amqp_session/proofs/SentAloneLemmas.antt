@@ -31,9 +31,9 @@ opened_alone n (suc w) h (Some t) rows ln lw e =
     ∙ ap (λ k. with_record (option_map (λ (t : List ℕ). delivery_of (n % 2 ^ 32) (record { 0 = h.input_handle }) (record { 0 = t })) k) rows) e
     ∙ ap (λ hs. opened n hs rows) (take_one w h)
 
--- A transfer that goes out behind others, one at least, does not go out alone.
-pub goes_behind : (c n w : ℕ) (hs : List RequestedTransfer) (h : RequestedTransfer) → (hs ≡ [] → w ≡ 0) → ¬ (w ≡ 0) →
+-- A transfer that goes out after others, one at least, does not go out alone.
+pub goes_after : (c n w : ℕ) (hs : List RequestedTransfer) (h : RequestedTransfer) → (hs ≡ [] → w ≡ 0) → ¬ (w ≡ 0) →
     (is_some_held hs ≡ true) × ¬ (numbered c n (take w (hs ++ h ∷ [])) ≡ [])
-goes_behind c n w [] h waits lets = absurd (lets (waits refl))
-goes_behind c n zero (x ∷ xs) h waits lets = absurd (lets refl)
-goes_behind c n (suc w) (x ∷ xs) h waits lets = (refl, λ e. absurd (cc))
+goes_after c n w [] h waits lets = absurd (lets (waits refl))
+goes_after c n zero (x ∷ xs) h waits lets = absurd (lets refl)
+goes_after c n (suc w) (x ∷ xs) h waits lets = (refl, λ e. absurd (cc))

@@ -146,7 +146,7 @@ last_more rows n number x e some read more =
     let within : n - 1 < length rows = omega arith in
     subst (λ k. number ≤ number_at rows (k - 1)) e (subst (λ k. number ≤ k) (sym (number_read rows (n - 1) x within read)) more)
 
--- a record behind all others
+-- a record after all others
 pub recorded_last : (rows : List Delivery) (d : Delivery) → ((i : ℕ) → i < length rows → number_at rows i < d.number) → recorded d rows ≡ rows ++ d ∷ []
 recorded_last rows d below =
     recorded_at rows (length rows) d (omega arith) below (λ i ge lt. absurd (omega arith)) ∙ insert_end rows d
@@ -182,7 +182,7 @@ far_at rows r i (suc k) j e h =
     let one = rising_at rows r (j - 1) j (omega (arith, e)) h in
     omega (arith, less, one)
 
--- what is as far behind the front as a number, or farther, is no smaller
+-- what is as far after the front as a number, or farther, is no smaller
 pub front_above : (rows : List Delivery) (first far : ℕ) → IsRising rows → first ≤ number_at rows 0 + far → (i : ℕ) → far ≤ i → i < length rows → first ≤ number_at rows i
 front_above rows first far r h i ge lt =
     let more = far_at rows r 0 i i (omega arith) lt in
@@ -195,7 +195,7 @@ front_below rows first far missing r m e i near lt =
     let more = far_at rows r i (length rows - 1 - i) (length rows - 1) (omega (arith, lt)) (omega (arith, lt)) in
     omega (arith, last, more, e, near)
 
--- the last number is as far behind the first as its place, or farther
+-- the last number is as far after the first as its place, or farther
 pub ends_apart : (rows : List Delivery) (n : ℕ) (first last : Delivery) → IsRising rows → n ≡ length rows → 0 < n → first ≡ slice_index_or rows 0 first → last ≡ slice_index_or rows (n - 1) last → first.number + (n - 1) ≤ last.number
 ends_apart rows n first last r e some at_first at_last =
     let front = number_read rows 0 first (omega (arith, e, some)) at_first in
@@ -223,7 +223,7 @@ read_missing rows n first last r e front back =
 
 -- ---- the search of a place
 
--- A place is in this part: what is before it is smaller, and what is behind it is not.
+-- A place is in this part: what is before it is smaller, and what is after it is not.
 pub record IsPart (rows : List Delivery) (number low high : ℕ) : Type 0 where
   pub order : low ≤ high
   pub within : high ≤ length rows
@@ -234,9 +234,9 @@ pub record IsPart (rows : List Delivery) (number low high : ℕ) : Type 0 where
 pub whole_part : (rows : List Delivery) (number high : ℕ) → high ≡ length rows → IsPart rows number 0 high
 whole_part rows number high e = record { order = omega arith; within = omega (arith, e); below = λ i h. absurd (omega arith); above = λ i ge lt. absurd (omega (arith, e, ge, lt)) }
 
-part_behind : (rows : List Delivery) (number low high at value low' high' : ℕ) → IsRising rows → IsPart rows number low high → low ≤ at → at < high → value ≡ number_at rows at →
+part_after : (rows : List Delivery) (number low high at value low' high' : ℕ) → IsRising rows → IsPart rows number low high → low ≤ at → at < high → value ≡ number_at rows at →
     value < number → low' ≡ at + 1 → high' ≡ min high (at + (number - value)) → IsPart rows number low' high'
-part_behind rows number low high at value low' high' r p least most e less l h =
+part_after rows number low high at value low' high' r p least most e less l h =
     let within : at < length rows = omega (arith, p.within, most) in
     let smaller : number_at rows at < number = subst (λ n. n < number) e less in
     record {
@@ -270,7 +270,7 @@ pub closer_part : (rows : List Delivery) (number low high at value low' high' : 
     IsPart rows number low' high'
 closer_part rows number low high at value low' high' r p least most e less more =
     elim (cases_lt value number) [
-      | inl lt ↦ let s = less lt in part_behind rows number low high at value low' high' r p least most e lt s.0 s.1
+      | inl lt ↦ let s = less lt in part_after rows number low high at value low' high' r p least most e lt s.0 s.1
       | inr ge ↦ let s = more ge in part_before rows number low high at value low' high' r p least most e ge s.0 s.1
     ]
 
@@ -278,9 +278,9 @@ closer_part rows number low high at value low' high' r p least most e less more 
 pub closer_few : (number low high at value low' high' half : ℕ) → at < high → at - low < half → high - at ≤ half →
     (value < number → (low' ≡ at + 1) × (high' ≡ min high (at + (number - value)))) → (number ≤ value → (low' ≡ max low (at - (value - number))) × (high' ≡ at)) →
     high' - low' < half
-closer_few number low high at value low' high' half most before behind less more =
+closer_few number low high at value low' high' half most before after less more =
     elim (cases_lt value number) [
-      | inl lt ↦ let s = less lt in omega (arith, most, behind, s.0, s.1)
+      | inl lt ↦ let s = less lt in omega (arith, most, after, s.0, s.1)
       | inr ge ↦ let s = more ge in omega (arith, before, s.0, s.1)
     ]
 

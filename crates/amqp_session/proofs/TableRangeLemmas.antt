@@ -41,8 +41,8 @@ module _ (test : ℕ → Bool) where
   abbrev pub Tests : Bool → ℕ → ℕ → List Delivery → Type 0
   Tests b low high rows = (i : ℕ) → low ≤ i → i < high → i < length rows → test (number_at rows i) ≡ b
 
-  behind : (b : Bool) (low high : ℕ) (e : Delivery) (es : List Delivery) → Tests b (suc low) (suc high) (e ∷ es) → Tests b low high es
-  behind b low high e es t = λ i ge lt within. t (suc i) (omega (arith, ge)) (omega (arith, lt)) (omega (arith, within))
+  later_tests : (b : Bool) (low high : ℕ) (e : Delivery) (es : List Delivery) → Tests b (suc low) (suc high) (e ∷ es) → Tests b low high es
+  later_tests b low high e es t = λ i ge lt within. t (suc i) (omega (arith, ge)) (omega (arith, lt)) (omega (arith, within))
 
   front : (b : Bool) (high : ℕ) (e : Delivery) (es : List Delivery) → Tests b zero (suc high) (e ∷ es) → Tests b zero high es
   front b high e es t = λ i ge lt within. t (suc i) (omega arith) (omega (arith, lt)) (omega (arith, within))
@@ -68,11 +68,11 @@ module _ (test : ℕ → Bool) where
       (g.0 ∙ ap (λ xs. e ∷ xs) rest.0, ap length g.1 ∙ rest.1)
   between zero (suc to) (e ∷ es) h k a b c =
       let g = gone e es (b 0 (omega arith) (omega arith) (omega arith)) in
-      let rest = between zero to es (omega arith) (omega (arith, k)) (nothing false zero es (omega arith)) (front true to e es b) (behind false to (length es) e es c) in
+      let rest = between zero to es (omega arith) (omega (arith, k)) (nothing false zero es (omega arith)) (front true to e es b) (later_tests false to (length es) e es c) in
       (g.0 ∙ rest.0, let x = ap length g.1 in let y = rest.1 in omega (arith, x, y))
   between (suc from) (suc to) (e ∷ es) h k a b c =
       let g = kept e es (a 0 (omega arith) (omega arith) (omega arith)) in
-      let rest = between from to es (omega (arith, h)) (omega (arith, k)) (front false from e es a) (behind true from to e es b) (behind false to (length es) e es c) in
+      let rest = between from to es (omega (arith, h)) (omega (arith, k)) (front false from e es a) (later_tests true from to e es b) (later_tests false to (length es) e es c) in
       (g.0 ∙ ap (λ xs. e ∷ xs) rest.0, let x = ap length g.1 in let y = rest.1 in omega (arith, x, y))
 
   -- or all but one stretch
@@ -87,11 +87,11 @@ module _ (test : ℕ → Bool) where
       (g.0 ∙ rest.0, let x = ap length g.1 in let y = rest.1 in omega (arith, x, y))
   around zero (suc from) (e ∷ es) h k a b c =
       let g = kept e es (b 0 (omega arith) (omega arith) (omega arith)) in
-      let rest = around zero from es (omega arith) (omega (arith, k)) (nothing true zero es (omega arith)) (front false from e es b) (behind true from (length es) e es c) in
+      let rest = around zero from es (omega arith) (omega (arith, k)) (nothing true zero es (omega arith)) (front false from e es b) (later_tests true from (length es) e es c) in
       (g.0 ∙ ap (λ xs. e ∷ xs) rest.0, let x = ap length g.1 in let y = rest.1 in omega (arith, x, y))
   around (suc to) (suc from) (e ∷ es) h k a b c =
       let g = gone e es (a 0 (omega arith) (omega arith) (omega arith)) in
-      let rest = around to from es (omega (arith, h)) (omega (arith, k)) (front true to e es a) (behind false to from e es b) (behind true from (length es) e es c) in
+      let rest = around to from es (omega (arith, h)) (omega (arith, k)) (front true to e es a) (later_tests false to from e es b) (later_tests true from (length es) e es c) in
       (g.0 ∙ rest.0, let x = ap length g.1 in let y = rest.1 in omega (arith, x, y))
 
 -- ---- the cut
@@ -127,7 +127,7 @@ up first n h k = omega arith
 down : (first n : ℕ) → n < first → first < 2 ^ 32 → distance first n ≡ n + 2 ^ 32 - first
 down first n h k = omega arith
 
--- the number behind a range
+-- the number after a range
 abbrev pub next : ℕ → ℕ → ℕ
 next first span = ((first + span) % 2 ^ 32 + 1) % 2 ^ 32
 

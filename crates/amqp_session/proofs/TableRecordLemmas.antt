@@ -39,16 +39,16 @@ with_record_at_number : (n : ℕ) (d : Option Delivery) (rows : List Delivery) �
 with_record_at_number n None rows = refl
 with_record_at_number n (Some d) rows = recorded_at_number n d rows
 
-newest_behind : (n : ℕ) (old d : Option Delivery) (ds : List Delivery) → newest n (newest n old (listed d)) ds ≡ newest n old (listed d ++ ds)
-newest_behind n old None ds = refl
-newest_behind n old (Some d) ds = refl
+newest_after : (n : ℕ) (old d : Option Delivery) (ds : List Delivery) → newest n (newest n old (listed d)) ds ≡ newest n old (listed d ++ ds)
+newest_after n old None ds = refl
+newest_after n old (Some d) ds = refl
 
 opened_at_number : (n k : ℕ) (hs : List RequestedTransfer) (rows : List Delivery) → record_at n (opened k hs rows) ≡ newest n (record_at n rows) (records k hs)
 opened_at_number n k [] rows = refl
 opened_at_number n k (h ∷ hs) rows =
     opened_at_number n (k + first_of h) hs (with_record (record_of k h) rows)
     ∙ ap (λ old. newest n old (records (k + first_of h) hs)) (with_record_at_number n (record_of k h) rows)
-    ∙ newest_behind n (record_at n rows) (record_of k h) (records (k + first_of h) hs)
+    ∙ newest_after n (record_at n rows) (record_of k h) (records (k + first_of h) hs)
 
 with_record_table : (d : Option Delivery) (rows : List Delivery) → RecordFits d → IsTable rows → IsTable (with_record d rows)
 with_record_table None rows fits t = t

@@ -12,7 +12,7 @@ use Rattle.amqp_session.specs.Runs.{DeliveryRange, extended}
 use Rattle.amqp_session.specs.Relay.{DispositionGives, DispositionQuestion}
 use Rattle.amqp_session.specs.Links.{LinksView}
 use Rattle.amqp_session.specs.Deliveries.{Above, Under, IsRising, IsTable, number_at}
-use Rattle.amqp_session.specs.Disposing.{distance, span, is_meant, in_order, AsksAt, AsksEach, behind, has_agreed, agreed, AreRuns}
+use Rattle.amqp_session.specs.Disposing.{distance, span, is_meant, in_order, AsksAt, AsksEach, prepended, has_agreed, agreed, AreRuns}
 use Rattle.amqp_session.specs.Inner.Walks.{around, turned, EachMeant, IsSplit, noted, noted_by}
 use Rattle.amqp_session.proofs.GrowingRunLemmas.{EndBefore, end_later, grown, grown_ends}
 
@@ -37,7 +37,7 @@ abbrev pub Farther : ℕ → ℕ → List Delivery → Type 0
 Farther first k [] = Unit {0}
 Farther first k (r ∷ rs) = (k ≤ distance first r.number) × Farther first (distance first r.number + 1) rs
 
--- the distance behind the last of these, from k on
+-- the distance after the last of these, from k on
 abbrev pub reach : ℕ → ℕ → List Delivery → ℕ
 reach first k [] = k
 reach first k (r ∷ rs) = reach first (distance first r.number + 1) rs
@@ -210,7 +210,7 @@ reach_near d k (r ∷ rs) f h e = let near = meant_near d r.number f e.0 in reac
 first_agreed : {R : Type 0} →
     (gives : DispositionGives R) (d : DispositionModel) (x : Delivery) (one : Option (DispositionQuestion R)) (l new : LinksView R) →
     AsksAt gives d x one l new →
-    agreed (behind one []) ≡ cond (has_agreed one) (x.number ∷ []) []
+    agreed (prepended one []) ≡ cond (has_agreed one) (x.number ∷ []) []
 first_agreed gives d x None l new h = refl
 first_agreed gives d x (Some q) l new h = by q.answer
   where
@@ -218,10 +218,10 @@ first_agreed gives d x (Some q) l new h = by q.answer
     by true = rw h.0 refl
     by false = refl
 
-behind_agreed : {R : Type 0} → (one : Option (DispositionQuestion R)) (as' bs : List (DispositionQuestion R)) (ns : List ℕ) →
-    agreed bs ≡ agreed as' ++ ns → agreed (behind one bs) ≡ agreed (behind one as') ++ ns
-behind_agreed None as' bs ns e = e
-behind_agreed (Some q) as' bs ns e = by q.answer
+after_agreed : {R : Type 0} → (one : Option (DispositionQuestion R)) (as' bs : List (DispositionQuestion R)) (ns : List ℕ) →
+    agreed bs ≡ agreed as' ++ ns → agreed (prepended one bs) ≡ agreed (prepended one as') ++ ns
+after_agreed None as' bs ns e = e
+after_agreed (Some q) as' bs ns e = by q.answer
   where
     by : (b : Bool) → map (λ (y : DispositionQuestion _). y.asked.delivery.number) (cond b (q ∷ filter (λ (y : DispositionQuestion _). y.answer) bs) (filter (λ (y : DispositionQuestion _). y.answer) bs)) ≡ map (λ (y : DispositionQuestion _). y.asked.delivery.number) (cond b (q ∷ filter (λ (y : DispositionQuestion _). y.answer) as') (filter (λ (y : DispositionQuestion _). y.answer) as')) ++ ns
     by true = ap (λ xs. q.asked.delivery.number ∷ xs) e
@@ -233,10 +233,10 @@ pub asks_more : {R : Type 0} → (gives : DispositionGives R) (d : DispositionMo
     (bs : List (DispositionQuestion R)) × AsksEach gives d (xs ++ x ∷ []) bs l new × (agreed bs ≡ agreed as' ++ cond (has_agreed one) (x.number ∷ []) [])
 asks_more gives d [] x as' one l m new h a =
     let there = subst (λ y. AsksAt gives d x one y new) h.1 a in
-    (behind one [], (one, [], new, there, (refl, refl), refl), rw h.0 (first_agreed gives d x one l new there))
+    (prepended one [], (one, [], new, there, (refl, refl), refl), rw h.0 (first_agreed gives d x one l new there))
 asks_more gives d (r ∷ rs) x as' one l m new h a =
     let rest = asks_more gives d rs x h.1 one h.2 m new h.4 a in
-    (behind h.0 rest.0, (h.0, rest.0, h.2, h.3, rest.1, refl), rw h.5 (behind_agreed h.0 h.1 rest.0 (cond (has_agreed one) (x.number ∷ []) []) rest.2))
+    (prepended h.0 rest.0, (h.0, rest.0, h.2, h.3, rest.1, refl), rw h.5 (after_agreed h.0 h.1 rest.0 (cond (has_agreed one) (x.number ∷ []) []) rest.2))
 
 -- ---- runs
 
@@ -277,15 +277,15 @@ reads d rows from count x hf t h o lt at =
     let rest : drop count order ≡ x ∷ drop (count + 1) order = drop_more order count x within ∙ ap (λ y. y ∷ drop (count + 1) order) read in
     let all : Farther d.first 0 (take count order ++ drop count order) = subst (Farther d.first 0) (o ∙ sym (take-append-drop count order)) (order_farther d.first hf rows t) in
     let both = farther_split d.first 0 (take count order) (drop count order) all in
-    let behind : Farther d.first (reach d.first 0 (take count order)) (x ∷ drop (count + 1) order) = subst (Farther d.first (reach d.first 0 (take count order))) rest both.1 in
+    let prepended : Farther d.first (reach d.first 0 (take count order)) (x ∷ drop (count + 1) order) = subst (Farther d.first (reach d.first 0 (take count order))) rest both.1 in
     let long = reach_length d.first 0 (take count order) both.0 in
     let taken = length-take count order in
     record {
       grow = take_more order count x within ∙ ap (λ y. take count order ++ y ∷ []) read;
       rest = rest;
-      near = behind.0;
+      near = prepended.0;
       few = omega (arith, long, taken, within);
-      far = subst (Farther d.first (distance d.first x.number)) (sym rest) (omega arith, behind.1);
+      far = subst (Farther d.first (distance d.first x.number)) (sym rest) (omega arith, prepended.1);
     }
 
 -- the walk ends at a record that is too far on
@@ -298,13 +298,13 @@ pub stops_end : (d : DispositionModel) (order : List Delivery) (count : ℕ) →
     EachMeant d true (take count order) → IsSplit d order count
 stops_end d order count h near = record { near = near; far = subst (EachMeant d false) (sym (drop_all count order h)) tt }
 
--- or behind the one record of its number, where the range is that number alone
+-- or after the one record of its number, where the range is that number alone
 pub stops_alone : (d : DispositionModel) (order : List Delivery) (x : Delivery) → span d.first d.last ≡ 0 → Reads d order 0 x →
     distance d.first x.number ≡ 0 → IsSplit d order 1
 stops_alone d order x alone r same =
     let forward : span d.first d.last < 2 ^ 31 = omega (arith, alone) in
-    let behind = subst (Farther d.first (distance d.first x.number)) r.rest r.far in
+    let prepended = subst (Farther d.first (distance d.first x.number)) r.rest r.far in
     record {
       near = subst (EachMeant d true) (sym r.grow) (meant_is d x.number forward (omega (arith, same)), tt);
-      far = far_all d (distance d.first x.number + 1) (drop 1 order) forward (omega (arith, alone)) behind.1;
+      far = far_all d (distance d.first x.number + 1) (drop 1 order) forward (omega (arith, alone)) prepended.1;
     }

@@ -24,11 +24,11 @@ use Rattle.amqp_session.specs.Session.{SessionView}
 
 -- ---- the range
 
--- how far a number is behind the first one, on the circle of 2^32 numbers
+-- how far a number is after the first one, on the circle of 2^32 numbers
 abbrev pub distance : ℕ → ℕ → ℕ
 distance first n = (n + (2 ^ 32 - first)) % 2 ^ 32
 
--- how far the last number of a range is behind its first: not at all, where no last is named
+-- how far the last number of a range is after its first: not at all, where no last is named
 abbrev pub span : ℕ → Option ℕ → ℕ
 span first last = distance first (unwrap_or last first)
 
@@ -82,10 +82,10 @@ abbrev pub has_agreed : {R : Type 0} → Option (DispositionQuestion R) → Bool
 has_agreed None = false
 has_agreed (Some q) = q.answer
 
--- the question and the others behind it, where one was asked
-abbrev pub behind : {Q : Type 0} → Option Q → List Q → List Q
-behind None qs = qs
-behind (Some q) qs = q ∷ qs
+-- the question and the others after it, where one was asked
+abbrev pub prepended : {Q : Type 0} → Option Q → List Q → List Q
+prepended None qs = qs
+prepended (Some q) qs = q ∷ qs
 
 -- the same of each record in turn
 abbrev pub AsksEach : {R : Type 0} → DispositionGives R → DispositionModel → List Delivery → List (DispositionQuestion R) →
@@ -93,7 +93,7 @@ abbrev pub AsksEach : {R : Type 0} → DispositionGives R → DispositionModel �
 AsksEach gives d [] asked l new = (asked ≡ []) × (new ≡ l)
 AsksEach {R} gives d (r ∷ rs) asked l new =
     (one : Option (DispositionQuestion R)) × (others : List (DispositionQuestion R)) × (m : LinksView R)
-    × AsksAt gives d r one l m × AsksEach gives d rs others m new × (asked ≡ behind one others)
+    × AsksAt gives d r one l m × AsksEach gives d rs others m new × (asked ≡ prepended one others)
 
 -- the numbers of which a relay answered true
 abbrev pub agreed : {R : Type 0} → List (DispositionQuestion R) → List ℕ

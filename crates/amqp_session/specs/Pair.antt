@@ -69,7 +69,7 @@ Said = Result (Unit {0}) SessionInnerError
 abbrev pub Effect : Type 0 → Type 1
 Effect R = SessionView R → List SessionFrame → Said → SessionView R → List SessionFrame → Type 0
 
--- The session makes a call, and what it hands out goes behind the frames on the way to the other side.
+-- The session makes a call, and what it hands out goes after the frames on the way to the other side.
 abbrev pub Makes : {R : Type 0} → Relays R → SessionView R → List SessionFrame → SessionCall R → SessionView R → List SessionFrame → Type 0
 Makes g v going e w going' = SessionStep g v e w × (going' ≡ going ++ call_frames e)
 

@@ -32,7 +32,7 @@ abbrev pub received : {R : Type 0} → List (SessionCall R) → List SessionFram
 received [] = []
 received (c ∷ cs) = received_by c ++ received cs
 
--- One side's session makes these calls: what they take comes off the way to it, from the front, and what they hand out goes behind
+-- One side's session makes these calls: what they take comes off the way to it, from the front, and what they hand out goes after
 -- what is on the way to the other.
 abbrev pub MovesAt : {R : Type 0} → Relays R → List (SessionCall R) → SessionView R → List SessionFrame → List SessionFrame →
     SessionView R → List SessionFrame → List SessionFrame → Type 0
@@ -68,7 +68,7 @@ abbrev pub calls_by : {R : Type 0} → Side → List (PairCall R) → List (Sess
 calls_by side [] = []
 calls_by side (e ∷ H) = own side e.side e.calls ++ calls_by side H
 
--- What each side sent is what the other received, and behind it what is still on the way: in order, and each frame once.
+-- What each side sent is what the other received, and after it what is still on the way: in order, and each frame once.
 pub record ArrivesInOrder {R : Type 0} (H : List (PairCall R)) (p : PairView R) : Type 0 where
   pub to_b : bodies (calls_frames (calls_by A H)) ≡ received (calls_by B H) ++ bodies p.to_b
   pub to_a : bodies (calls_frames (calls_by B H)) ≡ received (calls_by A H) ++ bodies p.to_a

@@ -21,7 +21,7 @@ abbrev pub has_kind : {R : Type 0} → (SessionCall R → Bool) → List (Sessio
 has_kind kind [] = false
 has_kind kind (e ∷ es) = if kind e then true else has_kind kind es
 
--- those behind the last one of the kind; all, where there is none
+-- those after the last one of the kind; all, where there is none
 abbrev pub since : {R : Type 0} → (SessionCall R → Bool) → List (SessionCall R) → List (SessionCall R)
 since kind [] = []
 since kind (e ∷ es) = if has_kind kind es then since kind es else (if kind e then es else e ∷ es)

@@ -15,7 +15,7 @@ pub record SendingView : Type 0 where
 abbrev pub new_sending : ℕ → SendingView
 new_sending n = record { next_outgoing_id = n; remote_incoming_window = 0; next_delivery = 0; held = [] }
 
--- a transfer waits behind the others
+-- a transfer waits after the others
 abbrev pub joined : SendingView → RequestedTransfer → SendingView
 joined v h = record v { held = v.held ++ h ∷ [] }
 

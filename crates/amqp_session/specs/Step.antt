@@ -110,7 +110,7 @@ TakeEndStep v e (Err (Begins.ConnectionStopped r)) w = ⊥
 abbrev pub IsUntagged : RequestedTransfer → Type 0
 IsUntagged h = (h.is_first ≡ true) × (h.transfer.delivery_tag ≡ None)
 
--- the session with the transfer behind those that wait
+-- the session with the transfer after those that wait
 abbrev pub waits : {R : Type 0} → SessionView R → RequestedTransfer → SessionView R
 waits v h = record v { sending = joined v.sending h }
 
@@ -144,7 +144,7 @@ flow_moved v f = record v {
   receiving = numbered_anew f.next_outgoing_id f.outgoing_window v.receiving;
 }
 
--- What goes out then: the relay's flow first, and behind it what the new window lets out. The flow says the numbers from
+-- What goes out then: the relay's flow first, and after it what the new window lets out. The flow says the numbers from
 -- before.
 abbrev pub FlowGoes : {R : Type 0} → SessionView R → Option LinkFlow → Option SessionOutgoingItem → SessionView R → Type 0
 FlowGoes v echo item w = HandsOut (is_some_list (lets v)) (first_frame (option_map (flow_frame v) echo) ++ lets v) item × (w ≡ let_gone v)

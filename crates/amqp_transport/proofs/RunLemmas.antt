@@ -1,4 +1,4 @@
--- Runs of a transport, one behind the other: the inputs that they took, and the history that goes on by them.
+-- Runs of a transport, one after the other: the inputs that they took, and the history that goes on by them.
 use Rattle.std.proofs.Common.{◌≡◌, ℕ, List, [], ◌∷◌, ◌++◌, true, Result, Ok, Err, OnOk, refl, ap, sym, subst, ◌∙◌, append_assoc}
 use Rattle.std.proofs.lemmas.List.{append-nil}
 use Rattle.amqp_types.specs.declared.states.ConnectionState.{ConnectionState}

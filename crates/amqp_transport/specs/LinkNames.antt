@@ -9,7 +9,7 @@ abbrev pub mark : Role → ℕ
 mark Sender = 0x73
 mark Receiver = 0x72
 
--- a name as it is kept: behind the mark of its role
+-- a name as it is kept: after the mark of its role
 abbrev pub marked : Role → List ℕ → List ℕ
 marked role name = mark role ∷ name
 

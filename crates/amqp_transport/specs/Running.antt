@@ -22,7 +22,7 @@ abbrev pub one_more : {R : Type 0} → Bool → List ℕ → List (Input R)
 one_more true frame = input.Received frame ∷ []
 one_more false frame = []
 
--- the inputs that were left, and behind them the frame that was read, if one was, were taken
+-- the inputs that were left, and after them the frame that was read, if one was, were taken
 abbrev pub ReceivesAll : {R : Type 0} → Relays R → EngineView R → List (Input R) → EngineView R → List (Input R) → Bool → Type 0
 ReceivesAll g v inputs w left is_some = (frame : List ℕ) × TakesAll g v (inputs ++ one_more is_some frame) w left
 

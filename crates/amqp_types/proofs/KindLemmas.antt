@@ -6,7 +6,7 @@ use Rattle.amqp_values.proofs.ReaderLemmas.{bind_some, pair_is, some_is, chosen}
 use Rattle.amqp_values.proofs.CompositeLemmas.{descriptor_found, descriptor_again, no_descriptor}
 use Rattle.amqp_types.specs.declared.performatives.kind.Kind.{Kind}
 use Rattle.amqp_types.specs.declared.performatives.kind.Kind.TheVariants.{Open, Begin, Attach, Flow, Transfer, Disposition, Detach, End, Close}
-use Rattle.amqp_types.specs.Kinds.{code_of, IsKind, kind_of, kind_behind, kind_at}
+use Rattle.amqp_types.specs.Kinds.{code_of, IsKind, kind_of, kind_after, kind_at}
 
 coded : (n m : ℕ) (j k : Kind) → eqb n m ≡ true → m ≡ code_of j → Some j ≡ Some k → n ≡ code_of k
 coded n m j k t c e = eqb-true n m t ∙ c ∙ ap code_of (some_is j k e)
@@ -58,7 +58,7 @@ kind_known Close = refl
 pub kind_found : (bytes : List ℕ) (k : Kind) (rest : List ℕ) → kind_at bytes ≡ Some (k, rest) → (text : List ℕ) × IsKind k text × (bytes ≡ text ++ rest)
 unfolding kind_at
 kind_found bytes k rest e =
-    let d = bind_some (descriptor_at bytes) kind_behind (k, rest) e in
+    let d = bind_some (descriptor_at bytes) kind_after (k, rest) e in
     let b = bind_some (kind_of d.0.0) (λ j. Some (j, d.0.1)) (k, rest) d.2 in
     let s = pair_is b.0 k d.0.1 rest b.2 in
     let f = descriptor_found bytes d.0.1 d.0.0 d.1 in

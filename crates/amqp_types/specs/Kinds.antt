@@ -37,11 +37,11 @@ kind_of code =
     else if code == 0x18 then Some Close
     else None
 
-abbrev pub kind_behind : ℕ × List ℕ → Option (Kind × List ℕ)
-kind_behind d = kind_of d.0 >>= λ k. Some (k, d.1)
+abbrev pub kind_after : ℕ × List ℕ → Option (Kind × List ℕ)
+kind_after d = kind_of d.0 >>= λ k. Some (k, d.1)
 
 unfoldable pub kind_at : List ℕ → Option (Kind × List ℕ)
-kind_at bytes = descriptor_at bytes >>= kind_behind
+kind_at bytes = descriptor_at bytes >>= kind_after
 
 -- a kind is read exactly off its descriptors
 abbrev pub KindsAreRead : Type 0

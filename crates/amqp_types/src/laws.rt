@@ -23,7 +23,7 @@ pub fn kinds_are_read()
     ensures { KindsAreRead }
 {}
 
-/// The list behind a descriptor is read exactly by the table of its kind.
+/// The list after a descriptor is read exactly by the table of its kind.
 pub fn lists_are_read()
     ensures { ListsAreRead }
 {}

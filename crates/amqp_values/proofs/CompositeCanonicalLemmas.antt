@@ -18,10 +18,10 @@ list_with parts few fits = elim (yes_or_no (ltb (length (joined parts)) 255)) [
   | inr t ↦
       let count = to_be_bytes w32 (length parts) in
       let size = length (joined parts) + 4 in
-      let behind = length-append count (joined parts) in
+      let after = length-append count (joined parts) in
       let whole : Fits (0xd0 ∷ to_be_bytes w32 size ++ count ++ joined parts) = rw t at fits in
       let small : size < 2 ^ 32 = omega (arith, length-append (to_be_bytes w32 size ++ count) (joined parts), length-append (to_be_bytes w32 size) count, whole) in
-      let same : size ≡ length (count ++ joined parts) = omega (arith, behind) in
+      let same : size ≡ length (count ++ joined parts) = omega (arith, after) in
       let size_is : IsNumber true (to_be_bytes w32 size) (length (count ++ joined parts)) = subst (λ m. IsNumber true (to_be_bytes w32 size) m) same (number_canonical true size small) in
       rw t (list true (to_be_bytes w32 size) count parts size_is (number_canonical true (length parts) (omega arith)))
 ]

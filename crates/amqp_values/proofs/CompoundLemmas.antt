@@ -29,8 +29,8 @@ pub record Framed (l : Level) (k : FormatClass) (wide : Bool) (bytes rest : List
   pub inside_is : inside l k n body ≡ Some []
   pub whole : bytes ≡ (size ++ (count ++ body)) ++ rest
 
-framed : (size inner body bytes behind rest : List ℕ) → bytes ≡ (size ++ inner) ++ behind → inner ≡ body → behind ≡ rest → bytes ≡ (size ++ body) ++ rest
-framed size inner body bytes behind rest e f g = e ∙ ap (λ (x : List ℕ). (size ++ x) ++ behind) f ∙ ap (λ (x : List ℕ). (size ++ body) ++ x) g
+framed : (size inner body bytes after rest : List ℕ) → bytes ≡ (size ++ inner) ++ after → inner ≡ body → after ≡ rest → bytes ≡ (size ++ body) ++ rest
+framed size inner body bytes after rest e f g = e ∙ ap (λ (x : List ℕ). (size ++ x) ++ after) f ∙ ap (λ (x : List ℕ). (size ++ body) ++ x) g
 
 pub compound_found : (l : Level) (k : FormatClass) (wide : Bool) (bytes rest : List ℕ) → compound_of (Some l) k wide bytes ≡ Some rest → Framed l k wide bytes rest
 compound_found l k wide bytes rest e =

@@ -84,32 +84,32 @@ unfolding constructor_of
 constructor_fails b zero bytes e = refl
 constructor_fails b (suc n) bytes e = rw e refl
 
-pub constructor_holds : (b : Option Level) (n c : ℕ) (bytes behind : List ℕ) → 0 < n → byte_at bytes ≡ Some (c, behind) → c ≢ 0 → may_hold b (class_of c) ≡ true → constructor_of b n bytes ≡ Some behind
+pub constructor_holds : (b : Option Level) (n c : ℕ) (bytes after : List ℕ) → 0 < n → byte_at bytes ≡ Some (c, after) → c ≢ 0 → may_hold b (class_of c) ≡ true → constructor_of b n bytes ≡ Some after
 unfolding constructor_of
-constructor_holds b zero c bytes behind lt e nz m = absurd (omega arith)
-constructor_holds b (suc n) c bytes behind lt e nz m = let z : eqb c 0 ≡ false = ne_eqb _ _ nz in rw (e, z, m) refl
+constructor_holds b zero c bytes after lt e nz m = absurd (omega arith)
+constructor_holds b (suc n) c bytes after lt e nz m = let z : eqb c 0 ≡ false = ne_eqb _ _ nz in rw (e, z, m) refl
 
-pub constructor_holds_not : (b : Option Level) (n c : ℕ) (bytes behind : List ℕ) → byte_at bytes ≡ Some (c, behind) → c ≢ 0 → may_hold b (class_of c) ≡ false → constructor_of b n bytes ≡ None
+pub constructor_holds_not : (b : Option Level) (n c : ℕ) (bytes after : List ℕ) → byte_at bytes ≡ Some (c, after) → c ≢ 0 → may_hold b (class_of c) ≡ false → constructor_of b n bytes ≡ None
 unfolding constructor_of
-constructor_holds_not b zero c bytes behind e nz m = refl
-constructor_holds_not b (suc n) c bytes behind e nz m = let z : eqb c 0 ≡ false = ne_eqb _ _ nz in rw (e, z, m) refl
+constructor_holds_not b zero c bytes after e nz m = refl
+constructor_holds_not b (suc n) c bytes after e nz m = let z : eqb c 0 ≡ false = ne_eqb _ _ nz in rw (e, z, m) refl
 
-pub constructor_ground : (n c : ℕ) (bytes behind : List ℕ) → byte_at bytes ≡ Some (c, behind) → c ≡ 0 → constructor_of None n bytes ≡ None
+pub constructor_ground : (n c : ℕ) (bytes after : List ℕ) → byte_at bytes ≡ Some (c, after) → c ≡ 0 → constructor_of None n bytes ≡ None
 unfolding constructor_of
-constructor_ground zero c bytes behind e z = refl
-constructor_ground (suc n) c bytes behind e z = let t : eqb c 0 ≡ true = eq-eqb _ _ z in rw (e, t) refl
+constructor_ground zero c bytes after e z = refl
+constructor_ground (suc n) c bytes after e z = let t : eqb c 0 ≡ true = eq-eqb _ _ z in rw (e, t) refl
 
-pub constructor_value_fails : (b : Option Level) (n c : ℕ) (bytes behind : List ℕ) → byte_at bytes ≡ Some (c, behind) → c ≡ 0 → value_of b behind ≡ None → constructor_of b n bytes ≡ None
+pub constructor_value_fails : (b : Option Level) (n c : ℕ) (bytes after : List ℕ) → byte_at bytes ≡ Some (c, after) → c ≡ 0 → value_of b after ≡ None → constructor_of b n bytes ≡ None
 unfolding constructor_of
-constructor_value_fails b zero c bytes behind e z v = refl
-constructor_value_fails None (suc n) c bytes behind e z v = let t : eqb c 0 ≡ true = eq-eqb _ _ z in rw (e, t) refl
-constructor_value_fails (Some l) (suc n) c bytes behind e z v = let t : eqb c 0 ≡ true = eq-eqb _ _ z in rw (e, t, v) refl
+constructor_value_fails b zero c bytes after e z v = refl
+constructor_value_fails None (suc n) c bytes after e z v = let t : eqb c 0 ≡ true = eq-eqb _ _ z in rw (e, t) refl
+constructor_value_fails (Some l) (suc n) c bytes after e z v = let t : eqb c 0 ≡ true = eq-eqb _ _ z in rw (e, t, v) refl
 
-pub constructor_more : (b : Option Level) (n i c : ℕ) (bytes behind rest : List ℕ) → i < n → is_ground b ≡ false → byte_at bytes ≡ Some (c, behind) → c ≡ 0 → value_of b behind ≡ Some rest
+pub constructor_more : (b : Option Level) (n i c : ℕ) (bytes after rest : List ℕ) → i < n → is_ground b ≡ false → byte_at bytes ≡ Some (c, after) → c ≡ 0 → value_of b after ≡ Some rest
     → constructor_of b (n - (i + 1)) rest ≡ constructor_of b (n - i) bytes
 unfolding constructor_of
-constructor_more None n i c bytes behind rest lt g e z v = absurd cc
-constructor_more (Some l) n i c bytes behind rest lt g e z v =
+constructor_more None n i c bytes after rest lt g e z v = absurd cc
+constructor_more (Some l) n i c bytes after rest lt g e z v =
     let t : eqb c 0 ≡ true = eq-eqb _ _ z in
     let k : n - i ≡ suc (n - (i + 1)) = omega arith in
     rw (k, e, t, v) refl

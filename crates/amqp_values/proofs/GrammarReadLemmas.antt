@@ -37,29 +37,29 @@ step_value : (d : ℕ) (c : ℕ) (bytes : List ℕ) → eqb c 0 ≡ false → va
 unfolding value_of
 step_value d c bytes e = rw e refl
 
-step_described : (d : ℕ) (bytes behind : List ℕ) → value_of (under d) bytes ≡ Some behind → value_of (under (suc d)) (0x00 ∷ bytes) ≡ value_of (under d) behind
+step_described : (d : ℕ) (bytes after : List ℕ) → value_of (under d) bytes ≡ Some after → value_of (under (suc d)) (0x00 ∷ bytes) ≡ value_of (under d) after
 unfolding value_of under
-step_described d bytes behind e = rw e refl
+step_described d bytes after e = rw e refl
 
 step_run : (d c n : ℕ) (bytes : List ℕ) → eqb c 0 ≡ false → elements_of (under d) n (c ∷ bytes) ≡ repeat n (data_of (under d) (class_of c)) bytes
 unfolding elements_of run_of
 step_run d c n bytes e = rw e refl
 
-step_elements : (d n : ℕ) (bytes behind : List ℕ) → value_of (under d) bytes ≡ Some behind → elements_of (under (suc d)) n (0x00 ∷ bytes) ≡ elements_of (under d) n behind
+step_elements : (d n : ℕ) (bytes after : List ℕ) → value_of (under d) bytes ≡ Some after → elements_of (under (suc d)) n (0x00 ∷ bytes) ≡ elements_of (under d) n after
 unfolding elements_of under
-step_elements d n bytes behind e = rw e refl
+step_elements d n bytes after e = rw e refl
 
-step_repeat : (n : ℕ) (f : List ℕ → Option (List ℕ)) (bytes behind : List ℕ) → f bytes ≡ Some behind → repeat (suc n) f bytes ≡ repeat n f behind
+step_repeat : (n : ℕ) (f : List ℕ → Option (List ℕ)) (bytes after : List ℕ) → f bytes ≡ Some after → repeat (suc n) f bytes ≡ repeat n f after
 unfolding repeat
-step_repeat n f bytes behind e = rw e refl
+step_repeat n f bytes after e = rw e refl
 
 repeat_none : (f : List ℕ → Option (List ℕ)) (bytes : List ℕ) → repeat zero f bytes ≡ Some bytes
 unfolding repeat
 repeat_none f bytes = refl
 
-step_constructor : (d n : ℕ) (bytes behind : List ℕ) → value_of (under (suc d)) bytes ≡ Some behind → constructor_of (under (suc d)) (suc n) (0x00 ∷ bytes) ≡ constructor_of (under (suc d)) n behind
+step_constructor : (d n : ℕ) (bytes after : List ℕ) → value_of (under (suc d)) bytes ≡ Some after → constructor_of (under (suc d)) (suc n) (0x00 ∷ bytes) ≡ constructor_of (under (suc d)) n after
 unfolding constructor_of under
-step_constructor d n bytes behind e = rw e refl
+step_constructor d n bytes after e = rw e refl
 
 -- ---- the data of each kind
 
@@ -114,7 +114,7 @@ step_bare d wide size count rest s c =
     let size_is : IsNumber wide size (length (count ++ [])) = subst (λ (x : List ℕ). IsNumber wide size (length x)) (sym whole) s in
     ap (λ (x : List ℕ). compound_of (Some (level d)) (class.Array wide) wide ((size ++ x) ++ rest)) (sym whole) ∙ compound_again (level d) (class.Array wide) wide size count [] rest 0 size_is c refl
 
--- ---- constructors with no data behind them
+-- ---- constructors with no data after them
 
 holds_plain : (b : Option Level) (k : FormatClass) → IsPlain k → may_hold b k ≡ true
 holds_plain None (class.Fixed n) h = refl

@@ -53,14 +53,14 @@ cut_is text rest =
 pub shorter : (bytes rest : List ℕ) → value_at 64 bytes ≡ Some rest → length rest ≤ length bytes
 shorter bytes rest e = let f = value_reads 64 bytes rest e in omega (arith, ap length f.2, length-append f.0 rest)
 
-pub raw_is : (bytes rest : List ℕ) (c : ℕ) (behind : List ℕ) → value_at 64 bytes ≡ Some rest → byte_at bytes ≡ Some (c, behind) → c ≢ 0x40
+pub raw_is : (bytes rest : List ℕ) (c : ℕ) (after : List ℕ) → value_at 64 bytes ≡ Some rest → byte_at bytes ≡ Some (c, after) → c ≢ 0x40
     → IsRaw (take (length bytes - length rest) bytes) × (bytes ≡ take (length bytes - length rest) bytes ++ rest) × (drop (length bytes - length rest) bytes ≡ rest)
-raw_is bytes rest c behind e b ne =
+raw_is bytes rest c after e b ne =
     let f = value_reads 64 bytes rest e in
     let cut : take (length bytes - length rest) bytes ≡ f.0 = ap (λ (x : List ℕ). take (length x - length rest) x) f.2 ∙ (cut_is f.0 rest).0 in
     let left : drop (length bytes - length rest) bytes ≡ rest = ap (λ (x : List ℕ). drop (length x - length rest) x) f.2 ∙ (cut_is f.0 rest).1 in
     let other : f.0 ≢ 0x40 ∷ [] = λ null.
-    let same : c ∷ behind ≡ 0x40 ∷ rest = sym (byte_found bytes c behind b) ∙ f.2 ∙ ap (λ (x : List ℕ). x ++ rest) null in
+    let same : c ∷ after ≡ 0x40 ∷ rest = sym (byte_found bytes c after b) ∙ f.2 ∙ ap (λ (x : List ℕ). x ++ rest) null in
     let code : c ≡ 0x40 = cc in ne code in
     (subst IsRaw (sym cut) (record { value = f.1; not_null = other }), f.2 ∙ ap (λ (x : List ℕ). x ++ rest) (sym cut), left)
 

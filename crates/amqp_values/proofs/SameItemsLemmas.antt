@@ -31,7 +31,7 @@ same_parts m n xs ys a b =
     back h = (a.count ∙ ap length h ∙ sym b.count, a.whole ∙ ap joined h ∙ sym b.whole)
 
 -- where the numbers are the same, the bytes decide
-pub same_behind : (m n : ℕ) (xs ys : List ℕ) (r : Bool) → AllParts m xs → AllParts n ys → m ≡ n → r ≡ pointwise nat_eq xs ys
+pub same_after : (m n : ℕ) (xs ys : List ℕ) (r : Bool) → AllParts m xs → AllParts n ys → m ≡ n → r ≡ pointwise nat_eq xs ys
     → r ≡ pointwise (pointwise nat_eq) (parts_at m xs) (parts_at n ys)
-same_behind m n xs ys r a b same e =
+same_after m n xs ys r a b same e =
     e ∙ ap (λ (t : Bool). t && pointwise nat_eq xs ys) (sym ((Decides-eqb m n).1 same)) ∙ same_parts m n xs ys a b

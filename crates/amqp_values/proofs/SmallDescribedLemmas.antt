@@ -14,7 +14,7 @@ all_of : (rest : List ℕ) → take (length rest) rest ≡ rest
 all_of [] = refl
 all_of (x ∷ xs) = ap (λ ys. x ∷ ys) (all_of xs)
 
--- what is left behind it
+-- what is left after it
 pub bare_is_read : (depth : ℕ) (bytes : List ℕ) → 4 ≤ length bytes → slice_index_or bytes 0 0 ≡ 0 → slice_index_or bytes 1 0 ≡ 0x53
     → slice_index_or bytes 3 0 ≡ 0x45 → 1 < depth → Some (take (length bytes - 4) (drop 4 bytes)) ≡ value_at depth bytes
 bare_is_read depth [] long a b d lt = absurd (omega arith)

@@ -28,10 +28,10 @@ array_is wide long items h fits =
     let count = number_text wide (length items) in
     let body = symbols_body long items in
     let size = length count + length body in
-    let behind = length-append count body in
+    let after = length-append count body in
     let whole = length-append (number_text wide size) (count ++ body) in
-    let small : size < 2 ^ 32 = omega (arith, behind, whole, fits) in
-    let size_is : IsNumber wide (number_text wide size) (length (count ++ body)) = subst (λ m. IsNumber wide (number_text wide size) m) (sym behind) (number_canonical wide size small) in
+    let small : size < 2 ^ 32 = omega (arith, after, whole, fits) in
+    let size_is : IsNumber wide (number_text wide size) (length (count ++ body)) = subst (λ m. IsNumber wide (number_text wide size) m) (sym after) (number_canonical wide size small) in
     let count_is : IsNumber wide count (length items) = number_canonical wide (length items) (omega (arith, few long items, small)) in
     array wide long (number_text wide size) count items (run_text long items) size_is count_is (run_is long items h)
 

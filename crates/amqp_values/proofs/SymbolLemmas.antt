@@ -55,7 +55,7 @@ unfolding run_at
 run_again long _ _ no_symbols = refl
 run_again long _ _ (more_symbols len s others text h a r) = rw (item_again long len s text h a, run_again long others text r) refl
 
--- the region of an array behind its count
+-- the region of an array after its count
 pub data IsAll : List (List ℕ) → List ℕ → Type 0 where
   with_constructor : (long : Bool) (items : List (List ℕ)) (text : List ℕ) → IsRun long items text → IsAll items (by_width long 0xa3 0xb3 ∷ text)
   without : IsAll [] []

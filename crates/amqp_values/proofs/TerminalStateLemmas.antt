@@ -148,6 +148,6 @@ terminal_by bytes descriptor inner h r e = (to, from)
     from : IsTerminal bytes → r ≡ true
     from t =
         let joins : ◌≡◌ {A = List ℕ} (0x00 ∷ t.descriptor ++ t.inner) (0x00 ∷ descriptor ++ inner) = sym t.described.whole ∙ h.whole in
-        let behind : t.descriptor ++ t.inner ≡ descriptor ++ inner = cc in
-        let front = one_front 64 t.descriptor descriptor t.inner inner t.described.descriptor_is h.descriptor_is behind in
+        let after : t.descriptor ++ t.inner ≡ descriptor ++ inner = cc in
+        let front = one_front 64 t.descriptor descriptor t.inner inner t.described.descriptor_is h.descriptor_is after in
         e ∙ ap stands_for_outcome (sym front.0) ∙ stands_again t.number t.name t.descriptor t.stands t.outcome

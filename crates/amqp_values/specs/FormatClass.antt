@@ -1,5 +1,5 @@
 -- Part: the bytes.
--- The kinds of constructors: which data each format code has behind it.
+-- The classes of format codes: which data stand after each.
 use Rattle.std.specs.Prelude.{ℕ, Bool, true, false, nat_le, ◌&&◌, ◌||◌, ◌==◌, if◌then◌else◌}
 use Rattle.amqp_values.specs.declared.format_class.FormatClass.{FormatClass}
 use Rattle.amqp_values.specs.declared.format_class.FormatClass.TheVariants.{Fixed, Flag, Variable, List0, List, Map, Array, Unknown}
@@ -7,7 +7,7 @@ use Rattle.amqp_values.specs.declared.format_class.FormatClass.TheVariants.{Fixe
 abbrev pub between : ℕ → ℕ → ℕ → Bool
 between low high code = nat_le low code && nat_le code high
 
--- what stands behind each format code
+-- what stands after each format code
 abbrev pub class_of : ℕ → FormatClass
 class_of code =
     if between 0x40 0x44 code then Fixed 0 else

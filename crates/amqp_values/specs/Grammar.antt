@@ -17,7 +17,7 @@ mutual
     plain : (d code : ℕ) (bytes : List ℕ) → Data d (class_of code) bytes → IsValue d (code ∷ bytes)
     described : (d : ℕ) (descriptor value : List ℕ) → IsValue d descriptor → IsValue d value → IsValue (suc d) (0x00 ∷ descriptor ++ value)
 
-  -- the data behind a constructor of this kind
+  -- the data after a format code of this class
   pub data Data : ℕ → FormatClass → List ℕ → Type 0 where
     fixed : (d : ℕ) (bytes : List ℕ) → Data d (class.Fixed (length bytes)) bytes
     flag : (d b : ℕ) → b < 2 → Data d class.Flag (b ∷ [])
@@ -44,14 +44,14 @@ mutual
     no_values : (d : ℕ) → Values d []
     more_values : (d : ℕ) (part : List ℕ) (parts : List (List ℕ)) → IsValue d part → Values d parts → Values d (part ∷ parts)
 
-  -- one or more data behind one constructor: each of them, with that constructor before it, is a value
+  -- one or more data after one constructor: each of them, with that constructor before it, is a value
   pub data Elements : ℕ → List ℕ → List (List ℕ) → Type 0 where
     plain_elements : (d code : ℕ) (elements : List (List ℕ)) → Run d (class_of code) elements → Elements d (code ∷ []) elements
     described_elements : (d : ℕ) (descriptor constructor : List ℕ) (elements : List (List ℕ)) → IsValue d descriptor
         → Elements d constructor elements
         → Elements (suc d) (0x00 ∷ descriptor ++ constructor) elements
 
-  -- one or more data of this kind, one behind the other
+  -- one or more data of this class, one after the other
   pub data Run : ℕ → FormatClass → List (List ℕ) → Type 0 where
     last : (d : ℕ) (k : FormatClass) (bytes : List ℕ) → Data d k bytes → Run d k (bytes ∷ [])
     next : (d : ℕ) (k : FormatClass) (bytes : List ℕ) (others : List (List ℕ)) → Data d k bytes → Run d k others → Run d k (bytes ∷ others)

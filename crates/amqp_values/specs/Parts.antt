@@ -9,7 +9,7 @@ use Rattle.amqp_values.specs.Reading.{◌>>=◌, byte_at, count_at, region_at, I
 use Rattle.amqp_values.specs.Walk.{value_at}
 use Rattle.amqp_values.specs.Grammar.{IsValue, Values}
 
--- The parts of a list or a map behind its constructor: as many as its count says, and joined they are the data after the
+-- The parts of a list or a map after its constructor: as many as its count says, and joined they are the data after the
 -- count. Those of a map are its keys and values in turn, so their number is even.
 pub data ItemsIn : FormatClass → List ℕ → List (List ℕ) → Type 0 where
   no_items : ItemsIn class.List0 [] []

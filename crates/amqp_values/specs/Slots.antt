@@ -13,7 +13,7 @@ abbrev pub Slot : (List ℕ → Type 0) → (List (List ℕ) → Type 0) → Lis
 Slot P Rest [] = P null × Rest []
 Slot P Rest (part ∷ parts) = P part × Rest parts
 
--- behind the last slot stands no further field
+-- after the last slot stands no further field
 abbrev pub NoMore : List (List ℕ) → Type 0
 NoMore parts = parts ≡ []
 
@@ -63,56 +63,56 @@ then_at first others p = first p >>= λ x. others x.1 >>= λ y. Some ((x.0, y.0)
 abbrev pub named_at : {V W : Type 0} → (V → W) → (ListReader → Option (V × ListReader)) → ListReader → Option (W × ListReader)
 named_at name at p = at p >>= λ x. Some (name x.0, x.1)
 
--- ---- the values of a table of fields: each beside those behind it
+-- ---- the values of a table of fields: each beside those after it
 
 abbrev pub beside : {V W : Type 0} → V → W → V × W
 beside v others = (v, others)
 
--- the first value, and the table of those behind it
+-- the first value, and the table of those after it
 abbrev pub slot0 : {V W : Type 0} → V × W → V
 slot0 table = table.0
 
-abbrev pub behind : {V W : Type 0} → V × W → W
-behind table = table.1
+abbrev pub after : {V W : Type 0} → V × W → W
+after table = table.1
 
 abbrev pub slot1 : {A V W : Type 0} → A × (V × W) → V
-slot1 table = slot0 (behind table)
+slot1 table = slot0 (after table)
 
 abbrev pub slot2 : {A B V W : Type 0} → A × (B × (V × W)) → V
-slot2 table = slot1 (behind table)
+slot2 table = slot1 (after table)
 
 abbrev pub slot3 : {A B C V W : Type 0} → A × (B × (C × (V × W))) → V
-slot3 table = slot2 (behind table)
+slot3 table = slot2 (after table)
 
 abbrev pub slot4 : {A B C D V W : Type 0} → A × (B × (C × (D × (V × W)))) → V
-slot4 table = slot3 (behind table)
+slot4 table = slot3 (after table)
 
 abbrev pub slot5 : {A B C D E V W : Type 0} → A × (B × (C × (D × (E × (V × W))))) → V
-slot5 table = slot4 (behind table)
+slot5 table = slot4 (after table)
 
 abbrev pub slot6 : {A B C D E F V W : Type 0} → A × (B × (C × (D × (E × (F × (V × W)))))) → V
-slot6 table = slot5 (behind table)
+slot6 table = slot5 (after table)
 
 abbrev pub slot7 : {A B C D E F G V W : Type 0} → A × (B × (C × (D × (E × (F × (G × (V × W))))))) → V
-slot7 table = slot6 (behind table)
+slot7 table = slot6 (after table)
 
 abbrev pub slot8 : {A B C D E F G H V W : Type 0} → A × (B × (C × (D × (E × (F × (G × (H × (V × W)))))))) → V
-slot8 table = slot7 (behind table)
+slot8 table = slot7 (after table)
 
 abbrev pub slot9 : {A B C D E F G H I V W : Type 0} → A × (B × (C × (D × (E × (F × (G × (H × (I × (V × W))))))))) → V
-slot9 table = slot8 (behind table)
+slot9 table = slot8 (after table)
 
 abbrev pub slot10 : {A B C D E F G H I J V W : Type 0} → A × (B × (C × (D × (E × (F × (G × (H × (I × (J × (V × W)))))))))) → V
-slot10 table = slot9 (behind table)
+slot10 table = slot9 (after table)
 
 abbrev pub slot11 : {A B C D E F G H I J K V W : Type 0}
     → A × (B × (C × (D × (E × (F × (G × (H × (I × (J × (K × (V × W))))))))))) → V
-slot11 table = slot10 (behind table)
+slot11 table = slot10 (after table)
 
 abbrev pub slot12 : {A B C D E F G H I J K L V W : Type 0}
     → A × (B × (C × (D × (E × (F × (G × (H × (I × (J × (K × (L × (V × W)))))))))))) → V
-slot12 table = slot11 (behind table)
+slot12 table = slot11 (after table)
 
 abbrev pub slot13 : {A B C D E F G H I J K L M V W : Type 0}
     → A × (B × (C × (D × (E × (F × (G × (H × (I × (J × (K × (L × (M × (V × W))))))))))))) → V
-slot13 table = slot12 (behind table)
+slot13 table = slot12 (after table)

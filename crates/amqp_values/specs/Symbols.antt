@@ -11,7 +11,7 @@ pub data IsRun (long : Bool) : List (List ℕ) → List ℕ → Type 0 where
       → IsRun long others text
       → IsRun long (s ∷ others) ((len ++ s) ++ text)
 
--- one symbol, an array of symbols, or an array of none that ends behind its count
+-- one symbol, an array of symbols, or an array of none that ends after its count
 pub data IsSymbols : List (List ℕ) → List ℕ → Type 0 where
   one_symbol : (long : Bool) (len s : List ℕ) → IsNumber long len (length s) → is_ascii s ≡ true
       → IsSymbols (s ∷ []) (by_width long 0xa3 0xb3 ∷ len ++ s)

@@ -1,5 +1,5 @@
 -- Part: other calls; inner.
--- What is left behind a value, if its depth keeps a limit.
+-- What is left after a value, if its depth keeps a limit.
 use Rattle.std.specs.Prelude.{ℕ, zero, suc, ◌%◌, List, length, Option, Some, None, Bool, true, false, nat_lt, ◌==◌, if◌then◌else◌}
 use Rattle.amqp_values.specs.declared.format_class.FormatClass.{FormatClass}
 use Rattle.amqp_values.specs.declared.format_class.FormatClass.TheVariants as class
@@ -20,7 +20,7 @@ pub record Level : Type 0 where
 abbrev pub ended : List ℕ → List ℕ → Option (List ℕ)
 ended rest left = if is_empty left then Some rest else None
 
--- what is left of a region behind its count
+-- what is left of a region after its count
 unfoldable pub inside : Level → FormatClass → ℕ → List ℕ → Option (List ℕ)
 inside l (class.List wide) count bytes = repeat count l.value bytes
 inside l (class.Map wide) count bytes = if count % 2 == 0 then repeat count l.value bytes else None
@@ -77,7 +77,7 @@ abbrev pub is_ground : Option Level → Bool
 is_ground None = true
 is_ground (Some l) = false
 
--- what is left behind the constructor of an array with no elements, by so many bytes at most
+-- what is left after the constructor of an array with no elements, by so many bytes at most
 unfoldable pub constructor_of : Option Level → ℕ → List ℕ → Option (List ℕ)
 constructor_of below zero bytes = None
 constructor_of below (suc n) bytes =
@@ -104,6 +104,6 @@ level d =
       constructor = λ bytes. constructor_of (under d) (length bytes) bytes;
     }
 
--- what is left behind a value of a depth of at most d
+-- what is left after a value of a depth of at most d
 unfoldable pub value_at : ℕ → List ℕ → Option (List ℕ)
 value_at d = value_of (under d)

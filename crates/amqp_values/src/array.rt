@@ -15,7 +15,7 @@ struct Layout {
     long: bool,
     /// The size and the count have four bytes each.
     wide: bool,
-    /// The length of all behind the count.
+    /// The length of all after the count.
     body: u128,
 }
 

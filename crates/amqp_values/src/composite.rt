@@ -49,7 +49,7 @@ fn list(bytes: &mut Bytes) -> Result<ListReader, ReadError>
     Ok(ListReader { left, bytes })
 }
 
-/// The composite whose list stands at the front, behind its descriptor.
+/// The composite whose list stands at the front, after its descriptor.
 #[tactic(auto, unfolding(crate::specs::Composite::composite_at))]
 #[inline(always)]
 pub fn read_list<C: Composite>(alloc: Global, bytes: &mut Bytes) -> Result<C, ReadError>

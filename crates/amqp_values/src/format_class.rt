@@ -1,9 +1,9 @@
-//! Kinds of constructors: what data stand behind each format code (AMQP 1.0 part 1, section 1.6).
+//! Classes of format codes: what data stand after each (AMQP 1.0 part 1, section 1.6).
 
 ghost use Rattle.std.specs.Prelude.{◌≡◌};
 ghost use Rattle.amqp_values.specs.FormatClass.{class_of};
 
-/// What stands behind a constructor. Where a kind is wide, its sizes, lengths and counts have four bytes, else one.
+/// What stands after a constructor. Where a class is wide, its sizes, lengths and counts have four bytes, else one.
 #[derive(Clone, Copy)]
 pub(crate) enum FormatClass {
     /// So many bytes.
@@ -24,7 +24,7 @@ pub(crate) enum FormatClass {
     Unknown,
 }
 
-/// The kind of a format code (part 1, section 1.6).
+/// The class of a format code (part 1, section 1.6).
 pub(crate) fn class_at(code: u8) -> FormatClass
     ensures { result ≡ class_of code }
 {

@@ -9,7 +9,7 @@ use crate::raw::Raw;
 use crate::walk::{first, region};
 
 /// Whether a delivery state is terminal: a described value whose descriptor is that of accepted, rejected, released or
-/// modified, by number or by name, in any spelling. No other value is terminal; the state received is not. The value behind
+/// modified, by number or by name, in any spelling. No other value is terminal; the state received is not. The value after
 /// the descriptor does not count (part 3, section 3.4).
 pub fn is_terminal(value: &Raw) -> bool
     ensures { IsTrue result ↔ IsTerminal value.now }

@@ -1,4 +1,4 @@
-//! Rows: the fields of a list, borrowed for writing, each beside those behind it.
+//! Rows: the fields of a list, borrowed for writing, each beside those after it.
 
 ghost use Rattle.std.specs.Prelude.{◌≡◌, ℕ, ◌+◌, ◌^◌, ◌<◌, ◌≤◌, List, [], ◌∷◌, ◌++◌, length, take, drop};
 ghost use Rattle.amqp_values.specs.Reading.{joined};
@@ -46,11 +46,11 @@ pub trait Row {
 #[derive(Drop)]
 pub struct NoMore;
 
-/// A field, and those behind it.
+/// A field, and those after it.
 #[derive(Drop)]
 pub struct Cons<T: Encode, R: Row>(pub T, pub R);
 
-/// Two fields, and those behind them. What is proved of a row takes twice as long for each level of its type, so rows of many
+/// Two fields, and those after them. What is proved of a row takes twice as long for each level of its type, so rows of many
 /// fields have two at a level.
 #[derive(Drop)]
 pub struct Cons2<A: Encode, B: Encode, R: Row>(pub A, pub B, pub R);
@@ -71,17 +71,17 @@ impl<A: Encode, B: Encode, R: Row> Model for Cons2<A, B, R> {
     ghost view = { λ r. A.text r.0 ∷ B.text r.1 ∷ R.texts r.2 };
 }
 
-/// How far a field reaches with those behind it, which reach so far.
+/// How far a field reaches with those after it, which reach so far.
 #[inline(always)]
-fn before<T: Encode>(field: &T, behind: Extent) -> Extent
-    requires many { behind.count < 2 ^ 32 }
-    requires long { T.most + behind.size < 2 ^ 127 }
-    ensures reach { (texts : List (List ℕ)) → behind.count ≡ length (trim texts) → behind.size ≡ length (joined (trim texts)) →
+fn before<T: Encode>(field: &T, after: Extent) -> Extent
+    requires many { after.count < 2 ^ 32 }
+    requires long { T.most + after.size < 2 ^ 127 }
+    ensures reach { (texts : List (List ℕ)) → after.count ≡ length (trim texts) → after.size ≡ length (joined (trim texts)) →
         (result.count ≡ length (trim (T.text field.now ∷ texts))) × (result.size ≡ length (joined (trim (T.text field.now ∷ texts)))) }
-    ensures few { result.count ≤ behind.count + 1 }
-    ensures small { result.size ≤ T.most + behind.size }
+    ensures few { result.count ≤ after.count + 1 }
+    ensures small { result.size ≤ T.most + after.size }
 {
-    let Extent { count, size } = behind;
+    let Extent { count, size } = after;
     if count == 0 && field.is_null() {
         return Extent { count, size };
     }
@@ -131,23 +131,23 @@ impl<A: Encode, B: Encode, R: Row> Row for Cons2<A, B, R> {
 
     #[inline(always)]
     fn extent(&self) -> Extent {
-        let behind = before(&self.1, self.2.extent());
-        before(&self.0, behind)
+        let after = before(&self.1, self.2.extent());
+        before(&self.0, after)
     }
 
     #[inline(always)]
     fn put(&self, count: usize, out: &mut BytesMut) {
         if count > 0 {
             self.0.put(out);
-            self.put_behind(count - 1, out);
+            self.put_after(count - 1, out);
         }
     }
 }
 
 impl<A: Encode, B: Encode, R: Row> Cons2<A, B, R> {
-    /// Appends the texts of the first `count` fields behind the first one, to a buffer that has room for them.
+    /// Appends the texts of the first `count` fields after the first one, to a buffer that has room for them.
     #[inline(always)]
-    fn put_behind(&self, count: usize, out: &mut BytesMut)
+    fn put_after(&self, count: usize, out: &mut BytesMut)
         requires room { length (joined (take count (drop 1 self.now))) ≤ out.old.spare }
         requires fits { length (joined (take count (drop 1 self.now))) < 2 ^ 32 }
         ensures items { out.new.items ≡ out.old.items ++ joined (take count (drop 1 self.now)) }
@@ -207,5 +207,5 @@ pub type Row12<T> = Cons2<T, T, Row10<T>>;
 /// Fourteen fields of one type.
 pub type Row14<T> = Cons2<T, T, Row12<T>>;
 
-/// Four fields, and those behind them.
+/// Four fields, and those after them.
 pub type Cons4<A, B, C, D, R> = Cons2<A, B, Cons2<C, D, R>>;

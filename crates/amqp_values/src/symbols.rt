@@ -38,14 +38,14 @@ fn item_text(long: bool, bytes: &[u8]) -> Option<(&[u8], &[u8])>
     }
 }
 
-/// Whether the bytes are `count` symbols, and nothing behind them. Takes no memory.
+/// Whether the bytes are `count` symbols, and nothing after them. Takes no memory.
 fn is_run(count: u32, long: bool, bytes: &[u8]) -> bool
     ensures { result ≡ is_some (run_at count long bytes.now) }
 {
     let mut rest = bytes;
     for _ in 0..count {
         match item_text(long, rest) {
-            Some((_, behind)) => rest = behind,
+            Some((_, after)) => rest = after,
             None => return false,
         }
     }
@@ -82,7 +82,7 @@ fn run(alloc: Global, count: u32, long: bool, bytes: Bytes) -> Result<Vec<Symbol
     fill(alloc, count, long, bytes)
 }
 
-/// Reads the region of an array behind its count.
+/// Reads the region of an array after its count.
 #[tactic(auto, unfolding(crate::specs::Symbols::all_at))]
 fn all(alloc: Global, count: u32, bytes: Bytes) -> Result<Vec<Symbol>, ReadError>
     ensures value { Answers (λ v. v.items) result (all_at count bytes) }

@@ -11,7 +11,7 @@ use crate::field::Field;
 use bytes::Bytes;
 use std::alloc::Global;
 
-/// A length and that many bytes, behind the short code or the long one.
+/// A length and that many bytes, after the short code or the long one.
 #[tactic(auto, unfolding(crate::specs::Text::var_at))]
 #[inline]
 pub(crate) fn variable(bytes: &mut Bytes, short: u8, long: u8) -> Result<Bytes, ReadError>

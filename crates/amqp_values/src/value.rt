@@ -158,7 +158,7 @@ fn halves(bytes: &[u8]) -> Option<(&[u8], &[u8])>
     if code == 0 { front(data) } else { None }
 }
 
-/// The first value, and what stands behind it.
+/// The first value, and what stands after it.
 #[tactic(auto, unfolding(crate::specs::Parts::front_at))]
 fn front(bytes: &[u8]) -> Option<(&[u8], &[u8])>
     ensures { option_map (λ x. (x.0.now, x.1.now)) result ≡ front_at bytes.now }

@@ -60,7 +60,7 @@ pub(crate) fn region(wide: bool, bytes: &[u8]) -> Option<(&[u8], &[u8])>
     cut(len as usize, rest)
 }
 
-/// The bytes behind the first value, if its depth is at most `depth`.
+/// The bytes after the first value, if its depth is at most `depth`.
 #[cycle(walk)]
 #[tactic(auto, unfolding(crate::specs::Walk::value_of))]
 fn value(bytes: &[u8], depth: u8) -> Option<&[u8]>
@@ -77,7 +77,7 @@ fn value(bytes: &[u8], depth: u8) -> Option<&[u8]>
     value(rest, depth - 1)
 }
 
-/// The bytes behind the data of one value of this kind.
+/// The bytes after the data of one value of this class.
 #[cycle(walk)]
 #[tactic(auto, unfolding(crate::specs::Walk::data_of))]
 fn data(class: FormatClass, bytes: &[u8], depth: u8) -> Option<&[u8]>
@@ -105,7 +105,7 @@ fn data(class: FormatClass, bytes: &[u8], depth: u8) -> Option<&[u8]>
     }
 }
 
-/// The bytes behind a size, a count and the parts or elements, which have to fill the size exactly.
+/// The bytes after a size, a count and the parts or elements, which have to fill the size exactly.
 #[cycle(walk)]
 #[tactic(auto, unfolding(crate::specs::Walk::inside))]
 fn compound(class: FormatClass, wide: bool, bytes: &[u8], depth: u8) -> Option<&[u8]>
@@ -121,7 +121,7 @@ fn compound(class: FormatClass, wide: bool, bytes: &[u8], depth: u8) -> Option<&
     if left.is_empty() { Some(rest) } else { None }
 }
 
-/// What is left of a region behind its count.
+/// What is left of a region after its count.
 #[cycle(walk)]
 #[tactic(auto, unfolding(crate::specs::Walk::inside))]
 fn inside(class: FormatClass, count: u32, bytes: &[u8], depth: u8) -> Option<&[u8]>
@@ -137,7 +137,7 @@ fn inside(class: FormatClass, count: u32, bytes: &[u8], depth: u8) -> Option<&[u
     }
 }
 
-/// The bytes behind so many values.
+/// The bytes after so many values.
 #[cycle(walk)]
 fn values(count: u32, bytes: &[u8], depth: u8) -> Option<&[u8]>
     ensures { option_map (λ r. r.now) result ≡ repeat count (value_of (under depth)) bytes.now }
@@ -149,7 +149,7 @@ fn values(count: u32, bytes: &[u8], depth: u8) -> Option<&[u8]>
     Some(rest)
 }
 
-/// The bytes behind the elements of an array: one constructor, and their data.
+/// The bytes after the elements of an array: one constructor, and their data.
 #[cycle(walk)]
 #[tactic(auto, unfolding(crate::specs::Walk::elements_of))]
 fn elements(count: u32, bytes: &[u8], depth: u8) -> Option<&[u8]>
@@ -167,17 +167,17 @@ fn elements(count: u32, bytes: &[u8], depth: u8) -> Option<&[u8]>
     elements(count, rest, depth - 1)
 }
 
-/// The bytes behind the constructor of an array with no elements. Its descriptors stand behind one another, on one level.
+/// The bytes after the constructor of an array with no elements. Its descriptors stand after one another, on one level.
 #[cycle(walk)]
 fn constructor(bytes: &[u8], depth: u8) -> Option<&[u8]>
     ensures { option_map (λ r. r.now) result ≡ constructor_of (under depth) (length bytes.now) bytes.now }
 {
     let mut rest = bytes;
     for _ in 0..bytes.len() {
-        let (code, behind) = first(rest)?;
+        let (code, after) = first(rest)?;
         if code != 0 {
             return if may_hold(class_at(code), depth) {
-                Some(behind)
+                Some(after)
             } else {
                 None
             };
@@ -185,12 +185,12 @@ fn constructor(bytes: &[u8], depth: u8) -> Option<&[u8]>
         if depth == 0 {
             return None;
         }
-        rest = value(behind, depth)?;
+        rest = value(after, depth)?;
     }
     None
 }
 
-/// The bytes behind so many data of one kind. Data of no bytes are looked at once, however many there are.
+/// The bytes after so many data of one class. Data of no bytes are looked at once, however many there are.
 #[cycle(walk)]
 fn run(class: FormatClass, count: u32, bytes: &[u8], depth: u8) -> Option<&[u8]>
     requires { 0 < count }
@@ -219,7 +219,7 @@ fn may_hold(class: FormatClass, depth: u8) -> bool
     }
 }
 
-/// The bytes behind the first value, if its depth is at most `depth`. `None` where no front of the bytes is such a
+/// The bytes after the first value, if its depth is at most `depth`. `None` where no front of the bytes is such a
 /// value.
 #[tactic(auto, using(crate::proofs::SmallDescribedLemmas::bare_is_read), unfolding(crate::specs::Walk::value_at))]
 #[inline(always)]

@@ -6,7 +6,7 @@
 //! |---|---|
 //! | `clone` | the bytes are shared, and nothing is read |
 //! | `decode` | `FrameDecoder::decode` |
-//! | `read` | `Performative::read`, behind the header |
+//! | `read` | `Performative::read`, after the header |
 //! | `length` | `Performative::encoded_len` |
 //! | `encode` | `FrameEncoder::encode`, into pieces of at most LIMIT bytes |
 //! | `all` | all of these, one after the other |

@@ -168,7 +168,7 @@ fn encode(alloc: Global, frames: &[Frame], count: u64, limit: u32, seen: &mut Se
     }
 }
 
-/// What stands behind the header.
+/// What stands after the header.
 fn body(bytes: &Bytes) -> Result<Bytes, AllocError> {
     let mut body = bytes.clone()?;
     if body.len() >= 4 {
@@ -177,7 +177,7 @@ fn body(bytes: &Bytes) -> Result<Bytes, AllocError> {
     Ok(body)
 }
 
-/// What stands behind the headers.
+/// What stands after the headers.
 fn bodies(alloc: Global, frames: &[Bytes]) -> Result<Vec<Bytes>, AllocError> {
     let mut bodies = Vec::new(alloc);
     for bytes in frames {

@@ -146,7 +146,7 @@ impl Bench {
         }
     }
 
-    /// Puts an input behind the others.
+    /// Puts an input after the others.
     #[inline(never)]
     pub fn give(&mut self, input: Input<Relay>) -> Result<(), AllocError> {
         self.inputs.push_back(input)?;

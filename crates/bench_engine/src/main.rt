@@ -7,7 +7,7 @@
 //! | MODE | What is done COUNT times |
 //! |---|---|
 //! | `receive` | BATCH transfers come, and one disposition goes out that accepts them |
-//! | `named` | the same, by a relay that names each; behind the disposition this side settles them |
+//! | `named` | the same, by a relay that names each; after the disposition this side settles them |
 //! | `send` | BATCH settled transfers go out |
 //! | `unsettled` | BATCH transfers go out, and a received disposition settles each |
 //! | `held` | BATCH transfers are held back, and a received flow lets them out |

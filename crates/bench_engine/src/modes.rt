@@ -19,7 +19,7 @@ const ACCEPTED: &[u8] = &[0x00, 0x53, 0x24, 0x45];
 /// How far the widest range reaches.
 const WIDEST: u32 = 0x7fff_ffff;
 
-/// How many go out behind the peak.
+/// How many go out after the peak.
 const AFTER_PEAK: u32 = 10;
 
 /// How far a scattered number is from the one before it. It is a prime: among OPEN numbers, none comes twice before each has come,
@@ -208,13 +208,13 @@ impl<'a> Link<'a> {
         for _ in 0..self.plan.count {
             self.give_settled(bench, number, number)?;
             self.pass(bench)?;
-            number = self.scattered_behind(number);
+            number = self.scattered_after(number);
         }
         bench.take()
     }
 
-    /// The number behind this one in a scattered order of those below OPEN.
-    fn scattered_behind(&self, number: u32) -> u32 {
+    /// The number after this one in a scattered order of those below OPEN.
+    fn scattered_after(&self, number: u32) -> u32 {
         number
             .wrapping_add(STRIDE)
             .checked_rem(self.plan.open)

@@ -27,7 +27,7 @@ pub const MOST_UNSETTLED: usize = 2048;
 /// How many messages the queue holds before senders get no more credit.
 pub const MOST_QUEUED: usize = 16384;
 
-/// What is left in the queue of events behind each frame: nothing. So there is room for what one frame brings.
+/// What is left in the queue of events after each frame: nothing. So there is room for what one frame brings.
 const ROOM: Room = Room {
     links: 1,
     flows: 1,

@@ -69,7 +69,7 @@ impl Consumer {
         true
     }
 
-    /// The flow that the client waits for, if any: behind the messages that went out, what is drained is used up.
+    /// The flow that the client waits for, if any: after the messages that went out, what is drained is used up.
     pub fn answer(&mut self) -> Option<LinkFlow> {
         if !self.is_drained && !self.is_asked {
             return None;

@@ -17,7 +17,7 @@ impl Message {
         }
     }
 
-    /// Puts a part behind the others.
+    /// Puts a part after the others.
     pub fn push(&mut self, part: Bytes) -> Result<(), AllocError> {
         self.parts.reserve(1)?;
         self.parts.push(part)?;

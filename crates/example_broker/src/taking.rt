@@ -140,7 +140,7 @@ impl Broker {
         if settled {
             return Ok(());
         }
-        // the relay has answered by a settled disposition, behind which nothing more comes of this delivery
+        // the relay has answered by a settled disposition, after which nothing more comes of this delivery
         push(
             &mut self.inputs,
             Input::Settle(SessionNo(link.session), Role::Sender, number, None),

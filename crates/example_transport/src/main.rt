@@ -1,6 +1,6 @@
 //! Frames of a recorded peer come as a stream of bytes, in chunks of several sizes, and alone: an engine answers the same.
 //!
-//! A line `-- NAME` begins a recording; each line behind it is one frame in hexadecimal, without its size. For each recording it
+//! A line `-- NAME` begins a recording; each line after it is one frame in hexadecimal, without its size. For each recording it
 //! prints what the engine sent and what it refused, and of all frames in one run into one buffer at which place each refusal stands. A line
 //! `stream HEX` is a stream that something is wrong with: it prints how reading it ends. A line `pieces HEX` is a frame: it prints its pieces
 //! under a limit of 24 bytes, each as it is written.
@@ -318,7 +318,7 @@ fn log<W: Write>(refusals: &mut Vec<Refusal>, log: &mut W) -> io::Result<()> {
     Ok(())
 }
 
-/// The stream of the frames: the protocol header, and each frame behind its size.
+/// The stream of the frames: the protocol header, and each frame after its size.
 fn stream_of(alloc: Global, frames: &[Bytes]) -> anyhow::Result<Vec<u8>> {
     let mut stream = Vec::new(alloc);
     stream.extend_from_slice(b"AMQP\x00\x01\x00\x00")?;

@@ -1,4 +1,4 @@
-//! A frame in pieces, each written behind its size.
+//! A frame in pieces, each written after its size.
 
 use amqp_transport::write_piece;
 use bytes::Bytes;

@@ -21,7 +21,7 @@
 //! | `replays` | `replay` of a transcript, with a reader and a writer that fail at each call in turn |
 //! | `show N` | the numbers of a session that received transfers move |
 //!
-//! A line of the output is `out` and a piece, `sent` and pieces behind their sizes, `err` and a refusal, or what a call answers. Behind `~` stands a refusal for memory.
+//! A line of the output is `out` and a piece, `sent` and pieces after their sizes, `err` and a refusal, or what a call answers. After `~` stands a refusal for memory.
 //! Marks on standard error, `@make`, `@run`, `@print`, say to `tools/gate/refuse_nth.c` what asks for memory from then on, and
 //! `@refuse`, `@grant` that every request is to be refused, or none.
 #![tactic(auto)]

@@ -23,7 +23,7 @@ pub fn text(rt: &HostRuntime) -> anyhow::Result<Vec<u8>> {
     Err(anyhow::anyhow!("the script is too long"))
 }
 
-/// A word, and what follows it behind one space.
+/// A word, and what follows it after one space.
 pub fn word(line: &str) -> (&str, &str) {
     line.split_once(' ').unwrap_or((line, ""))
 }

@@ -3,12 +3,12 @@
 //! | Line | Call |
 //! |---|---|
 //! | `# TEXT` | none: the line is repeated |
-//! | `new HEX` | `Client::new`; the lines behind it are of this client |
+//! | `new HEX` | `Client::new`; the lines after it are of this client |
 //! | `op N HEX ROOM` | `Client::call` of the operation N, with an output of ROOM bytes |
 //!
 //! Bytes are hexadecimal digits, and `-` stands for none. The answer to `new` is its status: 0, or the error. The answer to `op` is the status,
 //! the number, and, of a call that is done or one that takes what is to be sent, so many bytes of the output. Each byte of the output is `ee`
-//! before; `changed` stands behind an answer where another byte is not `ee` afterwards.
+//! before; `changed` stands after an answer where another byte is not `ee` afterwards.
 #![tactic(auto)]
 
 use amqp_client::{Client, Operation};
@@ -104,8 +104,8 @@ fn shown(
     } else {
         " changed"
     };
-    let behind = if given.is_empty() { "" } else { " " };
-    format!(in alloc; "{status} {written}{behind}{}{mark}", digits.as_str())
+    let after = if given.is_empty() { "" } else { " " };
+    format!(in alloc; "{status} {written}{after}{}{mark}", digits.as_str())
 }
 
 /// How many bytes of the output a call gives.

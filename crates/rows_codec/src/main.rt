@@ -1,6 +1,6 @@
-//! Recorded frames: each line of the input is a frame in hexadecimal, and each line of the output is what it says. Behind `~` each
+//! Recorded frames: each line of the input is a frame in hexadecimal, and each line of the output is what it says. After `~` each
 //! byte of the frame is changed three times, and each proper front stands alone: the line of the output has a letter for each.
-//! Behind `LIMIT ` stand the frames of a message, parted by one space: the output is the pieces of that limit that it is cut into.
+//! After `LIMIT ` stand the frames of a message, parted by one space: the output is the pieces of that limit that it is cut into.
 #![tactic(auto)]
 
 mod frame;

@@ -1,11 +1,11 @@
-//! Rows of an engine: a line `-- TITLE` begins one, and is repeated; the lines behind it are a transcript, as `amqp_replay`
+//! Rows of an engine: a line `-- TITLE` begins one, and is repeated; the lines after it are a transcript, as `amqp_replay`
 //! reads it, for an engine of its own. What the transcript prints follows, then what it says of a line that it cannot read,
-//! and its status where that is not 0. What stands in a line behind ` ;` is a note for readers: what its hexadecimal says.
+//! and its status where that is not 0. What stands in a line after ` ;` is a note for readers: what its hexadecimal says.
 //!
-//! Behind `each-channel HEX` a transcript goes on with that performative on each channel from 0 to 65535, and what is the same
-//! several times in a row is printed once, behind its count.
+//! After `each-channel HEX` a transcript goes on with that performative on each channel from 0 to 65535, and what is the same
+//! several times in a row is printed once, after its count.
 //!
-//! Behind `connection STATE` the lines are calls of a connection alone, in that state:
+//! After `connection STATE` the lines are calls of a connection alone, in that state:
 //!
 //! | Line | Call |
 //! |---|---|
@@ -16,7 +16,7 @@
 //! | `stop REASON` | `set_connection_stop_reason` |
 //! | `route CHANNEL`, `holder CHANNEL`, `show` | the calls that read |
 //!
-//! Behind `handled STATE` the lines are runs of a handled engine, whose connection is in that state, and calls of its handles:
+//! After `handled STATE` the lines are runs of a handled engine, whose connection is in that state, and calls of its handles:
 //!
 //! | Line | Run or call |
 //! |---|---|

@@ -5,7 +5,7 @@ use fe2o3_amqp::definitions::Error;
 use fe2o3_amqp::{ConnectionState, ConnectionStopReason, Open, Performative, Symbol};
 use std::alloc::Global;
 
-/// The line without the note that stands for readers behind ` ;`.
+/// The line without the note that stands for readers after ` ;`.
 pub fn without_note(line: &str) -> &str {
     match line.split_once(';') {
         Some((call, _)) => call.trim_end(),
@@ -98,7 +98,7 @@ pub fn bytes(alloc: Global, digits: &str) -> anyhow::Result<Bytes> {
     Ok(Bytes::from_vec(hex::decode(alloc, digits)?)?)
 }
 
-/// A channel, and the performative behind it.
+/// A channel, and the performative after it.
 pub fn on_channel(alloc: Global, text: &str) -> anyhow::Result<(u16, Performative)> {
     let Some((number, digits)) = text.split_once(' ') else {
         anyhow::bail!("no channel");

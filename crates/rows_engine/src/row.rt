@@ -32,7 +32,7 @@ pub fn answer(alloc: Global, lines: &str) -> anyhow::Result<Vec<u8>> {
     }
 }
 
-/// What a transcript prints behind which the same performative comes on each channel: each line, and how often it stands there
+/// What a transcript prints after which the same performative comes on each channel: each line, and how often it stands there
 /// in a row.
 fn on_each_channel(alloc: Global, text: &str) -> anyhow::Result<Vec<u8>> {
     let (body, lines) = text.split_once('\n').unwrap_or((text, ""));
@@ -44,7 +44,7 @@ fn on_each_channel(alloc: Global, text: &str) -> anyhow::Result<Vec<u8>> {
     counted(alloc, transcript(alloc, all.as_str())?.as_slice())
 }
 
-/// Each line once that stands several times in a row, behind their count.
+/// Each line once that stands several times in a row, after their count.
 fn counted(alloc: Global, text: &[u8]) -> anyhow::Result<Vec<u8>> {
     let mut said = Vec::new(alloc);
     let mut last = String::new(alloc);

@@ -17,7 +17,7 @@
 //!
 //! Letters are answered by as many: `.` where all is well, `i` for `IllegalState`, `u` for `UnattachedHandle`, `n` for
 //! `RemoteAttachingLinkNameNotFound`, `h` for `HandleInUse`, `s` for `SessionNotMapped`, `d` for `DuplicatedLinkName`, `m` for
-//! `OutOfMemory`. Behind them stands a sum over the numbers of both sides after each call, then what each side shows: its
+//! `OutOfMemory`. After them stands a sum over the numbers of both sides after each call, then what each side shows: its
 //! state, its numbers and windows, what waits, what is open, and what is on the way to it.
 #![tactic(auto)]
 

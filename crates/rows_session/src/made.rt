@@ -69,7 +69,7 @@ fn set(alloc: Global, parts: &mut Parts, name: &str, value: &str) -> anyhow::Res
     Ok(())
 }
 
-/// Sets the parts that a line names behind its first word.
+/// Sets the parts that a line names after its first word.
 fn set_all(alloc: Global, parts: &mut Parts, line: &str) -> anyhow::Result<()> {
     for word in line.split(' ').skip(1) {
         match word.split_once('=') {

@@ -23,10 +23,10 @@
 //! | `show`, `reasons` | the calls that read |
 //! | `times N LINE` | the call of that line N times; an answer is printed where it is another than the one before |
 //!
-//! What stands in a line behind ` ;` is a note for readers: what its hexadecimal says.
+//! What stands in a line after ` ;` is a note for readers: what its hexadecimal says.
 //!
 //! An answer is `ok`, `none` or `err` and the refusal; of an allotment `handle` and its number, of a release whether there was a
-//! link. A frame is `out`, its channel, the performative's text and, behind a transfer, its payload; `list` goes before several
+//! link. A frame is `out`, its channel, the performative's text and, after a transfer, its payload; `list` goes before several
 //! frames, and before the echoes of a disposition. What a relay has to say is `disposition` or `detach`, and its text.
 #![tactic(auto)]
 

@@ -5,7 +5,7 @@ use amqp_types::{Error, Performative, Role, SessionState, Symbol};
 use bytes::Bytes;
 use std::alloc::Global;
 
-/// The line without the note that stands for readers behind ` ;`.
+/// The line without the note that stands for readers after ` ;`.
 pub fn without_note(line: &str) -> &str {
     match line.split_once(';') {
         Some((call, _)) => call.trim_end(),
@@ -13,7 +13,7 @@ pub fn without_note(line: &str) -> &str {
     }
 }
 
-/// A word, and what follows it behind one space.
+/// A word, and what follows it after one space.
 pub fn word(line: &str) -> (&str, &str) {
     line.split_once(' ').unwrap_or((line, ""))
 }

@@ -30,7 +30,7 @@ impl Beside {
         self.plain.len()
     }
 
-    /// Puts an item behind the last.
+    /// Puts an item after the last.
     pub fn push_back(&mut self, rt: &impl Abort, item: u64) -> Result<(), Fail> {
         holds(rt, self.blocks.len() < MOST);
         self.blocks.reserve(1)?;

@@ -9,7 +9,7 @@ use std::test::Fail;
 /// How many items two neighbours hold together at most where they become one.
 const FEW: usize = 64;
 
-/// So many items, put in one behind the other.
+/// So many items, put in one after the other.
 fn filled(rt: &impl Abort, alloc: Global, count: usize) -> Result<Blocks<usize>, Fail> {
     let mut blocks = Blocks::new(alloc);
     for item in 0..count {

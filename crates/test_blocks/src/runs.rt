@@ -5,7 +5,7 @@ use std::alloc::Global;
 use std::process::Abort;
 use std::test::Fail;
 
-/// So many items, put in one behind the other.
+/// So many items, put in one after the other.
 fn filled(rt: &impl Abort, alloc: Global, count: u64) -> Result<Beside, Fail> {
     let mut both = Beside::new(alloc);
     for item in 0..count {

@@ -121,13 +121,13 @@ fn what_this_side_settles_is_let_go_and_nothing_goes_out(rt: HostRuntime) {
 }
 
 #[test]
-fn this_side_settles_behind_its_own_end(rt: HostRuntime) {
+fn this_side_settles_after_its_own_end(rt: HostRuntime) {
     let parts: &[&[Row]] = &[MAPPED, SENT, SETTLED_BEHIND_OUR_END];
     same(&rt, first_wrong_opened(rt.alloc(), parts), None);
 }
 
 #[test]
-fn this_side_settles_behind_the_peers_end(rt: HostRuntime) {
+fn this_side_settles_after_the_peers_end(rt: HostRuntime) {
     let parts: &[&[Row]] = &[MAPPED, SENT, SETTLED_BEHIND_THE_PEERS];
     same(&rt, first_wrong_opened(rt.alloc(), parts), None);
 }
@@ -150,16 +150,16 @@ fn a_state_that_is_not_terminal_leaves_the_window(rt: HostRuntime) {
     );
 }
 
-/// Where rows are wrong, those before a link of input handle 0 is allotted and those behind, and what its request is answered.
+/// Where rows are wrong, those before a link of input handle 0 is allotted and those after, and what its request is answered.
 fn linked(
     alloc: Global,
     engine: &mut ReplayEngine,
     before: &[Row],
-    behind: &[Row],
+    after: &[Row],
 ) -> (Option<usize>, &'static str, Option<usize>) {
     let first = first_wrong(alloc, engine, before);
     let allotted = allot_incoming(alloc, engine, "a", ReplayRelay, 0);
-    (first, allotted, first_wrong(alloc, engine, behind))
+    (first, allotted, first_wrong(alloc, engine, after))
 }
 
 /// The peer's unsettled disposition of what it sent under 0 to 3, and an End of this side's.

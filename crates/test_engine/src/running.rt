@@ -11,7 +11,7 @@ pub fn received_frame(bytes: &'static [u8]) -> ReplayInput {
     Input::Received(Bytes::from_static(bytes))
 }
 
-/// Puts an input behind the others, if memory is there.
+/// Puts an input after the others, if memory is there.
 pub fn push<T: Drop>(inputs: &mut VecDeque<T>, input: T) -> bool {
     inputs.push_back(input).is_ok()
 }

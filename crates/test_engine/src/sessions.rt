@@ -45,7 +45,7 @@ const ENDED: &[Row] = &[
     Row::Numbers(0, (1, 1, 1)),
 ];
 
-/// The session is let go behind both Ends, once its channel was given back: nothing of it is left but its number.
+/// The session is let go after both Ends, once its channel was given back: nothing of it is left but its number.
 const FORGOTTEN: &[Row] = &[
     Row::Asked(Ask::Forget(0), "IllegalState"),
     Row::Asked(Ask::Receive("0200000500531745"), "done"),

@@ -1,4 +1,4 @@
-//! Runs of several inputs, of which some stand behind others that hand out frames.
+//! Runs of several inputs, of which some stand after others that hand out frames.
 
 use crate::asking::{first_transfer, opened};
 use crate::given::ReplayInput;
@@ -23,7 +23,7 @@ const MAPPED: &[Row] = &[
 const BEGUN: &[Row] = &[Row::Asked(Ask::Begin(0), "done"), Row::Waits];
 
 /// The place of the first row that is wrong, and whether a run takes these inputs then and gives these answers.
-fn runs_behind(
+fn runs_after(
     alloc: Global,
     rows: &[Row],
     inputs: VecDeque<ReplayInput>,
@@ -82,7 +82,7 @@ NotFound
 done
 out 0200000000531845
 ";
-    let ran = runs_behind(rt.alloc(), &[], with_refusals(rt.alloc()), want);
+    let ran = runs_after(rt.alloc(), &[], with_refusals(rt.alloc()), want);
     holds(&rt, ran == (None, true));
 }
 
@@ -110,11 +110,11 @@ out 0200000000531845
 #[test]
 fn each_input_is_answered_before_the_next(rt: HostRuntime) {
     let inputs = all_hand_out(rt.alloc());
-    let ran = runs_behind(rt.alloc(), &[], inputs, ALL_HANDED_OUT);
+    let ran = runs_after(rt.alloc(), &[], inputs, ALL_HANDED_OUT);
     holds(&rt, ran == (None, true));
 }
 
-/// Three transfers for a window of two, and an End behind the flow that lets two of them out.
+/// Three transfers for a window of two, and an End after the flow that lets two of them out.
 fn let_out_at_once(alloc: Global) -> VecDeque<ReplayInput> {
     let mut inputs = VecDeque::new(alloc);
     let _are_there = push(&mut inputs, transfer(b"\x0a", b"\xff"))
@@ -136,7 +136,7 @@ out 02000000005314c00703435201a0010bfe
 done
 out 0200000000531745
 ";
-    let ran = runs_behind(rt.alloc(), MAPPED, let_out_at_once(rt.alloc()), want);
+    let ran = runs_after(rt.alloc(), MAPPED, let_out_at_once(rt.alloc()), want);
     holds(&rt, ran == (None, true));
 }
 
@@ -155,6 +155,6 @@ out 02000001005311c00d04404370000013887000001388
 done
 out 0200000000531845
 ";
-    let ran = runs_behind(rt.alloc(), BEGUN, begin_and_close(rt.alloc()), want);
+    let ran = runs_after(rt.alloc(), BEGUN, begin_and_close(rt.alloc()), want);
     holds(&rt, ran == (None, true));
 }

@@ -103,7 +103,7 @@ fn is_piece_of(alloc: Global, piece: &Piece, want: &[u8], frame: &Frame) -> Resu
     Ok(is_read_as(alloc, bytes, frame))
 }
 
-/// Whether the bytes are read as this frame, and nothing is behind it.
+/// Whether the bytes are read as this frame, and nothing is after it.
 pub(crate) fn is_read_as(alloc: Global, bytes: Bytes, want: &Frame) -> bool {
     let decoded = FrameDecoder::new().decode(alloc, bytes);
     let answer = match &decoded {

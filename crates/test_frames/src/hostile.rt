@@ -177,11 +177,11 @@ fn of_front(len: usize, end: usize) -> Answer {
     }
 }
 
-/// Whether each front of the frame, and the frame with a byte behind it, is what it should be.
-fn has_fronts(alloc: Global, digits: &str, behind: usize) -> Result<bool, Fail> {
+/// Whether each front of the frame, and the frame with a byte after it, is what it should be.
+fn has_fronts(alloc: Global, digits: &str, after: usize) -> Result<bool, Fail> {
     let mut text = hex::decode(alloc, digits)?;
     text.push(0x40)?;
-    let end = text.len().saturating_sub(behind).saturating_sub(1);
+    let end = text.len().saturating_sub(after).saturating_sub(1);
     for len in 0..text.len() + 1 {
         let front = text.get(..len).unwrap_or(&[]);
         if answered(alloc, front)? != of_front(len, end) {
@@ -193,17 +193,17 @@ fn has_fronts(alloc: Global, digits: &str, behind: usize) -> Result<bool, Fail> 
 
 #[test]
 fn fronts_of_frames(rt: HostRuntime) -> Result<(), Fail> {
-    for (digits, behind) in FRAMES {
+    for (digits, after) in FRAMES {
         same(
             &rt,
-            (digits, has_fronts(rt.alloc(), digits, behind)?),
+            (digits, has_fronts(rt.alloc(), digits, after)?),
             (digits, true),
         );
     }
-    for (digits, behind) in OTHERS {
+    for (digits, after) in OTHERS {
         same(
             &rt,
-            (digits, has_fronts(rt.alloc(), digits, behind)?),
+            (digits, has_fronts(rt.alloc(), digits, after)?),
             (digits, true),
         );
     }

@@ -25,9 +25,9 @@ const MIDDLE: [u8; 12] = [
 
 const LAST: [u8; 7] = [0x00, 0x53, 0x14, 0xc0, 0x02, 0x01, 0x43];
 
-/// Whether the pieces have these texts behind their headers, and so many bytes of a payload that counts up from 0.
+/// Whether the pieces have these texts after their headers, and so many bytes of a payload that counts up from 0.
 fn are(pieces: &Vec<Piece>, want: &[(&[u8], usize)]) -> bool {
-    let mut behind = 0u8;
+    let mut after = 0u8;
     for (piece, (text, len)) in pieces.iter().zip(want) {
         let head = piece.head();
         if head.get(..4) != Some([2u8, 0, 0, 0].as_slice())
@@ -37,10 +37,10 @@ fn are(pieces: &Vec<Piece>, want: &[(&[u8], usize)]) -> bool {
             return false;
         }
         for byte in piece.payload().as_slice() {
-            if *byte != behind {
+            if *byte != after {
                 return false;
             }
-            behind = behind.wrapping_add(1);
+            after = after.wrapping_add(1);
         }
     }
     pieces.len() == want.len()

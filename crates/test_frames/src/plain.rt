@@ -61,7 +61,7 @@ fn run(alloc: Global, head: &[u8], part: &[u8]) -> Result<Vec<u8>, Fail> {
 }
 
 /// The pieces of a delivery: the first head is filled up, then one in the middle after the other; what is in hand when the
-/// payload ends goes behind the last head. `None` where the first head is over the limit, or one in the middle leaves no
+/// payload ends goes after the last head. `None` where the first head is over the limit, or one in the middle leaves no
 /// room.
 fn plain(
     alloc: Global,

@@ -10,7 +10,7 @@ use bytes::Bytes;
 use std::alloc::Global;
 use std::test::Fail;
 
-/// A delivery with a payload of four bytes, behind its size.
+/// A delivery with a payload of four bytes, after its size.
 const WHOLE: [u8; 28] = [
     0x00, 0x00, 0x00, 0x1c, 0x02, 0x00, 0x00, 0x00, 0x00, 0x53, 0x14, 0xc0, 0x0b, 0x05, 0x43, 0x43,
     0xa0, 0x04, 0x00, 0x00, 0x00, 0x01, 0x43, 0x42, 0x00, 0x01, 0x02, 0x03,
@@ -24,7 +24,7 @@ const CUT: [u8; 51] = [
     0x08, 0x09, 0x0a,
 ];
 
-/// The empty frame on channel 0, behind its size.
+/// The empty frame on channel 0, after its size.
 const EMPTY: [u8; 8] = [0x00, 0x00, 0x00, 0x08, 0x02, 0x00, 0x00, 0x00];
 
 /// Appends a transfer with this payload, under a limit of 24 bytes, and says how that ends.
@@ -116,7 +116,7 @@ fn a_long_payload_is_a_chunk_of_its_own(rt: HostRuntime) -> Result<(), Fail> {
 }
 
 #[test]
-fn pieces_stand_behind_one_another(rt: HostRuntime) -> Result<(), Fail> {
+fn pieces_stand_after_one_another(rt: HostRuntime) -> Result<(), Fail> {
     let alloc = rt.alloc();
     let payload = payload(alloc, 11)?;
     let again = payload.clone()?;

@@ -101,7 +101,7 @@ fn decode(rt: &HostRuntime, bytes: &'static [u8]) -> Result<(Frame, Bytes), Erro
     FrameDecoder::new().decode(rt.alloc(), Bytes::from_static(bytes))
 }
 
-/// Whether the bytes are read as this frame, and nothing is behind it.
+/// Whether the bytes are read as this frame, and nothing is after it.
 fn is_read(rt: &HostRuntime, bytes: &'static [u8], want: Frame) -> bool {
     let answer = is_read_as(rt.alloc(), Bytes::from_static(bytes), &want);
     drop(want);
@@ -122,24 +122,24 @@ fn other_spellings_are_read(rt: HostRuntime) -> Result<(), Fail> {
     Ok(())
 }
 
-/// Whether there is a frame of this channel and this body, with these bytes behind it.
+/// Whether there is a frame of this channel and this body, with these bytes after it.
 fn has(
     read: &Result<(Frame, Bytes), Error>,
     channel: u16,
     body: &FrameBody,
-    behind: &[u8],
+    after: &[u8],
 ) -> [bool; 3] {
     match read {
         Ok((frame, rest)) => [
             frame.channel() == channel,
             *frame.body() == *body,
-            rest.as_slice() == behind,
+            rest.as_slice() == after,
         ],
         Err(_) => [false; 3],
     }
 }
 
-/// A Close on channel 7, with three bytes behind it.
+/// A Close on channel 7, with three bytes after it.
 const CLOSE: &'static [u8] = &[2, 0, 0, 7, 0x00, 0x53, 0x18, 0x45, 1, 2, 3];
 
 fn is_close_on_channel_7(rt: &HostRuntime) -> [bool; 3] {
@@ -176,7 +176,7 @@ fn is_transfer_with_a_payload(alloc: Global, bytes: Bytes) -> [bool; 3] {
 }
 
 #[test]
-fn what_is_behind_a_performative(rt: HostRuntime) -> Result<(), Fail> {
+fn what_is_after_a_performative(rt: HostRuntime) -> Result<(), Fail> {
     holds(&rt, is_close_on_channel_7(&rt) == [true; 3]);
     holds(&rt, is_close_body(&rt));
     let transfer = [

@@ -134,7 +134,10 @@ fn is_cut_as(alloc: Global, text: TransferFragment, want: &str) -> Result<bool, 
 fn the_texts_of_a_transfer_that_is_cut(rt: HostRuntime) -> Result<(), Fail> {
     let rows = [
         (TransferFragment::Whole, "005314c00b054343a004000000014342"),
-        (TransferFragment::First, "005314c00c064343a00400000001434241"),
+        (
+            TransferFragment::First,
+            "005314c00c064343a00400000001434241",
+        ),
         (TransferFragment::Middle, "005314c007064340404040 41"),
         (TransferFragment::Last, "005314c0020143"),
     ];

@@ -78,16 +78,16 @@ fn nested(alloc: Global, depth: u8) -> Result<Fields, Fail> {
     let mut value = Vec::from_slice(alloc, &[0x45])?;
     for level in 0..depth {
         let size = level.saturating_mul(3).saturating_add(2);
-        value = behind(alloc, &[0xc0, size, 1], value)?;
+        value = after(alloc, &[0xc0, size, 1], value)?;
     }
     let size = depth.saturating_mul(3).saturating_add(5);
-    let map = behind(alloc, &[0xc1, size, 2, 0xa3, 1, 0x78], value)?;
+    let map = after(alloc, &[0xc1, size, 2, 0xa3, 1, 0x78], value)?;
     let raw = Raw::of_bytes(Bytes::from_vec(map)?).ok_or("no value")?;
     Ok(Fields::new(raw).ok_or("no map")?)
 }
 
-/// A head, and the value behind it.
-fn behind(alloc: Global, head: &[u8], value: Vec<u8>) -> Result<Vec<u8>, AllocError> {
+/// A head, and the value after it.
+fn after(alloc: Global, head: &[u8], value: Vec<u8>) -> Result<Vec<u8>, AllocError> {
     let mut whole = Vec::from_slice(alloc, head)?;
     let outcome = whole.extend_from_slice(value.as_slice());
     drop(value);

@@ -23,7 +23,7 @@ fn without_spaces(alloc: Global, digits: &str) -> Result<String, AllocError> {
     Ok(dense)
 }
 
-/// The performative that the digits spell, with nothing behind it.
+/// The performative that the digits spell, with nothing after it.
 pub fn read(alloc: Global, digits: &str) -> Result<Performative, Fail> {
     let (performative, rest) = Performative::read(alloc, bytes(alloc, digits)?)?;
     if rest.is_empty() {

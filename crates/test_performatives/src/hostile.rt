@@ -84,8 +84,8 @@ fn no_front_is_read(alloc: Global, text: &[u8]) -> Result<bool, Fail> {
     Ok(true)
 }
 
-/// Whether a byte behind these bytes is what a reading of a performative leaves.
-fn leaves_a_byte_behind(alloc: Global, text: &[u8]) -> Result<bool, Fail> {
+/// Whether a byte after these bytes is what a reading of a performative leaves.
+fn leaves_a_byte_after(alloc: Global, text: &[u8]) -> Result<bool, Fail> {
     let mut longer = BytesMut::new(alloc);
     longer.extend_from_slice(text)?;
     longer.extend_from_slice(&[0x40])?;
@@ -98,14 +98,14 @@ fn leaves_a_byte_behind(alloc: Global, text: &[u8]) -> Result<bool, Fail> {
     Ok(is_left)
 }
 
-/// Whether no proper front of these bytes is a performative, and a byte behind them is left.
+/// Whether no proper front of these bytes is a performative, and a byte after them is left.
 fn is_one_alone(alloc: Global, text: &[u8]) -> Result<[bool; 2], Fail> {
     let fronts = no_front_is_read(alloc, text)?;
-    Ok([fronts, leaves_a_byte_behind(alloc, text)?])
+    Ok([fronts, leaves_a_byte_after(alloc, text)?])
 }
 
 #[test]
-fn a_proper_front_is_malformed_and_a_byte_behind_is_left(rt: HostRuntime) -> Result<(), Fail> {
+fn a_proper_front_is_malformed_and_a_byte_after_is_left(rt: HostRuntime) -> Result<(), Fail> {
     let alloc = rt.alloc();
     for digits in BODIES {
         let body = bytes(alloc, digits)?;

@@ -1,4 +1,4 @@
-//! Where a text, a list, an array or an item gets its longer spelling: behind a length, a size or a count of 255
+//! Where a text, a list, an array or an item gets its longer spelling: after a length, a size or a count of 255
 //! (AMQP 1.0 part 1, sections 1.6.19 to 1.6.24).
 
 use crate::digits::{are_rewritten, dense};

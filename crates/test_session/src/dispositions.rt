@@ -207,8 +207,8 @@ fn receives_around_the_wrap(session: &mut Session<Marked>) -> bool {
         && receive(session, 4294967295, true)
 }
 
-/// Whether a settled disposition of the peer has no echo, and how many deliveries are open behind it.
-fn open_behind(session: &mut Session<Marked>, first: u32, last: u32) -> (bool, usize) {
+/// Whether a settled disposition of the peer has no echo, and how many deliveries are open after it.
+fn open_after(session: &mut Session<Marked>, first: u32, last: u32) -> (bool, usize) {
     let is_silent = is_unanswered(session, said(first, Some(last), true, ACCEPTED));
     (is_silent, session.open_deliveries())
 }
@@ -219,15 +219,15 @@ fn a_range_passes_the_wrap(rt: HostRuntime) -> Result<(), Fail> {
     let are_taken = receives_around_the_wrap(&mut session);
     let all = (4294967295, 4294967295);
     let are_echoed = two_echoes(&mut session, (4294967294, 1), all, (1, 1));
-    let behind = [
-        open_behind(&mut session, 4294967295, 0),
-        open_behind(&mut session, 0, 2147483648),
+    let after = [
+        open_after(&mut session, 4294967295, 0),
+        open_after(&mut session, 0, 2147483648),
     ];
     let turns = session.last_walk().turns;
     drop(session);
     holds(&rt, are_taken);
     holds(&rt, are_echoed);
-    holds(&rt, behind == [(true, 2), (true, 2)]);
+    holds(&rt, after == [(true, 2), (true, 2)]);
     same(&rt, turns, 0);
     Ok(())
 }

@@ -112,7 +112,7 @@ fn begin_twice(one: &mut Session<Quiet>) -> bool {
     }
 }
 
-/// Three transfers wait, then the first goes out alone, and the others behind it.
+/// Three transfers wait, then the first goes out alone, and the others after it.
 fn drained(one: &mut Session<Quiet>) -> bool {
     send_twice(one, true) == Some(NOTHING)
         && send_twice(one, false) == Some(NOTHING)
@@ -122,7 +122,7 @@ fn drained(one: &mut Session<Quiet>) -> bool {
 }
 
 /// A transfer waits; the window of a refused flow lets it out before a new one.
-fn sent_behind(one: &mut Session<Quiet>) -> bool {
+fn sent_after(one: &mut Session<Quiet>) -> bool {
     send_twice(one, true) == Some(NOTHING)
         && grant_link(one, 3, 2) == Answer::Unattached
         && send_twice(one, true) == Some(Answer::Out([2, 3, ABSENT, ABSENT]))
@@ -151,7 +151,7 @@ fn want_of_memory_changes_nothing(rt: HostRuntime) -> Result<(), Fail> {
         begin_twice(&mut one),
         begun(&mut one),
         drained(&mut one),
-        sent_behind(&mut one),
+        sent_after(&mut one),
         sent_alone(&mut one),
     ];
     let after = view(&one);

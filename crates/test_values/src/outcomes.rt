@@ -17,7 +17,7 @@ fn is_terminal_value(bytes: Bytes) -> Option<bool> {
     answer
 }
 
-/// The same of bytes that are these parts, one behind the other.
+/// The same of bytes that are these parts, one after the other.
 fn is_terminal_text(
     alloc: Global,
     head: &[u8],

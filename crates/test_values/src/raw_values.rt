@@ -1,4 +1,4 @@
-//! Which bytes are a raw value, and what is left behind one.
+//! Which bytes are a raw value, and what is left after one.
 
 ghost use Rattle.std.specs.Prelude.{◌<◌};
 

@@ -6,7 +6,7 @@ use bytes::Bytes;
 /// What stands at the front of bytes.
 #[derive(Clone, Copy, Debug, PartialEq)]
 pub(crate) enum Answer {
-    /// A value, and so many bytes behind it.
+    /// A value, and so many bytes after it.
     Value { left: usize },
     /// No value.
     Malformed,
@@ -14,7 +14,7 @@ pub(crate) enum Answer {
     OutOfMemory,
 }
 
-/// A value, and nothing behind it.
+/// A value, and nothing after it.
 pub(crate) const WHOLE: Answer = Answer::Value { left: 0 };
 
 pub(crate) fn read(bytes: Bytes) -> Answer {

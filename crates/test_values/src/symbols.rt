@@ -56,7 +56,7 @@ fn want_of_memory_is_no_malformed_value(rt: HostRuntime) {
 /// What stands at the front of bytes.
 #[derive(Clone, Copy, Debug, PartialEq)]
 enum Many {
-    /// So many symbols whose texts have so many bytes, in a list with so much room; and so many bytes behind them.
+    /// So many symbols whose texts have so many bytes, in a list with so much room; and so many bytes after them.
     Symbols {
         count: usize,
         len: usize,

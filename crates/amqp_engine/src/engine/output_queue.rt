@@ -2,7 +2,7 @@
 
 ghost use Rattle.std.specs.Prelude.{◌≡◌, [], ◌∷◌, List, Some, map, IfSome, is_some};
 ghost use Rattle.amqp_session.specs.Items.{first_frame, item_frames};
-ghost use Rattle.amqp_engine.specs.Waits.{body_of, frame_of, sent, disposition_frame, behind_frames, waits, has_frames, InFront, FirstIs, TakesFirst};
+ghost use Rattle.amqp_engine.specs.Waits.{body_of, frame_of, sent, disposition_frame, after_frames, waits, has_frames, InFront, FirstIs, TakesFirst};
 ghost use Rattle.amqp_engine.specs.Inner.Putting.{DropsFirst};
 
 use amqp_frames::{Frame, FrameBody};
@@ -24,19 +24,19 @@ enum Backlog {
 #[derive(Drop)]
 pub(crate) struct OutputQueue {
     front: Option<Frame>,
-    behind: Backlog,
+    after: Backlog,
 }
 
 impl Model for OutputQueue {
     ghost use Rattle.std.specs.Prelude.{List};
     ghost use Rattle.amqp_frames.specs.declared.frame.Frame.{Frame};
-    ghost use Rattle.amqp_engine.specs.Waits.{waits, behind_frames, InFront};
+    ghost use Rattle.amqp_engine.specs.Waits.{waits, after_frames, InFront};
 
     ghost Value = { List Frame };
 
-    ghost view = { λ w. waits w.front (behind_frames w.behind) };
+    ghost view = { λ w. waits w.front (after_frames w.after) };
 
-    ghost invariant = { λ w. InFront w.front (behind_frames w.behind) };
+    ghost invariant = { λ w. InFront w.front (after_frames w.after) };
 }
 
 /// What a session's frame says, as the connection sends it.
@@ -70,11 +70,11 @@ fn frame_of(frame: SessionFrame) -> Frame
 }
 
 /// The first of those that wait after the first frame, taken out.
-fn next_of(behind: &mut Backlog) -> Option<Frame>
-    ensures same { waits result (behind_frames behind.new) ≡ sent (behind_frames behind.old) }
-    ensures front { InFront result (behind_frames behind.new) }
+fn next_of(after: &mut Backlog) -> Option<Frame>
+    ensures same { waits result (after_frames after.new) ≡ sent (after_frames after.old) }
+    ensures front { InFront result (after_frames after.new) }
 {
-    match behind {
+    match after {
         Backlog::Nothing => None,
         Backlog::Frames(frames) => frames.pop_front().map(frame_of),
         Backlog::Dispositions(channel, dispositions) => {
@@ -132,7 +132,7 @@ impl OutputQueue {
     {
         OutputQueue {
             front: None,
-            behind: Backlog::Nothing,
+            after: Backlog::Nothing,
         }
     }
 
@@ -143,18 +143,18 @@ impl OutputQueue {
     {
         OutputQueue {
             front: Some(frame),
-            behind: Backlog::Nothing,
+            after: Backlog::Nothing,
         }
     }
 
     /// These frames wait.
     #[inline(never)]
     fn from_first(frames: Backlog) -> OutputQueue
-        ensures { result ≡ sent (behind_frames frames) }
+        ensures { result ≡ sent (after_frames frames) }
     {
-        let mut behind = frames;
-        let front = next_of(&mut behind);
-        OutputQueue { front, behind }
+        let mut after = frames;
+        let front = next_of(&mut after);
+        OutputQueue { front, after }
     }
 
     /// From now on these frames wait, and no others.
@@ -162,9 +162,9 @@ impl OutputQueue {
     pub(crate) fn put(&mut self, frames: OutputQueue)
         ensures { self.new ≡ frames }
     {
-        let OutputQueue { front, behind } = frames;
+        let OutputQueue { front, after } = frames;
         set(&mut self.front, front);
-        set(&mut self.behind, behind);
+        set(&mut self.after, after);
     }
 
     /// Whether frames wait.
@@ -188,7 +188,7 @@ impl OutputQueue {
     pub(crate) fn take(&mut self) -> Option<Frame>
         ensures { TakesFirst self.old result self.new }
     {
-        let next = next_of(&mut self.behind);
+        let next = next_of(&mut self.after);
         mem::replace(&mut self.front, next)
     }
 
@@ -197,7 +197,7 @@ impl OutputQueue {
     pub(crate) fn discard(&mut self)
         ensures { DropsFirst self.old self.new }
     {
-        match self.behind {
+        match self.after {
             Backlog::Nothing => set(&mut self.front, None),
             _ => self.advance(),
         }
@@ -208,7 +208,7 @@ impl OutputQueue {
     fn advance(&mut self)
         ensures { DropsFirst self.old self.new }
     {
-        set(&mut self.front, next_of(&mut self.behind));
+        set(&mut self.front, next_of(&mut self.after));
     }
 
     /// Takes the frames that a session hands out, where none waits: they wait from now on.
@@ -242,7 +242,7 @@ impl OutputQueue {
         ensures { self.new ≡ frame_of frame ∷ [] }
     {
         place(&mut self.front, frame);
-        set(&mut self.behind, Backlog::Nothing);
+        set(&mut self.after, Backlog::Nothing);
     }
 
     #[inline(never)]

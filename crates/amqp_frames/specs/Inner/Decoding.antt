@@ -23,7 +23,7 @@ ReadsHeader bytes (Err no.OutOfMemory) = ⊥
 ReadsHeader bytes (Err no.TooLarge) = ⊥
 ReadsHeader bytes (Err (no.Io text)) = ⊥
 
--- no body and no kind, or the descriptor of a kind and what is behind it
+-- no body and no kind, or the descriptor of a kind and what is after it
 abbrev pub Names : List ℕ → List ℕ → Result (Option Kind) Error → Type 0
 Names bytes left (Ok None) = (bytes ≡ []) × (left ≡ [])
 Names bytes left (Ok (Some k)) = ¬ (bytes ≡ []) × (kind_at bytes ≡ Some (k, left))

@@ -10,7 +10,7 @@ abbrev pub placed : List SharedPart → ℕ
 placed [] = 0
 placed (s ∷ ss) = s.before + placed ss
 
--- each shared part behind the bytes of the buffer that stand before it, and what is left of the buffer behind the last
+-- each shared part after the bytes of the buffer that stand before it, and what is left of the buffer after the last
 abbrev pub woven : List SharedPart → List ℕ → List ℕ
 woven [] bytes = bytes
 woven (s ∷ ss) bytes = take s.before bytes ++ (s.part ++ woven ss (drop s.before bytes))

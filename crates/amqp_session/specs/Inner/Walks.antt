@@ -14,7 +14,7 @@ use Rattle.amqp_session.specs.Disposing.{is_meant, meant, span, agreed}
 abbrev pub range_of : DispositionModel → SerialRange
 range_of d = record { first = d.first; span = span d.first d.last }
 
--- the place of the table that is this far behind another, where the front is behind the end
+-- the place of the table that is this far after another; past the end it goes on at the front
 abbrev pub around : ℕ → ℕ → ℕ → ℕ
 around from count len = if nat_lt count (len - from) then from + count else count - (len - from)
 

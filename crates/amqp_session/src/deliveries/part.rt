@@ -75,7 +75,7 @@ pub(super) fn probe(part: Part, half: usize) -> usize
     ensures least { part.low ≤ result }
     ensures most { result < part.high }
     ensures before { result - part.low < half }
-    ensures behind { part.high - result ≤ half }
+    ensures after { part.high - result ≤ half }
 {
     let most = (part.high - 1).min(part.low + (half - 1));
     part.guess
@@ -95,14 +95,14 @@ pub(super) fn closer(part: Part, at: usize, value: u32, number: u32, clues: Clue
     ensures more { number ≤ value → (result.low ≡ max part.low (at - (value - number))) × (result.high ≡ at) }
 {
     if value < number {
-        return behind(part, at, (number - value) as usize, clues);
+        return after(part, at, (number - value) as usize, clues);
     }
     before(part, at, (value - number) as usize, clues)
 }
 
 /// The part after the place `at`, up to `far` places after it.
 #[inline(always)]
-fn behind(part: Part, at: usize, far: usize, clues: Clues) -> Part
+fn after(part: Part, at: usize, far: usize, clues: Clues) -> Part
     requires most { at < part.high }
     requires fits { at + far < 2 ^ 64 }
     ensures low { result.low ≡ at + 1 }

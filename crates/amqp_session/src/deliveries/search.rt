@@ -26,7 +26,7 @@ impl Deliveries {
         if first <= front {
             return 0;
         }
-        self.place_behind(first, front, missing)
+        self.place_after(first, front, missing)
     }
 
     /// The same by a search of the whole table.
@@ -54,7 +54,7 @@ impl Deliveries {
 
     /// The same where the front was read, and its number is smaller.
     #[inline(never)]
-    fn place_behind(&mut self, first: u32, front: u32, missing: usize) -> usize
+    fn place_after(&mut self, first: u32, front: u32, missing: usize) -> usize
         requires some { 0 < length self.old.rows }
         requires front { front ≡ number_at self.old.rows 0 }
         requires smaller { front < first }

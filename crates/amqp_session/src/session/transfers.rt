@@ -232,7 +232,7 @@ impl Sending {
 
     /// The transfer joins those that wait, as the last, and the window lets out what it can. When memory is refused nothing changes.
     #[inline(never)]
-    fn send_behind(
+    fn send_after(
         &mut self,
         alloc: Global,
         channel: OutgoingChannel,
@@ -279,7 +279,7 @@ impl Sending {
             self.hold_back(held)?;
             return Ok(None);
         }
-        Ok(Some(SessionOutgoingItem::MultipleFrames(self.send_behind(
+        Ok(Some(SessionOutgoingItem::MultipleFrames(self.send_after(
             alloc, channel, held, deliveries,
         )?)))
     }

@@ -14,7 +14,7 @@ use crate::link::Links;
 use crate::relay::LinkRelay;
 use amqp_types::Disposition;
 
-/// The place `count` behind `from`, where the front is behind the end.
+/// The place `count` after `from`; past the end it goes on at the front.
 #[inline(always)]
 fn around(from: usize, count: usize, len: usize) -> usize
     requires from { from ≤ len }

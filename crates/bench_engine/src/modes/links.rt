@@ -18,8 +18,8 @@ fn fixed_hash(handle: u32) -> u64 {
     hash ^ (hash >> 32)
 }
 
-/// The next handle behind this one whose hash is alike the hash of 0; the last of all, where there is none.
-fn colliding_behind(handle: u32) -> u32 {
+/// The next handle after this one whose hash is alike the hash of 0; the last of all, where there is none.
+fn colliding_after(handle: u32) -> u32 {
     let wanted = fixed_hash(0);
     for next in handle.saturating_add(1)..u32::MAX {
         if (fixed_hash(next) ^ wanted) & ALIKE == 0 {
@@ -34,7 +34,7 @@ fn choose(handles: &mut Vec<u32>, count: u32, collide: bool) -> anyhow::Result<(
     let mut handle = 0;
     for _ in 0..count {
         handle = if collide {
-            colliding_behind(handle)
+            colliding_after(handle)
         } else {
             handle.wrapping_add(1)
         };
@@ -62,7 +62,7 @@ impl<'a> Link<'a> {
             let handle = handles.get(place as usize).copied().unwrap_or(0);
             self.give_through(bench, handle, number)?;
             self.pass(bench)?;
-            place = self.scattered_behind(place);
+            place = self.scattered_after(place);
         }
         bench.take()
     }

@@ -58,7 +58,7 @@ impl<'a> Link<'a> {
         for _ in 0..self.plan.open {
             self.give_received(bench, number)?;
             self.pass(bench)?;
-            number = self.scattered_behind(number);
+            number = self.scattered_after(number);
         }
         bench.take()
     }

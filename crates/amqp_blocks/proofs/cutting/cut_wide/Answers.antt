@@ -4,7 +4,7 @@ use Rattle.amqp_blocks.specs.Chunked.{Block, items_of, ends_from, start_of}
 use Rattle.amqp_blocks.specs.Inner.Changes.{IsTrimmed}
 use Rattle.amqp_blocks.proofs.PlaceLemmas.{ends_long, start_more, start_few}
 use Rattle.amqp_blocks.proofs.LeaveLemmas.{some_block, settle_is, ends_low, length_without}
-use Rattle.amqp_blocks.proofs.CutLemmas.{cut_is, drop_later, take_earlier, drop_seam, at_dropped, first_behind, no_more, ends_drop, ends_enough_behind, places_behind}
+use Rattle.amqp_blocks.proofs.CutLemmas.{cut_is, drop_later, take_earlier, drop_seam, at_dropped, first_after, no_more, ends_drop, ends_enough_after, places_after}
 use Rattle.amqp_blocks.proofs.cutting.cut_wide.Goals as goal
 
 pub keep_back-requires : goal.keep_back-requires
@@ -55,20 +55,20 @@ sink-base-requires-clause-enough g c =
     let base = c.args.base in
     let long = ends_long base bs c.args.ends.now.items c.requires.chunked.stops in
     let l = first_long es n c.args.from.block j (length bs) k.next.1 c.requires.order c.requires.within (k.count.1 ∙ long) in
-    let behind : drop n c.take_out.new.ends.items ≡ ends_from (base + start_of bs j) (drop j bs) =
+    let after : drop n c.take_out.new.ends.items ≡ ends_from (base + start_of bs j) (drop j bs) =
     drop_seam (take n es) (drop j es) c.take_out.new.ends.items n c.take_out.ensures.ends l
     ∙ drop_later es c.args.ends.now.items (c.args.from.block + 1) j (omega (arith, c.requires.order)) k.rest.1
     ∙ ap (drop j) c.requires.chunked.stops ∙ ends_drop base (base + start_of bs j) bs j refl in
-    let some = first_behind bs j at c.requires.to in
-    subst (λ (ks : List ℕ). (i : ℕ) → i < length ks → c.args.count ≤ slice_index ks i) (sym behind)
-    (ends_enough_behind (base + start_of bs j) c.args.count at (drop j bs) (λ b e. no_more at (length b.items) (some b e)) (omega (arith, c.requires.count)))
+    let some = first_after bs j at c.requires.to in
+    subst (λ (ks : List ℕ). (i : ℕ) → i < length ks → c.args.count ≤ slice_index ks i) (sym after)
+    (ends_enough_after (base + start_of bs j) c.args.count at (drop j bs) (λ b e. no_more at (length b.items) (some b e)) (omega (arith, c.requires.count)))
 
 pub sink-base-requires-clause-fits : goal.sink-base-requires-clause-fits
 sink-base-requires-clause-fits g c =
     let bs = c.args.blocks.now.items in
     let j = c.args.to.block in
     let at = c.args.to.at in
-    let most = places_behind bs j at c.requires.to in
+    let most = places_after bs j at c.requires.to in
     omega (arith, most, c.requires.count, c.requires.chunked.low, c.requires.chunked.few)
 
 pub settle-requires : goal.settle-requires

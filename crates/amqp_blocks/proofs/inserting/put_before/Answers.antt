@@ -25,7 +25,7 @@ locate_near-place-requires g c =
 pub put_near-requires : goal.put_near-requires
 put_near-requires g c =
     let e = c.locate_near-place.ensures in
-    let l = located c.args.base c.args.blocks.now.items c.args.ends.now.items c.locate_near-place.result.block c.locate_near-place.result.at c.args.rank c.requires.sound.chunked.stops e.block e.first e.other e.behind in
+    let l = located c.args.base c.args.blocks.now.items c.args.ends.now.items c.locate_near-place.result.block c.locate_near-place.result.at c.args.rank c.requires.sound.chunked.stops e.block e.first e.other e.after in
     record {
       sound = c.requires.sound;
       block = l.block_is;
@@ -37,5 +37,5 @@ put_near-requires g c =
 pub returns-clause-items : goal.returns-clause-items
 returns-clause-items g c =
     let e = c.locate_near-place.ensures in
-    let l = located c.args.base c.args.blocks.now.items c.args.ends.now.items c.locate_near-place.result.block c.locate_near-place.result.at c.args.rank c.requires.sound.chunked.stops e.block e.first e.other e.behind in
+    let l = located c.args.base c.args.blocks.now.items c.args.ends.now.items c.locate_near-place.result.block c.locate_near-place.result.at c.args.rank c.requires.sound.chunked.stops e.block e.first e.other e.after in
     c.put_near.ensures.items ∙ ap (λ n. insert (items_of c.args.blocks.now.items) n c.args.item) (sym l.rank_is)

@@ -15,13 +15,13 @@ locate_near-first-requires g c =
 pub index-requires : goal.index-requires
 index-requires g c =
     let e = c.locate_near-first.ensures in
-    let l = located c.args.base c.args.blocks.now.items c.args.ends.now.items c.locate_near-first.result.block c.locate_near-first.result.at c.args.from c.requires.sound.chunked.stops e.block e.first e.other e.behind in
+    let l = located c.args.base c.args.blocks.now.items c.args.ends.now.items c.locate_near-first.result.block c.locate_near-first.result.at c.args.from c.requires.sound.chunked.stops e.block e.first e.other e.after in
     omega (arith, l.block_is, c.args.blocks.now.ok.0)
 
 pub overflow_sub-len : goal.overflow_sub-len
 overflow_sub-len g c =
     let e = c.locate_near-first.ensures in
-    let l = located c.args.base c.args.blocks.now.items c.args.ends.now.items c.locate_near-first.result.block c.locate_near-first.result.at c.args.from c.requires.sound.chunked.stops e.block e.first e.other e.behind in
+    let l = located c.args.base c.args.blocks.now.items c.args.ends.now.items c.locate_near-first.result.block c.locate_near-first.result.at c.args.from c.requires.sound.chunked.stops e.block e.first e.other e.after in
     omega (arith, l.item c.index.result.now c.index.ensures, c.len.ensures, c.index.result.now.ok.0)
 
 pub leave-base-requires : goal.leave-base-requires
@@ -29,7 +29,7 @@ leave-base-requires g c =
     let e = c.locate_near-first.ensures in
     let bs = c.args.blocks.now.items in
     let first = c.locate_near-first.result in
-    let l = located c.args.base bs c.args.ends.now.items first.block first.at c.args.from c.requires.sound.chunked.stops e.block e.first e.other e.behind in
+    let l = located c.args.base bs c.args.ends.now.items first.block first.at c.args.from c.requires.sound.chunked.stops e.block e.first e.other e.after in
     record {
       chunked = c.requires.sound.chunked;
       spares = c.requires.sound.spares;
@@ -61,7 +61,7 @@ returns-then-to-from-clause-items g c =
     let e = c.locate_near-first.ensures in
     let bs = c.args.blocks.now.items in
     let first = c.locate_near-first.result in
-    let l = located c.args.base bs c.args.ends.now.items first.block first.at c.args.from c.requires.sound.chunked.stops e.block e.first e.other e.behind in
+    let l = located c.args.base bs c.args.ends.now.items first.block first.at c.args.from c.requires.sound.chunked.stops e.block e.first e.other e.after in
     c.leave-base.ensures.items ∙ stretch c.args.from c.args.to (start_of bs first.block + first.at) (c.args.to - c.args.from) (items_of bs) l.rank_is refl (omega (arith, c.requires.order))
 
 pub locate_end-last-requires : goal.locate_end-last-requires
@@ -92,7 +92,7 @@ cut_wide-base-requires g c =
     let es = c.args.ends.now.items in
     let e = c.locate_near-first.ensures in
     let first = c.locate_near-first.result in
-    let l = located c.args.base bs es first.block first.at c.args.from v.stops e.block e.first e.other e.behind in
+    let l = located c.args.base bs es first.block first.at c.args.from v.stops e.block e.first e.other e.after in
     let f = c.locate_end-last.ensures in
     let last = c.locate_end-last.result in
     let long = ends_long c.args.base bs es v.stops in
@@ -102,12 +102,12 @@ cut_wide-base-requires g c =
     let far : start_of bs (suc first.block) < c.args.to = omega (arith, more, l.rank_is, c.if-to-from.false, c.len.ensures, c.index.result.now.ok.0, l.item c.index.result.now c.index.ensures, c.requires.order) in
     record {
       chunked = v;
-      order = comes_later c.args.base bs es first.block last.block c.args.to v.stops l.block_is w far f.behind;
+      order = comes_later c.args.base bs es first.block last.block c.args.to v.stops l.block_is w far f.after;
       within = w;
       from = l.item;
       to = λ p.
           let h : last.block < length bs = not_last last.block (length bs) last.at w p (λ q. f.end (q ∙ sym long)) in
-          (h, λ b s. within_block c.args.base bs es last.block last.at c.args.to b v.stops h r (f.behind (omega (arith, h, long))) s);
+          (h, λ b s. within_block c.args.base bs es last.block last.at c.args.to b v.stops h r (f.after (omega (arith, h, long))) s);
       rank = l.rank_is;
       count = omega (arith, r, c.requires.order);
     }

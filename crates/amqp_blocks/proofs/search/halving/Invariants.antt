@@ -6,7 +6,7 @@ invariant-loop-low l = record {
   order : l.low ≤ l.high;
   within : l.high < length l.ends.items;
   before : 0 < l.low → slice_index l.ends.items (l.low - 1) ≤ l.target;
-  behind : l.target < slice_index l.ends.items l.high;
+  after : l.target < slice_index l.ends.items l.high;
 }
 
 abbrev pub decreases-loop-low : goal.decreases-loop-low

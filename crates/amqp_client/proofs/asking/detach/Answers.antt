@@ -2,9 +2,9 @@ use Rattle.std.proofs.Common.{sym}
 use Rattle.amqp_types.specs.Performatives.{IsPerformative}
 use Rattle.amqp_types.specs.declared.performatives.Performative.TheVariants as its
 use Rattle.amqp_client.specs.Asking.{AsksDetach}
-use Rattle.amqp_client.proofs.AskingLemmas.{detach_behind, none_asked}
+use Rattle.amqp_client.proofs.AskingLemmas.{detach_after, none_asked}
 use Rattle.amqp_client.proofs.asking.detach.Goals as goal
 
 pub returns-in-Err : goal.returns-in-Err
 returns-in-Err g c = none_asked (λ x. IsPerformative (its.Detach x) c.in-Some.rest.now) (AsksDetach c.args.session c.args.input.now) c.in-Err.error
-    (detach_behind c.args.session c.args.input.now c.in-Some.flag c.in-Some.rest.now (sym c.in-Some.ensures)) c.in-Err.ensures
+    (detach_after c.args.session c.args.input.now c.in-Some.flag c.in-Some.rest.now (sym c.in-Some.ensures)) c.in-Err.ensures

@@ -1,7 +1,7 @@
 use Rattle.std.proofs.Common.{refl, sym}
 use Rattle.amqp_client.specs.Asking.{AsksTransfer}
 use Rattle.amqp_client.specs.Reading.{IsTransfer}
-use Rattle.amqp_client.proofs.AskingLemmas.{transfer_behind, none_of}
+use Rattle.amqp_client.proofs.AskingLemmas.{transfer_after, none_of}
 use Rattle.amqp_client.proofs.asking.transfer.Goals as goal
 
 pub returns-in-Ok : goal.returns-in-Ok
@@ -9,7 +9,7 @@ returns-in-Ok g c = record {
   handle = c.in-Some.handle;
   flag = c.in-Some-byte.flag;
   first = c.in-Some-flag.first;
-  behind = c.in-Some.behind.now;
+  after = c.in-Some.after.now;
   rest = c.in-Some-byte.rest.now;
   transfer = (c.in-Ok.transfer, c.in-Ok.payload);
   has_handle = sym c.in-Some.ensures;
@@ -21,5 +21,5 @@ returns-in-Ok g c = record {
 
 pub returns-in-Err : goal.returns-in-Err
 returns-in-Err g c = none_of (IsTransfer c.in-Some-byte.rest.now) (AsksTransfer c.args.session c.args.input.now) c.in-Err.error
-    (transfer_behind c.args.session c.args.input.now c.in-Some.handle c.in-Some-byte.flag c.in-Some.behind.now c.in-Some-byte.rest.now (sym c.in-Some.ensures)
+    (transfer_after c.args.session c.args.input.now c.in-Some.handle c.in-Some-byte.flag c.in-Some.after.now c.in-Some-byte.rest.now (sym c.in-Some.ensures)
     (sym c.in-Some-byte.ensures)) c.in-Err.ensures

@@ -17,7 +17,7 @@ pub returns-in_err-read_list : goal.returns-in_err-read_list
 returns-in_err-read_list c =
     let e = failed c.from_residual.result (error_of c.in_err-read_list.field-0.0) c.from_residual.ensures.1 in
     subst (λ (r : Result (Frame × List ℕ) Error). ReadsFrameOf c.args.channel (Some kind.Disposition) c.args.fields r) (sym e)
-    (body_not_read IsDispositionBody disposition_body_at c.lists_are_read.ensures.of_disposition (λ p behind. body_of (performative.Disposition p) behind) kind.Disposition (λ b f r x. x) c.args.fields c.read_list.new.bytes c.in_err-read_list.field-0.0 c.in_err-read_list.ensures)
+    (body_not_read IsDispositionBody disposition_body_at c.lists_are_read.ensures.of_disposition (λ p after. body_of (performative.Disposition p) after) kind.Disposition (λ b f r x. x) c.args.fields c.read_list.new.bytes c.in_err-read_list.field-0.0 c.in_err-read_list.ensures)
 
 pub returns : goal.returns
-returns c = (refl, body_read IsDispositionBody disposition_body_at c.lists_are_read.ensures.of_disposition (λ p behind. body_of (performative.Disposition p) behind) kind.Disposition (λ b f r x. x) (λ b f r x. x) c.args.fields c.read_list.new.bytes c.in_ok-read_list.field-0 c.in_ok-read_list.ensures)
+returns c = (refl, body_read IsDispositionBody disposition_body_at c.lists_are_read.ensures.of_disposition (λ p after. body_of (performative.Disposition p) after) kind.Disposition (λ b f r x. x) (λ b f r x. x) c.args.fields c.read_list.new.bytes c.in_ok-read_list.field-0 c.in_ok-read_list.ensures)

@@ -13,11 +13,11 @@ use Rattle.amqp_frames.proofs.decoder.read_transfer.Goals as goal
 pub returns-in-Err : goal.returns-in-Err
 returns-in-Err c =
     subst (λ (e : Error). NoBodyOf (Some kind.Transfer) c.args.fields e) (sym c.from.ensures)
-    (body_not_read IsTransferBody transfer_body_at c.lists_are_read.ensures.of_transfer (λ p behind. body_of (performative.Transfer p) behind) kind.Transfer (λ b f r x. x) c.args.fields c.read_list.new.bytes c.in-Err.error c.in-Err.ensures)
+    (body_not_read IsTransferBody transfer_body_at c.lists_are_read.ensures.of_transfer (λ p after. body_of (performative.Transfer p) after) kind.Transfer (λ b f r x. x) c.args.fields c.read_list.new.bytes c.in-Err.error c.in-Err.ensures)
 
 pub returns : goal.returns
 returns c = (
   refl,
   subst (λ (x : List ℕ). ReadsBodyOf (Some kind.Transfer) c.args.fields (Ok (Transfer c.in-Ok.performative c.read_list.new.bytes, x))) (sym c.new.ensures)
-      (body_read IsTransferBody transfer_body_at c.lists_are_read.ensures.of_transfer (λ p behind. body_of (performative.Transfer p) behind) kind.Transfer (λ b f r x. x) (λ b f r x. x) c.args.fields c.read_list.new.bytes c.in-Ok.performative c.in-Ok.ensures),
+      (body_read IsTransferBody transfer_body_at c.lists_are_read.ensures.of_transfer (λ p after. body_of (performative.Transfer p) after) kind.Transfer (λ b f r x. x) (λ b f r x. x) c.args.fields c.read_list.new.bytes c.in-Ok.performative c.in-Ok.ensures),
 )

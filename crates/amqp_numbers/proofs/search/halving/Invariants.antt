@@ -7,7 +7,7 @@ invariant-loop-low l = record {
   order : l.low ≤ l.high;
   within : l.high ≤ length l.ranges.items;
   before : 0 < l.low → begins_by l.ranges.items (l.low - 1) l.number ≡ true;
-  behind : l.high < length l.ranges.items → begins_by l.ranges.items l.high l.number ≡ false;
+  after : l.high < length l.ranges.items → begins_by l.ranges.items l.high l.number ≡ false;
 }
 
 abbrev pub decreases-loop-low : goal.decreases-loop-low

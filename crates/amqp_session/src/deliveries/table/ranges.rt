@@ -27,10 +27,10 @@ impl Deliveries {
     {
         let SerialRange { first, span } = range;
         let len = self.len();
-        let behind = first.wrapping_add(span).wrapping_add(1);
+        let after = first.wrapping_add(span).wrapping_add(1);
         let from = self.find(first, self.last_place);
-        let to = self.find(behind, from + span as usize + 1);
-        let count = stretch(from, to, len, behind <= first);
+        let to = self.find(after, from + span as usize + 1);
+        let count = stretch(from, to, len, after <= first);
         self.remove(from, count);
         count
     }

@@ -3,7 +3,7 @@ use Rattle.amqp_values.proofs.SymbolRunLemmas.{counted_more, counted_fails, coun
 use Rattle.amqp_values.proofs.symbols.is_run.Goals as goal
 
 pub loop-preserved : goal.loop-preserved
-loop-preserved c = counted_more c.args.count c.loop.counter c.args.long c.loop.rest.now _ c.in-Some.behind.now c.loop-test.true (sym c.in-Some.ensures) ∙ c.loop.invariant
+loop-preserved c = counted_more c.args.count c.loop.counter c.args.long c.loop.rest.now _ c.in-Some.after.now c.loop-test.true (sym c.in-Some.ensures) ∙ c.loop.invariant
 
 pub returns-in-None : goal.returns-in-None
 returns-in-None c = sym (counted_fails c.args.count c.loop.counter c.args.long c.loop.rest.now c.loop-test.true (sym c.in-None.ensures)) ∙ c.loop.invariant

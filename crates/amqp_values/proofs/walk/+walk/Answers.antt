@@ -81,25 +81,25 @@ constructor-returns-in_err-code t c = rw c.from_residual.ensures (sym (sym c.loo
 pub constructor-returns-then-may_hold : goal.constructor-returns-then-may_hold
 constructor-returns-then-may_hold t c =
     let m : may_hold (under c.args.depth) (class_of c.in_ok-code.code) ≡ true = rw c.class_at.ensures at (sym c.may_hold.ensures ∙ c.if-may_hold.true) in
-    sym (sym c.loop.invariant ∙ constructor_holds (under c.args.depth) (length c.args.bytes.now - c.loop.counter) c.in_ok-code.code c.loop.rest.now c.in_ok-code.behind.now (omega arith) (sym c.in_ok-code.ensures) c.if-code-ne0.true m)
+    sym (sym c.loop.invariant ∙ constructor_holds (under c.args.depth) (length c.args.bytes.now - c.loop.counter) c.in_ok-code.code c.loop.rest.now c.in_ok-code.after.now (omega arith) (sym c.in_ok-code.ensures) c.if-code-ne0.true m)
 
 pub constructor-returns-else-may_hold : goal.constructor-returns-else-may_hold
 constructor-returns-else-may_hold t c =
     let m : may_hold (under c.args.depth) (class_of c.in_ok-code.code) ≡ false = rw c.class_at.ensures at (sym c.may_hold.ensures ∙ c.if-may_hold.false) in
-    sym (sym c.loop.invariant ∙ constructor_holds_not (under c.args.depth) (length c.args.bytes.now - c.loop.counter) c.in_ok-code.code c.loop.rest.now c.in_ok-code.behind.now (sym c.in_ok-code.ensures) c.if-code-ne0.true m)
+    sym (sym c.loop.invariant ∙ constructor_holds_not (under c.args.depth) (length c.args.bytes.now - c.loop.counter) c.in_ok-code.code c.loop.rest.now c.in_ok-code.after.now (sym c.in_ok-code.ensures) c.if-code-ne0.true m)
 
 pub constructor-returns-then-depth-eq0 : goal.constructor-returns-then-depth-eq0
 constructor-returns-then-depth-eq0 t c =
-    let g : constructor_of (under c.args.depth) (length c.args.bytes.now - c.loop.counter) c.loop.rest.now ≡ None = rw (under_none c.args.depth c.if-depth-eq0.true) (constructor_ground (length c.args.bytes.now - c.loop.counter) c.in_ok-code.code c.loop.rest.now c.in_ok-code.behind.now (sym c.in_ok-code.ensures) c.if-code-ne0.false) in
+    let g : constructor_of (under c.args.depth) (length c.args.bytes.now - c.loop.counter) c.loop.rest.now ≡ None = rw (under_none c.args.depth c.if-depth-eq0.true) (constructor_ground (length c.args.bytes.now - c.loop.counter) c.in_ok-code.code c.loop.rest.now c.in_ok-code.after.now (sym c.in_ok-code.ensures) c.if-code-ne0.false) in
     sym (sym c.loop.invariant ∙ g)
 
 pub constructor-returns-in_err-rest : goal.constructor-returns-in_err-rest
 constructor-returns-in_err-rest t c =
-    rw c.from_residual-in_err-rest.ensures (sym (sym c.loop.invariant ∙ constructor_value_fails (under c.args.depth) (length c.args.bytes.now - c.loop.counter) c.in_ok-code.code c.loop.rest.now c.in_ok-code.behind.now (sym c.in_ok-code.ensures) c.if-code-ne0.false (sym c.in_err-rest.ensures)))
+    rw c.from_residual-in_err-rest.ensures (sym (sym c.loop.invariant ∙ constructor_value_fails (under c.args.depth) (length c.args.bytes.now - c.loop.counter) c.in_ok-code.code c.loop.rest.now c.in_ok-code.after.now (sym c.in_ok-code.ensures) c.if-code-ne0.false (sym c.in_err-rest.ensures)))
 
 pub constructor-loop-preserved : goal.constructor-loop-preserved
 constructor-loop-preserved t c =
-    constructor_more (under c.args.depth) (length c.args.bytes.now) c.loop.counter c.in_ok-code.code c.loop.rest.now c.in_ok-code.behind.now c.in_ok-rest.rest.now c.loop-test.true (not_ground c.args.depth (omega arith)) (sym c.in_ok-code.ensures) c.if-code-ne0.false (sym c.in_ok-rest.ensures)
+    constructor_more (under c.args.depth) (length c.args.bytes.now) c.loop.counter c.in_ok-code.code c.loop.rest.now c.in_ok-code.after.now c.in_ok-rest.rest.now c.loop-test.true (not_ground c.args.depth (omega arith)) (sym c.in_ok-code.ensures) c.if-code-ne0.false (sym c.in_ok-rest.ensures)
     ∙ c.loop.invariant
 
 pub constructor-returns : goal.constructor-returns

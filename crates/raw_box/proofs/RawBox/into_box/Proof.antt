@@ -36,9 +36,9 @@ use Rattle.raw_box.specs.contracts.RawBox.into_box.Key.{name as #self}
 use Rattle.raw_box.proofs.RawBox.into_box.Statement.{statement}
 use Rattle.raw_box.proofs.RawBox.into_box.Code as code
 
--- what runs behind the call: the box is the result
-abbrev behind : Body
-behind = seq (assign (place 0 []) (rv_opd (copy (place 4 [])))) return
+-- what runs after the call: the box is the result
+abbrev after : Body
+after = seq (assign (place 0 []) (rv_opd (copy (place 4 [])))) return
 
 pub into_box_spec : {M : Type 1} → statement M
 into_box_spec 𝓤 𝓛 𝓜 𝓡 wired T A L LA g d dd allocator md =
@@ -69,6 +69,6 @@ into_box_spec 𝓤 𝓛 𝓜 𝓡 wired T A L LA g d dd allocator md =
     -- [the box; the tokens; its value; its handle]
     box_out E ! r (u ∷ []) (λ b' o' hw e' us fw. box_in E ! r b' o' r.value e' refl $ rewrite ! 0 (λ (xs : List Val). ‵ ((B E).own_val r xs)) (sym us) refl $
     let good : holds (has_ty (box_ty E) u) × WT u = subst (λ (x : Val). holds (has_ty (box_ty E) x) × WT x) (sym (ap only us)) (box_typed E hw b' o' fw) in
-    lands_last ! refl good $ exec ! 𝓣.C 𝓣.Λ (env fn.locals ls) behind (at_ret (env fn.locals ls) Post) $ sets ! (of_opd ! (get ! refl)) refl good $
+    lands_last ! refl good $ exec ! 𝓣.C 𝓣.Λ (env fn.locals ls) after (at_ret (env fn.locals ls) Post) $ sets ! (of_opd ! (get ! refl)) refl good $
     returns ! (look_at ! 0 refl) $ free_all ! refl $ nothing ! $ nothing ! $ fjoin ! $
     keep ! (0 ∷ 1 ∷ 2 ∷ 3 ∷ []) $ move ! (2 ∷ 0 ∷ 1 ∷ 3 ∷ []) $ by ! (leaves 𝓛 En hs c z u r ((tt, (tt, tt)), tt) (tt, tt)))))))))

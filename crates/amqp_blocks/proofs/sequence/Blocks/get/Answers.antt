@@ -16,12 +16,12 @@ pub item_of-requires : goal.item_of-requires
 item_of-requires g c =
     let e = c.locate_near-place.ensures in
     let s = c.self.inside in
-    let l = located s.base s.blocks.items s.ends.items c.locate_near-place.result.block c.locate_near-place.result.at c.args.rank c.self.invariant.chunked.stops e.block e.first e.other e.behind in
+    let l = located s.base s.blocks.items s.ends.items c.locate_near-place.result.block c.locate_near-place.result.at c.args.rank c.self.invariant.chunked.stops e.block e.first e.other e.after in
     record { at = l.item; block = l.block_is }
 
 pub returns : goal.returns
 returns g c =
     let e = c.locate_near-place.ensures in
     let s = c.self.inside in
-    let l = located s.base s.blocks.items s.ends.items c.locate_near-place.result.block c.locate_near-place.result.at c.args.rank c.self.invariant.chunked.stops e.block e.first e.other e.behind in
+    let l = located s.base s.blocks.items s.ends.items c.locate_near-place.result.block c.locate_near-place.result.at c.args.rank c.self.invariant.chunked.stops e.block e.first e.other e.after in
     record { value = sym (ap (λ (s : Sequence _). slice_get s.items c.args.rank) c.self.view_is) ∙ ap (λ n. slice_get (items_of s.blocks.items) n) l.rank_is ∙ c.item_of.ensures.value }

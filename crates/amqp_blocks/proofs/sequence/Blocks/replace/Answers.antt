@@ -17,7 +17,7 @@ pub write_at-requires : goal.write_at-requires
 write_at-requires g c =
     let e = c.locate_near-place.ensures in
     let s = c.self.inside in
-    let l = located s.base s.blocks.items s.ends.items c.locate_near-place.result.block c.locate_near-place.result.at c.args.rank c.self.invariant.chunked.stops e.block e.first e.other e.behind in
+    let l = located s.base s.blocks.items s.ends.items c.locate_near-place.result.block c.locate_near-place.result.at c.args.rank c.self.invariant.chunked.stops e.block e.first e.other e.after in
     record { block = l.block_is; within = l.item }
 
 pub invariant_of-self : goal.invariant_of-self
@@ -25,7 +25,7 @@ invariant_of-self g c =
     let e = c.locate_near-place.ensures in
     let s = c.self.inside in
     let v = c.self.invariant in
-    let l = located s.base s.blocks.items s.ends.items c.locate_near-place.result.block c.locate_near-place.result.at c.args.rank v.chunked.stops e.block e.first e.other e.behind in
+    let l = located s.base s.blocks.items s.ends.items c.locate_near-place.result.block c.locate_near-place.result.at c.args.rank v.chunked.stops e.block e.first e.other e.after in
     let u = c.write_at.ensures.replaced in
     let count = ap length u.set ∙ length-set s.blocks.items c.locate_near-place.result.block u.to in
     record {
@@ -39,7 +39,7 @@ pub returns : goal.returns
 returns g c =
     let e = c.locate_near-place.ensures in
     let s = c.self.inside in
-    let l = located s.base s.blocks.items s.ends.items c.locate_near-place.result.block c.locate_near-place.result.at c.args.rank c.self.invariant.chunked.stops e.block e.first e.other e.behind in
+    let l = located s.base s.blocks.items s.ends.items c.locate_near-place.result.block c.locate_near-place.result.at c.args.rank c.self.invariant.chunked.stops e.block e.first e.other e.after in
     let u = c.write_at.ensures.replaced in
     let items = items_replaced s.blocks.items c.write_at.new.blocks.items c.locate_near-place.result.block c.locate_near-place.result.at c.args.rank c.args.item l.block_is u (l.item u.from u.was) l.rank_is in
     let places = places_same s.blocks.items c.write_at.new.blocks.items c.locate_near-place.result.block c.locate_near-place.result.at c.args.item l.block_is u in

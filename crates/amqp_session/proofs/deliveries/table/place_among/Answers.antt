@@ -35,7 +35,7 @@ loop-left-preserved c =
       part = closer_part c.args.rows.now.items c.args.number c.loop-left.left.low c.loop-left.left.high c.probe-at.result x.number c.closer-left.result.low c.closer-left.result.high
           c.requires.rising v.part c.probe-at.ensures.least c.probe-at.ensures.most value c.closer-left.ensures.less c.closer-left.ensures.more;
       enough = closer_few c.args.number c.loop-left.left.low c.loop-left.left.high c.probe-at.result x.number c.closer-left.result.low c.closer-left.result.high (c.loop-left.half / 2)
-          c.probe-at.ensures.most c.probe-at.ensures.before c.probe-at.ensures.behind c.closer-left.ensures.less c.closer-left.ensures.more;
+          c.probe-at.ensures.most c.probe-at.ensures.before c.probe-at.ensures.after c.closer-left.ensures.less c.closer-left.ensures.more;
       few = omega (arith, v.few);
       power = (half.0, half.2);
     }

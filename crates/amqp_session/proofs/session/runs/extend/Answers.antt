@@ -3,7 +3,7 @@ use Rattle.std.proofs.lemmas.List.{length-map}
 use Rattle.amqp_types.specs.Disposition.{DispositionModel}
 use Rattle.amqp_session.specs.Runs.{DeliveryRange, longer}
 use Rattle.amqp_session.specs.Disposing.{echo_of}
-use Rattle.amqp_session.proofs.GrowingRunLemmas.{last_longer, has_last, one_behind}
+use Rattle.amqp_session.proofs.GrowingRunLemmas.{last_longer, has_last, one_after}
 use Rattle.amqp_session.proofs.session.runs.extend.Goals as goal
 
 pub returns-then-goes_on-clause-items : goal.returns-then-goes_on-clause-items
@@ -29,4 +29,4 @@ returns-else-goes_on-clause-items c = λ runs e.
     let own : DeliveryRange = record { first = c.args.number; last = c.args.number } in
     c.push_reserved.ensures.items ∙ ap (λ (y : DispositionModel). c.args.echoes.now.items ++ y ∷ []) c.echo-else-goes_on.ensures
     ∙ ap (λ (xs : List DispositionModel). xs ++ echo_of None own ∷ []) e
-    ∙ sym (one_behind runs c.args.number (sym (c.if-goes_on.ensures runs (c.deref.ensures.value ∙ e))))
+    ∙ sym (one_after runs c.args.number (sym (c.if-goes_on.ensures runs (c.deref.ensures.value ∙ e))))

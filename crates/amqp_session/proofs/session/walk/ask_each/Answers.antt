@@ -55,13 +55,13 @@ note-requires g c settled =
     let v = c.loop-count.invariant in
     let a = v.asked in
     let hn : c.delivery-delivery.result.now.number < 2 ^ 32 = omega arith in
-    let behind = end_later d.first _ (distance d.first c.delivery-delivery.result.now.number) a.2 s.near a.5 in
+    let after = end_later d.first _ (distance d.first c.delivery-delivery.result.now.number) a.2 s.near a.5 in
     let vec : vec_len c.loop-count.echoes ≡ length c.loop-count.echoes.items = search rules in
     let len : vec_len c.loop-count.echoes ≡ length a.2 = vec ∙ ap length a.4 ∙ length-map a.2 (echo_of None) in
     let room = c.requires.room (ap (λ (y : DispositionModel). y.settled) (sym c.said.view_is) ∙ settled) in (
       a.2,
       a.4,
-      λ own. let half = few_runs d.first c.delivery-delivery.result.now.number a.2 hf hn own behind a.3.apart in
+      λ own. let half = few_runs d.first c.delivery-delivery.result.now.number a.2 hf hn own after a.3.apart in
           omega (arith, room, near, half, len, lt, v.few, v.room),
     )
 
@@ -85,8 +85,8 @@ loop-count-preserved g c =
     let q = c.ask_disposition-answer.ensures in
     let more = asks_more g.R.LinkRelay.gives.disposition_gives d (take k order) x v.asked.0 q.0 _ _ _ v.asked.1 q.1 in
     let old = v.asked.2 in
-    let behind = end_later d.first (reach d.first 0 (take k order)) (distance d.first x.number) old s.near v.asked.5 in
-    let runs = noted_more d.first x.number d.settled (has_agreed q.0) v.asked.0 more.0 old hf hn more.2 behind v.asked.3 in
+    let after = end_later d.first (reach d.first 0 (take k order)) (distance d.first x.number) old s.near v.asked.5 in
+    let runs = noted_more d.first x.number d.settled (has_agreed q.0) v.asked.0 more.0 old hf hn more.2 after v.asked.3 in
     let items = c.note.ensures.items old v.asked.4 ∙ ap (λ b. map (echo_of None) (noted_by b c.ask_disposition-answer.result x.number old)) (ap (λ (y : DispositionModel). y.settled) c.said.view_is) ∙ ap (λ b. map (echo_of None) (noted_by d.settled b x.number old)) q.2 in
     record {
       asked = (more.0, rw s.grow more.1, noted_by d.settled (has_agreed q.0) x.number old, runs.0, items, rw (s.grow, reach_more d.first 0 (take k order) x) runs.1);

@@ -7,10 +7,10 @@ found : (c : goal.After-remove) → Ranges c.args.self.now.rows c.args.range.fir
 found c =
     let from = c.find-from.ensures in
     let to = c.find-to.ensures in
-    let behind : Begins c.find-from.new.self.rows (next c.args.range.first c.args.range.span) c.find-to.result = record { within = to.within; below = to.below; above = to.above } in
+    let after : Begins c.find-from.new.self.rows (next c.args.range.first c.args.range.span) c.find-to.result = record { within = to.within; below = to.below; above = to.above } in
     ranges c.args.self.now.rows c.args.range.first c.args.range.span c.find-from.result c.find-to.result (omega arith) (omega arith) c.len-len.ensures.table
     (record { within = from.within; below = from.below; above = from.above })
-    (subst (λ (t : TableView). Begins t.rows (next c.args.range.first c.args.range.span) c.find-to.result) from.kept behind)
+    (subst (λ (t : TableView). Begins t.rows (next c.args.range.first c.args.range.span) c.find-to.result) from.kept after)
     c.len-len.result c.stretch-count.result c.len-len.ensures.len c.stretch-count.ensures.value
 
 pub returns-clause-rows : goal.returns-clause-rows

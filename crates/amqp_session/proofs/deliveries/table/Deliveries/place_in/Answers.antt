@@ -25,7 +25,7 @@ loop-left-preserved c =
       part = closer_part c.args.self.now.rows c.args.first c.loop-left.left.low c.loop-left.left.high c.probe-at.result c.number-value.result c.closer-left.result.low c.closer-left.result.high
           v.rising v.part c.probe-at.ensures.least c.probe-at.ensures.most value c.closer-left.ensures.less c.closer-left.ensures.more;
       enough = closer_few c.args.first c.loop-left.left.low c.loop-left.left.high c.probe-at.result c.number-value.result c.closer-left.result.low c.closer-left.result.high (c.loop-left.half / 2)
-          c.probe-at.ensures.most c.probe-at.ensures.before c.probe-at.ensures.behind c.closer-left.ensures.less c.closer-left.ensures.more;
+          c.probe-at.ensures.most c.probe-at.ensures.before c.probe-at.ensures.after c.closer-left.ensures.less c.closer-left.ensures.more;
       few = omega (arith, v.few);
       cost = (k + 1, half.0, compared_more c.args.self.now c.loop-left.self c.number-value.new.self k v.cost.2 c.number-value.ensures.counted, half.2, read_more_power k v.cost.1 half.0 c.args.places half.1 v.cost.4);
     }

@@ -1,7 +1,7 @@
 use Rattle.std.proofs.Common.{◌≡◌, ◌-◌, arith}
 use Rattle.amqp_session.specs.Deliveries.{number_at}
 use Rattle.amqp_session.proofs.SortedTableLemmas.{front_above, front_below, half_left, half_power}
-use Rattle.amqp_session.proofs.deliveries.table.Deliveries.place_behind.Goals as goal
+use Rattle.amqp_session.proofs.deliveries.table.Deliveries.place_after.Goals as goal
 
 pub place_in-requires-clause-below : goal.place_in-requires-clause-below
 place_in-requires-clause-below c = λ i h.
