@@ -54,7 +54,7 @@ pub(crate) fn raise_from(ends: &mut Vec<usize>, block: usize)
     raise(&mut ends[block..]);
 }
 
-/// Tells the running lengths that items have left a block: the base rises where it is the first one. Answers the base.
+/// Updates the running lengths once items have left a block: the base rises where it is the first one. Answers the base.
 pub(crate) fn sink(ends: &mut Vec<usize>, base: usize, block: usize, count: usize) -> usize
     requires block { block ≤ length ends.old.items }
     requires fits { base + count < 2 ^ 64 }
@@ -70,7 +70,7 @@ pub(crate) fn sink(ends: &mut Vec<usize>, base: usize, block: usize, count: usiz
     base
 }
 
-/// Tells the running lengths that items have left a block: those from it on sink, or the base and those before it rise, whichever are
+/// Updates the running lengths once items have left a block: those from it on sink, or the base and those before it rise, whichever are
 /// fewer. Answers the base.
 pub(crate) fn sink_or_rise(ends: &mut Vec<usize>, base: usize, block: usize, count: usize) -> usize
     requires block { block ≤ length ends.old.items }

@@ -93,7 +93,7 @@ SendCloseStep v error (Ok f) w =
 SendCloseStep v error (Err state.IllegalState) w = (closes_by error v.state ≡ None) × (w ≡ v)
 SendCloseStep v error (Err e) w = ⊥
 
--- how the peer's Close is told: as an error, unless it answers a Close of this side and has none
+-- the error that the peer's Close gives: its own; or RemoteClosed, unless it answers a Close of this side
 abbrev pub close_error : ConnectionState → Option ErrorModel → Option ConnectionStateError
 close_error s (Some e) = Some (state.RemoteClosedWithError e)
 close_error CloseReceived None = Some state.RemoteClosed

@@ -1,4 +1,4 @@
--- The wishes that a run has heard so far, and the run of the inputs after them.
+-- The wishes that a run has asked for so far, and the run of the inputs after them.
 use Rattle.std.proofs.Common.{◌≡◌, ℕ, List, All, [], ◌∷◌, ◌++◌, refl, ap, sym, subst, ◌∙◌, append_assoc, Option, Some, None, Result, Ok, Err, inl, inr, false, map as each}
 use Rattle.std.proofs.lemmas.List.{append-nil}
 use Rattle.std.proofs.lemmas.List.Elements.{All-nil, All-push}
@@ -67,7 +67,7 @@ running_rewalked g v es answers u answers' w r = record {
   said = r.said;
 }
 
--- the entries that were heard
+-- the entries of wishes that were asked for
 pub record Flushed {R : Type 0} (g : Relays R) (v : EngineView R) (flushed : List (Entry R)) (answers : List Answer) (v' : EngineView R) (answers' : List Answer) : Type 0 where
   pub all_taken : All IsTaken flushed
   pub asked : Chain g v flushed v'
@@ -105,7 +105,7 @@ inputs_of-push : {R : Type 0} (es : List (Entry R)) (e : Entry R) → inputs_of 
 inputs_of-push [] e = refl
 inputs_of-push (x ∷ es) e = ap (λ (is' : List (Input _)). x.input ∷ is') (inputs_of-push es e)
 
--- one more was heard: its entry
+-- one more was asked for: its entry
 pub record OneMore {R : Type 0} (g : Relays R) (v : EngineView R) (flushed : List (Entry R)) (answers : List Answer) (i : Input R) (u v' : EngineView R) (answers' : List Answer) : Type 0 where
   pub entry : Entry R
   pub input_is : entry.input ≡ i
@@ -257,7 +257,7 @@ flushed_short {R} g v v' inputs answers answers' law views h = record {
   wishes_first = inl refl;
 }
 
--- all were heard, and then the inputs are run
+-- all were asked for, and then the inputs are run
 pub flushed_all : {R : Type 0} (g : Relays R) (v u w : EngineView R) (inputs inputs' : List (Input R)) (answers answers1 answers2 : List Answer) → HeadlineLaw g → StandsLaw g →
     Flushing g v answers u answers1 → NoWishes u.wishes → Ran g [] u inputs answers1 w inputs' answers2 → w.wishes ≡ u.wishes → HandledRan g v inputs answers w inputs' answers2
 unfolding ran_both running_ran

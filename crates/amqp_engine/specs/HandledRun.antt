@@ -1,5 +1,5 @@
 -- Part: handles.
--- What a run of a handled engine does: it hears the wishes, and then runs the inputs.
+-- What a run of a handled engine does: it asks for what is wished, and then runs the inputs.
 use Rattle.std.specs.Prelude.{◌≡◌, ◌⊎◌, ℕ, List, [], ◌∷◌, ◌++◌, map, All, Option, Some, None}
 use Rattle.std.specs.FinMap as finite
 use Rattle.amqp_types.specs.Error.{ErrorModel}
@@ -35,12 +35,12 @@ accepted (e ∷ es) = if_accepted e.refusal e (accepted es)
 abbrev pub NoWishes : Wishes → Type 0
 NoWishes w = (finite.entries w.ends ≡ []) × (w.close ≡ None)
 
--- The Close is heard when no End is left.
+-- The Close is asked for when no End is left.
 abbrev pub ClosesLast : Wishes → Option (Option ErrorModel) → Wishes → Type 0
 ClosesLast w None w' = w'.close ≡ w.close
 ClosesLast w (Some error) w' = (w.close ≡ Some error) × NoWishes w'
 
--- Wishes are heard, each as its request: the Ends by rising number, and then the Close. Those not yet come to stay.
+-- Wishes are asked for, each as its request: the Ends by rising number, and then the Close. A wish that is not asked for yet stays.
 pub record Flushes {R : Type 0} (w : Wishes) (flushed : List (Entry R)) (w' : Wishes) : Type 0 where
   pub ends : List (ℕ × Option ErrorModel)
   pub close : Option (Option ErrorModel)
@@ -54,8 +54,8 @@ pub record HandledRan {R : Type 0} (g : Relays R) (v : EngineView R) (inputs : L
   pub flushed : List (Entry R)
   pub flushes : Flushes v.wishes flushed v'.wishes
   pub ran : Ran g (accepted flushed) v inputs answers v' inputs' answers'
-  -- what is heard is asked for when nothing waits, also what is refused: that changes nothing, and leaves no answer
+  -- each is asked for when nothing waits, also one that is refused: that changes nothing, and leaves no answer
   pub all_taken : All IsTaken flushed
   pub asked : Chain g v (flushed ++ ran.entries) v'
-  -- no input is taken before all wishes were heard
+  -- no input is taken before all wishes were asked for
   pub wishes_first : (ran.entries ≡ []) ⊎ NoWishes v'.wishes

@@ -22,7 +22,7 @@ use Rattle.amqp_connection.specs.ConnectionErrors.{error_of_state}
 use Rattle.amqp_engine.specs.EngineView.{EngineView}
 use Rattle.amqp_engine.specs.Kept.{CloseOutcome, EndOutcome, close_wished, end_wished}
 
--- ---- of a connection: a handle sees whether it was told the outcome
+-- ---- of a connection: a handle sees whether it has given the answer
 
 abbrev pub CloseAnswer : Type 0
 CloseAnswer = Result (Unit {0}) closed.Error
@@ -39,7 +39,7 @@ abbrev pub close_answer_of : CloseOutcome → CloseAnswer
 close_answer_of (Ok u) = Ok u
 close_answer_of (Err e) = Err (error_of_state e)
 
--- What is told: nothing before the state is End; then the outcome, once.
+-- The answer: none before the state is End; then the outcome, once.
 abbrev pub close_answer_at : ConnectionState → Option CloseOutcome → Option CloseAnswer
 close_answer_at at.End None = Some (Err unclosed.IllegalState)
 close_answer_at at.End (Some o) = Some (close_answer_of o)
@@ -51,7 +51,7 @@ close_noted error v = record v { wishes = close_wished error v.wishes }
 abbrev pub close_taken : {R : Type 0} → EngineView R → EngineView R
 close_taken v = record v { outcomes = record v.outcomes { connection = None } }
 
--- A Close is wished, unless the outcome was told.
+-- A Close is wished, unless the answer was given.
 abbrev pub CloseCall : {R : Type 0} → Bool → Option ErrorModel → EngineView R → CloseAnswer → EngineView R → Type 0
 CloseCall true error v answer w = (answer ≡ Err unclosed.IllegalState) × (w ≡ v)
 CloseCall false error v answer w = (answer ≡ Ok tt) × (w ≡ close_noted error v)
@@ -60,13 +60,13 @@ abbrev pub TriesClose : {R : Type 0} → Option CloseAnswer → EngineView R →
 TriesClose None v answer answered w = (answer ≡ Err not_closed.RemoteCloseNotReceived) × (answered ≡ false) × (w ≡ v)
 TriesClose (Some o) v answer answered w = (answer ≡ Ok o) × (answered ≡ true) × (w ≡ close_taken v)
 
--- A Close is wished where none is, and the outcome is told, where there is one.
+-- A Close is wished where none is, and the answer is given, where there is one.
 abbrev pub TryCloseCall : {R : Type 0} → Bool → EngineView R → Result CloseAnswer TryCloseError → Bool → EngineView R → Type 0
 TryCloseCall true v answer answered w = (answer ≡ Err not_closed.AlreadyClosed) × (answered ≡ true) × (w ≡ v)
 TryCloseCall false v answer answered w =
     TriesClose (close_answer_at v.connection.state v.outcomes.connection) (close_noted None v) answer answered w
 
--- ---- of a session: a handle sees its number, and whether it was told the outcome
+-- ---- of a session: a handle sees its number, and whether it has given the answer
 
 pub record SessionHandleView : Type 0 where
   pub number : ℕ
@@ -91,7 +91,7 @@ abbrev pub end_answer_of : EndOutcome → EndAnswer
 end_answer_of (Ok u) = Ok u
 end_answer_of (Err e) = Err (session.error_of_state e)
 
--- What is told: nothing before the state is Unmapped; then the outcome, once.
+-- The answer: none before the state is Unmapped; then the outcome, once.
 abbrev pub end_answer_at : SessionState → Option EndOutcome → Option EndAnswer
 end_answer_at stands.Unmapped None = Some (Err unended.IllegalState)
 end_answer_at stands.Unmapped (Some o) = Some (end_answer_of o)
@@ -108,7 +108,7 @@ abbrev pub WishesEnd : {R : Type 0} → ℕ → Option (SessionView R) → Optio
 WishesEnd n None error v answer w = (answer ≡ Err unended.IllegalState) × (w ≡ v)
 WishesEnd n (Some s) error v answer w = (answer ≡ Ok tt) × (w ≡ end_noted n error v)
 
--- so it is, unless the outcome was told
+-- so it is, unless the answer was given
 abbrev pub EndCall : {R : Type 0} → SessionHandleView → Option ErrorModel → EngineView R → EndAnswer → EngineView R → Type 0
 EndCall h error v answer w =
     (h.answered ≡ true → (answer ≡ Err unended.IllegalState) × (w ≡ v))
@@ -118,7 +118,7 @@ abbrev pub TriesEnd : {R : Type 0} → ℕ → Option EndAnswer → EngineView R
 TriesEnd n None v answer answered w = (answer ≡ Err not_ended.RemoteEndNotReceived) × (answered ≡ false) × (w ≡ v)
 TriesEnd n (Some o) v answer answered w = (answer ≡ Ok o) × (answered ≡ true) × (w ≡ end_taken n v)
 
--- An End is wished where none is, and the outcome is told, where there is one; of a number that was never begun, IllegalState.
+-- An End is wished where none is, and the answer is given, where there is one; of a number that was never begun, IllegalState.
 abbrev pub AsksEnd : {R : Type 0} → ℕ → Option (SessionView R) → EngineView R → Result EndAnswer TryEndError → Bool → EngineView R → Type 0
 AsksEnd n None v answer answered w = (answer ≡ Ok (Err unended.IllegalState)) × (answered ≡ true) × (w ≡ v)
 AsksEnd n (Some s) v answer answered w = TriesEnd n (end_answer_at s.state (map.get v.outcomes.sessions n)) (end_noted n None v) answer answered w

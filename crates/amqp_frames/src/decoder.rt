@@ -78,7 +78,7 @@ impl FrameDecoder {
     }
 }
 
-/// What a head tells.
+/// The channel and the kind of a head.
 #[inline(always)]
 fn channel_and_kind(head: Result<FrameHead, Error>) -> Result<(u16, Option<Kind>), Error>
     ensures { head ≡ as_head result }

@@ -39,9 +39,9 @@ pub fn run<R: LinkRelay, O: Write>(
     let total = inputs.len();
     for _ in 0..TRIES {
         let taken = total.saturating_sub(inputs.len());
-        let told = refusals.len();
+        let before = refusals.len();
         let outcome = engine.run_into(inputs, out, refusals);
-        for refusal in refusals.iter_mut().skip(told) {
+        for refusal in refusals.iter_mut().skip(before) {
             count_on(refusal, taken);
         }
         write_out(out, output)?;

@@ -1,5 +1,5 @@
 -- Part: inner.
--- What the parts of a run of a handled engine answer: a wish that is asked for, and the wishes that were heard so far.
+-- What the parts of a run of a handled engine answer: a wish that is asked for, and the wishes that were asked for so far.
 use Rattle.std.specs.Prelude.{◌≡◌, List, [], ◌∷◌, ◌++◌, All, Option, Some, None}
 use Rattle.amqp_session.specs.Relay.{Relays}
 use Rattle.amqp_engine.specs.declared.engine.input.Input.{Input}
@@ -29,7 +29,7 @@ pub record Asked {R : Type 0} (g : Relays R) (v : EngineView R) (i : Input R) (a
   pub step : Steps g v i refusal stepped
   pub so : AskedSo refusal stepped answers v' answers'
 
--- the wishes that have been heard so far
+-- the wishes that have been asked for so far
 pub record Flushing {R : Type 0} (g : Relays R) (v : EngineView R) (answers : List Answer) (v' : EngineView R) (answers' : List Answer) :
     Type 0 where
   pub flushed : List (Entry R)
