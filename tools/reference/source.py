@@ -254,7 +254,7 @@ def dependencies(root):
 
 
 def libraries(root):
-    """The library crates, in the order of crates.txt: those that another crate of it stands on."""
+    """The library crates, in the order of crates.txt: those that another crate of it stands on, but for what tests share."""
     deps = dependencies(root)
-    used = {name for of in deps.values() for name in of}
+    used = {name for of in deps.values() for name in of if not name.startswith("test_")}
     return {name: Crate(Path(root, "crates", name), deps[name]) for name in deps if name in used}

@@ -45,7 +45,7 @@ pub fn run(
     Ok(())
 }
 
-// What the loops of these modes go over ends by an explicit call, since the end of a scope takes the prover long.
+// prover
 
 fn read_bodies(
     alloc: Global,
@@ -186,7 +186,7 @@ fn bodies(alloc: Global, frames: &[Bytes]) -> Result<Vec<Bytes>, AllocError> {
     Ok(bodies)
 }
 
-/// Generic, since the prover then meets the end of what is not taken once, and not for each type's own parts.
+// prover
 fn add<T: Drop>(all: &mut Vec<T>, value: T) -> Result<(), AllocError> {
     all.push(value)?;
     Ok(())

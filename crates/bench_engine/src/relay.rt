@@ -28,7 +28,7 @@ impl LinkRelay for Relay {
       detach_gives = λ old handle detach remote_initiated result new. result ≡ None;
     } };
 
-    // Explicit drops, since the ends of the scopes take the prover long.
+    // prover
     fn on_incoming_attach(&mut self, attach: Attach) -> Result<(), LinkRelayError> {
         drop(attach);
         Ok(())

@@ -7,6 +7,7 @@ use fe2o3_amqp::{
     Frame, FrameDecoder, FrameEncoder, Performative, Piece, ReadError, WriteError, frames,
 };
 use std::alloc::Global;
+use test_support::words;
 
 /// What a call came to.
 #[derive(Clone, Copy)]
@@ -21,7 +22,7 @@ pub enum Came {
 
 /// Makes the call of a line, and once more where it is refused for memory.
 pub fn called(rt: &HostRuntime, text: &str) -> anyhow::Result<()> {
-    let (name, rest) = reading::word(text);
+    let (name, rest) = words::word(text);
     for _ in 0..2 {
         match once(rt, name, rest)? {
             Came::To(answer) => return answered(rt, name, answer),
@@ -151,7 +152,7 @@ pub fn frame(alloc: Global, digits: &str) -> Option<Frame> {
 
 /// A limit of at least 4, and what follows it.
 pub fn limited(text: &str) -> anyhow::Result<(u32, &str)> {
-    let (limit, digits) = reading::word(text);
+    let (limit, digits) = words::word(text);
     let limit = limit.parse::<u32>()?;
     Ok((limit.max(4), digits))
 }

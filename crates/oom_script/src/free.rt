@@ -6,12 +6,13 @@ use crate::{mark, print, reading, say};
 use bytes::Bytes;
 use fe2o3_amqp::connection::Connection;
 use fe2o3_amqp::{
-    Begin, Close, ConnectionState, ConnectionStopReason, Detach, Disposition, End, Fields,
-    FrameEncoder, Handle, IncomingChannel, LinkFlow, Open, OutgoingChannel, OutputError,
-    OutputHandle, Performative, Piece, Raw, ReplayRelay, Role, Session, SessionSettings,
-    SessionState, SessionStopReason, StepError, Symbol, err_name, is_terminal,
+    Close, ConnectionState, ConnectionStopReason, Disposition, End, Fields, FrameEncoder,
+    IncomingChannel, Open, OutgoingChannel, OutputError, OutputHandle, Performative, Piece, Raw,
+    ReplayRelay, Role, Session, SessionSettings, SessionState, SessionStopReason, StepError,
+    Symbol, err_name, is_terminal,
 };
 use std::alloc::{AllocError, Global};
+use test_support::{begin_of, detach_of, disposition_of, link_flow_of, open_of, words};
 
 /// The session of the direct calls.
 type ScriptSession = Session<ReplayRelay>;
@@ -19,7 +20,7 @@ type ScriptSession = Session<ReplayRelay>;
 /// Makes the calls of a line.
 pub fn called(rt: &HostRuntime, engine: &mut ScriptEngine, text: &str) -> anyhow::Result<()> {
     mark(rt, "@make\n");
-    match reading::word(text) {
+    match words::word(text) {
         ("getters", number) => getters(rt, engine, number),
         ("values", _) => values(rt),
         ("session", _) => session(rt),
@@ -139,33 +140,11 @@ fn reads_connection(engine: &ScriptEngine) -> bool {
             .is_none()
 }
 
-/// A Begin that answers the one on channel 0.
-fn begin() -> Begin {
-    Begin {
-        remote_channel: Some(0),
-        next_outgoing_id: 0,
-        incoming_window: 8,
-        outgoing_window: 8,
-        handle_max: Handle(u32::MAX),
-        offered_capabilities: None,
-        desired_capabilities: None,
-        properties: None,
-    }
-}
-
 fn open(alloc: Global) -> Result<Open, AllocError> {
-    Ok(Open {
-        container_id: String::from_str(alloc, "a")?,
-        hostname: None,
-        max_frame_size: 512,
-        channel_max: 7,
-        idle_time_out: None,
-        outgoing_locales: None,
-        incoming_locales: None,
-        offered_capabilities: None,
-        desired_capabilities: None,
-        properties: None,
-    })
+    let mut open = open_of(String::from_str(alloc, "a")?);
+    open.max_frame_size = 512;
+    open.channel_max = 7;
+    Ok(open)
 }
 
 /// The second attempt passes where the first is refused.
@@ -186,7 +165,7 @@ fn connection(rt: &HostRuntime) -> anyhow::Result<()> {
     let ours = open_again(rt.alloc())?;
     let mut connection = Connection::new(rt.alloc(), ConnectionState::OpenSent, ours);
     let outcome = opened(rt, &mut connection);
-    // An explicit call, since the end of its scope takes the prover minutes.
+    // prover
     drop(connection);
     said(rt, "connection", outcome?)
 }
@@ -201,7 +180,7 @@ fn opened(rt: &HostRuntime, connection: &mut Connection) -> anyhow::Result<bool>
 
 /// What a connection without sessions is asked.
 fn routes_none(connection: &mut Connection) -> bool {
-    drop(connection.on_outgoing_begin(OutgoingChannel(1), begin()));
+    drop(connection.on_outgoing_begin(OutgoingChannel(1), begin_of(8)));
     drop(connection.on_outgoing_end(OutgoingChannel(1), End { error: None }));
     let was_held = connection.deallocate_session(OutgoingChannel(1));
     let was_routed = passes(connection.on_incoming_end(IncomingChannel(1), End { error: None }));
@@ -216,35 +195,9 @@ fn closes(connection: &mut Connection) -> bool {
     is_sent && is_answered && *connection.local_state() == ConnectionState::End
 }
 
-fn flow() -> LinkFlow {
-    LinkFlow {
-        handle: Handle(0),
-        delivery_count: None,
-        link_credit: Some(1),
-        available: None,
-        drain: false,
-        echo: false,
-        properties: None,
-    }
-}
-
-fn detach() -> Detach {
-    Detach {
-        handle: Handle(0),
-        closed: true,
-        error: None,
-    }
-}
-
+/// A receiver's disposition from 1 on, without a state.
 fn disposition(last: u32, settled: bool) -> Disposition {
-    Disposition {
-        role: Role::Receiver,
-        first: 1,
-        last: Some(last),
-        settled,
-        state: None,
-        batchable: false,
-    }
+    disposition_of(Role::Receiver, 1, Some(last), settled, None)
 }
 
 /// Calls of a session alone.
@@ -259,7 +212,7 @@ fn session(rt: &HostRuntime) -> anyhow::Result<()> {
         None,
     );
     mark(rt, "@refuse\n");
-    let is_begun = passes(session.on_incoming_begin(IncomingChannel(0), begin()));
+    let is_begun = passes(session.on_incoming_begin(IncomingChannel(0), begin_of(8)));
     let is_as_ever = is_begun
         && works(&mut session)
         && means_none(&mut session)
@@ -270,10 +223,10 @@ fn session(rt: &HostRuntime) -> anyhow::Result<()> {
 
 /// What a mapped session without links is asked.
 fn works(session: &mut ScriptSession) -> bool {
-    drop(session.on_outgoing_flow(flow()));
+    drop(session.on_outgoing_flow(link_flow_of(0, 1, false)));
     drop(session.on_outgoing_disposition(disposition(3, true)));
-    let is_left = passes(session.on_outgoing_detach(detach(), false));
-    let is_ignored = passes(session.on_incoming_detach(detach()));
+    let is_left = passes(session.on_outgoing_detach(detach_of(0), false));
+    let is_ignored = passes(session.on_incoming_detach(detach_of(0)));
     let flow = session.maybe_outgoing_session_flow();
     let is_quiet = flow.is_none();
     drop(flow);

@@ -7,13 +7,14 @@ use fe2o3_amqp::{
     Transfer,
 };
 use std::alloc::{AllocError, Global};
+use test_support::words;
 
 /// An input of the script.
 pub type ScriptInput = Input<ReplayRelay>;
 
 /// The input of a line; `None` where it says none. `AllocError` where memory is refused.
 pub fn of_line(alloc: Global, line: &str) -> Result<Option<ScriptInput>, AllocError> {
-    match reading::word(line) {
+    match words::word(line) {
         ("open", _) => Ok(Some(Input::Open)),
         ("close", _) => Ok(Some(Input::Close(None))),
         ("recv", digits) | ("take", digits) => {
@@ -25,7 +26,7 @@ pub fn of_line(alloc: Global, line: &str) -> Result<Option<ScriptInput>, AllocEr
 
 /// The input of a line whose second word is a session's number.
 fn of_session(alloc: Global, word: &str, rest: &str) -> Result<Option<ScriptInput>, AllocError> {
-    let (number, rest) = reading::word(rest);
+    let (number, rest) = words::word(rest);
     let Some(number) = reading::session(number) else {
         return Ok(None);
     };
@@ -56,9 +57,9 @@ fn begin(number: SessionNo, window: &str) -> Option<ScriptInput> {
 
 /// What this side settles by itself: its role, the first number, and the last one.
 fn settled(number: SessionNo, text: &str) -> Option<ScriptInput> {
-    let (role, range) = reading::word(text);
+    let (role, range) = words::word(text);
     let role = reading::role(role)?;
-    let (first, last) = reading::word(range);
+    let (first, last) = words::word(range);
     let first = first.parse::<u32>().ok()?;
     let last = last.parse::<u32>().ok()?;
     Some(Input::Settle(number, role, first, Some(last)))
@@ -74,7 +75,7 @@ fn incoming_link(
     number: SessionNo,
     text: &str,
 ) -> Result<Option<ScriptInput>, AllocError> {
-    let (handle, name) = reading::word(text);
+    let (handle, name) = words::word(text);
     let Some(handle) = reading::handle(handle) else {
         return Ok(None);
     };

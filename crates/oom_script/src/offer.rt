@@ -4,11 +4,12 @@ use crate::input::{ScriptInput, of_line};
 use crate::wishes::WishedEngine;
 use crate::{codec, free, mark, print, reading, replays, say, sending, wishes};
 use fe2o3_amqp::{
-    Answer, ConnectionState, DEFAULT_CHANNEL_MAX, DEFAULT_MAX_FRAME_SIZE, Engine, HandledEngine,
-    Open, Piece, ReplayRelay, Session, SessionInnerError, StepError, err_name, out_line,
+    Answer, ConnectionState, Engine, HandledEngine, Open, Piece, ReplayRelay, Session,
+    SessionInnerError, StepError, err_name, out_line,
 };
 use std::alloc::{AllocError, Global};
 use std::collections::VecDeque;
+use test_support::{open_of, words};
 
 /// The engine of a script.
 pub type ScriptEngine = Engine<ReplayRelay>;
@@ -32,18 +33,7 @@ impl Runs for WishedEngine {
 }
 
 fn open(alloc: Global) -> Result<Open, AllocError> {
-    Ok(Open {
-        container_id: String::from_str(alloc, "replay")?,
-        hostname: None,
-        max_frame_size: DEFAULT_MAX_FRAME_SIZE,
-        channel_max: DEFAULT_CHANNEL_MAX,
-        idle_time_out: None,
-        outgoing_locales: None,
-        incoming_locales: None,
-        offered_capabilities: None,
-        desired_capabilities: None,
-        properties: None,
-    })
+    Ok(open_of(String::from_str(alloc, "replay")?))
 }
 
 /// The Open of a new engine; one request alone is refused, and the second attempt passes.
@@ -63,7 +53,7 @@ pub fn script(rt: &HostRuntime, text: &str) -> anyhow::Result<()> {
     mark(rt, "@make\n");
     let mut engine = engine_of(rt.alloc(), open_again(rt.alloc())?);
     let outcome = beside(rt, &mut engine, text);
-    // An explicit call, since the end of its scope takes the prover minutes.
+    // prover
     drop(engine);
     outcome
 }
@@ -95,7 +85,7 @@ fn line(
     wished: &mut WishedEngine,
     text: &str,
 ) -> anyhow::Result<()> {
-    match reading::word(text) {
+    match words::word(text) {
         ("wished", rest) => wishes::called(rt, wished, rest),
         ("#", _) => begins(rt, engine, text),
         ("call", rest) => codec::called(rt, rest),

@@ -23,11 +23,6 @@ pub fn text(rt: &HostRuntime) -> anyhow::Result<Vec<u8>> {
     Err(anyhow::anyhow!("the script is too long"))
 }
 
-/// A word, and what follows it after one space.
-pub fn word(line: &str) -> (&str, &str) {
-    line.split_once(' ').unwrap_or((line, ""))
-}
-
 /// A session's number.
 pub fn session(text: &str) -> Option<SessionNo> {
     match text.parse::<u32>() {

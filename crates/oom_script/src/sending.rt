@@ -7,6 +7,7 @@ use crate::{mark, print, reading, say};
 use bytes::Bytes;
 use fe2o3_amqp::{Frame, FrameEncoder, Refusal, SendBuffer};
 use std::collections::VecDeque;
+use test_support::words;
 
 /// Up to how many bytes a payload is copied: a short limit, so that some are shared.
 const COPIED: usize = 8;
@@ -101,7 +102,7 @@ fn sent(rt: &HostRuntime, chunk: &[u8]) -> anyhow::Result<()> {
 /// `FrameEncoder::encode_to` with a limit, which goes before the digits of the frame and of what is to be sent for it.
 pub fn encode_to(rt: &HostRuntime, text: &str) -> anyhow::Result<Came> {
     let (limit, rest) = limited(text)?;
-    let (digits, wire) = reading::word(rest);
+    let (digits, wire) = words::word(rest);
     let frame = frame(rt.alloc(), digits);
     let came = match &frame {
         Some(frame) => sent_as(rt, limit, frame, wire),

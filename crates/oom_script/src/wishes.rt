@@ -10,13 +10,14 @@ use fe2o3_amqp::{
     HandledEngine, ReplayRelay, SessionHandle, SessionNo, Symbol, TryCloseError, TryEndError,
 };
 use std::alloc::{AllocError, Global};
+use test_support::words;
 
 /// The engine whose handles are used.
 pub type WishedEngine = HandledEngine<ReplayRelay>;
 
 /// Does what a line says.
 pub fn called(rt: &HostRuntime, engine: &mut WishedEngine, text: &str) -> anyhow::Result<()> {
-    match reading::word(text) {
+    match words::word(text) {
         ("end", rest) => end(rt, engine, rest),
         ("ended", number) => ended(rt, engine, number),
         ("close", condition) => close(rt, engine, condition),
@@ -36,7 +37,7 @@ fn handle(engine: &WishedEngine, number: &str) -> anyhow::Result<SessionHandle> 
 
 /// Notes a wish for an End, with an error where a condition is named.
 fn end(rt: &HostRuntime, engine: &mut WishedEngine, text: &str) -> anyhow::Result<()> {
-    let (number, condition) = reading::word(text);
+    let (number, condition) = words::word(text);
     let handle = handle(engine, number)?;
     if condition.is_empty() {
         mark(rt, "@refuse\n");

@@ -15,6 +15,7 @@ use amqp_client::{Client, Operation};
 use fe2o3_amqp::hex_bytes;
 use std::alloc::{AllocError, Global};
 use std::io::{self, BufRead, BufReader, BufWriter, Write};
+use test_support::words;
 
 /// What an output holds before a call.
 const FRESH: u8 = 0xee;
@@ -40,7 +41,7 @@ fn run(rt: &HostRuntime, client: &mut Option<Client>) -> anyhow::Result<()> {
 
 /// What a line is answered.
 fn answer(alloc: Global, client: &mut Option<Client>, line: &str) -> anyhow::Result<String> {
-    let (word, rest) = line.split_once(' ').unwrap_or((line, ""));
+    let (word, rest) = words::word(line);
     match word {
         "new" => made(alloc, client, rest),
         "op" => called(alloc, client, rest),
@@ -76,9 +77,9 @@ fn made(alloc: Global, client: &mut Option<Client>, digits: &str) -> anyhow::Res
 }
 
 fn called(alloc: Global, client: &mut Option<Client>, text: &str) -> anyhow::Result<String> {
-    let (number, text) = text.split_once(' ').unwrap_or((text, ""));
+    let (number, text) = words::word(text);
     let (digits, room) = text.split_once(' ').unwrap_or((text, "0"));
-    let number = number.parse::<u32>()?;
+    let number = words::number(number)?;
     let input = bytes_of(alloc, digits)?;
     let mut output = vec![in alloc; FRESH; room.parse::<usize>()?]?;
     let Some(client) = client else {

@@ -5,7 +5,7 @@ use amqp_types::{Performative, ReadError};
 use bytes::{Bytes, BytesMut};
 use std::alloc::Global;
 
-// A frame or a performative is looked at by reference and ended by `drop(..)`: at the end of a scope it takes the prover minutes.
+// prover: a frame or a performative is looked at by reference, and ended by `drop(..)`.
 
 /// The decoder's refusal.
 pub fn refused(error: &Error) -> anyhow::Error {

@@ -7,6 +7,7 @@ use fe2o3_amqp::{
     OutgoingChannel, Performative, Piece, SessionFrame, SessionFrameBody, SessionNo, out_line,
 };
 use std::alloc::Global;
+use test_support::{reasons, words};
 
 /// What the calls of a row answer, whose first line is the state of the connection.
 pub fn answer(alloc: Global, text: &str) -> anyhow::Result<String> {
@@ -29,7 +30,7 @@ fn answers(alloc: Global, connection: &mut Connection, lines: &str) -> anyhow::R
 
 /// What one call answers.
 fn call(alloc: Global, connection: &mut Connection, line: &str) -> anyhow::Result<String> {
-    let (word, rest) = line.split_once(' ').unwrap_or((line, ""));
+    let (word, rest) = words::word(line);
     match word {
         "open" => sent(alloc, connection.send_open()),
         "close" => close(alloc, connection, rest),
@@ -50,7 +51,7 @@ fn plain(
 ) -> anyhow::Result<String> {
     match word {
         "deallocate" => {
-            let is_given = connection.deallocate_session(OutgoingChannel(reading::channel(rest)?));
+            let is_given = connection.deallocate_session(OutgoingChannel(words::channel(rest)?));
             Ok(format!(in alloc; "{is_given}")?)
         }
         "route" => route(alloc, connection, rest),
@@ -145,7 +146,7 @@ fn frame_of(sent: SessionFrame) -> Frame {
 }
 
 fn close(alloc: Global, connection: &mut Connection, text: &str) -> anyhow::Result<String> {
-    let error = reading::error(alloc, text)?;
+    let error = reasons::error(alloc, text)?;
     sent(alloc, connection.send_close(error))
 }
 
@@ -182,7 +183,7 @@ fn send(alloc: Global, connection: &Connection, text: &str) -> anyhow::Result<St
 }
 
 fn allocate(alloc: Global, connection: &mut Connection, text: &str) -> anyhow::Result<String> {
-    match connection.allocate_session(SessionNo(reading::number(text)?)) {
+    match connection.allocate_session(SessionNo(words::number(text)?)) {
         Ok(channel) => {
             let channel = channel.0;
             Ok(format!(in alloc; "channel {channel}")?)
@@ -192,17 +193,17 @@ fn allocate(alloc: Global, connection: &mut Connection, text: &str) -> anyhow::R
 }
 
 fn stop(alloc: Global, connection: &mut Connection, text: &str) -> anyhow::Result<String> {
-    connection.set_connection_stop_reason(reading::stop_reason(text)?);
+    connection.set_connection_stop_reason(reasons::connection_stop(text)?);
     Ok(String::from_str(alloc, "ok")?)
 }
 
 fn route(alloc: Global, connection: &Connection, text: &str) -> anyhow::Result<String> {
-    let channel = IncomingChannel(reading::channel(text)?);
+    let channel = IncomingChannel(words::channel(text)?);
     session(alloc, connection.session_tx_by_incoming_channel(channel))
 }
 
 fn holder(alloc: Global, connection: &Connection, text: &str) -> anyhow::Result<String> {
-    let channel = OutgoingChannel(reading::channel(text)?);
+    let channel = OutgoingChannel(words::channel(text)?);
     session(alloc, connection.session_tx_by_outgoing_channel(channel))
 }
 

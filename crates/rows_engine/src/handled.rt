@@ -9,6 +9,7 @@ use std::alloc::{AllocError, Global};
 use std::collections::VecDeque;
 use std::fmt::Debug;
 use std::mem;
+use test_support::{digits, reasons, words};
 
 /// An engine with two handles of its connection, and two of the session that was named last.
 #[derive(Drop)]
@@ -52,7 +53,7 @@ fn answers(alloc: Global, handled: &mut Handled, lines: &str) -> anyhow::Result<
 
 /// What one line answers.
 fn call(alloc: Global, handled: &mut Handled, line: &str) -> anyhow::Result<String> {
-    let (word, rest) = line.split_once(' ').unwrap_or((line, ""));
+    let (word, rest) = words::word(line);
     match word {
         "connection" => of_connection(alloc, &mut handled.engine, &mut handled.connection.0, rest),
         "other" => of_connection(alloc, &mut handled.engine, &mut handled.connection.1, rest),
@@ -73,7 +74,7 @@ fn another(alloc: Global, handled: &mut Handled, state: &str) -> anyhow::Result<
 
 /// Two handles of this session are made.
 fn handle(alloc: Global, handled: &mut Handled, text: &str) -> anyhow::Result<String> {
-    let is_made = make_handles(handled, SessionNo(reading::number(text)?));
+    let is_made = make_handles(handled, SessionNo(words::number(text)?));
     let word = if is_made { "some\n" } else { "none\n" };
     Ok(String::from_str(alloc, word)?)
 }
@@ -97,11 +98,11 @@ fn of_connection(
     handle: &mut ConnectionHandle,
     text: &str,
 ) -> anyhow::Result<String> {
-    let (word, rest) = text.split_once(' ').unwrap_or((text, ""));
+    let (word, rest) = words::word(text);
     match word {
         "is" => said(alloc, handle.is_closed(engine)),
         "try" => shown(alloc, handle.try_close(engine)),
-        "close" => match reading::error(alloc, rest)? {
+        "close" => match reasons::error(alloc, rest)? {
             None => shown(alloc, handle.close(engine)),
             Some(error) => shown(alloc, handle.close_with_error(error, engine)),
         },
@@ -134,12 +135,12 @@ fn of_session(
     handle: &mut SessionHandle,
     text: &str,
 ) -> anyhow::Result<String> {
-    let (word, rest) = text.split_once(' ').unwrap_or((text, ""));
+    let (word, rest) = words::word(text);
     match word {
         "is" => said(alloc, handle.is_ended(engine)),
         "try" => shown(alloc, handle.try_end(engine)),
         "close" => shown(alloc, handle.close(engine)),
-        "end" => match reading::error(alloc, rest)? {
+        "end" => match reasons::error(alloc, rest)? {
             None => shown(alloc, handle.end(engine)),
             Some(error) => shown(alloc, handle.end_with_error(error, engine)),
         },
@@ -196,18 +197,18 @@ fn input(alloc: Global, word: &str, rest: &str) -> anyhow::Result<Option<Input<R
     match word {
         "run" => Ok(None),
         "open" => Ok(Some(Input::Open)),
-        "close" => Ok(Some(Input::Close(reading::error(alloc, rest)?))),
+        "close" => Ok(Some(Input::Close(reasons::error(alloc, rest)?))),
         "begin" => Ok(Some(Input::Begin(number(rest)?, SessionSettings::new()))),
         "end" => Ok(Some(Input::End(number(rest)?, None))),
         "release" => Ok(Some(Input::Release(number(rest)?))),
         "forget" => Ok(Some(Input::Forget(number(rest)?))),
-        "recv" => Ok(Some(Input::Received(reading::bytes(alloc, rest)?))),
+        "recv" => Ok(Some(Input::Received(digits::bytes(alloc, rest)?))),
         _ => Err(anyhow::anyhow!("no input")),
     }
 }
 
 fn number(text: &str) -> anyhow::Result<SessionNo> {
-    Ok(SessionNo(reading::number(text)?))
+    Ok(SessionNo(words::number(text)?))
 }
 
 /// The lines of a frame's pieces.

@@ -1,14 +1,15 @@
 //! A row, and what it prints.
 
-use crate::{connection, handled, reading};
+use crate::{connection, handled};
 use fe2o3_amqp::replay;
 use std::alloc::Global;
 use std::io::{self, Write};
+use test_support::words;
 
 /// Takes a line of the row. Where the line is the title of the next one, it prints what the row prints, and that title.
 pub fn next(alloc: Global, lines: &mut String, line: &str) -> anyhow::Result<Vec<u8>> {
     if !line.starts_with("-- ") {
-        lines.push_str(reading::without_note(line))?;
+        lines.push_str(words::without_note(line))?;
         lines.push_str("\n")?;
         return Ok(Vec::new(alloc));
     }

@@ -1,12 +1,15 @@
 //! Calls of a pair, each a letter, and what they answer, each a letter too.
 
-use crate::made;
-use crate::relay::RowRelay;
 use amqp_session::{
     AllocLinkError, InputHandle, OutputHandle, SessionInnerError, SessionPair, Side,
 };
+use amqp_types::Role;
 use bytes::Bytes;
 use std::alloc::Global;
+use test_support::{RowRelay, attach_of, link_flow_of, transfer_of};
+
+/// The tag of each transfer that has one.
+const TAG: Option<&'static [u8]> = Some(b"t");
 
 /// What a call answers, as a letter.
 fn said(answer: Result<(), SessionInnerError>) -> &'static str {
@@ -60,7 +63,7 @@ pub fn answer(
 }
 
 fn flow(pair: &mut SessionPair<RowRelay>, side: Side, handle: u32, echo: bool) -> &'static str {
-    said(pair.send_flow(side, made::flow(handle, echo)))
+    said(pair.send_flow(side, link_flow_of(handle, 1, echo)))
 }
 
 fn allot(
@@ -70,7 +73,7 @@ fn allot(
     name: &str,
 ) -> anyhow::Result<&'static str> {
     let name = String::from_str(alloc, name)?;
-    Ok(allotted(pair.allocate_link(side, name, Some(RowRelay {}))))
+    Ok(allotted(pair.allocate_link(side, name, Some(RowRelay::new()))))
 }
 
 fn attach(
@@ -81,7 +84,8 @@ fn attach(
     handle: u32,
 ) -> anyhow::Result<&'static str> {
     let name = String::from_str(alloc, name)?;
-    Ok(said(pair.send_attach(side, made::attach(name, handle))))
+    let attach = attach_of(name, handle, Role::Sender);
+    Ok(said(pair.send_attach(side, attach)))
 }
 
 fn transfer(
@@ -89,15 +93,16 @@ fn transfer(
     side: Side,
     letter: u8,
 ) -> anyhow::Result<&'static str> {
-    let (handle, has_tag, settled, is_first) = match letter {
-        b't' => (0, true, None, true),
-        b's' => (0, true, Some(true), true),
-        b'v' => (7, true, None, true),
-        b'u' => (0, false, None, true),
-        b'c' => (0, false, None, false),
+    let (handle, tag, settled, is_first) = match letter {
+        b't' => (0, TAG, None, true),
+        b's' => (0, TAG, Some(true), true),
+        b'v' => (7, TAG, None, true),
+        b'u' => (0, None, None, true),
+        b'c' => (0, None, None, false),
         _ => anyhow::bail!("no call"),
     };
-    let transfer = made::transfer(handle, has_tag, settled);
+    let mut transfer = transfer_of(handle, tag);
+    transfer.settled = settled;
     let payload = Bytes::from_static(b"p");
     Ok(said(pair.send_transfer(side, InputHandle(handle), transfer, payload, is_first)))
 }

@@ -22,18 +22,16 @@
 #![tactic(auto)]
 
 mod call;
-mod made;
-mod relay;
 mod row;
 
 use amqp_session::{SessionPair, SessionSettings};
-use relay::RowRelay;
 use std::io::{self, BufRead, BufReader, BufWriter, Write};
+use test_support::RowRelay;
 
 fn main(rt: HostRuntime) -> anyhow::Result<()> {
     let mut pair = SessionPair::new(rt.alloc(), SessionSettings::new(), SessionSettings::new());
     let outcome = run(&rt, &mut pair);
-    // An explicit call, since the end of its scope takes the prover minutes.
+    // prover
     drop(pair);
     outcome
 }

@@ -1,10 +1,10 @@
 //! A line of the rows, and what it prints.
 
 use crate::call;
-use crate::relay::RowRelay;
 use amqp_session::{SessionPair, SessionSettings, Side};
 use std::alloc::Global;
 use std::mem;
+use test_support::{RowRelay, words};
 
 /// What a line prints.
 pub fn answer(
@@ -22,10 +22,10 @@ pub fn answer(
 
 /// The settings of a session, by its first number and its window: the first two words of the text; and what follows them.
 fn settings(text: &str) -> anyhow::Result<(SessionSettings, &str)> {
-    let (first, rest) = text.split_once(' ').unwrap_or((text, ""));
-    let (window, rest) = rest.split_once(' ').unwrap_or((rest, ""));
-    let first = first.parse::<u32>()?;
-    let window = window.parse::<u32>()?;
+    let (first, rest) = words::word(text);
+    let (window, rest) = words::word(rest);
+    let first = words::number(first)?;
+    let window = words::number(window)?;
     let mut settings = SessionSettings::new();
     settings.next_outgoing_id = first;
     settings.incoming_window = window;
@@ -40,7 +40,7 @@ fn made_anew(
     let (a, rest) = settings(text)?;
     match settings(rest) {
         Ok((b, _)) => {
-            // An explicit call, since an assignment's own end of the old pair takes the prover minutes.
+            // prover
             drop(mem::replace(pair, SessionPair::new(alloc, a, b)));
             Ok(String::new(alloc))
         }

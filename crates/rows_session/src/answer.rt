@@ -15,7 +15,7 @@ pub fn line(alloc: Global, text: &str) -> anyhow::Result<String> {
     Ok(format!(in alloc; "{text}\n")?)
 }
 
-/// The line of a refusal. It ends the error here, since the end of a scope takes the prover long.
+/// The line of a refusal. It ends the error here.
 pub fn refused<E: fmt::Debug + Drop>(alloc: Global, error: E) -> anyhow::Result<String> {
     let text = format!(in alloc; "err {error:?}\n");
     drop(error);

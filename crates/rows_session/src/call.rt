@@ -1,10 +1,10 @@
 //! Calls of a session that take a performative.
 
-use crate::relay::RowRelay;
-use crate::{answer, disposition, kinds, reading};
+use crate::{answer, disposition, kinds};
 use amqp_session::{IncomingChannel, InputHandle, Session};
 use amqp_types::Performative;
 use std::alloc::Global;
+use test_support::{RowRelay, digits, words};
 
 /// What is answered to a performative that came on a channel.
 pub fn received(
@@ -12,9 +12,9 @@ pub fn received(
     session: &mut Session<RowRelay>,
     text: &str,
 ) -> anyhow::Result<String> {
-    let (channel, digits) = reading::word(text);
-    let channel = IncomingChannel(reading::channel(channel)?);
-    let (performative, payload) = reading::performative(alloc, digits)?;
+    let (channel, digits) = words::word(text);
+    let channel = IncomingChannel(words::channel(channel)?);
+    let (performative, payload) = digits::performative(alloc, digits)?;
     match performative {
         Performative::Transfer(transfer) => {
             answer::transfer_taken(alloc, session.on_incoming_transfer(transfer, payload))
@@ -75,8 +75,8 @@ pub fn transfer(
     text: &str,
     is_first: bool,
 ) -> anyhow::Result<String> {
-    let (input, digits) = reading::word(text);
-    let input = InputHandle(reading::number(input)?);
+    let (input, digits) = words::word(text);
+    let input = InputHandle(words::number(input)?);
     let (transfer, payload) = kinds::transfer(alloc, digits)?;
     answer::handed_out(
         alloc,

@@ -1,11 +1,11 @@
 //! Calls of a session for dispositions, and their answers.
 
-use crate::relay::RowRelay;
 use crate::{answer, kinds, reading};
 use amqp_session::{Session, SessionInnerError, num_messages_settled_by_disposition};
 use amqp_types::Disposition;
 use std::alloc::Global;
 use std::vec::IntoIter;
+use test_support::{RowRelay, words};
 
 /// The lines of the echoes that a received disposition is answered.
 pub fn echoed(
@@ -48,12 +48,12 @@ pub fn sent(
 
 /// Whether the counts of the latest walk are within these bounds; the counts, where they are not.
 pub fn walk(alloc: Global, session: &Session<RowRelay>, text: &str) -> anyhow::Result<String> {
-    let (least, rest) = reading::word(text);
-    let (most, comparisons) = reading::word(rest);
+    let (least, rest) = words::word(text);
+    let (most, comparisons) = words::word(rest);
     let walk = session.last_walk();
     let (turns, compared) = (walk.turns, walk.comparisons);
-    let is_in = turns >= reading::number(least)? as u64 && turns <= reading::number(most)? as u64;
-    if is_in && compared <= reading::number(comparisons)? {
+    let is_in = turns >= words::number(least)? as u64 && turns <= words::number(most)? as u64;
+    if is_in && compared <= words::number(comparisons)? {
         return answer::line(alloc, "ok");
     }
     Ok(format!(in alloc; "turns={turns} comparisons={compared}\n")?)
@@ -72,7 +72,7 @@ pub fn settled(
     session: &mut Session<RowRelay>,
     text: &str,
 ) -> anyhow::Result<String> {
-    let (role, rest) = reading::word(text);
+    let (role, rest) = words::word(text);
     let role = reading::role(role)?;
     let (first, last) = range(rest)?;
     let count = session.settle(role, first, last);
@@ -81,11 +81,11 @@ pub fn settled(
 
 /// The first number of a range, and the last one, where it is named.
 fn range(text: &str) -> anyhow::Result<(u32, Option<u32>)> {
-    let (first, last) = reading::word(text);
-    let first = reading::number(first)?;
+    let (first, last) = words::word(text);
+    let first = words::number(first)?;
     let last = match last {
         "" => None,
-        last => Some(reading::number(last)?),
+        last => Some(words::number(last)?),
     };
     Ok((first, last))
 }

@@ -1,14 +1,14 @@
 //! Performatives of one kind, read from hexadecimal digits. Each call ends the life of the performative that it was read as.
 
-use crate::reading;
 use amqp_session::LinkFlow;
 use amqp_types::{Attach, Detach, Disposition, Flow, Performative, Transfer};
 use bytes::Bytes;
 use std::alloc::Global;
+use test_support::digits;
 
 /// The performative that the digits say, without what follows it.
 fn alone(alloc: Global, digits: &str) -> anyhow::Result<Performative> {
-    let (performative, rest) = reading::performative(alloc, digits)?;
+    let (performative, rest) = digits::performative(alloc, digits)?;
     drop(rest);
     Ok(performative)
 }
@@ -91,7 +91,7 @@ pub fn link_flow(alloc: Global, digits: &str) -> anyhow::Result<LinkFlow> {
 
 /// A transfer and its payload.
 pub fn transfer(alloc: Global, digits: &str) -> anyhow::Result<(Transfer, Bytes)> {
-    let (read, payload) = reading::performative(alloc, digits)?;
+    let (read, payload) = digits::performative(alloc, digits)?;
     match as_transfer(read) {
         Some(transfer) => Ok((transfer, payload)),
         None => {

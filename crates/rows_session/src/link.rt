@@ -1,9 +1,9 @@
 //! Calls of a session for its links.
 
-use crate::relay::RowRelay;
-use crate::{answer, kinds, reading};
+use crate::{answer, kinds};
 use amqp_session::{InputHandle, OutputHandle, Session};
 use std::alloc::Global;
+use test_support::{RowRelay, words};
 
 /// What a call for links answers.
 pub fn answer(
@@ -11,7 +11,7 @@ pub fn answer(
     session: &mut Session<RowRelay>,
     line: &str,
 ) -> anyhow::Result<String> {
-    match reading::word(line) {
+    match words::word(line) {
         ("link", name) => allot(alloc, session, name, Some(RowRelay::new())),
         ("link-refusing", rest) => allot_refusing(alloc, session, rest),
         ("link-bare", name) => allot(alloc, session, name, None),
@@ -25,7 +25,7 @@ pub fn answer(
 
 /// What is handed out for a link.
 fn sent(alloc: Global, session: &mut Session<RowRelay>, line: &str) -> anyhow::Result<String> {
-    match reading::word(line) {
+    match words::word(line) {
         ("attach", digits) => attach(alloc, session, digits),
         ("detach", digits) => detach(alloc, session, digits, false),
         ("detach-awaited", digits) => detach(alloc, session, digits, true),
@@ -49,9 +49,9 @@ fn allot_refusing(
     session: &mut Session<RowRelay>,
     text: &str,
 ) -> anyhow::Result<String> {
-    let (count, name) = reading::word(text);
+    let (count, name) = words::word(text);
     let mut relay = RowRelay::new();
-    relay.refusals = reading::number(count)?;
+    relay.refusals = words::number(count)?;
     allot(alloc, session, name, Some(relay))
 }
 
@@ -61,8 +61,8 @@ fn allot_incoming(
     text: &str,
     is_deaf: bool,
 ) -> anyhow::Result<String> {
-    let (input, name) = reading::word(text);
-    let input = InputHandle(reading::number(input)?);
+    let (input, name) = words::word(text);
+    let input = InputHandle(words::number(input)?);
     let name = String::from_str(alloc, name)?;
     let mut relay = RowRelay::new();
     relay.is_deaf = is_deaf;
@@ -70,7 +70,7 @@ fn allot_incoming(
 }
 
 fn release(alloc: Global, session: &mut Session<RowRelay>, text: &str) -> anyhow::Result<String> {
-    let handle = OutputHandle(reading::number(text)?);
+    let handle = OutputHandle(words::number(text)?);
     let was = session.deallocate_link(handle);
     Ok(format!(in alloc; "{was}\n")?)
 }

@@ -1,11 +1,11 @@
 //! Making a session.
 
 use crate::reading;
-use crate::relay::RowRelay;
 use amqp_session::{ConnectionStopReason, OutgoingChannel, Session, SessionSettings};
 use amqp_types::Symbol;
 use std::alloc::Global;
 use std::mem;
+use test_support::{RowRelay, reasons, words};
 
 /// What a session is made of, but for its state.
 #[derive(Drop)]
@@ -26,7 +26,7 @@ fn plain() -> Parts {
 
 /// A list of this symbol alone.
 fn one_symbol(alloc: Global, text: &str) -> anyhow::Result<Vec<Symbol>> {
-    let symbol = reading::symbol(alloc, text)?;
+    let symbol = reasons::symbol(alloc, text)?;
     Ok(vec![in alloc; symbol]?)
 }
 
@@ -51,7 +51,7 @@ fn number_mut<'a>(settings: &'a mut SessionSettings, name: &str) -> Option<&'a m
 /// Sets a number of the settings.
 fn set_number(settings: &mut SessionSettings, name: &str, value: &str) -> anyhow::Result<()> {
     match number_mut(settings, name) {
-        Some(number) => *number = reading::number(value)?,
+        Some(number) => *number = words::number(value)?,
         None => anyhow::bail!("no part of a session"),
     }
     Ok(())
@@ -62,8 +62,8 @@ fn set(alloc: Global, parts: &mut Parts, name: &str, value: &str) -> anyhow::Res
     match name {
         "offered" => put_symbol(alloc, &mut parts.settings.offered_capabilities, value)?,
         "desired" => put_symbol(alloc, &mut parts.settings.desired_capabilities, value)?,
-        "channel" => parts.channel = reading::channel(value)?,
-        "stopped" => parts.connection_stop = Some(reading::connection_stop(value)?),
+        "channel" => parts.channel = words::channel(value)?,
+        "stopped" => parts.connection_stop = Some(reasons::connection_stop(value)?),
         _ => set_number(&mut parts.settings, name, value)?,
     }
     Ok(())
@@ -82,7 +82,7 @@ fn set_all(alloc: Global, parts: &mut Parts, line: &str) -> anyhow::Result<()> {
 
 /// The session that a line says: its state, and then names with their values.
 pub fn session(alloc: Global, line: &str) -> anyhow::Result<Session<RowRelay>> {
-    let (state, _) = reading::word(line);
+    let (state, _) = words::word(line);
     let state = reading::state(state)?;
     let mut parts = plain();
     match set_all(alloc, &mut parts, line) {

@@ -37,17 +37,16 @@ mod kinds;
 mod link;
 mod made;
 mod reading;
-mod relay;
 mod row;
 
 use amqp_session::Session;
-use relay::RowRelay;
 use std::io::{self, BufRead, BufReader, BufWriter, Write};
+use test_support::RowRelay;
 
 fn main(rt: HostRuntime) -> anyhow::Result<()> {
     let mut session = made::session(rt.alloc(), "Unmapped")?;
     let outcome = run(&rt, &mut session);
-    // An explicit call, since the end of its scope takes the prover minutes.
+    // prover
     drop(session);
     outcome
 }

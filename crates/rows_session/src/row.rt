@@ -1,10 +1,10 @@
 //! A line of the rows, and its answer.
 
-use crate::relay::RowRelay;
 use crate::{answer, call, disposition, link, made, reading};
 use amqp_session::Session;
 use std::alloc::Global;
 use std::mem;
+use test_support::{RowRelay, reasons, words};
 
 /// What a line prints.
 pub fn answer(
@@ -12,20 +12,20 @@ pub fn answer(
     session: &mut Session<RowRelay>,
     line: &str,
 ) -> anyhow::Result<String> {
-    match reading::word(line) {
+    match words::word(line) {
         ("", _) => Ok(String::new(alloc)),
         ("#", _) => answer::line(alloc, line),
-        ("times", rest) => times(alloc, session, reading::without_note(rest)),
-        _ => once(alloc, session, reading::without_note(line)),
+        ("times", rest) => times(alloc, session, words::without_note(rest)),
+        _ => once(alloc, session, words::without_note(line)),
     }
 }
 
 /// The answers to a line that is given several times: each that is another than the one before.
 fn times(alloc: Global, session: &mut Session<RowRelay>, text: &str) -> anyhow::Result<String> {
-    let (count, line) = reading::word(text);
+    let (count, line) = words::word(text);
     let mut all = String::new(alloc);
     let mut last = String::new(alloc);
-    for _ in 0..reading::number(count)? {
+    for _ in 0..words::number(count)? {
         let next = once(alloc, session, line)?;
         if next.as_str() != last.as_str() {
             all.push_str(next.as_str())?;
@@ -37,7 +37,7 @@ fn times(alloc: Global, session: &mut Session<RowRelay>, text: &str) -> anyhow::
 
 /// What one call answers.
 fn once(alloc: Global, session: &mut Session<RowRelay>, line: &str) -> anyhow::Result<String> {
-    match reading::word(line) {
+    match words::word(line) {
         ("new", rest) => made_anew(alloc, session, rest),
         ("recv", rest) => call::received(alloc, session, rest),
         ("flow", rest) => call::flow(alloc, session, rest),
@@ -66,13 +66,13 @@ fn plain(alloc: Global, session: &mut Session<RowRelay>, line: &str) -> anyhow::
 
 fn made_anew(alloc: Global, session: &mut Session<RowRelay>, text: &str) -> anyhow::Result<String> {
     let anew = made::session(alloc, text)?;
-    // An explicit call, since an assignment's own end of the old session takes the prover minutes.
+    // prover
     drop(mem::replace(session, anew));
     answer::line(alloc, "ok")
 }
 
 fn end(alloc: Global, session: &mut Session<RowRelay>, text: &str) -> anyhow::Result<String> {
-    let error = reading::error(alloc, text)?;
+    let error = reasons::error(alloc, text)?;
     answer::sent(alloc, session.send_end(error))
 }
 

@@ -3,11 +3,12 @@
 use crate::given::{ReplayEngine, pieces_said, unnamed_open};
 use bytes::Bytes;
 use fe2o3_amqp::{
-    ConnectionState, ConnectionStopReason, DeliveryTag, Engine, Handle, IncomingChannel, Input,
-    InputHandle, LinkRelay, Piece, SessionNo, SessionSettings, SessionState, SessionStopReason,
-    StepError, Transfer, err_name, hex_bytes,
+    ConnectionState, ConnectionStopReason, Engine, IncomingChannel, Input, InputHandle, LinkRelay,
+    Piece, SessionNo, SessionSettings, SessionState, SessionStopReason, StepError, err_name,
+    hex_bytes,
 };
 use std::alloc::{AllocError, Global};
+use test_support::transfer_of;
 
 /// Why an input is refused, if it is.
 pub fn refusal<R: LinkRelay>(engine: &mut Engine<R>, input: Input<R>) -> Option<StepError> {
@@ -93,23 +94,6 @@ pub fn begins<R: LinkRelay>(engine: &mut Engine<R>, number: u32) -> bool {
     answer(engine, begin) == "done" && pieces(engine).is_some()
 }
 
-/// A first transfer on handle 0, with a tag.
-pub fn first_transfer(tag: &'static [u8]) -> Transfer {
-    Transfer {
-        handle: Handle(0),
-        delivery_id: None,
-        delivery_tag: Some(DeliveryTag(Bytes::from_static(tag))),
-        message_format: None,
-        settled: None,
-        more: false,
-        rcv_settle_mode: None,
-        state: None,
-        resume: false,
-        aborted: false,
-        batchable: false,
-    }
-}
-
 /// What the request of a first transfer is answered.
 pub fn send<R: LinkRelay>(
     engine: &mut Engine<R>,
@@ -117,7 +101,7 @@ pub fn send<R: LinkRelay>(
     tag: &'static [u8],
     payload: Bytes,
 ) -> &'static str {
-    let transfer = first_transfer(tag);
+    let transfer = transfer_of(0, Some(tag));
     let number = SessionNo(number);
     answer(
         engine,

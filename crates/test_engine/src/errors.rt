@@ -11,11 +11,7 @@ use fe2o3_amqp::{
 use std::alloc::Global;
 use std::fmt::Display;
 use std::test::Fail;
-
-/// Whether both are the same. Where they are dropped, the proof needs none of their variants.
-fn are_same<T: PartialEq + Drop>(told: T, want: T) -> bool {
-    told == want
-}
+use test_support::are_same;
 
 #[test]
 fn states_are_told_as_inner_errors(rt: HostRuntime) {

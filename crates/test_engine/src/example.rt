@@ -27,7 +27,7 @@ pub fn closing<R: LinkRelay, P: Write>(
     let mut answers = Vec::new(alloc);
     let outcome = engine.run(&mut inputs, &mut answers);
     let sent = send(&answers, peer);
-    // By name: where a return drops them, the prover reads once more all that they drop.
+    // prover
     drop(answers);
     drop(inputs);
     sent?;

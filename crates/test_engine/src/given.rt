@@ -5,6 +5,7 @@ use fe2o3_amqp::definitions::Error as AmqpError;
 use fe2o3_amqp::{Answer, Engine, Input, Open, Piece, ReplayRelay, Symbol, err_name, out_line};
 use std::alloc::{AllocError, Global};
 use std::test::Fail;
+use test_support::open_of;
 
 /// An engine whose links are relayed as those of transcripts are.
 pub type ReplayEngine = Engine<ReplayRelay>;
@@ -14,18 +15,7 @@ pub type ReplayInput = Input<ReplayRelay>;
 
 /// An Open without a name, with the usual limits, and nothing else.
 pub fn unnamed_open(alloc: Global) -> Open {
-    Open {
-        container_id: String::new(alloc),
-        hostname: None,
-        max_frame_size: 262144,
-        channel_max: 255,
-        idle_time_out: None,
-        outgoing_locales: None,
-        incoming_locales: None,
-        offered_capabilities: None,
-        desired_capabilities: None,
-        properties: None,
-    }
+    open_of(String::new(alloc))
 }
 
 /// An error with this condition, and nothing else.

@@ -2,13 +2,12 @@
 
 use crate::asking::{answer, begins, puts_out, receive_digits, refusal};
 use crate::given::unnamed_open;
-use bytes::Bytes;
 use fe2o3_amqp::{
-    AllocLinkError, Attach, ConnectionState, Detach, Disposition, Engine, Handle, Input,
-    InputHandle, LinkFlow, LinkRelay, Raw, ReceiverSettleMode, Role, SenderSettleMode, SessionNo,
-    SessionStopReason, StepError,
+    AllocLinkError, Attach, ConnectionState, Engine, Input, InputHandle, LinkRelay, Role,
+    SessionNo, SessionStopReason, StepError,
 };
 use std::alloc::{AllocError, Global};
+use test_support::{attach_of, detach_of, disposition_of, link_flow_of, raw_of};
 
 /// The peer's Begin on channel 5, which names channel 0 and grants a window of 1.
 const BEGIN: &str = "02000005005311c009046000004352015208";
@@ -70,22 +69,7 @@ pub fn allot_incoming<R: LinkRelay>(
 
 /// An attach of this side's, as a receiver.
 fn attach(alloc: Global, name: &str, handle: u32) -> Result<Attach, AllocError> {
-    Ok(Attach {
-        name: String::from_str(alloc, name)?,
-        handle: Handle(handle),
-        role: Role::Receiver,
-        snd_settle_mode: SenderSettleMode::Mixed,
-        rcv_settle_mode: ReceiverSettleMode::First,
-        source: None,
-        target: None,
-        unsettled: None,
-        incomplete_unsettled: false,
-        initial_delivery_count: None,
-        max_message_size: None,
-        offered_capabilities: None,
-        desired_capabilities: None,
-        properties: None,
-    })
+    Ok(attach_of(String::from_str(alloc, name)?, handle, Role::Receiver))
 }
 
 /// What the request of an attach is answered.
@@ -103,15 +87,7 @@ pub fn send_attach<R: LinkRelay>(
 
 /// What the request of a flow with credit 20 is answered.
 pub fn send_flow<R: LinkRelay>(engine: &mut Engine<R>, handle: u32) -> &'static str {
-    let flow = LinkFlow {
-        handle: Handle(handle),
-        delivery_count: None,
-        link_credit: Some(20),
-        available: None,
-        drain: false,
-        echo: false,
-        properties: None,
-    };
+    let flow = link_flow_of(handle, 20, false);
     answer(engine, Input::Flow(SessionNo(0), flow))
 }
 
@@ -121,12 +97,10 @@ pub fn send_detach<R: LinkRelay>(
     handle: u32,
     expects_echo: bool,
 ) -> &'static str {
-    let detach = Detach {
-        handle: Handle(handle),
-        closed: true,
-        error: None,
-    };
-    answer(engine, Input::Detach(SessionNo(0), detach, expects_echo))
+    answer(
+        engine,
+        Input::Detach(SessionNo(0), detach_of(handle), expects_echo),
+    )
 }
 
 /// What the request of a disposition is answered, of what came under 1 to 3: settled, with a state.
@@ -135,24 +109,8 @@ pub fn dispose<R: LinkRelay>(
     number: u32,
     state: &'static [u8],
 ) -> &'static str {
-    answer(
-        engine,
-        Input::Disposition(SessionNo(number), settled(state)),
-    )
-}
-
-fn settled(state: &'static [u8]) -> Disposition {
-    Disposition {
-        role: Role::Receiver,
-        first: 1,
-        last: Some(3),
-        settled: true,
-        state: match Raw::read(Bytes::from_static(state)) {
-            Ok((state, _rest)) => Some(state),
-            Err(_error) => None,
-        },
-        batchable: false,
-    }
+    let said = disposition_of(Role::Receiver, 1, Some(3), true, raw_of(state));
+    answer(engine, Input::Disposition(SessionNo(number), said))
 }
 
 /// Why no link is allotted.

@@ -1,6 +1,6 @@
 //! Runs of several inputs, of which some stand after others that hand out frames.
 
-use crate::asking::{first_transfer, opened};
+use crate::asking::opened;
 use crate::given::ReplayInput;
 use crate::rows::{Ask, Row, first_wrong};
 use crate::running::{push, received_frame, runs_to};
@@ -9,6 +9,7 @@ use bytes::Bytes;
 use fe2o3_amqp::{Input, InputHandle, SessionNo, SessionSettings};
 use std::alloc::Global;
 use std::collections::VecDeque;
+use test_support::transfer_of;
 
 /// The peer's Flow on channel 5, which expects transfer 0 and grants a window of 2.
 const FLOW: &'static [u8] = b"\x02\0\0\x05\0\x53\x13\xc0\x07\x04\x43\x52\x02\x43\x52\x08";
@@ -46,7 +47,7 @@ fn transfer(tag: &'static [u8], payload: &'static [u8]) -> ReplayInput {
     Input::Transfer(
         SessionNo(0),
         InputHandle(0),
-        first_transfer(tag),
+        transfer_of(0, Some(tag)),
         Bytes::from_static(payload),
         true,
     )

@@ -1,12 +1,13 @@
 //! A relay over a queue of its own: what it is told is in the queue, or it is refused and nothing has changed.
 
-use crate::frames::{attach, detach, link_flow, transfer};
+use crate::frames::{attach, link_flow, transfer};
 use crate::seen::{Seen, show};
 use amqp_events::{EventQueue, EventRelay, LinkNames, Policy, Recorded, Room};
 use amqp_session::{InputHandle, LinkRelay, LinkRelayError, OutputHandle};
 use amqp_types::{DeliveryTag, ReceiverSettleMode, Role};
 use bytes::Bytes;
 use std::alloc::{AllocError, Global};
+use test_support::detach_of;
 
 const ROOM: Room = Room {
     links: 1,
@@ -79,7 +80,7 @@ fn tell_disposition<R: LinkRelay>(relay: &mut R, settled: bool) -> bool {
 }
 
 fn tell_detach<R: LinkRelay>(relay: &mut R) -> Answer {
-    let answer = relay.on_incoming_detach(OutputHandle(3), detach(5), true);
+    let answer = relay.on_incoming_detach(OutputHandle(3), detach_of(5), true);
     let told = match &answer {
         None => Answer::Done,
         Some(detach) => Answer::Number(detach.handle.0),

@@ -1,10 +1,11 @@
 //! The policy: what is recorded, echoed and answered.
 
-use crate::frames::{detach, link_flow, transfer};
+use crate::frames::{link_flow, transfer};
 use amqp_events::{Echoed, Policy, Recorded};
 use amqp_session::OutputHandle;
 use amqp_types::{Raw, ReceiverSettleMode, Role};
 use bytes::Bytes;
+use test_support::detach_of;
 
 fn receiver() -> Policy {
     Policy::new(Role::Receiver, ReceiverSettleMode::First)
@@ -114,7 +115,7 @@ fn flow_answer(policy: Policy) -> Option<(u32, Option<u32>, bool)> {
 
 /// Handle and closing of the detach that answers one.
 fn detach_answer(policy: Policy, remote_initiated: bool) -> Option<(u32, bool)> {
-    let coming = detach(5);
+    let coming = detach_of(5);
     let answer = policy.detach_answer(OutputHandle(1), &coming, remote_initiated);
     drop(coming);
     match &answer {

@@ -1,11 +1,12 @@
 //! The queue: what was put in comes out in order, each kind has its room, and what is taken out gives it back.
 
-use crate::frames::{detach, link_flow, transfer};
+use crate::frames::{link_flow, transfer};
 use crate::seen::{Seen, show};
 use amqp_events::{Event, EventBody, EventKind, EventQueue, LinkNames, Room};
 use amqp_session::LinkRelayError;
 use bytes::Bytes;
 use std::alloc::{AllocError, Global};
+use test_support::detach_of;
 
 const LINK: LinkNames = LinkNames {
     session: 1,
@@ -41,7 +42,7 @@ fn of_detach() -> Event {
     Event {
         link: LINK,
         body: EventBody::Detached {
-            detach: detach(5),
+            detach: detach_of(5),
             remote_initiated: false,
         },
     }

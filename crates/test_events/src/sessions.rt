@@ -1,6 +1,6 @@
 //! A session with two links whose relays share a queue: what comes for either comes out in order, with its own link and payload.
 
-use crate::frames::{attach, detach, flow, settled, transfer};
+use crate::frames::{attach, flow, settled, transfer};
 use crate::seen::{Seen, show};
 use amqp_events::{EventRelay, LinkNames, Policy, Room, SharedQueue};
 use amqp_session::{
@@ -9,6 +9,7 @@ use amqp_session::{
 use amqp_types::{ReceiverSettleMode, Role, SessionState};
 use bytes::Bytes;
 use std::alloc::{AllocError, Global};
+use test_support::detach_of;
 
 type Shared = Session<EventRelay<SharedQueue>>;
 
@@ -113,7 +114,7 @@ fn settle(session: &mut Shared, number: u32) -> bool {
 }
 
 fn leave(session: &mut Shared, input: u32) -> bool {
-    let answer = session.on_incoming_detach(detach(input));
+    let answer = session.on_incoming_detach(detach_of(input));
     let is_silent = match &answer {
         Ok(None) => true,
         _ => false,

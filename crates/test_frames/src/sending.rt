@@ -39,7 +39,8 @@ fn put(alloc: Global, out: &mut SendBuffer, performative: Transfer, payload: Byt
     said
 }
 
-/// The same of a frame. By itself it takes the prover a second; beside the frame's making, which says all of its fields, a minute.
+/// The same of a frame.
+// prover
 fn put_frame(alloc: Global, out: &mut SendBuffer, frame: &Frame) -> u8 {
     said(FrameEncoder::new(24).encode_to(alloc, frame, out))
 }

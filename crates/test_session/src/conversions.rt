@@ -12,6 +12,7 @@ use bytes::Bytes;
 use std::alloc::{AllocError, Global};
 use std::fmt::Display;
 use std::test::Fail;
+use test_support::are_same;
 
 #[test]
 fn numbers_keep_their_value(rt: HostRuntime) {
@@ -36,11 +37,6 @@ fn a_link_flow_needs_a_handle(rt: HostRuntime) -> Result<(), Fail> {
     holds(&rt, link_flow.handle == Handle(2));
     same(&rt, link_flow.link_credit, Some(9));
     Ok(())
-}
-
-/// Whether both are the same. Where they are dropped, the proof needs none of their variants.
-fn are_same<T: PartialEq + Drop>(told: T, want: T) -> bool {
-    told == want
 }
 
 #[test]

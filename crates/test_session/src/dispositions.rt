@@ -2,7 +2,7 @@
 
 ghost use Rattle.std.specs.Prelude.{⊤};
 
-use crate::made::{begin, transfer};
+use crate::made::transfer;
 use crate::same::{holds, same};
 use amqp_session::{
     IncomingChannel, InputHandle, LinkFlow, LinkRelay, LinkRelayError, OutgoingChannel,
@@ -14,6 +14,7 @@ use amqp_types::{
 use bytes::Bytes;
 use std::alloc::Global;
 use std::test::Fail;
+use test_support::{begin_of, disposition_of, raw_of};
 
 /// Names each transfer by its number and tag, and asks for an echo of those with the tag `y`.
 #[derive(Drop)]
@@ -81,7 +82,7 @@ fn mapped(alloc: Global) -> Result<Session<Marked>, Fail> {
         SessionState::BeginSent,
         None,
     );
-    let _begun = session.on_incoming_begin(IncomingChannel(7), begin(100));
+    let _begun = session.on_incoming_begin(IncomingChannel(7), begin_of(100));
     let _handle = session.allocate_incoming_link(name, Marked, InputHandle(0));
     Ok(session)
 }
@@ -113,17 +114,9 @@ const RECEIVED: &[u8] = b"\x00\x53\x23\x45";
 
 /// A disposition of what this session received, with a state.
 fn said(first: u32, last: Option<u32>, settled: bool, state: &'static [u8]) -> Disposition {
-    Disposition {
-        role: Role::Sender,
-        first,
-        last,
-        settled,
-        state: match Raw::read(Bytes::from_static(state)) {
-            Ok((state, _rest)) => Some(state),
-            Err(_error) => None,
-        },
-        batchable: true,
-    }
+    let mut said = disposition_of(Role::Sender, first, last, settled, raw_of(state));
+    said.batchable = true;
+    said
 }
 
 /// Whether an echo is of this run, settled, by a sender, with the accepted state, and not batchable.

@@ -4,10 +4,9 @@ use amqp_session::{
     AllocLinkError, InputHandle, LinkRelay, OutgoingChannel, OutputHandle, Session, SessionFrame,
     SessionFrameBody, SessionInnerError, SessionSettings,
 };
-use amqp_types::{
-    Attach, Detach, Handle, ReceiverSettleMode, Role, SenderSettleMode, SessionState,
-};
+use amqp_types::{Attach, Role, SessionState};
 use std::alloc::{AllocError, Global};
+use test_support::{attach_of, detach_of};
 
 /// What a call for a link answered.
 #[derive(Clone, Copy, PartialEq)]
@@ -34,30 +33,7 @@ pub fn session<R: LinkRelay>(alloc: Global) -> Session<R> {
 }
 
 fn attach(alloc: Global, name: &str, handle: u32) -> Result<Attach, AllocError> {
-    Ok(Attach {
-        name: String::from_str(alloc, name)?,
-        handle: Handle(handle),
-        role: Role::Sender,
-        snd_settle_mode: SenderSettleMode::Mixed,
-        rcv_settle_mode: ReceiverSettleMode::First,
-        source: None,
-        target: None,
-        unsettled: None,
-        incomplete_unsettled: false,
-        initial_delivery_count: None,
-        max_message_size: None,
-        offered_capabilities: None,
-        desired_capabilities: None,
-        properties: None,
-    })
-}
-
-fn detach(handle: u32) -> Detach {
-    Detach {
-        handle: Handle(handle),
-        closed: true,
-        error: None,
-    }
+    Ok(attach_of(String::from_str(alloc, name)?, handle, Role::Sender))
 }
 
 fn allotted(answer: Result<OutputHandle, AllocLinkError>) -> Answer {
@@ -116,7 +92,7 @@ pub fn take_attach<R: LinkRelay>(
 
 /// The peer detaches.
 pub fn take_detach<R: LinkRelay>(one: &mut Session<R>, handle: u32) -> Answer {
-    let answer = one.on_incoming_detach(detach(handle));
+    let answer = one.on_incoming_detach(detach_of(handle));
     let told = match &answer {
         Ok(None) => Answer::Done,
         Ok(Some(reply)) => Answer::Reply(reply.handle.0),
@@ -143,7 +119,7 @@ fn handed_out(frame: SessionFrame) -> Answer {
 
 /// This side detaches.
 pub fn send_detach<R: LinkRelay>(one: &mut Session<R>, handle: u32, expects_echo: bool) -> Answer {
-    match one.on_outgoing_detach(detach(handle), expects_echo) {
+    match one.on_outgoing_detach(detach_of(handle), expects_echo) {
         Ok(None) => Answer::Done,
         Ok(Some(frame)) => handed_out(frame),
         Err(_) => Answer::Other,

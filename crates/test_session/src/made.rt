@@ -4,22 +4,9 @@ use amqp_session::{
     InputHandle, LinkRelay, Session, SessionFrame, SessionFrameBody, SessionInnerError,
     SessionOutgoingItem,
 };
-use amqp_types::{Begin, DeliveryTag, Flow, Handle, Transfer};
+use amqp_types::{Flow, Handle, Transfer};
 use bytes::Bytes;
-
-/// A Begin that answers channel 0 and has a window.
-pub fn begin(incoming_window: u32) -> Begin {
-    Begin {
-        remote_channel: Some(0),
-        next_outgoing_id: 0,
-        incoming_window,
-        outgoing_window: 8,
-        handle_max: Handle(u32::MAX),
-        offered_capabilities: None,
-        desired_capabilities: None,
-        properties: None,
-    }
-}
+use test_support::transfer_of;
 
 /// A flow of the session, with a window from a number on.
 pub fn flow(next_incoming_id: Option<u32>, incoming_window: u32) -> Flow {
@@ -40,19 +27,11 @@ pub fn flow(next_incoming_id: Option<u32>, incoming_window: u32) -> Flow {
 
 /// A transfer on handle 0, with a tag or none.
 pub fn transfer(tag: Option<&'static [u8]>) -> Transfer {
-    Transfer {
-        handle: Handle(0),
-        delivery_id: Some(77),
-        delivery_tag: tag.map(|tag| DeliveryTag(Bytes::from_static(tag))),
-        message_format: Some(0),
-        settled: Some(false),
-        more: false,
-        rcv_settle_mode: None,
-        state: None,
-        resume: false,
-        aborted: false,
-        batchable: false,
-    }
+    let mut transfer = transfer_of(0, tag);
+    transfer.delivery_id = Some(77);
+    transfer.message_format = Some(0);
+    transfer.settled = Some(false);
+    transfer
 }
 
 /// What a call answered: the delivery-ids of its frames, or why it was refused.

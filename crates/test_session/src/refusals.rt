@@ -1,6 +1,6 @@
 //! Refused memory: nothing goes out, and what waited still waits.
 
-use crate::made::{ABSENT, Answer, NONE, NOTHING, begin, grant, grant_link, send};
+use crate::made::{ABSENT, Answer, NONE, NOTHING, grant, grant_link, send};
 use crate::relays::Quiet;
 use crate::same::{holds, same};
 use amqp_session::{
@@ -9,6 +9,7 @@ use amqp_session::{
 use amqp_types::{SessionState, Symbol};
 use std::alloc::{AllocError, Global};
 use std::test::Fail;
+use test_support::begin_of;
 
 /// What a session shows.
 #[derive(Clone, Copy, PartialEq)]
@@ -140,7 +141,8 @@ fn sent_alone(one: &mut Session<Quiet>) -> bool {
 
 /// The peer's Begin is taken.
 fn begun(one: &mut Session<Quiet>) -> bool {
-    one.on_incoming_begin(IncomingChannel(1), begin(0)).is_ok()
+    one.on_incoming_begin(IncomingChannel(1), begin_of(0))
+        .is_ok()
 }
 
 /// It holds at whichever request for memory one is refused, as `rt try --test --fail-alloc N` does, and with none refused.

@@ -3,26 +3,14 @@
 use crate::made::transfer;
 use crate::relays::{Choosing, Quiet};
 use crate::same::holds;
-use amqp_session::{LinkFlow, LinkRelay, LinkRelayError, OutputHandle};
-use amqp_types::{DeliveryTag, Handle, Role};
+use amqp_session::{LinkRelay, LinkRelayError, OutputHandle};
+use amqp_types::{DeliveryTag, Role};
 use bytes::Bytes;
-
-/// A flow of handle 6 with credit 20, and nothing else.
-fn flow() -> LinkFlow {
-    LinkFlow {
-        handle: Handle(6),
-        delivery_count: None,
-        link_credit: Some(20),
-        available: None,
-        drain: false,
-        echo: true,
-        properties: None,
-    }
-}
+use test_support::link_flow_of;
 
 /// The credit of a relay's flow in answer to one, if any.
 fn credit_of_answer<R: LinkRelay>(relay: &mut R) -> Option<u32> {
-    match relay.on_incoming_flow(OutputHandle(1), flow()) {
+    match relay.on_incoming_flow(OutputHandle(1), link_flow_of(6, 20, true)) {
         Ok(Some(answer)) => answer.link_credit,
         _answer => None,
     }

@@ -5,9 +5,10 @@ use crate::link_calls::{allot_incoming, session};
 use crate::made::{grant, send, transfer};
 use crate::same::{holds, same};
 use amqp_session::{LinkRelay, Session, WalkCount};
-use amqp_types::{Disposition, Role};
+use amqp_types::Role;
 use bytes::Bytes;
 use std::alloc::Global;
+use test_support::disposition_of;
 
 /// A mapped session with a link under input handle 0, and a window of the peer's.
 fn linked(alloc: Global, asked: &Asked) -> Session<Counting<'_>> {
@@ -36,14 +37,8 @@ fn receive_five<R: LinkRelay>(session: &mut Session<R>) -> bool {
 
 /// How much the walk of an unsettled disposition of the peer reads.
 fn walk_of<R: LinkRelay>(session: &mut Session<R>, first: u32, last: u32) -> WalkCount {
-    drop(session.on_incoming_disposition(Disposition {
-        role: Role::Sender,
-        first,
-        last: Some(last),
-        settled: false,
-        state: None,
-        batchable: false,
-    }));
+    let said = disposition_of(Role::Sender, first, Some(last), false, None);
+    drop(session.on_incoming_disposition(said));
     session.last_walk()
 }
 

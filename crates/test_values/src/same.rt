@@ -1,4 +1,4 @@
-//! What a test asks of values. A call costs the prover less than the macro that it stands for, which branches.
+//! What a test asks of values, by calls in place of macros (CONTRIBUTING.md, "What costs the prover").
 
 use std::fmt::Debug;
 use std::process::Abort;

@@ -99,7 +99,7 @@ impl Deliveries {
         ensures above { (i : ℕ) → result ≤ i → i < length self.old.rows → first ≤ number_at self.old.rows i }
         ensures cost { (k : ℕ) × (self.new ≡ compared k self.old) × (2 ^ k ≤ places) }
     {
-        // The proof reads what holds of a table.
+        // prover
         let _len = self.len();
         let (mut left, mut clues) = (part, clues);
         let mut half = places;

@@ -186,7 +186,7 @@ impl Deliveries {
         ensures turns { self.now.reads.turns < 2 ^ 64 }
         ensures comparisons { self.now.reads.comparisons < 2 ^ 64 }
     {
-        // The proof reads the ranges of the counts.
+        // prover
         let _turns = self.reads.turns;
         let _comparisons = self.reads.comparisons;
         self.rows.len()

@@ -93,7 +93,7 @@ impl<R: LinkRelay> Session<R> {
         ensures answer { option_map (λ v. v.items) result ≡ (if settled then None else Some []) }
         ensures counts { AreCounts self.now.reads }
     {
-        // The proof reads the ranges of the counts.
+        // prover
         let _sent = self.sent.reads();
         let _received = self.received.reads();
         if settled {

@@ -181,7 +181,7 @@ impl Sending {
         ensures ok { OnOk result (self.new ≡ drained (joined self.old held)) }
         ensures err { OnErr result (self.new ≡ self.old) }
     {
-        // The proof reads the ranges of the two numbers that wrap.
+        // prover
         let (_next, _delivery) = (self.next_outgoing_id, self.next_delivery);
         self.held.push_back(held)?;
         Ok(())

@@ -1,4 +1,4 @@
-//! The relay of the rows' links: it takes what comes, and answers by a fixed rule.
+//! The relay of the links of rows: it takes what comes, and answers by a fixed rule.
 
 ghost use Rattle.std.specs.Prelude.{⊤};
 
