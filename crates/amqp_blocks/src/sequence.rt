@@ -20,6 +20,14 @@ use std::marker::Model;
 pub const BLOCK: usize = 256;
 
 /// Items in order, in blocks that are never empty.
+///
+/// ```
+/// let mut blocks = Blocks::new(alloc);
+/// blocks.reserve(2)?;
+/// blocks.push_back(7);
+/// blocks.insert(0, 5);                     // 5, 7
+/// let first = blocks.pop_front();          // Some(5)
+/// ```
 #[derive(Drop)]
 pub struct Blocks<T> {
     blocks: Vec<VecDeque<T>>,

@@ -15,10 +15,22 @@ use bytes::Bytes;
 use std::alloc::Global;
 
 /// Decodes frames. It keeps nothing from one frame to the next.
+///
+/// ```
+/// // `bytes` are one frame without its four-byte size
+/// let (frame, rest) = FrameDecoder::new().decode(alloc, bytes)?;
+/// ```
 #[derive(Clone, Copy, Debug)]
 pub struct FrameDecoder;
 
 /// What stands before the fields of a frame's performative.
+///
+/// ```
+/// let head = FrameDecoder::new().head(&mut bytes)?;
+/// if head.kind == Some(Kind::Transfer) {
+///     // `bytes` are its fields, and its payload after them
+/// }
+/// ```
 #[derive(Clone, Copy, Debug, PartialEq, Eq)]
 pub struct FrameHead {
     /// The channel.

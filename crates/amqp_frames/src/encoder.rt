@@ -25,6 +25,11 @@ use std::marker::Model;
 const MOST_SIZED: u32 = u32::MAX - 4;
 
 /// Encodes frames for a peer, into pieces that are no longer than the peer takes.
+///
+/// ```
+/// let encoder = FrameEncoder::new(65536 - 4);  // the peer's max-frame-size, less a frame's size
+/// let pieces = encoder.encode(alloc, &frame)?;
+/// ```
 #[derive(Clone, Debug, Drop)]
 pub struct FrameEncoder {
     /// The most bytes of a piece: 4 less than the peer's max-frame-size, which counts the frame's size too.

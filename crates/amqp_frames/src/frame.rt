@@ -8,6 +8,10 @@ use bytes::Bytes;
 use std::fmt;
 
 /// A frame of AMQP, without its four-byte size and its header's fixed bytes.
+///
+/// ```
+/// let frame = Frame::new(0, FrameBody::Close(Close { error: None }));
+/// ```
 #[derive(Debug, Drop, PartialEq)]
 pub struct Frame {
     /// The channel: 0 to 65535.

@@ -72,6 +72,11 @@ impl HeadRoom for OwnRoom {
 /// bytes first, then for longer ones, up to 32768 bytes, and takes the block before once more where all of its heads are dropped. It
 /// keeps up to two blocks; a head keeps its whole block. A head of more than 32768 bytes that does not fit has a buffer of its own,
 /// which goes with the head, and the room stays as it was: no longer block is asked for, nor kept.
+///
+/// ```
+/// let mut pool = HeaderPool::new(alloc);
+/// let pieces = encoder.encode_from(alloc, &mut pool, &frame)?;
+/// ```
 #[derive(Drop)]
 pub struct HeaderPool {
     alloc: Global,

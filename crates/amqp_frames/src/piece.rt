@@ -17,6 +17,13 @@ enum HeadBytes {
 
 /// One physical frame without its four-byte size: a head, of header and performative, and a part of a payload. Only the
 /// encoder makes one. The part shares the bytes of the frame's payload.
+///
+/// ```
+/// let size = (4 + piece.len()) as u32;
+/// socket.write_all(&size.to_be_bytes())?;
+/// socket.write_all(piece.head())?;
+/// socket.write_all(piece.payload().as_slice())?;
+/// ```
 #[derive(Debug, Drop)]
 pub struct Piece {
     head: HeadBytes,

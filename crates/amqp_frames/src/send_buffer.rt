@@ -20,6 +20,15 @@ const COPIED: usize = 4096;
 ///
 /// A short payload is copied into the buffer; a long one is shared, and is a chunk of its own. The memory of bytes that were taken off
 /// is used again.
+///
+/// ```
+/// let mut out = SendBuffer::new(alloc);
+/// encoder.encode_to(alloc, &frame, &mut out)?;
+/// while !out.is_empty() {
+///     let sent = socket.write(out.chunk())?;
+///     out.advance(sent);
+/// }
+/// ```
 #[derive(Drop)]
 pub struct SendBuffer {
     /// The longest payload that is copied.

@@ -13,6 +13,12 @@ use bytes::Bytes;
 use std::alloc::{AllocError, Global};
 
 /// One transfer of a delivery, as a link asks a session to send it.
+///
+/// ```
+/// for part in split_delivery(alloc, &transfer, &payload, max_piece_len)? {
+///     inputs.push_back(Input::Transfer(session, link, part.transfer, part.payload, part.is_first))?;
+/// }
+/// ```
 #[derive(Debug, Drop)]
 pub struct DeliveryPart {
     /// The transfer.

@@ -11,6 +11,12 @@ use std::alloc::{AllocError, Global};
 use std::marker::Model;
 
 /// A set of numbers of 32 bits, kept as ranges: numbers that follow one another take one place together.
+///
+/// ```
+/// let mut numbers = NumberSet::new(alloc);
+/// numbers.insert(7)?;
+/// let is_there = numbers.contains(7);      // true
+/// ```
 #[derive(Drop)]
 pub struct NumberSet {
     ranges: Blocks<Range>,

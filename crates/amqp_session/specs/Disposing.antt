@@ -157,8 +157,8 @@ TakeDispositionStep gives v d asked (Err Refused.OutOfMemory) w =
     (d.settled ≡ false) × (is_forward d.first d.last ≡ true) × (((asked ≡ []) × (w ≡ v)) ⊎ (SaysStateAgain d asked × HasAsked gives v d asked w))
 TakeDispositionStep gives v d asked (Err e) w = ⊥
 
--- how much of a role's records the call may have read: a turn for each one meant and one more, and as many numbers as the length
--- of the table has binary digits, and one more; nothing for a backward range
+-- how much of a role's records the call may have read: a turn for each one meant and one more, and at most as many numbers as
+-- the length of the table has binary digits; nothing for a backward range
 pub record IsBounded {X : Type 0} (d : DispositionModel) (rows : List Delivery) (result : Result X SessionInnerError)
     (walk : WalkCount) : Type 0 where
   pub turns : walk.turns ≤ length (meant d rows) + 1

@@ -26,11 +26,19 @@ pub type TransferNumber = u32;
 pub type SequenceNo = u32;
 
 /// The handle of a link in its session (part 2, section 2.8.4).
+///
+/// ```
+/// let attach = Attach::new(name, Handle(0), Role::Sender);
+/// ```
 #[derive(Clone, Copy, Debug, PartialEq, Eq, PartialOrd, Ord, Hash)]
 pub struct Handle(pub u32);
 
 /// The tag of a delivery on its link: any bytes, also more than the 32 that the standard allows (part 2,
 /// section 2.8.7). A tag that was read shares the received bytes; none is copied.
+///
+/// ```
+/// let tag = DeliveryTag(Bytes::from_static(b"1"));
+/// ```
 #[derive(Clone, Debug, Drop, PartialEq, Eq)]
 pub struct DeliveryTag(pub Bytes);
 

@@ -16,6 +16,13 @@ use std::fmt::{self, Display, Formatter};
 use std::marker::Model;
 
 /// Why a link, a session or a connection ended (AMQP 1.0 part 2, section 2.8.14).
+///
+/// ```
+/// let text = String::from_str(alloc, "amqp:not-found")?;
+/// if let Some(condition) = Symbol::new(text) {
+///     let error = Error { condition, description: None, info: None };
+/// }
+/// ```
 #[derive(Clone, Debug, Drop)]
 pub struct Error {
     /// What went wrong. Mandatory.

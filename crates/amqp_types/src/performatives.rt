@@ -32,6 +32,11 @@ use std::alloc::Global;
 pub use transfer::{Transfer, TransferFragment};
 
 /// A performative (part 2, section 2.7).
+///
+/// ```
+/// let (performative, rest) = Performative::read(alloc, bytes)?;
+/// performative.write(&mut out, 65536)?;    // its canonical text, of at most 65536 bytes
+/// ```
 #[derive(Clone, Debug, Drop, PartialEq)]
 pub enum Performative {
     /// Opens a connection (section 2.7.1).

@@ -11,6 +11,11 @@ use bytes::Bytes;
 use std::marker::Model;
 
 /// A raw value that is a map.
+///
+/// ```
+/// let (raw, _rest) = Raw::read(bytes)?;
+/// let properties = Fields::new(raw);       // `None` where the value is no map
+/// ```
 #[derive(Clone, Debug, Drop)]
 pub struct Fields {
     raw: Raw,

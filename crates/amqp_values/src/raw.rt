@@ -19,6 +19,12 @@ use std::marker::Model;
 ///
 /// It shares the bytes that it was read from; none is copied. Only its structure was checked: codes, sizes, lengths, counts
 /// and the data of booleans. The bytes of texts, symbols and characters may be any.
+///
+/// ```
+/// let (raw, rest) = Raw::read(bytes)?;     // the first value of the bytes, and what follows it
+/// let is_composite = raw.view().code() == 0;
+/// let outcome = Raw::accepted();           // the outcome `accepted`, for a disposition
+/// ```
 #[derive(Clone, Debug, Drop)]
 pub struct Raw {
     bytes: Bytes,

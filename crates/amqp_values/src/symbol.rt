@@ -14,6 +14,11 @@ use std::alloc::Global;
 use std::marker::Model;
 
 /// A text of bytes up to 7f, at most 4294967295 of them, which is what a symbol can spell.
+///
+/// ```
+/// let text = String::from_str(alloc, "amqp:not-found")?;
+/// let condition = Symbol::new(text);       // `None` where a byte is above 7f
+/// ```
 #[derive(Clone, Debug, Drop)]
 pub struct Symbol(String);
 

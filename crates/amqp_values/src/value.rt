@@ -13,6 +13,12 @@ use std::marker::Model;
 /// One whole value, borrowed: a raw value, or a part of one. It may be the null.
 ///
 /// None of its calls takes memory.
+///
+/// ```
+/// if let Some(inner) = raw.view().inner() {
+///     let parts = inner.items();           // those of a described list
+/// }
+/// ```
 #[derive(Clone, Debug, Drop)]
 pub struct ValueRef<'a> {
     bytes: &'a [u8],
@@ -47,6 +53,14 @@ impl<'a> PartialEq for ValueRef<'a> {
 /// The parts of a list or a map in their order, each borrowed. A map gives key, value, key, value. The iterator ends.
 ///
 /// None of its calls takes memory.
+///
+/// ```
+/// if let Some(items) = raw.view().items() {
+///     for part in items {
+///         let is_null = part.code() == codes::NULL;
+///     }
+/// }
+/// ```
 #[derive(Clone, Debug, Drop)]
 pub struct Items<'a> {
     left: u32,

@@ -19,6 +19,11 @@ use std::alloc::Global;
 use std::marker::Model;
 
 /// A link is attached to a session (AMQP 1.0 part 2, section 2.7.3).
+///
+/// ```
+/// let mut attach = Attach::new(name, Handle(0), Role::Sender);
+/// attach.initial_delivery_count = Some(0); // a sender has to say it
+/// ```
 #[derive(Clone, Debug, Drop)]
 pub struct Attach {
     /// The name of the link. Mandatory.

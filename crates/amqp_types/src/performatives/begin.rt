@@ -17,6 +17,11 @@ use std::alloc::Global;
 use std::marker::Model;
 
 /// The parameters that a session begins with (AMQP 1.0 part 2, section 2.7.2).
+///
+/// ```
+/// let mut begin = Begin::new(0, 2048, 2048);
+/// begin.remote_channel = Some(3);          // it answers the Begin that came on channel 3
+/// ```
 #[derive(Clone, Debug, Drop)]
 pub struct Begin {
     /// The channel of the Begin that this one answers.

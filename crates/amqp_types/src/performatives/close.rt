@@ -16,6 +16,10 @@ use std::alloc::Global;
 use std::marker::Model;
 
 /// A connection closes (AMQP 1.0 part 2, section 2.7.9).
+///
+/// ```
+/// let close = Close { error: None };
+/// ```
 #[derive(Clone, Debug, Drop)]
 pub struct Close {
     /// The error that is the reason, if any.

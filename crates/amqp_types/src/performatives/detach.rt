@@ -18,6 +18,11 @@ use std::alloc::Global;
 use std::marker::Model;
 
 /// A link is detached from a session (AMQP 1.0 part 2, section 2.7.7).
+///
+/// ```
+/// let mut detach = Detach::new(Handle(0));
+/// detach.closed = true;
+/// ```
 #[derive(Clone, Debug, Drop)]
 pub struct Detach {
     /// The link. Mandatory.

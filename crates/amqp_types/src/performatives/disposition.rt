@@ -17,6 +17,13 @@ use std::alloc::Global;
 use std::marker::Model;
 
 /// The state of deliveries, and whether they are settled (AMQP 1.0 part 2, section 2.7.6).
+///
+/// ```
+/// let mut disposition = Disposition::new(Role::Receiver, 0);
+/// disposition.last = Some(9);              // the deliveries 0 to 9
+/// disposition.settled = true;
+/// disposition.state = Some(Raw::accepted());
+/// ```
 #[derive(Clone, Debug, Drop)]
 pub struct Disposition {
     /// The end of the link on which the sender of the frame stands. Mandatory.

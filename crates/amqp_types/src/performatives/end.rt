@@ -16,6 +16,10 @@ use std::alloc::Global;
 use std::marker::Model;
 
 /// A session ends (AMQP 1.0 part 2, section 2.7.8).
+///
+/// ```
+/// let end = End { error: None };
+/// ```
 #[derive(Clone, Debug, Drop)]
 pub struct End {
     /// The error that is the reason, if any.

@@ -17,6 +17,12 @@ use std::alloc::Global;
 use std::marker::Model;
 
 /// The windows of a session, and the credit of a link (AMQP 1.0 part 2, section 2.7.4).
+///
+/// ```
+/// let mut flow = Flow::new(Some(0), 2048, 0, 2048);
+/// flow.handle = Some(Handle(0));
+/// flow.link_credit = Some(10);
+/// ```
 #[derive(Clone, Debug, Drop)]
 pub struct Flow {
     /// The number of the next transfer that is expected.

@@ -16,6 +16,11 @@ use std::alloc::{AllocError, Global};
 use std::marker::Model;
 
 /// The parameters that a connection opens with (AMQP 1.0 part 2, section 2.7.1).
+///
+/// ```
+/// let mut open = Open::new(container_id);  // the other fields have their defaults
+/// open.max_frame_size = 65536;
+/// ```
 #[derive(Debug, Drop)]
 pub struct Open {
     /// The name of the container. Mandatory.

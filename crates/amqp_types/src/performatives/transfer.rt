@@ -18,6 +18,12 @@ use std::alloc::Global;
 use std::marker::Model;
 
 /// A message, or a part of one, on a link (AMQP 1.0 part 2, section 2.7.5).
+///
+/// ```
+/// let mut transfer = Transfer::new(Handle(0));
+/// transfer.delivery_tag = Some(tag);       // a first transfer of a delivery has one
+/// transfer.settled = Some(true);
+/// ```
 #[derive(Clone, Debug, Drop)]
 pub struct Transfer {
     /// The link. Mandatory.

@@ -10,6 +10,10 @@ use bytes::Bytes;
 /// The relay of the links of [`replay`](crate::replay). It accepts an attach; answers a flow that asks for an echo with the same flow on its
 /// output handle; keeps a transfer open that is not settled and has a number and a tag; asks for an echo of every unsettled
 /// disposition; and answers a detach that the peer began with one on its output handle, closed alike and without an error.
+///
+/// ```
+/// let link = Input::AllocateLink(SessionNo(0), name, Some(ReplayRelay));
+/// ```
 #[derive(Clone, Copy, Debug)]
 pub struct ReplayRelay;
 
