@@ -126,13 +126,13 @@ impl<R: LinkRelay> Links<R> {
     /// Asks the relay under the input handle of a delivery, if one is attached there, about a disposition of the delivery, and
     /// says whether it answered true.
     #[inline(always)]
-    pub(crate) fn ask_disposition(&mut self, said: &Disposition, delivery: &Delivery) -> bool
+    pub(crate) fn ask_disposition(&mut self, disposition: &Disposition, delivery: &Delivery) -> bool
         ensures { (asked : Option (DispositionQuestion R))
-            × AsksAt R.gives.disposition_gives said.now delivery.now asked self.old self.new × (result ≡ has_agreed asked) }
+            × AsksAt R.gives.disposition_gives disposition.now delivery.now asked self.old self.new × (result ≡ has_agreed asked) }
     {
         let Some(at) = keys::index_of(&self.inputs, &self.hints, delivery.input_handle.0) else {
             return false;
         };
-        inputs::ask_disposition(&mut self.inputs, at, said, delivery)
+        inputs::ask_disposition(&mut self.inputs, at, disposition, delivery)
     }
 }

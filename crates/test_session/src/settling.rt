@@ -26,7 +26,7 @@ fn receive<R: LinkRelay>(session: &mut Session<R>, number: u32) -> bool {
     session.on_incoming_transfer(coming, payload).is_ok()
 }
 
-/// Transfers of the peer on both sides of the last number, and one far after.
+/// Transfers of the peer on both sides of the last number, and one far beyond it.
 fn receive_five<R: LinkRelay>(session: &mut Session<R>) -> bool {
     receive(session, 4294967294)
         && receive(session, 4294967295)

@@ -48,11 +48,19 @@ pub(super) fn ask_transfer<R: LinkRelay>(
 
 /// Asks the relay of a link about a disposition of a delivery.
 #[inline(always)]
-fn ask<R: LinkRelay>(link: &mut AttachedLink<R>, said: &Disposition, delivery: &Delivery) -> bool
-    ensures asked { of_disposition R.gives.disposition_gives link.old.handle link.old.relay (question_of said.now delivery.now) result link.new.relay }
+fn ask<R: LinkRelay>(
+    link: &mut AttachedLink<R>,
+    disposition: &Disposition,
+    delivery: &Delivery,
+) -> bool
+    ensures asked { of_disposition R.gives.disposition_gives link.old.handle link.old.relay (question_of disposition.now delivery.now) result link.new.relay }
     ensures handle { link.new.handle ≡ link.old.handle }
 {
-    let (role, settled, state) = (said.role, said.settled, said.state.as_ref());
+    let (role, settled, state) = (
+        disposition.role,
+        disposition.settled,
+        disposition.state.as_ref(),
+    );
     link.relay
         .on_incoming_disposition(role, settled, state, &delivery.tag)
 }
@@ -62,14 +70,14 @@ fn ask<R: LinkRelay>(link: &mut AttachedLink<R>, said: &Disposition, delivery: &
 pub(super) fn ask_disposition<R: LinkRelay>(
     inputs: &mut Numbered<AttachedLink<R>>,
     at: usize,
-    said: &Disposition,
+    disposition: &Disposition,
     delivery: &Delivery,
 ) -> bool
     requires { (link : AttachedLink R) × (slice_get inputs.old.entries at ≡ Some (delivery.now.input_handle.0, link)) }
     ensures { Asked (of_disposition R.gives.disposition_gives) (lookup (nat_eq delivery.now.input_handle.0) inputs.old.entries)
-        (question_of said.now delivery.now) result
+        (question_of disposition.now delivery.now) result
         (λ link. inputs.new.entries ≡ set_value (nat_eq delivery.now.input_handle.0) inputs.old.entries link) }
 {
     let link = inputs.get_index_mut(at).unwrap();
-    ask(link, said, delivery)
+    ask(link, disposition, delivery)
 }

@@ -103,25 +103,32 @@ impl<R: LinkRelay> Session<R> {
     }
 
     /// Asks the relays about a settled disposition over a forward range, and takes the deliveries of its role away.
-    fn take_away(&mut self, said: &Disposition, range: SerialRange)
-        requires range { range ≡ range_of said.now }
-        requires settled { said.now.settled ≡ true }
-        requires forward { span said.now.first said.now.last < 2 ^ 31 }
+    fn take_away(&mut self, disposition: &Disposition, range: SerialRange)
+        requires range { range ≡ range_of disposition.now }
+        requires settled { disposition.now.settled ≡ true }
+        requires forward { span disposition.now.first disposition.now.last < 2 ^ 31 }
         requires unread { self.old.last_walk ≡ nothing_read }
         ensures asked { (asked : List (DispositionQuestion R))
-            × AsksEach R.gives.disposition_gives said.now
-            (meant said.now (rows_of said.now self.old.view)) asked self.old.view.links self.new.view.links }
+            × AsksEach R.gives.disposition_gives disposition.now
+            (meant disposition.now (rows_of disposition.now self.old.view)) asked self.old.view.links self.new.view.links }
         ensures view { self.new.view ≡ record self.old.view {
           links = self.new.view.links;
-          deliveries = with_role said.now.role (not_meant said.now (rows_of said.now self.old.view)) self.old.view.deliveries;
+          deliveries = with_role disposition.now.role (not_meant disposition.now (rows_of disposition.now self.old.view)) self.old.view.deliveries;
         } }
-        ensures walk { IsWalked said.now (rows_of said.now self.old.view) true self.new.last_walk }
-        ensures reads { self.new.reads ≡ read_more said.now.role self.new.last_walk self.old.reads }
+        ensures walk { IsWalked disposition.now (rows_of disposition.now self.old.view) true self.new.last_walk }
+        ensures reads { self.new.reads ≡ read_more disposition.now.role self.new.last_walk self.old.reads }
     {
         let (links, walk) = (&mut self.links, &mut self.last_walk);
-        match said.role {
-            Role::Receiver => settle(self.alloc, links, &mut self.sent, walk, said, range),
-            Role::Sender => settle(self.alloc, links, &mut self.received, walk, said, range),
+        match disposition.role {
+            Role::Receiver => settle(self.alloc, links, &mut self.sent, walk, disposition, range),
+            Role::Sender => settle(
+                self.alloc,
+                links,
+                &mut self.received,
+                walk,
+                disposition,
+                range,
+            ),
         }
     }
 
@@ -129,30 +136,37 @@ impl<R: LinkRelay> Session<R> {
     #[inline(never)]
     fn ask(
         &mut self,
-        said: &Disposition,
+        disposition: &Disposition,
         range: SerialRange,
     ) -> Result<Vec<Disposition>, AllocError>
-        requires range { range ≡ range_of said.now }
-        requires settled { said.now.settled ≡ false }
-        requires forward { span said.now.first said.now.last < 2 ^ 31 }
+        requires range { range ≡ range_of disposition.now }
+        requires settled { disposition.now.settled ≡ false }
+        requires forward { span disposition.now.first disposition.now.last < 2 ^ 31 }
         requires unread { self.old.last_walk ≡ nothing_read }
         ensures asked { IfOk result (λ echoes. (asked : List (DispositionQuestion R))
-            × AsksEach R.gives.disposition_gives said.now
-            (meant said.now (rows_of said.now self.old.view)) asked self.old.view.links self.new.view.links
-            × Echoes said.now (agreed asked) echoes.items) }
+            × AsksEach R.gives.disposition_gives disposition.now
+            (meant disposition.now (rows_of disposition.now self.old.view)) asked self.old.view.links self.new.view.links
+            × Echoes disposition.now (agreed asked) echoes.items) }
         ensures refused { OnErr result ((self.new.view.links ≡ self.old.view.links)
-            ⊎ ((asked : List (DispositionQuestion R)) × SaysStateAgain said.now asked
-            × AsksEach R.gives.disposition_gives said.now
-            (meant said.now (rows_of said.now self.old.view)) asked self.old.view.links self.new.view.links)) }
+            ⊎ ((asked : List (DispositionQuestion R)) × SaysStateAgain disposition.now asked
+            × AsksEach R.gives.disposition_gives disposition.now
+            (meant disposition.now (rows_of disposition.now self.old.view)) asked self.old.view.links self.new.view.links)) }
         ensures view { self.new.view ≡ record self.old.view { links = self.new.view.links } }
         ensures walk { (went : Bool) × (OnOk result (went ≡ true))
-            × IsWalked said.now (rows_of said.now self.old.view) went self.new.last_walk }
-        ensures reads { self.new.reads ≡ read_more said.now.role self.new.last_walk self.old.reads }
+            × IsWalked disposition.now (rows_of disposition.now self.old.view) went self.new.last_walk }
+        ensures reads { self.new.reads ≡ read_more disposition.now.role self.new.last_walk self.old.reads }
     {
         let (links, walk) = (&mut self.links, &mut self.last_walk);
-        match said.role {
-            Role::Receiver => ask(self.alloc, links, &mut self.sent, walk, said, range),
-            Role::Sender => ask(self.alloc, links, &mut self.received, walk, said, range),
+        match disposition.role {
+            Role::Receiver => ask(self.alloc, links, &mut self.sent, walk, disposition, range),
+            Role::Sender => ask(
+                self.alloc,
+                links,
+                &mut self.received,
+                walk,
+                disposition,
+                range,
+            ),
         }
     }
 }
@@ -173,22 +187,22 @@ fn settle<R: LinkRelay>(
     links: &mut Links<R>,
     rows: &mut Deliveries,
     walk: &mut WalkCount,
-    said: &Disposition,
+    disposition: &Disposition,
     range: SerialRange,
 )
-    requires range { range ≡ range_of said.now }
-    requires settled { said.now.settled ≡ true }
-    requires forward { span said.now.first said.now.last < 2 ^ 31 }
+    requires range { range ≡ range_of disposition.now }
+    requires settled { disposition.now.settled ≡ true }
+    requires forward { span disposition.now.first disposition.now.last < 2 ^ 31 }
     requires unread { walk.old ≡ nothing_read }
-    ensures rows { rows.new.rows ≡ not_meant said.now rows.old.rows }
+    ensures rows { rows.new.rows ≡ not_meant disposition.now rows.old.rows }
     ensures asked { (asked : List (DispositionQuestion R))
-        × AsksEach R.gives.disposition_gives said.now (meant said.now rows.old.rows) asked links.old links.new }
-    ensures walk { IsWalked said.now rows.old.rows true walk.new }
+        × AsksEach R.gives.disposition_gives disposition.now (meant disposition.now rows.old.rows) asked links.old links.new }
+    ensures walk { IsWalked disposition.now rows.old.rows true walk.new }
     ensures reads { rows.new.reads ≡ risen walk.new rows.old.reads }
 {
     let before = rows.reads();
     let from = rows.place_of(range.first);
-    let count = tell(alloc, links, rows, said, range, from);
+    let count = tell(alloc, links, rows, disposition, range, from);
     *walk = rows.reads().since(before);
     rows.remove(from, count);
 }
@@ -199,25 +213,25 @@ fn tell<R: LinkRelay>(
     alloc: Global,
     links: &mut Links<R>,
     rows: &mut Deliveries,
-    said: &Disposition,
+    disposition: &Disposition,
     range: SerialRange,
     from: usize,
 ) -> usize
-    requires range { range ≡ range_of said.now }
+    requires range { range ≡ range_of disposition.now }
     requires from { from ≤ length rows.old.rows }
-    requires order { in_order said.now.first rows.old.rows ≡ turned from rows.old.rows }
-    requires settled { said.now.settled ≡ true }
-    requires forward { span said.now.first said.now.last < 2 ^ 31 }
+    requires order { in_order disposition.now.first rows.old.rows ≡ turned from rows.old.rows }
+    requires settled { disposition.now.settled ≡ true }
+    requires forward { span disposition.now.first disposition.now.last < 2 ^ 31 }
     ensures within { result ≤ length rows.old.rows }
-    ensures split { IsSplit said.now (turned from rows.old.rows) result }
+    ensures split { IsSplit disposition.now (turned from rows.old.rows) result }
     ensures asked { (asked : List (DispositionQuestion R))
-        × AsksEach R.gives.disposition_gives said.now (take result (turned from rows.old.rows)) asked links.old links.new }
+        × AsksEach R.gives.disposition_gives disposition.now (take result (turned from rows.old.rows)) asked links.old links.new }
     ensures read { (k : ℕ) × (k ≤ result + 1) × (result ≤ k) × (rows.new ≡ stepped k rows.old) }
 {
     if range.span == 0 {
-        return ask_one(links, rows, said, range, from);
+        return ask_one(links, rows, disposition, range, from);
     }
-    tell_each(alloc, links, rows, said, range, from)
+    tell_each(alloc, links, rows, disposition, range, from)
 }
 
 /// The same over a range of several numbers, or of any.
@@ -226,23 +240,23 @@ fn tell_each<R: LinkRelay>(
     alloc: Global,
     links: &mut Links<R>,
     rows: &mut Deliveries,
-    said: &Disposition,
+    disposition: &Disposition,
     range: SerialRange,
     from: usize,
 ) -> usize
-    requires range { range ≡ range_of said.now }
+    requires range { range ≡ range_of disposition.now }
     requires from { from ≤ length rows.old.rows }
-    requires order { in_order said.now.first rows.old.rows ≡ turned from rows.old.rows }
-    requires settled { said.now.settled ≡ true }
-    requires forward { span said.now.first said.now.last < 2 ^ 31 }
+    requires order { in_order disposition.now.first rows.old.rows ≡ turned from rows.old.rows }
+    requires settled { disposition.now.settled ≡ true }
+    requires forward { span disposition.now.first disposition.now.last < 2 ^ 31 }
     ensures within { result ≤ length rows.old.rows }
-    ensures split { IsSplit said.now (turned from rows.old.rows) result }
+    ensures split { IsSplit disposition.now (turned from rows.old.rows) result }
     ensures asked { (asked : List (DispositionQuestion R))
-        × AsksEach R.gives.disposition_gives said.now (take result (turned from rows.old.rows)) asked links.old links.new }
+        × AsksEach R.gives.disposition_gives disposition.now (take result (turned from rows.old.rows)) asked links.old links.new }
     ensures read { (k : ℕ) × (k ≤ result + 1) × (result ≤ k) × (rows.new ≡ stepped k rows.old) }
 {
     let mut no_echoes = Vec::new(alloc);
-    ask_each(links, rows, said, range, from, &mut no_echoes)
+    ask_each(links, rows, disposition, range, from, &mut no_echoes)
 }
 
 /// Asks the relays of an unsettled disposition over a forward range, and gives the echoes. Room for them is taken before: what
@@ -252,28 +266,28 @@ fn ask<R: LinkRelay>(
     links: &mut Links<R>,
     rows: &mut Deliveries,
     walk: &mut WalkCount,
-    said: &Disposition,
+    disposition: &Disposition,
     range: SerialRange,
 ) -> Result<Vec<Disposition>, AllocError>
-    requires range { range ≡ range_of said.now }
-    requires settled { said.now.settled ≡ false }
-    requires forward { span said.now.first said.now.last < 2 ^ 31 }
+    requires range { range ≡ range_of disposition.now }
+    requires settled { disposition.now.settled ≡ false }
+    requires forward { span disposition.now.first disposition.now.last < 2 ^ 31 }
     requires unread { walk.old ≡ nothing_read }
     ensures asked { IfOk result (λ echoes. (asked : List (DispositionQuestion R))
-        × AsksEach R.gives.disposition_gives said.now (meant said.now rows.old.rows) asked links.old links.new
-        × Echoes said.now (agreed asked) echoes.items) }
+        × AsksEach R.gives.disposition_gives disposition.now (meant disposition.now rows.old.rows) asked links.old links.new
+        × Echoes disposition.now (agreed asked) echoes.items) }
     ensures refused { OnErr result ((links.new ≡ links.old)
-        ⊎ ((asked : List (DispositionQuestion R)) × SaysStateAgain said.now asked
-        × AsksEach R.gives.disposition_gives said.now (meant said.now rows.old.rows) asked links.old links.new)) }
+        ⊎ ((asked : List (DispositionQuestion R)) × SaysStateAgain disposition.now asked
+        × AsksEach R.gives.disposition_gives disposition.now (meant disposition.now rows.old.rows) asked links.old links.new)) }
     ensures rows { rows.new.rows ≡ rows.old.rows }
-    ensures walk { (went : Bool) × (OnOk result (went ≡ true)) × IsWalked said.now rows.old.rows went walk.new }
+    ensures walk { (went : Bool) × (OnOk result (went ≡ true)) × IsWalked disposition.now rows.old.rows went walk.new }
     ensures reads { rows.new.reads ≡ risen walk.new rows.old.reads }
 {
     let most = rows.len().min(range.most_runs());
     let mut echoes = Vec::with_capacity(alloc, most)?;
     let before = rows.reads();
     let from = rows.place_of(range.first);
-    ask_each(links, rows, said, range, from, &mut echoes);
+    ask_each(links, rows, disposition, range, from, &mut echoes);
     *walk = rows.reads().since(before);
-    with_state(echoes, &said.state)
+    with_state(echoes, &disposition.state)
 }

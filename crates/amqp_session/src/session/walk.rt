@@ -50,18 +50,18 @@ fn note(echoes: &mut Vec<Disposition>, number: u32, settled: bool, answer: bool)
 pub(super) fn ask_one<R: LinkRelay>(
     links: &mut Links<R>,
     rows: &mut Deliveries,
-    said: &Disposition,
+    disposition: &Disposition,
     range: SerialRange,
     from: usize,
 ) -> usize
-    requires range { range ≡ range_of said.now }
+    requires range { range ≡ range_of disposition.now }
     requires from { from ≤ length rows.old.rows }
-    requires order { in_order said.now.first rows.old.rows ≡ turned from rows.old.rows }
-    requires alone { span said.now.first said.now.last ≡ 0 }
+    requires order { in_order disposition.now.first rows.old.rows ≡ turned from rows.old.rows }
+    requires alone { span disposition.now.first disposition.now.last ≡ 0 }
     ensures within { result ≤ length rows.old.rows }
-    ensures split { IsSplit said.now (turned from rows.old.rows) result }
+    ensures split { IsSplit disposition.now (turned from rows.old.rows) result }
     ensures asked { (asked : List (DispositionQuestion R))
-        × AsksEach R.gives.disposition_gives said.now (take result (turned from rows.old.rows)) asked links.old links.new }
+        × AsksEach R.gives.disposition_gives disposition.now (take result (turned from rows.old.rows)) asked links.old links.new }
     ensures read { (k : ℕ) × (k ≤ result + 1) × (result ≤ k) × (rows.new ≡ stepped k rows.old) }
 {
     let len = rows.len();
@@ -72,7 +72,7 @@ pub(super) fn ask_one<R: LinkRelay>(
     if delivery.number != range.first {
         return 0;
     }
-    links.ask_disposition(said, delivery);
+    links.ask_disposition(disposition, delivery);
     1
 }
 
@@ -82,22 +82,22 @@ pub(super) fn ask_one<R: LinkRelay>(
 pub(super) fn ask_each<R: LinkRelay>(
     links: &mut Links<R>,
     rows: &mut Deliveries,
-    said: &Disposition,
+    disposition: &Disposition,
     range: SerialRange,
     from: usize,
     echoes: &mut Vec<Disposition>,
 ) -> usize
-    requires range { range ≡ range_of said.now }
+    requires range { range ≡ range_of disposition.now }
     requires from { from ≤ length rows.old.rows }
-    requires order { in_order said.now.first rows.old.rows ≡ turned from rows.old.rows }
-    requires forward { span said.now.first said.now.last < 2 ^ 31 }
+    requires order { in_order disposition.now.first rows.old.rows ≡ turned from rows.old.rows }
+    requires forward { span disposition.now.first disposition.now.last < 2 ^ 31 }
     requires no_echoes { echoes.old.items ≡ [] }
-    requires room { said.now.settled ≡ false → min (length rows.old.rows) (span said.now.first said.now.last / 2 + 1) ≤ vec_capacity echoes.old }
+    requires room { disposition.now.settled ≡ false → min (length rows.old.rows) (span disposition.now.first disposition.now.last / 2 + 1) ≤ vec_capacity echoes.old }
     ensures within { result ≤ length rows.old.rows }
-    ensures split { IsSplit said.now (turned from rows.old.rows) result }
+    ensures split { IsSplit disposition.now (turned from rows.old.rows) result }
     ensures asked { (asked : List (DispositionQuestion R))
-        × AsksEach R.gives.disposition_gives said.now (take result (turned from rows.old.rows)) asked links.old links.new
-        × (runs : List DeliveryRange) × AreRuns said.now.first (noted said.now.settled asked) runs × (echoes.new.items ≡ map (echo_of None) runs) }
+        × AsksEach R.gives.disposition_gives disposition.now (take result (turned from rows.old.rows)) asked links.old links.new
+        × (runs : List DeliveryRange) × AreRuns disposition.now.first (noted disposition.now.settled asked) runs × (echoes.new.items ≡ map (echo_of None) runs) }
     ensures read { (k : ℕ) × (k ≤ result + 1) × (result ≤ k) × (rows.new ≡ stepped k rows.old) }
 {
     let len = rows.len();
@@ -107,8 +107,8 @@ pub(super) fn ask_each<R: LinkRelay>(
         if !range.has(number) {
             return count;
         }
-        let answer = links.ask_disposition(said, delivery);
-        note(echoes, number, said.settled, answer);
+        let answer = links.ask_disposition(disposition, delivery);
+        note(echoes, number, disposition.settled, answer);
     }
     len
 }

@@ -20,7 +20,7 @@ returns g c =
     let h = c.args.delivery.now.input_handle.0 in
     let there = some_is _ _ a.attached in
     rw (← c.self.view_is) (
-      Some (record { handle = a.handle; before = a.before; asked = question_of c.args.said.now c.args.delivery.now; answer = c.ask_disposition.result; after = a.after }),
+      Some (record { handle = a.handle; before = a.before; asked = question_of c.args.disposition.now c.args.delivery.now; answer = c.ask_disposition.result; after = a.after }),
       (
         refl,
         record { attached = get_at c.self.inside.inputs.entries h ∙ a.attached; stands = a.stands },

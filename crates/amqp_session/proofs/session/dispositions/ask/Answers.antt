@@ -27,45 +27,45 @@ on_ok (Err e) h = tt
 
 pub ask_each-requires-clause-order : goal.ask_each-requires-clause-order
 ask_each-requires-clause-order g c =
-    let first : c.args.range.first ≡ c.args.said.now.first = ap (λ (y : SerialRange). y.first) c.requires.range in
+    let first : c.args.range.first ≡ c.args.disposition.now.first = ap (λ (y : SerialRange). y.first) c.requires.range in
     let same = compared_rows c.args.rows.now c.place_of-from.new.self c.place_of-from.ensures.cost.0 c.place_of-from.ensures.cost.1 in
     let order = subst (λ n. in_order n c.args.rows.now.rows ≡ turned c.place_of-from.result c.args.rows.now.rows) first
     (order_turned c.args.range.first c.args.rows.now.rows c.place_of-from.result c.place_of-from.ensures.within c.place_of-from.ensures.below c.place_of-from.ensures.above) in
-    subst (λ (rows : List Delivery). in_order c.args.said.now.first rows ≡ turned c.place_of-from.result rows) (sym same) order
+    subst (λ (rows : List Delivery). in_order c.args.disposition.now.first rows ≡ turned c.place_of-from.result rows) (sym same) order
 
 pub ask_each-requires-clause-room : goal.ask_each-requires-clause-room
 ask_each-requires-clause-room g c = λ settled.
     let same = compared_rows c.args.rows.now c.place_of-from.new.self c.place_of-from.ensures.cost.0 c.place_of-from.ensures.cost.1 in
-    let size : c.args.range.span ≡ span c.args.said.now.first c.args.said.now.last = ap (λ (y : SerialRange). y.span) c.requires.range in
-    let room : min (length c.args.rows.now.rows) (span c.args.said.now.first c.args.said.now.last / 2 + 1) ≤ vec_capacity c.in_ok-echoes.echoes = omega (arith, size, c.len.ensures.len, c.most_runs.ensures, c.min-most.ensures, c.in_ok-echoes.ensures.capacity) in
-    subst (λ (rows : List Delivery). min (length rows) (span c.args.said.now.first c.args.said.now.last / 2 + 1) ≤ vec_capacity c.in_ok-echoes.echoes) (sym same) room
+    let size : c.args.range.span ≡ span c.args.disposition.now.first c.args.disposition.now.last = ap (λ (y : SerialRange). y.span) c.requires.range in
+    let room : min (length c.args.rows.now.rows) (span c.args.disposition.now.first c.args.disposition.now.last / 2 + 1) ≤ vec_capacity c.in_ok-echoes.echoes = omega (arith, size, c.len.ensures.len, c.most_runs.ensures, c.min-most.ensures, c.in_ok-echoes.ensures.capacity) in
+    subst (λ (rows : List Delivery). min (length rows) (span c.args.disposition.now.first c.args.disposition.now.last / 2 + 1) ≤ vec_capacity c.in_ok-echoes.echoes) (sym same) room
 
 pub returns-clause-asked : goal.returns-clause-asked
 returns-clause-asked g c =
-    let first : c.args.range.first ≡ c.args.said.now.first = ap (λ (y : SerialRange). y.first) c.requires.range in
+    let first : c.args.range.first ≡ c.args.disposition.now.first = ap (λ (y : SerialRange). y.first) c.requires.range in
     let same = compared_rows c.args.rows.now c.place_of-from.new.self c.place_of-from.ensures.cost.0 c.place_of-from.ensures.cost.1 in
     let order = subst (λ n. in_order n c.args.rows.now.rows ≡ turned c.place_of-from.result c.args.rows.now.rows) first
     (order_turned c.args.range.first c.args.rows.now.rows c.place_of-from.result c.place_of-from.ensures.within c.place_of-from.ensures.below c.place_of-from.ensures.above) in
-    let split = subst (λ (rows : List Delivery). IsSplit c.args.said.now (turned c.place_of-from.result rows) c.ask_each.result) same c.ask_each.ensures.split in
-    let are = split_meant c.args.said.now c.args.rows.now.rows c.place_of-from.result c.ask_each.result order split in
+    let split = subst (λ (rows : List Delivery). IsSplit c.args.disposition.now (turned c.place_of-from.result rows) c.ask_each.result) same c.ask_each.ensures.split in
+    let are = split_meant c.args.disposition.now c.args.rows.now.rows c.place_of-from.result c.ask_each.result order split in
     let a = c.ask_each.ensures.asked in
-    let runs = subst (λ b. AreRuns c.args.said.now.first (noted b a.0) a.2) c.requires.settled a.3 in
-    let state = ap (λ (y : DispositionModel). y.state) c.said.view_is in
+    let runs = subst (λ b. AreRuns c.args.disposition.now.first (noted b a.0) a.2) c.requires.settled a.3 in
+    let state = ap (λ (y : DispositionModel). y.state) c.disposition.view_is in
     if_ok c.with_state.result (λ echoes e. (a.0, rw (are, ← same) a.1, record { runs = a.2; are_runs = runs; are_said = e a.2 a.4 ∙ ap (λ s. map (echo_of s) a.2) state })) c.with_state.ensures.echoes
 
 pub returns-clause-refused : goal.returns-clause-refused
 returns-clause-refused g c =
-    let first : c.args.range.first ≡ c.args.said.now.first = ap (λ (y : SerialRange). y.first) c.requires.range in
+    let first : c.args.range.first ≡ c.args.disposition.now.first = ap (λ (y : SerialRange). y.first) c.requires.range in
     let same = compared_rows c.args.rows.now c.place_of-from.new.self c.place_of-from.ensures.cost.0 c.place_of-from.ensures.cost.1 in
     let order = subst (λ n. in_order n c.args.rows.now.rows ≡ turned c.place_of-from.result c.args.rows.now.rows) first
     (order_turned c.args.range.first c.args.rows.now.rows c.place_of-from.result c.place_of-from.ensures.within c.place_of-from.ensures.below c.place_of-from.ensures.above) in
-    let split = subst (λ (rows : List Delivery). IsSplit c.args.said.now (turned c.place_of-from.result rows) c.ask_each.result) same c.ask_each.ensures.split in
-    let are = split_meant c.args.said.now c.args.rows.now.rows c.place_of-from.result c.ask_each.result order split in
+    let split = subst (λ (rows : List Delivery). IsSplit c.args.disposition.now (turned c.place_of-from.result rows) c.ask_each.result) same c.ask_each.ensures.split in
+    let are = split_meant c.args.disposition.now c.args.rows.now.rows c.place_of-from.result c.ask_each.result order split in
     let a = c.ask_each.ensures.asked in
-    let runs = subst (λ b. AreRuns c.args.said.now.first (noted b a.0) a.2) c.requires.settled a.3 in
-    let some = some_number c.args.said.now.first (agreed a.0) a.2 runs in
+    let runs = subst (λ b. AreRuns c.args.disposition.now.first (noted b a.0) a.2) c.requires.settled a.3 in
+    let some = some_number c.args.disposition.now.first (agreed a.0) a.2 runs in
     let len = ap length a.4 ∙ length-map a.2 (echo_of None) in
-    let state = ap (λ (y : DispositionModel). y.state) c.said.view_is in
+    let state = ap (λ (y : DispositionModel). y.state) c.disposition.view_is in
     on_err c.with_state.result (λ e. inr (a.0, (subst IsSome state e.0, some (omega (arith, len, e.1))), rw (are, ← same) a.1)) c.with_state.ensures.refused
 
 pub returns-clause-rows : goal.returns-clause-rows
@@ -76,20 +76,20 @@ returns-clause-rows g c =
 
 pub returns-clause-walk : goal.returns-clause-walk
 returns-clause-walk g c =
-    let first : c.args.range.first ≡ c.args.said.now.first = ap (λ (y : SerialRange). y.first) c.requires.range in
+    let first : c.args.range.first ≡ c.args.disposition.now.first = ap (λ (y : SerialRange). y.first) c.requires.range in
     let p = c.place_of-from.ensures in
     let e = c.ask_each.ensures in
     let same = compared_rows c.args.rows.now c.place_of-from.new.self p.cost.0 p.cost.1 in
     let order = subst (λ n. in_order n c.args.rows.now.rows ≡ turned c.place_of-from.result c.args.rows.now.rows) first
     (order_turned c.args.range.first c.args.rows.now.rows c.place_of-from.result p.within p.below p.above) in
-    let split = subst (λ (rows : List Delivery). IsSplit c.args.said.now (turned c.place_of-from.result rows) c.ask_each.result) same e.split in
+    let split = subst (λ (rows : List Delivery). IsSplit c.args.disposition.now (turned c.place_of-from.result rows) c.ask_each.result) same e.split in
     let within : c.ask_each.result ≤ length c.args.rows.now.rows = subst (λ (rows : List Delivery). c.ask_each.result ≤ length rows) same e.within in
     let little = few p.cost.0 (length c.args.rows.now.rows) (omega (arith, p.few)) p.cost.2 in
     let is = since_is c.since.result c.args.rows.now c.place_of-from.new.self c.ask_each.new.rows c.reads.result c.reads-before.result p.cost.0 e.read.0 c.since.ensures p.cost.1 e.read.3 c.reads.ensures c.reads-before.ensures (omega (arith, e.read.1, within, p.few)) (omega (arith, little)) in (
       true,
       on_ok c.with_state.result refl,
-      subst (λ (w : WalkCount). IsWalked c.args.said.now c.args.rows.now.rows true w) (sym is)
-          (walked c.args.said.now c.args.rows.now.rows c.place_of-from.result c.ask_each.result e.read.0 p.cost.0 p.within within order split e.read.1 e.read.2 p.cost.2),
+      subst (λ (w : WalkCount). IsWalked c.args.disposition.now c.args.rows.now.rows true w) (sym is)
+          (walked c.args.disposition.now c.args.rows.now.rows c.place_of-from.result c.ask_each.result e.read.0 p.cost.0 p.within within order split e.read.1 e.read.2 p.cost.2),
     )
 
 pub returns-clause-reads : goal.returns-clause-reads

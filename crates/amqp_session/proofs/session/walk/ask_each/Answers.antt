@@ -12,7 +12,7 @@ use Rattle.amqp_session.proofs.session.walk.ask_each.Goals as goal
 
 pub loop-count-init : goal.loop-count-init
 loop-count-init g c = record {
-  asked = ([], (refl, refl), [], nothing_noted g.row.R.Denot c.args.said.now.first c.args.said.now.settled, c.requires.no_echoes, tt);
+  asked = ([], (refl, refl), [], nothing_noted g.row.R.Denot c.args.disposition.now.first c.args.disposition.now.settled, c.requires.no_echoes, tt);
   near = tt;
   counted = not_stepped c.args.rows.now c.len-len.ensures.turns;
   few = let e = ap length c.requires.no_echoes in omega (arith, e);
@@ -21,7 +21,7 @@ loop-count-init g c = record {
 
 pub returns-then-not-has-clause-split : goal.returns-then-not-has-clause-split
 returns-then-not-has-clause-split g c =
-    let d = c.args.said.now in
+    let d = c.args.disposition.now in
     let first : c.args.range.first ≡ d.first = ap (λ (y : SerialRange). y.first) c.requires.range in
     let size : c.args.range.span ≡ span d.first d.last = ap (λ (y : SerialRange). y.span) c.requires.range in
     let hf : d.first < 2 ^ 32 = subst (λ n. n < 2 ^ 32) first (omega arith) in
@@ -42,7 +42,7 @@ returns-then-not-has-clause-read g c =
 
 pub note-requires : goal.note-requires
 note-requires g c settled =
-    let d = c.args.said.now in
+    let d = c.args.disposition.now in
     let first : c.args.range.first ≡ d.first = ap (λ (y : SerialRange). y.first) c.requires.range in
     let size : c.args.range.span ≡ span d.first d.last = ap (λ (y : SerialRange). y.span) c.requires.range in
     let hf : d.first < 2 ^ 32 = subst (λ n. n < 2 ^ 32) first (omega arith) in
@@ -58,7 +58,7 @@ note-requires g c settled =
     let after = end_later d.first _ (distance d.first c.delivery-delivery.result.now.number) a.2 s.near a.5 in
     let vec : vec_len c.loop-count.echoes ≡ length c.loop-count.echoes.items = search rules in
     let len : vec_len c.loop-count.echoes ≡ length a.2 = vec ∙ ap length a.4 ∙ length-map a.2 (echo_of None) in
-    let room = c.requires.room (ap (λ (y : DispositionModel). y.settled) (sym c.said.view_is) ∙ settled) in (
+    let room = c.requires.room (ap (λ (y : DispositionModel). y.settled) (sym c.disposition.view_is) ∙ settled) in (
       a.2,
       a.4,
       λ own. let half = few_runs d.first c.delivery-delivery.result.now.number a.2 hf hn own after a.3.apart in
@@ -67,7 +67,7 @@ note-requires g c settled =
 
 pub loop-count-preserved : goal.loop-count-preserved
 loop-count-preserved g c =
-    let d = c.args.said.now in
+    let d = c.args.disposition.now in
     let v = c.loop-count.invariant in
     let k = c.loop-count.count in
     let x = c.delivery-delivery.result.now in
@@ -87,7 +87,7 @@ loop-count-preserved g c =
     let old = v.asked.2 in
     let after = end_later d.first (reach d.first 0 (take k order)) (distance d.first x.number) old s.near v.asked.5 in
     let runs = noted_more d.first x.number d.settled (has_agreed q.0) v.asked.0 more.0 old hf hn more.2 after v.asked.3 in
-    let items = c.note.ensures.items old v.asked.4 ∙ ap (λ b. map (echo_of None) (noted_by b c.ask_disposition-answer.result x.number old)) (ap (λ (y : DispositionModel). y.settled) c.said.view_is) ∙ ap (λ b. map (echo_of None) (noted_by d.settled b x.number old)) q.2 in
+    let items = c.note.ensures.items old v.asked.4 ∙ ap (λ b. map (echo_of None) (noted_by b c.ask_disposition-answer.result x.number old)) (ap (λ (y : DispositionModel). y.settled) c.disposition.view_is) ∙ ap (λ b. map (echo_of None) (noted_by d.settled b x.number old)) q.2 in
     record {
       asked = (more.0, rw s.grow more.1, noted_by d.settled (has_agreed q.0) x.number old, runs.0, items, rw (s.grow, reach_more d.first 0 (take k order) x) runs.1);
       near = rw s.grow (each_more d _ (take k order) x v.near (meant_is d x.number c.requires.forward near));
@@ -100,13 +100,13 @@ pub returns-clause-split : goal.returns-clause-split
 returns-clause-split g c =
     let end : c.loop-count.count ≡ c.len-len.result = omega (arith, c.loop-count.auto.count-end) in
     let len = turned_length c.args.from c.args.rows.now.rows c.requires.from in
-    stops_end c.args.said.now (turned c.args.from c.args.rows.now.rows) c.len-len.result (omega (arith, len, c.len-len.ensures.len)) (subst (λ n. EachMeant c.args.said.now _ (take n (turned c.args.from c.args.rows.now.rows))) end c.loop-count.invariant.near)
+    stops_end c.args.disposition.now (turned c.args.from c.args.rows.now.rows) c.len-len.result (omega (arith, len, c.len-len.ensures.len)) (subst (λ n. EachMeant c.args.disposition.now _ (take n (turned c.args.from c.args.rows.now.rows))) end c.loop-count.invariant.near)
 
 pub returns-clause-asked : goal.returns-clause-asked
 returns-clause-asked g c =
     let end : c.loop-count.count ≡ c.len-len.result = omega (arith, c.loop-count.auto.count-end) in
     let a = c.loop-count.invariant.asked in
-    (a.0, subst (λ n. AsksEach g.R.LinkRelay.gives.disposition_gives c.args.said.now (take n (turned c.args.from c.args.rows.now.rows)) a.0 c.args.links.now c.loop-count.links) end a.1, a.2, a.3, a.4)
+    (a.0, subst (λ n. AsksEach g.R.LinkRelay.gives.disposition_gives c.args.disposition.now (take n (turned c.args.from c.args.rows.now.rows)) a.0 c.args.links.now c.loop-count.links) end a.1, a.2, a.3, a.4)
 
 pub returns-clause-read : goal.returns-clause-read
 returns-clause-read g c =

@@ -10,10 +10,10 @@ use Rattle.amqp_session.proofs.session.walk.ask_each.Given as goal
 
 abbrev pub invariant-loop-count : goal.invariant-loop-count
 invariant-loop-count g l = record {
-  asked : (asked : List (DispositionQuestion g.row.R.Denot)) × AsksEach g.R.LinkRelay.gives.disposition_gives l.fn.said (take l.count (turned l.fn.from l.fn.rows.rows)) asked l.fn.links l.links
-      × (runs : List DeliveryRange) × AreRuns l.fn.said.first (noted l.fn.said.settled asked) runs × (l.echoes.items ≡ map (echo_of None) runs)
-      × EndBefore l.fn.said.first (reach l.fn.said.first 0 (take l.count (turned l.fn.from l.fn.rows.rows))) runs;
-  near : EachMeant l.fn.said true (take l.count (turned l.fn.from l.fn.rows.rows));
+  asked : (asked : List (DispositionQuestion g.row.R.Denot)) × AsksEach g.R.LinkRelay.gives.disposition_gives l.fn.disposition (take l.count (turned l.fn.from l.fn.rows.rows)) asked l.fn.links l.links
+      × (runs : List DeliveryRange) × AreRuns l.fn.disposition.first (noted l.fn.disposition.settled asked) runs × (l.echoes.items ≡ map (echo_of None) runs)
+      × EndBefore l.fn.disposition.first (reach l.fn.disposition.first 0 (take l.count (turned l.fn.from l.fn.rows.rows))) runs;
+  near : EachMeant l.fn.disposition true (take l.count (turned l.fn.from l.fn.rows.rows));
   counted : l.rows ≡ stepped l.count l.fn.rows;
   few : vec_len l.echoes ≤ l.count;
   room : vec_capacity l.echoes ≡ vec_capacity l.fn.echoes;

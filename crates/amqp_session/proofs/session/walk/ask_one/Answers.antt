@@ -7,7 +7,7 @@ use Rattle.amqp_session.proofs.session.walk.ask_one.Goals as goal
 
 pub returns-then-delivery-range-clause-split : goal.returns-then-delivery-range-clause-split
 returns-then-delivery-range-clause-split g c =
-    let d = c.args.said.now in
+    let d = c.args.disposition.now in
     let x = c.delivery-delivery.result.now in
     let first : c.args.range.first ≡ d.first = ap (λ (y : SerialRange). y.first) c.requires.range in
     let hf : d.first < 2 ^ 32 = subst (λ n. n < 2 ^ 32) first (omega arith) in
@@ -19,7 +19,7 @@ returns-then-delivery-range-clause-split g c =
 
 pub returns-clause-split : goal.returns-clause-split
 returns-clause-split g c =
-    let d = c.args.said.now in
+    let d = c.args.disposition.now in
     let x = c.delivery-delivery.result.now in
     let first : c.args.range.first ≡ d.first = ap (λ (y : SerialRange). y.first) c.requires.range in
     let hf : d.first < 2 ^ 32 = subst (λ n. n < 2 ^ 32) first (omega arith) in
@@ -30,7 +30,7 @@ returns-clause-split g c =
 
 pub returns-clause-asked : goal.returns-clause-asked
 returns-clause-asked g c =
-    let d = c.args.said.now in
+    let d = c.args.disposition.now in
     let x = c.delivery-delivery.result.now in
     let first : c.args.range.first ≡ d.first = ap (λ (y : SerialRange). y.first) c.requires.range in
     let hf : d.first < 2 ^ 32 = subst (λ n. n < 2 ^ 32) first (omega arith) in
