@@ -65,9 +65,8 @@ class Module:
         self.crate, self.file = crate, ROOT / "crates" / crate / "specs" / (path.replace(".", "/") + ".antt")
         lines = self.file.read_text(encoding="utf8").splitlines()
         self.part, self.lines = (lines[0], lines[1:]) if lines[:1] and lines[0].startswith(PART) else (None, lines)
-        # as long as the file is with the line of its part
-        self.length = 1 + len(self.lines)
-        self.text, self.lines = self.lines, flat(self.lines)
+        # with the line of its part
+        self.length, self.text, self.lines = 1 + len(self.lines), self.lines, flat(self.lines)
         self.names, self.aliases = imports(self.lines)
         self.items = {}
         for first, last in blocks(self.lines):

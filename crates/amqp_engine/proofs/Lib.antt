@@ -12,6 +12,7 @@ pub mod SameEngineLemmas
 pub mod KindFieldsLemmas
 pub mod ReceivedFieldsLemmas
 pub mod StepEffectLemmas
+pub mod RequestStepLemmas
 pub mod InputStepLemmas
 pub mod StepChainLemmas
 pub mod SessionProjectionLemmas
