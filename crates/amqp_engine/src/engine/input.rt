@@ -41,7 +41,8 @@ pub enum Input<R> {
     /// section 2.5.1).
     ///
     /// `SessionInUse` where a session has or had the number. `OutOfMemory` where the engine has no room for one more session.
-    /// `AllocSession` where no channel is allotted, as in a connection that is not open yet, or that has stopped.
+    /// `AllocSession` where no channel is allotted, as in `Start`, `HeaderSent`, `HeaderReceived` and `HeaderExchange`, or once the
+    /// connection has stopped.
     /// `SessionState(OutOfMemory)` where the copy of the settings is refused. Nothing changes then.
     Begin(SessionNo, SessionSettings),
     /// The session is ended, with an error or without, or the peer's End is answered (AMQP 1.0 part 2, section 2.5.3). It is accepted where
