@@ -20,7 +20,7 @@ pub struct Frame {
     pub body: FrameBody,
 }
 
-/// The body of a frame: a performative, or nothing (AMQP 1.0 part 2, section 2.3.3).
+/// The body of a frame: a performative, or nothing (AMQP 1.0 part 2, section 2.3.2).
 #[derive(Drop, PartialEq)]
 pub enum FrameBody {
     /// Attaches a link (section 2.7.3).
