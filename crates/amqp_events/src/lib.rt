@@ -31,7 +31,7 @@
 //! }
 //! ```
 //!
-//! This is compiled in the crate `test_events`, in `src/example.rt`.
+//! This is compiled in the crate `test_session`, in `src/events/example.rt`.
 //!
 //! # Room
 //!
@@ -62,7 +62,7 @@
 //! A contract refuses a body of the queue or of the relay by which an event is dropped, two swap, a later one overwrites another, one names
 //! another link or carries another payload, one that was refused is half there, or all are refused. What is left to a test is the six lines by
 //! which a shared queue borrows its cell, calls the queue, and answers: a body that puts nothing there would meet its contract. The crate
-//! `test_events` has a session with two links that share a queue, where the order, the links, the payloads and the refusals are compared. An
+//! `test_session` has a session with two links that share a queue, where the order, the links, the payloads and the refusals are compared. An
 //! [`Event`] can't be cloned, so no body puts one in twice. Two freedoms are left: a body may claim that a tag or a state could not be
 //! shared. Tests refuse that too.
 #![tactic(auto)]

@@ -1,4 +1,4 @@
-//! Tests of sequences in blocks: each call on its happy path, and long runs beside a plain list.
+//! Tests of sequences in blocks, and of sets of numbers: each call on its happy path, and long runs beside a plain list.
 #![tactic(auto)]
 
 #[cfg(test)]
@@ -7,6 +7,8 @@ mod beside;
 mod calls;
 #[cfg(test)]
 mod counts;
+#[cfg(test)]
+mod numbers;
 #[cfg(test)]
 mod runs;
 #[cfg(test)]

@@ -1,5 +1,5 @@
 //! Tests of sessions that need their types, by public calls alone: kinds of relay, how often they are asked, refused memory, laws,
-//! conversions. The rows of the session's calls are those of the program `rows_session`.
+//! conversions, and events. The rows of the session's calls are those of the program `rows_session`.
 #![tactic(auto)]
 
 #[cfg(test)]
@@ -10,6 +10,8 @@ mod conversions;
 mod counting;
 #[cfg(test)]
 mod dispositions;
+#[cfg(test)]
+mod events;
 #[cfg(test)]
 mod laws;
 #[cfg(test)]

@@ -1,7 +1,7 @@
 //! A session with two links whose relays share a queue: what comes for either comes out in order, with its own link and payload.
 
-use crate::frames::{attach, flow, settled, transfer};
-use crate::seen::{Seen, show};
+use super::frames::{attach, flow, settled, transfer};
+use super::seen::{Seen, show};
 use amqp_events::{EventRelay, LinkNames, Policy, Room, SharedQueue};
 use amqp_session::{
     InputHandle, OutgoingChannel, OutputHandle, Session, SessionInnerError, SessionSettings,

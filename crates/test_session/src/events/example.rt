@@ -1,6 +1,6 @@
 //! The example of the library's page, and what it gives.
 
-use crate::frames::{link_flow, transfer};
+use super::frames::{link_flow, transfer};
 use amqp_events::{EventBody, EventRelay, Policy, Room, SharedQueue};
 use amqp_session::{LinkRelay, OutputHandle};
 use amqp_types::{ReceiverSettleMode, Role};

@@ -1,7 +1,7 @@
 //! A relay over a queue of its own: what it is told is in the queue, or it is refused and nothing has changed.
 
-use crate::frames::{attach, link_flow, transfer};
-use crate::seen::{Seen, show};
+use super::frames::{attach, link_flow, transfer};
+use super::seen::{Seen, show};
 use amqp_events::{EventQueue, EventRelay, LinkNames, Policy, Recorded, Room};
 use amqp_session::{InputHandle, LinkRelay, LinkRelayError, OutputHandle};
 use amqp_types::{DeliveryTag, ReceiverSettleMode, Role};

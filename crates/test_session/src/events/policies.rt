@@ -1,6 +1,6 @@
 //! The policy: what is recorded, echoed and answered.
 
-use crate::frames::{link_flow, transfer};
+use super::frames::{link_flow, transfer};
 use amqp_events::{Echoed, Policy, Recorded};
 use amqp_session::OutputHandle;
 use amqp_types::{Raw, ReceiverSettleMode, Role};

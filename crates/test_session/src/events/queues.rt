@@ -1,7 +1,7 @@
 //! The queue: what was put in comes out in order, each kind has its room, and what is taken out gives it back.
 
-use crate::frames::{link_flow, transfer};
-use crate::seen::{Seen, show};
+use super::frames::{link_flow, transfer};
+use super::seen::{Seen, show};
 use amqp_events::{Event, EventBody, EventKind, EventQueue, LinkNames, Room};
 use amqp_session::LinkRelayError;
 use bytes::Bytes;
