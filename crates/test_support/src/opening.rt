@@ -1,20 +1,13 @@
 //! Opens and Begins.
 
-use amqp_types::{Begin, Handle, Open};
+use amqp_types::{Begin, Open};
 
 /// An Open of this name with the limits of a transcript's engine, and nothing else.
 pub fn open_of(container_id: String) -> Open {
     Open {
-        container_id,
-        hostname: None,
         max_frame_size: 262144,
         channel_max: 255,
-        idle_time_out: None,
-        outgoing_locales: None,
-        incoming_locales: None,
-        offered_capabilities: None,
-        desired_capabilities: None,
-        properties: None,
+        ..Open::new(container_id)
     }
 }
 
@@ -22,12 +15,6 @@ pub fn open_of(container_id: String) -> Open {
 pub fn begin_of(incoming_window: u32) -> Begin {
     Begin {
         remote_channel: Some(0),
-        next_outgoing_id: 0,
-        incoming_window,
-        outgoing_window: 8,
-        handle_max: Handle(u32::MAX),
-        offered_capabilities: None,
-        desired_capabilities: None,
-        properties: None,
+        ..Begin::new(0, incoming_window, 8)
     }
 }

@@ -17,11 +17,7 @@ pub fn error(alloc: Global, condition: &str) -> anyhow::Result<Option<Error>> {
     if condition.is_empty() {
         return Ok(None);
     }
-    Ok(Some(Error {
-        condition: symbol(alloc, condition)?,
-        description: None,
-        info: None,
-    }))
+    Ok(Some(Error::new(symbol(alloc, condition)?)))
 }
 
 /// The reason of this name why a connection stopped.

@@ -103,9 +103,8 @@ impl LinkRelay for RowRelay {
             return None;
         }
         Some(Detach {
-            handle: handle.into(),
             closed,
-            error: None,
+            ..Detach::new(handle.into())
         })
     }
 }

@@ -10,17 +10,8 @@ pub fn transfer_of(handle: u32, tag: Option<&'static [u8]>) -> Transfer {
         None => None,
     };
     Transfer {
-        handle: Handle(handle),
-        delivery_id: None,
         delivery_tag,
-        message_format: None,
-        settled: None,
-        more: false,
-        rcv_settle_mode: None,
-        state: None,
-        resume: false,
-        aborted: false,
-        batchable: false,
+        ..Transfer::new(Handle(handle))
     }
 }
 
@@ -33,12 +24,10 @@ pub fn disposition_of(
     state: Option<Raw>,
 ) -> Disposition {
     Disposition {
-        role,
-        first,
         last,
         settled,
         state,
-        batchable: false,
+        ..Disposition::new(role, first)
     }
 }
 
