@@ -1,13 +1,13 @@
 -- How many Opens and Closes a history hands out, from what each state may still hand out.
-use Rattle.std.proofs.Common.{◌≡◌, ℕ, ◌+◌, List, [], ◌∷◌, ◌++◌, Option, Some, None, Result, Ok, Err, refl, sym, ap, subst, ◌∙◌, arith, unwrap_or}
+use Rattle.std.proofs.Common.{◌≡◌, ℕ, ◌+◌, List, [], ◌∷◌, ◌++◌, Option, Some, None, is_some, Result, Ok, Err, refl, sym, ap, subst, ◌∙◌, arith, unwrap_or}
 use Rattle.amqp_types.specs.declared.states.ConnectionState.{ConnectionState}
 use Rattle.amqp_types.specs.Error.{ErrorModel}
 use Rattle.amqp_types.specs.Open.{OpenModel}
 use Rattle.amqp_frames.specs.declared.frame.Frame.{Frame}
 use Rattle.amqp_connection.specs.declared.error.ConnectionStateError.{ConnectionStateError}
 use Rattle.amqp_connection.specs.declared.error.ConnectionStateError.TheVariants as state
-use Rattle.amqp_connection.specs.States.{takes_close}
-use Rattle.amqp_connection.specs.Connection.{ConnectionView, new_connection, closes_by, SendOpenStep, SendCloseStep, IncomingOpenStep}
+use Rattle.amqp_connection.specs.States.{sends_close, takes_close}
+use Rattle.amqp_connection.specs.Connection.{ConnectionView, new_connection, SendOpenStep, SendCloseStep, IncomingOpenStep}
 use Rattle.amqp_connection.specs.History.{Entry, SendOpen, SendClose, IncomingOpen, IncomingClose, Stop, Allocate, Deallocate, IncomingBegin}
 use Rattle.amqp_connection.specs.History.{IncomingEnd, OutgoingBegin, OutgoingEnd, Step, Chain, LeadsTo}
 use Rattle.amqp_connection.specs.ByHistory.{frames_of, handed, opens, closes, OneEach}
@@ -20,7 +20,7 @@ spends_none s t e = subst (λ x. Spends 0 0 s x) (sym e) (record { open_spent = 
 ends_at : (i j : ℕ) (s : ConnectionState) (v w : ConnectionView) → w ≡ v → Spends i j s v.state → Spends i j s w.state
 ends_at i j s v w e m = subst (λ (k : ConnectionView). Spends i j s k.state) (sym e) m
 
-closes_by_spends : (error : Option ErrorModel) (s t : ConnectionState) → closes_by error s ≡ Some t → Spends 0 1 s t
+closes_by_spends : (error : Option ErrorModel) (s t : ConnectionState) → sends_close (is_some error) s ≡ Some t → Spends 0 1 s t
 closes_by_spends None s t e = sends_close_spends s t e
 closes_by_spends (Some x) s t e = sends_close_with_error_spends s t e
 

@@ -1,9 +1,9 @@
 -- What each state may still hand out, and that no move lets it hand out more.
-use Rattle.std.proofs.Common.{◌≡◌, ℕ, ◌+◌, ◌≤◌, Some, subst, arith}
+use Rattle.std.proofs.Common.{◌≡◌, ℕ, ◌+◌, ◌≤◌, true, false, Some, subst, arith}
 use Rattle.amqp_types.specs.declared.states.ConnectionState.{ConnectionState}
 use Rattle.amqp_types.specs.declared.states.ConnectionState.TheVariants as at
 use Rattle.amqp_values.proofs.ReaderLemmas.{some_is}
-use Rattle.amqp_connection.specs.States.{sends_open, takes_open, sends_close, sends_close_with_error, takes_close}
+use Rattle.amqp_connection.specs.States.{sends_open, takes_open, sends_close, takes_close}
 
 -- how many Opens may still go out
 abbrev pub open_left : ConnectionState → ℕ
@@ -44,14 +44,14 @@ takes_open_spends at.OpenSent t e = lands 0 0 at.OpenSent t at.Opened e (record 
 takes_open_spends at.ClosePipe t e = lands 0 0 at.ClosePipe t at.CloseSent e (record { open_spent = omega arith; close_spent = omega arith })
 takes_open_spends s t e = absurd cc
 
-pub sends_close_spends : (s t : ConnectionState) → sends_close s ≡ Some t → Spends 0 1 s t
+pub sends_close_spends : (s t : ConnectionState) → sends_close false s ≡ Some t → Spends 0 1 s t
 sends_close_spends at.OpenPipe t e = lands 0 1 at.OpenPipe t at.OpenClosePipe e (record { open_spent = omega arith; close_spent = omega arith })
 sends_close_spends at.OpenSent t e = lands 0 1 at.OpenSent t at.ClosePipe e (record { open_spent = omega arith; close_spent = omega arith })
 sends_close_spends at.Opened t e = lands 0 1 at.Opened t at.CloseSent e (record { open_spent = omega arith; close_spent = omega arith })
 sends_close_spends at.CloseReceived t e = lands 0 1 at.CloseReceived t at.End e (record { open_spent = omega arith; close_spent = omega arith })
 sends_close_spends s t e = absurd cc
 
-pub sends_close_with_error_spends : (s t : ConnectionState) → sends_close_with_error s ≡ Some t → Spends 0 1 s t
+pub sends_close_with_error_spends : (s t : ConnectionState) → sends_close true s ≡ Some t → Spends 0 1 s t
 sends_close_with_error_spends at.OpenPipe t e = lands 0 1 at.OpenPipe t at.Discarding e (record { open_spent = omega arith; close_spent = omega arith })
 sends_close_with_error_spends at.OpenSent t e = lands 0 1 at.OpenSent t at.Discarding e (record { open_spent = omega arith; close_spent = omega arith })
 sends_close_with_error_spends at.Opened t e = lands 0 1 at.Opened t at.Discarding e (record { open_spent = omega arith; close_spent = omega arith })

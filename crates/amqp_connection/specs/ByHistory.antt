@@ -1,6 +1,6 @@
 -- Part: the promise; other calls.
 -- What a history gives of a connection: by its calls alone, the oldest first.
-use Rattle.std.specs.Prelude.{◌≡◌, ◌≤◌, ◌+◌, ℕ, List, [], ◌∷◌, ◌++◌, true, Option, Some, None, Ok, cond, nat_eq, unwrap_or, min}
+use Rattle.std.specs.Prelude.{◌≡◌, ◌≤◌, ◌+◌, ℕ, List, [], ◌∷◌, ◌++◌, true, Option, Some, None, is_some, Ok, cond, nat_eq, unwrap_or, min}
 use Rattle.std.specs.FinMap as map
 use Rattle.amqp_types.specs.declared.states.ConnectionState.{ConnectionState}
 use Rattle.amqp_types.specs.declared.states.ConnectionState.TheVariants.{HeaderExchange}
@@ -9,8 +9,8 @@ use Rattle.amqp_session.specs.declared.stop.ConnectionStopReason.{ConnectionStop
 use Rattle.amqp_frames.specs.declared.frame.Frame.{Frame}
 use Rattle.amqp_frames.specs.declared.frame.FrameBody.{FrameBody}
 use Rattle.amqp_frames.specs.declared.frame.FrameBody.TheVariants as body
-use Rattle.amqp_connection.specs.States.{sends_open, takes_open, takes_close}
-use Rattle.amqp_connection.specs.Connection.{ConnectionView, closes_by, first_reason}
+use Rattle.amqp_connection.specs.States.{sends_open, takes_open, sends_close, takes_close}
+use Rattle.amqp_connection.specs.Connection.{ConnectionView, first_reason}
 use Rattle.amqp_connection.specs.History.{Entry, SendOpen, SendClose, IncomingOpen, IncomingClose, Stop, Allocate, Deallocate, IncomingBegin}
 use Rattle.amqp_connection.specs.History.{IncomingEnd, OutgoingBegin, OutgoingEnd}
 
@@ -18,7 +18,7 @@ use Rattle.amqp_connection.specs.History.{IncomingEnd, OutgoingBegin, OutgoingEn
 
 abbrev pub state_by : ConnectionState → Entry → ConnectionState
 state_by s (SendOpen (Ok f)) = unwrap_or (sends_open s) s
-state_by s (SendClose error (Ok f)) = unwrap_or (closes_by error s) s
+state_by s (SendClose error (Ok f)) = unwrap_or (sends_close (is_some error) s) s
 state_by s (IncomingOpen o None) = unwrap_or (takes_open s) s
 state_by s (IncomingClose c refusal) = unwrap_or (takes_close s) s
 state_by s e = s

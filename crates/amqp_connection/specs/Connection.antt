@@ -1,6 +1,6 @@
 -- Part: the promise; every call exactly; other calls; inner.
 -- What contracts see of a connection, and what each of its calls does.
-use Rattle.std.specs.Prelude.{◌≡◌, ◌≤◌, ℕ, Bool, true, false, Option, Some, None, IsSome, unwrap_or, Result, Ok, Err, min}
+use Rattle.std.specs.Prelude.{◌≡◌, ◌≤◌, ℕ, Bool, true, false, Option, Some, None, IsSome, is_some, unwrap_or, Result, Ok, Err, min}
 use Rattle.std.specs.FinMap as map
 use Rattle.amqp_types.specs.declared.states.ConnectionState.{ConnectionState}
 use Rattle.amqp_types.specs.declared.states.ConnectionState.TheVariants.{Opened, CloseReceived}
@@ -22,7 +22,7 @@ use Rattle.amqp_connection.specs.declared.error.AllocSessionError.TheVariants as
 use Rattle.amqp_connection.specs.declared.numbers.SessionNo.{SessionNo}
 use Rattle.amqp_connection.specs.Channels.{ChannelTable, IsLowestFree}
 use Rattle.amqp_connection.specs.RouteCounts.{IsLedTo}
-use Rattle.amqp_connection.specs.States.{sends_open, takes_open, sends_close, sends_close_with_error, takes_close}
+use Rattle.amqp_connection.specs.States.{sends_open, takes_open, sends_close, takes_close}
 
 pub record ConnectionView : Type 0 where
   pub state : ConnectionState
@@ -83,14 +83,10 @@ IncomingOpenStep v o (Some e) w = ⊥
 abbrev pub close_frame : Option ErrorModel → Frame
 close_frame error = record { channel = 0; body = body.Close (record { error = error }) }
 
-abbrev pub closes_by : Option ErrorModel → ConnectionState → Option ConnectionState
-closes_by None s = sends_close s
-closes_by (Some e) s = sends_close_with_error s
-
 abbrev pub SendCloseStep : ConnectionView → Option ErrorModel → Result Frame ConnectionStateError → ConnectionView → Type 0
 SendCloseStep v error (Ok f) w =
-    (s : ConnectionState) × (closes_by error v.state ≡ Some s) × (f ≡ close_frame error) × (w ≡ record v { state = s })
-SendCloseStep v error (Err state.IllegalState) w = (closes_by error v.state ≡ None) × (w ≡ v)
+    (s : ConnectionState) × (sends_close (is_some error) v.state ≡ Some s) × (f ≡ close_frame error) × (w ≡ record v { state = s })
+SendCloseStep v error (Err state.IllegalState) w = (sends_close (is_some error) v.state ≡ None) × (w ≡ v)
 SendCloseStep v error (Err e) w = ⊥
 
 -- the error that the peer's Close gives: its own; or RemoteClosed, unless it answers a Close of this side

@@ -1,6 +1,6 @@
 -- Part: the promise.
 -- The states of a connection, as tables: from which state a call moves to which (AMQP 1.0 part 2, section 2.4.6).
-use Rattle.std.specs.Prelude.{Option, Some, None}
+use Rattle.std.specs.Prelude.{Option, Some, None, Bool, true, false}
 use Rattle.amqp_types.specs.declared.states.ConnectionState.{ConnectionState}
 use Rattle.amqp_types.specs.declared.states.ConnectionState.TheVariants.{HeaderExchange, HeaderSent, OpenPipe, OpenClosePipe, OpenReceived}
 use Rattle.amqp_types.specs.declared.states.ConnectionState.TheVariants.{OpenSent, ClosePipe, Opened, CloseReceived, CloseSent, Discarding}
@@ -20,21 +20,16 @@ takes_open OpenSent = Some Opened
 takes_open ClosePipe = Some CloseSent
 takes_open s = None
 
--- this side sends its Close, without an error
-abbrev pub sends_close : ConnectionState → Option ConnectionState
-sends_close Opened = Some CloseSent
-sends_close OpenSent = Some ClosePipe
-sends_close OpenPipe = Some OpenClosePipe
-sends_close CloseReceived = Some End
-sends_close s = None
-
--- this side sends its Close, with an error
-abbrev pub sends_close_with_error : ConnectionState → Option ConnectionState
-sends_close_with_error Opened = Some Discarding
-sends_close_with_error OpenSent = Some Discarding
-sends_close_with_error OpenPipe = Some Discarding
-sends_close_with_error CloseReceived = Some End
-sends_close_with_error s = None
+-- this side sends its Close, with an error or without
+abbrev pub sends_close : Bool → ConnectionState → Option ConnectionState
+sends_close with_error CloseReceived = Some End
+sends_close true Opened = Some Discarding
+sends_close true OpenSent = Some Discarding
+sends_close true OpenPipe = Some Discarding
+sends_close false Opened = Some CloseSent
+sends_close false OpenSent = Some ClosePipe
+sends_close false OpenPipe = Some OpenClosePipe
+sends_close with_error s = None
 
 -- the peer's Close comes
 abbrev pub takes_close : ConnectionState → Option ConnectionState

@@ -25,7 +25,8 @@ use Rattle.amqp_engine.specs.Entry.{Entry}
 use Rattle.amqp_engine.specs.Event.{Quiet, event, event_by, received_event}
 use Rattle.amqp_engine.proofs.BareHistoryLemmas.{Chain, LeadsTo}
 use Rattle.amqp_engine.specs.ByHistory.{of_session, is_forgotten, session_state}
-use Rattle.amqp_engine.specs.Headline.{Asked, AllAsked, FramesAre, OutOfMemoryIsInert, asked_calls, own_frames}
+use Rattle.amqp_engine.specs.Headline.{Asked, OutOfMemoryIsInert, asked_calls, own_frames}
+use Rattle.amqp_engine.specs.Inner.Headline.{AllAsked, FramesAre}
 use Rattle.amqp_engine.proofs.BegunSessionLemmas.{some_none}
 use Rattle.amqp_engine.proofs.StepEffectLemmas.{IsPlain, Effect, Stays, Changes}
 use Rattle.amqp_engine.proofs.StepChainLemmas.{Passage, passage, chain_split, open_law}

@@ -20,8 +20,9 @@ use Rattle.amqp_engine.specs.EngineView.{EngineView, new_engine}
 use Rattle.amqp_engine.specs.Entry.{Entry}
 use Rattle.amqp_engine.specs.Event.{Event, Quiet, SentOpen, SentClose, AcceptedOpen, CameClose, Began, Released, Forgot, Routed, Unrouted, event, is_number}
 use Rattle.amqp_engine.proofs.BareHistoryLemmas.{OutputTaken, Chain, LeadsTo}
-use Rattle.amqp_engine.specs.ByHistory.{calls_at, forgotten_by, held_by, held_from, held, route_by, route_from, route}
-use Rattle.amqp_engine.specs.Headline.{HeldOnce}
+use Rattle.amqp_engine.specs.ByHistory.{calls_at, forgotten_by, held_by, held, route_by, route}
+use Rattle.amqp_engine.specs.Inner.ByHistory.{held_from, route_from}
+use Rattle.amqp_engine.specs.Inner.Headline.{HeldOnce}
 use Rattle.amqp_connection.proofs.HistoryLemmas.{inserted_at, removed_at, went}
 use Rattle.amqp_engine.proofs.BegunSessionLemmas.{some_none}
 use Rattle.amqp_engine.proofs.StepEffectLemmas.{Moved, Effect, Forgets, NoneMoves}

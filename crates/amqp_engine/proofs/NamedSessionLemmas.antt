@@ -14,7 +14,8 @@ use Rattle.amqp_engine.specs.Engine.{Step, InputStep}
 use Rattle.amqp_engine.specs.Entry.{Entry}
 use Rattle.amqp_engine.proofs.BareHistoryLemmas.{Chain, LeadsTo}
 use Rattle.amqp_engine.specs.ByHistory.{live}
-use Rattle.amqp_engine.specs.Headline.{RequestsReach, ReachesNamed, names}
+use Rattle.amqp_engine.specs.Headline.{RequestsReach, ReachesNamed}
+use Rattle.amqp_engine.specs.Calls.{names}
 use Rattle.amqp_engine.proofs.BegunSessionLemmas.{some_none}
 use Rattle.amqp_engine.proofs.StepEffectLemmas.{Plain, request_plain}
 use Rattle.amqp_engine.proofs.StepChainLemmas.{chain_split}

@@ -19,13 +19,14 @@ use Rattle.amqp_engine.specs.declared.engine.answer.Answer.{Answer}
 use Rattle.amqp_engine.specs.declared.engine.answer.Answer.TheVariants.{Done, Refused, Out, TooLarge}
 use Rattle.amqp_engine.specs.declared.engine.step_error.StepError.{StepError}
 use Rattle.amqp_engine.specs.declared.engine.step_error.StepError.TheVariants as no
-use Rattle.amqp_engine.specs.ByHistory.{begun, last_frames_from, limit_by, of_session, waiting_by}
+use Rattle.amqp_engine.specs.ByHistory.{begun, limit_by, of_session, waiting_by}
+use Rattle.amqp_engine.specs.Inner.ByHistory.{last_frames_from}
 use Rattle.amqp_engine.specs.EngineView.{EngineView}
 use Rattle.amqp_engine.specs.Entry.{Entry}
 use Rattle.amqp_engine.specs.Event.{Event, SentOpen, SentClose, event}
 use Rattle.amqp_engine.specs.Headline.{Asked, Headline, own_frames}
 use Rattle.amqp_engine.specs.Legal.{Legal}
-use Rattle.amqp_engine.specs.OneFrame.{AllShort, AreInFrames, InOneFrame, NoLimitBelow, SpeaksInFrames, TransfersAreFrames}
+use Rattle.amqp_engine.specs.OneFrame.{AreInFrames, InOneFrame, NoLimitBelow, SpeaksInFrames, TransfersAreFrames}
 use Rattle.amqp_engine.specs.Output.{IsOut, IsOuts, OutputOf}
 use Rattle.amqp_engine.specs.Views.{Stands}
 use Rattle.amqp_engine.specs.Waits as waits

@@ -25,7 +25,8 @@ use Rattle.amqp_connection.specs.Connection.{ConnectionView, IncomingCloseStep, 
 use Rattle.amqp_engine.specs.Kept.{Outcomes, Wishes, CloseOutcome, EndOutcome, close_answer, end_answer, close_kept, end_kept}
 use Rattle.amqp_engine.specs.Inner.Places.{IsCloseCopy, IsEndCopy, Seated}
 use Rattle.amqp_engine.specs.EngineView.{EngineView, views_of}
-use Rattle.amqp_engine.specs.Calls.{ReceivedEndCalls, state_refusal}
+use Rattle.amqp_engine.specs.Calls.{state_refusal}
+use Rattle.amqp_engine.specs.Inner.Calls.{ReceivedEndCalls}
 use Rattle.amqp_engine.specs.Sessions.{Answered}
 use Rattle.amqp_engine.specs.Engine.{ReceivedCloseStep, kept}
 use Rattle.amqp_session.proofs.FiniteMapLemmas.{same_test}

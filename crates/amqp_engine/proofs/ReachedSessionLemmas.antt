@@ -26,7 +26,8 @@ use Rattle.amqp_engine.specs.Engine.{Step, NoneReceived, InputStep, ReceivedFram
 use Rattle.amqp_engine.specs.Entry.{Entry}
 use Rattle.amqp_engine.proofs.BareHistoryLemmas.{Chain, LeadsTo}
 use Rattle.amqp_engine.specs.ByHistory.{state_from, route}
-use Rattle.amqp_engine.specs.Headline.{HasReceived, Receives, AllReceived, GoesAlong, Passes, FramesReach, RoutesFollow, AllKnown}
+use Rattle.amqp_engine.specs.Headline.{HasReceived, Receives, GoesAlong, Passes, FramesReach, RoutesFollow}
+use Rattle.amqp_engine.specs.Inner.Headline.{AllReceived, AllKnown}
 use Rattle.amqp_engine.proofs.BegunSessionLemmas.{some_none}
 use Rattle.amqp_engine.proofs.StepEffectLemmas.{IsPlain, Plain, received_plain}
 use Rattle.amqp_engine.proofs.StepChainLemmas.{state_law, chain_split}

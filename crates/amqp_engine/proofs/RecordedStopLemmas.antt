@@ -1,5 +1,5 @@
 -- How the peer's End and its Close are recorded.
-use Rattle.std.proofs.Common.{◌≡◌, Bool, true, false, Option, Some, None, Result, Ok, Err, refl, ap, sym, subst, ◌∙◌, []}
+use Rattle.std.proofs.Common.{◌≡◌, Bool, true, false, Option, Some, None, Result, Ok, Err, refl, ap, sym, subst, ◌∙◌, List, [], ◌∷◌}
 use Rattle.amqp_types.specs.declared.states.SessionState.{SessionState}
 use Rattle.amqp_types.specs.declared.states.SessionState.TheVariants as at
 use Rattle.amqp_types.specs.declared.states.ConnectionState.{ConnectionState}
@@ -21,16 +21,35 @@ use Rattle.amqp_connection.specs.States.{takes_close}
 use Rattle.amqp_connection.specs.Connection.{ConnectionView, IncomingCloseStep}
 use Rattle.amqp_session.specs.History as session
 use Rattle.amqp_session.specs.OutgoingFrames.{calls_frames}
-use Rattle.amqp_engine.specs.Calls.{recorded_remote_end, remote_end_reason, is_end_received}
+use Rattle.amqp_engine.specs.Calls.{recorded_remote_end, remote_end_reason}
 use Rattle.amqp_engine.specs.Sessions.{RecordedEnd, comes_to_end}
 use Rattle.amqp_engine.specs.Engine.{moved, recorded}
 
+-- whether an End of the peer's moves to this state, and what is recorded then
+abbrev pub is_end_received : Option SessionState → Bool
+is_end_received (Some at.EndReceived) = true
+is_end_received next = false
+
+abbrev pub recorded_if : {R : Type 0} → Bool → Option ErrorModel → List (session.SessionCall R)
+recorded_if true error = session.RecordsStop (remote_end_reason error) ∷ []
+recorded_if false error = []
+
+pub recorded_as : (R : Type 0) (next : Option SessionState) (error : Option ErrorModel) → recorded_if {R = R} (is_end_received next) error ≡ recorded_remote_end next error
+recorded_as R None error = refl
+recorded_as R (Some at.Unmapped) error = refl
+recorded_as R (Some at.BeginSent) error = refl
+recorded_as R (Some at.BeginReceived) error = refl
+recorded_as R (Some at.Mapped) error = refl
+recorded_as R (Some at.EndSent) error = refl
+recorded_as R (Some at.EndReceived) error = refl
+recorded_as R (Some at.Discarding) error = refl
+
 pub recorded_chain : {R : Type 0} (g : Relays R) (v w : SessionView R) (reason : SessionStopReason) (error : Option ErrorModel) (ends : Bool) →
-    reason ≡ remote_end_reason error → RecordedEnd v reason ends w → session.SessionChain g v (recorded_remote_end ends error) w
+    reason ≡ remote_end_reason error → RecordedEnd v reason ends w → session.SessionChain g v (recorded_if ends error) w
 recorded_chain g v w reason error true e r = (w, subst (λ x. StopStep v x w) e r, refl)
 recorded_chain g v w reason error false e r = r
 
-pub recorded_frames : (R : Type 0) (error : Option ErrorModel) (ends : Bool) → calls_frames {R = R} (recorded_remote_end ends error) ≡ []
+pub recorded_frames : (R : Type 0) (error : Option ErrorModel) (ends : Bool) → calls_frames {R = R} (recorded_if ends error) ≡ []
 recorded_frames R error true = refl
 recorded_frames R error false = refl
 

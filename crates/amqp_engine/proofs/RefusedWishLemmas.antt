@@ -20,7 +20,8 @@ use Rattle.amqp_engine.specs.declared.engine.step_error.StepError.TheVariants as
 use Rattle.amqp_connection.specs.Connection.{ConnectionView, SendCloseStep}
 use Rattle.amqp_engine.specs.Waits.{sent}
 use Rattle.amqp_engine.specs.EngineView.{EngineView}
-use Rattle.amqp_engine.specs.Calls.{EndCalls, state_refusal, recorded_end}
+use Rattle.amqp_engine.specs.Calls.{state_refusal, recorded_end}
+use Rattle.amqp_engine.specs.Inner.Calls.{EndCalls}
 use Rattle.amqp_engine.specs.Sessions.{Called, Does}
 use Rattle.amqp_engine.specs.Engine.{Step, Steps, InputStep, CloseRequest, kept, left}
 use Rattle.amqp_engine.specs.Entry.{Entry}

@@ -28,6 +28,7 @@ use Rattle.amqp_engine.specs.Headline.{asked_calls}
 use Rattle.amqp_engine.specs.OneFrame.{AllShort, IsShort}
 use Rattle.amqp_engine.proofs.BareHistoryLemmas.{Chain}
 use Rattle.amqp_engine.proofs.StepEffectLemmas.{Changes, Effect, Stays}
+use Rattle.amqp_engine.proofs.RecordedStopLemmas.{is_end_received, recorded_as, recorded_if}
 use Rattle.amqp_engine.proofs.StepChainLemmas.{passage}
 
 abbrev pub EachOnePiece : ℕ → List RequestedTransfer → Type 0
@@ -67,9 +68,12 @@ transferred R m h (Err e) s = tt
 
 -- ---- what a received frame asks of it
 
-remote_ended : (R : Type 0) (m : ℕ) (b : Bool) (error : Option ErrorModel) → OfCalls {R = R} m (recorded_remote_end b error)
-remote_ended R m true error = tt
-remote_ended R m false error = tt
+remote_ended : (R : Type 0) (m : ℕ) (next : Option SessionState) (error : Option ErrorModel) → OfCalls {R = R} m (recorded_remote_end next error)
+remote_ended R m next error = subst (OfCalls {R = R} m) (recorded_as R next error) (recorded_when (is_end_received next))
+  where
+    recorded_when : (b : Bool) → OfCalls {R = R} m (recorded_if b error)
+    recorded_when true = tt
+    recorded_when false = tt
 
 detached : (R : Type 0) (m : ℕ) (result : Result (Option DetachModel) SessionInnerError) (sent : Result (Option SessionFrame) SessionInnerError) → OfCalls {R = R} m (answer_to result sent)
 detached R m (Ok (Some d)) sent = tt

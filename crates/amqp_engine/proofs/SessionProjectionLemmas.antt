@@ -19,7 +19,8 @@ use Rattle.amqp_engine.specs.EngineView.{EngineView, new_engine}
 use Rattle.amqp_engine.specs.Entry.{Entry}
 use Rattle.amqp_engine.proofs.BareHistoryLemmas.{Chain, LeadsTo}
 use Rattle.amqp_engine.specs.Event.{Event, Began, Forgot, event, is_number}
-use Rattle.amqp_engine.specs.ByHistory.{calls_at, of_session, state_by, reason_by, begun_by, begun_from, begun, live, is_forgotten, forgotten_by, forgotten_from, numbers_by}
+use Rattle.amqp_engine.specs.ByHistory.{calls_at, of_session, state_by, reason_by, begun_by, begun_from, begun, live, is_forgotten, forgotten_by, numbers_by}
+use Rattle.amqp_engine.specs.Inner.ByHistory.{forgotten_from}
 use Rattle.amqp_engine.proofs.BegunSessionLemmas.{some_none}
 use Rattle.amqp_engine.proofs.StepEffectLemmas.{Moved, Effect, Stays, Changes, NoneMoves}
 use Rattle.amqp_engine.proofs.StepChainLemmas.{Passage, passage, by_history, moved_state, moved_reason}

@@ -24,7 +24,8 @@ use Rattle.amqp_engine.specs.Engine.{Step}
 use Rattle.amqp_engine.specs.Entry.{Entry}
 use Rattle.amqp_engine.specs.Event.{Event, Quiet, SentOpen, SentClose, AcceptedOpen, CameClose, Began, Released, Forgot, Routed, Unrouted, event, event_by}
 use Rattle.amqp_engine.proofs.BareHistoryLemmas.{OutputTaken, Chain}
-use Rattle.amqp_engine.specs.ByHistory.{remote_close_reason, state_by, state_from, reason_by, reason_from, remote_open_by, remote_open_from, channel_max_by, channel_max_from, limit_by, limit_after, numbers_by, waiting_by, last_frames_from}
+use Rattle.amqp_engine.specs.ByHistory.{remote_close_reason, state_by, state_from, reason_by, reason_from, remote_open_by, channel_max_by, limit_by, limit_after, numbers_by, waiting_by}
+use Rattle.amqp_engine.specs.Inner.ByHistory.{remote_open_from, channel_max_from, last_frames_from}
 use Rattle.amqp_engine.specs.Headline.{own_frames}
 use Rattle.amqp_engine.proofs.BegunSessionLemmas.{some_none}
 use Rattle.amqp_engine.proofs.StepEffectLemmas.{Moved, NoneMoves, Effect, after_close, close_refusal, stops, quiet}

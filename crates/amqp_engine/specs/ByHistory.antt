@@ -1,6 +1,6 @@
 -- Part: the promise; every call exactly; inner.
 -- What a history gives of the connection, its channels, its routes and its sessions: by its entries alone, the oldest first.
-use Rattle.std.specs.Prelude.{ℕ, List, [], ◌∷◌, ◌++◌, Option, Some, None, Bool, true, false, cond, nat_eq, unwrap_or, min}
+use Rattle.std.specs.Prelude.{ℕ, List, [], ◌∷◌, ◌++◌, Option, Some, None, Bool, true, false, cond, nat_eq, unwrap_or, min, is_some, fold, flat_map}
 use Rattle.amqp_types.specs.declared.states.ConnectionState.{ConnectionState}
 use Rattle.amqp_types.specs.declared.states.ConnectionState.TheVariants.{CloseReceived}
 use Rattle.amqp_types.specs.declared.states.SessionState.{SessionState}
@@ -14,26 +14,29 @@ use Rattle.amqp_session.specs.Headline as single
 use Rattle.amqp_frames.specs.declared.frame.Frame.{Frame}
 use Rattle.amqp_engine.specs.declared.engine.step_error.StepError.{StepError}
 use Rattle.amqp_engine.specs.declared.engine.step_error.StepError.TheVariants as no
-use Rattle.amqp_connection.specs.States.{sends_open, takes_open, takes_close}
-use Rattle.amqp_connection.specs.Connection.{closes_by, first_reason}
+use Rattle.amqp_connection.specs.States.{sends_open, takes_open, sends_close, takes_close}
+use Rattle.amqp_connection.specs.Connection.{first_reason}
 use Rattle.amqp_numbers.specs.Ranges.{Numbers}
 use Rattle.std.specs.FinMap as map
 use Rattle.amqp_engine.specs.EngineView.{peer_limit}
 use Rattle.amqp_engine.specs.Entry.{Entry}
 use Rattle.amqp_engine.specs.Event.{Event, SentOpen, SentClose, AcceptedOpen, CameClose, Began, Released, Forgot, Routed, Unrouted, event, is_number}
 
+-- what the events of a history make of a value, the oldest first
+abbrev pub along : {R X : Type 0} → (Event → X → X) → X → List (Entry R) → X
+along by old H = fold (λ x e. by (event e) x) old H
+
 -- ---- the connection's state, by its tables
 
 abbrev pub state_by : ConnectionState → Event → ConnectionState
 state_by s SentOpen = unwrap_or (sends_open s) s
-state_by s (SentClose error) = unwrap_or (closes_by error s) s
+state_by s (SentClose error) = unwrap_or (sends_close (is_some error) s) s
 state_by s (AcceptedOpen o) = unwrap_or (takes_open s) s
 state_by s (CameClose c) = unwrap_or (takes_close s) s
 state_by s ev = s
 
 abbrev pub state_from : {R : Type 0} → ConnectionState → List (Entry R) → ConnectionState
-state_from s [] = s
-state_from s (e ∷ es) = state_from (state_by s (event e)) es
+state_from s H = along (λ ev old. state_by old ev) s H
 
 -- ---- why it stopped: the first reason of a Close that was sent, or of one that came and moved it to CloseReceived
 
@@ -68,12 +71,8 @@ abbrev pub channel_max_by : OpenModel → Event → ℕ → ℕ
 channel_max_by own (AcceptedOpen o) old = min own.channel_max o.channel_max
 channel_max_by own ev old = old
 
-abbrev pub channel_max_from : {R : Type 0} → OpenModel → ℕ → List (Entry R) → ℕ
-channel_max_from own old [] = old
-channel_max_from own old (e ∷ es) = channel_max_from own (channel_max_by own (event e) old) es
-
 abbrev pub channel_max : {R : Type 0} → OpenModel → List (Entry R) → ℕ
-channel_max own H = channel_max_from own own.channel_max H
+channel_max own H = along (channel_max_by own) own.channel_max H
 
 -- ---- the peer's Open that was accepted last
 
@@ -81,12 +80,8 @@ abbrev pub remote_open_by : Event → Option OpenModel → Option OpenModel
 remote_open_by (AcceptedOpen o) old = Some o
 remote_open_by ev old = old
 
-abbrev pub remote_open_from : {R : Type 0} → Option OpenModel → List (Entry R) → Option OpenModel
-remote_open_from old [] = old
-remote_open_from old (e ∷ es) = remote_open_from (remote_open_by (event e) old) es
-
 abbrev pub remote_open : {R : Type 0} → List (Entry R) → Option OpenModel
-remote_open H = remote_open_from None H
+remote_open H = along remote_open_by None H
 
 -- ---- the limit of a piece: that of the peer's Open that was accepted last
 
@@ -95,8 +90,7 @@ limit_by old (AcceptedOpen o) = peer_limit o
 limit_by old ev = old
 
 abbrev pub limit_after : {R : Type 0} → ℕ → List (Entry R) → ℕ
-limit_after limit [] = limit
-limit_after limit (e ∷ es) = limit_after (limit_by limit (event e)) es
+limit_after limit H = along (λ ev old. limit_by old ev) limit H
 
 -- ---- channels of this side: that of a Begin that goes out is held by its session, until that is released
 
@@ -105,13 +99,9 @@ held_by c (Began n settings channel) old = cond (nat_eq c channel) (Some n) old
 held_by c (Released n) old = cond (is_number n old) None old
 held_by c ev old = old
 
-abbrev pub held_from : {R : Type 0} → ℕ → Option ℕ → List (Entry R) → Option ℕ
-held_from c old [] = old
-held_from c old (e ∷ es) = held_from c (held_by c (event e) old) es
-
 -- the session that holds this side's channel c
 abbrev pub held : {R : Type 0} → ℕ → List (Entry R) → Option ℕ
-held c H = held_from c None H
+held c H = along (held_by c) None H
 
 -- ---- routes: channels of the peer's
 
@@ -120,13 +110,9 @@ route_by c (Routed channel n) old = cond (nat_eq c channel) (Some n) old
 route_by c (Unrouted channel) old = cond (nat_eq c channel) None old
 route_by c ev old = old
 
-abbrev pub route_from : {R : Type 0} → ℕ → Option ℕ → List (Entry R) → Option ℕ
-route_from c old [] = old
-route_from c old (e ∷ es) = route_from c (route_by c (event e) old) es
-
 -- the session of the last Begin on the peer's channel c that reached one, if no End on it reached one since
 abbrev pub route : {R : Type 0} → ℕ → List (Entry R) → Option ℕ
-route c H = route_from c None H
+route c H = along (route_by c) None H
 
 -- ---- sessions
 
@@ -135,8 +121,7 @@ calls_at n e = cond (is_number n e.reached) e.calls []
 
 -- the history of session n: the calls of it, in order
 abbrev pub of_session : {R : Type 0} → ℕ → List (Entry R) → List (session.SessionCall R)
-of_session n [] = []
-of_session n (e ∷ es) = calls_at n e ++ of_session n es
+of_session n H = flat_map (calls_at n) H
 
 -- how session n was made: with the settings of its Begin, on its channel, and with the reason why the connection had stopped
 abbrev pub begun_by : ℕ → Option ConnectionStopReason → Event → Option session.Made → Option session.Made
@@ -157,12 +142,8 @@ abbrev pub forgotten_by : ℕ → Event → Bool → Bool
 forgotten_by n (Forgot k) old = cond (nat_eq n k) true old
 forgotten_by n ev old = old
 
-abbrev pub forgotten_from : {R : Type 0} → ℕ → Bool → List (Entry R) → Bool
-forgotten_from n old [] = old
-forgotten_from n old (e ∷ es) = forgotten_from n (forgotten_by n (event e) old) es
-
 abbrev pub is_forgotten : {R : Type 0} → ℕ → List (Entry R) → Bool
-is_forgotten n H = forgotten_from n false H
+is_forgotten n H = along (forgotten_by n) false H
 
 -- how session n was made, while it is there: one that was forgotten is there no more, and its number is not begun again
 abbrev pub live : {R : Type 0} → ConnectionState → ℕ → List (Entry R) → Option session.Made
@@ -183,9 +164,5 @@ abbrev pub waiting_by : {R : Type 0} → Option StepError → Entry R → List F
 waiting_by (Some no.OutputWaiting) e old = old
 waiting_by refusal e old = e.frames
 
-abbrev pub last_frames_from : {R : Type 0} → List Frame → List (Entry R) → List Frame
-last_frames_from old [] = old
-last_frames_from old (e ∷ es) = last_frames_from (waiting_by e.refusal e old) es
-
 abbrev pub last_frames : {R : Type 0} → List (Entry R) → List Frame
-last_frames H = last_frames_from [] H
+last_frames H = fold (λ old e. waiting_by e.refusal e old) [] H

@@ -29,8 +29,8 @@ use Rattle.amqp_engine.specs.Kept.{outcomes_by, outcomes_without}
 use Rattle.amqp_engine.specs.EngineView.{EngineView, peer_limit}
 use Rattle.amqp_engine.specs.Entry.{Entry}
 use Rattle.amqp_engine.specs.ByHistory.{close_reason, remote_reason}
-use Rattle.amqp_engine.specs.Calls.{request_calls, received_calls}
-use Rattle.amqp_engine.specs.Sessions.{Untouched, Nothing, Does, Reaches, BeginRequest, ReleaseRequest, ForgetRequest}
+use Rattle.amqp_engine.specs.Calls.{names, request_calls, received_calls}
+use Rattle.amqp_engine.specs.Sessions.{Untouched, Nothing, DoesNamed, Reaches, BeginRequest, ReleaseRequest, ForgetRequest}
 
 -- ---- requests of the connection
 
@@ -167,26 +167,7 @@ InputStep g v (input.Begin n settings) received reached calls refusal w =
     (received ≡ None) × BeginRequest g v n.0 settings reached calls refusal w
 InputStep g v (input.Release n) received reached calls refusal w = (received ≡ None) × ReleaseRequest v n.0 reached calls refusal w
 InputStep g v (input.Forget n) received reached calls refusal w = (received ≡ None) × ForgetRequest v n.0 reached calls refusal w
-InputStep g v (input.End n error) received reached calls refusal w =
-    (received ≡ None) × Does g v n.0 (request_calls (input.End n error)) reached calls refusal w
-InputStep g v (input.AllocateLink n name relay) received reached calls refusal w =
-    (received ≡ None) × Does g v n.0 (request_calls (input.AllocateLink n name relay)) reached calls refusal w
-InputStep g v (input.AllocateIncomingLink n name relay h) received reached calls refusal w =
-    (received ≡ None) × Does g v n.0 (request_calls (input.AllocateIncomingLink n name relay h)) reached calls refusal w
-InputStep g v (input.Attach n a) received reached calls refusal w =
-    (received ≡ None) × Does g v n.0 (request_calls (input.Attach n a)) reached calls refusal w
-InputStep g v (input.Detach n d expects_echo) received reached calls refusal w =
-    (received ≡ None) × Does g v n.0 (request_calls (input.Detach n d expects_echo)) reached calls refusal w
-InputStep g v (input.Flow n l) received reached calls refusal w =
-    (received ≡ None) × Does g v n.0 (request_calls (input.Flow n l)) reached calls refusal w
-InputStep g v (input.Transfer n h t payload first) received reached calls refusal w =
-    (received ≡ None) × Does g v n.0 (request_calls (input.Transfer n h t payload first)) reached calls refusal w
-InputStep g v (input.Disposition n d) received reached calls refusal w =
-    (received ≡ None) × Does g v n.0 (request_calls (input.Disposition n d)) reached calls refusal w
-InputStep g v (input.Settle n role first last) received reached calls refusal w =
-    (received ≡ None) × Does g v n.0 (request_calls (input.Settle n role first last)) reached calls refusal w
-InputStep g v (input.Stop n reason) received reached calls refusal w =
-    (received ≡ None) × Does g v n.0 (request_calls (input.Stop n reason)) reached calls refusal w
+InputStep g v i received reached calls refusal w = (received ≡ None) × DoesNamed g v (names i) (request_calls i) reached calls refusal w
 
 -- the input is carried out, and the outcome is kept
 abbrev pub CarriedStep : {R : Type 0} → Relays R → EngineView R → Input R → Option StepError → EngineView R → Type 0

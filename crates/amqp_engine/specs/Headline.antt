@@ -1,6 +1,6 @@
 -- Part: the promise.
 -- The headline: what holds of every history of an engine, said of the history alone.
-use Rattle.std.specs.Prelude.{ℕ, ◌≡◌, ◌≤◌, List, [], ◌∷◌, ◌++◌, Option, Some, None, Err}
+use Rattle.std.specs.Prelude.{ℕ, ◌≡◌, ◌≤◌, List, [], ◌∷◌, ◌++◌, Option, Some, None, Err, flat_map}
 use Rattle.amqp_types.specs.declared.states.ConnectionState.{ConnectionState}
 use Rattle.amqp_types.specs.declared.states.ConnectionState.TheVariants.{HeaderExchange, Opened}
 use Rattle.amqp_types.specs.Open.{OpenModel}
@@ -20,7 +20,7 @@ use Rattle.amqp_session.specs.OutgoingFrames.{calls_frames}
 use Rattle.amqp_connection.specs.Connection.{not_found, open_frame, close_frame}
 use Rattle.amqp_connection.specs.ByHistory.{opens, closes}
 use Rattle.amqp_engine.specs.Waits.{sent}
-use Rattle.amqp_engine.specs.Calls.{NoCalls, Calls, request_calls, received_calls}
+use Rattle.amqp_engine.specs.Calls.{Calls, names, request_calls, received_calls}
 use Rattle.amqp_engine.specs.Entry.{Entry}
 use Rattle.amqp_engine.specs.Event.{Event, SentOpen, SentClose, event}
 use Rattle.amqp_engine.specs.ByHistory.{of_session, begun, live, session_state, state_from, route, held}
@@ -44,24 +44,7 @@ abbrev pub Receives : {R : Type 0} → Input R → Entry R → Type 0
 Receives (input.Received bytes) e = HasReceived bytes e.received e.refusal
 Receives i e = e.received ≡ None
 
-abbrev pub AllReceived : {R : Type 0} → List (Entry R) → Type 0
-AllReceived H = Each H (λ before e. Receives e.input e)
-
 -- ---- requests and frames reach their session
-
--- the session that a request on a session names
-abbrev pub names : {R : Type 0} → Input R → Option ℕ
-names (input.End n error) = Some n.0
-names (input.AllocateLink n name relay) = Some n.0
-names (input.AllocateIncomingLink n name relay h) = Some n.0
-names (input.Attach n a) = Some n.0
-names (input.Detach n d expects_echo) = Some n.0
-names (input.Flow n l) = Some n.0
-names (input.Transfer n h t payload first) = Some n.0
-names (input.Disposition n d) = Some n.0
-names (input.Settle n role first last) = Some n.0
-names (input.Stop n reason) = Some n.0
-names i = None
 
 -- A request reaches the session that it names, where that was begun and not forgotten; else it is NoSession.
 abbrev pub ReachesNamed : {R : Type 0} → Option session.Made → ℕ → Entry R → Type 0
@@ -103,23 +86,15 @@ RoutesFollow H =
     (n : ℕ) → e.reached ≡ Some n →
     (d : ℕ) × (b.remote_channel ≡ Some d) × (held d before ≡ Some n))
 
--- the session that a received frame reaches is there
-abbrev pub AllKnown : {R : Type 0} → List (Entry R) → Type 0
-AllKnown H = Each H (λ before e. (f : Frame) → e.received ≡ Some f → ¬ (e.refusal ≡ Some no.NoSession))
-
 -- where memory was refused before, no session is reached, and nothing goes out
 abbrev pub OutOfMemoryIsInert : {R : Type 0} → List (Entry R) → Type 0
 OutOfMemoryIsInert H = Each H (λ before e. e.refusal ≡ Some no.OutOfMemory → (e.reached ≡ None) × (e.frames ≡ []))
-
--- no session holds two channels
-abbrev pub HeldOnce : {R : Type 0} → List (Entry R) → Type 0
-HeldOnce H = (c d n : ℕ) → held c H ≡ Some n → held d H ≡ Some n → c ≡ d
 
 -- ---- an entry's calls are what its input asks, and its frames are theirs
 
 abbrev pub asked_calls : {R : Type 0} → Input R → Option Frame → Calls R
 asked_calls (input.Received bytes) (Some f) = received_calls f.channel f.body
-asked_calls (input.Received bytes) None = NoCalls
+asked_calls (input.Received bytes) None = λ s calls refusal. ⊥
 asked_calls i received = request_calls i
 
 -- An entry that reached a session made the calls of it that its input asks of the session in its state, and was refused as
@@ -128,18 +103,11 @@ abbrev pub Asked : {R : Type 0} → List (Entry R) → Option ℕ → Entry R �
 Asked before (Some n) e = ¬ (e.refusal ≡ Some no.NoSession) → asked_calls e.input e.received (session_state n before) e.calls e.refusal
 Asked before None e = e.calls ≡ []
 
-abbrev pub AllAsked : {R : Type 0} → List (Entry R) → Type 0
-AllAsked H = Each H (λ before e. Asked before e.reached e)
-
 -- the frame of the connection itself
 abbrev pub own_frames : OpenModel → Event → List Frame
 own_frames o SentOpen = open_frame o ∷ []
 own_frames o (SentClose error) = close_frame error ∷ []
 own_frames o ev = []
-
--- an entry hands out the connection's own frame, or those of its calls, and no others
-abbrev pub FramesAre : {R : Type 0} → OpenModel → List (Entry R) → Type 0
-FramesAre o H = Each H (λ before e. e.frames ≡ own_frames o (event e) ++ sent (calls_frames e.calls))
 
 -- each frame of a session is on its channel
 abbrev pub AllOn : ℕ → List Frame → Type 0
@@ -153,8 +121,7 @@ OnItsChannel s H = Each H (λ before e. (n : ℕ) (m : session.Made) → begun s
 
 -- all frames that were handed out
 abbrev pub handed : {R : Type 0} → List (Entry R) → List Frame
-handed [] = []
-handed (e ∷ es) = e.frames ++ handed es
+handed H = flat_map (λ e. e.frames) H
 
 -- ---- the headline: of an engine whose connection began in state s, and is to send the Open o
 
@@ -165,18 +132,21 @@ pub record Headline {R : Type 0} (s : ConnectionState) (o : OpenModel) (H : List
   -- and no other session has any call
   pub unknown : (n : ℕ) → begun s n H ≡ None → of_session n H ≡ []
   -- what was received is what the bytes hold
-  pub all_received : AllReceived H
+  pub all_received : Each H (λ before e. Receives e.input e)
   -- requests reach the session that they name
   pub requests_reach : RequestsReach s H
   -- frames reach the last begun session of their channel
   pub frames_reach : FramesReach s H
   pub routes_follow : RoutesFollow H
-  pub all_known : AllKnown H
+  -- the session that a received frame reaches is there
+  pub all_known : Each H (λ before e. (f : Frame) → e.received ≡ Some f → ¬ (e.refusal ≡ Some no.NoSession))
   pub ran_short : OutOfMemoryIsInert H
-  pub held_once : HeldOnce H
-  -- what reaches a session is what is asked of it, and what goes out is what it hands out
-  pub all_asked : AllAsked H
-  pub frames_are : FramesAre o H
+  -- no session holds two channels
+  pub held_once : (c d n : ℕ) → held c H ≡ Some n → held d H ≡ Some n → c ≡ d
+  -- what reaches a session is what is asked of it
+  pub all_asked : Each H (λ before e. Asked before e.reached e)
+  -- an entry hands out the connection's own frame, or those of its calls, and no others
+  pub frames_are : Each H (λ before e. e.frames ≡ own_frames o (event e) ++ sent (calls_frames e.calls))
   pub on_its_channel : OnItsChannel s H
   -- where the headers were exchanged, at most one Open and one Close go out
   pub one_open : s ≡ HeaderExchange → opens (handed H) ≤ 1

@@ -1,5 +1,8 @@
 -- What the contracts of private functions cite, and no public one does.
 pub mod Running
+pub mod Calls
+pub mod ByHistory
+pub mod Headline
 pub mod Flushing
 pub mod Places
 pub mod Putting

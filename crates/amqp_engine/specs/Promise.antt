@@ -1,6 +1,6 @@
 -- Part: the promise.
 -- What a run promises.
-use Rattle.std.specs.Prelude.{◌≡◌, ◌+◌, List, [], ◌∷◌, ◌++◌, length, All, Some, Result, Ok, Err}
+use Rattle.std.specs.Prelude.{◌≡◌, ◌+◌, List, [], ◌∷◌, ◌++◌, length, map, All, Some, Result, Ok, Err}
 use Rattle.amqp_types.specs.declared.states.ConnectionState.{ConnectionState}
 use Rattle.amqp_types.specs.Open.{OpenModel}
 use Rattle.amqp_session.specs.Relay.{Relays}
@@ -16,8 +16,7 @@ use Rattle.amqp_engine.specs.Legal.{Legal}
 use Rattle.amqp_engine.specs.Output.{OutputOf}
 
 abbrev pub inputs_of : {R : Type 0} → List (Entry R) → List (Input R)
-inputs_of [] = []
-inputs_of (e ∷ es) = e.input ∷ inputs_of es
+inputs_of es = map (λ e. e.input) es
 
 -- what waits is put out before the next input is taken
 abbrev pub IsTaken : {R : Type 0} → Entry R → Type 0

@@ -25,7 +25,7 @@ use Rattle.amqp_engine.specs.declared.engine.step_error.StepError.TheVariants as
 use Rattle.amqp_connection.specs.Connection.{ConnectionView, AllocateStep, Holds, IsRouted, given_back, not_found}
 use Rattle.amqp_engine.specs.EngineView.{EngineView}
 use Rattle.amqp_engine.specs.Waits.{sent, disposition_frame}
-use Rattle.amqp_engine.specs.Calls.{Calls, BeginCalls, SentEach}
+use Rattle.amqp_engine.specs.Calls.{Calls, SentEach, by_one, unrefused}
 use Rattle.amqp_types.specs.Disposition.{DispositionModel}
 
 -- ---- one session
@@ -84,6 +84,12 @@ abbrev pub Does : {R : Type 0} → Relays R → EngineView R → ℕ → Calls R
 Does g v n asks reached calls refusal w =
     ((reached ≡ Some n) × Called g v n asks calls refusal w) ⊎ ((reached ≡ None) × Unknown v n calls refusal w)
 
+-- the same, of the session that an input names; one that names none asks nothing of a session
+abbrev pub DoesNamed : {R : Type 0} → Relays R → EngineView R → Option ℕ → Calls R → Option ℕ → List (session.SessionCall R) →
+    Option StepError → EngineView R → Type 0
+DoesNamed g v (Some n) asks reached calls refusal w = Does g v n asks reached calls refusal w
+DoesNamed g v None asks reached calls refusal w = ⊥
+
 -- A frame reaches the session that the connection finds, or the connection says why there is none.
 abbrev pub Reaches : {R : Type 0} → Relays R → (Result ℕ ConnectionInnerError → ConnectionView → Type 0) → EngineView R →
     Calls R → Option ℕ → List (session.SessionCall R) → Option StepError → EngineView R → Type 0
@@ -106,7 +112,7 @@ pub record Begun {R : Type 0} (g : Relays R) (v : EngineView R) (n : ℕ) (setti
   pub unused : get v.forgotten n ≡ None
   pub fits : settings.next_outgoing_id < 2 ^ 32
   pub allocated : AllocateStep v.connection n (Ok channel) connection
-  pub asked : BeginCalls at.Unmapped calls None
+  pub asked : by_one (λ f. session.SendsBegin (Ok f) ∷ []) unrefused at.Unmapped calls None
   pub steps : session.SessionChain g (new_session settings channel at.Unmapped v.connection.stop_reason) calls after
   pub put : w ≡ record v {
     connection = connection;

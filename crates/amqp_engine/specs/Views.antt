@@ -1,6 +1,6 @@
 -- Part: every call exactly.
 -- What contracts see of an engine is what its history gives.
-use Rattle.std.specs.Prelude.{ℕ, ◌≡◌, List, [], ◌∷◌, ◌++◌, Some, None, is_some, nat_eq}
+use Rattle.std.specs.Prelude.{ℕ, ◌≡◌, List, [], ◌∷◌, ◌++◌, Some, None, is_some, nat_eq, fold}
 use Rattle.std.specs.Map.{lookup}
 use Rattle.std.specs.FinMap as map
 use Rattle.amqp_types.specs.declared.states.ConnectionState.{ConnectionState}
@@ -37,8 +37,7 @@ pub record Stands {R : Type 0} (s : ConnectionState) (o : OpenModel) (H : List (
 
 -- the outcomes that entries leave
 abbrev pub outcomes_from : {R : Type 0} → Outcomes → List (Entry R) → Outcomes
-outcomes_from o [] = o
-outcomes_from o (e ∷ es) = outcomes_from (outcomes_after e.input e.received e.reached e.refusal o) es
+outcomes_from o H = fold (λ old e. outcomes_after e.input e.received e.reached e.refusal old) o H
 
 -- Whatever legal history led to the view after, the view is what it gives. And the outcomes are those that the entries left: no
 -- handle takes one meanwhile.

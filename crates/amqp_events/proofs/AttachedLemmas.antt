@@ -15,7 +15,8 @@ use Rattle.amqp_session.specs.Step.{FlowTaken, flow_moved}
 use Rattle.amqp_session.specs.Linking.{TakeDetachStep}
 use Rattle.amqp_session.specs.Disposing.{AsksAt, AsksEach, HasAsked, SaysStateAgain, TakeDispositionStep, prepended}
 use Rattle.amqp_session.specs.History.{SessionCall, Made, LeadsTo, SessionChain, SessionStep, SendsBegin, SendsEnd, TakesBegin, TakesEnd, AllocatesLink, AllocatesIncomingLink, DeallocatesLink, TakesAttach, TakesFlow, TakesTransfer, TakesDisposition, TakesDetach, SendsAttach, SendsFlow, SendsTransfer, SendsDisposition, SendsDetach, SendsSessionFlow, RecordsStop, Settles}
-use Rattle.amqp_session.specs.Linked.{input_at, input_from, input_by, asked_from, where_goes, speaks_of}
+use Rattle.amqp_session.specs.Linked.{input_at, input_by, asked_from, where_goes, speaks_of}
+use Rattle.amqp_session.specs.Inner.Histories.{input_from}
 use Rattle.amqp_session.specs.Headline.{Stands}
 use Rattle.amqp_session.proofs.LinkNameLemmas.{same_number}
 use Rattle.amqp_session.proofs.OutputHandleLemmas.{at_insert}

@@ -1,5 +1,5 @@
 -- What each call does to a session, by one table over the calls and their answers: all that follows is read off it.
-use Rattle.std.proofs.Common.{◌≡◌, ◌⊎◌, inl, inr, ℕ, ◌+◌, List, [], ◌∷◌, ◌++◌, refl, ap, subst, sym, ◌∙◌, Bool, true, false, cond, Option, Some, None, Result, Ok, Err, unwrap_or, take}
+use Rattle.std.proofs.Common.{◌≡◌, ◌⊎◌, inl, inr, ℕ, ◌+◌, List, [], ◌∷◌, ◌++◌, refl, ap, subst, sym, ◌∙◌, Bool, true, false, cond, Option, Some, None, Result, Ok, Err, is_some, unwrap_or, take}
 use Rattle.std.specs.Option.{option_map}
 use Rattle.amqp_types.specs.Flow.{FlowModel}
 use Rattle.amqp_types.specs.declared.states.SessionState.{SessionState}
@@ -29,7 +29,7 @@ use Rattle.amqp_types.specs.declared.definitions.Role.TheVariants.{Sender, Recei
 use Rattle.amqp_session.specs.Deliveries.{with_record, RecordFits, OpenView, peer_role}
 use Rattle.amqp_session.specs.Disposing.{widened, num_messages, rows_of, meant, AsksAt, AsksEach, SaysStateAgain, HasAsked}
 use Rattle.amqp_session.proofs.SettledTableLemmas.{keeps, role_keeps}
-use Rattle.amqp_session.specs.Step.{BeginFits, begun_by, has_error, FlowFits, FlowGoes, named_delivery, waits, flow_base, flow_moved, counted_by, asked_at, FlowAnswered, FlowUnasked, FlowTaken, TransferAnswered, TransferUnasked}
+use Rattle.amqp_session.specs.Step.{BeginFits, begun_by, FlowFits, FlowGoes, named_delivery, waits, flow_base, flow_moved, counted_by, asked_at, FlowAnswered, FlowUnasked, FlowTaken, TransferAnswered, TransferUnasked}
 use Rattle.amqp_session.specs.Linking.{AttachAnswered, Attaches}
 use Rattle.amqp_session.specs.Linked.{taken_by}
 use Rattle.amqp_session.proofs.OutputHandleLemmas.{at_insert, taken_release, taken_leave, taken_drop}
@@ -330,7 +330,7 @@ module _ {R : Type 0} (g : Relays R) where
   does v w (SendsBegin (Err Begins.IllegalState)) s = unmoved v w _ s.1 refl refl refl refl refl tt tt (λ k o. refl)
   does v w (SendsBegin (Err Begins.OutOfMemory)) s = unmoved v w _ s.1 refl refl refl refl refl tt tt (λ k o. refl)
   does v w (SendsBegin (Err e)) s = absurd s
-  does v w (SendsEnd error (Ok f)) s = says v _ w _ f _ s.2 s.1 refl refl refl refl refl (in_state (rest v) w.state (sends_end (has_error error) v.state) s.0) refl refl tt tt (λ k o. refl)
+  does v w (SendsEnd error (Ok f)) s = says v _ w _ f _ s.2 s.1 refl refl refl refl refl (in_state (rest v) w.state (sends_end (is_some error) v.state) s.0) refl refl tt tt (λ k o. refl)
   does v w (SendsEnd error (Err Begins.IllegalState)) s = unmoved v w _ s.1 refl refl refl refl refl tt tt (λ k o. refl)
   does v w (SendsEnd error (Err e)) s = absurd s
   does v w (TakesBegin channel b (Ok u)) s = stills v _ w _ s.2 refl refl refl refl (in_state (rest (begun_by v channel b)) w.state (takes_begin v.state) s.0) tt refl s.1 tt (λ k o. refl)

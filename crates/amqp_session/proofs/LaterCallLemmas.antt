@@ -4,13 +4,15 @@ use Rattle.amqp_session.specs.declared.deliveries.Delivery.{Delivery}
 use Rattle.amqp_session.specs.declared.session.receiving.Receiving.{Receiving}
 use Rattle.amqp_session.specs.declared.stop.SessionStopReason.{SessionStopReason}
 use Rattle.amqp_session.specs.History.{SessionCall, TakesBegin, TakesFlow, TakesTransfer, SendsDisposition, SendsSessionFlow, RecordsStop}
-use Rattle.amqp_session.specs.Received.{has_kind, since, says_numbers, is_session_flow, received_by, received_count, announced_by, announced_from, announced, next_incoming, window_left_by, window_left, peer_window, unreported, channel_by, channel_from, stop_reason}
+use Rattle.amqp_session.specs.Received.{has_kind, since, says_numbers, is_session_flow, received_by, received_count, announced_by, announced, next_incoming, window_left_by, window_left, peer_window, unreported, channel_by, stop_reason}
+use Rattle.amqp_session.specs.Inner.Histories.{announced_from, channel_from}
 use Rattle.amqp_session.specs.Headline.{open_by, open_from, Receives}
 use Rattle.amqp_types.specs.declared.definitions.Role.{Role}
 use Rattle.amqp_session.specs.Session.{SessionView}
 use Rattle.amqp_session.specs.declared.link.LiveLink.{LiveLink}
 use Rattle.amqp_session.specs.declared.link.AttachedLink.{AttachedLink}
-use Rattle.amqp_session.specs.Linked.{HandleUse, taken_by, taken_from, live_by, live_from, input_by, input_from}
+use Rattle.amqp_session.specs.Linked.{HandleUse, taken_by, live_by, input_by}
+use Rattle.amqp_session.specs.Inner.Histories.{taken_from, live_from, input_from}
 use Rattle.amqp_session.specs.Disposing.{num_messages}
 use Rattle.amqp_session.proofs.CallEffectLemmas.{receives, stops, WordFits}
 

@@ -82,8 +82,7 @@ of_role Sender v = v.sender
 abbrev pub is_role : Role → Role → Bool
 is_role Receiver Receiver = true
 is_role Sender Sender = true
-is_role Receiver Sender = false
-is_role Sender Receiver = false
+is_role one other = false
 
 abbrev pub with_role : Role → List Delivery → OpenView → OpenView
 with_role Receiver rows v = record v { receiver = rows }

@@ -1,6 +1,6 @@
 -- Part: the promise; every call exactly.
 -- What holds of every history of one session, said of the history alone (AMQP 1.0 part 2, section 2.5.6).
-use Rattle.std.specs.Prelude.{◌≡◌, ◌⊎◌, ◌<◌, ◌≤◌, ◌+◌, ◌%◌, ◌^◌, ℕ, true, false, if◌then◌else◌, List, [], ◌∷◌, ◌++◌, length, take, drop}
+use Rattle.std.specs.Prelude.{◌≡◌, ◌⊎◌, ◌<◌, ◌≤◌, ◌+◌, ◌%◌, ◌^◌, ℕ, true, false, if◌then◌else◌, List, [], ◌∷◌, ◌++◌, length, take, drop, fold, flat_map}
 use Rattle.std.specs.Prelude.{slice_get, Option, Some, None, is_some, Result, Ok, Err, unwrap_or}
 use Rattle.amqp_types.specs.declared.states.SessionState.{SessionState}
 use Rattle.amqp_session.specs.declared.frame.SessionFrame.{SessionFrame}
@@ -16,7 +16,7 @@ use Rattle.amqp_session.specs.Serial.{In, remaining}
 use Rattle.amqp_session.specs.States.{is_mapped, sends_begin, takes_begin, sends_end, takes_end}
 use Rattle.amqp_session.specs.Sending.{SendingView}
 use Rattle.amqp_session.specs.Session.{SessionView}
-use Rattle.amqp_session.specs.Step.{IsUntagged, has_error}
+use Rattle.amqp_session.specs.Step.{IsUntagged}
 use Rattle.amqp_session.specs.Transfers.{RequestedTransfer, numbered, firsts, records}
 use Rattle.amqp_session.specs.Deliveries.{listed, newest, IsTable, record_at, of_role}
 use Rattle.amqp_types.specs.declared.definitions.Role.{Role}
@@ -34,8 +34,7 @@ transfer_in b f = []
 
 -- the transfers among frames
 abbrev pub transfers_in : List SessionFrame → List SessionFrame
-transfers_in [] = []
-transfers_in (f ∷ fs) = transfer_in f.body f ++ transfers_in fs
+transfers_in fs = flat_map (λ f. transfer_in f.body f) fs
 
 abbrev pub accepted_by : {R : Type 0} → SessionCall R → List RequestedTransfer
 accepted_by (SendsTransfer h (Ok item)) = h ∷ []
@@ -45,13 +44,11 @@ accepted_by e = []
 
 -- the transfers that were handed out, by whatever call, in order
 abbrev pub handed : {R : Type 0} → List (SessionCall R) → List SessionFrame
-handed [] = []
-handed (e ∷ es) = transfers_in (call_frames e) ++ handed es
+handed H = flat_map (λ e. transfers_in (call_frames e)) H
 
 -- the transfers that were accepted, in order
 abbrev pub accepted : {R : Type 0} → List (SessionCall R) → List RequestedTransfer
-accepted [] = []
-accepted (e ∷ es) = accepted_by e ++ accepted es
+accepted H = flat_map accepted_by H
 
 -- those that were not handed out yet
 abbrev pub waiting : {R : Type 0} → List (SessionCall R) → List RequestedTransfer
@@ -80,14 +77,13 @@ window m H = window_from m m.settings.next_outgoing_id (0, 0) H
 -- is answered.
 abbrev pub state_by : {R : Type 0} → SessionState → SessionCall R → SessionState
 state_by s (SendsBegin (Ok frame)) = unwrap_or (sends_begin s) s
-state_by s (SendsEnd error (Ok frame)) = unwrap_or (sends_end (has_error error) s) s
+state_by s (SendsEnd error (Ok frame)) = unwrap_or (sends_end (is_some error) s) s
 state_by s (TakesBegin channel b (Ok u)) = unwrap_or (takes_begin s) s
 state_by s (TakesEnd channel e result) = unwrap_or (takes_end s) s
 state_by s e = s
 
 abbrev pub state_from : {R : Type 0} → SessionState → List (SessionCall R) → SessionState
-state_from s [] = s
-state_from s (e ∷ es) = state_from (state_by s e) es
+state_from s H = fold state_by s H
 
 -- the state after a history
 abbrev pub state : {R : Type 0} → Made → List (SessionCall R) → SessionState

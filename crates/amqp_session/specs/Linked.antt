@@ -2,7 +2,7 @@
 -- What a history says of links: how each output handle is taken, which link is live by each name, and which relay stands under
 -- each input handle (AMQP 1.0 part 2, sections 2.6.1 to 2.6.6).
 use Rattle.std.specs.Prelude.{◌≡◌, ◌↔◌, ℕ, Bool, if◌then◌else◌, nat_eq, bytes_eq, List, [], ◌∷◌, ◌++◌, Option, Some, None, Ok, Err, true}
-use Rattle.std.specs.Prelude.{false}
+use Rattle.std.specs.Prelude.{false, fold}
 use Rattle.amqp_types.specs.Detach.{DetachModel}
 use Rattle.amqp_session.specs.declared.frame.SessionFrame.{SessionFrame}
 use Rattle.amqp_session.specs.declared.link.LiveLink.{LiveLink}
@@ -23,21 +23,18 @@ HandleUse = Option (Option (List ℕ))
 
 -- a live link is released
 abbrev pub without_live : HandleUse → HandleUse
-without_live None = None
-without_live (Some None) = Some None
 without_live (Some (Some name)) = None
+without_live old = old
 
 -- a live link is detached, and the peer is to answer or not
 abbrev pub left_by_detach : Bool → HandleUse → HandleUse
-left_by_detach expects_echo None = None
-left_by_detach expects_echo (Some None) = Some None
 left_by_detach expects_echo (Some (Some name)) = if expects_echo then Some None else None
+left_by_detach expects_echo old = old
 
 -- the peer answers
 abbrev pub answered : HandleUse → HandleUse
-answered None = None
 answered (Some None) = None
-answered (Some (Some name)) = Some (Some name)
+answered old = old
 
 -- how a handle is taken after a call
 abbrev pub taken_by : {R : Type 0} → ℕ → HandleUse → SessionCall R → HandleUse
@@ -48,13 +45,9 @@ taken_by k old (SendsDetach d expects_echo result) = if nat_eq k d.handle then l
 taken_by k old (TakesDetach d (Some q) result) = if nat_eq k q.handle.0 then answered old else old
 taken_by k old e = old
 
-abbrev pub taken_from : {R : Type 0} → ℕ → HandleUse → List (SessionCall R) → HandleUse
-taken_from k old [] = old
-taken_from k old (e ∷ es) = taken_from k (taken_by k old e) es
-
 -- after a history: none is taken at first
 abbrev pub taken_at : {R : Type 0} → ℕ → List (SessionCall R) → HandleUse
-taken_at k H = taken_from k None H
+taken_at k H = fold (taken_by k) None H
 
 -- ---- names (sections 2.6.1 and 2.6.3)
 
@@ -81,13 +74,9 @@ live_by name old (TakesAttach a (Some q) (Ok u)) = if bytes_eq name a.name then 
 live_by name old (TakesAttach a (Some q) (Err e)) = if bytes_eq name a.name then where_waits (Some q.after) old else old
 live_by name old e = old
 
-abbrev pub live_from : {R : Type 0} → List ℕ → Option (LiveLink R) → List (SessionCall R) → Option (LiveLink R)
-live_from name old [] = old
-live_from name old (e ∷ es) = live_from name (live_by name old e) es
-
 -- after a history: no link is live at first
 abbrev pub live_at : {R : Type 0} → List ℕ → List (SessionCall R) → Option (LiveLink R)
-live_at name H = live_from name None H
+live_at name H = fold (live_by name) None H
 
 -- ---- input handles (section 2.6.2)
 
@@ -119,13 +108,9 @@ input_by h old (TakesDisposition d asked result) = asked_from h old asked
 input_by h old (TakesDetach d (Some q) result) = if nat_eq h d.handle then None else old
 input_by h old e = old
 
-abbrev pub input_from : {R : Type 0} → ℕ → Option (AttachedLink R) → List (SessionCall R) → Option (AttachedLink R)
-input_from h old [] = old
-input_from h old (e ∷ es) = input_from h (input_by h old e) es
-
 -- after a history: no relay stands there at first
 abbrev pub input_at : {R : Type 0} → ℕ → List (SessionCall R) → Option (AttachedLink R)
-input_at h H = input_from h None H
+input_at h H = fold (input_by h) None H
 
 -- ---- what holds of the links of every history
 

@@ -6,7 +6,7 @@ use Rattle.std.specs.FinMap as map
 use Rattle.amqp_types.specs.Attach.{AttachModel}
 use Rattle.amqp_types.specs.Detach.{DetachModel}
 use Rattle.amqp_types.specs.declared.states.SessionState.{SessionState}
-use Rattle.amqp_types.specs.declared.states.SessionState.TheVariants.{Unmapped, BeginSent, BeginReceived, Mapped, EndSent, EndReceived}
+use Rattle.amqp_types.specs.declared.states.SessionState.TheVariants.{EndSent, EndReceived}
 use Rattle.amqp_types.specs.declared.states.SessionState.TheVariants.{Discarding}
 use Rattle.amqp_session.specs.declared.frame.SessionFrame.{SessionFrame}
 use Rattle.amqp_session.specs.declared.frame.SessionFrameBody.TheVariants as Body
@@ -77,13 +77,10 @@ left_awaited name h l = record l { names = map.remove l.names name; handles = ma
 -- ---- allotment
 
 abbrev pub has_ended : SessionState → Bool
-has_ended Unmapped = false
-has_ended BeginSent = false
-has_ended BeginReceived = false
-has_ended Mapped = false
 has_ended EndSent = true
 has_ended EndReceived = true
 has_ended Discarding = true
+has_ended s = false
 
 -- Why no link is allotted outside Mapped: the reason why the session stopped, if it is recorded; else that it ended, or that it did
 -- not begin on both sides.
@@ -157,8 +154,7 @@ abbrev pub AttachLeaves : {R : Type 0} → OutputHandle → R → Result (Unit {
 AttachLeaves handle after (Ok u) (Ok link) new =
     (link ≡ record { handle = handle; relay = after }) × (new ≡ record { handle = handle; waiting = None })
 AttachLeaves handle after (Err e) (Err x) new = (x ≡ e) × (new ≡ record { handle = handle; waiting = Some after })
-AttachLeaves handle after (Ok u) (Err x) new = ⊥
-AttachLeaves handle after (Err e) (Ok link) new = ⊥
+AttachLeaves handle after answer result new = ⊥
 
 pub record WaitAsked {R : Type 0} (gives : AttachGives R) (old : LiveLink R) (a : AttachModel)
     (result : Result (AttachedLink R) LinkRelayError) (new : LiveLink R) : Type 0 where
@@ -192,8 +188,7 @@ AttachAnswered l a q (Ok u) (Ok r) new =
     new ≡ put_at a.handle (goes_on q) (record l { names = map.insert l.names a.name (record { handle = q.handle; waiting = None }) })
 AttachAnswered l a q (Err e) (Err x) new =
     (x ≡ inner_of_relay e) × (new ≡ record l { names = map.insert l.names a.name (record { handle = q.handle; waiting = Some q.after }) })
-AttachAnswered l a q (Ok u) (Err x) new = ⊥
-AttachAnswered l a q (Err e) (Ok r) new = ⊥
+AttachAnswered l a q answer result new = ⊥
 
 abbrev pub Attaches : {R : Type 0} → AttachGives R → LinksView R → AttachModel → Option (AttachQuestion R) →
     Result (Unit {0}) SessionInnerError → LinksView R → Type 0

@@ -2,7 +2,7 @@
 -- What a history says of the peer: its channel, the numbers of its transfers, and the deliveries that its transfers opened
 -- (AMQP 1.0 part 2, section 2.5.6). And why the session stopped.
 use Rattle.std.specs.Prelude.{ℕ, ◌+◌, ◌-◌, ◌%◌, ◌^◌, min, Bool, true, false, ◌&&◌, if◌then◌else◌, List, [], ◌∷◌, Option, Some, None, Result}
-use Rattle.std.specs.Prelude.{Ok, Err}
+use Rattle.std.specs.Prelude.{Ok, Err, fold}
 use Rattle.amqp_types.specs.declared.definitions.DeliveryTag.{DeliveryTag}
 use Rattle.amqp_session.specs.declared.deliveries.Delivery.{Delivery}
 use Rattle.amqp_session.specs.declared.stop.SessionStopReason.{SessionStopReason}
@@ -54,13 +54,9 @@ announced_by old (TakesBegin channel b (Ok u)) = (b.next_outgoing_id, b.outgoing
 announced_by old (TakesFlow f asked result) = (f.next_outgoing_id, f.outgoing_window)
 announced_by old e = old
 
-abbrev pub announced_from : {R : Type 0} → ℕ × ℕ → List (SessionCall R) → ℕ × ℕ
-announced_from old [] = old
-announced_from old (e ∷ es) = announced_from (announced_by old e) es
-
 -- the latest of them that it sent; both are 0 before the first
 abbrev pub announced : {R : Type 0} → List (SessionCall R) → ℕ × ℕ
-announced H = announced_from (0, 0) H
+announced H = fold announced_by (0, 0) H
 
 -- the next incoming id: the number that the peer said last, and one more for each transfer that came since
 abbrev pub next_incoming : {R : Type 0} → List (SessionCall R) → ℕ
@@ -74,8 +70,7 @@ window_left_by w (SendsDisposition d true frame) = min (w + num_messages d.first
 window_left_by w e = w
 
 abbrev pub window_left : {R : Type 0} → ℕ → List (SessionCall R) → ℕ
-window_left w [] = w
-window_left w (e ∷ es) = window_left (window_left_by w e) es
+window_left w H = fold window_left_by w H
 
 -- the remote outgoing window: what is left of the one that the peer said last
 abbrev pub peer_window : {R : Type 0} → List (SessionCall R) → ℕ
@@ -91,13 +86,9 @@ abbrev pub channel_by : {R : Type 0} → Option ℕ → SessionCall R → Option
 channel_by old (TakesBegin channel b (Ok u)) = Some channel
 channel_by old e = old
 
-abbrev pub channel_from : {R : Type 0} → Option ℕ → List (SessionCall R) → Option ℕ
-channel_from old [] = old
-channel_from old (e ∷ es) = channel_from (channel_by old e) es
-
 -- that of the latest Begin that was accepted
 abbrev pub peer_channel : {R : Type 0} → List (SessionCall R) → Option ℕ
-peer_channel H = channel_from None H
+peer_channel H = fold channel_by None H
 
 -- ---- the deliveries that the peer's transfers opened
 

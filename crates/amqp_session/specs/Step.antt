@@ -2,7 +2,7 @@
 -- What each call of a session does: its answer, the frames handed out with it, the questions to relays, and the session
 -- after it. The case of a refusal says that the refusals that are tested before it do not apply.
 use Rattle.std.specs.Prelude.{◌≡◌, ◌<◌, ◌^◌, ◌⊎◌, ℕ, Bool, true, false, List, [], ◌∷◌, ◌++◌, Option, Some, None, Result, Ok, Err, IsSome}
-use Rattle.std.specs.Prelude.{unwrap_or}
+use Rattle.std.specs.Prelude.{is_some, unwrap_or}
 use Rattle.std.specs.Option.{option_map}
 use Rattle.amqp_types.specs.declared.definitions.DeliveryTag.{DeliveryTag}
 use Rattle.amqp_types.specs.Error.{ErrorModel}
@@ -37,10 +37,6 @@ use Rattle.amqp_session.specs.Session.{SessionView, begin_frame, end_frame, flow
 
 -- ---- small tests
 
-abbrev pub has_error : Option ErrorModel → Bool
-has_error None = false
-has_error (Some e) = true
-
 abbrev pub is_some_held : List RequestedTransfer → Bool
 is_some_held [] = false
 is_some_held (h ∷ hs) = true
@@ -55,18 +51,13 @@ abbrev pub SendBeginStep : {R : Type 0} → SessionView R → Result SessionFram
 SendBeginStep v (Ok frame) w = (sends_begin v.state ≡ Some w.state) × (frame ≡ begin_frame v) × (w ≡ record v { state = w.state })
 SendBeginStep v (Err Begins.IllegalState) w = (sends_begin v.state ≡ None) × (w ≡ v)
 SendBeginStep v (Err Begins.OutOfMemory) w = IsSome (sends_begin v.state) × (w ≡ v)
-SendBeginStep v (Err Begins.RemoteEnded) w = ⊥
-SendBeginStep v (Err (Begins.RemoteEndedWithError e)) w = ⊥
-SendBeginStep v (Err (Begins.ConnectionStopped r)) w = ⊥
+SendBeginStep v (Err e) w = ⊥
 
 abbrev pub SendEndStep : {R : Type 0} → SessionView R → Option ErrorModel → Result SessionFrame SessionStateError → SessionView R → Type 0
 SendEndStep v error (Ok frame) w =
-    (sends_end (has_error error) v.state ≡ Some w.state) × (frame ≡ end_frame v error) × (w ≡ record v { state = w.state })
-SendEndStep v error (Err Begins.IllegalState) w = (sends_end (has_error error) v.state ≡ None) × (w ≡ v)
-SendEndStep v error (Err Begins.OutOfMemory) w = ⊥
-SendEndStep v error (Err Begins.RemoteEnded) w = ⊥
-SendEndStep v error (Err (Begins.RemoteEndedWithError e)) w = ⊥
-SendEndStep v error (Err (Begins.ConnectionStopped r)) w = ⊥
+    (sends_end (is_some error) v.state ≡ Some w.state) × (frame ≡ end_frame v error) × (w ≡ record v { state = w.state })
+SendEndStep v error (Err Begins.IllegalState) w = (sends_end (is_some error) v.state ≡ None) × (w ≡ v)
+SendEndStep v error (Err e) w = ⊥
 
 -- A Begin of the peer gives the windows and its next number; its channel is kept for the Begin that answers it.
 abbrev pub begun_by : {R : Type 0} → SessionView R → ℕ → BeginModel → SessionView R
@@ -86,10 +77,7 @@ abbrev pub TakeBeginStep : {R : Type 0} → SessionView R → ℕ → BeginModel
 TakeBeginStep v channel b (Ok u) w =
     (takes_begin v.state ≡ Some w.state) × BeginFits b × (w ≡ record (begun_by v channel b) { state = w.state })
 TakeBeginStep v channel b (Err Begins.IllegalState) w = (takes_begin v.state ≡ None) × (w ≡ v)
-TakeBeginStep v channel b (Err Begins.OutOfMemory) w = ⊥
-TakeBeginStep v channel b (Err Begins.RemoteEnded) w = ⊥
-TakeBeginStep v channel b (Err (Begins.RemoteEndedWithError e)) w = ⊥
-TakeBeginStep v channel b (Err (Begins.ConnectionStopped r)) w = ⊥
+TakeBeginStep v channel b (Err e) w = ⊥
 
 -- An End of the peer moves the state, also where it is answered as an error: one without an error that answers an own End
 -- is Ok.
@@ -101,8 +89,7 @@ TakeEndStep v e (Err Begins.RemoteEnded) w =
 TakeEndStep v e (Err (Begins.RemoteEndedWithError x)) w =
     (takes_end v.state ≡ Some w.state) × (e.error ≡ Some x) × (w ≡ record v { state = w.state })
 TakeEndStep v e (Err Begins.IllegalState) w = (takes_end v.state ≡ None) × (w ≡ v)
-TakeEndStep v e (Err Begins.OutOfMemory) w = ⊥
-TakeEndStep v e (Err (Begins.ConnectionStopped r)) w = ⊥
+TakeEndStep v e (Err x) w = ⊥
 
 -- ---- a transfer goes out (section 2.5.6)
 
@@ -154,8 +141,7 @@ abbrev pub FlowAnswered : {R : Type 0} → SessionView R → Result (Option Link
     Result (Option SessionOutgoingItem) SessionInnerError → SessionView R → Type 0
 FlowAnswered v (Ok echo) (Ok item) w = FlowGoes v echo item w
 FlowAnswered v (Err e) (Err x) w = (x ≡ inner_of_relay e) × (w ≡ v)
-FlowAnswered v (Ok echo) (Err x) w = ⊥
-FlowAnswered v (Err e) (Ok item) w = ⊥
+FlowAnswered v answer result w = ⊥
 
 -- where the flow names no link, or one that is attached
 abbrev pub IsKnown : {R : Type 0} → SessionView R → Option ℕ → Type 0
@@ -211,8 +197,7 @@ abbrev pub TransferAnswered : {R : Type 0} → SessionView R → ℕ → Result 
 TransferAnswered v handle (Ok named) (Ok reply) w =
     RecordFits (named_delivery handle named) × (reply ≡ None) × (w ≡ named_by v handle named)
 TransferAnswered v handle (Err e) (Err x) w = (x ≡ inner_of_relay e) × (w ≡ v)
-TransferAnswered v handle (Ok named) (Err x) w = ⊥
-TransferAnswered v handle (Err e) (Ok reply) w = ⊥
+TransferAnswered v handle answer result w = ⊥
 
 abbrev pub TransferUnasked : {R : Type 0} → SessionView R → ℕ → Result (Option DispositionModel) SessionInnerError → SessionView R → Type 0
 TransferUnasked v handle (Ok reply) w = ⊥

@@ -1,8 +1,8 @@
 //! Open and Close: the connection's states.
 
 ghost use Rattle.std.specs.Prelude.{◌≡◌, is_some};
-ghost use Rattle.amqp_connection.specs.States.{sends_open, takes_open, takes_close};
-ghost use Rattle.amqp_connection.specs.Connection.{SendOpenStep, IncomingOpenStep, SendCloseStep, IncomingCloseStep, closes_by, close_error, refusal_of};
+ghost use Rattle.amqp_connection.specs.States.{sends_open, takes_open, sends_close, takes_close};
+ghost use Rattle.amqp_connection.specs.Connection.{SendOpenStep, IncomingOpenStep, SendCloseStep, IncomingCloseStep, close_error, refusal_of};
 
 use super::Connection;
 use crate::error::ConnectionStateError;
@@ -33,7 +33,7 @@ fn after_incoming_open(state: ConnectionState) -> Option<ConnectionState>
 }
 
 fn after_sending_close(state: ConnectionState, error: &Option<Error>) -> Option<ConnectionState>
-    ensures { result ≡ closes_by error.now state }
+    ensures { result ≡ sends_close (is_some error.now) state }
 {
     match (state, error) {
         (ConnectionState::CloseReceived, _) => Some(ConnectionState::End),

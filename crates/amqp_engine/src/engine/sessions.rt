@@ -1,7 +1,8 @@
 //! What is asked of one session: by a request, or by a frame that reached it.
 
 ghost use Rattle.std.specs.Prelude.{◌≡◌, None, [], string_bytes};
-ghost use Rattle.amqp_engine.specs.Calls.{end_reason, remote_end_reason, EndCalls, AllocateLinkCalls, AllocateIncomingCalls, AttachCalls, DetachCalls, ReceivedAttachCalls, ReceivedDetachCalls, FlowCalls, TransferCalls, SettleCalls, StopCalls, ReceivedBeginCalls, ReceivedEndCalls, ReceivedFlowCalls, ReceivedTransferCalls, DispositionCalls, ReceivedDispositionCalls};
+ghost use Rattle.amqp_engine.specs.Calls.{end_reason, remote_end_reason, ReceivedDispositionCalls};
+ghost use Rattle.amqp_engine.specs.Inner.Calls.{EndCalls, AllocateLinkCalls, AllocateIncomingCalls, AttachCalls, DetachCalls, ReceivedAttachCalls, ReceivedDetachCalls, FlowCalls, TransferCalls, SettleCalls, StopCalls, ReceivedBeginCalls, ReceivedEndCalls, ReceivedFlowCalls, ReceivedTransferCalls, DispositionCalls};
 ghost use Rattle.amqp_types.specs.Disposition.{DispositionModel};
 ghost use Rattle.amqp_session.specs.declared.frame.SessionFrameBody.TheVariants as said;
 ghost use Rattle.amqp_connection.specs.Connection.{refusal_of};

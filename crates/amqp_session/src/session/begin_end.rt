@@ -3,7 +3,7 @@
 ghost use Rattle.std.specs.Prelude.{◌≡◌, is_some};
 ghost use Rattle.std.specs.Option.{option_map};
 ghost use Rattle.amqp_session.specs.States.{sends_begin, takes_begin, sends_end, takes_end, answers_end};
-ghost use Rattle.amqp_session.specs.Step.{SendBeginStep, SendEndStep, TakeBeginStep, TakeEndStep, has_error};
+ghost use Rattle.amqp_session.specs.Step.{SendBeginStep, SendEndStep, TakeBeginStep, TakeEndStep};
 
 use super::Session;
 use crate::error::SessionStateError;

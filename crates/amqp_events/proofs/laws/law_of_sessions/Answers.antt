@@ -1,5 +1,5 @@
 use Rattle.std.proofs.Common.{[], ◌∷◌, Some, None, refl, ap, sym, ◌∙◌}
-use Rattle.amqp_session.specs.Linked.{input_from}
+use Rattle.amqp_session.specs.Inner.Histories.{input_from}
 use Rattle.amqp_session.specs.History.{TakesAttach, TakesDetach}
 use Rattle.amqp_events.specs.Runs.{ToldAttach, ToldDetach}
 use Rattle.amqp_events.proofs.RunLemmas.{gives_queued, run_gives}

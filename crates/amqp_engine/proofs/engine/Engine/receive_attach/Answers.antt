@@ -2,7 +2,7 @@ use Rattle.std.proofs.Common.{sym, ap, ◌∙◌}
 use Rattle.std.specs.Option.{option_copied_mut}
 use Rattle.std.specs.HashMap.{HashMap}
 use Rattle.amqp_engine.specs.EngineView.{EngineView}
-use Rattle.amqp_engine.specs.Calls.{ReceivedAttachCalls}
+use Rattle.amqp_engine.specs.Inner.Calls.{ReceivedAttachCalls}
 use Rattle.amqp_engine.proofs.KindFieldsLemmas.{attach_fields}
 use Rattle.amqp_engine.proofs.ReceivedFieldsLemmas.{unread}
 use Rattle.amqp_engine.proofs.RoutedFrameLemmas.{unrouted, unknown, handed}

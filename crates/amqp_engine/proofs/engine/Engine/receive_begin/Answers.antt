@@ -4,7 +4,7 @@ use Rattle.std.specs.HashMap.{HashMap}
 use Rattle.amqp_types.specs.Begin.{BeginModel}
 use Rattle.amqp_connection.specs.Connection.{BeginRouteStep}
 use Rattle.amqp_engine.specs.EngineView.{EngineView}
-use Rattle.amqp_engine.specs.Calls.{ReceivedBeginCalls}
+use Rattle.amqp_engine.specs.Inner.Calls.{ReceivedBeginCalls}
 use Rattle.amqp_engine.proofs.KindFieldsLemmas.{begin_fields}
 use Rattle.amqp_engine.proofs.ReceivedFieldsLemmas.{unread, was_read}
 use Rattle.amqp_engine.proofs.AskedSessionLemmas.{reaches, reaches_unknown, reaches_none}

@@ -1,7 +1,7 @@
 use Rattle.std.proofs.Common.{sym, ap, ◌∙◌, refl}
 use Rattle.std.specs.Option.{option_copied_mut}
 use Rattle.std.specs.HashMap.{HashMap}
-use Rattle.amqp_engine.specs.Calls.{ReceivedDetachCalls}
+use Rattle.amqp_engine.specs.Inner.Calls.{ReceivedDetachCalls}
 use Rattle.amqp_engine.proofs.KindFieldsLemmas.{detach_fields}
 use Rattle.amqp_engine.proofs.ReceivedFieldsLemmas.{unread}
 use Rattle.amqp_engine.proofs.RoutedFrameLemmas.{unrouted, unknown, handed}

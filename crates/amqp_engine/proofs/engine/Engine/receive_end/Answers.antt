@@ -3,7 +3,7 @@ use Rattle.std.specs.Option.{option_copied_mut}
 use Rattle.std.specs.HashMap.{HashMap}
 use Rattle.amqp_connection.specs.Connection.{EndRouteStep}
 use Rattle.amqp_engine.specs.EngineView.{EngineView}
-use Rattle.amqp_engine.specs.Calls.{ReceivedEndCalls}
+use Rattle.amqp_engine.specs.Inner.Calls.{ReceivedEndCalls}
 use Rattle.amqp_engine.proofs.KindFieldsLemmas.{end_fields}
 use Rattle.amqp_engine.proofs.ReceivedFieldsLemmas.{unread_kept, was_kept, not_copied}
 use Rattle.amqp_engine.proofs.AskedSessionLemmas.{reaches, reaches_unknown, reaches_none}

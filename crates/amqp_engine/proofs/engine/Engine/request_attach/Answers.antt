@@ -1,7 +1,7 @@
 use Rattle.std.proofs.Common.{None, refl, sym, ap, ◌∙◌}
 use Rattle.std.specs.Option.{option_copied_mut}
 use Rattle.std.specs.HashMap.{HashMap}
-use Rattle.amqp_engine.specs.Calls.{AttachCalls}
+use Rattle.amqp_engine.specs.Inner.Calls.{AttachCalls}
 use Rattle.amqp_engine.proofs.AskedSessionLemmas.{did, did_not}
 use Rattle.amqp_engine.proofs.SessionListLemmas.{viewed_some, viewed_none, seated_set}
 use Rattle.amqp_engine.proofs.engine.Engine.request_attach.Goals as goal
