@@ -5,7 +5,7 @@
 
 Each row is a new session, calls, and beside each call what it has to answer (AMQP 1.0 part 2, sections 2.5 to 2.7; docs/PROTOCOL.md for
 the states). The answers stand here as a person wrote them, or follow from the tables below, or are those of the plain model in
-session_model.py; nothing is taken from the program's output.
+session_model.py; nothing is taken from the program's output. The rows of pairs of sessions stand at the end (session_pairs.py).
 """
 
 import sys
@@ -13,7 +13,7 @@ from pathlib import Path
 
 sys.path.insert(0, str(Path(__file__).resolve().parents[1]))
 
-from gen import session_dispositions, session_flows, session_links, session_model, session_states, session_transfers, session_windows
+from gen import session_dispositions, session_flows, session_links, session_model, session_pairs, session_states, session_transfers, session_windows
 from gen.row import SessionRows
 
 PARTS = [session_states, session_windows, session_transfers, session_flows, session_links, session_dispositions]
@@ -28,6 +28,7 @@ def main():
     rows.note()
     # the rows of the model are for no reader
     session_model.write(rows)
+    session_pairs.write(rows)
     rows.write(CRATE)
 
 

@@ -1,4 +1,4 @@
-"""A plain model of two sessions that face each other, for expected_pair.py: what the standard wants of each call of a pair.
+"""A plain model of two sessions that face each other, for session_pairs.py: what the standard wants of each call of a pair.
 
 It knows the session endpoint of the standard alone (AMQP 1.0 part 2, sections 2.5 to 2.7): the frames on the way are two lists, and after
 each call the three facts of the window are counted on them.

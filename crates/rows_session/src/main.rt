@@ -28,6 +28,8 @@
 //! An answer is `ok`, `none` or `err` and the refusal; of an allotment `handle` and its number, of a release whether there was a
 //! link. A frame is `out`, its channel, the performative's text and, after a transfer, its payload; `list` goes before several
 //! frames, and before the echoes of a disposition. What a relay has to say is `disposition` or `detach`, and its text.
+//!
+//! After a line `pairs` the lines are those of a pair of sessions (`pair.rt`).
 #![tactic(auto)]
 
 mod answer;
@@ -36,29 +38,56 @@ mod disposition;
 mod kinds;
 mod link;
 mod made;
+mod pair;
 mod reading;
 mod row;
 
-use amqp_session::Session;
+use amqp_session::{Session, SessionPair, SessionSettings};
+use std::alloc::Global;
 use std::io::{self, BufRead, BufReader, BufWriter, Write};
 use test_support::RowRelay;
 
 fn main(rt: HostRuntime) -> anyhow::Result<()> {
     let mut session = made::session(rt.alloc(), "Unmapped")?;
-    let outcome = run(&rt, &mut session);
+    let mut pair = SessionPair::new(rt.alloc(), SessionSettings::new(), SessionSettings::new());
+    let outcome = run(&rt, &mut session, &mut pair);
     // prover
     drop(session);
+    drop(pair);
     outcome
 }
 
-/// Gives the session the lines of the input, and prints what it answers.
-fn run(rt: &HostRuntime, session: &mut Session<RowRelay>) -> anyhow::Result<()> {
+/// Gives the session, and then the pair, the lines of the input, and prints what they answer.
+fn run(
+    rt: &HostRuntime,
+    session: &mut Session<RowRelay>,
+    pair: &mut SessionPair<RowRelay>,
+) -> anyhow::Result<()> {
     let alloc = rt.alloc();
     let mut out = BufWriter::new(alloc, io::writer(rt))?;
+    let mut is_pair = false;
     for line in BufReader::new(alloc, rt.reader())?.lines(alloc) {
-        let text = row::answer(alloc, session, line?.as_str())?;
+        let text = next(alloc, session, pair, &mut is_pair, line?.as_str())?;
         out.write_all(text.as_bytes())?;
     }
     out.flush()?;
     Ok(())
+}
+
+/// What a line prints.
+fn next(
+    alloc: Global,
+    session: &mut Session<RowRelay>,
+    pair: &mut SessionPair<RowRelay>,
+    is_pair: &mut bool,
+    line: &str,
+) -> anyhow::Result<String> {
+    if *is_pair {
+        return pair::answer(alloc, pair, line);
+    }
+    if line == "pairs" {
+        *is_pair = true;
+        return Ok(String::new(alloc));
+    }
+    row::answer(alloc, session, line)
 }

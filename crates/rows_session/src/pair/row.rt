@@ -1,6 +1,6 @@
 //! A line of the rows, and what it prints.
 
-use crate::call;
+use super::call;
 use amqp_session::{SessionPair, SessionSettings, Side};
 use std::alloc::Global;
 use std::mem;

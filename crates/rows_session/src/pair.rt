@@ -1,4 +1,4 @@
-//! Rows of a pair of sessions: each line of the input is calls, and the output is what they answer.
+//! Rows of a pair of sessions: each line is calls, and what is printed is what they answer.
 //!
 //! | Line | Call |
 //! |---|---|
@@ -19,31 +19,8 @@
 //! `RemoteAttachingLinkNameNotFound`, `h` for `HandleInUse`, `s` for `SessionNotMapped`, `d` for `DuplicatedLinkName`, `m` for
 //! `OutOfMemory`. After them stands a sum over the numbers of both sides after each call, then what each side shows: its
 //! state, its numbers and windows, what waits, what is open, and what is on the way to it.
-#![tactic(auto)]
 
 mod call;
 mod row;
 
-use amqp_session::{SessionPair, SessionSettings};
-use std::io::{self, BufRead, BufReader, BufWriter, Write};
-use test_support::RowRelay;
-
-fn main(rt: HostRuntime) -> anyhow::Result<()> {
-    let mut pair = SessionPair::new(rt.alloc(), SessionSettings::new(), SessionSettings::new());
-    let outcome = run(&rt, &mut pair);
-    // prover
-    drop(pair);
-    outcome
-}
-
-/// Gives the pair the lines of the input, and prints what it answers.
-fn run(rt: &HostRuntime, pair: &mut SessionPair<RowRelay>) -> anyhow::Result<()> {
-    let alloc = rt.alloc();
-    let mut out = BufWriter::new(alloc, io::writer(rt))?;
-    for line in BufReader::new(alloc, rt.reader())?.lines(alloc) {
-        let text = row::answer(alloc, pair, line?.as_str())?;
-        out.write_all(text.as_bytes())?;
-    }
-    out.flush()?;
-    Ok(())
-}
+pub use row::answer;

@@ -1,21 +1,12 @@
-#!/usr/bin/env python3
-"""Writes the rows of the program rows_pair: its input, and the output that the standard wants.
-
-    tools/gen/expected_pair.py              writes crates/rows_pair/{stdin,stdout}
+"""The rows of a pair of sessions, which stand at the end of those of the program rows_session, and the answers that the standard wants.
 
 The answers of the short rows stand here as a person wrote them. Those of the 100,000 random calls, drawn from a fixed seed, are the plain
 model's in pair_model.py, which counts the facts of the window after each call. Nothing is taken from the program's output.
 """
 
-import sys
-from pathlib import Path
 from random import Random
 
-sys.path.insert(0, str(Path(__file__).resolve().parents[1]))
-
 from gen.pair_model import LAST, Pair
-
-CRATE = Path(__file__).resolve().parents[2] / "crates" / "rows_pair"
 
 WINDOWS = [0, 1, 2, 5000, LAST]
 SEED = 2026
@@ -145,13 +136,10 @@ def random_calls(rows):
     print(f"{rows.called - before} random calls")
 
 
-def main():
+def write(session_rows):
+    """Puts the rows of pairs after those of sessions."""
     rows = Rows()
     for part in (each_call, a_window_of_two, begins, echoes, random_calls):
         part(rows)
-    (CRATE / "stdin").write_text("\n".join(rows.asked) + "\n")
-    (CRATE / "stdout").write_text("\n".join(rows.said) + "\n")
-
-
-if __name__ == "__main__":
-    main()
+    session_rows.asked += ["pairs", *rows.asked]
+    session_rows.said += rows.said
