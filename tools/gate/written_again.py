@@ -3,7 +3,7 @@
 
     tools/gate/written_again.py
 
-Each of `tools/gen/expected_*.py` that is a program writes the rows of a program of `crates/`, `tools/gate/definitions_read.py` the tables of
+Each of `tools/gen/expected_*.py` that is a program writes the rows of a program of `crates/`, or those of `tools/try_c`, `tools/gate/definitions_read.py` the tables of
 docs/READING.md and the first lines of `crates/*/specs/`, and `tools/gate/wrong_bodies.py` docs/WRONG_BODIES.md. A file that comes out otherwise
 than it is stored is named, and put back as it was: then run its tool by hand, and see what changed. The last line is 'N passed, M failed', a tool each.
 """
@@ -22,7 +22,7 @@ PAGES = [ROOT / "docs" / "READING.md", ROOT / "docs" / "WRONG_BODIES.md"]
 
 def stored():
     """What is stored of the files that such tools write."""
-    files = [*ROOT.glob("crates/*/stdin"), *ROOT.glob("crates/*/stdout"), *ROOT.glob("crates/*/specs/**/*.antt"), *PAGES]
+    files = [*ROOT.glob("crates/*/stdin"), *ROOT.glob("crates/*/stdout"), *ROOT.glob("tools/try_c/rows/*"), *ROOT.glob("crates/*/specs/**/*.antt"), *PAGES]
     return {file: file.read_bytes() for file in files if file.exists()}
 
 

@@ -1,4 +1,4 @@
-"""Rows of the program rows_client: its operations, answers and states by their numbers, and what a row asks and wants."""
+"""Rows of a client: its operations, answers and states by their numbers, and what a row asks and wants."""
 
 from amqp.canonical import composite, string, symbol
 from gen.row import ERROR, Rows, attach, begin, opening, wire
@@ -35,7 +35,7 @@ def record(kind, flags, session, given, taken, first, rest=""):
 
 
 class ClientRows(Rows):
-    """Rows of the program rows_client."""
+    """Rows of a client."""
 
     def client(self, our_open=OUR_OPEN, room=(8, 8, 8, 8)):
         """A new client."""

@@ -1,10 +1,10 @@
 #!/usr/bin/env python3
-"""Writes the input and the expected output of the program rows_client: calls of a client, with the wanted answer beside each.
+"""Writes the rows that tools/try_c/try_c_rows.py gives the library for C: calls of a client, with the wanted answer beside each.
 
-    tools/gen/expected_client.py          writes crates/rows_client/{stdin,stdout}
+    tools/gen/expected_client.py          writes tools/try_c/rows/{stdin,stdout}
 
 What is wanted is worked out from the standard (AMQP 1.0 part 2, sections 2.2 to 2.8) and from the page of `amqp_client`, with the spellings
-of `canonical.py`; nothing is taken from what the program prints.
+of `canonical.py`; nothing is taken from what the library answers.
 """
 
 import sys
@@ -22,7 +22,7 @@ from gen.client_rows import (
 from gen.row import ACCEPTED, ERROR, attach, begin, closing, detach, disposition, end, flow, transfer, wire
 from shared.command import command
 
-CRATE = Path(__file__).resolve().parents[2] / "crates" / "rows_client"
+ROWS = Path(__file__).resolve().parents[1] / "try_c" / "rows"
 
 
 def made(rows):
@@ -332,7 +332,7 @@ def main():
     rows = ClientRows()
     for write in (made, opens, closes, splits, sessions, links, sending, receiving, limits):
         write(rows)
-    rows.write(CRATE)
+    rows.write(ROWS)
 
 
 if __name__ == "__main__":

@@ -1,7 +1,7 @@
 #!/usr/bin/env bash
 # Tries the library for C: the tests tools/try_c/try_c*.c over the archive and over the shared library, also under valgrind where that is installed; the
 # headers as C++; a whole connection with each request for memory refused in turn; the wrapper for Rust, where there is a rustc; and over the
-# shared library tools/try_c/try_c.py, and tools/try_c/try_c_captures.py with every recorded connection. The last line is 'N passed, M failed'.
+# shared library tools/try_c/try_c.py, tools/try_c/try_c_rows.py, and tools/try_c/try_c_captures.py with every recorded connection. The last line is 'N passed, M failed'.
 #
 #     tools/try_c/try_c.sh            builds the library first, by tools/build_c.sh
 #     tools/try_c/try_c.sh PREFIX     tries what build_c.sh put there
@@ -96,6 +96,7 @@ if command -v valgrind >/dev/null; then
 fi
 if command -v rustc >/dev/null && [ -e bindings/rust/amqp_engine.rs ]; then holds "the wrapper for Rust" wrapper; fi
 counts "over Python" timeout 600 python3 tools/try_c/try_c.py "$library/libamqp.so"
+counts "rows of a client" timeout 60 python3 tools/try_c/try_c_rows.py "$library/libamqp.so"
 counts "what is refused of recorded connections" timeout 600 python3 tools/try_c/try_c_captures.py "$library/libamqp.so"
 echo "$passed passed, $failed failed"
 [ "$failed" = 0 ]

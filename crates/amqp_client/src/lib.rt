@@ -83,8 +83,8 @@
 //!
 //! No contract can say that memory is granted, nor what the queue of events holds (see `amqp_events`). So these bodies would meet the contracts: one
 //! that always answers `NoMemory`; one that always answers `EventsWait`, that never gives an event, or counts the missed ones wrongly; one that
-//! leaves the key or the room aside; and one that stops after each frame. The rows of the program `rows_client` refuse all but the one that
-//! leaves the key aside.
+//! leaves the key or the room aside; and one that stops after each frame. The rows in `tools/try_c/rows`, which the library for C is given, refuse
+//! all but the one that leaves the key aside.
 #![tactic(auto)]
 
 mod asking;
