@@ -1,15 +1,13 @@
 //! Links: what the broker answers to an Attach and to a Detach of the client's.
 
-use crate::broker::{Broker, Progress, decoded};
+use crate::broker::{Broker, Progress, attach_of};
 use crate::consumers::Consumer;
 use crate::senders::Sender;
 use crate::unsettled::give_back;
 use amqp_events::{EventRelay, LinkNames, Policy};
 use amqp_transport::{marked_name, push};
 use bytes::Bytes;
-use fe2o3_amqp::{
-    Attach, Detach, FrameBody, Handle, IncomingChannel, Input, InputHandle, Role, SessionNo,
-};
+use fe2o3_amqp::{Attach, Detach, Handle, IncomingChannel, Input, InputHandle, Role, SessionNo};
 use std::io::{self, Write};
 
 impl Broker {
@@ -20,23 +18,39 @@ impl Broker {
         frame: Bytes,
         output: &mut O,
     ) -> io::Result<Progress> {
-        let (Some(number), Some(FrameBody::Attach(theirs))) = (
-            self.engine.session_of(IncomingChannel(channel)),
-            decoded(self.alloc, frame.clone()?),
-        ) else {
-            // refused by name: no session, or no frame
+        let Some(number) = self.engine.session_of(IncomingChannel(channel)) else {
+            // refused by name: no session
+            return self.receive(frame, output);
+        };
+        let Some(theirs) = attach_of(self.alloc, frame.clone()?) else {
+            // refused by name: no frame
             return self.receive(frame, output);
         };
         drop(frame);
+        self.attach(number, theirs, output)
+    }
+
+    /// Allots a link, and answers the Attach.
+    fn attach<O: Write>(
+        &mut self,
+        number: SessionNo,
+        theirs: Attach,
+        output: &mut O,
+    ) -> io::Result<Progress> {
         if self.has_link(number.0, theirs.handle.0) {
             drop(theirs);
             return self.fail("HandleInUse", output);
         }
-        match self.allot(number, &theirs, output)? {
-            Some(output_handle) => self.answer_attach(number, output_handle, theirs, output),
-            None => {
+        match self.allot(number, &theirs, output) {
+            Ok(Some(output_handle)) => self.answer_attach(number, output_handle, theirs, output),
+            // prover
+            Ok(None) => {
                 drop(theirs);
                 Ok(Progress::Over)
+            }
+            Err(error) => {
+                drop(theirs);
+                Err(error)
             }
         }
     }

@@ -11,8 +11,8 @@ use amqp_transport::{
 };
 use bytes::Bytes;
 use fe2o3_amqp::{
-    ConnectionState, DEFAULT_CHANNEL_MAX, Engine, FrameBody, FrameDecoder, IncomingChannel, Input,
-    KeyHash, Kind, Open, Refusal, SendBuffer, SessionNo, SessionSettings,
+    Attach, ConnectionState, DEFAULT_CHANNEL_MAX, Engine, FrameBody, FrameDecoder, IncomingChannel,
+    Input, KeyHash, Kind, Open, Refusal, SendBuffer, SessionNo, SessionSettings,
 };
 use std::alloc::Global;
 use std::collections::VecDeque;
@@ -236,13 +236,23 @@ fn head_of(frame: Bytes) -> (u16, Option<Kind>) {
     }
 }
 
-/// The body of a frame, if it is one.
-pub fn decoded(alloc: Global, frame: Bytes) -> Option<FrameBody> {
+/// The Attach that a frame holds, if it is one.
+pub fn attach_of(alloc: Global, frame: Bytes) -> Option<Attach> {
     match FrameDecoder::new().decode(alloc, frame) {
         Ok((frame, rest)) => {
             drop(rest);
-            Some(frame.into_body())
+            attach_in(frame.into_body())
         }
         Err(_) => None,
+    }
+}
+
+fn attach_in(body: FrameBody) -> Option<Attach> {
+    match body {
+        FrameBody::Attach(attach) => Some(attach),
+        other => {
+            drop(other);
+            None
+        }
     }
 }
