@@ -95,7 +95,10 @@ def is_free(function, edits):
 
 
 def is_proved(crate):
-    """Whether the crate's rlib was made of its files as they are: by the sum of them beside it, or, after rt ci, since it is newer."""
+    """Whether the crate's rlib was made of its files as they are: by the sum of them beside it, or, after rt ci, since it is newer. A static library
+    has none."""
+    if crate.is_static:
+        return True
     built = Path(crate.rlib, "format")
     if not built.is_file():
         return False
@@ -103,7 +106,9 @@ def is_proved(crate):
 
 
 def functions(crate):
-    """The paths of the crate's functions, as its rlib names them."""
+    """The paths of the crate's functions, as its rlib names them: none of a static library, which has no rlib, and few functions."""
+    if crate.is_static:
+        return set()
     names = [it[0] for it in json.loads(Path(crate.rlib, "toolchain/mir.json").read_text())]
     return {it.removeprefix(f"{crate.name}::") for it in names if re.fullmatch(rf"{crate.name}(::\w+)+", it)}
 
@@ -296,7 +301,7 @@ def main(words):
     work = sorted(((crate, chosen(crate, words)) for crate in RT.rtlib.crates_below(str(ROOT))), key=lambda it: -len(it[1]))
     work = [it for it in work if it[1]]
     taken = {it.name: it for crate, _ in work for it in (*crate.below(), crate)}
-    lacking = [name for name, it in taken.items() if not Path(it.rlib).is_dir()]
+    lacking = [name for name, it in taken.items() if not it.is_static and not Path(it.rlib).is_dir()]
     if lacking or not work:
         sys.exit(f"not built by rt ci or rt lib: {', '.join(lacking)}" if lacking else "no such edit")
     for it in taken.values():

@@ -20,11 +20,13 @@ sys.path.insert(0, str(Path(__file__).resolve().parents[1]))
 
 from api import methods
 from gate.edits import FOLDER, edits_of
-from reference.source import libraries
+from reference.source import Crate, dependencies, libraries
 from shared.command import command
 
 ROOT = Path(__file__).resolve().parents[2]
 PAGE = ROOT / "docs" / "WRONG_BODIES.md"
+# The library for C, on which no other crate stands.
+STATIC = "amqp_c"
 HEAD = """# Wrong bodies that the prover has to refuse
 
 Written by `tools/gate/wrong_bodies.py --write` from the line `function:` of each edit: do not write here by hand.
@@ -34,7 +36,7 @@ An edit puts a wrong body in the place of a function's, and its name says what i
 of that very function cannot be proved. Most laws have no code to change: an edit of one changes its statement, or a definition, whose file
 then stands after the edit's name, and shows nothing of the code. What the contracts say is in [CLAIMS.md](CLAIMS.md).
 
-The static library `amqp_c` has its edits in a folder of its own, `crates/amqp_c/must-fail`: `rt ci` tries each by itself, and so does `rt must-fail amqp_c`. `raw_box` has none: the proofs of its two functions are written by hand along the steps of their bodies, and refuse every other body, a right one too.
+`raw_box` has none: the proofs of its two functions are written by hand along the steps of their bodies, and refuse every other body, a right one too.
 
 Below a table stand the crate's public functions that no edit names, those of traits left out. They are proved as all others are; many of
 them only call functions that an edit names.
@@ -99,7 +101,7 @@ def main():
     if sys.argv[1:] and not is_write:
         sys.exit(__doc__.strip())
     edits = [edit for folder in sorted(ROOT.glob(f"crates/*/{FOLDER}")) for edit in edits_of(folder.parent)]
-    crates = libraries(ROOT)
+    crates = {**libraries(ROOT), STATIC: Crate(ROOT / "crates" / STATIC, dependencies(ROOT)[STATIC])}
     lost = [*without_line(edits, crates)]
     if lost:
         sys.exit("\n".join(lost))
