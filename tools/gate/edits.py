@@ -2,8 +2,9 @@
 
 The folder has a file for each module: mutants/session/settling.edits for src/session/settling.rt. In it stand the edits of the functions whose
 code that source has, in their order there, and in laws.edits also those of definitions, by the law that speaks of them. An edit begins with a
-line 'edit: NAME', a name that no other edit of the crate has. 'function: PATH' says what it makes wrong, and then come the lines of the
-toolchain's must-fail edits: 'file:', and 'old:' and 'new:' for each change of that file. Empty lines, and those that begin with '#', say nothing.
+line 'edit: NAME', a name that no other edit of the crate has. 'function: PATH' says what it makes wrong, and 'gate: yes' that the gate
+tries it. Then come the lines of the toolchain's must-fail edits: 'file:', and 'old:' and 'new:' for each change of that file. Empty lines, and
+those that begin with '#', say nothing.
 """
 
 import sys
@@ -14,16 +15,20 @@ FOLDER = "mutants"
 
 
 class Edit:
-    """A wrong body: its name, the file that it stands in, the function that it makes wrong, and its pairs of an old and a new text by their file."""
+    """A wrong body: its name, the file that it stands in, the function that it makes wrong, whether the gate tries it, and its pairs of an old and a
+    new text by their file."""
 
     def __init__(self, name, file):
         self.name, self.file, self.function, self.pairs = name, file, "", []
         self.path = self.old = None
+        self.is_of_gate = False
 
     def take(self, word, text):
         """Takes a line that stands below the name, and says whether it is one of an edit, in its place."""
         if word == "function" and not self.function:
             self.function = text.strip()
+        elif word == "gate" and text.strip() == "yes" and not self.path:
+            self.is_of_gate = True
         elif word == "file":
             self.path = text.strip()
         elif word == "old" and self.path and self.old is None:

@@ -1,7 +1,8 @@
 #!/usr/bin/env python3
 """Tries the must-fail edits of crates/NAME/mutants, many at a time.
 
-    tools/gate/refused_together.py [control] [CRATE | CRATE/EDIT]..
+    tools/gate/refused_together.py [control]                               those of the gate: with a line 'gate: yes'
+    tools/gate/refused_together.py [control] all | CRATE | CRATE/EDIT ..   all of them, or those that are named
     tools/gate/refused_together.py fit
 
 An edit is a wrong body. Those of a module stand in one file, mutants/MODULE.edits. Each has a name, EDIT (a line 'edit:'), and names the
@@ -279,13 +280,14 @@ def tried(crate, edits, one_in):
 
 
 def chosen(crate, words):
-    """The crate's edits that the words name: all where there are none."""
-    return [it for it in edits_of(crate.folder) if not words or {crate.name, f"{crate.name}/{it.name}"} & {*words}]
+    """The crate's edits that the words name: those of the gate where there are none."""
+    is_named = lambda it: {"all", crate.name, f"{crate.name}/{it.name}"} & {*words}
+    return [it for it in edits_of(crate.folder) if (is_named(it) if words else it.is_of_gate)]
 
 
 def fit():
     """Ends with 1 where an edit does not find its text."""
-    of = lambda crate: ((crate, edit, edit.put(Path(crate.folder), {})) for edit in chosen(crate, []))
+    of = lambda crate: ((crate, edit, edit.put(Path(crate.folder), {})) for edit in chosen(crate, ["all"]))
     bad = [it for crate in RT.rtlib.crates_below(str(ROOT)) for it in of(crate) if it[2]]
     for crate, edit, why in bad:
         print(f"{crate.name}/{edit.name}: BAD EDIT: {why}")

@@ -6,8 +6,8 @@
 
 The edits of src/MODULE.rt stand in crates/NAME/mutants/MODULE.edits. An edit's line 'function:' names what it makes wrong, by its path in that
 crate, and the page has a line for each function that is named so. An edit in a folder of no library, one without that line, and one whose
-function that source does not have, stands in no line: it is named, nothing is written, and the status is 1. Below the lines of a crate stand
-its public functions that no edit names; those of traits are not among them.
+function that source does not have, stands in no line: it is named, nothing is written, and the status is 1. So is a public function whose code has edits, none of them with the line 'gate: yes'. Below the
+lines of a crate stand its public functions that no edit names; those of traits are not among them.
 """
 
 import difflib
@@ -32,9 +32,12 @@ HEAD = """# Wrong bodies that the prover has to refuse
 Written by `tools/gate/wrong_bodies.py --write` from the line `function:` of each edit: do not write here by hand.
 
 An edit puts a wrong body in the place of a function's, and its name says what is wrong with it. Those of `src/MODULE.rt` stand in
-`crates/NAME/mutants/MODULE.edits`. `tools/gate/refused_together.py NAME/EDIT` tries one, and the gate tries all: it passes where a goal
-of that very function cannot be proved. Most laws have no code to change: an edit of one changes its statement, or a definition, whose file
-then stands after the edit's name, and shows nothing of the code. What the contracts say is in [CLAIMS.md](CLAIMS.md).
+`crates/NAME/mutants/MODULE.edits`. `tools/gate/refused_together.py NAME/EDIT` tries one: it passes where a goal of that very function cannot be
+proved. The gate tries those that have a line `gate: yes`: one at least of each function that users can call, and of other functions those that once
+were proved, or that turn what the pages promise. All others have a star here: `tools/gate/refused_together.py all` tries them too.
+
+Most laws have no code to change: an edit of one changes its statement, or a definition, whose file then stands after the edit's name, and shows
+nothing of the code. What the contracts say is in [CLAIMS.md](CLAIMS.md).
 
 `raw_box` has none: the proofs of its two functions are written by hand along the steps of their bodies, and refuse every other body, a right one too.
 
@@ -44,9 +47,9 @@ them only call functions that an edit names.
 
 
 def told(edit):
-    """An edit's name, and the definitions that it changes, if any."""
+    """An edit's name, whether the gate leaves it out, and the definitions that it changes, if any."""
     specs = sorted({path.removesuffix(".antt") for path, _, _ in edit.pairs if not path.startswith("src/")})
-    return f"`{edit.name}`" + (f" ({', '.join(f'`{it}`' for it in specs)})" if specs else "")
+    return f"`{edit.name}`" + ("" if edit.is_of_gate else "*") + (f" ({', '.join(f'`{it}`' for it in specs)})" if specs else "")
 
 
 def home(edit):
@@ -74,7 +77,8 @@ def by_function(edits):
 def section(crate, edits):
     """The lines of a crate."""
     of = by_function(edits)
-    lines = ["", f"## `{crate.name}`", "", f"{len(edits)} edits of {len(of)} functions.", "", "| Function or law | Edits |", "|---|---|"]
+    count = f"{len(edits)} edits of {len(of)} functions; the gate tries {sum(it.is_of_gate for it in edits)}."
+    lines = ["", f"## `{crate.name}`", "", count, "", "| Function or law | Edits |", "|---|---|"]
     lines += [f"| `{function}` | {', '.join(map(told, them))} |" for function, them in of.items()]
     lacking = sorted({*public(crate)} - {*of})
     said = f"Named by none: {', '.join(f'`{it}`' for it in lacking)}."
@@ -96,19 +100,25 @@ def without_line(edits, crates):
             yield f"{place}: the source of that module has no function {edit.function}"
 
 
+def left_out(edits, crate):
+    """The public functions whose code has edits of which the gate tries none, a text each."""
+    of = by_function([it for it in edits if not it.is_alone()])
+    return [f"{crate.name}: the gate tries no edit of {it}" for it in public(crate) if it in of and not any(edit.is_of_gate for edit in of[it])]
+
+
 def main():
     is_write = sys.argv[1:] == ["--write"]
     if sys.argv[1:] and not is_write:
         sys.exit(__doc__.strip())
     edits = [edit for folder in sorted(ROOT.glob(f"crates/*/{FOLDER}")) for edit in edits_of(folder.parent)]
     crates = {**libraries(ROOT), STATIC: Crate(ROOT / "crates" / STATIC, dependencies(ROOT)[STATIC])}
-    lost = [*without_line(edits, crates)]
+    of = {name: [it for it in edits if home(it)[0] == name] for name in crates}
+    lost = [*without_line(edits, crates), *(text for name, crate in crates.items() for text in left_out(of[name], crate))]
     if lost:
         sys.exit("\n".join(lost))
     lines = HEAD.splitlines()
     for name, crate in crates.items():
-        of = [it for it in edits if home(it)[0] == name]
-        lines += section(crate, of) if of else []
+        lines += section(crate, of[name]) if of[name] else []
     before = PAGE.read_text(encoding="utf8").splitlines() if PAGE.exists() else []
     if is_write:
         PAGE.write_text("\n".join(lines) + "\n", encoding="utf8")
