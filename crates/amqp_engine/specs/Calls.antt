@@ -28,8 +28,8 @@ use Rattle.amqp_engine.specs.declared.engine.step_error.StepError.TheVariants as
 abbrev pub Calls : Type 0 → Type 1
 Calls R = SessionState → List (session.SessionCall R) → Option StepError → Type 0
 
--- The calls and the refusal, by one value that the input does not tell, such as an answer or a question to a relay; by two;
--- by three, of which the second one is refused.
+-- The calls and the refusal, by one value that the input does not tell, such as an answer or a question to a relay; by two, and by three:
+-- of these the second is the answer that says whether the input is refused.
 abbrev pub by_one : {R A : Type 0} → (A → List (session.SessionCall R)) → (A → Option StepError) → Calls R
 by_one {R} {A} asks refused s calls refusal = (a : A) × (calls ≡ asks a) × (refusal ≡ refused a)
 

@@ -69,7 +69,6 @@ pub use step_error::StepError;
 ///
 /// `push` is the one of `amqp_transport`. The engine itself is made by
 /// `Engine::keyed(alloc, KeyHash::Keyed(RandomState::new(&rt)?), ConnectionState::HeaderExchange, open)`, where `alloc` is `rt.alloc()`.
-#[derive(Drop)]
 pub struct Engine<R> {
     alloc: Global,
     hash: KeyHash,
@@ -84,6 +83,31 @@ pub struct Engine<R> {
     heads: HeaderPool,
     waiting: OutputQueue,
     kept: HandleState,
+}
+
+// prover
+impl<R: Drop> Drop for Engine<R> {
+    fn drop(self) {
+        let Engine {
+            alloc: _,
+            hash: _,
+            connection,
+            sessions,
+            hints: _,
+            forgotten,
+            decoder: _,
+            encoder: _,
+            heads,
+            waiting,
+            kept,
+        } = self;
+        drop(connection);
+        drop(sessions);
+        drop(forgotten);
+        drop(heads);
+        drop(waiting);
+        drop(kept);
+    }
 }
 
 impl<R> Model for Engine<R> {
