@@ -13,10 +13,10 @@ from pathlib import Path
 
 sys.path.insert(0, str(Path(__file__).resolve().parents[1]))
 
-from gen import session_dispositions, session_flows, session_links, session_model, session_pairs, session_states, session_transfers, session_windows
+from gen import session_dispositions, session_flows, session_links, session_model, session_pairs, session_states, session_tests, session_transfers, session_windows
 from gen.row import SessionRows
 
-PARTS = [session_states, session_windows, session_transfers, session_flows, session_links, session_dispositions]
+PARTS = [session_states, session_windows, session_transfers, session_flows, session_links, session_dispositions, session_tests]
 
 CRATE = Path(__file__).resolve().parents[2] / "crates" / "rows_session"
 
@@ -26,7 +26,8 @@ def main():
     for part in PARTS:
         part.write(rows)
     rows.note()
-    # the rows of the model are for no reader
+    # a thousand deliveries, and the rows of the model, are for no reader
+    session_tests.write_long(rows)
     session_model.write(rows)
     session_pairs.write(rows)
     rows.write(CRATE)

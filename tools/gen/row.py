@@ -42,7 +42,7 @@ PERFORMATIVES = {"recv": 3, "send": 3, "first": 3, "later": 3} | dict.fromkeys([
 def noted(line):
     """The line, and after it what its frame or performative says."""
     words = line.split(" ")
-    if words[0] == "times":
+    if words[0] in ("times", "retry"):
         words = words[2:]
     is_frame = words[0] == "recv" and len(words) == 2
     if not words[-1] or not is_frame and PERFORMATIVES.get(words[0]) != len(words):

@@ -20,9 +20,9 @@ def handle(number):
     return f"handle {number}"
 
 
-def took(rows, text, answer):
-    """What came from the peer, and its answer."""
-    rows.ask("recv 7 " + text, answer)
+def took(rows, text, *answers):
+    """What came from the peer, and the lines that answer it."""
+    rows.ask("recv 7 " + text, *answers)
 
 
 def says(rows, line, text):

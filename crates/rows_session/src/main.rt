@@ -22,6 +22,7 @@
 //! | `stop REASON` | `set_session_stop_reason` |
 //! | `show`, `reasons` | the calls that read |
 //! | `times N LINE` | the call of that line N times; an answer is printed where it is another than the one before |
+//! | `retry WINDOW LINE` | the call of that line; where memory is refused to it, it has left the session as it was, with this window of the peer's, and is made once more |
 //!
 //! What stands in a line after ` ;` is a note for readers: what its hexadecimal says.
 //!

@@ -2,6 +2,7 @@
 
 use crate::{answer, call, disposition, link, made, reading};
 use amqp_session::Session;
+use amqp_types::SessionState;
 use std::alloc::Global;
 use std::mem;
 use test_support::{RowRelay, reasons, words};
@@ -16,6 +17,7 @@ pub fn answer(
         ("", _) => Ok(String::new(alloc)),
         ("#", _) => answer::line(alloc, line),
         ("times", rest) => times(alloc, session, words::without_note(rest)),
+        ("retry", rest) => retry(alloc, session, words::without_note(rest)),
         _ => once(alloc, session, words::without_note(line)),
     }
 }
@@ -33,6 +35,34 @@ fn times(alloc: Global, session: &mut Session<RowRelay>, text: &str) -> anyhow::
         last = next;
     }
     Ok(all)
+}
+
+/// The answer to a line; where memory is refused to its call, the answer to the same line once more. A refused call leaves what it is
+/// to leave, and the window of the peer's that the first word says.
+fn retry(alloc: Global, session: &mut Session<RowRelay>, text: &str) -> anyhow::Result<String> {
+    let (window, line) = words::word(text);
+    let window = words::number(window)?;
+    let before = kept(session);
+    let first = once(alloc, session, line)?;
+    if first.as_str() != "err OutOfMemory\n" {
+        return Ok(first);
+    }
+    if kept(session) != before || session.remote_incoming_window() != window {
+        anyhow::bail!("a refused call has changed the session");
+    }
+    once(alloc, session, line)
+}
+
+/// What a refused call leaves: the state, the numbers, this side's window at the peer, and how many wait and are open.
+fn kept(session: &Session<RowRelay>) -> (SessionState, [u64; 5]) {
+    let numbers = [
+        session.next_outgoing_id() as u64,
+        session.next_incoming_id() as u64,
+        session.remote_outgoing_window() as u64,
+        session.held_back() as u64,
+        session.open_deliveries() as u64,
+    ];
+    (*session.local_state(), numbers)
 }
 
 /// What one call answers.

@@ -1,18 +1,17 @@
 //! Each conversion of numbers, flows, reasons and errors.
 
-use crate::made::flow;
 use crate::same::{holds, same};
 use amqp_session::{
     BeginError, ConnectionStopReason, Error, IncomingChannel, InputHandle, LinkFlow,
     LinkRelayError, OutgoingChannel, OutputHandle, SessionFrame, SessionFrameBody,
     SessionInnerError, SessionStateError, SessionStopReason,
 };
-use amqp_types::Handle;
+use amqp_types::{Flow, Handle};
 use bytes::Bytes;
 use std::alloc::{AllocError, Global};
 use std::fmt::Display;
 use std::test::Fail;
-use test_support::are_same;
+use test_support::{are_same, transfer_of};
 
 #[test]
 fn numbers_keep_their_value(rt: HostRuntime) {
@@ -25,43 +24,45 @@ fn numbers_keep_their_value(rt: HostRuntime) {
     holds(&rt, InputHandle(1) < InputHandle(2));
 }
 
-#[test]
-fn a_link_flow_needs_a_handle(rt: HostRuntime) -> Result<(), Fail> {
-    holds(&rt, LinkFlow::try_from(flow(None, 1)).is_err());
-    let mut of_link = flow(None, 1);
-    of_link.handle = Some(Handle(2));
-    of_link.link_credit = Some(9);
-    let Ok(link_flow) = LinkFlow::try_from(of_link) else {
-        return Err(Fail::from("a link flow"));
-    };
-    holds(&rt, link_flow.handle == Handle(2));
-    same(&rt, link_flow.link_credit, Some(9));
-    Ok(())
+/// A flow with a credit of 9, for the link of a handle or for none.
+fn flow(handle: Option<Handle>) -> Flow {
+    Flow {
+        handle,
+        link_credit: Some(9),
+        ..Flow::new(None, 1, 0, 8)
+    }
+}
+
+/// Handle and credit of the flow as one of a link, if it is one.
+fn as_link_flow(flow: Flow) -> Option<(Handle, Option<u32>)> {
+    match LinkFlow::try_from(flow) {
+        Ok(flow) => Some((flow.handle, flow.link_credit)),
+        Err(()) => None,
+    }
 }
 
 #[test]
-fn errors_go_on_under_their_names(rt: HostRuntime) {
-    let told = SessionInnerError::from(SessionStateError::RemoteEnded);
-    holds(&rt, are_same(told, SessionInnerError::RemoteEnded));
-    let told = SessionInnerError::from(LinkRelayError::TransferFrameToSender);
+fn a_link_flow_needs_a_handle(rt: HostRuntime) {
+    holds(&rt, as_link_flow(flow(None)).is_none());
     holds(
         &rt,
-        are_same(told, SessionInnerError::TransferFrameToSender),
+        as_link_flow(flow(Some(Handle(2)))) == Some((Handle(2), Some(9))),
     );
 }
 
 #[test]
-fn errors_are_told_as_those_of_a_session(rt: HostRuntime) {
+fn refusals_and_reasons_go_on_under_their_names(rt: HostRuntime) {
+    let told = SessionInnerError::from(SessionStateError::RemoteEnded);
+    holds(&rt, are_same(told, SessionInnerError::RemoteEnded));
+    let told = SessionInnerError::from(LinkRelayError::TransferFrameToSender);
+    let want = SessionInnerError::TransferFrameToSender;
+    holds(&rt, are_same(told, want));
     let told = Error::from(LinkRelayError::UnattachedHandle);
     holds(&rt, are_same(told, Error::UnattachedHandle));
     let told = Error::from(SessionInnerError::HandleInUse);
     holds(&rt, are_same(told, Error::HandleInUse));
     let told = Error::from(SessionStateError::OutOfMemory);
     holds(&rt, are_same(told, Error::OutOfMemory));
-}
-
-#[test]
-fn a_begin_is_refused_and_a_session_stops_under_the_same_names(rt: HostRuntime) {
     let told = BeginError::from(SessionStateError::IllegalState);
     holds(&rt, are_same(told, BeginError::IllegalState));
     let stopped = SessionStopReason::from(ConnectionStopReason::Closed);
@@ -86,11 +87,13 @@ fn errors_are_printed(rt: HostRuntime) -> Result<(), Fail> {
 }
 
 fn carrier() -> SessionFrame {
+    let performative = transfer_of(0, None);
+    let payload = Bytes::from_static(b"12345");
     SessionFrame::new(
         1,
         SessionFrameBody::Transfer {
-            performative: crate::made::transfer(None),
-            payload: Bytes::from_static(b"12345"),
+            performative,
+            payload,
         },
     )
 }

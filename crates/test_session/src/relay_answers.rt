@@ -1,12 +1,11 @@
 //! Both kinds of relay answer through the trait alone.
 
-use crate::made::transfer;
-use crate::relays::{Choosing, Quiet};
-use crate::same::holds;
+use crate::relays::{Asked, Choosing, Quiet};
+use crate::same::{holds, same};
 use amqp_session::{LinkRelay, LinkRelayError, OutputHandle};
 use amqp_types::{DeliveryTag, Role};
 use bytes::Bytes;
-use test_support::link_flow_of;
+use test_support::{link_flow_of, transfer_of};
 
 /// The credit of a relay's flow in answer to one, if any.
 fn credit_of_answer<R: LinkRelay>(relay: &mut R) -> Option<u32> {
@@ -18,7 +17,7 @@ fn credit_of_answer<R: LinkRelay>(relay: &mut R) -> Option<u32> {
 
 /// Whether a relay takes a transfer, and names no delivery.
 fn takes_transfer<R: LinkRelay>(relay: &mut R) -> Result<bool, LinkRelayError> {
-    let named = relay.on_incoming_transfer(transfer(Some(b"t")), Bytes::from_static(b"m"))?;
+    let named = relay.on_incoming_transfer(transfer_of(0, Some(b"t")), Bytes::from_static(b"m"))?;
     Ok(named.is_none())
 }
 
@@ -30,10 +29,12 @@ fn wants_echo<R: LinkRelay>(relay: &mut R) -> bool {
 
 #[test]
 fn a_quiet_relay_takes_what_comes(rt: HostRuntime) {
-    let mut quiet = Quiet;
+    let asked = Asked::new();
+    let mut quiet = Quiet { asked: &asked };
     holds(&rt, credit_of_answer(&mut quiet).is_none());
     holds(&rt, takes_transfer(&mut quiet) == Ok(true));
     holds(&rt, wants_echo(&mut quiet));
+    same(&rt, asked.counts(), [0, 0, 3]);
 }
 
 #[test]

@@ -12,3 +12,10 @@ pub fn same<T: PartialEq + Debug + Copy>(rt: &impl Abort, found: T, wanted: T) {
 pub fn holds(rt: &impl Abort, is_so: bool) {
     assert!(rt; is_so);
 }
+
+/// Whether a call was done. What it answered ends here.
+pub fn is_done<T: Drop, E: Drop>(answer: Result<T, E>) -> bool {
+    let is_done = answer.is_ok();
+    drop(answer);
+    is_done
+}

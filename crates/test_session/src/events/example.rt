@@ -1,6 +1,7 @@
 //! The example of the library's page, and what it gives.
 
 use super::frames::{link_flow, transfer};
+use crate::same::holds;
 use amqp_events::{EventBody, EventRelay, Policy, Room, SharedQueue};
 use amqp_session::{LinkRelay, OutputHandle};
 use amqp_types::{ReceiverSettleMode, Role};
@@ -66,5 +67,5 @@ fn told(alloc: Global) -> Result<[usize; 4], AllocError> {
 
 #[test]
 fn the_example_gives_the_payloads_in_order(rt: HostRuntime) {
-    assert!(rt; told(rt.alloc()) == Ok([2, 120, 121, 0]));
+    holds(&rt, told(rt.alloc()) == Ok([2, 120, 121, 0]));
 }

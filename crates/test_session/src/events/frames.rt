@@ -25,17 +25,13 @@ pub fn link_flow(handle: u32, credit: u32) -> LinkFlow {
 /// The frame of such a flow.
 pub fn flow(handle: u32, credit: u32) -> Flow {
     Flow {
-        next_incoming_id: Some(0),
-        incoming_window: 100,
-        next_outgoing_id: 0,
-        outgoing_window: 100,
         handle: Some(Handle(handle)),
         delivery_count: Some(2),
         link_credit: Some(credit),
         available: Some(7),
         drain: true,
         echo: true,
-        properties: None,
+        ..Flow::new(Some(0), 100, 0, 100)
     }
 }
 

@@ -1,14 +1,22 @@
 //! The policy: what is recorded, echoed and answered.
 
 use super::frames::{link_flow, transfer};
+use crate::same::holds;
 use amqp_events::{Echoed, Policy, Recorded};
 use amqp_session::OutputHandle;
-use amqp_types::{Raw, ReceiverSettleMode, Role};
-use bytes::Bytes;
-use test_support::detach_of;
+use amqp_types::{ReceiverSettleMode, Role};
+use test_support::{detach_of, raw_of};
 
 fn receiver() -> Policy {
     Policy::new(Role::Receiver, ReceiverSettleMode::First)
+}
+
+/// One that records unsettled deliveries of either mode.
+fn recorder() -> Policy {
+    Policy {
+        recorded: Recorded::OfEitherMode,
+        ..receiver()
+    }
 }
 
 /// Whether a transfer of this mode, settled and aborted so, is recorded.
@@ -27,27 +35,6 @@ fn records(
     is_recorded
 }
 
-#[test]
-fn deliveries_of_mode_second_are_recorded(rt: HostRuntime) {
-    let policy = receiver();
-    let second = Some(ReceiverSettleMode::Second);
-    assert!(rt; !records(policy, None, None, false));
-    assert!(rt; records(policy, second, None, false));
-    assert!(rt; records(policy, second, Some(false), false));
-    assert!(rt; !records(policy, second, Some(true), false));
-    assert!(rt; !records(policy, second, None, true));
-    let all = Policy {
-        recorded: Recorded::OfEitherMode,
-        ..policy
-    };
-    assert!(rt; records(all, None, None, false));
-    let none = Policy {
-        recorded: Recorded::Never,
-        ..policy
-    };
-    assert!(rt; !records(none, second, None, false));
-}
-
 /// The number and the first byte of the tag of the delivery that a transfer opens.
 fn opened(policy: Policy) -> Option<(u32, u8)> {
     let coming = transfer(5, 3);
@@ -60,46 +47,60 @@ fn opened(policy: Policy) -> Option<(u32, u8)> {
 }
 
 #[test]
-fn a_recorded_delivery_is_named(rt: HostRuntime) {
-    let all = Policy {
-        recorded: Recorded::OfEitherMode,
-        ..receiver()
+fn deliveries_of_mode_second_are_recorded_and_named(rt: HostRuntime) {
+    let policy = receiver();
+    let none = Policy {
+        recorded: Recorded::Never,
+        ..policy
     };
-    assert!(rt; opened(all) == Some((3, 116)));
-    assert!(rt; opened(receiver()).is_none());
+    let second = Some(ReceiverSettleMode::Second);
+    let found = [
+        records(policy, None, None, false),
+        records(policy, second, None, false),
+        records(policy, second, Some(false), false),
+        records(policy, second, Some(true), false),
+        records(policy, second, None, true),
+        records(recorder(), None, None, false),
+        records(none, second, None, false),
+    ];
+    holds(&rt, found == [false, true, true, false, false, true, false]);
+    holds(&rt, opened(recorder()) == Some((3, 116)));
+    holds(&rt, opened(policy).is_none());
 }
 
-/// Whether an unsettled disposition with this state is echoed.
-fn echoes(policy: Policy, role: Role, state: &'static [u8]) -> bool {
-    match Raw::read(Bytes::from_static(state)) {
-        Ok((state, rest)) => {
-            drop(rest);
-            let answer = policy.echoes(role, false, Some(&state));
-            drop(state);
-            answer
-        }
-        Err(_) => false,
-    }
+/// Whether a disposition with the state of these bytes, or with none, is echoed.
+fn echoes(policy: Policy, role: Role, settled: bool, state: &'static [u8]) -> bool {
+    let state = raw_of(state);
+    let answer = policy.echoes(role, settled, state.as_ref());
+    drop(state);
+    answer
 }
+
+const ACCEPTED: &[u8] = b"\x00\x53\x24\x45";
+
+const RECEIVED: &[u8] = b"\x00\x53\x23\x45";
 
 #[test]
 fn terminal_states_are_echoed(rt: HostRuntime) {
     let policy = receiver();
-    assert!(rt; echoes(policy, Role::Receiver, b"\x00\x53\x24\x45"));
-    assert!(rt; !echoes(policy, Role::Receiver, b"\x00\x53\x23\x45"));
-    assert!(rt; !echoes(policy, Role::Sender, b"\x00\x53\x24\x45"));
     let all = Policy {
         echoed: Echoed::Unsettled,
         ..policy
     };
-    assert!(rt; echoes(all, Role::Receiver, b"\x00\x53\x23\x45"));
-    assert!(rt; all.echoes(Role::Receiver, false, None));
-    assert!(rt; !all.echoes(Role::Receiver, true, None));
     let none = Policy {
         echoed: Echoed::Never,
         ..policy
     };
-    assert!(rt; !none.echoes(Role::Receiver, false, None));
+    let found = [
+        echoes(policy, Role::Receiver, false, ACCEPTED),
+        echoes(policy, Role::Receiver, false, RECEIVED),
+        echoes(policy, Role::Sender, false, ACCEPTED),
+        echoes(all, Role::Receiver, false, RECEIVED),
+        echoes(all, Role::Receiver, false, b""),
+        echoes(all, Role::Receiver, true, b""),
+        echoes(none, Role::Receiver, false, b""),
+    ];
+    holds(&rt, found == [true, false, false, true, true, false, false]);
 }
 
 /// Handle, credit and echo of the flow that answers one.
@@ -127,14 +128,17 @@ fn detach_answer(policy: Policy, remote_initiated: bool) -> Option<(u32, bool)> 
 #[test]
 fn flows_and_detaches_are_answered_where_it_says_so(rt: HostRuntime) {
     let silent = receiver();
-    assert!(rt; flow_answer(silent).is_none());
-    assert!(rt; detach_answer(silent, true).is_none());
     let talks = Policy {
         answers_flows: true,
         answers_detaches: true,
         ..silent
     };
-    assert!(rt; flow_answer(talks) == Some((1, Some(20), false)));
-    assert!(rt; detach_answer(talks, true) == Some((1, true)));
-    assert!(rt; detach_answer(talks, false).is_none());
+    holds(&rt, flow_answer(silent).is_none());
+    holds(&rt, flow_answer(talks) == Some((1, Some(20), false)));
+    let detaches = [
+        detach_answer(silent, true),
+        detach_answer(talks, true),
+        detach_answer(talks, false),
+    ];
+    holds(&rt, detaches == [None, Some((1, true)), None]);
 }

@@ -2,6 +2,7 @@
 
 use super::frames::{attach, flow, settled, transfer};
 use super::seen::{Seen, show};
+use crate::same::{holds, is_done};
 use amqp_events::{EventRelay, LinkNames, Policy, Room, SharedQueue};
 use amqp_session::{
     InputHandle, OutgoingChannel, OutputHandle, Session, SessionInnerError, SessionSettings,
@@ -14,14 +15,12 @@ use test_support::detach_of;
 type Shared = Session<EventRelay<SharedQueue>>;
 
 /// Room for two links, two flows, three transfers and one disposition.
-fn room() -> Room {
-    Room {
-        links: 4,
-        flows: 2,
-        transfers: 3,
-        dispositions: 1,
-    }
-}
+const ROOM: Room = Room {
+    links: 4,
+    flows: 2,
+    transfers: 3,
+    dispositions: 1,
+};
 
 fn link(input: u32, output: Option<u32>) -> LinkNames {
     LinkNames {
@@ -31,8 +30,8 @@ fn link(input: u32, output: Option<u32>) -> LinkNames {
     }
 }
 
-/// A link of this side's receives under this name; the peer attaches it.
-fn receive_on(
+/// Whether a link of this name, on which this side receives, is allotted, and the peer attaches it.
+fn is_attached(
     alloc: Global,
     session: &mut Shared,
     queue: &SharedQueue,
@@ -40,26 +39,11 @@ fn receive_on(
     input: u32,
 ) -> Result<bool, AllocError> {
     let policy = Policy::new(Role::Receiver, ReceiverSettleMode::Second);
+    let attach = attach(alloc, name, input)?;
+    let name = String::from_str(alloc, name)?;
     let relay = EventRelay::new(queue.share()?, 9, policy);
-    let allotted = session.allocate_link(String::from_str(alloc, name)?, Some(relay));
-    let taken = session.on_incoming_attach(attach(alloc, name, input)?);
-    let is_taken = taken.is_ok();
-    drop(taken);
-    Ok(allotted.is_ok() && is_taken)
-}
-
-/// The same, as a plain answer: a session ends on each way out of what may fail.
-fn is_attached(
-    alloc: Global,
-    session: &mut Shared,
-    queue: &SharedQueue,
-    name: &str,
-    input: u32,
-) -> bool {
-    match receive_on(alloc, session, queue, name, input) {
-        Ok(is_taken) => is_taken,
-        Err(_) => false,
-    }
+    let is_allotted = is_done(session.allocate_link(name, Some(relay)));
+    Ok(is_done(session.on_incoming_attach(attach)) && is_allotted)
 }
 
 /// A mapped session whose links `a` and `b` are attached under 5 and 6.
@@ -73,7 +57,7 @@ fn two_links(alloc: Global, queue: &SharedQueue) -> Option<Shared> {
     );
     let is_first = is_attached(alloc, &mut session, queue, "a", 5);
     let is_second = is_attached(alloc, &mut session, queue, "b", 6);
-    if is_first && is_second {
+    if is_first == Ok(true) && is_second == Ok(true) {
         return Some(session);
     }
     drop(session);
@@ -82,43 +66,24 @@ fn two_links(alloc: Global, queue: &SharedQueue) -> Option<Shared> {
 
 /// Whether a transfer was taken.
 fn send(session: &mut Shared, input: u32, number: u32, payload: &'static [u8]) -> bool {
-    let answer = session.on_incoming_transfer(transfer(input, number), Bytes::from_static(payload));
-    let is_taken = answer.is_ok();
-    drop(answer);
-    is_taken
+    is_done(session.on_incoming_transfer(transfer(input, number), Bytes::from_static(payload)))
 }
 
 /// Whether a transfer was refused memory.
 fn is_refused(session: &mut Shared, input: u32, number: u32) -> bool {
     let answer = session.on_incoming_transfer(transfer(input, number), Bytes::from_static(b"w"));
-    let is_refused = match &answer {
-        Err(SessionInnerError::OutOfMemory) => true,
-        _answer => false,
-    };
+    let is_refused = matches!(&answer, Err(SessionInnerError::OutOfMemory));
     drop(answer);
     is_refused
 }
 
-fn grant(session: &mut Shared, input: u32, credit: u32) -> bool {
-    let answer = session.on_incoming_flow(flow(input, credit));
-    let is_taken = answer.is_ok();
-    drop(answer);
-    is_taken
-}
-
 fn settle(session: &mut Shared, number: u32) -> bool {
-    let answer = session.on_incoming_disposition(settled(number));
-    let is_taken = answer.is_ok();
-    drop(answer);
-    is_taken
+    is_done(session.on_incoming_disposition(settled(number)))
 }
 
 fn leave(session: &mut Shared, input: u32) -> bool {
     let answer = session.on_incoming_detach(detach_of(input));
-    let is_silent = match &answer {
-        Ok(None) => true,
-        _ => false,
-    };
+    let is_silent = matches!(&answer, Ok(None));
     drop(answer);
     is_silent
 }
@@ -133,84 +98,52 @@ fn gives(queue: &SharedQueue, events: &[Seen]) -> bool {
     is_so
 }
 
-/// What comes on two links in turn: whether it is taken, and comes out in order.
-fn in_turn(alloc: Global) -> Result<[bool; 2], AllocError> {
-    let queue = SharedQueue::with_room(alloc, room())?;
-    let Some(mut session) = two_links(alloc, &queue) else {
-        drop(queue);
-        return Ok([false; 2]);
-    };
-    let taken = [
-        send(&mut session, 6, 0, b"x"),
-        send(&mut session, 5, 1, b"y"),
-        grant(&mut session, 5, 8),
-        send(&mut session, 5, 2, b"z"),
-        settle(&mut session, 1),
-        leave(&mut session, 6),
-    ];
-    drop(session);
-    let events = [
-        Seen::Attached(link(5, None), 97),
-        Seen::Attached(link(6, None), 98),
-        Seen::Transfer(link(6, None), Some(0), 120),
-        Seen::Transfer(link(5, None), Some(1), 121),
-        Seen::Flow(link(5, Some(0)), Some(8)),
-        Seen::Transfer(link(5, Some(0)), Some(2), 122),
-        Seen::Disposition(link(5, Some(0)), true, 116),
-        Seen::Detached(link(6, Some(1)), true),
-        Seen::Nothing,
-    ];
-    let is_in_order = gives(&queue, &events);
-    drop(queue);
-    Ok([taken == [true; 6], is_in_order])
-}
-
-#[test]
-fn two_links_come_out_in_order(rt: HostRuntime) {
-    assert!(rt; in_turn(rt.alloc()) == Ok([true; 2]));
-}
-
-/// More transfers and dispositions than there is room for: what is refused, what is missed, and what is taken once there is room again.
-fn too_many(alloc: Global) -> Result<[bool; 4], AllocError> {
-    let queue = SharedQueue::with_room(alloc, room())?;
+/// What comes on two links in turn, with more transfers and dispositions than there is room for: what is taken and comes out in order,
+/// what is refused and what is missed, and what is taken once there is room again.
+fn in_turn(alloc: Global) -> Result<[bool; 4], AllocError> {
+    let queue = SharedQueue::with_room(alloc, ROOM)?;
     let Some(mut session) = two_links(alloc, &queue) else {
         drop(queue);
         return Ok([false; 4]);
     };
     let taken = [
-        send(&mut session, 5, 0, b"x"),
-        send(&mut session, 6, 1, b"y"),
+        send(&mut session, 6, 0, b"x"),
+        send(&mut session, 5, 1, b"y"),
+        is_done(session.on_incoming_flow(flow(5, 8))),
         send(&mut session, 5, 2, b"z"),
+        settle(&mut session, 1),
     ];
     let refused = is_refused(&mut session, 6, 3);
-    let settled = [settle(&mut session, 0), settle(&mut session, 1)];
-    let counts = [queue.len() == 6, queue.missed() == 1];
+    let is_heard = settle(&mut session, 0);
+    let counts = [queue.len() == 7, queue.missed() == 1];
     let first = [
         Seen::Attached(link(5, None), 97),
         Seen::Attached(link(6, None), 98),
-        Seen::Transfer(link(5, None), Some(0), 120),
+        Seen::Transfer(link(6, None), Some(0), 120),
     ];
     let is_first = gives(&queue, &first);
-    let late = send(&mut session, 6, 4, b"v");
+    let late = [send(&mut session, 6, 4, b"v"), leave(&mut session, 6)];
     drop(session);
     let rest = [
-        Seen::Transfer(link(6, None), Some(1), 121),
-        Seen::Transfer(link(5, None), Some(2), 122),
-        Seen::Disposition(link(5, None), true, 116),
+        Seen::Transfer(link(5, None), Some(1), 121),
+        Seen::Flow(link(5, Some(0)), Some(8)),
+        Seen::Transfer(link(5, Some(0)), Some(2), 122),
+        Seen::Disposition(link(5, Some(0)), true, 116),
         Seen::Transfer(link(6, None), Some(4), 118),
+        Seen::Detached(link(6, Some(1)), true),
         Seen::Nothing,
     ];
     let is_rest = gives(&queue, &rest);
     drop(queue);
     Ok([
-        taken == [true; 3] && settled == [true; 2],
+        taken == [true; 5] && is_heard,
         refused && counts == [true; 2],
-        is_first && late,
+        is_first && late == [true; 2],
         is_rest,
     ])
 }
 
 #[test]
-fn what_a_shared_queue_has_no_room_for_is_refused_or_missed(rt: HostRuntime) {
-    assert!(rt; too_many(rt.alloc()) == Ok([true; 4]));
+fn two_links_come_out_in_order_and_what_finds_no_room_is_refused_or_missed(rt: HostRuntime) {
+    holds(&rt, in_turn(rt.alloc()) == Ok([true; 4]));
 }
