@@ -49,10 +49,11 @@ def parts(b, at, code):
     if code == 0x45:
         return [], None
     kind, width = COMPOUND[code]
-    _, at = number(b, at, width)
+    size, at = number(b, at, width)
+    last = at + size
     count, at = number(b, at, width)
     item, found = None, []
-    if kind == "array":
+    if kind == "array" and at < last:
         item, at = b[at], at + 1
     for _ in range(count):
         kind, said, end = value(b, at) if item is None else data(b, at, item)

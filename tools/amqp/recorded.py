@@ -57,7 +57,7 @@ def spell(name, kind, need, said, recorded):
         return recorded
     assert kind != "error", "an error has a spelling of its own"
     return {"string": string, "handle": uint, "role": boolean, "flag": boolean, "sender": ubyte, "receiver": ubyte, "tag": tag,
-            "symbols": symbols}[kind](said)
+            "symbols": symbols, "symbol": lambda it: symbol(it["sym"])}[kind](said)
 
 
 def symbols(said):

@@ -39,6 +39,11 @@ def cut(header, transfer, payload, limit):
     return pieces + [(last, part)]
 
 
+def show(head, part):
+    """The line of a piece: its head, how many bytes of payload follow, and how many bytes it has."""
+    return f"{head.hex()} {len(part)} {len(head + part)}"
+
+
 # ---- the recorded messages
 
 
@@ -75,6 +80,6 @@ def write(given, wanted):
         digest = hashlib.sha256(payload).hexdigest()
         given.append(f"{limit} {' '.join(frames)}")
         wanted.append(f"{len(pieces)} pieces, {len(payload)} bytes, whole, {digest}")
-        wanted += [f"{head.hex()} {len(part)}" for head, part in pieces]
+        wanted += [show(head, part) for head, part in pieces]
         count += 1
     return count

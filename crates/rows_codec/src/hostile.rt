@@ -2,6 +2,7 @@
 
 use crate::frame::refused;
 use amqp_frames::{Error, Frame, FrameBody, FrameDecoder};
+use amqp_types::{Performative, ReadError};
 use bytes::Bytes;
 use std::alloc::Global;
 
@@ -32,12 +33,37 @@ fn letter_of(read: &Result<(Frame, Bytes), Error>) -> anyhow::Result<&'static st
 }
 
 /// The letter of what the decoder answers.
-fn letter(alloc: Global, bytes: &[u8]) -> anyhow::Result<&'static str> {
+fn decoded(alloc: Global, bytes: &[u8]) -> anyhow::Result<&'static str> {
     let bytes = Bytes::copy_from_slice(alloc, bytes)?;
     let read = FrameDecoder::new().decode(alloc, bytes);
     let letter = letter_of(&read);
     drop(read);
     letter
+}
+
+/// Whether a performative is read from the bytes.
+fn is_performative(alloc: Global, bytes: &[u8]) -> anyhow::Result<bool> {
+    let bytes = Bytes::copy_from_slice(alloc, bytes)?;
+    let read = Performative::read(alloc, bytes);
+    let is_one = match &read {
+        Ok(_) => Ok(true),
+        Err(ReadError::Malformed) => Ok(false),
+        Err(error) => Err((*error).into()),
+    };
+    drop(read);
+    is_one
+}
+
+/// The letter of what the decoder answers, or `?` where a performative is read after the header of what is no frame, or none in a frame.
+fn letter(alloc: Global, bytes: &[u8]) -> anyhow::Result<&'static str> {
+    let letter = decoded(alloc, bytes)?;
+    let is_one = is_performative(alloc, bytes.get(4..).unwrap_or(&[]))?;
+    let is_none = letter == "d" || letter == "E";
+    Ok(if letter == "n" || is_one != is_none {
+        letter
+    } else {
+        "?"
+    })
 }
 
 /// The letters of the frame with a byte that is 00, ff and its complement.

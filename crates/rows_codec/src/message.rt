@@ -86,12 +86,12 @@ fn first(alloc: Global, frames: &str) -> anyhow::Result<(u16, Transfer)> {
     Ok((channel, transfer))
 }
 
-/// The one frame that the frames in hexadecimal are the pieces of: the first transfer, after which no more follows, and the
-/// payload of all.
+/// The one frame that the frames in hexadecimal are the pieces of: the first transfer, after which no more follows where there are several,
+/// and the payload of all.
 pub fn joined(alloc: Global, frames: &str) -> anyhow::Result<Frame> {
     let payload = payload(alloc, frames)?;
     let (channel, mut performative) = first(alloc, frames)?;
-    performative.more = false;
+    performative.more = performative.more && !frames.contains(' ');
     let body = FrameBody::Transfer {
         performative,
         payload,

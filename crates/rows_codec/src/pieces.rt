@@ -1,17 +1,19 @@
 //! The pieces of a message, as they are shown and as they are read.
 
+use crate::frame::refused;
 use crate::message::{append, read_part};
-use amqp_frames::{Frame, FrameBody, FrameEncoder, Piece};
+use amqp_frames::{Error, Frame, FrameBody, FrameEncoder, Piece};
 use bytes::{Bytes, BytesMut};
 use sha2::{Digest, Sha256};
 use std::alloc::Global;
 
-/// Each piece's head in hexadecimal, and the length of its part of the payload.
+/// Each piece's head in hexadecimal, the length of its part of the payload, and its own.
 fn show(alloc: Global, text: &mut String, pieces: &[Piece]) -> anyhow::Result<()> {
     for piece in pieces {
         let head = hex::encode(alloc, piece.head())?;
-        let len = piece.payload().len();
-        let line = format!(in alloc; "\n{head} {len}")?;
+        let part = piece.payload().len();
+        let len = piece.len();
+        let line = format!(in alloc; "\n{head} {part} {len}")?;
         text.push_str(line.as_str())?;
     }
     Ok(())
@@ -42,8 +44,12 @@ pub fn describe(alloc: Global, limit: u32, frame: &Frame) -> anyhow::Result<Stri
     if limit < 4 {
         anyhow::bail!("a limit below a header");
     }
-    let pieces = FrameEncoder::new(limit).encode(alloc, frame)?;
-    let text = describe_pieces(alloc, frame, pieces.as_slice());
+    let pieces = FrameEncoder::new(limit).encode(alloc, frame);
+    let text = match &pieces {
+        Ok(pieces) => describe_pieces(alloc, frame, pieces.as_slice()),
+        Err(Error::TooLarge) => Ok(String::from_str(alloc, "too large")?),
+        Err(error) => Err(refused(error)),
+    };
     drop(pieces);
     text
 }

@@ -2,9 +2,9 @@
 
 ghost use Rattle.std.specs.Prelude.{◌≤◌};
 
-use amqp_frames::{Error, Frame, FrameBody, FrameDecoder, FrameEncoder, Piece};
+use amqp_frames::{Error, Frame, FrameBody, FrameEncoder, Piece};
 use amqp_types::{DeliveryTag, Handle, Transfer};
-use bytes::{Bytes, BytesMut};
+use bytes::Bytes;
 use std::alloc::Global;
 use std::test::Fail;
 
@@ -68,48 +68,4 @@ pub(crate) fn payload(alloc: Global, len: u8) -> Result<Bytes, Fail> {
         bytes.push(byte)?;
     }
     Ok(Bytes::from_vec(bytes)?)
-}
-
-/// Whether the frame is one piece with this header and this body, and that reads back as the frame.
-pub(crate) fn is_said(
-    alloc: Global,
-    frame: Frame,
-    header: [u8; 4],
-    body: &[u8],
-) -> Result<bool, Fail> {
-    let answer = is_one_piece(alloc, &frame, header, body);
-    drop(frame);
-    answer
-}
-
-fn is_one_piece(alloc: Global, frame: &Frame, header: [u8; 4], body: &[u8]) -> Result<bool, Fail> {
-    let mut want = BytesMut::new(alloc);
-    want.extend_from_slice(&header)?;
-    want.extend_from_slice(body)?;
-    let pieces = FrameEncoder::new(4096).encode(alloc, frame)?;
-    for piece in &pieces {
-        if !is_piece_of(alloc, piece, want.as_slice(), frame)? {
-            return Ok(false);
-        }
-    }
-    Ok(pieces.len() == 1)
-}
-
-fn is_piece_of(alloc: Global, piece: &Piece, want: &[u8], frame: &Frame) -> Result<bool, Fail> {
-    let bytes = piece.to_bytes(alloc)?;
-    if bytes.as_slice() != want {
-        return Ok(false);
-    }
-    Ok(is_read_as(alloc, bytes, frame))
-}
-
-/// Whether the bytes are read as this frame, and nothing is after it.
-pub(crate) fn is_read_as(alloc: Global, bytes: Bytes, want: &Frame) -> bool {
-    let decoded = FrameDecoder::new().decode(alloc, bytes);
-    let answer = match &decoded {
-        Ok((frame, rest)) => *frame == *want && rest.is_empty(),
-        Err(_) => false,
-    };
-    drop(decoded);
-    answer
 }

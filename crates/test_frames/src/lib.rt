@@ -1,21 +1,17 @@
-//! Tests of AMQP 1.0 frames, with bytes from the standard's encodings and with a plain cut beside the real one.
+//! Tests of AMQP 1.0 values, performatives and frames: what needs their types. What can be said by lines stands in the rows of `rows_codec`.
 #![tactic(auto)]
 
 #[cfg(test)]
 mod given;
 #[cfg(test)]
-mod hostile;
-#[cfg(test)]
-mod links;
+mod performatives;
 #[cfg(test)]
 mod pieces;
-#[cfg(test)]
-mod plain;
 #[cfg(test)]
 mod same;
 #[cfg(test)]
 mod sending;
 #[cfg(test)]
-mod split;
+mod values;
 #[cfg(test)]
 mod whole;

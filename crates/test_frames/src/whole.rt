@@ -1,194 +1,15 @@
-//! Frames that are whole: their bytes, and what is read from bytes.
+//! Bytes that are no frame, and how frames and errors are shown.
 
-use crate::given::{delivery, is_read_as, is_said};
+use crate::given::delivery;
 use crate::same::{holds, same};
 use amqp_frames::{Error, Frame, FrameBody, FrameDecoder};
-use amqp_types::{Begin, Close, Detach, Error as Reason, Handle, Open, ReadError, Symbol};
+use amqp_types::ReadError;
 use bytes::Bytes;
 use std::alloc::{AllocError, Global};
 use std::test::Fail;
 
-fn open(alloc: Global) -> Result<Open, Fail> {
-    Ok(Open {
-        container_id: String::from_str(alloc, "a")?,
-        hostname: None,
-        max_frame_size: 262144,
-        channel_max: 255,
-        idle_time_out: None,
-        outgoing_locales: None,
-        incoming_locales: None,
-        offered_capabilities: None,
-        desired_capabilities: None,
-        properties: None,
-    })
-}
-
-fn begin() -> Begin {
-    Begin {
-        remote_channel: None,
-        next_outgoing_id: 0,
-        incoming_window: 5000,
-        outgoing_window: 5000,
-        handle_max: Handle(4294967295),
-        offered_capabilities: None,
-        desired_capabilities: None,
-        properties: None,
-    }
-}
-
-fn detach(alloc: Global) -> Result<Detach, Fail> {
-    let error = match Symbol::new(String::from_str(alloc, "amqp:not-found")?) {
-        Some(condition) => Some(Reason {
-            condition,
-            description: None,
-            info: None,
-        }),
-        None => None,
-    };
-    Ok(Detach {
-        handle: Handle(1),
-        closed: true,
-        error,
-    })
-}
-
-#[test]
-fn frames_and_their_bytes(rt: HostRuntime) -> Result<(), Fail> {
-    let alloc = rt.alloc();
-    holds(&rt, is_said(alloc, Frame::empty(), [2, 0, 0, 0], &[])?);
-    let close = FrameBody::Close(Close { error: None });
-    holds(
-        &rt,
-        is_said(
-            alloc,
-            Frame::new(0, close),
-            [2, 0, 0, 0],
-            &[0x00, 0x53, 0x18, 0x45],
-        )?,
-    );
-    let open = FrameBody::Open(open(alloc)?);
-    let text = [
-        0x00, 0x53, 0x10, 0xc0, 0x0d, 0x04, 0xa1, 0x01, 0x61, 0x40, 0x70, 0x00, 0x04, 0x00, 0x00,
-        0x60, 0x00, 0xff,
-    ];
-    holds(
-        &rt,
-        is_said(alloc, Frame::new(0, open), [2, 0, 0, 0], &text)?,
-    );
-    let begin = FrameBody::Begin(begin());
-    let text = [
-        0x00, 0x53, 0x11, 0xc0, 0x0d, 0x04, 0x40, 0x43, 0x70, 0x00, 0x00, 0x13, 0x88, 0x70, 0x00,
-        0x00, 0x13, 0x88,
-    ];
-    holds(
-        &rt,
-        is_said(alloc, Frame::new(258, begin), [2, 0, 1, 2], &text)?,
-    );
-    let detach = FrameBody::Detach(detach(alloc)?);
-    let text = [
-        0x00, 0x53, 0x16, 0xc0, 0x1a, 0x03, 0x52, 0x01, 0x41, 0x00, 0x53, 0x1d, 0xc0, 0x11, 0x01,
-        0xa3, 0x0e, 0x61, 0x6d, 0x71, 0x70, 0x3a, 0x6e, 0x6f, 0x74, 0x2d, 0x66, 0x6f, 0x75, 0x6e,
-        0x64,
-    ];
-    holds(
-        &rt,
-        is_said(alloc, Frame::new(65535, detach), [2, 0, 0xff, 0xff], &text)?,
-    );
-    Ok(())
-}
-
 fn decode(rt: &HostRuntime, bytes: &'static [u8]) -> Result<(Frame, Bytes), Error> {
     FrameDecoder::new().decode(rt.alloc(), Bytes::from_static(bytes))
-}
-
-/// Whether the bytes are read as this frame, and nothing is after it.
-fn is_read(rt: &HostRuntime, bytes: &'static [u8], want: Frame) -> bool {
-    let answer = is_read_as(rt.alloc(), Bytes::from_static(bytes), &want);
-    drop(want);
-    answer
-}
-
-#[test]
-fn other_spellings_are_read(rt: HostRuntime) -> Result<(), Fail> {
-    let open = FrameBody::Open(open(rt.alloc())?);
-    let text = &[
-        2, 0, 0, 0, 0x00, 0x53, 0x10, 0xd0, 0, 0, 0, 0x13, 0, 0, 0, 4, 0xb1, 0, 0, 0, 1, 0x61,
-        0x40, 0x70, 0, 4, 0, 0, 0x60, 0, 0xff,
-    ];
-    holds(&rt, is_read(&rt, text, Frame::new(0, open)));
-    let close = FrameBody::Close(Close { error: None });
-    let text = b"\x02\x00\x00\x00\x00\xa3\x0famqp:close:list\x45".as_slice();
-    holds(&rt, is_read(&rt, text, Frame::new(0, close)));
-    Ok(())
-}
-
-/// Whether there is a frame of this channel and this body, with these bytes after it.
-fn has(
-    read: &Result<(Frame, Bytes), Error>,
-    channel: u16,
-    body: &FrameBody,
-    after: &[u8],
-) -> [bool; 3] {
-    match read {
-        Ok((frame, rest)) => [
-            frame.channel() == channel,
-            *frame.body() == *body,
-            rest.as_slice() == after,
-        ],
-        Err(_) => [false; 3],
-    }
-}
-
-/// A Close on channel 7, with three bytes after it.
-const CLOSE: &'static [u8] = &[2, 0, 0, 7, 0x00, 0x53, 0x18, 0x45, 1, 2, 3];
-
-fn is_close_on_channel_7(rt: &HostRuntime) -> [bool; 3] {
-    let want = FrameBody::Close(Close { error: None });
-    let read = decode(rt, CLOSE);
-    let has = has(&read, 7, &want, &[1, 2, 3]);
-    drop(read);
-    drop(want);
-    has
-}
-
-fn close_body(rt: &HostRuntime) -> Result<FrameBody, Error> {
-    let (frame, _rest) = decode(rt, CLOSE)?;
-    Ok(frame.into_body())
-}
-
-fn is_close_body(rt: &HostRuntime) -> bool {
-    let body = close_body(rt);
-    let is_close = matches!(&body, Ok(FrameBody::Close(Close { error: None })));
-    drop(body);
-    is_close
-}
-
-fn is_transfer_with_a_payload(alloc: Global, bytes: Bytes) -> [bool; 3] {
-    let want = FrameBody::Transfer {
-        performative: delivery(0),
-        payload: Bytes::from_static(&[9, 8, 7]),
-    };
-    let read = FrameDecoder::new().decode(alloc, bytes);
-    let has = has(&read, 0, &want, &[]);
-    drop(read);
-    drop(want);
-    has
-}
-
-#[test]
-fn what_is_after_a_performative(rt: HostRuntime) -> Result<(), Fail> {
-    holds(&rt, is_close_on_channel_7(&rt) == [true; 3]);
-    holds(&rt, is_close_body(&rt));
-    let transfer = [
-        2u8, 0, 0, 0, 0x00, 0x53, 0x14, 0xc0, 0x0b, 0x05, 0x43, 0x43, 0xa0, 0x04, 0, 0, 0, 1, 0x43,
-        0x42, 9, 8, 7,
-    ];
-    let bytes = Bytes::copy_from_slice(rt.alloc(), &transfer)?;
-    holds(
-        &rt,
-        is_transfer_with_a_payload(rt.alloc(), bytes) == [true; 3],
-    );
-    Ok(())
 }
 
 /// Whether the bytes are refused by this error.
@@ -200,6 +21,30 @@ fn is_refused(rt: &HostRuntime, bytes: &'static [u8], want: &Error) -> bool {
     };
     drop(decoded);
     answer
+}
+
+/// Lengths, sizes and counts of 32 bits that say more than what follows. None of these asks for memory: the test passes too
+/// where the first request is refused (`rt try --test --fail-alloc 1`).
+const TOO_LONG: [&'static [u8]; 8] = [
+    b"\x02\0\0\0\0\x53\x18\xd0\xff\xff\xff\xff\0\0\0\x01\x40",
+    b"\x02\0\0\0\0\x53\x18\xd0\0\0\0\x05\xff\xff\xff\xff\x40",
+    b"\x02\0\0\0\0\x53\x10\xc0\x07\x01\xb1\xff\xff\xff\xff\x61",
+    b"\x02\0\0\0\0\x53\x11\xc0\x0f\x06\x40\x43\x43\x43\x40\xf0\xff\xff\xff\xff\0\0\0\0",
+    b"\x02\0\0\0\0\x53\x11\xc0\x10\x06\x40\x43\x43\x43\x40\xf0\0\0\0\x05\xff\xff\xff\xff\xa3",
+    b"\x02\0\0\0\0\x53\x14\xc0\x09\x03\x43\x40\xb0\xff\xff\xff\xff\x07",
+    b"\x02\0\0\0\0\x53\x15\xc0\x0f\x05\x41\x43\x40\x40\xd0\0\0\0\x05\xff\xff\xff\xff\x40",
+    b"\x02\0\0\0\0\xb3\xff\xff\xff\xff\x61\x6d\x71\x70",
+];
+
+#[test]
+fn lengths_of_32_bits_against_short_input(rt: HostRuntime) {
+    for bytes in TOO_LONG {
+        same(
+            &rt,
+            (bytes, is_refused(&rt, bytes, &Error::DecodeError)),
+            (bytes, true),
+        );
+    }
 }
 
 #[test]

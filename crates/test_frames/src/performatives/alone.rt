@@ -1,27 +1,28 @@
-//! Each performative by itself: the length of its text, and its text put into a buffer with room for it.
+//! Each performative by itself: the length of its text, its text put into a buffer with room for it, and a limit.
 
 ghost use Rattle.std.specs.Prelude.{◌≡◌, ◌≤◌, ◌<◌, ◌^◌, length};
 ghost use Rattle.amqp_types.specs.Performatives.{performative_text};
 
-use crate::digits::{dense, read};
+use crate::given::delivery;
+use crate::performatives::digits::read;
 use crate::same::same;
 use amqp_types::laws::text_is_read;
-use amqp_types::{DeliveryTag, Handle, Performative, Transfer, TransferFragment};
-use bytes::{Bytes, BytesMut};
+use amqp_types::{Close, Performative, Transfer, TransferFragment, WriteError};
+use bytes::BytesMut;
 use std::alloc::Global;
 use std::test::Fail;
 
 /// One of each kind, in its canonical text.
 const TEXTS: [&'static str; 9] = [
-    "005310 c00401 a10161",
-    "005311 c00704 600001 43 43 43",
-    "005312 c00603 a10161 43 41",
-    "005313 c00604 40 43 43 5207",
-    "005314 c00603 43 40 a00107",
-    "005315 c00504 41 43 40 41",
-    "005316 c00302 43 41",
-    "005317 c00a01 00531d c00401 a30178",
-    "005318 45",
+    "005310c00401a10161",
+    "005311c00704600001434343",
+    "005312c00603a101614341",
+    "005313c006044043435207",
+    "005314c006034340a00107",
+    "005315c0050441434041",
+    "005316c003024341",
+    "005317c00a0100531dc00401a30178",
+    "00531845",
 ];
 
 /// The length that `encoded_len` of that kind answers.
@@ -71,9 +72,8 @@ fn put_alone(alloc: Global, performative: &Performative) -> Result<String, Fail>
 
 /// Whether `put` appends the text that was read, of the length that `encoded_len` answers.
 fn is_put(alloc: Global, digits: &str) -> Result<bool, Fail> {
-    let want = dense(alloc, digits)?;
     let performative = read(alloc, digits)?;
-    let is_put = is_put_as(alloc, &performative, want.as_str());
+    let is_put = is_put_as(alloc, &performative, digits);
     drop(performative);
     is_put
 }
@@ -93,23 +93,6 @@ fn each_performative_puts_its_text(rt: HostRuntime) -> Result<(), Fail> {
     Ok(())
 }
 
-/// The transfer of a whole delivery.
-fn delivery() -> Transfer {
-    Transfer {
-        handle: Handle(0),
-        delivery_id: Some(0),
-        delivery_tag: Some(DeliveryTag(Bytes::from_static(&[0, 0, 0, 1]))),
-        message_format: Some(0),
-        settled: Some(false),
-        more: false,
-        rcv_settle_mode: None,
-        state: None,
-        resume: false,
-        aborted: false,
-        batchable: false,
-    }
-}
-
 fn put_in(alloc: Global, transfer: &Transfer, text: TransferFragment) -> Result<String, Fail> {
     let len = transfer.encoded_len_in(text);
     if 1000 < len {
@@ -122,12 +105,12 @@ fn put_in(alloc: Global, transfer: &Transfer, text: TransferFragment) -> Result<
 
 /// Whether this text of the transfer has these digits, and the length that is said of it.
 fn is_cut_as(alloc: Global, text: TransferFragment, want: &str) -> Result<bool, Fail> {
-    let transfer = delivery();
+    let transfer = delivery(0);
     let said = put_in(alloc, &transfer, text);
     let len = transfer.encoded_len_in(text);
     drop(transfer);
     let said = said?;
-    Ok(said == dense(alloc, want)? && len == (said.len() / 2) as u128)
+    Ok(said.as_str() == want && len == (said.len() / 2) as u128)
 }
 
 #[test]
@@ -138,7 +121,7 @@ fn the_texts_of_a_transfer_that_is_cut(rt: HostRuntime) -> Result<(), Fail> {
             TransferFragment::First,
             "005314c00c064343a00400000001434241",
         ),
-        (TransferFragment::Middle, "005314c007064340404040 41"),
+        (TransferFragment::Middle, "005314c00706434040404041"),
         (TransferFragment::Last, "005314c0020143"),
     ];
     for (text, want) in rows {
@@ -149,4 +132,19 @@ fn the_texts_of_a_transfer_that_is_cut(rt: HostRuntime) -> Result<(), Fail> {
         );
     }
     Ok(())
+}
+
+#[test]
+fn a_text_above_the_limit_is_not_written(rt: HostRuntime) {
+    let close = Performative::Close(Close { error: None });
+    let mut out = BytesMut::new(rt.alloc());
+    let below = close.write(&mut out, 3);
+    let is_left = out.is_empty();
+    let at = close.write(&mut out, 4);
+    let is_close = out.as_slice() == [0x00, 0x53, 0x18, 0x45].as_slice();
+    drop(close);
+    drop(out);
+    let is_refused = below == Err(WriteError::TooLarge);
+    let is_written = at == Ok(());
+    same(&rt, [is_refused, is_left, is_written, is_close], [true; 4]);
 }

@@ -2,8 +2,8 @@
 
 ghost use Rattle.std.specs.Prelude.{◌<◌};
 
-use crate::reading::{Answer, WHOLE, read};
 use crate::same::{holds, same};
+use crate::values::reading::{Answer, WHOLE, read};
 use amqp_values::{Fields, Raw};
 use bytes::{Bytes, BytesMut};
 use std::alloc::Global;

@@ -1,6 +1,6 @@
 //! Performatives made by their mandatory fields, and the outcome rejected.
 
-use crate::digits::{dense, written};
+use crate::performatives::digits::written;
 use crate::same::{holds, same};
 use amqp_types::{
     Attach, Begin, Close, Detach, Disposition, Error, Fields, Flow, Handle, Open, Performative,
@@ -23,32 +23,21 @@ fn error(alloc: Global) -> Result<Error, Fail> {
 fn is_written(alloc: Global, performative: Performative, digits: &str) -> Result<bool, Fail> {
     let written = written(alloc, &performative);
     drop(performative);
-    let written = written?;
-    let want = dense(alloc, digits)?;
-    Ok(written == want)
+    Ok(written?.as_str() == digits)
 }
 
 #[test]
 fn fields_that_are_not_named_are_not_written(rt: HostRuntime) -> Result<(), Fail> {
     let alloc = rt.alloc();
     let open = Performative::Open(Open::new(text(alloc, "a")?));
-    holds(&rt, is_written(alloc, open, "005310 c00401 a10161")?);
+    holds(&rt, is_written(alloc, open, "005310c00401a10161")?);
     let begin = Performative::Begin(Begin::new(0, 8, 9));
-    holds(
-        &rt,
-        is_written(alloc, begin, "005311 c00704 40 43 5208 5209")?,
-    );
+    holds(&rt, is_written(alloc, begin, "005311c00704404352085209")?);
     let attach = Attach::new(text(alloc, "a")?, Handle(3), Role::Receiver);
     let attach = Performative::Attach(attach);
-    holds(
-        &rt,
-        is_written(alloc, attach, "005312 c00703 a10161 5203 41")?,
-    );
+    holds(&rt, is_written(alloc, attach, "005312c00703a10161520341")?);
     let flow = Performative::Flow(Flow::new(None, 8, 0, 9));
-    holds(
-        &rt,
-        is_written(alloc, flow, "005313 c00704 40 5208 43 5209")?,
-    );
+    holds(&rt, is_written(alloc, flow, "005313c00704405208435209")?);
     Ok(())
 }
 
@@ -56,19 +45,16 @@ fn fields_that_are_not_named_are_not_written(rt: HostRuntime) -> Result<(), Fail
 fn fields_of_deliveries_that_are_not_named_are_not_written(rt: HostRuntime) -> Result<(), Fail> {
     let alloc = rt.alloc();
     let transfer = Performative::Transfer(Transfer::new(Handle(3)));
-    holds(&rt, is_written(alloc, transfer, "005314 c00301 5203")?);
+    holds(&rt, is_written(alloc, transfer, "005314c003015203")?);
     let disposition = Performative::Disposition(Disposition::new(Role::Sender, 5));
-    holds(
-        &rt,
-        is_written(alloc, disposition, "005315 c00402 42 5205")?,
-    );
+    holds(&rt, is_written(alloc, disposition, "005315c00402425205")?);
     let detach = Performative::Detach(Detach::new(Handle(3)));
-    holds(&rt, is_written(alloc, detach, "005316 c00301 5203")?);
+    holds(&rt, is_written(alloc, detach, "005316c003015203")?);
     let error = Some(error(alloc)?);
     let close = Performative::Close(Close { error });
     holds(
         &rt,
-        is_written(alloc, close, "005318 c00a01 00531d c00401 a30178")?,
+        is_written(alloc, close, "005318c00a0100531dc00401a30178")?,
     );
     Ok(())
 }

@@ -1,7 +1,7 @@
 //! Untrusted values: deep ones, and sizes and counts that promise more than there is.
 
-use crate::reading::{Answer, WHOLE, read};
 use crate::same::same;
+use crate::values::reading::{Answer, WHOLE, read};
 use bytes::{Bytes, BytesMut};
 use std::alloc::Global;
 use std::test::Fail;

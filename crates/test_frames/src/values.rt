@@ -1,0 +1,8 @@
+//! Raw values, with bytes from the standard's encodings, and hostile ones.
+
+mod hostile;
+mod outcomes;
+mod parts;
+mod raw_values;
+mod reading;
+mod symbols;
