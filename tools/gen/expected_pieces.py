@@ -93,11 +93,11 @@ def add_cuts(given, wanted):
 
 
 def add_fronts(given, wanted):
-    """Every short payload at every small limit."""
+    """Every short payload at every small limit. Before them stands the empty frame, which is a front of each."""
     whole = (HEADER + delivery(0) + payload(200)).hex()
     for limit in range(16, 65):
         given.append(f"#{limit} {whole}")
-        told = "".join(listed(pieces(limit, count)) for count in range(201))
+        told = listed([HEADER]) + "".join(listed(pieces(limit, count)) for count in range(201))
         wanted.append(hashlib.sha256(told.encode()).hexdigest())
 
 

@@ -1,8 +1,9 @@
 //! One frame: decoded, shown, encoded and decoded again.
 
-use amqp_frames::{Error, Frame, FrameBody, FrameDecoder, FrameEncoder, Piece};
+use crate::written::{one_piece, text_of};
+use amqp_frames::{Error, Frame, FrameBody, FrameDecoder};
 use amqp_types::{Performative, ReadError};
-use bytes::{Bytes, BytesMut};
+use bytes::Bytes;
 use std::alloc::Global;
 
 // prover: a frame or a performative is looked at by reference, and ended by `drop(..)`.
@@ -20,29 +21,13 @@ fn is_frame(read: &Result<(Frame, Bytes), Error>, frame: &Frame) -> anyhow::Resu
     }
 }
 
-/// Whether the piece is read as the frame, with nothing left.
-fn is_read_back(alloc: Global, frame: &Frame, piece: &Piece) -> anyhow::Result<bool> {
-    let bytes = piece.to_bytes(alloc)?;
+/// Whether the frame is one piece where the limit is above it, and that is read as the frame, with nothing left.
+fn is_encoded(alloc: Global, frame: &Frame) -> anyhow::Result<bool> {
+    let bytes = one_piece(alloc, u32::MAX, frame)?;
     let read = FrameDecoder::new().decode(alloc, bytes);
     let is_same = is_frame(&read, frame);
     drop(read);
     is_same
-}
-
-/// Whether there is one piece, and that is read as the frame.
-fn is_whole(alloc: Global, frame: &Frame, pieces: &[Piece]) -> anyhow::Result<bool> {
-    match pieces {
-        [piece] => is_read_back(alloc, frame, piece),
-        _ => Ok(false),
-    }
-}
-
-/// Whether the frame is one piece where the limit is above it, and that is read as the frame.
-fn is_encoded(alloc: Global, frame: &Frame) -> anyhow::Result<bool> {
-    let pieces = FrameEncoder::new(u32::MAX).encode(alloc, frame)?;
-    let is_whole = is_whole(alloc, frame, pieces.as_slice());
-    drop(pieces);
-    is_whole
 }
 
 /// Whether what was read is the performative, with nothing left.
@@ -56,32 +41,13 @@ fn is_performative(
     }
 }
 
-/// Whether the bytes read as the performative with nothing left.
-fn is_read(alloc: Global, performative: &Performative, bytes: &[u8]) -> anyhow::Result<bool> {
-    let text = Bytes::copy_from_slice(alloc, bytes)?;
+/// Whether the text that is written has the length that was said, and reads as the same performative with nothing left.
+fn is_written(alloc: Global, performative: &Performative) -> anyhow::Result<bool> {
+    let text = text_of(alloc, performative)?;
     let read = Performative::read(alloc, text);
     let is_same = is_performative(&read, performative);
     drop(read);
     Ok(is_same?)
-}
-
-/// Whether the text that is written here has the length that was said, and reads as the same performative.
-fn is_written_to(
-    alloc: Global,
-    performative: &Performative,
-    out: &mut BytesMut,
-) -> anyhow::Result<bool> {
-    performative.write(out, u32::MAX)?;
-    let is_same = is_read(alloc, performative, out.as_slice())?;
-    Ok(is_same && performative.encoded_len() == out.len() as u128)
-}
-
-/// Whether the text that is written has the length that was said, and reads as the same performative with nothing left.
-fn is_written(alloc: Global, performative: &Performative) -> anyhow::Result<bool> {
-    let mut out = BytesMut::new(alloc);
-    let is_same = is_written_to(alloc, performative, &mut out);
-    drop(out);
-    is_same
 }
 
 /// Whether the performative in these bytes is written and read again as the same.

@@ -1,7 +1,6 @@
-//! The pieces of a transfer with each front of its payload.
+//! The pieces of each front of a frame: of a transfer with each front of its payload.
 
 use crate::frame::refused;
-use crate::message::read_part;
 use amqp_frames::{Error, Frame, FrameDecoder, FrameEncoder, Piece};
 use bytes::Bytes;
 use sha2::{Digest, Sha256};
@@ -35,32 +34,24 @@ fn add(alloc: Global, limit: u32, frame: &Frame, text: &mut String) -> anyhow::R
     Ok(text.push('\n')?)
 }
 
-/// Adds those of the frame in these bytes.
+/// Adds those of the frame in these bytes, if they are one.
 fn add_front(alloc: Global, limit: u32, bytes: &[u8], text: &mut String) -> anyhow::Result<()> {
     let bytes = Bytes::copy_from_slice(alloc, bytes)?;
     let read = FrameDecoder::new().decode(alloc, bytes);
     let added = match &read {
         Ok((frame, _)) => add(alloc, limit, frame, text),
+        Err(Error::DecodeError) => Ok(()),
         Err(error) => Err(refused(error)),
     };
     drop(read);
     added
 }
 
-/// How many bytes the payload has.
-fn payload_len(alloc: Global, bytes: &[u8]) -> anyhow::Result<usize> {
-    let part = read_part(alloc, Bytes::copy_from_slice(alloc, bytes)?)?;
-    let len = part.payload.len();
-    drop(part);
-    Ok(len)
-}
-
-/// The digest of the lines of the pieces at this limit, of the transfer in these digits with each front of its payload.
+/// The digest of the lines of the pieces at this limit, of each front of the frame in these digits that is a frame.
 pub fn digest(alloc: Global, limit: u32, digits: &str) -> anyhow::Result<String> {
     let bytes = hex::decode(alloc, digits)?;
-    let payload = payload_len(alloc, bytes.as_slice())?;
     let mut text = String::new(alloc);
-    for len in bytes.len().saturating_sub(payload)..bytes.len() {
+    for len in 0..bytes.len() {
         add_front(alloc, limit, bytes.get(..len).unwrap_or(&[]), &mut text)?;
     }
     add_front(alloc, limit, bytes.as_slice(), &mut text)?;

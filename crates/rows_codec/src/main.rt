@@ -5,7 +5,8 @@
 //! - `~FRAME`: each byte of the frame is changed three times, and each proper front stands alone: a letter for each.
 //! - `?TEXT TEXT ..`: for each performative after the first a letter, `=` where it is the same as the first.
 //! - `LIMIT FRAME ..`: the pieces of at most so many bytes of a message, whose frames these are; or `too large`.
-//! - `#LIMIT FRAME`: the digest of the pieces of this transfer with each front of its payload.
+//! - `#LIMIT FRAME`: the digest of the pieces of each front of this transfer that is a frame: with each front of its payload, and the empty
+//!   frame.
 //! - `/LIMIT FRAME`: the transfers of one piece each that this one is split into, and the piece of each where its delivery has the
 //!   greatest number.
 #![tactic(auto)]

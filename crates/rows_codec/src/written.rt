@@ -55,7 +55,7 @@ fn of_frame(alloc: Global, bytes: Bytes) -> anyhow::Result<String> {
 }
 
 /// The text that is written; its length has to be the one that is said.
-fn text_of(alloc: Global, performative: &Performative) -> anyhow::Result<Bytes> {
+pub fn text_of(alloc: Global, performative: &Performative) -> anyhow::Result<Bytes> {
     let mut out = BytesMut::new(alloc);
     performative.write(&mut out, u32::MAX)?;
     if performative.encoded_len() != out.len() as u128 {
