@@ -27,32 +27,22 @@ const CUT: [u8; 51] = [
 /// The empty frame on channel 0, after its size.
 const EMPTY: [u8; 8] = [0x00, 0x00, 0x00, 0x08, 0x02, 0x00, 0x00, 0x00];
 
-/// Appends a transfer with this payload, under a limit of 24 bytes, and says how that ends.
-fn put(alloc: Global, out: &mut SendBuffer, performative: Transfer, payload: Bytes) -> u8 {
+/// Whether a transfer with this payload is appended, under a limit of 24 bytes.
+fn put(alloc: Global, out: &mut SendBuffer, performative: Transfer, payload: Bytes) -> bool {
     let body = FrameBody::Transfer {
         performative,
         payload,
     };
     let frame = Frame::new(0, body);
-    let said = put_frame(alloc, out, &frame);
+    let is_put = put_frame(alloc, out, &frame);
     drop(frame);
-    said
+    is_put
 }
 
 /// The same of a frame.
 // prover
-fn put_frame(alloc: Global, out: &mut SendBuffer, frame: &Frame) -> u8 {
-    said(FrameEncoder::new(24).encode_to(alloc, frame, out))
-}
-
-fn said(outcome: Result<(), Error>) -> u8 {
-    let said = match &outcome {
-        Ok(()) => 0,
-        Err(Error::TooLarge) => 1,
-        Err(_) => 2,
-    };
-    drop(outcome);
-    said
+fn put_frame(alloc: Global, out: &mut SendBuffer, frame: &Frame) -> bool {
+    FrameEncoder::new(24).encode_to(alloc, frame, out).is_ok()
 }
 
 /// Takes off the next chunk, or `most` bytes of it, and says whether they are a front of what is wanted; the rest of that is left.
@@ -86,7 +76,7 @@ fn a_short_payload_is_copied(rt: HostRuntime) -> Result<(), Fail> {
     let alloc = rt.alloc();
     let payload = payload(alloc, 4)?;
     let mut out = SendBuffer::new(alloc);
-    holds(&rt, put(alloc, &mut out, delivery(0), payload) == 0);
+    holds(&rt, put(alloc, &mut out, delivery(0), payload));
     holds(&rt, chunks(&mut out, 4096, &WHOLE) == Some(1));
     holds(&rt, out.chunk().is_empty());
     Ok(())
@@ -98,7 +88,7 @@ fn a_long_payload_is_a_chunk_of_its_own(rt: HostRuntime) -> Result<(), Fail> {
     let payload = payload(alloc, 4)?;
     let again = payload.clone()?;
     let mut out = SendBuffer::copying_up_to(alloc, 3);
-    holds(&rt, put(alloc, &mut out, delivery(0), payload) == 0);
+    holds(&rt, put(alloc, &mut out, delivery(0), payload));
     holds(
         &rt,
         FrameEncoder::new(24)
@@ -111,7 +101,7 @@ fn a_long_payload_is_a_chunk_of_its_own(rt: HostRuntime) -> Result<(), Fail> {
         takes(&mut out, 4096, &mut want) && takes(&mut out, 4096, &mut want),
     );
     holds(&rt, chunks(&mut out, 4096, &EMPTY) == Some(1));
-    holds(&rt, put(alloc, &mut out, delivery(0), again) == 0);
+    holds(&rt, put(alloc, &mut out, delivery(0), again));
     holds(&rt, chunks(&mut out, 3, &WHOLE) == Some(10));
     Ok(())
 }
@@ -122,10 +112,10 @@ fn pieces_stand_after_one_another(rt: HostRuntime) -> Result<(), Fail> {
     let payload = payload(alloc, 11)?;
     let again = payload.clone()?;
     let mut out = SendBuffer::new(alloc);
-    holds(&rt, put(alloc, &mut out, delivery(0), payload) == 0);
+    holds(&rt, put(alloc, &mut out, delivery(0), payload));
     holds(&rt, chunks(&mut out, 4096, &CUT) == Some(1));
     let mut sharing = SendBuffer::copying_up_to(alloc, 3);
-    holds(&rt, put(alloc, &mut sharing, delivery(0), again) == 0);
+    holds(&rt, put(alloc, &mut sharing, delivery(0), again));
     holds(&rt, chunks(&mut sharing, 4096, &CUT) == Some(2));
     Ok(())
 }
@@ -136,7 +126,7 @@ fn what_is_too_large_appends_nothing(rt: HostRuntime) -> Result<(), Fail> {
     let short = payload(alloc, 4)?;
     let long = payload(alloc, 1)?;
     let mut out = SendBuffer::new(alloc);
-    holds(&rt, put(alloc, &mut out, delivery(0), short) == 0);
+    holds(&rt, put(alloc, &mut out, delivery(0), short));
     let body = FrameBody::Transfer {
         performative: continuation(true),
         payload: long,
@@ -148,7 +138,7 @@ fn what_is_too_large_appends_nothing(rt: HostRuntime) -> Result<(), Fail> {
     drop(outcome);
     holds(&rt, is_too_large);
     holds(&rt, chunks(&mut out, 4096, &WHOLE) == Some(1));
-    holds(&rt, put(alloc, &mut out, delivery(0), Bytes::new()) == 0);
+    holds(&rt, put(alloc, &mut out, delivery(0), Bytes::new()));
     out.clear();
     holds(&rt, out.is_empty());
     Ok(())

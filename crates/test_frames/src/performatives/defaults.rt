@@ -6,8 +6,8 @@ use amqp_types::{
     Attach, Begin, Close, Detach, Disposition, Error, Fields, Flow, Handle, Open, Performative,
     Raw, ReadError, Role, Symbol, Transfer, rejected,
 };
-use bytes::Bytes;
-use std::alloc::{AllocError, Global};
+use bytes::BytesMut;
+use std::alloc::Global;
 use std::test::Fail;
 
 fn text(alloc: Global, text: &str) -> Result<String, Fail> {
@@ -61,24 +61,19 @@ fn fields_of_deliveries_that_are_not_named_are_not_written(rt: HostRuntime) -> R
 
 /// A map whose one value is a list inside so many lists.
 fn nested(alloc: Global, depth: u8) -> Result<Fields, Fail> {
-    let mut value = Vec::from_slice(alloc, &[0x45])?;
-    for level in 0..depth {
-        let size = level.saturating_mul(3).saturating_add(2);
-        value = after(alloc, &[0xc0, size, 1], value)?;
+    let mut map = BytesMut::new(alloc);
+    map.extend_from_slice(&[0xc1, size(depth, 5), 2, 0xa3, 1, 0x78])?;
+    for inside in (0..depth).rev() {
+        map.extend_from_slice(&[0xc0, size(inside, 2), 1])?;
     }
-    let size = depth.saturating_mul(3).saturating_add(5);
-    let map = after(alloc, &[0xc1, size, 2, 0xa3, 1, 0x78], value)?;
-    let raw = Raw::of_bytes(Bytes::from_vec(map)?).ok_or("no value")?;
+    map.extend_from_slice(&[0x45])?;
+    let raw = Raw::of_bytes(map.freeze()?).ok_or("no value")?;
     Ok(Fields::new(raw).ok_or("no map")?)
 }
 
-/// A head, and the value after it.
-fn after(alloc: Global, head: &[u8], value: Vec<u8>) -> Result<Vec<u8>, AllocError> {
-    let mut whole = Vec::from_slice(alloc, head)?;
-    let outcome = whole.extend_from_slice(value.as_slice());
-    drop(value);
-    outcome?;
-    Ok(whole)
+/// The size of what holds so many lists, and so many bytes beside them.
+fn size(lists: u8, beside: u8) -> u8 {
+    lists.saturating_mul(3).saturating_add(beside)
 }
 
 #[test]

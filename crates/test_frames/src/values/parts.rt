@@ -172,18 +172,25 @@ fn parts_are_compared_by_what_is_left(rt: HostRuntime) -> Result<(), Fail> {
 }
 
 /// Whether the parts of two lists are the same.
-fn have_the_same_parts(one: &Raw, other: &Raw) -> bool {
-    one.view().items() == other.view().items()
+fn have_the_same_parts(one: &'static [u8], other: &'static [u8]) -> Result<bool, Fail> {
+    let one = raw(one)?;
+    let answer = has_the_parts_of(&one, other);
+    drop(one);
+    answer
+}
+
+fn has_the_parts_of(one: &Raw, other: &'static [u8]) -> Result<bool, Fail> {
+    let other = raw(other)?;
+    let is_same = one.view().items() == other.view().items();
+    drop(other);
+    Ok(is_same)
 }
 
 #[test]
 fn parts_are_the_same_in_a_short_list_and_in_a_long_one(rt: HostRuntime) -> Result<(), Fail> {
-    let short = raw(&[0xc0, 3, 2, 0x40, 0x41])?;
-    let long = raw(&[0xd0, 0, 0, 0, 6, 0, 0, 0, 2, 0x40, 0x41])?;
-    let other = raw(&[0xc0, 3, 2, 0x41, 0x40])?;
-    let alike = have_the_same_parts(&short, &long);
-    let unlike = have_the_same_parts(&short, &other);
-    holds(&rt, alike);
-    holds(&rt, !unlike);
+    let short = &[0xc0, 3, 2, 0x40, 0x41];
+    let long = &[0xd0, 0, 0, 0, 6, 0, 0, 0, 2, 0x40, 0x41];
+    holds(&rt, have_the_same_parts(short, long)?);
+    holds(&rt, !have_the_same_parts(short, &[0xc0, 3, 2, 0x41, 0x40])?);
     Ok(())
 }
