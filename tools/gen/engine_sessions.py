@@ -61,12 +61,12 @@ def second_begins(rows):
     rows.ask(send("c", "fd"))
     rows.ask(recv(flow(2, 1), 9), sent(2, "c", "fd"))
     for title, body, answer in [
-        ("The same Begin on every channel is refused alike", begin(0, 0, 100, 8), f"65536 {ILLEGAL}"),
+        ("The same Begin on every channel is refused alike, and the session keeps its number and its window of 1", begin(0, 0, 100, 8), f"65536 {ILLEGAL}"),
         ("A flow on every channel: it is taken on the one that leads to the session", flow(0, 1), "65535 err NotFound"),
     ]:
         rows.row(title)
-        rows.asked += ["each-channel " + body, "open", recv(opening("a")), "begin 0", recv(begin(0, 0, 1, 8), 5)]
-        rows.said += ["1 " + OUR_OPEN, "1 " + out(begin()), answer]
+        rows.asked += ["each-channel " + body, "open", recv(opening("a")), "begin 0", recv(begin(0, 0, 1, 8), 5), "then", send("a", "ff"), send("b", "fe")]
+        rows.said += ["1 " + OUR_OPEN, "1 " + out(begin()), answer, "1 " + sent(0, "a", "ff")]
 
 
 def cut_transfers(rows):

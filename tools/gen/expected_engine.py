@@ -4,7 +4,7 @@
     tools/gen/expected_engine.py            writes crates/rows_engine/{stdin,stdout}
 
 Each row is a transcript for an engine of its own in HeaderExchange, whose Open is named `replay`, or calls of a connection alone, or of handles
-with the runs of their engine. Beside each line stands what it has to print (AMQP 1.0 part 2, sections 2.4 to 2.6; docs/PROTOCOL.md for the
+with the runs of their engine, and what that shows. Beside each line stands what it has to print (AMQP 1.0 part 2, sections 2.4 to 2.6; docs/PROTOCOL.md for the
 tables). After them stand whole recorded exchanges. Nothing is taken from the program's output.
 """
 
@@ -13,8 +13,8 @@ from pathlib import Path
 
 sys.path.insert(0, str(Path(__file__).resolve().parents[1]))
 
-from gen import engine_alone, engine_connections, engine_dispositions, engine_handles, engine_lines, engine_links, engine_sessions, engine_wishes
-from gen import expected_exchange
+from gen import engine_alone, engine_connections, engine_dispositions, engine_handles, engine_lines, engine_links, engine_runs, engine_sessions
+from gen import engine_wishes, expected_exchange
 from gen.row import EngineRows
 
 CRATE = Path(__file__).resolve().parents[2] / "crates" / "rows_engine"
@@ -24,6 +24,7 @@ def main():
     rows = EngineRows()
     for part in (engine_alone, engine_connections, engine_sessions, engine_links, engine_handles, engine_dispositions, engine_lines, engine_wishes):
         part.write(rows)
+    engine_runs.write(rows)
     expected_exchange.write(rows)
     rows.note()
     rows.write(CRATE)

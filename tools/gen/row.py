@@ -44,6 +44,8 @@ def noted(line):
     words = line.split(" ")
     if words[0] in ("times", "retry"):
         words = words[2:]
+    if words[0] == "with":
+        words = words[1:]
     is_frame = words[0] == "recv" and len(words) == 2
     if not words[-1] or not is_frame and PERFORMATIVES.get(words[0]) != len(words):
         return line

@@ -1,20 +1,22 @@
-//! Rows of handles: what they answer, and what the runs of their engine answer.
+//! Rows of an engine with handles: what its runs and its handles answer, and what it shows.
 
+use crate::inputs::{self, RowInput};
 use crate::reading;
 use fe2o3_amqp::{
-    Answer, ConnectionHandle, ConnectionState, Engine, HandledEngine, Input, Piece, ReplayRelay,
-    SessionHandle, SessionNo, SessionSettings, err_name, out_line,
+    Answer, ConnectionHandle, Engine, HandledEngine, IncomingChannel, Piece, ReplayRelay,
+    SessionHandle, SessionNo, err_name, out_line,
 };
 use std::alloc::{AllocError, Global};
 use std::collections::VecDeque;
 use std::fmt::Debug;
 use std::mem;
-use test_support::{digits, reasons, words};
+use test_support::{reasons, words};
 
-/// An engine with two handles of its connection, and two of the session that was named last.
+/// An engine with the inputs that wait for its next run, two handles of its connection, and two of the session that was named last.
 #[derive(Drop)]
 struct Handled {
     engine: HandledEngine<ReplayRelay>,
+    inputs: VecDeque<RowInput>,
     connection: (ConnectionHandle, ConnectionHandle),
     session: Option<(SessionHandle, SessionHandle)>,
 }
@@ -22,24 +24,29 @@ struct Handled {
 /// What the lines of a row answer, whose first line is the state of the connection.
 pub fn answer(alloc: Global, text: &str) -> anyhow::Result<String> {
     let (state, lines) = text.split_once('\n').unwrap_or((text, ""));
-    let mut handled = with_handles(new_engine(alloc, reading::state(state)?)?);
+    let mut handled = with_handles(alloc, new_engine(alloc, state)?);
     let answers = answers(alloc, &mut handled, lines);
     drop(handled);
     answers
 }
 
 /// This engine with two handles of its connection.
-fn with_handles(engine: HandledEngine<ReplayRelay>) -> Handled {
+fn with_handles(alloc: Global, engine: HandledEngine<ReplayRelay>) -> Handled {
     let connection = (engine.connection_handle(), engine.connection_handle());
     Handled {
         engine,
+        inputs: VecDeque::new(alloc),
         connection,
         session: None,
     }
 }
 
-fn new_engine(alloc: Global, state: ConnectionState) -> anyhow::Result<HandledEngine<ReplayRelay>> {
-    let open = reading::open(alloc, "replay")?;
+/// An engine in this state. After the state stands the name of its Open, where that is not `replay`.
+fn new_engine(alloc: Global, text: &str) -> anyhow::Result<HandledEngine<ReplayRelay>> {
+    let (state, name) = words::word(text);
+    let state = reading::state(state)?;
+    let name = if name.is_empty() { "replay" } else { name };
+    let open = reading::open(alloc, name)?;
     Ok(HandledEngine::new(Engine::new(alloc, state, open)))
 }
 
@@ -61,13 +68,19 @@ fn call(alloc: Global, handled: &mut Handled, line: &str) -> anyhow::Result<Stri
         "session" => of_sessions(alloc, handled, true, rest),
         "twin" => of_sessions(alloc, handled, false, rest),
         "engine" => another(alloc, handled, rest),
-        _ => run(alloc, &mut handled.engine, word, rest),
+        "with" => {
+            wait(alloc, &mut handled.inputs, rest)?;
+            Ok(String::new(alloc))
+        }
+        "why" => why(alloc, handled, rest),
+        "show" | "route" | "led" | "output" => read(alloc, &handled.engine, word, rest),
+        _ => run(alloc, handled, line),
     }
 }
 
 /// From now on the handles are handed another engine, new in this state.
 fn another(alloc: Global, handled: &mut Handled, state: &str) -> anyhow::Result<String> {
-    let engine = new_engine(alloc, reading::state(state)?)?;
+    let engine = new_engine(alloc, state)?;
     drop(mem::replace(&mut handled.engine, engine));
     Ok(String::new(alloc))
 }
@@ -157,32 +170,44 @@ fn shown<T: Debug + Drop>(alloc: Global, answer: T) -> anyhow::Result<String> {
     Ok(format!(in alloc; "{answer:?}\n")?)
 }
 
-/// A run, of this input; of none, where the word is `run`.
-fn run(
-    alloc: Global,
-    engine: &mut HandledEngine<ReplayRelay>,
-    word: &str,
-    rest: &str,
-) -> anyhow::Result<String> {
-    let mut inputs = queue(alloc, input(alloc, word, rest)?)?;
-    let mut answers = Vec::new(alloc);
-    let outcome = engine.run(&mut inputs, &mut answers);
-    drop(inputs);
-    let text = match outcome {
-        Ok(()) => lines_of(alloc, &answers),
-        Err(stopped) => Err(stopped.into()),
-    };
+/// What a run answers, of the inputs that wait and of this one; of those alone, where the word is `run`.
+fn run(alloc: Global, handled: &mut Handled, line: &str) -> anyhow::Result<String> {
+    let answers = ran(alloc, handled, line)?;
+    let text = lines_of(alloc, &answers);
     drop(answers);
     text
 }
 
-/// What is there, as a queue.
-fn queue<T: Drop>(alloc: Global, item: Option<T>) -> Result<VecDeque<T>, AllocError> {
-    let mut items = VecDeque::new(alloc);
-    if let Some(item) = item {
-        items.push_back(item)?;
+/// The same, as `Debug` shows it.
+fn why(alloc: Global, handled: &mut Handled, line: &str) -> anyhow::Result<String> {
+    let answers = ran(alloc, handled, line)?;
+    shown(alloc, answers)
+}
+
+fn ran(alloc: Global, handled: &mut Handled, line: &str) -> anyhow::Result<Vec<Answer>> {
+    if line != "run" {
+        wait(alloc, &mut handled.inputs, line)?;
     }
-    Ok(items)
+    let mut answers = Vec::new(alloc);
+    match handled.engine.run(&mut handled.inputs, &mut answers) {
+        Ok(()) => Ok(answers),
+        Err(stopped) => {
+            drop(answers);
+            Err(stopped.into())
+        }
+    }
+}
+
+/// From now on this input waits for the next run.
+fn wait(alloc: Global, inputs: &mut VecDeque<RowInput>, line: &str) -> anyhow::Result<()> {
+    let (word, rest) = words::word(line);
+    hold(inputs, inputs::input(alloc, word, rest)?)?;
+    Ok(())
+}
+
+fn hold<T: Drop>(items: &mut VecDeque<T>, item: T) -> Result<(), AllocError> {
+    items.push_back(item)?;
+    Ok(())
 }
 
 fn lines_of(alloc: Global, answers: &Vec<Answer>) -> anyhow::Result<String> {
@@ -193,22 +218,40 @@ fn lines_of(alloc: Global, answers: &Vec<Answer>) -> anyhow::Result<String> {
     Ok(text)
 }
 
-fn input(alloc: Global, word: &str, rest: &str) -> anyhow::Result<Option<Input<ReplayRelay>>> {
+/// What is read from the engine: what it or a session shows, where a channel of the peer's leads, whether one leads to a session,
+/// and the handle of a live link.
+fn read(
+    alloc: Global,
+    engine: &HandledEngine<ReplayRelay>,
+    word: &str,
+    rest: &str,
+) -> anyhow::Result<String> {
     match word {
-        "run" => Ok(None),
-        "open" => Ok(Some(Input::Open)),
-        "close" => Ok(Some(Input::Close(reasons::error(alloc, rest)?))),
-        "begin" => Ok(Some(Input::Begin(number(rest)?, SessionSettings::new()))),
-        "end" => Ok(Some(Input::End(number(rest)?, None))),
-        "release" => Ok(Some(Input::Release(number(rest)?))),
-        "forget" => Ok(Some(Input::Forget(number(rest)?))),
-        "recv" => Ok(Some(Input::Received(digits::bytes(alloc, rest)?))),
-        _ => Err(anyhow::anyhow!("no input")),
+        "show" if rest.is_empty() => Ok(format!(in alloc; "{engine:?}\n")?),
+        "show" => show(alloc, engine.engine(), rest),
+        "route" => {
+            let channel = IncomingChannel(words::channel(rest)?);
+            let connection = engine.engine().connection();
+            shown(alloc, connection.session_tx_by_incoming_channel(channel))
+        }
+        "led" => {
+            let number = inputs::number(rest)?;
+            said(alloc, engine.engine().connection().has_route(number))
+        }
+        _ => {
+            let (number, name) = words::word(rest);
+            let number = inputs::number(number)?;
+            shown(alloc, engine.engine().output_handle(number, name))
+        }
     }
 }
 
-fn number(text: &str) -> anyhow::Result<SessionNo> {
-    Ok(SessionNo(words::number(text)?))
+/// A session as its `Debug` shows it.
+fn show(alloc: Global, engine: &Engine<ReplayRelay>, text: &str) -> anyhow::Result<String> {
+    match engine.session(inputs::number(text)?) {
+        Some(session) => Ok(format!(in alloc; "{session:?}\n")?),
+        None => Ok(String::from_str(alloc, "none\n")?),
+    }
 }
 
 /// The lines of a frame's pieces.

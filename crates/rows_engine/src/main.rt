@@ -2,8 +2,8 @@
 //! reads it, for an engine of its own. What the transcript prints follows, then what it says of a line that it cannot read,
 //! and its status where that is not 0. What stands in a line after ` ;` is a note for readers: what its hexadecimal says.
 //!
-//! After `each-channel HEX` a transcript goes on with that performative on each channel from 0 to 65535, and what is the same
-//! several times in a row is printed once, after its count.
+//! After `each-channel HEX` a transcript goes on with that performative on each channel from 0 to 65535, and then with the lines after
+//! `then`; what is the same several times in a row is printed once, after its count.
 //!
 //! After `connection STATE` the lines are calls of a connection alone, in that state:
 //!
@@ -16,20 +16,27 @@
 //! | `stop REASON` | `set_connection_stop_reason` |
 //! | `route CHANNEL`, `holder CHANNEL`, `show` | the calls that read |
 //!
-//! After `handled STATE` the lines are runs of a handled engine, whose connection is in that state, and calls of its handles:
+//! After `handled STATE` the lines are runs of a handled engine, whose connection is in that state, and calls of its handles. Where the
+//! engine's Open is not named `replay`, its name stands after the state.
 //!
 //! | Line | Run or call |
 //! |---|---|
 //! | `run` | a run without inputs |
-//! | `open`, `close`, `close CONDITION`, `begin N`, `end N`, `recv HEX` | a run with this input |
+//! | `open`, `close`, `close CONDITION`, `begin N`, `begin N WINDOW`, `end N`, `release N`, `forget N`, `recv HEX` | a run with this input |
+//! | `settle N ROLE FIRST LAST`, `settle N ROLE FIRST`, `send N HEX`, `link N NAME` | the same, as a transcript has it |
+//! | `allot N NAME`, `incoming N HANDLE NAME`, `stop N REASON` | the same: a link without a relay, a link whose attach came on a handle, `Input::Stop` |
+//! | `with INPUT` | the input waits for the next run, which takes it before its own |
+//! | `why INPUT` | a run with this input, whose answers are printed as `Debug` shows them |
 //! | `connection CALL`, `other CALL` | of the first handle of the connection, of the second: `is`, `try`, `close`, `close CONDITION` |
 //! | `handle N` | two handles of session N |
 //! | `session CALL`, `twin CALL` | of the first of these, of the second: `is`, `try`, `end`, `end CONDITION`, `close` |
 //! | `engine STATE` | another engine is handed to the handles |
+//! | `show`, `show N`, `route CHANNEL`, `led N`, `output N NAME` | the calls that read: the engine and a session as `Debug` shows them, `session_tx_by_incoming_channel`, `has_route`, `output_handle` |
 #![tactic(auto)]
 
 mod connection;
 mod handled;
+mod inputs;
 mod reading;
 mod row;
 

@@ -1,8 +1,8 @@
-//! What a line names: the state of a connection, its Open, and a performative on a channel.
+//! What a line names: the state of a connection, its Open, a performative on a channel, a role, and why a session stopped.
 
-use fe2o3_amqp::{ConnectionState, Open, Performative};
+use fe2o3_amqp::{ConnectionState, Open, Performative, Role, SessionStopReason};
 use std::alloc::Global;
-use test_support::{digits, open_of, words};
+use test_support::{digits, open_of, reasons, words};
 
 /// The state of this name.
 pub fn state(name: &str) -> anyhow::Result<ConnectionState> {
@@ -46,4 +46,24 @@ pub fn on_channel(alloc: Global, text: &str) -> anyhow::Result<(u16, Performativ
     let (performative, rest) = digits::performative(alloc, text)?;
     drop(rest);
     Ok((channel, performative))
+}
+
+/// The role of this name.
+pub fn role(name: &str) -> anyhow::Result<Role> {
+    match name {
+        "receiver" => Ok(Role::Receiver),
+        "sender" => Ok(Role::Sender),
+        _ => Err(anyhow::anyhow!("no role")),
+    }
+}
+
+/// The reason of this name why a session stopped.
+pub fn session_stop(name: &str) -> anyhow::Result<SessionStopReason> {
+    match name {
+        "Ended" => Ok(SessionStopReason::Ended),
+        "EndedWithError" => Ok(SessionStopReason::EndedWithError),
+        "RemoteEnded" => Ok(SessionStopReason::RemoteEnded),
+        "RemoteEndedWithError" => Ok(SessionStopReason::RemoteEndedWithError),
+        _ => Ok(SessionStopReason::ConnectionStopped(reasons::connection_stop(name)?)),
+    }
 }

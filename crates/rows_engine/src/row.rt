@@ -33,15 +33,17 @@ pub fn answer(alloc: Global, lines: &str) -> anyhow::Result<Vec<u8>> {
     }
 }
 
-/// What a transcript prints after which the same performative comes on each channel: each line, and how often it stands there
-/// in a row.
+/// What a transcript prints after which the same performative comes on each channel, and then the lines after `then`: each line, and
+/// how often it stands there in a row.
 fn on_each_channel(alloc: Global, text: &str) -> anyhow::Result<Vec<u8>> {
     let (body, lines) = text.split_once('\n').unwrap_or((text, ""));
-    let mut all = String::from_str(alloc, lines)?;
+    let (before, after) = lines.split_once("then\n").unwrap_or((lines, ""));
+    let mut all = String::from_str(alloc, before)?;
     for channel in 0..=u16::MAX {
         let digits = hex::encode(alloc, &channel.to_be_bytes())?;
         all.push_str(format!(in alloc; "recv 0200{digits}{body}\n")?.as_str())?;
     }
+    all.push_str(after)?;
     counted(alloc, transcript(alloc, all.as_str())?.as_slice())
 }
 

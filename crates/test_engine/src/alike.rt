@@ -1,6 +1,7 @@
 //! Answers that are compared, and numbers of sessions.
 
-use crate::given::{ReplayEngine, unnamed_open};
+use crate::asking::engine_in;
+use crate::given::ReplayEngine;
 use crate::running::push;
 use crate::same::holds;
 use amqp_connection::laws::law_of_session_numbers;
@@ -14,7 +15,7 @@ use std::hash::{DefaultHasher, Hash, Hasher};
 fn opened(alloc: Global) -> Vec<Answer> {
     let mut inputs = VecDeque::new(alloc);
     let mut answers = Vec::new(alloc);
-    let mut engine = ReplayEngine::new(alloc, ConnectionState::HeaderExchange, unnamed_open(alloc));
+    let mut engine: ReplayEngine = engine_in(alloc, ConnectionState::HeaderExchange);
     let outcome = match push(&mut inputs, Input::Open) {
         true => engine.run(&mut inputs, &mut answers),
         false => Ok(()),

@@ -1,26 +1,13 @@
-//! Asking an engine, one input at a time.
+//! Asking an engine, one input at a time, with whatever relay.
 
-use crate::given::{ReplayEngine, pieces_said, unnamed_open};
+use crate::given::pieces_said;
 use bytes::Bytes;
 use fe2o3_amqp::{
-    ConnectionState, ConnectionStopReason, Engine, IncomingChannel, Input, InputHandle, LinkRelay,
-    Piece, SessionNo, SessionSettings, SessionState, SessionStopReason, StepError, err_name,
-    hex_bytes,
+    Attach, ConnectionState, Engine, Input, InputHandle, LinkRelay, Piece, Role, SessionNo,
+    SessionSettings, err_name, hex_bytes,
 };
 use std::alloc::{AllocError, Global};
-use test_support::transfer_of;
-
-/// Why an input is refused, if it is.
-pub fn refusal<R: LinkRelay>(engine: &mut Engine<R>, input: Input<R>) -> Option<StepError> {
-    engine.step(input).err()
-}
-
-/// The name of a refusal. The explicit drop is cheaper to prove than one at the end of the scope.
-pub fn refusal_name(error: StepError) -> &'static str {
-    let name = err_name(&error);
-    drop(error);
-    name
-}
+use test_support::{attach_of, detach_of, link_flow_of, open_of, transfer_of};
 
 /// What an input is answered.
 pub fn answer<R: LinkRelay>(engine: &mut Engine<R>, input: Input<R>) -> &'static str {
@@ -69,113 +56,83 @@ fn next_lines<R: LinkRelay>(alloc: Global, engine: &mut Engine<R>) -> Result<Str
     }
 }
 
-/// Whether these lines, each with a line feed, are those of the first frame that waits; without a line no frame waits.
-pub fn puts_out<R: LinkRelay>(alloc: Global, engine: &mut Engine<R>, lines: &str) -> bool {
+/// Whether one frame waits, whose only piece is this line with a line feed; without a line, whether no frame waits.
+pub fn puts_out<R: LinkRelay>(alloc: Global, engine: &mut Engine<R>, line: &str) -> bool {
+    if engine.has_output() == line.is_empty() {
+        return false;
+    }
     match next_lines(alloc, engine) {
-        Ok(text) => text.as_str() == lines,
+        Ok(text) => text.as_str() == line && !engine.has_output(),
         Err(_) => false,
     }
 }
 
-/// An engine in this state, whose Open has no name. Tests drop it by an explicit call: at the end of a scope the proof takes
+/// An engine in this state, whose Open has no name and the usual limits. Tests drop it by an explicit call: at the end of a scope the proof takes
 /// minutes.
-pub fn engine_in(alloc: Global, state: ConnectionState) -> ReplayEngine {
-    Engine::new(alloc, state, unnamed_open(alloc))
+pub fn engine_in<R: LinkRelay>(alloc: Global, state: ConnectionState) -> Engine<R> {
+    Engine::new(alloc, state, open_of(String::new(alloc)))
 }
 
-/// The same in `Opened`.
-pub fn opened(alloc: Global) -> ReplayEngine {
-    engine_in(alloc, ConnectionState::Opened)
+/// An engine in `Opened` that has session 0, which this Begin of the peer's maps.
+pub fn mapped<R: LinkRelay>(alloc: Global, begin: &str) -> Engine<R> {
+    let mut engine = engine_in(alloc, ConnectionState::Opened);
+    let own = Input::Begin(SessionNo(0), SessionSettings::new());
+    let _is_mapped = answer(&mut engine, own) == "done"
+        && pieces(&mut engine).is_some()
+        && receive_digits(alloc, &mut engine, begin) == "done";
+    engine
 }
 
-/// Whether a session begins, of default settings; its Begin is taken out.
-pub fn begins<R: LinkRelay>(engine: &mut Engine<R>, number: u32) -> bool {
-    let begin = Input::Begin(SessionNo(number), SessionSettings::new());
-    answer(engine, begin) == "done" && pieces(engine).is_some()
+/// What the request of a link is answered, whose relay waits for the peer's attach.
+pub fn allot<R: LinkRelay>(
+    alloc: Global,
+    engine: &mut Engine<R>,
+    name: &str,
+    relay: R,
+) -> &'static str {
+    match String::from_str(alloc, name) {
+        Ok(name) => answer(engine, Input::AllocateLink(SessionNo(0), name, Some(relay))),
+        Err(AllocError) => "no name",
+    }
 }
 
-/// What the request of a first transfer is answered.
+/// An attach of this side's, as a receiver.
+fn attach(alloc: Global, name: &str, handle: u32) -> Result<Attach, AllocError> {
+    Ok(attach_of(String::from_str(alloc, name)?, handle, Role::Receiver))
+}
+
+/// What the request of an attach on handle 0 is answered.
+pub fn send_attach<R: LinkRelay>(
+    alloc: Global,
+    engine: &mut Engine<R>,
+    name: &str,
+) -> &'static str {
+    match attach(alloc, name, 0) {
+        Ok(attach) => answer(engine, Input::Attach(SessionNo(0), attach)),
+        Err(AllocError) => "no name",
+    }
+}
+
+/// What the request of a flow of handle 0 with credit 20 is answered.
+pub fn send_flow<R: LinkRelay>(engine: &mut Engine<R>) -> &'static str {
+    let flow = link_flow_of(0, 20, false);
+    answer(engine, Input::Flow(SessionNo(0), flow))
+}
+
+/// What the request of a detach of handle 0 is answered, closed and without an error, that the peer is to answer.
+pub fn send_detach<R: LinkRelay>(engine: &mut Engine<R>) -> &'static str {
+    answer(engine, Input::Detach(SessionNo(0), detach_of(0), true))
+}
+
+/// What the request of a first transfer on handle 0 is answered.
 pub fn send<R: LinkRelay>(
     engine: &mut Engine<R>,
-    number: u32,
     tag: &'static [u8],
     payload: Bytes,
 ) -> &'static str {
     let transfer = transfer_of(0, Some(tag));
-    let number = SessionNo(number);
     answer(
         engine,
-        Input::Transfer(number, InputHandle(0), transfer, payload, true),
-    )
-}
-
-/// The state of a session, if it was begun.
-pub fn state_of<R: LinkRelay>(engine: &Engine<R>, number: u32) -> Option<SessionState> {
-    match engine.session(SessionNo(number)) {
-        Some(session) => Some(*session.local_state()),
-        None => None,
-    }
-}
-
-/// Why a session stopped, where a reason is recorded.
-pub fn reason_of<R: LinkRelay>(engine: &Engine<R>, number: u32) -> Option<SessionStopReason> {
-    match engine.session(SessionNo(number)) {
-        Some(session) => session.session_stop_reason(),
-        None => None,
-    }
-}
-
-/// The next number of a session, how many transfers its peer still takes, and how many wait; all 9 where there is none.
-pub fn numbers_of<R: LinkRelay>(engine: &Engine<R>, number: u32) -> (u32, u32, usize) {
-    match engine.session(SessionNo(number)) {
-        Some(session) => (
-            session.next_outgoing_id(),
-            session.remote_incoming_window(),
-            session.held_back(),
-        ),
-        None => (9, 9, 9),
-    }
-}
-
-/// How many transfers the peer may still send in session 0; 1000 where there is none.
-pub fn window_of<R: LinkRelay>(engine: &Engine<R>) -> u32 {
-    match engine.session(SessionNo(0)) {
-        Some(session) => session.remote_outgoing_window(),
-        None => 1000,
-    }
-}
-
-/// How many deliveries of session 0 are open, of both roles; 1000 where there is none.
-pub fn open_of<R: LinkRelay>(engine: &Engine<R>) -> usize {
-    match engine.session(SessionNo(0)) {
-        Some(session) => session.open_deliveries(),
-        None => 1000,
-    }
-}
-
-/// The session to which channel 7 of the peer's leads; 1000 where it leads to none.
-pub fn led<R: LinkRelay>(engine: &Engine<R>) -> u32 {
-    match engine
-        .connection()
-        .session_tx_by_incoming_channel(IncomingChannel(7))
-    {
-        Some(number) => number.0,
-        None => 1000,
-    }
-}
-
-/// Whether a channel of the peer's leads to the session.
-pub fn is_led<R: LinkRelay>(engine: &Engine<R>, number: u32) -> bool {
-    engine.connection().has_route(SessionNo(number))
-}
-
-/// The state of the connection, and why it stopped, where a reason is recorded.
-pub fn stopped<R: LinkRelay>(
-    engine: &Engine<R>,
-) -> (ConnectionState, Option<ConnectionStopReason>) {
-    let connection = engine.connection();
-    (
-        *connection.local_state(),
-        connection.connection_stop_reason(),
+        Input::Transfer(SessionNo(0), InputHandle(0), transfer, payload, true),
     )
 }

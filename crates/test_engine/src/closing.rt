@@ -1,17 +1,17 @@
 //! A close from the first wish to its outcome, as the README shows it.
 
-use crate::asking::opened;
+use crate::asking::engine_in;
 use crate::example::closing;
 use crate::given::peer_close;
 use crate::same::holds;
 use bytes::Bytes;
 use fe2o3_amqp::connection::Error;
-use fe2o3_amqp::{ConnectionHandle, HandledEngine, ReplayRelay};
+use fe2o3_amqp::{ConnectionHandle, ConnectionState, HandledEngine, ReplayRelay};
 use std::alloc::Global;
 use std::io;
 
 fn handled(alloc: Global) -> HandledEngine<ReplayRelay> {
-    HandledEngine::new(opened(alloc))
+    HandledEngine::new(engine_in(alloc, ConnectionState::Opened))
 }
 
 fn wishes(engine: &mut HandledEngine<ReplayRelay>, handle: &mut ConnectionHandle) -> bool {

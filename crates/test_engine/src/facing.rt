@@ -1,7 +1,6 @@
 //! Two engines face to face: what one puts out, the other receives. The link is attached on both sides before transfers pass.
 
-use crate::asking::{pieces, receive, send};
-use crate::linking::{allot, mapped_by, send_attach, send_flow};
+use crate::asking::{allot, mapped, pieces, receive, send, send_attach, send_flow};
 use crate::same::{holds, same};
 use crate::telling::{Telling, Told};
 use bytes::Bytes;
@@ -40,7 +39,7 @@ fn transfer<F: LinkRelay, T: LinkRelay>(
     from: &mut Engine<F>,
     to: &mut Engine<T>,
 ) -> &'static str {
-    match send(from, 0, b"\x0a", Bytes::from_static(b"\xff")) {
+    match send(from, b"\x0a", Bytes::from_static(b"\xff")) {
         "done" => pass(alloc, from, to),
         refusal => refusal,
     }
@@ -53,8 +52,8 @@ fn attach<F: LinkRelay, T: LinkRelay>(
     to: &mut Engine<T>,
     relay: T,
 ) -> bool {
-    allot(alloc, to, "a", Some(relay)) == "done"
-        && send_attach(alloc, from, "a", 0) == "done"
+    allot(alloc, to, "a", relay) == "done"
+        && send_attach(alloc, from, "a") == "done"
         && pass(alloc, from, to) == "done"
 }
 
@@ -67,7 +66,7 @@ fn two_pass<F: LinkRelay, T: LinkRelay>(
     transfer(alloc, from, to) == "done"
         && transfer(alloc, from, to) == "done"
         && transfer(alloc, from, to) == "nothing waits"
-        && send_flow(to, 0) == "done"
+        && send_flow(to) == "done"
         && pass(alloc, to, from) == "done"
         && pass(alloc, from, to) == "done"
 }
@@ -79,8 +78,8 @@ fn an_attach_that_goes_out_attaches_the_link_that_waits(rt: HostRuntime) {
         told: &told,
         refusals: 0,
     };
-    let mut from: Engine<ReplayRelay> = mapped_by(rt.alloc(), BEGIN);
-    let mut to = mapped_by(rt.alloc(), BEGIN);
+    let mut from: Engine<ReplayRelay> = mapped(rt.alloc(), BEGIN);
+    let mut to = mapped(rt.alloc(), BEGIN);
     let is_there = attach(rt.alloc(), &mut from, &mut to, relay);
     let before = told.counts();
     let is_here = attach(rt.alloc(), &mut to, &mut from, ReplayRelay);

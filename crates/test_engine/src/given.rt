@@ -2,21 +2,15 @@
 
 use bytes::Bytes;
 use fe2o3_amqp::definitions::Error as AmqpError;
-use fe2o3_amqp::{Answer, Engine, Input, Open, Piece, ReplayRelay, Symbol, err_name, out_line};
+use fe2o3_amqp::{Answer, Engine, Input, Piece, ReplayRelay, Symbol, err_name, out_line};
 use std::alloc::{AllocError, Global};
 use std::test::Fail;
-use test_support::open_of;
 
 /// An engine whose links are relayed as those of transcripts are.
 pub type ReplayEngine = Engine<ReplayRelay>;
 
 /// An input of such an engine.
 pub type ReplayInput = Input<ReplayRelay>;
-
-/// An Open without a name, with the usual limits, and nothing else.
-pub fn unnamed_open(alloc: Global) -> Open {
-    open_of(String::new(alloc))
-}
 
 /// An error with this condition, and nothing else.
 pub fn error(alloc: Global, condition: &str) -> Result<AmqpError, Fail> {
