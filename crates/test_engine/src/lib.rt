@@ -13,7 +13,8 @@ mod closing;
 mod driving;
 #[cfg(test)]
 mod errors;
-pub mod example;
+#[cfg(test)]
+mod example;
 #[cfg(test)]
 mod facing;
 #[cfg(test)]
