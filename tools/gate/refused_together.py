@@ -17,9 +17,9 @@ the same. An edit that such a check does not refuse is tried again alone, and th
 (specs/) are tried alone, in a copy with all bodies.
 
 That a crate is proved as it stands is for 'rt ci' to say, which the gate calls before; a note names each crate that was changed since its
-rlib was made. Beside the edits of a check stand functions as they are, whose edits are in other checks: no goal of theirs may be open, which
-shows that such a copy leaves proved what was proved. They are one in eight of the functions that edits name, and with 'control' as the first
-word all of them. The last line is 'N passed, M failed'.
+rlib was made. Beside the edits of a check stand functions as they are, whose edits are in other checks or not tried: no goal of theirs may be
+open, which shows that such a copy leaves proved what was proved. They are one in twelve of the functions that edits of the crate name, and with
+'control' as the first word all that the edits name which are tried. The last line is 'N passed, M failed'.
 
 'fit' checks nothing: it only says which edits do not find their old text in the code.
 """
@@ -45,9 +45,9 @@ from shared.command import command
 ROOT = Path(__file__).resolve().parents[2]
 ANY_GOAL = re.compile(r"(?:\./)?\S+\.(?:rt|antt):\d+:\d+: error: |\S.*: no proof: .*did not prove ")
 # At most so many edits in one check, so that none takes long.
-MOST = 40
+MOST = 45
 # One in so many functions is checked as it stands too.
-ONE_IN = 8
+ONE_IN = 12
 # How a function begins, as 'rt fmt' sets it, and the other lines of its head that stand as far out.
 BEGINS = re.compile(r"( *)(?:pub(?:\([\w:]+\))? )?(?:const )?fn (\w+)")
 GOES_ON = re.compile(r"\)|where$|\{$")
@@ -249,7 +249,8 @@ class Trial:
     def controls(self, one_in, batches):
         """The functions that stand as they are in each of these checks, none of which edits them, and those for which there is no such check:
         of one in so many none, where others can stand in a check."""
-        free = {it.function: [at for at, (edits, _) in enumerate(batches) if is_free(it.function, edits)] for it in self.edits}
+        of = edits_of(self.crate.folder) if one_in > 1 else self.edits
+        free = {it.function: [at for at, (edits, _) in enumerate(batches) if is_free(it.function, edits)] for it in of}
         all_of_them = sorted(free)
         beside = [it for it in all_of_them if free[it]]
         names, without = [[] for _ in batches], []
