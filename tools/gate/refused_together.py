@@ -18,7 +18,7 @@ the same. An edit that such a check does not refuse is tried again alone, and th
 
 That a crate is proved as it stands is for 'rt ci' to say, which the gate calls before; a note names each crate that was changed since its
 rlib was made. Beside the edits of a check stand functions as they are, whose edits are in other checks or not tried: no goal of theirs may be
-open, which shows that such a copy leaves proved what was proved. They are one in twelve of the functions that edits of the crate name, and with
+open, which shows that such a copy leaves proved what was proved. They are one in twelve of the functions whose code edits of the crate change, and with
 'control' as the first word all that the edits name which are tried. The last line is 'N passed, M failed'.
 
 'fit' checks nothing: it only says which edits do not find their old text in the code.
@@ -249,7 +249,7 @@ class Trial:
     def controls(self, one_in, batches):
         """The functions that stand as they are in each of these checks, none of which edits them, and those for which there is no such check:
         of one in so many none, where others can stand in a check."""
-        of = edits_of(self.crate.folder) if one_in > 1 else self.edits
+        of = [it for it in edits_of(self.crate.folder) if not it.is_alone()] if one_in > 1 else self.edits
         free = {it.function: [at for at, (edits, _) in enumerate(batches) if is_free(it.function, edits)] for it in of}
         all_of_them = sorted(free)
         beside = [it for it in all_of_them if free[it]]
