@@ -7,7 +7,7 @@ use Rattle.amqp_values.specs.Reading.{joined}
 use Rattle.std.proofs.lemmas.Bool.Decides.{nat_tests}
 use Rattle.amqp_types.specs.Definitions.{flag_text, receiver_mode_text, value_text}
 use Rattle.amqp_values.specs.Writing.{binary_text, boolean_text, optional_text, uint_text, keep, trim, list_head, list_text}
-use Rattle.amqp_types.specs.Transfer.{TransferModel, continuation, transfer_fields}
+use Rattle.amqp_types.specs.Transfer.{TransferModel, continuation, transfer_table}
 use Rattle.std.specs.Int.{w32, to_be_bytes}
 use Rattle.amqp_frames.specs.Split.{numbered_widest}
 use Rattle.amqp_frames.specs.Cut.{transfer_text, first_text, middle_text, last_text}
@@ -74,7 +74,7 @@ text_under [] (y ∷ ys) u = let e = text_some y ys in let s = spread_some (leng
 text_under (x ∷ xs) (y ∷ ys) u = let e = text_some x xs in let f = text_some y ys in let s = spread_up _ _ u.size in omega arith
 
 more_under : (b : Bool) (t : TransferModel) → length (transfer_text (record t { more = b })) ≤ length (transfer_text (record t { more = true }))
-unfolding transfer_fields
+unfolding transfer_table
 more_under true t = omega arith
 more_under false t =
     let pre : List (List ℕ) = uint_text t.handle ∷ optional_text uint_text t.delivery_id ∷ optional_text binary_text t.delivery_tag ∷ optional_text uint_text t.message_format ∷ optional_text boolean_text t.settled ∷ [] in
@@ -115,7 +115,7 @@ uint_short n = go (eqb n 0) (nat_lt n 256)
 -- no number that a session gives makes the text longer than the widest one
 pub number_under : (n : ℕ) (first : Bool) (t : TransferModel)
     → length (transfer_text (record t { delivery_id = cond first (Some n) None })) ≤ length (transfer_text (numbered_widest first t))
-unfolding transfer_fields
+unfolding transfer_table
 number_under n false t = omega arith
 number_under n true t =
     let post : List (List ℕ) = optional_text binary_text t.delivery_tag ∷ optional_text uint_text t.message_format ∷ optional_text boolean_text t.settled ∷ flag_text t.more

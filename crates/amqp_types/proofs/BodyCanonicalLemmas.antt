@@ -5,25 +5,26 @@ use Rattle.amqp_values.specs.Slots.{Optional}
 use Rattle.amqp_values.specs.Writing.{described_text, optional_text}
 use Rattle.amqp_types.specs.Inner.Held.{ErrorHeld, OpenHeld, BeginHeld, AttachHeld, FlowHeld, TransferHeld, DispositionHeld, DetachHeld, EndHeld, CloseHeld}
 use Rattle.amqp_values.specs.Composite.{IsDescribed}
-use Rattle.amqp_types.specs.Error.{ErrorModel, IsErrorBody, error_fields, IsError, error_text}
-use Rattle.amqp_types.specs.Open.{OpenModel, IsOpenBody, open_fields}
-use Rattle.amqp_types.specs.Begin.{BeginModel, IsBeginBody, begin_fields}
-use Rattle.amqp_types.specs.Attach.{AttachModel, IsAttachBody, attach_fields}
-use Rattle.amqp_types.specs.Flow.{FlowModel, IsFlowBody, flow_fields}
-use Rattle.amqp_types.specs.Transfer.{TransferModel, IsTransferBody, transfer_fields}
-use Rattle.amqp_types.specs.Disposition.{DispositionModel, IsDispositionBody, disposition_fields}
-use Rattle.amqp_types.specs.Detach.{DetachModel, IsDetachBody, detach_fields}
-use Rattle.amqp_types.specs.End.{EndModel, IsEndBody, end_fields}
-use Rattle.amqp_types.specs.Close.{CloseModel, IsCloseBody, close_fields}
+use Rattle.amqp_types.specs.FieldTable.{IsListed, listed_text}
+use Rattle.amqp_types.specs.Error.{ErrorModel, IsErrorBody, error_table, IsError, error_text}
+use Rattle.amqp_types.specs.Open.{OpenModel, IsOpenBody, open_table}
+use Rattle.amqp_types.specs.Begin.{BeginModel, IsBeginBody, begin_table}
+use Rattle.amqp_types.specs.Attach.{AttachModel, IsAttachBody, attach_table}
+use Rattle.amqp_types.specs.Flow.{FlowModel, IsFlowBody, flow_table}
+use Rattle.amqp_types.specs.Transfer.{TransferModel, IsTransferBody, transfer_table}
+use Rattle.amqp_types.specs.Disposition.{DispositionModel, IsDispositionBody, disposition_table}
+use Rattle.amqp_types.specs.Detach.{DetachModel, IsDetachBody, detach_table}
+use Rattle.amqp_types.specs.End.{EndModel, IsEndBody, end_table}
+use Rattle.amqp_types.specs.Close.{CloseModel, IsCloseBody, close_table}
 use Rattle.amqp_values.proofs.SlotCanonicalLemmas.{Fits, IsCanonical, other_canonical, optional_canonical, slot_canonical, end_canonical as last_canonical}
 use Rattle.amqp_values.proofs.NumberCanonicalLemmas.{uint_canonical, uint_or_canonical, ushort_or_canonical}
 use Rattle.amqp_values.proofs.TextCanonicalLemmas.{symbol_canonical}
 use Rattle.amqp_values.proofs.CompositeCanonicalLemmas.{described_canonical}
 use Rattle.amqp_types.proofs.FieldCanonicalLemmas.{text_canonical, role_canonical, sender_mode_or_canonical, receiver_mode_or_canonical, flag_canonical, optional_ushort, optional_uint, optional_ulong, optional_string, optional_symbols, optional_raw, optional_map, optional_binary, optional_boolean, optional_receiver_mode}
 
-pub error_canonical : (p : ErrorModel) → ErrorHeld p → Fits (described_text 0x1d (error_fields p)) → IsDescribed 0x1d IsErrorBody p (described_text 0x1d (error_fields p))
-unfolding error_fields
-error_canonical p h = described_canonical 0x1d IsErrorBody p (error_fields p) (omega arith)
+pub error_canonical : (p : ErrorModel) → ErrorHeld p → Fits (listed_text 0x1d error_table p) → IsListed 0x1d error_table p (listed_text 0x1d error_table p)
+unfolding error_table
+error_canonical p h = described_canonical 0x1d IsErrorBody p (error_table p).canonical (omega arith)
     (slot_canonical _ _ _ _ (symbol_canonical p.condition h.condition)
     (slot_canonical _ _ _ _ (optional_string p.description h.description)
     (slot_canonical _ _ _ _ (optional_map p.info h.info)
@@ -32,9 +33,9 @@ error_canonical p h = described_canonical 0x1d IsErrorBody p (error_fields p) (o
 optional_error : (o : Option ErrorModel) → IfSome o ErrorHeld → IsCanonical (Optional IsError o) (optional_text error_text o)
 optional_error = optional_canonical IsError error_text ErrorHeld (λ p h. other_canonical (IsError p) (error_text p) refl (error_canonical p h))
 
-pub open_canonical : (p : OpenModel) → OpenHeld p → Fits (described_text 0x10 (open_fields p)) → IsDescribed 0x10 IsOpenBody p (described_text 0x10 (open_fields p))
-unfolding open_fields
-open_canonical p h = described_canonical 0x10 IsOpenBody p (open_fields p) (omega arith)
+pub open_canonical : (p : OpenModel) → OpenHeld p → Fits (listed_text 0x10 open_table p) → IsListed 0x10 open_table p (listed_text 0x10 open_table p)
+unfolding open_table
+open_canonical p h = described_canonical 0x10 IsOpenBody p (open_table p).canonical (omega arith)
     (slot_canonical _ _ _ _ (text_canonical p.container_id h.container_id)
     (slot_canonical _ _ _ _ (optional_string p.hostname h.hostname)
     (slot_canonical _ _ _ _ (uint_or_canonical 4294967295 p.max_frame_size h.max_frame_size)
@@ -47,9 +48,9 @@ open_canonical p h = described_canonical 0x10 IsOpenBody p (open_fields p) (omeg
     (slot_canonical _ _ _ _ (optional_map p.properties h.properties)
     last_canonical))))))))))
 
-pub begin_canonical : (p : BeginModel) → BeginHeld p → Fits (described_text 0x11 (begin_fields p)) → IsDescribed 0x11 IsBeginBody p (described_text 0x11 (begin_fields p))
-unfolding begin_fields
-begin_canonical p h = described_canonical 0x11 IsBeginBody p (begin_fields p) (omega arith)
+pub begin_canonical : (p : BeginModel) → BeginHeld p → Fits (listed_text 0x11 begin_table p) → IsListed 0x11 begin_table p (listed_text 0x11 begin_table p)
+unfolding begin_table
+begin_canonical p h = described_canonical 0x11 IsBeginBody p (begin_table p).canonical (omega arith)
     (slot_canonical _ _ _ _ (optional_ushort p.remote_channel h.remote_channel)
     (slot_canonical _ _ _ _ (uint_canonical p.next_outgoing_id h.next_outgoing_id)
     (slot_canonical _ _ _ _ (uint_canonical p.incoming_window h.incoming_window)
@@ -60,9 +61,9 @@ begin_canonical p h = described_canonical 0x11 IsBeginBody p (begin_fields p) (o
     (slot_canonical _ _ _ _ (optional_map p.properties h.properties)
     last_canonical))))))))
 
-pub attach_canonical : (p : AttachModel) → AttachHeld p → Fits (described_text 0x12 (attach_fields p)) → IsDescribed 0x12 IsAttachBody p (described_text 0x12 (attach_fields p))
-unfolding attach_fields
-attach_canonical p h = described_canonical 0x12 IsAttachBody p (attach_fields p) (omega arith)
+pub attach_canonical : (p : AttachModel) → AttachHeld p → Fits (listed_text 0x12 attach_table p) → IsListed 0x12 attach_table p (listed_text 0x12 attach_table p)
+unfolding attach_table
+attach_canonical p h = described_canonical 0x12 IsAttachBody p (attach_table p).canonical (omega arith)
     (slot_canonical _ _ _ _ (text_canonical p.name h.name)
     (slot_canonical _ _ _ _ (uint_canonical p.handle h.handle)
     (slot_canonical _ _ _ _ (role_canonical p.role)
@@ -79,9 +80,9 @@ attach_canonical p h = described_canonical 0x12 IsAttachBody p (attach_fields p)
     (slot_canonical _ _ _ _ (optional_map p.properties h.properties)
     last_canonical))))))))))))))
 
-pub flow_canonical : (p : FlowModel) → FlowHeld p → Fits (described_text 0x13 (flow_fields p)) → IsDescribed 0x13 IsFlowBody p (described_text 0x13 (flow_fields p))
-unfolding flow_fields
-flow_canonical p h = described_canonical 0x13 IsFlowBody p (flow_fields p) (omega arith)
+pub flow_canonical : (p : FlowModel) → FlowHeld p → Fits (listed_text 0x13 flow_table p) → IsListed 0x13 flow_table p (listed_text 0x13 flow_table p)
+unfolding flow_table
+flow_canonical p h = described_canonical 0x13 IsFlowBody p (flow_table p).canonical (omega arith)
     (slot_canonical _ _ _ _ (optional_uint p.next_incoming_id h.next_incoming_id)
     (slot_canonical _ _ _ _ (uint_canonical p.incoming_window h.incoming_window)
     (slot_canonical _ _ _ _ (uint_canonical p.next_outgoing_id h.next_outgoing_id)
@@ -95,9 +96,9 @@ flow_canonical p h = described_canonical 0x13 IsFlowBody p (flow_fields p) (omeg
     (slot_canonical _ _ _ _ (optional_map p.properties h.properties)
     last_canonical)))))))))))
 
-pub transfer_canonical : (p : TransferModel) → TransferHeld p → Fits (described_text 0x14 (transfer_fields p)) → IsDescribed 0x14 IsTransferBody p (described_text 0x14 (transfer_fields p))
-unfolding transfer_fields
-transfer_canonical p h = described_canonical 0x14 IsTransferBody p (transfer_fields p) (omega arith)
+pub transfer_canonical : (p : TransferModel) → TransferHeld p → Fits (listed_text 0x14 transfer_table p) → IsListed 0x14 transfer_table p (listed_text 0x14 transfer_table p)
+unfolding transfer_table
+transfer_canonical p h = described_canonical 0x14 IsTransferBody p (transfer_table p).canonical (omega arith)
     (slot_canonical _ _ _ _ (uint_canonical p.handle h.handle)
     (slot_canonical _ _ _ _ (optional_uint p.delivery_id h.delivery_id)
     (slot_canonical _ _ _ _ (optional_binary p.delivery_tag)
@@ -111,9 +112,9 @@ transfer_canonical p h = described_canonical 0x14 IsTransferBody p (transfer_fie
     (slot_canonical _ _ _ _ (flag_canonical p.batchable)
     last_canonical)))))))))))
 
-pub disposition_canonical : (p : DispositionModel) → DispositionHeld p → Fits (described_text 0x15 (disposition_fields p)) → IsDescribed 0x15 IsDispositionBody p (described_text 0x15 (disposition_fields p))
-unfolding disposition_fields
-disposition_canonical p h = described_canonical 0x15 IsDispositionBody p (disposition_fields p) (omega arith)
+pub disposition_canonical : (p : DispositionModel) → DispositionHeld p → Fits (listed_text 0x15 disposition_table p) → IsListed 0x15 disposition_table p (listed_text 0x15 disposition_table p)
+unfolding disposition_table
+disposition_canonical p h = described_canonical 0x15 IsDispositionBody p (disposition_table p).canonical (omega arith)
     (slot_canonical _ _ _ _ (role_canonical p.role)
     (slot_canonical _ _ _ _ (uint_canonical p.first h.first)
     (slot_canonical _ _ _ _ (optional_uint p.last h.last)
@@ -122,22 +123,22 @@ disposition_canonical p h = described_canonical 0x15 IsDispositionBody p (dispos
     (slot_canonical _ _ _ _ (flag_canonical p.batchable)
     last_canonical))))))
 
-pub detach_canonical : (p : DetachModel) → DetachHeld p → Fits (described_text 0x16 (detach_fields p)) → IsDescribed 0x16 IsDetachBody p (described_text 0x16 (detach_fields p))
-unfolding detach_fields
-detach_canonical p h = described_canonical 0x16 IsDetachBody p (detach_fields p) (omega arith)
+pub detach_canonical : (p : DetachModel) → DetachHeld p → Fits (listed_text 0x16 detach_table p) → IsListed 0x16 detach_table p (listed_text 0x16 detach_table p)
+unfolding detach_table
+detach_canonical p h = described_canonical 0x16 IsDetachBody p (detach_table p).canonical (omega arith)
     (slot_canonical _ _ _ _ (uint_canonical p.handle h.handle)
     (slot_canonical _ _ _ _ (flag_canonical p.closed)
     (slot_canonical _ _ _ _ (optional_error p.error h.error)
     last_canonical)))
 
-pub end_canonical : (p : EndModel) → EndHeld p → Fits (described_text 0x17 (end_fields p)) → IsDescribed 0x17 IsEndBody p (described_text 0x17 (end_fields p))
-unfolding end_fields
-end_canonical p h = described_canonical 0x17 IsEndBody p (end_fields p) (omega arith)
+pub end_canonical : (p : EndModel) → EndHeld p → Fits (listed_text 0x17 end_table p) → IsListed 0x17 end_table p (listed_text 0x17 end_table p)
+unfolding end_table
+end_canonical p h = described_canonical 0x17 IsEndBody p (end_table p).canonical (omega arith)
     (slot_canonical _ _ _ _ (optional_error p.error h.error)
     last_canonical)
 
-pub close_canonical : (p : CloseModel) → CloseHeld p → Fits (described_text 0x18 (close_fields p)) → IsDescribed 0x18 IsCloseBody p (described_text 0x18 (close_fields p))
-unfolding close_fields
-close_canonical p h = described_canonical 0x18 IsCloseBody p (close_fields p) (omega arith)
+pub close_canonical : (p : CloseModel) → CloseHeld p → Fits (listed_text 0x18 close_table p) → IsListed 0x18 close_table p (listed_text 0x18 close_table p)
+unfolding close_table
+close_canonical p h = described_canonical 0x18 IsCloseBody p (close_table p).canonical (omega arith)
     (slot_canonical _ _ _ _ (optional_error p.error h.error)
     last_canonical)

@@ -2,16 +2,16 @@
 use Rattle.std.proofs.Common.{refl, false}
 use Rattle.amqp_types.specs.declared.definitions.SenderSettleMode.TheVariants.{Mixed}
 use Rattle.amqp_types.specs.declared.definitions.ReceiverSettleMode.TheVariants.{First}
-use Rattle.amqp_types.specs.Error.{IsErrorBody, error_of, error_slots, error_body_at, IsError, error_at}
-use Rattle.amqp_types.specs.Open.{IsOpenBody, open_of, open_slots, open_body_at}
-use Rattle.amqp_types.specs.Begin.{IsBeginBody, begin_of, begin_slots, begin_body_at}
-use Rattle.amqp_types.specs.Attach.{IsAttachBody, attach_of, attach_slots, attach_body_at, attach_rest_at}
-use Rattle.amqp_types.specs.Flow.{IsFlowBody, flow_of, flow_slots, flow_body_at}
-use Rattle.amqp_types.specs.Transfer.{IsTransferBody, transfer_of, transfer_slots, transfer_body_at}
-use Rattle.amqp_types.specs.Disposition.{IsDispositionBody, disposition_of, disposition_slots, disposition_body_at}
-use Rattle.amqp_types.specs.Detach.{IsDetachBody, detach_of, detach_slots, detach_body_at}
-use Rattle.amqp_types.specs.End.{IsEndBody, end_of, end_slots, end_body_at}
-use Rattle.amqp_types.specs.Close.{IsCloseBody, close_of, close_slots, close_body_at}
+use Rattle.amqp_types.specs.Error.{error_table, IsErrorBody, error_of, error_slots, error_body_at, IsError, error_at}
+use Rattle.amqp_types.specs.Open.{open_table, IsOpenBody, open_of, open_slots, open_body_at}
+use Rattle.amqp_types.specs.Begin.{begin_table, IsBeginBody, begin_of, begin_slots, begin_body_at}
+use Rattle.amqp_types.specs.Attach.{attach_table, IsAttachBody, attach_of, attach_slots, attach_body_at, attach_rest_at}
+use Rattle.amqp_types.specs.Flow.{flow_table, IsFlowBody, flow_of, flow_slots, flow_body_at}
+use Rattle.amqp_types.specs.Transfer.{transfer_table, IsTransferBody, transfer_of, transfer_slots, transfer_body_at}
+use Rattle.amqp_types.specs.Disposition.{disposition_table, IsDispositionBody, disposition_of, disposition_slots, disposition_body_at}
+use Rattle.amqp_types.specs.Detach.{detach_table, IsDetachBody, detach_of, detach_slots, detach_body_at}
+use Rattle.amqp_types.specs.End.{end_table, IsEndBody, end_of, end_slots, end_body_at}
+use Rattle.amqp_types.specs.Close.{close_table, IsCloseBody, close_of, close_slots, close_body_at}
 use Rattle.amqp_values.proofs.ReaderLemmas.{IsFormat}
 use Rattle.amqp_values.proofs.NumberLemmas.{ushort_format, uint_format, ulong_format, boolean_format}
 use Rattle.amqp_values.proofs.TextLemmas.{binary_format, string_format, symbol_format}
@@ -23,7 +23,7 @@ use Rattle.amqp_values.proofs.CompositeLemmas.{described_law}
 use Rattle.amqp_types.proofs.DefinitionLemmas.{role_format, sender_mode_format, receiver_mode_format}
 
 pub error_body : IsBody IsErrorBody error_body_at
-unfolding error_body_at
+unfolding error_table error_body_at
 error_body = named_law _ _ error_of error_slots (λ v. refl) (λ w. refl)
     (then_law _ _ _ _ (required_law _ _ symbol_format)
     (then_law _ _ _ _ (optional_law _ _ string_format)
@@ -35,7 +35,7 @@ unfolding error_at
 error_format = described_law 0x1d _ _ error_body
 
 pub open_body : IsBody IsOpenBody open_body_at
-unfolding open_body_at
+unfolding open_table open_body_at
 open_body = named_law _ _ open_of open_slots (λ v. refl) (λ w. refl)
     (then_law _ _ _ _ (required_law _ _ string_format)
     (then_law _ _ _ _ (optional_law _ _ string_format)
@@ -50,7 +50,7 @@ open_body = named_law _ _ open_of open_slots (λ v. refl) (λ w. refl)
     end_law))))))))))
 
 pub begin_body : IsBody IsBeginBody begin_body_at
-unfolding begin_body_at
+unfolding begin_table begin_body_at
 begin_body = named_law _ _ begin_of begin_slots (λ v. refl) (λ w. refl)
     (then_law _ _ _ _ (optional_law _ _ ushort_format)
     (then_law _ _ _ _ (required_law _ _ uint_format)
@@ -63,7 +63,7 @@ begin_body = named_law _ _ begin_of begin_slots (λ v. refl) (λ w. refl)
     end_law))))))))
 
 pub attach_body : IsBody IsAttachBody attach_body_at
-unfolding attach_body_at attach_rest_at
+unfolding attach_table attach_body_at attach_rest_at
 attach_body = named_law _ _ attach_of attach_slots (λ v. refl) (λ w. refl)
     (then_law _ _ _ _ (required_law _ _ string_format)
     (then_law _ _ _ _ (required_law _ _ uint_format)
@@ -82,7 +82,7 @@ attach_body = named_law _ _ attach_of attach_slots (λ v. refl) (λ w. refl)
     end_law))))))))))))))
 
 pub flow_body : IsBody IsFlowBody flow_body_at
-unfolding flow_body_at
+unfolding flow_table flow_body_at
 flow_body = named_law _ _ flow_of flow_slots (λ v. refl) (λ w. refl)
     (then_law _ _ _ _ (optional_law _ _ uint_format)
     (then_law _ _ _ _ (required_law _ _ uint_format)
@@ -98,7 +98,7 @@ flow_body = named_law _ _ flow_of flow_slots (λ v. refl) (λ w. refl)
     end_law)))))))))))
 
 pub transfer_body : IsBody IsTransferBody transfer_body_at
-unfolding transfer_body_at
+unfolding transfer_table transfer_body_at
 transfer_body = named_law _ _ transfer_of transfer_slots (λ v. refl) (λ w. refl)
     (then_law _ _ _ _ (required_law _ _ uint_format)
     (then_law _ _ _ _ (optional_law _ _ uint_format)
@@ -114,7 +114,7 @@ transfer_body = named_law _ _ transfer_of transfer_slots (λ v. refl) (λ w. ref
     end_law)))))))))))
 
 pub disposition_body : IsBody IsDispositionBody disposition_body_at
-unfolding disposition_body_at
+unfolding disposition_table disposition_body_at
 disposition_body = named_law _ _ disposition_of disposition_slots (λ v. refl) (λ w. refl)
     (then_law _ _ _ _ (required_law _ _ role_format)
     (then_law _ _ _ _ (required_law _ _ uint_format)
@@ -125,7 +125,7 @@ disposition_body = named_law _ _ disposition_of disposition_slots (λ v. refl) (
     end_law))))))
 
 pub detach_body : IsBody IsDetachBody detach_body_at
-unfolding detach_body_at
+unfolding detach_table detach_body_at
 detach_body = named_law _ _ detach_of detach_slots (λ v. refl) (λ w. refl)
     (then_law _ _ _ _ (required_law _ _ uint_format)
     (then_law _ _ _ _ (default_law false _ _ boolean_format)
@@ -133,13 +133,13 @@ detach_body = named_law _ _ detach_of detach_slots (λ v. refl) (λ w. refl)
     end_law)))
 
 pub end_body : IsBody IsEndBody end_body_at
-unfolding end_body_at
+unfolding end_table end_body_at
 end_body = named_law _ _ end_of end_slots (λ v. refl) (λ w. refl)
     (then_law _ _ _ _ (optional_law _ _ error_format)
     end_law)
 
 pub close_body : IsBody IsCloseBody close_body_at
-unfolding close_body_at
+unfolding close_table close_body_at
 close_body = named_law _ _ close_of close_slots (λ v. refl) (λ w. refl)
     (then_law _ _ _ _ (optional_law _ _ error_format)
     end_law)

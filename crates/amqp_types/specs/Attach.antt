@@ -1,6 +1,6 @@
 -- Part: the bytes; other calls; inner.
 -- Attach: its fields, and how they stand in a list (AMQP 1.0 part 2, section 2.7.3).
-use Rattle.std.specs.Prelude.{ℕ, List, [], ◌∷◌, Option, Bool, false}
+use Rattle.std.specs.Prelude.{ℕ, List, Option, Bool, false}
 use Rattle.amqp_types.specs.declared.definitions.Role.{Role}
 use Rattle.amqp_types.specs.declared.definitions.SenderSettleMode.{SenderSettleMode}
 use Rattle.amqp_types.specs.declared.definitions.ReceiverSettleMode.{ReceiverSettleMode}
@@ -13,12 +13,13 @@ use Rattle.amqp_values.specs.Symbols.{IsSymbols, symbols_at}
 use Rattle.amqp_values.specs.Raw.{SpellsMap, SpellsRaw, map_at, raw_at}
 use Rattle.amqp_values.specs.Slots.{beside, slot0, slot1, slot2, slot3, slot4, slot5, slot6, slot7, slot8, slot9}
 use Rattle.amqp_values.specs.Slots.{slot10, slot11, slot12, slot13}
-use Rattle.amqp_values.specs.Slots.{Slot, NoMore, then_at, end_at, named_at, required_at, Optional, optional_at, OrDefault, default_at}
-use Rattle.amqp_values.specs.Writing.{optional_text, string_text, symbols_text, uint_text, ulong_text}
+use Rattle.amqp_values.specs.Slots.{then_at, end_at, named_at, required_at, optional_at, default_at}
+use Rattle.amqp_values.specs.Writing.{string_text, symbols_text, uint_text, ulong_text}
 use Rattle.amqp_values.specs.Same.{Test, both, each, field, flags, maybe, numbers, texts}
 use Rattle.amqp_types.specs.Definitions.{IsReceiverMode, IsRole, IsSenderMode, flag_text, receiver_mode_at}
 use Rattle.amqp_types.specs.Definitions.{receiver_mode_or_first, receiver_modes, role_at, role_text, roles}
 use Rattle.amqp_types.specs.Definitions.{sender_mode_at, sender_mode_or_mixed, sender_modes, value_text}
+use Rattle.amqp_types.specs.FieldTable.{FieldTable, no_more, mandatory, optional, or_default}
 
 pub record AttachModel : Type 0 where
   pub name : List ℕ
@@ -36,25 +37,28 @@ pub record AttachModel : Type 0 where
   pub desired_capabilities : Option (List (List ℕ))
   pub properties : Option (List ℕ)
 
--- ---- the grammar
+-- ---- the fields, in their order
+
+unfoldable pub attach_table : AttachModel → FieldTable
+attach_table p =
+    mandatory IsString string_text p.name
+    (mandatory IsUint uint_text p.handle
+    (mandatory IsRole role_text p.role
+    (or_default Mixed IsSenderMode sender_mode_or_mixed p.snd_settle_mode
+    (or_default First IsReceiverMode receiver_mode_or_first p.rcv_settle_mode
+    (optional SpellsRaw value_text p.source
+    (optional SpellsRaw value_text p.target
+    (optional SpellsMap value_text p.unsettled
+    (or_default false IsBoolean flag_text p.incomplete_unsettled
+    (optional IsUint uint_text p.initial_delivery_count
+    (optional IsUlong ulong_text p.max_message_size
+    (optional IsSymbols symbols_text p.offered_capabilities
+    (optional IsSymbols symbols_text p.desired_capabilities
+    (optional SpellsMap value_text p.properties
+    no_more)))))))))))))
 
 abbrev pub IsAttachBody : AttachModel → List (List ℕ) → Type 0
-IsAttachBody p =
-    Slot (IsString p.name)
-    (Slot (IsUint p.handle)
-    (Slot (IsRole p.role)
-    (Slot (OrDefault Mixed IsSenderMode p.snd_settle_mode)
-    (Slot (OrDefault First IsReceiverMode p.rcv_settle_mode)
-    (Slot (Optional SpellsRaw p.source)
-    (Slot (Optional SpellsRaw p.target)
-    (Slot (Optional SpellsMap p.unsettled)
-    (Slot (OrDefault false IsBoolean p.incomplete_unsettled)
-    (Slot (Optional IsUint p.initial_delivery_count)
-    (Slot (Optional IsUlong p.max_message_size)
-    (Slot (Optional IsSymbols p.offered_capabilities)
-    (Slot (Optional IsSymbols p.desired_capabilities)
-    (Slot (Optional SpellsMap p.properties)
-    NoMore)))))))))))))
+IsAttachBody p = (attach_table p).Body
 
 -- ---- its reader
 
@@ -125,26 +129,6 @@ attach_body_at = named_at attach_of
     (then_at (optional_at map_at)
     (then_at (default_at false boolean_at)
     attach_rest_at)))))))))
-
--- ---- its canonical text
-
-unfoldable pub attach_fields : AttachModel → List (List ℕ)
-attach_fields p =
-    string_text p.name ∷
-    uint_text p.handle ∷
-    role_text p.role ∷
-    sender_mode_or_mixed p.snd_settle_mode ∷
-    receiver_mode_or_first p.rcv_settle_mode ∷
-    optional_text value_text p.source ∷
-    optional_text value_text p.target ∷
-    optional_text value_text p.unsettled ∷
-    flag_text p.incomplete_unsettled ∷
-    optional_text uint_text p.initial_delivery_count ∷
-    optional_text ulong_text p.max_message_size ∷
-    optional_text symbols_text p.offered_capabilities ∷
-    optional_text symbols_text p.desired_capabilities ∷
-    optional_text value_text p.properties ∷
-    []
 
 -- ---- when two are the same
 

@@ -1,15 +1,16 @@
 -- Part: the bytes; other calls; inner.
 -- Begin: its fields, and how they stand in a list (AMQP 1.0 part 2, section 2.7.2).
-use Rattle.std.specs.Prelude.{ℕ, List, [], ◌∷◌, Option}
+use Rattle.std.specs.Prelude.{ℕ, List, Option}
 use Rattle.amqp_values.specs.declared.list_reader.ListReader.{ListReader}
 use Rattle.amqp_values.specs.Number.{IsUint, IsUshort, uint_at, ushort_at}
 use Rattle.amqp_values.specs.Symbols.{IsSymbols, symbols_at}
 use Rattle.amqp_values.specs.Raw.{SpellsMap, map_at}
 use Rattle.amqp_values.specs.Slots.{beside, slot0, slot1, slot2, slot3, slot4, slot5, slot6, slot7}
-use Rattle.amqp_values.specs.Slots.{Slot, NoMore, then_at, end_at, named_at, required_at, Optional, optional_at, OrDefault, default_at}
-use Rattle.amqp_values.specs.Writing.{optional_text, symbols_text, uint_or, uint_text, ushort_text}
+use Rattle.amqp_values.specs.Slots.{then_at, end_at, named_at, required_at, optional_at, default_at}
+use Rattle.amqp_values.specs.Writing.{symbols_text, uint_or, uint_text, ushort_text}
 use Rattle.amqp_values.specs.Same.{Test, both, each, field, maybe, numbers, texts}
 use Rattle.amqp_types.specs.Definitions.{value_text}
+use Rattle.amqp_types.specs.FieldTable.{FieldTable, no_more, mandatory, optional, or_default}
 
 pub record BeginModel : Type 0 where
   pub remote_channel : Option ℕ
@@ -21,19 +22,22 @@ pub record BeginModel : Type 0 where
   pub desired_capabilities : Option (List (List ℕ))
   pub properties : Option (List ℕ)
 
--- ---- the grammar
+-- ---- the fields, in their order
+
+unfoldable pub begin_table : BeginModel → FieldTable
+begin_table p =
+    optional IsUshort ushort_text p.remote_channel
+    (mandatory IsUint uint_text p.next_outgoing_id
+    (mandatory IsUint uint_text p.incoming_window
+    (mandatory IsUint uint_text p.outgoing_window
+    (or_default 4294967295 IsUint (uint_or 4294967295) p.handle_max
+    (optional IsSymbols symbols_text p.offered_capabilities
+    (optional IsSymbols symbols_text p.desired_capabilities
+    (optional SpellsMap value_text p.properties
+    no_more)))))))
 
 abbrev pub IsBeginBody : BeginModel → List (List ℕ) → Type 0
-IsBeginBody p =
-    Slot (Optional IsUshort p.remote_channel)
-    (Slot (IsUint p.next_outgoing_id)
-    (Slot (IsUint p.incoming_window)
-    (Slot (IsUint p.outgoing_window)
-    (Slot (OrDefault 4294967295 IsUint p.handle_max)
-    (Slot (Optional IsSymbols p.offered_capabilities)
-    (Slot (Optional IsSymbols p.desired_capabilities)
-    (Slot (Optional SpellsMap p.properties)
-    NoMore)))))))
+IsBeginBody p = (begin_table p).Body
 
 -- ---- its reader
 
@@ -75,20 +79,6 @@ begin_body_at = named_at begin_of
     (then_at (optional_at symbols_at)
     (then_at (optional_at map_at)
     end_at))))))))
-
--- ---- its canonical text
-
-unfoldable pub begin_fields : BeginModel → List (List ℕ)
-begin_fields p =
-    optional_text ushort_text p.remote_channel ∷
-    uint_text p.next_outgoing_id ∷
-    uint_text p.incoming_window ∷
-    uint_text p.outgoing_window ∷
-    uint_or 4294967295 p.handle_max ∷
-    optional_text symbols_text p.offered_capabilities ∷
-    optional_text symbols_text p.desired_capabilities ∷
-    optional_text value_text p.properties ∷
-    []
 
 -- ---- when two are the same
 

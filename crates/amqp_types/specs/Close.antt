@@ -1,21 +1,24 @@
 -- Part: the bytes; other calls; inner.
 -- Close: its fields, and how they stand in a list (AMQP 1.0 part 2, section 2.7.9).
-use Rattle.std.specs.Prelude.{ℕ, List, [], ◌∷◌, Option}
+use Rattle.std.specs.Prelude.{ℕ, List, Option}
 use Rattle.amqp_values.specs.declared.list_reader.ListReader.{ListReader}
-use Rattle.amqp_values.specs.Slots.{Slot, NoMore, then_at, end_at, named_at, Optional, optional_at}
-use Rattle.amqp_values.specs.Writing.{optional_text}
+use Rattle.amqp_values.specs.Slots.{then_at, end_at, named_at, optional_at}
 use Rattle.amqp_values.specs.Same.{Test, field, maybe}
 use Rattle.amqp_types.specs.Error.{ErrorModel, IsError, error_at, error_text, error_same}
+use Rattle.amqp_types.specs.FieldTable.{FieldTable, no_more, optional}
 
 pub record CloseModel : Type 0 where
   pub error : Option ErrorModel
 
--- ---- the grammar
+-- ---- the fields, in their order
+
+unfoldable pub close_table : CloseModel → FieldTable
+close_table p =
+    optional IsError error_text p.error
+    no_more
 
 abbrev pub IsCloseBody : CloseModel → List (List ℕ) → Type 0
-IsCloseBody p =
-    Slot (Optional IsError p.error)
-    NoMore
+IsCloseBody p = (close_table p).Body
 
 -- ---- its reader
 
@@ -32,13 +35,6 @@ unfoldable pub close_body_at : ListReader → Option (CloseModel × ListReader)
 close_body_at = named_at close_of
     (then_at (optional_at error_at)
     end_at)
-
--- ---- its canonical text
-
-unfoldable pub close_fields : CloseModel → List (List ℕ)
-close_fields p =
-    optional_text error_text p.error ∷
-    []
 
 -- ---- when two are the same
 

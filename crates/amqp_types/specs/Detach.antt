@@ -1,27 +1,31 @@
 -- Part: the bytes; other calls; inner.
 -- Detach: its fields, and how they stand in a list (AMQP 1.0 part 2, section 2.7.7).
-use Rattle.std.specs.Prelude.{ℕ, List, [], ◌∷◌, Option, Bool, false}
+use Rattle.std.specs.Prelude.{ℕ, List, Option, Bool, false}
 use Rattle.amqp_values.specs.declared.list_reader.ListReader.{ListReader}
 use Rattle.amqp_values.specs.Number.{IsBoolean, IsUint, boolean_at, uint_at}
-use Rattle.amqp_values.specs.Slots.{Slot, NoMore, then_at, end_at, named_at, required_at, Optional, optional_at, OrDefault, default_at}
-use Rattle.amqp_values.specs.Writing.{optional_text, uint_text}
+use Rattle.amqp_values.specs.Slots.{then_at, end_at, named_at, required_at, optional_at, default_at}
+use Rattle.amqp_values.specs.Writing.{uint_text}
 use Rattle.amqp_values.specs.Same.{Test, both, field, flags, maybe, numbers}
 use Rattle.amqp_types.specs.Definitions.{flag_text}
 use Rattle.amqp_types.specs.Error.{ErrorModel, IsError, error_at, error_text, error_same}
+use Rattle.amqp_types.specs.FieldTable.{FieldTable, no_more, mandatory, optional, or_default}
 
 pub record DetachModel : Type 0 where
   pub handle : ℕ
   pub closed : Bool
   pub error : Option ErrorModel
 
--- ---- the grammar
+-- ---- the fields, in their order
+
+unfoldable pub detach_table : DetachModel → FieldTable
+detach_table p =
+    mandatory IsUint uint_text p.handle
+    (or_default false IsBoolean flag_text p.closed
+    (optional IsError error_text p.error
+    no_more))
 
 abbrev pub IsDetachBody : DetachModel → List (List ℕ) → Type 0
-IsDetachBody p =
-    Slot (IsUint p.handle)
-    (Slot (OrDefault false IsBoolean p.closed)
-    (Slot (Optional IsError p.error)
-    NoMore))
+IsDetachBody p = (detach_table p).Body
 
 -- ---- its reader
 
@@ -40,15 +44,6 @@ detach_body_at = named_at detach_of
     (then_at (default_at false boolean_at)
     (then_at (optional_at error_at)
     end_at)))
-
--- ---- its canonical text
-
-unfoldable pub detach_fields : DetachModel → List (List ℕ)
-detach_fields p =
-    uint_text p.handle ∷
-    flag_text p.closed ∷
-    optional_text error_text p.error ∷
-    []
 
 -- ---- when two are the same
 

@@ -1,15 +1,16 @@
 -- Part: the bytes; other calls; inner.
 -- Disposition: its fields, and how they stand in a list (AMQP 1.0 part 2, section 2.7.6).
-use Rattle.std.specs.Prelude.{ℕ, List, [], ◌∷◌, Option, Bool, false}
+use Rattle.std.specs.Prelude.{ℕ, List, Option, Bool, false}
 use Rattle.amqp_types.specs.declared.definitions.Role.{Role}
 use Rattle.amqp_values.specs.declared.list_reader.ListReader.{ListReader}
 use Rattle.amqp_values.specs.Number.{IsBoolean, IsUint, boolean_at, uint_at}
 use Rattle.amqp_values.specs.Raw.{SpellsRaw, raw_at}
 use Rattle.amqp_values.specs.Slots.{beside, slot0, slot1, slot2, slot3, slot4, slot5}
-use Rattle.amqp_values.specs.Slots.{Slot, NoMore, then_at, end_at, named_at, required_at, Optional, optional_at, OrDefault, default_at}
-use Rattle.amqp_values.specs.Writing.{optional_text, uint_text}
+use Rattle.amqp_values.specs.Slots.{then_at, end_at, named_at, required_at, optional_at, default_at}
+use Rattle.amqp_values.specs.Writing.{uint_text}
 use Rattle.amqp_values.specs.Same.{Test, both, field, flags, maybe, numbers, texts}
 use Rattle.amqp_types.specs.Definitions.{IsRole, flag_text, role_at, role_text, roles, value_text}
+use Rattle.amqp_types.specs.FieldTable.{FieldTable, no_more, mandatory, optional, or_default}
 
 pub record DispositionModel : Type 0 where
   pub role : Role
@@ -19,17 +20,20 @@ pub record DispositionModel : Type 0 where
   pub state : Option (List ℕ)
   pub batchable : Bool
 
--- ---- the grammar
+-- ---- the fields, in their order
+
+unfoldable pub disposition_table : DispositionModel → FieldTable
+disposition_table p =
+    mandatory IsRole role_text p.role
+    (mandatory IsUint uint_text p.first
+    (optional IsUint uint_text p.last
+    (or_default false IsBoolean flag_text p.settled
+    (optional SpellsRaw value_text p.state
+    (or_default false IsBoolean flag_text p.batchable
+    no_more)))))
 
 abbrev pub IsDispositionBody : DispositionModel → List (List ℕ) → Type 0
-IsDispositionBody p =
-    Slot (IsRole p.role)
-    (Slot (IsUint p.first)
-    (Slot (Optional IsUint p.last)
-    (Slot (OrDefault false IsBoolean p.settled)
-    (Slot (Optional SpellsRaw p.state)
-    (Slot (OrDefault false IsBoolean p.batchable)
-    NoMore)))))
+IsDispositionBody p = (disposition_table p).Body
 
 -- ---- its reader
 
@@ -65,18 +69,6 @@ disposition_body_at = named_at disposition_of
     (then_at (optional_at raw_at)
     (then_at (default_at false boolean_at)
     end_at))))))
-
--- ---- its canonical text
-
-unfoldable pub disposition_fields : DispositionModel → List (List ℕ)
-disposition_fields p =
-    role_text p.role ∷
-    uint_text p.first ∷
-    optional_text uint_text p.last ∷
-    flag_text p.settled ∷
-    optional_text value_text p.state ∷
-    flag_text p.batchable ∷
-    []
 
 -- ---- when two are the same
 

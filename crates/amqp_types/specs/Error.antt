@@ -1,31 +1,35 @@
 -- Part: the bytes; other calls; inner.
 -- Error: its fields, and how they stand in a list (AMQP 1.0 part 2, section 2.8.14).
-use Rattle.std.specs.Prelude.{ℕ, List, [], ◌∷◌, Option}
+use Rattle.std.specs.Prelude.{ℕ, List, Option}
 use Rattle.amqp_values.specs.declared.list_reader.ListReader.{ListReader}
 use Rattle.amqp_values.specs.Text.{IsString, IsSymbol, string_at, symbol_at}
 use Rattle.amqp_values.specs.Raw.{SpellsMap, map_at}
-use Rattle.amqp_values.specs.Slots.{Slot, NoMore, then_at, end_at, named_at, required_at, Optional, optional_at}
-use Rattle.amqp_values.specs.Composite.{IsDescribed, described_at}
-use Rattle.amqp_values.specs.Writing.{described_text, optional_text, string_text, symbol_text}
+use Rattle.amqp_values.specs.Slots.{then_at, end_at, named_at, required_at, optional_at}
+use Rattle.amqp_values.specs.Composite.{described_at}
+use Rattle.amqp_values.specs.Writing.{string_text, symbol_text}
 use Rattle.amqp_values.specs.Same.{Test, both, field, maybe, texts}
 use Rattle.amqp_types.specs.Definitions.{value_text}
+use Rattle.amqp_types.specs.FieldTable.{FieldTable, IsListed, listed_text, no_more, mandatory, optional}
 
 pub record ErrorModel : Type 0 where
   pub condition : List ℕ
   pub description : Option (List ℕ)
   pub info : Option (List ℕ)
 
--- ---- the grammar
+-- ---- the fields, in their order
+
+unfoldable pub error_table : ErrorModel → FieldTable
+error_table p =
+    mandatory IsSymbol symbol_text p.condition
+    (optional IsString string_text p.description
+    (optional SpellsMap value_text p.info
+    no_more))
 
 abbrev pub IsErrorBody : ErrorModel → List (List ℕ) → Type 0
-IsErrorBody p =
-    Slot (IsSymbol p.condition)
-    (Slot (Optional IsString p.description)
-    (Slot (Optional SpellsMap p.info)
-    NoMore))
+IsErrorBody p = (error_table p).Body
 
 abbrev pub IsError : ErrorModel → List ℕ → Type 0
-IsError = IsDescribed 0x1d IsErrorBody
+IsError = IsListed 0x1d error_table
 
 -- ---- its reader
 
@@ -50,15 +54,8 @@ error_at = described_at 0x1d error_body_at
 
 -- ---- its canonical text
 
-unfoldable pub error_fields : ErrorModel → List (List ℕ)
-error_fields p =
-    symbol_text p.condition ∷
-    optional_text string_text p.description ∷
-    optional_text value_text p.info ∷
-    []
-
 abbrev pub error_text : ErrorModel → List ℕ
-error_text p = described_text 0x1d (error_fields p)
+error_text = listed_text 0x1d error_table
 
 -- ---- when two are the same
 

@@ -1,14 +1,15 @@
 -- Part: the bytes; other calls; inner.
 -- Flow: its fields, and how they stand in a list (AMQP 1.0 part 2, section 2.7.4).
-use Rattle.std.specs.Prelude.{ℕ, List, [], ◌∷◌, Option, Bool, false}
+use Rattle.std.specs.Prelude.{ℕ, List, Option, Bool, false}
 use Rattle.amqp_values.specs.declared.list_reader.ListReader.{ListReader}
 use Rattle.amqp_values.specs.Number.{IsBoolean, IsUint, boolean_at, uint_at}
 use Rattle.amqp_values.specs.Raw.{SpellsMap, map_at}
 use Rattle.amqp_values.specs.Slots.{beside, slot0, slot1, slot2, slot3, slot4, slot5, slot6, slot7, slot8, slot9, slot10}
-use Rattle.amqp_values.specs.Slots.{Slot, NoMore, then_at, end_at, named_at, required_at, Optional, optional_at, OrDefault, default_at}
-use Rattle.amqp_values.specs.Writing.{optional_text, uint_text}
+use Rattle.amqp_values.specs.Slots.{then_at, end_at, named_at, required_at, optional_at, default_at}
+use Rattle.amqp_values.specs.Writing.{uint_text}
 use Rattle.amqp_values.specs.Same.{Test, both, field, flags, maybe, numbers, texts}
 use Rattle.amqp_types.specs.Definitions.{flag_text, value_text}
+use Rattle.amqp_types.specs.FieldTable.{FieldTable, no_more, mandatory, optional, or_default}
 
 pub record FlowModel : Type 0 where
   pub next_incoming_id : Option ℕ
@@ -23,22 +24,25 @@ pub record FlowModel : Type 0 where
   pub echo : Bool
   pub properties : Option (List ℕ)
 
--- ---- the grammar
+-- ---- the fields, in their order
+
+unfoldable pub flow_table : FlowModel → FieldTable
+flow_table p =
+    optional IsUint uint_text p.next_incoming_id
+    (mandatory IsUint uint_text p.incoming_window
+    (mandatory IsUint uint_text p.next_outgoing_id
+    (mandatory IsUint uint_text p.outgoing_window
+    (optional IsUint uint_text p.handle
+    (optional IsUint uint_text p.delivery_count
+    (optional IsUint uint_text p.link_credit
+    (optional IsUint uint_text p.available
+    (or_default false IsBoolean flag_text p.drain
+    (or_default false IsBoolean flag_text p.echo
+    (optional SpellsMap value_text p.properties
+    no_more))))))))))
 
 abbrev pub IsFlowBody : FlowModel → List (List ℕ) → Type 0
-IsFlowBody p =
-    Slot (Optional IsUint p.next_incoming_id)
-    (Slot (IsUint p.incoming_window)
-    (Slot (IsUint p.next_outgoing_id)
-    (Slot (IsUint p.outgoing_window)
-    (Slot (Optional IsUint p.handle)
-    (Slot (Optional IsUint p.delivery_count)
-    (Slot (Optional IsUint p.link_credit)
-    (Slot (Optional IsUint p.available)
-    (Slot (OrDefault false IsBoolean p.drain)
-    (Slot (OrDefault false IsBoolean p.echo)
-    (Slot (Optional SpellsMap p.properties)
-    NoMore))))))))))
+IsFlowBody p = (flow_table p).Body
 
 -- ---- its reader
 
@@ -91,23 +95,6 @@ flow_body_at = named_at flow_of
     (then_at (default_at false boolean_at)
     (then_at (optional_at map_at)
     end_at)))))))))))
-
--- ---- its canonical text
-
-unfoldable pub flow_fields : FlowModel → List (List ℕ)
-flow_fields p =
-    optional_text uint_text p.next_incoming_id ∷
-    uint_text p.incoming_window ∷
-    uint_text p.next_outgoing_id ∷
-    uint_text p.outgoing_window ∷
-    optional_text uint_text p.handle ∷
-    optional_text uint_text p.delivery_count ∷
-    optional_text uint_text p.link_credit ∷
-    optional_text uint_text p.available ∷
-    flag_text p.drain ∷
-    flag_text p.echo ∷
-    optional_text value_text p.properties ∷
-    []
 
 -- ---- when two are the same
 

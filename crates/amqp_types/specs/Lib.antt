@@ -1,4 +1,5 @@
 pub mod Definitions
+pub mod FieldTable
 pub mod Error
 pub mod Open
 pub mod Begin

@@ -1,16 +1,17 @@
 -- Part: the bytes; other calls; inner.
 -- Open: its fields, and how they stand in a list (AMQP 1.0 part 2, section 2.7.1).
-use Rattle.std.specs.Prelude.{ℕ, List, [], ◌∷◌, Option}
+use Rattle.std.specs.Prelude.{ℕ, List, Option}
 use Rattle.amqp_values.specs.declared.list_reader.ListReader.{ListReader}
 use Rattle.amqp_values.specs.Number.{IsUint, IsUshort, uint_at, ushort_at}
 use Rattle.amqp_values.specs.Text.{IsString, string_at}
 use Rattle.amqp_values.specs.Symbols.{IsSymbols, symbols_at}
 use Rattle.amqp_values.specs.Raw.{SpellsMap, map_at}
 use Rattle.amqp_values.specs.Slots.{beside, slot0, slot1, slot2, slot3, slot4, slot5, slot6, slot7, slot8, slot9}
-use Rattle.amqp_values.specs.Slots.{Slot, NoMore, then_at, end_at, named_at, required_at, Optional, optional_at, OrDefault, default_at}
-use Rattle.amqp_values.specs.Writing.{optional_text, string_text, symbols_text, uint_or, uint_text, ushort_or}
+use Rattle.amqp_values.specs.Slots.{then_at, end_at, named_at, required_at, optional_at, default_at}
+use Rattle.amqp_values.specs.Writing.{string_text, symbols_text, uint_or, uint_text, ushort_or}
 use Rattle.amqp_values.specs.Same.{Test, both, each, field, maybe, numbers, texts}
 use Rattle.amqp_types.specs.Definitions.{value_text}
+use Rattle.amqp_types.specs.FieldTable.{FieldTable, no_more, mandatory, optional, or_default}
 
 pub record OpenModel : Type 0 where
   pub container_id : List ℕ
@@ -24,21 +25,24 @@ pub record OpenModel : Type 0 where
   pub desired_capabilities : Option (List (List ℕ))
   pub properties : Option (List ℕ)
 
--- ---- the grammar
+-- ---- the fields, in their order
+
+unfoldable pub open_table : OpenModel → FieldTable
+open_table p =
+    mandatory IsString string_text p.container_id
+    (optional IsString string_text p.hostname
+    (or_default 4294967295 IsUint (uint_or 4294967295) p.max_frame_size
+    (or_default 65535 IsUshort (ushort_or 65535) p.channel_max
+    (optional IsUint uint_text p.idle_time_out
+    (optional IsSymbols symbols_text p.outgoing_locales
+    (optional IsSymbols symbols_text p.incoming_locales
+    (optional IsSymbols symbols_text p.offered_capabilities
+    (optional IsSymbols symbols_text p.desired_capabilities
+    (optional SpellsMap value_text p.properties
+    no_more)))))))))
 
 abbrev pub IsOpenBody : OpenModel → List (List ℕ) → Type 0
-IsOpenBody p =
-    Slot (IsString p.container_id)
-    (Slot (Optional IsString p.hostname)
-    (Slot (OrDefault 4294967295 IsUint p.max_frame_size)
-    (Slot (OrDefault 65535 IsUshort p.channel_max)
-    (Slot (Optional IsUint p.idle_time_out)
-    (Slot (Optional IsSymbols p.outgoing_locales)
-    (Slot (Optional IsSymbols p.incoming_locales)
-    (Slot (Optional IsSymbols p.offered_capabilities)
-    (Slot (Optional IsSymbols p.desired_capabilities)
-    (Slot (Optional SpellsMap p.properties)
-    NoMore)))))))))
+IsOpenBody p = (open_table p).Body
 
 -- ---- its reader
 
@@ -88,22 +92,6 @@ open_body_at = named_at open_of
     (then_at (optional_at symbols_at)
     (then_at (optional_at map_at)
     end_at))))))))))
-
--- ---- its canonical text
-
-unfoldable pub open_fields : OpenModel → List (List ℕ)
-open_fields p =
-    string_text p.container_id ∷
-    optional_text string_text p.hostname ∷
-    uint_or 4294967295 p.max_frame_size ∷
-    ushort_or 65535 p.channel_max ∷
-    optional_text uint_text p.idle_time_out ∷
-    optional_text symbols_text p.outgoing_locales ∷
-    optional_text symbols_text p.incoming_locales ∷
-    optional_text symbols_text p.offered_capabilities ∷
-    optional_text symbols_text p.desired_capabilities ∷
-    optional_text value_text p.properties ∷
-    []
 
 -- ---- when two are the same
 

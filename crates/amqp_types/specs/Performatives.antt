@@ -2,47 +2,47 @@
 -- The nine performatives (AMQP 1.0 part 2, section 2.7).
 use Rattle.std.specs.Prelude.{ℕ, List, Option, Some}
 use Rattle.amqp_values.specs.Reading.{◌>>=◌, IsReader}
-use Rattle.amqp_values.specs.Composite.{IsComposite, IsDescribed, composite_at}
-use Rattle.amqp_values.specs.Writing.{described_text}
+use Rattle.amqp_values.specs.Composite.{IsComposite, composite_at}
 use Rattle.amqp_types.specs.declared.performatives.Performative.{Performative}
 use Rattle.amqp_types.specs.declared.performatives.Performative.TheVariants.{Open, Begin, Attach, Flow, Transfer}
 use Rattle.amqp_types.specs.declared.performatives.Performative.TheVariants.{Disposition, Detach, End, Close}
 use Rattle.amqp_types.specs.declared.performatives.kind.Kind.{Kind}
 use Rattle.amqp_types.specs.declared.performatives.kind.Kind.TheVariants as kind
 use Rattle.amqp_types.specs.Kinds.{kind_at}
-use Rattle.amqp_types.specs.Open.{IsOpenBody, open_body_at, open_fields}
-use Rattle.amqp_types.specs.Begin.{IsBeginBody, begin_body_at, begin_fields}
-use Rattle.amqp_types.specs.Attach.{IsAttachBody, attach_body_at, attach_fields}
-use Rattle.amqp_types.specs.Flow.{IsFlowBody, flow_body_at, flow_fields}
-use Rattle.amqp_types.specs.Transfer.{IsTransferBody, transfer_body_at, transfer_fields}
-use Rattle.amqp_types.specs.Disposition.{IsDispositionBody, disposition_body_at, disposition_fields}
-use Rattle.amqp_types.specs.Detach.{IsDetachBody, detach_body_at, detach_fields}
-use Rattle.amqp_types.specs.End.{IsEndBody, end_body_at, end_fields}
-use Rattle.amqp_types.specs.Close.{IsCloseBody, close_body_at, close_fields}
+use Rattle.amqp_types.specs.FieldTable.{IsListed, listed_text}
+use Rattle.amqp_types.specs.Open.{open_table, IsOpenBody, open_body_at}
+use Rattle.amqp_types.specs.Begin.{begin_table, IsBeginBody, begin_body_at}
+use Rattle.amqp_types.specs.Attach.{attach_table, IsAttachBody, attach_body_at}
+use Rattle.amqp_types.specs.Flow.{flow_table, IsFlowBody, flow_body_at}
+use Rattle.amqp_types.specs.Transfer.{transfer_table, IsTransferBody, transfer_body_at}
+use Rattle.amqp_types.specs.Disposition.{disposition_table, IsDispositionBody, disposition_body_at}
+use Rattle.amqp_types.specs.Detach.{detach_table, IsDetachBody, detach_body_at}
+use Rattle.amqp_types.specs.End.{end_table, IsEndBody, end_body_at}
+use Rattle.amqp_types.specs.Close.{close_table, IsCloseBody, close_body_at}
 
 -- an accepted descriptor, and the list of its fields
 abbrev pub IsPerformative : Performative → List ℕ → Type 0
-IsPerformative (Open p) = IsDescribed 0x10 IsOpenBody p
-IsPerformative (Begin p) = IsDescribed 0x11 IsBeginBody p
-IsPerformative (Attach p) = IsDescribed 0x12 IsAttachBody p
-IsPerformative (Flow p) = IsDescribed 0x13 IsFlowBody p
-IsPerformative (Transfer p) = IsDescribed 0x14 IsTransferBody p
-IsPerformative (Disposition p) = IsDescribed 0x15 IsDispositionBody p
-IsPerformative (Detach p) = IsDescribed 0x16 IsDetachBody p
-IsPerformative (End p) = IsDescribed 0x17 IsEndBody p
-IsPerformative (Close p) = IsDescribed 0x18 IsCloseBody p
+IsPerformative (Open p) = IsListed 0x10 open_table p
+IsPerformative (Begin p) = IsListed 0x11 begin_table p
+IsPerformative (Attach p) = IsListed 0x12 attach_table p
+IsPerformative (Flow p) = IsListed 0x13 flow_table p
+IsPerformative (Transfer p) = IsListed 0x14 transfer_table p
+IsPerformative (Disposition p) = IsListed 0x15 disposition_table p
+IsPerformative (Detach p) = IsListed 0x16 detach_table p
+IsPerformative (End p) = IsListed 0x17 end_table p
+IsPerformative (Close p) = IsListed 0x18 close_table p
 
 -- the canonical text
 abbrev pub performative_text : Performative → List ℕ
-performative_text (Open p) = described_text 0x10 (open_fields p)
-performative_text (Begin p) = described_text 0x11 (begin_fields p)
-performative_text (Attach p) = described_text 0x12 (attach_fields p)
-performative_text (Flow p) = described_text 0x13 (flow_fields p)
-performative_text (Transfer p) = described_text 0x14 (transfer_fields p)
-performative_text (Disposition p) = described_text 0x15 (disposition_fields p)
-performative_text (Detach p) = described_text 0x16 (detach_fields p)
-performative_text (End p) = described_text 0x17 (end_fields p)
-performative_text (Close p) = described_text 0x18 (close_fields p)
+performative_text (Open p) = listed_text 0x10 open_table p
+performative_text (Begin p) = listed_text 0x11 begin_table p
+performative_text (Attach p) = listed_text 0x12 attach_table p
+performative_text (Flow p) = listed_text 0x13 flow_table p
+performative_text (Transfer p) = listed_text 0x14 transfer_table p
+performative_text (Disposition p) = listed_text 0x15 disposition_table p
+performative_text (Detach p) = listed_text 0x16 detach_table p
+performative_text (End p) = listed_text 0x17 end_table p
+performative_text (Close p) = listed_text 0x18 close_table p
 
 -- ---- its reader
 

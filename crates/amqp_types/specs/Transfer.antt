@@ -1,6 +1,6 @@
 -- Part: the bytes; other calls; inner.
 -- Transfer: its fields, and how they stand in a list (AMQP 1.0 part 2, section 2.7.5).
-use Rattle.std.specs.Prelude.{ℕ, List, [], ◌∷◌, Option, Some, None, Bool, true, false}
+use Rattle.std.specs.Prelude.{ℕ, List, Option, Some, None, Bool, true, false}
 use Rattle.amqp_types.specs.declared.definitions.ReceiverSettleMode.{ReceiverSettleMode}
 use Rattle.amqp_types.specs.declared.performatives.transfer.TransferFragment.{TransferFragment}
 use Rattle.amqp_types.specs.declared.performatives.transfer.TransferFragment.TheVariants as text
@@ -9,10 +9,11 @@ use Rattle.amqp_values.specs.Number.{IsBoolean, IsUint, boolean_at, uint_at}
 use Rattle.amqp_values.specs.Text.{IsBinary, binary_at}
 use Rattle.amqp_values.specs.Raw.{SpellsRaw, raw_at}
 use Rattle.amqp_values.specs.Slots.{beside, slot0, slot1, slot2, slot3, slot4, slot5, slot6, slot7, slot8, slot9, slot10}
-use Rattle.amqp_values.specs.Slots.{Slot, NoMore, then_at, end_at, named_at, required_at, Optional, optional_at, OrDefault, default_at}
-use Rattle.amqp_values.specs.Writing.{binary_text, boolean_text, optional_text, uint_text}
+use Rattle.amqp_values.specs.Slots.{then_at, end_at, named_at, required_at, optional_at, default_at}
+use Rattle.amqp_values.specs.Writing.{binary_text, boolean_text, uint_text}
 use Rattle.amqp_values.specs.Same.{Test, both, field, flags, maybe, numbers, texts}
 use Rattle.amqp_types.specs.Definitions.{IsReceiverMode, flag_text, receiver_mode_at, receiver_mode_text, receiver_modes, value_text}
+use Rattle.amqp_types.specs.FieldTable.{FieldTable, no_more, mandatory, optional, or_default}
 
 pub record TransferModel : Type 0 where
   pub handle : ℕ
@@ -27,22 +28,25 @@ pub record TransferModel : Type 0 where
   pub aborted : Bool
   pub batchable : Bool
 
--- ---- the grammar
+-- ---- the fields, in their order
+
+unfoldable pub transfer_table : TransferModel → FieldTable
+transfer_table p =
+    mandatory IsUint uint_text p.handle
+    (optional IsUint uint_text p.delivery_id
+    (optional IsBinary binary_text p.delivery_tag
+    (optional IsUint uint_text p.message_format
+    (optional IsBoolean boolean_text p.settled
+    (or_default false IsBoolean flag_text p.more
+    (optional IsReceiverMode receiver_mode_text p.rcv_settle_mode
+    (optional SpellsRaw value_text p.state
+    (or_default false IsBoolean flag_text p.resume
+    (or_default false IsBoolean flag_text p.aborted
+    (or_default false IsBoolean flag_text p.batchable
+    no_more))))))))))
 
 abbrev pub IsTransferBody : TransferModel → List (List ℕ) → Type 0
-IsTransferBody p =
-    Slot (IsUint p.handle)
-    (Slot (Optional IsUint p.delivery_id)
-    (Slot (Optional IsBinary p.delivery_tag)
-    (Slot (Optional IsUint p.message_format)
-    (Slot (Optional IsBoolean p.settled)
-    (Slot (OrDefault false IsBoolean p.more)
-    (Slot (Optional IsReceiverMode p.rcv_settle_mode)
-    (Slot (Optional SpellsRaw p.state)
-    (Slot (OrDefault false IsBoolean p.resume)
-    (Slot (OrDefault false IsBoolean p.aborted)
-    (Slot (OrDefault false IsBoolean p.batchable)
-    NoMore))))))))))
+IsTransferBody p = (transfer_table p).Body
 
 -- ---- its reader
 
@@ -95,23 +99,6 @@ transfer_body_at = named_at transfer_of
     (then_at (default_at false boolean_at)
     (then_at (default_at false boolean_at)
     end_at)))))))))))
-
--- ---- its canonical text
-
-unfoldable pub transfer_fields : TransferModel → List (List ℕ)
-transfer_fields p =
-    uint_text p.handle ∷
-    optional_text uint_text p.delivery_id ∷
-    optional_text binary_text p.delivery_tag ∷
-    optional_text uint_text p.message_format ∷
-    optional_text boolean_text p.settled ∷
-    flag_text p.more ∷
-    optional_text receiver_mode_text p.rcv_settle_mode ∷
-    optional_text value_text p.state ∷
-    flag_text p.resume ∷
-    flag_text p.aborted ∷
-    flag_text p.batchable ∷
-    []
 
 -- ---- the transfers of a delivery that is cut (section 2.6.14)
 

@@ -2,7 +2,7 @@
 
 ghost use Rattle.std.specs.Prelude.{◌≡◌, List, ℕ, Option};
 ghost use Rattle.amqp_values.specs.Reading.{Gives};
-ghost use Rattle.amqp_types.specs.Error.{error_body_at, error_fields};
+ghost use Rattle.amqp_types.specs.Error.{error_body_at, error_table};
 ghost use Rattle.amqp_types.specs.Error.{ErrorModel, error_at};
 
 use crate::leaf;
@@ -104,10 +104,10 @@ impl Field for Error {
 
 impl Error {
     /// The fields, borrowed for writing.
-    #[tactic(auto, unfolding(crate::specs::Error::error_fields))]
+    #[tactic(auto, unfolding(crate::specs::Error::error_table))]
     #[inline(always)]
     pub(crate) fn parts(&self) -> Row3<Leaf<'_>>
-        ensures { result ≡ error_fields self.now }
+        ensures { result ≡ (error_table self.now).canonical }
     {
         field_list![
             Leaf::Symbol(&self.condition),

@@ -4,7 +4,7 @@ ghost use Rattle.std.specs.Prelude.{◌≡◌, ◌<◌, ◌≤◌, ◌+◌, ◌^
 ghost use Rattle.std.specs.Option.{option_map};
 ghost use Rattle.amqp_values.specs.Reading.{Gives};
 ghost use Rattle.amqp_values.specs.Slots.{beside};
-ghost use Rattle.amqp_types.specs.Attach.{attach_rest_at, attach_body_at, attach_fields, attach_first_same, attach_last_same};
+ghost use Rattle.amqp_types.specs.Attach.{attach_rest_at, attach_body_at, attach_table, attach_first_same, attach_last_same};
 ghost use Rattle.amqp_types.specs.declared.performatives.Performative.TheVariants as performative;
 ghost use Rattle.amqp_types.specs.Performatives.{performative_text};
 
@@ -191,10 +191,10 @@ fn take_rest(alloc: Global, parts: &mut ListReader) -> Result<Rest, ReadError>
 
 impl Attach {
     /// The fields, borrowed for writing.
-    #[tactic(auto, unfolding(crate::specs::Attach::attach_fields))]
+    #[tactic(auto, unfolding(crate::specs::Attach::attach_table))]
     #[inline(always)]
     pub(crate) fn parts(&self) -> Row14<Leaf<'_>>
-        ensures { result ≡ attach_fields self.now }
+        ensures { result ≡ (attach_table self.now).canonical }
     {
         field_list![
             Leaf::String(self.name.as_str()),

@@ -2,7 +2,7 @@
 
 ghost use Rattle.std.specs.Prelude.{◌≡◌, ◌<◌, ◌≤◌, ◌+◌, ◌^◌, ◌++◌, length, List, ℕ, Option};
 ghost use Rattle.amqp_values.specs.Reading.{Gives};
-ghost use Rattle.amqp_types.specs.Begin.{begin_body_at, begin_fields};
+ghost use Rattle.amqp_types.specs.Begin.{begin_body_at, begin_table};
 ghost use Rattle.amqp_types.specs.declared.performatives.Performative.TheVariants as performative;
 ghost use Rattle.amqp_types.specs.Performatives.{performative_text};
 
@@ -110,10 +110,10 @@ impl Composite for Begin {
 
 impl Begin {
     /// The fields, borrowed for writing.
-    #[tactic(auto, unfolding(crate::specs::Begin::begin_fields))]
+    #[tactic(auto, unfolding(crate::specs::Begin::begin_table))]
     #[inline(always)]
     pub(crate) fn parts(&self) -> Row8<Leaf<'_>>
-        ensures { result ≡ begin_fields self.now }
+        ensures { result ≡ (begin_table self.now).canonical }
     {
         field_list![
             leaf::optional_ushort(self.remote_channel),

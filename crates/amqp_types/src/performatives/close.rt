@@ -2,7 +2,7 @@
 
 ghost use Rattle.std.specs.Prelude.{◌≡◌, ◌<◌, ◌≤◌, ◌+◌, ◌^◌, ◌++◌, length, List, ℕ, Option};
 ghost use Rattle.amqp_values.specs.Reading.{Gives};
-ghost use Rattle.amqp_types.specs.Close.{close_body_at, close_fields};
+ghost use Rattle.amqp_types.specs.Close.{close_body_at, close_table};
 ghost use Rattle.amqp_types.specs.declared.performatives.Performative.TheVariants as performative;
 ghost use Rattle.amqp_types.specs.Performatives.{performative_text};
 
@@ -63,10 +63,10 @@ impl Composite for Close {
 
 impl Close {
     /// The fields, borrowed for writing.
-    #[tactic(auto, unfolding(crate::specs::Close::close_fields))]
+    #[tactic(auto, unfolding(crate::specs::Close::close_table))]
     #[inline(always)]
     pub(crate) fn parts(&self) -> Row1<FieldRef<'_>>
-        ensures { result ≡ close_fields self.now }
+        ensures { result ≡ (close_table self.now).canonical }
     {
         field_list![FieldRef::optional(&self.error)]
     }

@@ -2,7 +2,7 @@
 
 ghost use Rattle.std.specs.Prelude.{◌≡◌, ◌<◌, ◌≤◌, ◌+◌, ◌^◌, ◌++◌, length, List, ℕ, Option};
 ghost use Rattle.amqp_values.specs.Reading.{Gives};
-ghost use Rattle.amqp_types.specs.Detach.{detach_body_at, detach_fields};
+ghost use Rattle.amqp_types.specs.Detach.{detach_body_at, detach_table};
 ghost use Rattle.amqp_types.specs.declared.performatives.Performative.TheVariants as performative;
 ghost use Rattle.amqp_types.specs.Performatives.{performative_text};
 
@@ -78,10 +78,10 @@ impl Composite for Detach {
 
 impl Detach {
     /// The fields, borrowed for writing.
-    #[tactic(auto, unfolding(crate::specs::Detach::detach_fields))]
+    #[tactic(auto, unfolding(crate::specs::Detach::detach_table))]
     #[inline(always)]
     pub(crate) fn parts(&self) -> Row3<FieldRef<'_>>
-        ensures { result ≡ detach_fields self.now }
+        ensures { result ≡ (detach_table self.now).canonical }
     {
         field_list![
             FieldRef::Leaf(Leaf::Uint(self.handle.0)),

@@ -2,7 +2,7 @@
 
 ghost use Rattle.std.specs.Prelude.{◌≡◌, ◌<◌, ◌≤◌, ◌+◌, ◌^◌, ◌++◌, length, List, ℕ, Option};
 ghost use Rattle.amqp_values.specs.Reading.{Gives};
-ghost use Rattle.amqp_types.specs.Disposition.{disposition_body_at, disposition_fields};
+ghost use Rattle.amqp_types.specs.Disposition.{disposition_body_at, disposition_table};
 ghost use Rattle.amqp_types.specs.declared.performatives.Performative.TheVariants as performative;
 ghost use Rattle.amqp_types.specs.Performatives.{performative_text};
 
@@ -99,10 +99,10 @@ impl Composite for Disposition {
 
 impl Disposition {
     /// The fields, borrowed for writing.
-    #[tactic(auto, unfolding(crate::specs::Disposition::disposition_fields))]
+    #[tactic(auto, unfolding(crate::specs::Disposition::disposition_table))]
     #[inline(always)]
     pub(crate) fn parts(&self) -> Row6<Leaf<'_>>
-        ensures { result ≡ disposition_fields self.now }
+        ensures { result ≡ (disposition_table self.now).canonical }
     {
         field_list![
             leaf::role(self.role),

@@ -2,7 +2,7 @@
 
 ghost use Rattle.std.specs.Prelude.{◌≡◌, ◌<◌, ◌≤◌, ◌+◌, ◌^◌, ◌++◌, length, List, ℕ, Option};
 ghost use Rattle.amqp_values.specs.Reading.{Gives};
-ghost use Rattle.amqp_types.specs.Flow.{flow_body_at, flow_fields, flow_first_same, flow_last_same};
+ghost use Rattle.amqp_types.specs.Flow.{flow_body_at, flow_table, flow_first_same, flow_last_same};
 ghost use Rattle.amqp_types.specs.declared.performatives.Performative.TheVariants as performative;
 ghost use Rattle.amqp_types.specs.Performatives.{performative_text};
 
@@ -144,10 +144,10 @@ impl Composite for Flow {
 
 impl Flow {
     /// The fields, borrowed for writing.
-    #[tactic(auto, unfolding(crate::specs::Flow::flow_fields))]
+    #[tactic(auto, unfolding(crate::specs::Flow::flow_table))]
     #[inline(always)]
     pub(crate) fn parts(&self) -> Row11<Leaf<'_>>
-        ensures { result ≡ flow_fields self.now }
+        ensures { result ≡ (flow_table self.now).canonical }
     {
         field_list![
             leaf::optional_uint(self.next_incoming_id),

@@ -2,7 +2,7 @@
 
 ghost use Rattle.std.specs.Prelude.{◌≡◌, ◌<◌, ◌≤◌, ◌+◌, ◌^◌, ◌++◌, length, List, ℕ, Option};
 ghost use Rattle.amqp_values.specs.Reading.{Gives};
-ghost use Rattle.amqp_types.specs.Open.{open_body_at, open_fields, open_first_same, open_last_same};
+ghost use Rattle.amqp_types.specs.Open.{open_body_at, open_table, open_first_same, open_last_same};
 ghost use Rattle.amqp_types.specs.declared.performatives.Performative.TheVariants as performative;
 ghost use Rattle.amqp_types.specs.Performatives.{performative_text};
 
@@ -156,10 +156,10 @@ impl Composite for Open {
 
 impl Open {
     /// The fields, borrowed for writing.
-    #[tactic(auto, unfolding(crate::specs::Open::open_fields))]
+    #[tactic(auto, unfolding(crate::specs::Open::open_table))]
     #[inline(always)]
     pub(crate) fn parts(&self) -> Row10<Leaf<'_>>
-        ensures { result ≡ open_fields self.now }
+        ensures { result ≡ (open_table self.now).canonical }
     {
         field_list![
             Leaf::String(self.container_id.as_str()),

@@ -3,7 +3,7 @@
 ghost use Rattle.std.specs.Prelude.{◌≡◌, ◌<◌, ◌≤◌, ◌+◌, ◌^◌, ◌++◌, length, List, ℕ, Option};
 ghost use Rattle.amqp_values.specs.Reading.{Gives};
 ghost use Rattle.amqp_types.specs.Transfer.{continuation, said_in, transfer_body_at, widest};
-ghost use Rattle.amqp_types.specs.Transfer.{transfer_fields, transfer_first_same, transfer_last_same};
+ghost use Rattle.amqp_types.specs.Transfer.{transfer_table, transfer_first_same, transfer_last_same};
 ghost use Rattle.amqp_types.specs.declared.performatives.Performative.TheVariants as performative;
 ghost use Rattle.amqp_types.specs.Performatives.{performative_text};
 
@@ -170,7 +170,7 @@ impl Transfer {
     /// The fields, borrowed for writing.
     #[inline(always)]
     pub(crate) fn parts(&self) -> TransferRow<'_>
-        ensures { result ≡ transfer_fields self.now }
+        ensures { result ≡ (transfer_table self.now).canonical }
     {
         self.parts_with(self.more)
     }
@@ -178,16 +178,16 @@ impl Transfer {
     /// The fields with this `more`.
     #[inline(always)]
     fn parts_with(&self, more: bool) -> TransferRow<'_>
-        ensures { result ≡ transfer_fields (record self.now { more = more }) }
+        ensures { result ≡ (transfer_table (record self.now { more = more })).canonical }
     {
         self.parts_numbered(self.delivery_id, more)
     }
 
     /// The fields with this number and this `more`.
-    #[tactic(auto, unfolding(crate::specs::Transfer::transfer_fields))]
+    #[tactic(auto, unfolding(crate::specs::Transfer::transfer_table))]
     #[inline(always)]
     fn parts_numbered(&self, number: Option<u32>, more: bool) -> TransferRow<'_>
-        ensures { result ≡ transfer_fields (record self.now { delivery_id = number; more = more }) }
+        ensures { result ≡ (transfer_table (record self.now { delivery_id = number; more = more })).canonical }
     {
         field_list![
             self.handle.0,
@@ -205,10 +205,10 @@ impl Transfer {
     }
 
     /// The fields of a continuation with this `more`.
-    #[tactic(auto, unfolding(crate::specs::Transfer::transfer_fields))]
+    #[tactic(auto, unfolding(crate::specs::Transfer::transfer_table))]
     #[inline(always)]
     fn parts_continued(&self, more: bool) -> TransferRow<'_>
-        ensures { result ≡ transfer_fields (record (continuation self.now) { more = more }) }
+        ensures { result ≡ (transfer_table (record (continuation self.now) { more = more })).canonical }
     {
         field_list![
             self.handle.0,
@@ -228,7 +228,7 @@ impl Transfer {
     /// The fields of one of the texts.
     #[inline(always)]
     fn parts_in(&self, text: TransferFragment) -> TransferRow<'_>
-        ensures { result ≡ transfer_fields (said_in text self.now) }
+        ensures { result ≡ (transfer_table (said_in text self.now)).canonical }
     {
         match text {
             TransferFragment::Whole => self.parts(),
@@ -249,7 +249,7 @@ impl Transfer {
     /// The fields of one of the texts, with the widest number.
     #[inline(always)]
     fn widest_parts_in(&self, text: TransferFragment) -> TransferRow<'_>
-        ensures { result ≡ transfer_fields (said_in text (widest self.now)) }
+        ensures { result ≡ (transfer_table (said_in text (widest self.now))).canonical }
     {
         match text {
             TransferFragment::Whole => self.parts_numbered(Some(u32::MAX), self.more),
