@@ -33,7 +33,6 @@ use std::marker::Model;
 /// let close = connection.send_close(None)?;                          // CloseSent
 /// connection.on_incoming_close(IncomingChannel(0), their_close)?;    // End
 /// ```
-#[derive(Drop)]
 pub struct Connection {
     state: ConnectionState,
     stop_reason: Option<ConnectionStopReason>,
@@ -42,6 +41,25 @@ pub struct Connection {
     agreed_channel_max: u16,
     session_by_outgoing_channel: ChannelTable,
     session_by_incoming_channel: RouteTable,
+}
+
+// prover
+impl Drop for Connection {
+    fn drop(self) {
+        let Connection {
+            state: _,
+            stop_reason: _,
+            local_open,
+            remote_open,
+            agreed_channel_max: _,
+            session_by_outgoing_channel,
+            session_by_incoming_channel,
+        } = self;
+        drop(local_open);
+        drop(remote_open);
+        drop(session_by_outgoing_channel);
+        drop(session_by_incoming_channel);
+    }
 }
 
 impl Model for Connection {

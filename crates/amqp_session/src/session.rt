@@ -50,7 +50,6 @@ use std::marker::Model;
 /// let end = session.send_end(None)?;                             // EndSent
 /// session.on_incoming_end(IncomingChannel(3), their_end)?;       // Unmapped
 /// ```
-#[derive(Drop)]
 pub struct Session<R> {
     alloc: Global,
     state: SessionState,
@@ -65,6 +64,32 @@ pub struct Session<R> {
     sent: Deliveries,
     received: Deliveries,
     last_walk: WalkCount,
+}
+
+// prover
+impl<R: Drop> Drop for Session<R> {
+    fn drop(self) {
+        let Session {
+            alloc: _,
+            state: _,
+            settings,
+            outgoing_channel: _,
+            incoming_channel: _,
+            connection_stop: _,
+            session_stop: _,
+            sending,
+            receiving: _,
+            links,
+            sent,
+            received,
+            last_walk: _,
+        } = self;
+        drop(settings);
+        drop(sending);
+        drop(links);
+        drop(sent);
+        drop(received);
+    }
 }
 
 impl<R> Model for Session<R> {
