@@ -3,7 +3,7 @@
 
     tools/bench/bench.py [PROGRAM]
 
-PROGRAM is the program of `crates/bench_codec`, as `rt run` builds it. Where none is named it is built first. Callgrind counts
+PROGRAM is the program of `crates/bench_engine`, as `rt run` builds it. Where none is named it is built first. Callgrind counts
 (Debian's `valgrind`), as a slope between two counts, so that what is done once is out. Glibc is told to copy without `rep movsb`,
 which callgrind counts as one instruction a byte. A row holds the loop too: the row `clone` is that of a shared copy of the bytes
 alone, which each row of `decode` and `read` makes as well. qpid-proton's figures come from `bench_proton.py`: counted in the same run where its
@@ -19,29 +19,28 @@ from pathlib import Path
 sys.path.insert(0, str(Path(__file__).resolve().parents[1]))
 
 from bench.bench_proton import figures
+from bench.program import ENGINE_LINES, built, codec_frames
 from shared.command import command
 
-CRATE = Path(__file__).resolve().parents[2] / "crates" / "bench_codec"
-NAMES = ["open", "begin", "attach", "flow", "transfer", "disposition", "detach", "end", "close"]
 FEW, MANY = 100, 300
 PAYLOAD = b"x" * 64
 
 
-def run(program, mode, count, limit, lines, under=(), more=()):
-    """What a run prints, on its two outputs."""
+def run(program, words, lines, under=()):
+    """What a run of the program prints, on its two outputs."""
     environment = dict(os.environ, GLIBC_TUNABLES="glibc.cpu.x86_rep_movsb_threshold=1073741824")
-    done = subprocess.run([*under, program, mode, str(count), str(limit), *more], input="\n".join(lines) + "\n", text=True,
-                          capture_output=True, env=environment)
+    done = subprocess.run([*under, program, *map(str, words)], input="\n".join(lines) + "\n", text=True, capture_output=True, env=environment)
     if done.returncode:
-        sys.exit(f"{mode}: {done.stderr[-1000:]}")
+        sys.exit(f"{' '.join(map(str, words))}: {done.stderr[-1000:]}")
     return done.stdout, done.stderr
 
 
 def counted(program, mode, count, limit, lines):
     """The instructions, the requests for memory, and the answers of a run."""
-    out, said = run(program, mode, count, limit, lines, ["valgrind", "--tool=callgrind", "--callgrind-out-file=/dev/null"])
+    words, lines = ("codec", mode, count, limit), [""] * ENGINE_LINES + lines
+    out, said = run(program, words, lines, ["valgrind", "--tool=callgrind", "--callgrind-out-file=/dev/null"])
     instructions = int(re.search(r"Collected : (\d+)", said).group(1))
-    _, said = run(program, mode, count, limit, lines, ["valgrind", "--tool=memcheck"])
+    _, said = run(program, words, lines, ["valgrind", "--tool=memcheck"])
     requests = int(re.search(r"total heap usage: ([\d,]+) allocs", said).group(1).replace(",", ""))
     return instructions, requests, int(re.search(r"answers=(\d+)", out).group(1))
 
@@ -56,29 +55,23 @@ def row(program, name, mode, lines, limit=65536, beside=None):
     print(f"{name:34}{instructions:10.0f}{requests:10.2f}{proton:>10}", flush=True)
 
 
-def built():
-    """The program, built."""
-    subprocess.run(["rt", "run", "--", "clone", "1", "512"], cwd=CRATE, stdin=subprocess.DEVNULL, stdout=subprocess.DEVNULL, check=True)
-    return str(CRATE / "out" / "bench_codec")
-
-
 def main():
     program = sys.argv[1] if len(sys.argv) > 1 else built()
-    frames, proton = (CRATE / "stdin").read_text().split(), figures()
-    transfer = frames[NAMES.index("transfer")] + PAYLOAD.hex()
+    frames, proton = codec_frames(), figures()
+    transfer, nine = frames["transfer"] + PAYLOAD.hex(), [*frames.values()]
     print(f"{'an answer':34}{'instr.':>10}{'requests':>10}{'proton':>10}")
     row(program, "clone", "clone", [transfer])
-    for name, frame in zip(NAMES, frames):
+    for name, frame in frames.items():
         row(program, f"decode {name}", "decode", [frame], beside=proton[name])
-    row(program, "decode, mean of the nine", "decode", frames, beside=proton["mean"])
+    row(program, "decode, mean of the nine", "decode", nine, beside=proton["mean"])
     row(program, "decode transfer, 64 bytes after", "decode", [transfer])
-    row(program, "read, mean of the nine", "read", frames)
-    row(program, "length, mean of the nine", "length", frames)
-    for name, frame in zip(NAMES, frames):
+    row(program, "read, mean of the nine", "read", nine)
+    row(program, "length, mean of the nine", "length", nine)
+    for name, frame in frames.items():
         row(program, f"encode {name}", "encode", [frame])
-    row(program, "encode, mean of the nine", "encode", frames)
+    row(program, "encode, mean of the nine", "encode", nine)
     row(program, "encode transfer, 64 bytes after", "encode", [transfer])
-    row(program, "a piece of 16 kB cut at 508", "encode", [frames[NAMES.index("transfer")] + "78" * 16384], limit=508)
+    row(program, "a piece of 16 kB cut at 508", "encode", [frames["transfer"] + "78" * 16384], limit=508)
 
 
 if __name__ == "__main__":

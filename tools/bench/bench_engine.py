@@ -16,7 +16,6 @@ than two minutes is left out.
 """
 
 import re
-import subprocess
 import sys
 import tempfile
 from pathlib import Path
@@ -26,9 +25,9 @@ sys.path.insert(0, str(Path(__file__).resolve().parents[1]))
 from bench.bench import run
 from bench.bench_proton import ORDERS, WIDTHS, figures, most, times
 from bench.measured import TooLong, per_unit, seconds
+from bench.program import built, lines as input_lines
 from shared.command import command
 
-CRATE = Path(__file__).resolve().parents[2] / "crates" / "bench_engine"
 MEMORY = {"malloc", "calloc", "realloc", "aligned_alloc", "posix_memalign"}
 # The mode of the program for each order
 MODES = {"in order": "forward", "in reverse": "backward", "from the middle": "middle", "scattered": "scattered", "every second": "second"}
@@ -160,7 +159,7 @@ def counted(program, row, count, lines, more):
     with tempfile.TemporaryDirectory() as folder:
         profile = Path(folder) / "profile"
         under = ["valgrind", "--tool=callgrind", f"--callgrind-out-file={profile}"]
-        out, said = run(program, row.mode, count, row.batch, lines, under, [str(row.open_before), str(row.sessions), *more])
+        out, said = run(program, (row.mode, count, row.batch, row.open_before, row.sessions, *more), lines, under)
         if more != ["idle"]:
             row.check(out, count)
         return int(re.search(r"Collected : (\d+)", said).group(1)), requests_in(profile)
@@ -199,18 +198,11 @@ def write_timed(program, row, lines, proton):
     print(f"{row.name:46}{said}{proton(row.proton):>10}", flush=True)
 
 
-def built():
-    """The program, built."""
-    words = ["rt", "run", "--", "none", "0", "0", "0", "0"]
-    subprocess.run(words, cwd=CRATE, stdin=subprocess.DEVNULL, stdout=subprocess.DEVNULL, check=True)
-    return str(CRATE / "out" / "bench_engine")
-
-
 def main():
     is_timed = sys.argv[1:2] == ["--time"]
     words = sys.argv[2 if is_timed else 1:]
     program = words[0] if words else built()
-    lines = (CRATE / "stdin").read_text().split()
+    lines = input_lines()
     if is_timed:
         print(f"{'nanoseconds of a transfer, or a delivery':46}{'engine':>10}{'its input':>10}{'proton':>10}")
     else:

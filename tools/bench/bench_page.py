@@ -1,9 +1,9 @@
 #!/usr/bin/env python3
 """Writes docs/bench/DATE.md: what the codec and the engine cost, counted and timed, with qpid-proton beside them.
 
-    tools/bench/bench_page.py DATE ENGINE CODEC [--time]
+    tools/bench/bench_page.py DATE PROGRAM [--time]
 
-ENGINE and CODEC are the programs of `crates/bench_engine` and `crates/bench_codec`, as `rt run` builds them. It runs `tools/bench/bench.py` and
+PROGRAM is the program of `crates/bench_engine`, as `rt run` builds it. It runs `tools/bench/bench.py` and
 `tools/bench/bench_engine.py`, and weighs what an open delivery and a session keep. With `--time` it runs `tools/bench/bench_engine.py --time` too: let nothing
 else run meanwhile. Instructions do not depend on that.
 """
@@ -17,11 +17,11 @@ from pathlib import Path
 
 sys.path.insert(0, str(Path(__file__).resolve().parents[1]))
 
+from bench.program import CRATE
 from gate import toolchain
 from shared.command import command
 
 ROOT = Path(__file__).resolve().parents[2]
-LINES = ROOT / "crates" / "bench_engine" / "stdin"
 
 
 def said(*words):
@@ -38,7 +38,7 @@ def processor():
 
 def peak(program, *words):
     """The most that the program held, in bytes. It is to hold more than this script does."""
-    with LINES.open("rb") as lines:
+    with open(CRATE / "stdin", "rb") as lines:
         process = subprocess.Popen([program, *map(str, words)], stdin=lines, stdout=subprocess.DEVNULL)
         pid, status, usage = os.wait4(process.pid, 0)
     process.returncode = os.waitstatus_to_exitcode(status)
@@ -53,25 +53,25 @@ def weighed(program, few, many):
     return (high - low) / (many[0] * many[1] - few[0] * few[1])
 
 
-def sections(engine, codec, is_timed):
+def sections(program, is_timed):
     """The page's sections: a title, and what stands under it."""
-    yield "The codec, in instructions", said(ROOT / "tools" / "bench" / "bench.py", codec)
-    yield "The engine, in instructions and requests for memory", said(ROOT / "tools" / "bench" / "bench_engine.py", engine)
+    yield "The codec, in instructions", said(ROOT / "tools" / "bench" / "bench.py", program)
+    yield "The engine, in instructions and requests for memory", said(ROOT / "tools" / "bench" / "bench_engine.py", program)
     if is_timed:
-        yield "The engine, in nanoseconds of processor time", said(ROOT / "tools" / "bench" / "bench_engine.py", "--time", engine)
-    delivery = weighed(engine, (500000, 1), (1000000, 1))
-    session = weighed(engine, (1, 20000), (1, 60000))
+        yield "The engine, in nanoseconds of processor time", said(ROOT / "tools" / "bench" / "bench_engine.py", "--time", program)
+    delivery = weighed(program, (500000, 1), (1000000, 1))
+    session = weighed(program, (1, 20000), (1, 60000))
     yield "What is held, in bytes", f"{'an open delivery, of a million':46}{delivery:10.0f}\n{'a session with a link and an open delivery':46}{session:10.0f}"
 
 
 def main():
-    if len(sys.argv) not in (4, 5) or sys.argv[4:] not in ([], ["--time"]):
+    if len(sys.argv) not in (3, 4) or sys.argv[3:] not in ([], ["--time"]):
         sys.exit(__doc__)
-    date, engine, codec = sys.argv[1:4]
+    date, program = sys.argv[1:3]
     page = [f"# What the codec and the engine cost, {date}", "",
             f"Written by `tools/bench/bench_page.py`, of proved programs, with the kit {toolchain.wanted()[0]}, on {processor()}. How the rows are made stands in",
             "[SPEED.md](../SPEED.md). Nothing here is a clause, and the gate compares nothing with these figures.", ""]
-    for title, text in sections(engine, codec, bool(sys.argv[4:])):
+    for title, text in sections(program, bool(sys.argv[3:])):
         page += [f"## {title}", "", "```text", text, "```", ""]
     (ROOT / "docs" / "bench" / f"{date}.md").write_text("\n".join(page))
 

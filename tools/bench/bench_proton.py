@@ -25,11 +25,10 @@ sys.path.insert(0, str(Path(__file__).resolve().parents[1]))
 
 from amqp import canonical as c
 from bench.measured import TooLong, per_unit, seconds
+from bench.program import NAMES, codec_frames
 from shared.command import command
 
 HERE = Path(__file__).resolve().parent
-CRATE = HERE.parents[1] / "crates" / "bench_codec"
-NAMES = ["open", "begin", "attach", "flow", "transfer", "disposition", "detach", "end", "close"]
 WINDOW = 2**31 - 1
 WIDTHS = (10, 1000, 100000)
 # Which of so many open deliveries is settled next
@@ -181,8 +180,7 @@ class Bench:
 
 def counters():
     """How each figure is counted, by its name."""
-    lines = (CRATE / "stdin").read_text().split()
-    found = {name: lambda bench, line=line: bench.decoded(line) for name, line in zip(NAMES, lines)}
+    found = {name: lambda bench, line=line: bench.decoded(line) for name, line in codec_frames().items()}
     for mode, batch in itertools.product(("receive", "send", "unsettled"), (100, 1)):
         found[f"{mode} {batch}"] = lambda bench, mode=mode, batch=batch: bench.exchanged(mode, batch)
     for width in WIDTHS:

@@ -1,8 +1,8 @@
 //! What the engine costs: `bench_engine MODE COUNT BATCH OPEN SESSIONS` begins sessions, one after the other, and in each does one
-//! thing COUNT times.
+//! thing COUNT times. What its codec costs: `bench_engine codec MODE COUNT LIMIT` does one thing with each of some frames, COUNT times.
 //!
-//! The input has three lines in hexadecimal: the peer's Open and a transfer of the peer's, as frames without their size, and the
-//! payload of the transfers that go out.
+//! The first three lines of the input, in hexadecimal: the peer's Open and a transfer of the peer's, as frames without their size, and the
+//! payload of the transfers that go out. Each line after them is a frame for the codec.
 //!
 //! | MODE | What is done COUNT times |
 //! |---|---|
@@ -35,17 +35,32 @@
 //! of what is not open, nothing is settled.
 //!
 //! With `idle` for the engine's part, as `bench_engine MODE COUNT BATCH OPEN SESSIONS idle`, the inputs are made and dropped; with `into` the
-//! engine sends into one buffer, whose chunks are taken off. `all` does all of these, and the first four into a buffer too. For each mode it prints what the engine answered, and how many deliveries of the first session are then
-//! open. `tools/bench/bench_engine.py` counts the instructions.
+//! engine sends into one buffer, whose chunks are taken off. For each mode it prints what the engine answered, and how many deliveries of the
+//! first session are then open. `tools/bench/bench_engine.py` counts the instructions.
+//!
+//! | MODE of the codec | What is done COUNT times with each frame |
+//! |---|---|
+//! | `clone` | the bytes are shared, and nothing is read |
+//! | `decode` | `FrameDecoder::decode` |
+//! | `read` | `Performative::read`, after the header |
+//! | `length` | `Performative::encoded_len` |
+//! | `encode` | `FrameEncoder::encode`, into pieces of at most LIMIT bytes |
+//!
+//! For each it prints how many answers it saw, and a sum over them. `tools/bench/bench.py` counts the instructions.
+//!
+//! `all` in the place of MODE does all that is said of the engine, the first four into a buffer too, and then all of the codec, into pieces of
+//! at most 512 bytes.
 #![tactic(auto)]
 
 mod bench;
+mod codec;
 mod frames;
 mod modes;
 mod relay;
 
 use bench::{Bench, Part, Plan, Seen};
 use bytes::Bytes;
+use codec::Sum;
 use std::alloc::Global;
 use std::env;
 use std::io::{self, BufRead, BufReader, Write};
@@ -70,6 +85,9 @@ const MODES: [&str; 18] = [
     "links",
     "colliding",
 ];
+
+/// The most bytes of a piece, where `all` is done.
+const LIMIT: u32 = 512;
 
 /// Reads the lines of the input.
 fn read_lines(rt: &HostRuntime, lines: &mut Vec<Bytes>) -> anyhow::Result<()> {
@@ -135,7 +153,7 @@ fn plan(alloc: Global, words: &[String], lines: &[Bytes]) -> anyhow::Result<Plan
     })
 }
 
-/// Does what one mode says, and prints what was answered.
+/// Does what one mode of the engine says, and prints what was answered.
 fn measure(rt: &HostRuntime, mode: &str, part: Part, plan: &Plan) -> anyhow::Result<()> {
     let mut bench = Bench::new(rt.alloc(), part);
     let outcome = modes::run(rt.alloc(), &mut bench, mode, plan);
@@ -151,6 +169,21 @@ fn print(rt: &HostRuntime, mode: &str, seen: Seen, open: usize) -> anyhow::Resul
         io::writer(rt),
         "{mode} done={done} refused={refused} frames={frames} sum={sum} open={open}"
     )?;
+    Ok(())
+}
+
+/// Does what one mode of the codec says, and prints what was seen.
+fn measure_codec(
+    rt: &HostRuntime,
+    mode: &str,
+    frames: &[Bytes],
+    count: u64,
+    limit: u32,
+) -> anyhow::Result<()> {
+    let mut seen = Sum::new();
+    codec::run(rt.alloc(), mode, frames, count, limit, &mut seen)?;
+    let (answers, sum) = (seen.answers, seen.sum);
+    writeln!(io::writer(rt), "{mode} answers={answers} sum={sum}")?;
     Ok(())
 }
 
@@ -174,29 +207,51 @@ fn read_words(rt: &HostRuntime, words: &mut Vec<String>) -> anyhow::Result<()> {
 fn by_words(rt: &HostRuntime, words: &[String]) -> anyhow::Result<()> {
     let mut lines = Vec::new(rt.alloc());
     let outcome = match read_lines(rt, &mut lines) {
-        Ok(()) => by_plan(rt, words, lines.as_slice()),
+        Ok(()) => by_lines(rt, words, lines.as_slice()),
         Err(error) => Err(error),
     };
     drop(lines);
     outcome
 }
 
+fn by_lines(rt: &HostRuntime, words: &[String], lines: &[Bytes]) -> anyhow::Result<()> {
+    if word(words, 1) == "codec" {
+        let count = word(words, 3).parse::<u64>()?;
+        let limit = word(words, 4).parse::<u32>()?;
+        return measure_codec(rt, word(words, 2), frames_of(lines), count, limit);
+    }
+    by_plan(rt, words, lines)
+}
+
+/// The frames for the codec.
+fn frames_of(lines: &[Bytes]) -> &[Bytes] {
+    match lines.get(3..) {
+        Some(frames) => frames,
+        None => &[],
+    }
+}
+
 fn by_plan(rt: &HostRuntime, words: &[String], lines: &[Bytes]) -> anyhow::Result<()> {
     let plan = plan(rt.alloc(), words, lines)?;
-    let outcome = measure_all(rt, word(words, 1), &plan);
+    let mode = word(words, 1);
+    let outcome = if mode == "all" {
+        measure_all(rt, &plan, frames_of(lines))
+    } else {
+        measure(rt, mode, plan.part, &plan)
+    };
     drop(plan);
     outcome
 }
 
-fn measure_all(rt: &HostRuntime, mode: &str, plan: &Plan) -> anyhow::Result<()> {
-    if mode != "all" {
-        return measure(rt, mode, plan.part, plan);
-    }
+fn measure_all(rt: &HostRuntime, plan: &Plan, frames: &[Bytes]) -> anyhow::Result<()> {
     for mode in &MODES {
         measure(rt, mode, plan.part, plan)?;
     }
     for mode in MODES.iter().take(4) {
         measure(rt, mode, Part::Into, plan)?;
+    }
+    for mode in &codec::MODES {
+        measure_codec(rt, mode, frames, u64::from(plan.count), LIMIT)?;
     }
     Ok(())
 }

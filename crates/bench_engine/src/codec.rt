@@ -1,22 +1,24 @@
-//! The modes. An answer is looked at where it stands, by a function of its own: so nothing can be left out, and it is not moved.
+//! The modes of the codec. An answer is looked at where it stands, by a function of its own: so nothing can be left out, and it is not moved.
 
-use amqp_frames::{Frame, FrameBody, FrameDecoder, FrameEncoder, Piece};
-use amqp_types::Performative;
 use bytes::Bytes;
+use fe2o3_amqp::{Frame, FrameBody, FrameDecoder, FrameEncoder, Performative, Piece};
 use std::alloc::{AllocError, Global};
 
-/// What was seen of the answers.
+/// The modes.
+pub const MODES: [&str; 5] = ["clone", "decode", "read", "length", "encode"];
+
+/// What was seen of the codec's answers.
 #[derive(Clone, Copy)]
-pub struct Seen {
+pub struct Sum {
     /// How many there were.
     pub answers: u64,
     /// A sum over them.
     pub sum: u64,
 }
 
-impl Seen {
-    pub fn new() -> Seen {
-        Seen { answers: 0, sum: 0 }
+impl Sum {
+    pub fn new() -> Sum {
+        Sum { answers: 0, sum: 0 }
     }
 
     fn see(&mut self, value: u64) {
@@ -32,7 +34,7 @@ pub fn run(
     frames: &[Bytes],
     count: u64,
     limit: u32,
-    seen: &mut Seen,
+    seen: &mut Sum,
 ) -> anyhow::Result<()> {
     match mode {
         "clone" => share(frames, count, seen)?,
@@ -51,7 +53,7 @@ fn read_bodies(
     alloc: Global,
     frames: &[Bytes],
     count: u64,
-    seen: &mut Seen,
+    seen: &mut Sum,
 ) -> Result<(), AllocError> {
     let bodies = bodies(alloc, frames)?;
     let outcome = read(alloc, bodies.as_slice(), count, seen);
@@ -59,7 +61,7 @@ fn read_bodies(
     outcome
 }
 
-fn measure_all(alloc: Global, frames: &[Bytes], count: u64, seen: &mut Seen) -> anyhow::Result<()> {
+fn measure_all(alloc: Global, frames: &[Bytes], count: u64, seen: &mut Sum) -> anyhow::Result<()> {
     let performatives = performatives(alloc, frames)?;
     measure(performatives.as_slice(), count, seen);
     drop(performatives);
@@ -71,7 +73,7 @@ fn encode_all(
     frames: &[Bytes],
     count: u64,
     limit: u32,
-    seen: &mut Seen,
+    seen: &mut Sum,
 ) -> anyhow::Result<()> {
     let decoded = decoded(alloc, frames)?;
     encode(alloc, decoded.as_slice(), count, limit, seen);
@@ -110,7 +112,7 @@ fn of_piece(piece: &Piece) -> u64 {
     piece.head().len() as u64 ^ piece.payload().len() as u64
 }
 
-fn share(frames: &[Bytes], count: u64, seen: &mut Seen) -> Result<(), AllocError> {
+fn share(frames: &[Bytes], count: u64, seen: &mut Sum) -> Result<(), AllocError> {
     for _ in 0..count {
         for bytes in frames {
             let copy = bytes.clone()?;
@@ -120,7 +122,7 @@ fn share(frames: &[Bytes], count: u64, seen: &mut Seen) -> Result<(), AllocError
     Ok(())
 }
 
-fn decode(alloc: Global, frames: &[Bytes], count: u64, seen: &mut Seen) -> Result<(), AllocError> {
+fn decode(alloc: Global, frames: &[Bytes], count: u64, seen: &mut Sum) -> Result<(), AllocError> {
     let decoder = FrameDecoder::new();
     for _ in 0..count {
         for bytes in frames {
@@ -133,7 +135,7 @@ fn decode(alloc: Global, frames: &[Bytes], count: u64, seen: &mut Seen) -> Resul
     Ok(())
 }
 
-fn read(alloc: Global, bodies: &[Bytes], count: u64, seen: &mut Seen) -> Result<(), AllocError> {
+fn read(alloc: Global, bodies: &[Bytes], count: u64, seen: &mut Sum) -> Result<(), AllocError> {
     for _ in 0..count {
         for bytes in bodies {
             let answer = Performative::read(alloc, bytes.clone()?);
@@ -145,7 +147,7 @@ fn read(alloc: Global, bodies: &[Bytes], count: u64, seen: &mut Seen) -> Result<
     Ok(())
 }
 
-fn measure(performatives: &[Performative], count: u64, seen: &mut Seen) {
+fn measure(performatives: &[Performative], count: u64, seen: &mut Sum) {
     for _ in 0..count {
         for performative in performatives {
             let len = performative.encoded_len().min(u128::from(u32::MAX));
@@ -154,7 +156,7 @@ fn measure(performatives: &[Performative], count: u64, seen: &mut Seen) {
     }
 }
 
-fn encode(alloc: Global, frames: &[Frame], count: u64, limit: u32, seen: &mut Seen) {
+fn encode(alloc: Global, frames: &[Frame], count: u64, limit: u32, seen: &mut Sum) {
     let encoder = FrameEncoder::new(limit.max(4));
     for _ in 0..count {
         for frame in frames {
