@@ -51,6 +51,8 @@ ONE_IN = 12
 # How a function begins, as 'rt fmt' sets it, and the other lines of its head that stand as far out.
 BEGINS = re.compile(r"( *)(?:pub(?:\([\w:]+\))? )?(?:const )?fn (\w+)")
 GOES_ON = re.compile(r"\)|where$|\{$")
+# A function that others call which it calls.
+IN_A_CYCLE = re.compile(r"#\[cycle\(\w+\)\]\n(?:#\[.*\]\n)*(?:pub(?:\([\w:]+\))? )?fn (\w+)")
 # What a check says where a proof names what is not there, or cites what was refused.
 MISSES_A_NAME = re.compile(r"has no field|has no `|is not in scope|was not admitted|is no name|no goal|cannot continue|exports no")
 
@@ -116,7 +118,9 @@ def functions(crate):
 
 def has_own_proof(folder, function):
     """Whether a function has a proof of its own: those that call one another have one, in a folder with a plus."""
-    return not list(proof_of(folder, function).parent.glob("+*"))
+    *module, name = function.split("::")
+    file = Path(folder, file_of(tuple(module)))
+    return not file.is_file() or name not in IN_A_CYCLE.findall(file.read_text())
 
 
 def proof_of(folder, function):
@@ -163,6 +167,13 @@ def file_of(module):
     return "/".join(["src", *module]) + ".rt" if module else "src/lib.rt"
 
 
+def may_stand_in(function, file):
+    """Whether a function may stand in a file, by its path below src/: that of its module, or for a type's own functions one below it."""
+    path, module = file.removesuffix(".rt"), "/".join(module_of(function)) or "lib"
+    is_of_type = len(module_of(function)) + 1 < len(function.split("::"))
+    return path == module or is_of_type and (path.startswith(f"{module}/") or module == "lib")
+
+
 class Trial:
     """The edits of one crate. Each check begins anew: to keep what one proved, and to read it in the next, costs more than it saves."""
 
@@ -188,14 +199,13 @@ class Trial:
 
     def bare(self, others, texts):
         """The texts of the crate's files in which the other functions have no bodies."""
-        is_alone = any(not path.startswith("src/") for path in texts)
+        if any(not path.startswith("src/") for path in texts):
+            return {}
         kept, bare = functions(self.crate) - others, {}
-        for module in set() if is_alone else {*map(module_of, others)}:
-            names = lambda paths: {path.split("::")[-1] for path in paths if module_of(path) == module}
-            file = self.folder / file_of(module)
-            if file.is_file():
-                whole, path = file.read_text(), file_of(module)
-                bare[path] = without_bodies(texts.get(path, whole), whole, names(others) - names(kept))
+        for file in self.folder.glob("src/**/*.rt"):
+            path, whole = str(file.relative_to(self.folder)), file.read_text()
+            names = lambda paths: {it.split("::")[-1] for it in paths if may_stand_in(it, path.removeprefix("src/"))}
+            bare[path] = without_bodies(texts.get(path, whole), whole, names(others) - names(kept))
         return bare
 
     def control(self, names, said):
