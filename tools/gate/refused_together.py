@@ -45,7 +45,7 @@ from shared.command import command
 ROOT = Path(__file__).resolve().parents[2]
 ANY_GOAL = re.compile(r"(?:\./)?\S+\.(?:rt|antt):\d+:\d+: error: |\S.*: no proof: .*did not prove ")
 # At most so many edits in one check, so that none takes long.
-MOST = 45
+MOST = 60
 # One in so many functions is checked as it stands too.
 ONE_IN = 12
 # How a function begins, as 'rt fmt' sets it, and the other lines of its head that stand as far out.

@@ -99,8 +99,9 @@ impl Seen {
     }
 }
 
+/// What is seen of a piece.
 #[inline(never)]
-fn of_piece(piece: &Piece) -> u64 {
+pub fn of_piece(piece: &Piece) -> u64 {
     piece.head().len() as u64 ^ piece.payload().len() as u64
 }
 

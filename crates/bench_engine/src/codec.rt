@@ -1,7 +1,8 @@
 //! The modes of the codec. An answer is looked at where it stands, by a function of its own: so nothing can be left out, and it is not moved.
 
+use crate::bench::of_piece;
 use bytes::Bytes;
-use fe2o3_amqp::{Frame, FrameBody, FrameDecoder, FrameEncoder, Performative, Piece};
+use fe2o3_amqp::{Frame, FrameBody, FrameDecoder, FrameEncoder, Performative};
 use std::alloc::{AllocError, Global};
 
 /// The modes.
@@ -105,11 +106,6 @@ fn of_performative(performative: &Performative, rest: &Bytes) -> u64 {
         Performative::Flow(flow) => u64::from(flow.incoming_window),
         _ => rest.len() as u64,
     }
-}
-
-#[inline(never)]
-fn of_piece(piece: &Piece) -> u64 {
-    piece.head().len() as u64 ^ piece.payload().len() as u64
 }
 
 fn share(frames: &[Bytes], count: u64, seen: &mut Sum) -> Result<(), AllocError> {
