@@ -8,3 +8,4 @@ pub mod PassLemmas
 pub mod CutLemmas
 pub mod ReplaceLemmas
 pub mod JoinLemmas
+pub mod ShiftLemmas

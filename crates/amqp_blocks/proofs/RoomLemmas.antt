@@ -6,7 +6,7 @@ use Rattle.std.specs.List.{insert}
 use Rattle.std.specs.declared.alloc.Global.{Global}
 use Rattle.std.specs.declared.vec.Vec.{Vec}
 use Rattle.std.specs.Vec.{vec_capacity}
-use Rattle.amqp_blocks.specs.Chunked.{Block, items_of, ends_from, places_of, EachSpare, EachSome, IsFull, IsChunked, IsSound}
+use Rattle.amqp_blocks.specs.Chunked.{Block, RunningLengths, items_of, ends_from, places_of, EachSpare, EachSome, IsFull, IsChunked, IsSound}
 use Rattle.amqp_blocks.proofs.LeaveLemmas.{some_at, some_set}
 use Rattle.amqp_blocks.proofs.PutLemmas.{chunked_same, items_kept, ends_kept}
 use Rattle.amqp_blocks.specs.Inner.Changes.{IsGrown}
@@ -162,7 +162,7 @@ module _ {T : Type 0} where
   first_fits (b ∷ bs) n h w m = omega (arith, w b refl, m)
 
   -- the blocks are as they were, with spare rings that have their places among them
-  pub slots_sound : (base : ℕ) (old blocks : Vec (Block T) Global) (was ends : Vec ℕ Global) (had spare : Vec (Block T) Global) → IsSound base old was had → blocks.items ≡ old.items → ends.items ≡ was.items → EachSpare spare.items → length old.items + length spare.items ≤ vec_capacity blocks → length old.items + length spare.items ≤ vec_capacity ends → IsSound base blocks ends spare
+  pub slots_sound : (base : ℕ) (old blocks : Vec (Block T) Global) (was ends : RunningLengths) (had spare : Vec (Block T) Global) → IsSound base old was had → blocks.items ≡ old.items → ends.items ≡ was.items → EachSpare spare.items → length old.items + length spare.items ≤ vec_capacity blocks → length old.items + length spare.items ≤ ends.capacity → IsSound base blocks ends spare
   slots_sound base old blocks was ends had spare v e f s p q = record {
     chunked = chunked_same base old.items blocks.items was.items ends.items e f v.chunked;
     spares = s;

@@ -15,6 +15,11 @@ pub record Sequence (T : Type 0) : Type 0 where
   pub room : ℕ
   pub blocks : ℕ
 
+-- where each block ends, and how many blocks have room there
+pub record RunningLengths : Type 0 where
+  pub items : List ℕ
+  pub capacity : ℕ
+
 module _ {T : Type 0} where
   -- the items of a block
   abbrev pub in_block : Block T → List T
@@ -56,11 +61,11 @@ module _ {T : Type 0} where
     pub few : length (items_of blocks) ≤ 2 ^ 33
 
   -- with a place for each spare ring among the blocks
-  pub record IsSound (base : ℕ) (blocks : Vec (Block T) Global) (ends : Vec ℕ Global) (spare : Vec (Block T) Global) : Type 0 where
+  pub record IsSound (base : ℕ) (blocks : Vec (Block T) Global) (ends : RunningLengths) (spare : Vec (Block T) Global) : Type 0 where
     pub chunked : IsChunked base blocks.items ends.items
     pub spares : EachSpare spare.items
     pub blocks_fit : length blocks.items + length spare.items ≤ vec_capacity blocks
-    pub ends_fit : length blocks.items + length spare.items ≤ vec_capacity ends
+    pub ends_fit : length blocks.items + length spare.items ≤ ends.capacity
 
   -- how many more items the rings take
   abbrev pub room_of : List (Block T) → List (Block T) → ℕ

@@ -5,6 +5,7 @@ ghost use Rattle.std.specs.List.{insert};
 ghost use Rattle.amqp_blocks.specs.Chunked.{Block, items_of, start_of, places_of, IsChunked, EachSpare, Within, HasItem, HasPlace};
 ghost use Rattle.amqp_blocks.specs.Inner.Changes.{KeepsPlaces};
 
+use crate::ends::Ends;
 use crate::lengths::raise_from;
 use crate::rings::{halve, put};
 use crate::search::Place;
@@ -15,7 +16,7 @@ use std::collections::VecDeque;
 #[inline(always)]
 pub(crate) fn put_in<T>(
     blocks: &mut Vec<VecDeque<T>>,
-    ends: &mut Vec<usize>,
+    ends: &mut Ends,
     base: usize,
     place: Place,
     item: T,
@@ -29,14 +30,14 @@ pub(crate) fn put_in<T>(
     ensures items { items_of blocks.new.items ≡ insert (items_of blocks.old.items) (start_of blocks.old.items place.block + place.at) item }
     ensures places { places_of blocks.old.items ≤ places_of blocks.new.items }
     ensures count { length blocks.new.items ≡ length blocks.old.items }
-    ensures capacity { (vec_capacity blocks.new ≡ vec_capacity blocks.old) × (vec_capacity ends.new ≡ vec_capacity ends.old) }
+    ensures capacity { (vec_capacity blocks.new ≡ vec_capacity blocks.old) × (ends.new.capacity ≡ ends.old.capacity) }
 {
     put(blocks, place, item);
     raise_from(ends, place.block);
 }
 
 /// Where a block begins: where the one before it ends.
-fn start(ends: &Vec<usize>, base: usize, block: usize) -> usize
+fn start(ends: &Ends, base: usize, block: usize) -> usize
     requires { block ≤ length ends.now.items }
     ensures first { block ≡ 0 → result ≡ base }
     ensures other { 0 < block → result ≡ slice_index ends.now.items (block - 1) }
@@ -44,12 +45,12 @@ fn start(ends: &Vec<usize>, base: usize, block: usize) -> usize
     if block == 0 {
         return base;
     }
-    ends[block - 1]
+    ends.at(block - 1)
 }
 
 /// A value comes into a vector that has room for it. At the end nothing has to move: that is so of a block that is alone.
 #[inline(always)]
-fn insert_reserved<U>(values: &mut Vec<U>, at: usize, value: U)
+pub(crate) fn insert_reserved<U>(values: &mut Vec<U>, at: usize, value: U)
     requires within { at ≤ length values.old.items }
     requires room { length values.old.items < vec_capacity values.old }
     ensures values { values.new.items ≡ insert values.old.items at value }
@@ -65,7 +66,7 @@ fn insert_reserved<U>(values: &mut Vec<U>, at: usize, value: U)
 /// A spare ring becomes a block of one item.
 pub(crate) fn put_alone<T>(
     blocks: &mut Vec<VecDeque<T>>,
-    ends: &mut Vec<usize>,
+    ends: &mut Ends,
     base: usize,
     spare: &mut Vec<VecDeque<T>>,
     block: usize,
@@ -75,7 +76,7 @@ pub(crate) fn put_alone<T>(
     requires spares { EachSpare spare.old.items }
     requires spare { 0 < length spare.old.items }
     requires blocks_fit { length blocks.old.items + length spare.old.items ≤ vec_capacity blocks.old }
-    requires ends_fit { length blocks.old.items + length spare.old.items ≤ vec_capacity ends.old }
+    requires ends_fit { length blocks.old.items + length spare.old.items ≤ ends.old.capacity }
     requires block { block ≤ length blocks.old.items }
     requires few { length (items_of blocks.old.items) < 2 ^ 33 }
     ensures chunked { IsChunked base blocks.new.items ends.new.items }
@@ -83,13 +84,13 @@ pub(crate) fn put_alone<T>(
     ensures items { items_of blocks.new.items ≡ insert (items_of blocks.old.items) (start_of blocks.old.items block) item }
     ensures kept { KeepsPlaces blocks.old.items spare.old.items blocks.new.items spare.new.items }
     ensures count { length blocks.new.items ≡ length blocks.old.items + 1 }
-    ensures capacity { (vec_capacity blocks.old ≤ vec_capacity blocks.new) × (vec_capacity ends.old ≤ vec_capacity ends.new) }
+    ensures capacity { (vec_capacity blocks.old ≤ vec_capacity blocks.new) × (ends.old.capacity ≤ ends.new.capacity) }
 {
     let mut ring = spare.pop().unwrap();
     ring.push_back_reserved(item);
     let end = start(ends, base, block) + 1;
     raise_from(ends, block);
-    insert_reserved(ends, block, end);
+    ends.insert(block, end);
     insert_reserved(blocks, block, ring);
 }
 
@@ -131,7 +132,7 @@ fn side_of(place: Place, half: usize) -> Place
 /// block that has a place for an item more.
 pub(crate) fn split<T>(
     blocks: &mut Vec<VecDeque<T>>,
-    ends: &mut Vec<usize>,
+    ends: &mut Ends,
     base: usize,
     spare: &mut Vec<VecDeque<T>>,
     place: Place,
@@ -140,7 +141,7 @@ pub(crate) fn split<T>(
     requires spares { EachSpare spare.old.items }
     requires spare { 0 < length spare.old.items }
     requires blocks_fit { length blocks.old.items + length spare.old.items ≤ vec_capacity blocks.old }
-    requires ends_fit { length blocks.old.items + length spare.old.items ≤ vec_capacity ends.old }
+    requires ends_fit { length blocks.old.items + length spare.old.items ≤ ends.old.capacity }
     requires block { place.block < length blocks.old.items }
     requires some { 0 < place.at }
     requires within { HasItem blocks.old.items place.block place.at }
@@ -153,14 +154,14 @@ pub(crate) fn split<T>(
     ensures start { start_of blocks.new.items result.block + result.at ≡ start_of blocks.old.items place.block + place.at }
     ensures within { Within blocks.new.items result.block result.at }
     ensures place { HasPlace blocks.new.items result.block }
-    ensures capacity { (vec_capacity blocks.old ≤ vec_capacity blocks.new) × (vec_capacity ends.old ≤ vec_capacity ends.new) }
+    ensures capacity { (vec_capacity blocks.old ≤ vec_capacity blocks.new) × (ends.old.capacity ≤ ends.new.capacity) }
 {
     let ring = spare.pop().unwrap();
     let most = blocks[place.block].len();
     let half = cut_point(most, place.at, ring.capacity());
     let upper = halve(blocks, place.block, half, ring);
-    let end = ends[place.block] - upper.len();
-    ends.insert(place.block, end).unwrap();
+    let end = ends.at(place.block) - upper.len();
+    ends.insert(place.block, end);
     blocks.insert(place.block + 1, upper).unwrap();
     side_of(place, half)
 }

@@ -6,6 +6,7 @@ ghost use Rattle.amqp_blocks.specs.Chunked.{Block, items_of, start_of, places_of
 ghost use Rattle.amqp_blocks.specs.Inner.Changes.{IsPassed};
 
 use crate::adding::put_in;
+use crate::ends::Ends;
 use crate::rings::{shift, unshift};
 use crate::search::Place;
 use crate::sequence::BLOCK;
@@ -146,7 +147,7 @@ fn make_way<T>(blocks: &mut Vec<VecDeque<T>>, place: Place, item: T) -> (Place, 
 #[inline(never)]
 pub(crate) fn cascade<T>(
     blocks: &mut Vec<VecDeque<T>>,
-    ends: &mut Vec<usize>,
+    ends: &mut Ends,
     base: usize,
     place: Place,
     item: T,
@@ -161,7 +162,7 @@ pub(crate) fn cascade<T>(
     ensures items { items_of blocks.new.items ≡ insert (items_of blocks.old.items) (start_of blocks.old.items place.block + place.at) item }
     ensures places { places_of blocks.old.items ≤ places_of blocks.new.items }
     ensures count { length blocks.new.items ≡ length blocks.old.items }
-    ensures capacity { (vec_capacity blocks.new ≡ vec_capacity blocks.old) × (vec_capacity ends.new ≡ vec_capacity ends.old) }
+    ensures capacity { (vec_capacity blocks.new ≡ vec_capacity blocks.old) × (ends.new.capacity ≡ ends.old.capacity) }
 {
     let (place, item) = make_way(blocks, place, item);
     put_in(blocks, ends, base, place, item);

@@ -4,6 +4,7 @@ ghost use Rattle.std.specs.Prelude.{◌≡◌, ℕ, ◌+◌, ◌-◌, ◌^◌, �
 ghost use Rattle.amqp_blocks.specs.Chunked.{Block, items_of, start_of, IsChunked, HasItem, without};
 ghost use Rattle.amqp_blocks.specs.Inner.Changes.{IsFront, IsTrimmed};
 
+use crate::ends::Ends;
 use crate::lengths::{settle, sink};
 use crate::rings::thin;
 use crate::search::Place;
@@ -12,7 +13,7 @@ use std::collections::VecDeque;
 /// Keeps what is before a place in its block, and says where that block ends now. Answers the first block of which nothing is kept.
 fn keep_front<T: Drop>(
     blocks: &mut Vec<VecDeque<T>>,
-    ends: &mut Vec<usize>,
+    ends: &mut Ends,
     base: usize,
     place: Place,
     rank: usize,
@@ -25,14 +26,14 @@ fn keep_front<T: Drop>(
     ensures front { IsFront base rank (items_of blocks.old.items) (take result blocks.new.items) (take result ends.new.items) }
     ensures rest { (drop (place.block + 1) blocks.new.items ≡ drop (place.block + 1) blocks.old.items) × (drop (place.block + 1) ends.new.items ≡ drop (place.block + 1) ends.old.items) }
     ensures count { (length blocks.new.items ≡ length blocks.old.items) × (length ends.new.items ≡ length ends.old.items) }
-    ensures capacity { (vec_capacity blocks.new ≡ vec_capacity blocks.old) × (vec_capacity ends.new ≡ vec_capacity ends.old) }
+    ensures capacity { (vec_capacity blocks.new ≡ vec_capacity blocks.old) × (ends.new.capacity ≡ ends.old.capacity) }
 {
     if place.at == 0 {
         return place.block;
     }
     let count = blocks[place.block].len() - place.at;
     thin(blocks, place, count);
-    ends[place.block] = base + rank;
+    ends.set(place.block, base + rank);
     place.block + 1
 }
 
@@ -58,27 +59,22 @@ fn keep_back<T: Drop>(blocks: &mut Vec<VecDeque<T>>, place: Place)
 }
 
 /// Takes whole blocks out.
-fn take_out<T: Drop>(
-    blocks: &mut Vec<VecDeque<T>>,
-    ends: &mut Vec<usize>,
-    first: usize,
-    next: usize,
-)
+fn take_out<T: Drop>(blocks: &mut Vec<VecDeque<T>>, ends: &mut Ends, first: usize, next: usize)
     requires order { first ≤ next }
     requires within { next ≤ length blocks.old.items }
     requires ends { length ends.old.items ≡ length blocks.old.items }
     ensures blocks { blocks.new.items ≡ take first blocks.old.items ++ drop next blocks.old.items }
     ensures ends { ends.new.items ≡ take first ends.old.items ++ drop next ends.old.items }
-    ensures capacity { (vec_capacity blocks.new ≡ vec_capacity blocks.old) × (vec_capacity ends.new ≡ vec_capacity ends.old) }
+    ensures capacity { (vec_capacity blocks.new ≡ vec_capacity blocks.old) × (ends.new.capacity ≡ ends.old.capacity) }
 {
     blocks.drain(first..next);
-    ends.drain(first..next);
+    ends.drain(first, next);
 }
 
 /// The items from one place to another leave. The second place is in a later block, or after the last. Answers the base.
 pub(crate) fn cut_wide<T: Drop>(
     blocks: &mut Vec<VecDeque<T>>,
-    ends: &mut Vec<usize>,
+    ends: &mut Ends,
     base: usize,
     from: Place,
     to: Place,
@@ -95,7 +91,7 @@ pub(crate) fn cut_wide<T: Drop>(
     ensures chunked { IsChunked result blocks.new.items ends.new.items }
     ensures items { items_of blocks.new.items ≡ without rank count (items_of blocks.old.items) }
     ensures rings { length blocks.new.items ≤ length blocks.old.items }
-    ensures capacity { (vec_capacity blocks.new ≡ vec_capacity blocks.old) × (vec_capacity ends.new ≡ vec_capacity ends.old) }
+    ensures capacity { (vec_capacity blocks.new ≡ vec_capacity blocks.old) × (ends.new.capacity ≡ ends.old.capacity) }
 {
     let first = keep_front(blocks, ends, base, from, rank);
     keep_back(blocks, to);

@@ -7,6 +7,7 @@ ghost use Rattle.amqp_blocks.specs.Inner.Changes.{KeepsPlaces};
 
 use crate::adding::{put_alone, put_in, split};
 use crate::cascade::{cascade, end_of, has_place};
+use crate::ends::Ends;
 use crate::search::{Place, locate_near, total};
 use std::collections::VecDeque;
 
@@ -14,7 +15,7 @@ use std::collections::VecDeque;
 #[inline(never)]
 fn put_with_spare<T>(
     blocks: &mut Vec<VecDeque<T>>,
-    ends: &mut Vec<usize>,
+    ends: &mut Ends,
     base: usize,
     spare: &mut Vec<VecDeque<T>>,
     place: Place,
@@ -46,7 +47,7 @@ fn put_with_spare<T>(
 #[inline(always)]
 pub(crate) fn put_at<T>(
     blocks: &mut Vec<VecDeque<T>>,
-    ends: &mut Vec<usize>,
+    ends: &mut Ends,
     base: usize,
     spare: &mut Vec<VecDeque<T>>,
     place: Place,
@@ -78,7 +79,7 @@ pub(crate) fn put_at<T>(
 #[inline(always)]
 pub(crate) fn put_last<T>(
     blocks: &mut Vec<VecDeque<T>>,
-    ends: &mut Vec<usize>,
+    ends: &mut Ends,
     base: usize,
     spare: &mut Vec<VecDeque<T>>,
     item: T,
@@ -104,7 +105,7 @@ pub(crate) fn put_last<T>(
 /// place: else items that come in rising order before a full block would get a block each.
 fn put_near<T>(
     blocks: &mut Vec<VecDeque<T>>,
-    ends: &mut Vec<usize>,
+    ends: &mut Ends,
     base: usize,
     spare: &mut Vec<VecDeque<T>>,
     place: Place,
@@ -132,7 +133,7 @@ fn put_near<T>(
 /// An item comes before that of a rank, which may be in the hinted block, or to the end.
 pub(crate) fn put_before<T>(
     blocks: &mut Vec<VecDeque<T>>,
-    ends: &mut Vec<usize>,
+    ends: &mut Ends,
     base: usize,
     spare: &mut Vec<VecDeque<T>>,
     hint: usize,

@@ -5,6 +5,7 @@ ghost use Rattle.std.specs.VecDeque.{deque_capacity};
 ghost use Rattle.amqp_blocks.specs.Chunked.{Block, items_of, IsSound};
 ghost use Rattle.amqp_blocks.specs.Inner.Changes.{IsJoined};
 
+use crate::ends::Ends;
 use crate::leaving::keep;
 use crate::sequence::BLOCK;
 use std::collections::VecDeque;
@@ -52,7 +53,7 @@ fn join_next<T>(blocks: &mut Vec<VecDeque<T>>, block: usize) -> VecDeque<T>
 /// Joins a block and the next one, if there are both, and they have few items together.
 fn join<T>(
     blocks: &mut Vec<VecDeque<T>>,
-    ends: &mut Vec<usize>,
+    ends: &mut Ends,
     base: usize,
     spare: &mut Vec<VecDeque<T>>,
     block: usize,
@@ -76,7 +77,7 @@ fn join<T>(
 /// Joins a block with the next one, and with the one before, where they have few items together.
 pub(crate) fn join_near<T>(
     blocks: &mut Vec<VecDeque<T>>,
-    ends: &mut Vec<usize>,
+    ends: &mut Ends,
     base: usize,
     spare: &mut Vec<VecDeque<T>>,
     block: usize,

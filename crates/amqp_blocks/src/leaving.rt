@@ -4,6 +4,7 @@ ghost use Rattle.std.specs.Prelude.{◌≡◌, ◌+◌, ◌-◌, ◌^◌, ◌<�
 ghost use Rattle.amqp_blocks.specs.Chunked.{Block, items_of, start_of, ends_from, IsChunked, EachSpare, Within, without};
 ghost use Rattle.amqp_blocks.specs.Inner.Changes.{IsPopped, IsSwept, EachSomeBut};
 
+use crate::ends::Ends;
 use crate::lengths::{settle, sink_or_rise};
 use crate::rings::thin;
 use crate::search::Place;
@@ -32,7 +33,7 @@ pub(crate) fn keep<T>(spare: &mut Vec<VecDeque<T>>, ring: VecDeque<T>, least: us
 #[inline(always)]
 fn sweep<T>(
     blocks: &mut Vec<VecDeque<T>>,
-    ends: &mut Vec<usize>,
+    ends: &mut Ends,
     spare: &mut Vec<VecDeque<T>>,
     block: usize,
 )
@@ -43,7 +44,7 @@ fn sweep<T>(
     ensures spares { EachSpare spare.new.items }
     ensures count { length blocks.new.items ≤ length blocks.old.items }
     ensures rings { length blocks.new.items + length spare.new.items ≤ length blocks.old.items + length spare.old.items }
-    ensures capacity { (vec_capacity blocks.new ≡ vec_capacity blocks.old) × (vec_capacity ends.new ≡ vec_capacity ends.old) }
+    ensures capacity { (vec_capacity blocks.new ≡ vec_capacity blocks.old) × (ends.new.capacity ≡ ends.old.capacity) }
 {
     if blocks[block].is_empty() {
         let ring = blocks.remove(block);
@@ -56,7 +57,7 @@ fn sweep<T>(
 #[inline(always)]
 fn tidy<T>(
     blocks: &mut Vec<VecDeque<T>>,
-    ends: &mut Vec<usize>,
+    ends: &mut Ends,
     spare: &mut Vec<VecDeque<T>>,
     base: usize,
     block: usize,
@@ -71,7 +72,7 @@ fn tidy<T>(
     ensures spares { EachSpare spare.new.items }
     ensures count { length blocks.new.items ≤ length blocks.old.items }
     ensures rings { length blocks.new.items + length spare.new.items ≤ length blocks.old.items + length spare.old.items }
-    ensures capacity { (vec_capacity blocks.new ≡ vec_capacity blocks.old) × (vec_capacity ends.new ≡ vec_capacity ends.old) }
+    ensures capacity { (vec_capacity blocks.new ≡ vec_capacity blocks.old) × (ends.new.capacity ≡ ends.old.capacity) }
 {
     sweep(blocks, ends, spare, block);
     settle(ends, base)
@@ -80,7 +81,7 @@ fn tidy<T>(
 /// Items of one block leave. Answers the base.
 pub(crate) fn leave<T: Drop>(
     blocks: &mut Vec<VecDeque<T>>,
-    ends: &mut Vec<usize>,
+    ends: &mut Ends,
     spare: &mut Vec<VecDeque<T>>,
     base: usize,
     place: Place,
@@ -95,7 +96,7 @@ pub(crate) fn leave<T: Drop>(
     ensures spares { EachSpare spare.new.items }
     ensures count { length blocks.new.items ≤ length blocks.old.items }
     ensures rings { length blocks.new.items + length spare.new.items ≤ length blocks.old.items + length spare.old.items }
-    ensures capacity { (vec_capacity blocks.new ≡ vec_capacity blocks.old) × (vec_capacity ends.new ≡ vec_capacity ends.old) }
+    ensures capacity { (vec_capacity blocks.new ≡ vec_capacity blocks.old) × (ends.new.capacity ≡ ends.old.capacity) }
 {
     thin(blocks, place, count);
     let base = sink_or_rise(ends, base, place.block, count);
@@ -124,7 +125,7 @@ fn pop_first<T>(blocks: &mut Vec<VecDeque<T>>, block: usize) -> T
 #[inline(always)]
 pub(crate) fn pop<T>(
     blocks: &mut Vec<VecDeque<T>>,
-    ends: &mut Vec<usize>,
+    ends: &mut Ends,
     spare: &mut Vec<VecDeque<T>>,
     base: usize,
 ) -> (T, usize)
@@ -136,7 +137,7 @@ pub(crate) fn pop<T>(
     ensures spares { EachSpare spare.new.items }
     ensures count { length blocks.new.items ≤ length blocks.old.items }
     ensures rings { length blocks.new.items + length spare.new.items ≤ length blocks.old.items + length spare.old.items }
-    ensures capacity { (vec_capacity blocks.new ≡ vec_capacity blocks.old) × (vec_capacity ends.new ≡ vec_capacity ends.old) }
+    ensures capacity { (vec_capacity blocks.new ≡ vec_capacity blocks.old) × (ends.new.capacity ≡ ends.old.capacity) }
 {
     let item = pop_first(blocks, 0);
     let base = tidy(blocks, ends, spare, base + 1, 0);

@@ -1,67 +1,38 @@
-//! Running lengths.
+//! Changes of running lengths.
 
 ghost use Rattle.std.specs.Prelude.{◌≡◌, ℕ, ◌+◌, ◌-◌, ◌^◌, ◌<◌, ◌≤◌, ◌++◌, length, map, take, drop, slice_index, vec_capacity};
 ghost use Rattle.amqp_blocks.specs.Inner.Changes.{IsSunk};
 
-/// Lowers running lengths.
-fn lower(ends: &mut [usize], count: usize)
-    requires enough { (i : ℕ) → i < length ends.old → count ≤ slice_index ends.old i }
-    ensures lowered { ends.new ≡ map (λ e. e - count) ends.old }
-{
-    for i in 0..ends.len() {
-        ends[i] -= count;
-    }
-}
-
-/// Raises running lengths by one.
-fn raise(ends: &mut [usize])
-    requires few { (i : ℕ) → i < length ends.old → slice_index ends.old i < 2 ^ 64 - 1 }
-    ensures raised { ends.new ≡ map (λ e. e + 1) ends.old }
-{
-    for i in 0..ends.len() {
-        ends[i] += 1;
-    }
-}
-
-/// Raises the running lengths before a block.
-fn lift(ends: &mut [usize], block: usize, count: usize)
-    requires block { block ≤ length ends.old }
-    requires few { (i : ℕ) → i < length (take block ends.old) → slice_index (take block ends.old) i + count < 2 ^ 64 }
-    ensures lifted { ends.new ≡ map (λ e. e + count) (take block ends.old) ++ drop block ends.old }
-{
-    for i in 0..block {
-        ends[i] += count;
-    }
-}
+use crate::ends::{Ends, NEARER};
 
 /// Lowers the running lengths from a block on.
-pub(crate) fn lower_from(ends: &mut Vec<usize>, block: usize, count: usize)
+pub(crate) fn lower_from(ends: &mut Ends, block: usize, count: usize)
     requires block { block ≤ length ends.old.items }
     requires enough { (i : ℕ) → i < length (drop block ends.old.items) → count ≤ slice_index (drop block ends.old.items) i }
     ensures lowered { ends.new.items ≡ take block ends.old.items ++ map (λ e. e - count) (drop block ends.old.items) }
-    ensures capacity { vec_capacity ends.new ≡ vec_capacity ends.old }
+    ensures capacity { ends.new.capacity ≡ ends.old.capacity }
 {
-    lower(&mut ends[block..], count);
+    ends.shift_from(block, 0usize.wrapping_sub(count));
 }
 
 /// Raises the running lengths from a block on by one.
-pub(crate) fn raise_from(ends: &mut Vec<usize>, block: usize)
+pub(crate) fn raise_from(ends: &mut Ends, block: usize)
     requires block { block ≤ length ends.old.items }
     requires few { (i : ℕ) → i < length (drop block ends.old.items) → slice_index (drop block ends.old.items) i < 2 ^ 64 - 1 }
     ensures raised { ends.new.items ≡ take block ends.old.items ++ map (λ e. e + 1) (drop block ends.old.items) }
-    ensures capacity { vec_capacity ends.new ≡ vec_capacity ends.old }
+    ensures capacity { ends.new.capacity ≡ ends.old.capacity }
 {
-    raise(&mut ends[block..]);
+    ends.shift_from(block, 1);
 }
 
 /// Updates the running lengths once items have left a block: the base rises where it is the first one. Answers the base.
-pub(crate) fn sink(ends: &mut Vec<usize>, base: usize, block: usize, count: usize) -> usize
+pub(crate) fn sink(ends: &mut Ends, base: usize, block: usize, count: usize) -> usize
     requires block { block ≤ length ends.old.items }
     requires fits { base + count < 2 ^ 64 }
     requires enough { (i : ℕ) → i < length (drop block ends.old.items) → count ≤ slice_index (drop block ends.old.items) i }
     ensures first { block ≡ 0 → (ends.new.items ≡ ends.old.items) × (result ≡ base + count) }
     ensures other { 0 < block → (result ≡ base) × (ends.new.items ≡ take block ends.old.items ++ map (λ e. e - count) (drop block ends.old.items)) }
-    ensures capacity { vec_capacity ends.new ≡ vec_capacity ends.old }
+    ensures capacity { ends.new.capacity ≡ ends.old.capacity }
 {
     if block == 0 {
         return base + count;
@@ -72,16 +43,16 @@ pub(crate) fn sink(ends: &mut Vec<usize>, base: usize, block: usize, count: usiz
 
 /// Updates the running lengths once items have left a block: those from it on sink, or the base and those before it rise, whichever are
 /// fewer. Answers the base.
-pub(crate) fn sink_or_rise(ends: &mut Vec<usize>, base: usize, block: usize, count: usize) -> usize
+pub(crate) fn sink_or_rise(ends: &mut Ends, base: usize, block: usize, count: usize) -> usize
     requires block { block ≤ length ends.old.items }
     requires fits { base + count < 2 ^ 64 }
     requires enough { (i : ℕ) → i < length (drop block ends.old.items) → count ≤ slice_index (drop block ends.old.items) i }
     requires few { (i : ℕ) → i < length (take block ends.old.items) → slice_index (take block ends.old.items) i + count < 2 ^ 64 }
     ensures either { IsSunk base ends.old.items block count result ends.new.items }
-    ensures capacity { vec_capacity ends.new ≡ vec_capacity ends.old }
+    ensures capacity { ends.new.capacity ≡ ends.old.capacity }
 {
-    if block <= ends.len() / 2 {
-        lift(&mut ends[0..], block, count);
+    if block <= ends.far(block).min(ends.len() - block) / NEARER {
+        ends.shift_before(block, count);
         return base + count;
     }
     lower_from(ends, block, count);
@@ -89,11 +60,11 @@ pub(crate) fn sink_or_rise(ends: &mut Vec<usize>, base: usize, block: usize, cou
 }
 
 /// Counts from 0 again, where the base is large. Answers the base.
-pub(crate) fn settle(ends: &mut Vec<usize>, base: usize) -> usize
+pub(crate) fn settle(ends: &mut Ends, base: usize) -> usize
     requires enough { (i : ℕ) → i < length ends.old.items → base ≤ slice_index ends.old.items i }
     ensures small { base ≤ 2 ^ 32 → (ends.new.items ≡ ends.old.items) × (result ≡ base) }
     ensures large { 2 ^ 32 < base → (ends.new.items ≡ map (λ e. e - base) ends.old.items) × (result ≡ 0) }
-    ensures capacity { vec_capacity ends.new ≡ vec_capacity ends.old }
+    ensures capacity { ends.new.capacity ≡ ends.old.capacity }
 {
     if base <= 0x1_0000_0000 {
         return base;

@@ -3,16 +3,17 @@
 //! | Call | What it costs |
 //! |---|---|
 //! | `len`, `first`, `last`, `blocks` | constant |
-//! | `push_back`, `pop_front` | constant; where a block is emptied, a step for each block |
+//! | `push_back`, `pop_front` | constant; where a block comes or goes, a step for each block |
 //! | `get`, `seek`, `replace` | a search of the running lengths of the blocks; constant in the block that was sought last |
-//! | `insert` | that, and at most a block that moves, and a step for each block after |
-//! | `remove_range` | the same; where one block holds all that leaves, a step for each block before, if those are fewer; dropping what leaves |
+//! | `insert` | that, and at most a block that moves, and a step for each block between it and the block of the change before; where an end is four times as near, for each up to there |
+//! | `remove_range` | the same, and dropping what leaves |
 //! | `reserve` | constant, but for the memory that is asked for |
 #![tactic(auto)]
 
 mod adding;
 mod cascade;
 mod cutting;
+mod ends;
 mod inserting;
 mod joining;
 mod leaving;

@@ -4,6 +4,7 @@ ghost use Rattle.std.specs.Prelude.{◌≡◌, ◌+◌, ◌-◌, ◌^◌, ◌<�
 ghost use Rattle.amqp_blocks.specs.Chunked.{items_of, IsSound};
 
 use crate::cutting::cut_wide;
+use crate::ends::Ends;
 use crate::joining::join_near;
 use crate::leaving::leave;
 use crate::search::{locate_end, locate_near};
@@ -13,7 +14,7 @@ use std::collections::VecDeque;
 /// ended in is joined with its neighbours, where they have few items together.
 fn cut_out<T: Drop>(
     blocks: &mut Vec<VecDeque<T>>,
-    ends: &mut Vec<usize>,
+    ends: &mut Ends,
     base: usize,
     spare: &mut Vec<VecDeque<T>>,
     hint: usize,
@@ -41,7 +42,7 @@ fn cut_out<T: Drop>(
 /// The items of a stretch of ranks leave, and blocks of few items are joined there. Answers the base.
 pub(crate) fn remove_some<T: Drop>(
     blocks: &mut Vec<VecDeque<T>>,
-    ends: &mut Vec<usize>,
+    ends: &mut Ends,
     base: usize,
     spare: &mut Vec<VecDeque<T>>,
     hint: usize,

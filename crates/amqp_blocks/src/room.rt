@@ -5,6 +5,7 @@ ghost use Rattle.std.specs.VecDeque.{deque_capacity};
 ghost use Rattle.amqp_blocks.specs.Chunked.{Block, items_of, EachSpare, places_of, IsSound};
 ghost use Rattle.amqp_blocks.specs.Inner.Changes.{IsGrown};
 
+use crate::ends::Ends;
 use crate::search::total;
 use crate::sequence::BLOCK;
 use std::alloc::{AllocError, Global};
@@ -90,14 +91,14 @@ pub(crate) fn make_first<T>(
 /// Makes a place for each of so many spare rings among the blocks.
 fn make_slots<T>(
     blocks: &mut Vec<VecDeque<T>>,
-    ends: &mut Vec<usize>,
+    ends: &mut Ends,
     spare: &mut Vec<VecDeque<T>>,
     count: usize,
 ) -> Result<(), AllocError>
     ensures blocks { (blocks.new.items ≡ blocks.old.items) × (vec_capacity blocks.old ≤ vec_capacity blocks.new) }
-    ensures ends { (ends.new.items ≡ ends.old.items) × (vec_capacity ends.old ≤ vec_capacity ends.new) }
+    ensures ends { (ends.new.items ≡ ends.old.items) × (ends.old.capacity ≤ ends.new.capacity) }
     ensures spare { (spare.new.items ≡ spare.old.items) × (vec_capacity spare.old ≤ vec_capacity spare.new) }
-    ensures ok { OnOk result ((length blocks.new.items + count ≤ vec_capacity blocks.new) × (length ends.new.items + count ≤ vec_capacity ends.new) × (count ≤ vec_capacity spare.new)) }
+    ensures ok { OnOk result ((length blocks.new.items + count ≤ vec_capacity blocks.new) × (length ends.new.items + count ≤ ends.new.capacity) × (count ≤ vec_capacity spare.new)) }
 {
     blocks.reserve(count)?;
     ends.reserve(count)?;
@@ -107,7 +108,7 @@ fn make_slots<T>(
 /// Makes places in the one block there is.
 fn make_room_in_block<T>(
     blocks: &mut Vec<VecDeque<T>>,
-    ends: &Vec<usize>,
+    ends: &Ends,
     base: usize,
     spare: &Vec<VecDeque<T>>,
     additional: usize,
@@ -126,7 +127,7 @@ fn make_room_in_block<T>(
 /// Makes places in a spare ring, for the first block.
 fn make_room_for_first<T>(
     blocks: &mut Vec<VecDeque<T>>,
-    ends: &mut Vec<usize>,
+    ends: &mut Ends,
     base: usize,
     spare: &mut Vec<VecDeque<T>>,
     additional: usize,
@@ -151,7 +152,7 @@ fn make_room_for_first<T>(
 /// Makes so many spare rings as wide as a block.
 fn make_room_in_spares<T>(
     blocks: &mut Vec<VecDeque<T>>,
-    ends: &mut Vec<usize>,
+    ends: &mut Ends,
     base: usize,
     spare: &mut Vec<VecDeque<T>>,
     count: usize,
@@ -171,7 +172,7 @@ fn make_room_in_spares<T>(
 /// Makes room for so many items more. A refusal leaves all items.
 pub(crate) fn make_room<T>(
     blocks: &mut Vec<VecDeque<T>>,
-    ends: &mut Vec<usize>,
+    ends: &mut Ends,
     base: usize,
     spare: &mut Vec<VecDeque<T>>,
     additional: usize,

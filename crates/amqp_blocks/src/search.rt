@@ -3,6 +3,8 @@
 ghost use Rattle.std.specs.Prelude.{◌≡◌, ◌+◌, ◌-◌, ◌^◌, ◌<◌, ◌≤◌, length, slice_index, IsTrue, IfSome};
 ghost use Rattle.amqp_blocks.specs.Chunked.{HoldsTarget};
 
+use crate::ends::Ends;
+
 /// The place of an item: its block, and where it is there.
 #[derive(Clone, Copy)]
 pub(crate) struct Place {
@@ -15,18 +17,18 @@ const NEAR: usize = 4;
 
 /// Whether a block holds a target.
 #[inline(always)]
-fn holds(ends: &Vec<usize>, target: usize, block: usize) -> bool
+fn holds(ends: &Ends, target: usize, block: usize) -> bool
     requires block { block < length ends.now.items }
     ensures { IsTrue result → HoldsTarget ends.now.items target block }
 {
-    if target >= ends[block] {
+    if target >= ends.at(block) {
         return false;
     }
-    block == 0 || ends[block - 1] <= target
+    block == 0 || ends.at(block - 1) <= target
 }
 
 /// The block that holds a target, by halving.
-fn halving(ends: &Vec<usize>, target: usize) -> usize
+fn halving(ends: &Ends, target: usize) -> usize
     requires some { 0 < length ends.now.items }
     requires within { target < slice_index ends.now.items (length ends.now.items - 1) }
     ensures holds { HoldsTarget ends.now.items target result }
@@ -35,7 +37,7 @@ fn halving(ends: &Vec<usize>, target: usize) -> usize
     let mut high = ends.len() - 1;
     while low < high {
         let middle = low + (high - low) / 2;
-        if ends[middle] <= target {
+        if ends.at(middle) <= target {
             low = middle + 1;
         } else {
             high = middle;
@@ -44,20 +46,27 @@ fn halving(ends: &Vec<usize>, target: usize) -> usize
     low
 }
 
-/// The next block towards a target.
-fn towards(ends: &Vec<usize>, target: usize, block: usize) -> usize
+/// A block nearer to a target than this one, where blocks hold about so many items.
+fn towards(ends: &Ends, target: usize, block: usize, each: usize) -> usize
     requires block { block < length ends.now.items }
+    requires each { 0 < each }
     ensures { result < length ends.now.items }
 {
-    if target < ends[block] {
-        return block.saturating_sub(1);
+    let end = ends.at(block);
+    if target < end {
+        return block.saturating_sub(((end - target) / each).max(1));
     }
-    (block + 1).min(ends.len() - 1)
+    let steps = (target - end) / each;
+    block
+        .saturating_add(steps)
+        .saturating_add(1)
+        .min(ends.len() - 1)
 }
 
-/// The block that holds a target, if it is near a guess.
-fn near(ends: &Vec<usize>, target: usize, guess: usize) -> Option<usize>
+/// The block that holds a target, if it is near a guess, where blocks hold about so many items.
+fn near(ends: &Ends, target: usize, guess: usize, each: usize) -> Option<usize>
     requires guess { guess < length ends.now.items }
+    requires each { 0 < each }
     ensures holds { IfSome result (λ block. HoldsTarget ends.now.items target block) }
 {
     let mut block = guess;
@@ -65,7 +74,7 @@ fn near(ends: &Vec<usize>, target: usize, guess: usize) -> Option<usize>
         if holds(ends, target, block) {
             return Some(block);
         }
-        block = towards(ends, target, block);
+        block = towards(ends, target, block, each);
     }
     None
 }
@@ -75,12 +84,12 @@ fn by_proportion(count: usize, len: usize, rank: usize) -> usize
     requires some { 0 < count }
     ensures { result < count }
 {
-    (rank / (len / count).max(1)).min(count - 1)
+    (rank.wrapping_mul(count) / len.max(1)).min(count - 1)
 }
 
 /// The block that holds a rank: one near the guess by proportion, or by halving.
 #[inline(never)]
-fn between(ends: &Vec<usize>, base: usize, rank: usize) -> usize
+fn between(ends: &Ends, base: usize, rank: usize) -> usize
     requires some { 0 < length ends.now.items }
     requires fits { base + rank < 2 ^ 64 }
     requires within { base + rank < slice_index ends.now.items (length ends.now.items - 1) }
@@ -89,7 +98,7 @@ fn between(ends: &Vec<usize>, base: usize, rank: usize) -> usize
     let target = base + rank;
     let len = total(ends, base);
     let guess = by_proportion(ends.len(), len, rank);
-    match near(ends, target, guess) {
+    match near(ends, target, guess, (len / ends.len()).max(1)) {
         Some(block) => block,
         None => halving(ends, target),
     }
@@ -97,7 +106,7 @@ fn between(ends: &Vec<usize>, base: usize, rank: usize) -> usize
 
 /// The block that holds a rank: the first or the last, or one between them.
 #[inline(always)]
-fn block_of(ends: &Vec<usize>, base: usize, rank: usize) -> usize
+fn block_of(ends: &Ends, base: usize, rank: usize) -> usize
     requires some { 0 < length ends.now.items }
     requires fits { base + rank < 2 ^ 64 }
     requires within { base + rank < slice_index ends.now.items (length ends.now.items - 1) }
@@ -116,7 +125,7 @@ fn block_of(ends: &Vec<usize>, base: usize, rank: usize) -> usize
 
 /// The place of a rank in the block that holds it.
 #[inline(always)]
-fn place_in(ends: &Vec<usize>, base: usize, rank: usize, block: usize) -> Place
+fn place_in(ends: &Ends, base: usize, rank: usize, block: usize) -> Place
     requires fits { base + rank < 2 ^ 64 }
     requires holds { HoldsTarget ends.now.items (base + rank) block }
     ensures block { result.block ≡ block }
@@ -128,13 +137,13 @@ fn place_in(ends: &Vec<usize>, base: usize, rank: usize, block: usize) -> Place
     }
     Place {
         block,
-        at: base + rank - ends[block - 1],
+        at: base + rank - ends.at(block - 1),
     }
 }
 
 /// Where a rank is: its block, and its place there.
 #[inline(always)]
-pub(crate) fn locate(ends: &Vec<usize>, base: usize, rank: usize) -> Place
+pub(crate) fn locate(ends: &Ends, base: usize, rank: usize) -> Place
     requires some { 0 < length ends.now.items }
     requires fits { base + rank < 2 ^ 64 }
     requires within { base + rank < slice_index ends.now.items (length ends.now.items - 1) }
@@ -149,7 +158,7 @@ pub(crate) fn locate(ends: &Vec<usize>, base: usize, rank: usize) -> Place
 
 /// Where a rank is, which may be in the hinted block. A hint may be wrong.
 #[inline(always)]
-pub(crate) fn locate_near(ends: &Vec<usize>, base: usize, hint: usize, rank: usize) -> Place
+pub(crate) fn locate_near(ends: &Ends, base: usize, hint: usize, rank: usize) -> Place
     requires some { 0 < length ends.now.items }
     requires fits { base + rank < 2 ^ 64 }
     requires within { base + rank < slice_index ends.now.items (length ends.now.items - 1) }
@@ -169,7 +178,7 @@ pub(crate) fn locate_near(ends: &Vec<usize>, base: usize, hint: usize, rank: usi
 }
 
 /// Where a rank is that may be the length: then it is after the last block.
-pub(crate) fn locate_end(ends: &Vec<usize>, base: usize, rank: usize) -> Place
+pub(crate) fn locate_end(ends: &Ends, base: usize, rank: usize) -> Place
     requires some { 0 < length ends.now.items }
     requires fits { base + rank < 2 ^ 64 }
     requires within { base + rank ≤ slice_index ends.now.items (length ends.now.items - 1) }
@@ -180,7 +189,7 @@ pub(crate) fn locate_end(ends: &Vec<usize>, base: usize, rank: usize) -> Place
     ensures end { result.block ≡ length ends.now.items → result.at ≡ 0 }
 {
     let count = ends.len();
-    if base + rank == ends[count - 1] {
+    if base + rank == ends.at(count - 1) {
         return Place {
             block: count,
             at: 0,
@@ -191,7 +200,7 @@ pub(crate) fn locate_end(ends: &Vec<usize>, base: usize, rank: usize) -> Place
 
 /// How many items there are. It reads the last running length.
 #[inline(always)]
-pub(crate) fn total(ends: &Vec<usize>, base: usize) -> usize
+pub(crate) fn total(ends: &Ends, base: usize) -> usize
     requires { 0 < length ends.now.items → base ≤ slice_index ends.now.items (length ends.now.items - 1) }
     ensures none { length ends.now.items ≡ 0 → result ≡ 0 }
     ensures some { 0 < length ends.now.items → base + result ≡ slice_index ends.now.items (length ends.now.items - 1) }
@@ -200,5 +209,5 @@ pub(crate) fn total(ends: &Vec<usize>, base: usize) -> usize
     if count == 0 {
         return 0;
     }
-    ends[count - 1] - base
+    ends.at(count - 1) - base
 }

@@ -6,6 +6,7 @@ ghost use Rattle.std.specs.Option.{option_to_list};
 ghost use Rattle.amqp_blocks.specs.Chunked.{Block, items_of, start_of, HasItem};
 
 use crate::cascade::end_of;
+use crate::ends::Ends;
 use crate::inserting::{put_before, put_last};
 use crate::leaving::pop;
 use crate::removing::remove_some;
@@ -32,7 +33,7 @@ pub const BLOCK: usize = 256;
 pub struct Blocks<T> {
     blocks: Vec<VecDeque<T>>,
     // Where each block ends: the items up to there, and `base` more.
-    ends: Vec<usize>,
+    ends: Ends,
     // How many items have left at the front.
     base: usize,
     // Empty rings for the blocks to come.
@@ -70,7 +71,7 @@ impl<T> Blocks<T> {
     {
         Blocks {
             blocks: Vec::new(alloc),
-            ends: Vec::new(alloc),
+            ends: Ends::new(alloc),
             base: 0,
             spare: Vec::new(alloc),
             sought: 0,

@@ -94,6 +94,13 @@ pub(super) fn closer(part: Part, at: usize, value: u32, number: u32, clues: Clue
     ensures less { value < number → (result.low ≡ at + 1) × (result.high ≡ min part.high (at + (number - value))) }
     ensures more { number ≤ value → (result.low ≡ max part.low (at - (value - number))) × (result.high ≡ at) }
 {
+    if value == number {
+        return Part {
+            low: at,
+            high: at,
+            guess: at,
+        };
+    }
     if value < number {
         return after(part, at, (number - value) as usize, clues);
     }

@@ -35,8 +35,8 @@ raise_from-requires-clause-few g c =
     let v = c.requires.chunked in
     subst (λ (ks : List ℕ). (k : ℕ) → k < length (drop c.args.block ks) → slice_index (drop c.args.block ks) k < 2 ^ 64 - 1) (sym v.stops) (λ k h. let m = ends_high c.args.base c.args.blocks.now.items c.args.block k h in omega (arith, m, v.low, v.few))
 
-pub insert_reserved-requires : goal.insert_reserved-requires
-insert_reserved-requires g c =
+pub insert-requires : goal.insert-requires
+insert-requires g c =
     let long = ends_long c.args.base c.args.blocks.now.items c.args.ends.now.items c.requires.chunked.stops in
     let same = length_raised (λ e. e + 1) c.args.block c.args.ends.now.items in
     let raised = ap length c.raise_from.ensures.raised in
@@ -45,8 +45,8 @@ insert_reserved-requires g c =
       room = omega (arith, raised, same, long, c.requires.ends_fit, c.requires.spare, c.raise_from.ensures.capacity);
     }
 
-pub insert_reserved-requires-2 : goal.insert_reserved-requires-2
-insert_reserved-requires-2 g c = record { within = c.requires.block; room = omega (arith, c.requires.blocks_fit, c.requires.spare) }
+pub insert_reserved-requires : goal.insert_reserved-requires
+insert_reserved-requires g c = record { within = c.requires.block; room = omega (arith, c.requires.blocks_fit, c.requires.spare) }
 
 pub returns : goal.returns
 returns g c =
@@ -58,10 +58,10 @@ returns g c =
     let sp = popped c.pop.result ring c.args.spare.now.items left c.unwrap-ring.ensures c.pop.ensures.items in
     let spares = subst EachSpare sp c.requires.spares in
     let one : full.items ≡ c.args.item ∷ [] = c.push_back_reserved.ensures.items ∙ ap (λ (xs : List _). xs ++ c.args.item ∷ []) (spares_last left ring spares).0 in
-    let es : c.insert_reserved.new.values.items ≡ insert c.raise_from.new.ends.items k (c.start-end.result + 1) = c.insert_reserved.ensures.values in
-    let ds : c.insert_reserved-2.new.values.items ≡ insert bs k full = c.insert_reserved-2.ensures.values in
+    let es : c.insert.new.self.items ≡ insert c.raise_from.new.ends.items k (c.start-end.result + 1) = c.insert.ensures.items in
+    let ds : c.insert_reserved.new.values.items ≡ insert bs k full = c.insert_reserved.ensures.values in
     let s = start_is c.args.base bs c.args.ends.now.items k c.start-end.result c.requires.chunked.stops c.requires.block c.start-end.ensures.first c.start-end.ensures.other in
-    let a = alone_is c.args.base c.start-end.result bs c.insert_reserved-2.new.values.items c.args.ends.now.items c.insert_reserved.new.values.items k full c.args.item c.requires.block one ds s (es ∙ ap (λ (ks : List ℕ). insert ks k (c.start-end.result + 1)) c.raise_from.ensures.raised) c.requires.few c.requires.chunked in
+    let a = alone_is c.args.base c.start-end.result bs c.insert_reserved.new.values.items c.args.ends.now.items c.insert.new.self.items k full c.args.item c.requires.block one ds s (es ∙ ap (λ (ks : List ℕ). insert ks k (c.start-end.result + 1)) c.raise_from.ensures.raised) c.requires.few c.requires.chunked in
     record {
       chunked = a.0;
       spares = spares_front left ring spares;
@@ -71,5 +71,5 @@ returns g c =
         places = omega (arith, ap places_of ds, places_insert bs k full c.requires.block, ap places_of sp, places_append left (ring ∷ []), c.push_back_reserved.ensures.capacity);
       };
       count = omega (arith, ap length ds, length-insert bs k full c.requires.block);
-      capacity = (c.insert_reserved-2.ensures.capacity, omega (arith, c.insert_reserved.ensures.capacity, c.raise_from.ensures.capacity));
+      capacity = (c.insert_reserved.ensures.capacity, omega (arith, c.insert.ensures.capacity, c.raise_from.ensures.capacity));
     }

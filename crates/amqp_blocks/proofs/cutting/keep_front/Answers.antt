@@ -36,10 +36,10 @@ overflow_add-base g c =
     let more = start_more bs i t.from c.requires.block t.was in
     omega (arith, c.requires.rank, more, start_few bs (suc i), c.requires.within t.from t.was, c.requires.chunked.low, c.requires.chunked.few)
 
-pub index_mut-requires : goal.index_mut-requires
-index_mut-requires g c =
+pub set-requires : goal.set-requires
+set-requires g c =
     let long = ends_long c.args.base c.args.blocks.now.items c.args.ends.now.items c.requires.chunked.stops in
-    omega (arith, long, c.requires.block, c.args.ends.now.ok.0)
+    record { within = omega (arith, long, c.requires.block) }
 
 pub returns-clause-front : goal.returns-clause-front
 returns-clause-front g c =
@@ -57,7 +57,7 @@ returns-clause-front g c =
     let big = some_at bs i t.from v.some c.requires.block t.was in
     let is = items_take_in bs i at c.args.rank t.from t.to c.requires.block t.was (omega (arith, w)) kept c.requires.rank in
     record {
-      stops = ap (λ (ks : List ℕ). take (i + 1) (set ks i (c.args.base + c.args.rank))) v.stops ∙ ends_take_in c.args.base (c.args.base + c.args.rank) bs i t.to c.requires.block (omega (arith, size, c.requires.rank)) ∙ ap (λ (xs : List (Block _)). ends_from c.args.base (take (i + 1) xs)) (sym t.set);
+      stops = ap (take (i + 1)) c.set.ensures.items ∙ ap (λ (ks : List ℕ). take (i + 1) (set ks i (c.args.base + c.args.rank))) v.stops ∙ ends_take_in c.args.base (c.args.base + c.args.rank) bs i t.to c.requires.block (omega (arith, size, c.requires.rank)) ∙ ap (λ (xs : List (Block _)). ends_from c.args.base (take (i + 1) xs)) (sym t.set);
       some = subst (λ (xs : List (Block _)). EachSome (take (i + 1) xs)) (sym t.set) (some_take (set bs i t.to) (i + 1) (some_set bs i t.to v.some (omega (arith, size)) (omega (arith, size, w, big.1))));
       is = ap (λ (xs : List (Block _)). items_of (take (i + 1) xs)) t.set ∙ is;
     }
@@ -66,10 +66,10 @@ pub returns-clause-rest : goal.returns-clause-rest
 returns-clause-rest g c =
     let i = c.args.place.block in
     let t = c.thin.ensures.thinned in
-    (ap (drop (i + 1)) t.set ∙ drop_set_over c.args.blocks.now.items i t.to, drop_set_over c.args.ends.now.items i (c.args.base + c.args.rank))
+    (ap (drop (i + 1)) t.set ∙ drop_set_over c.args.blocks.now.items i t.to, ap (drop (i + 1)) c.set.ensures.items ∙ drop_set_over c.args.ends.now.items i (c.args.base + c.args.rank))
 
 pub returns-clause-count : goal.returns-clause-count
 returns-clause-count g c =
     let i = c.args.place.block in
     let t = c.thin.ensures.thinned in
-    (ap length t.set ∙ length-set c.args.blocks.now.items i t.to, length-set c.args.ends.now.items i (c.args.base + c.args.rank))
+    (ap length t.set ∙ length-set c.args.blocks.now.items i t.to, ap length c.set.ensures.items ∙ length-set c.args.ends.now.items i (c.args.base + c.args.rank))

@@ -16,7 +16,7 @@ join_next-upper-requires g c = record {
 pub remove-requires : goal.remove-requires
 remove-requires g c =
     let long = ends_long c.args.base c.args.blocks.now.items c.args.ends.now.items c.requires.sound.chunked.stops in
-    omega (arith, long, c.args.ends.now.ok.0, c.if-block-saturating_sub.false, c.saturating_sub.ensures, c.len.ensures, c.args.blocks.now.ok.0)
+    record { within = omega (arith, long, c.if-block-saturating_sub.false, c.saturating_sub.ensures, c.len.ensures, c.args.blocks.now.ok.0) }
 
 pub returns : goal.returns
 returns g c =

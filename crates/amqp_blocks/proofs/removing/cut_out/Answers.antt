@@ -3,6 +3,7 @@ use Rattle.std.proofs.lemmas.Bool.{cases_lt}
 use Rattle.amqp_blocks.specs.Chunked.{items_of, without, start_of}
 use Rattle.amqp_blocks.proofs.PlaceLemmas.{ends_long, reaches, located, last_end, placed_end, within_block, comes_later, same_at, start_more}
 use Rattle.amqp_blocks.proofs.PutLemmas.{size_of}
+use Rattle.amqp_blocks.proofs.CountLemmas.{most_blocks}
 use Rattle.amqp_blocks.proofs.removing.cut_out.Goals as goal
 
 pub locate_near-first-requires : goal.locate_near-first-requires
@@ -111,6 +112,13 @@ cut_wide-base-requires g c =
       rank = l.rank_is;
       count = omega (arith, r, c.requires.order);
     }
+
+pub overflow_add-first : goal.overflow_add-first
+overflow_add-first g c =
+    let v = c.requires.sound.chunked in
+    let few = most_blocks c.args.blocks.now.items v.some in
+    let long = ends_long c.args.base c.args.blocks.now.items c.args.ends.now.items v.stops in
+    omega (arith, c.locate_near-first.ensures.block, long, few, v.few)
 
 pub join_near-requires : goal.join_near-requires
 join_near-requires g c =

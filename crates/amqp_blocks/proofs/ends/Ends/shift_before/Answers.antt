@@ -1,0 +1,10 @@
+use Rattle.std.proofs.Common.{length, ap, arith}
+use Rattle.amqp_blocks.specs.Chunked.{RunningLengths}
+use Rattle.amqp_blocks.proofs.ShiftLemmas.{long}
+use Rattle.amqp_blocks.proofs.ends.Ends.shift_before.Goals as goal
+
+pub shift_before-requires-clause-block : goal.shift_before-requires-clause-block
+shift_before-requires-clause-block c =
+    let same = long c.self.inside.from c.self.inside.shift c.self.inside.written.items in
+    let is = ap (λ (v : RunningLengths). length v.items) c.self.view_is in
+    omega (arith, c.requires.block, same, is)
