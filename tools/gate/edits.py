@@ -3,8 +3,8 @@
 The folder has a file for each module: mutants/session/settling.edits for src/session/settling.rt. In it stand the edits of the functions whose
 code that source has, in their order there, and in laws.edits also those of definitions, by the law that speaks of them. An edit begins with a
 line 'edit: NAME', a name that no other edit of the crate has. 'function: PATH' says what it makes wrong, and 'gate: yes' that the gate
-tries it. Then come the lines of the toolchain's must-fail edits: 'file:', and 'old:' and 'new:' for each change of that file. Empty lines, and
-those that begin with '#', say nothing.
+tries it. Then come the lines of the toolchain's must-fail edits: 'file:', and 'old:' and 'new:' for each change of that file, where ⏎ is the end of a
+line. Empty lines, and those that begin with '#', say nothing.
 """
 
 import sys
@@ -32,9 +32,9 @@ class Edit:
         elif word == "file":
             self.path = text.strip()
         elif word == "old" and self.path and self.old is None:
-            self.old = text[1:]
+            self.old = lines_of(text)
         elif word == "new" and self.old is not None:
-            self.pairs.append((self.path, self.old, text[1:]))
+            self.pairs.append((self.path, self.old, lines_of(text)))
             self.old = None
         else:
             return False
@@ -61,6 +61,11 @@ class Edit:
         texts = {}
         self.put(folder, texts)
         return texts
+
+
+def lines_of(text):
+    """The text of an edit, after the blank that follows the colon."""
+    return text[1:].replace("⏎", "\n")
 
 
 def edits_of(crate):

@@ -82,8 +82,9 @@ fn move_shift(written: &mut Vec<usize>, from: usize, shift: usize, to: usize)
     }
 }
 
-/// Shifts the running lengths from a block on, modulo 2^64: where they are written, or by the shift, whichever costs less. Answers
+/// Shifts the running lengths from a block on, modulo 2^64: where they are written, if they are few (see `NEARER`), or by the shift. Answers
 /// where the shift begins, and the shift.
+#[inline(never)]
 fn shift_from(
     written: &mut Vec<usize>,
     from: usize,
@@ -185,6 +186,11 @@ impl Ends {
         ensures shifted { self.new.items ≡ take block self.old.items ++ map (more by) (drop block self.old.items) }
         ensures capacity { self.new.capacity ≡ self.old.capacity }
     {
+        // Many changes come to one block.
+        if block == self.from {
+            self.shift = self.shift.wrapping_add(by);
+            return;
+        }
         let (from, shift) = shift_from(&mut self.written, self.from, self.shift, block, by);
         self.from = from;
         self.shift = shift;

@@ -41,8 +41,8 @@ pub(crate) fn sink(ends: &mut Ends, base: usize, block: usize, count: usize) -> 
     base
 }
 
-/// Updates the running lengths once items have left a block: those from it on sink, or the base and those before it rise, whichever are
-/// fewer. Answers the base.
+/// Updates the running lengths once items have left a block: those from it on sink, or the base and those before it rise, if these are few
+/// (see `NEARER`). Answers the base.
 pub(crate) fn sink_or_rise(ends: &mut Ends, base: usize, block: usize, count: usize) -> usize
     requires block { block ≤ length ends.old.items }
     requires fits { base + count < 2 ^ 64 }

@@ -12,7 +12,7 @@ use crate::leaving::pop;
 use crate::removing::remove_some;
 use crate::rings::write_at;
 use crate::room::make_room;
-use crate::search::{Place, locate_near, total};
+use crate::search::{Place, locate_near};
 use std::alloc::{AllocError, Global};
 use std::collections::VecDeque;
 use std::marker::Model;
@@ -36,6 +36,8 @@ pub struct Blocks<T> {
     ends: Ends,
     // How many items have left at the front.
     base: usize,
+    // How many items there are.
+    count: usize,
     // Empty rings for the blocks to come.
     spare: Vec<VecDeque<T>>,
     // The block that was sought last, which may be another one by now.
@@ -43,14 +45,14 @@ pub struct Blocks<T> {
 }
 
 impl<T> Model for Blocks<T> {
-    ghost use Rattle.std.specs.Prelude.{length};
+    ghost use Rattle.std.specs.Prelude.{◌≡◌, length};
     ghost use Rattle.amqp_blocks.specs.Chunked.{Sequence, items_of, room_of, IsSound};
 
     ghost Value = { Sequence T };
 
     ghost view = { λ s. record { items = items_of s.blocks.items; room = room_of s.blocks.items s.spare.items; blocks = length s.blocks.items } };
 
-    ghost invariant = { λ s. IsSound s.base s.blocks s.ends s.spare };
+    ghost invariant = { λ s. IsSound s.base s.blocks s.ends s.spare × (s.count ≡ length (items_of s.blocks.items)) };
 }
 
 /// The item of a place.
@@ -73,6 +75,7 @@ impl<T> Blocks<T> {
             blocks: Vec::new(alloc),
             ends: Ends::new(alloc),
             base: 0,
+            count: 0,
             spare: Vec::new(alloc),
             sought: 0,
         }
@@ -83,7 +86,7 @@ impl<T> Blocks<T> {
     pub fn len(&self) -> usize
         ensures { result ≡ length self.now.items }
     {
-        total(&self.ends, self.base)
+        self.count
     }
 
     /// Whether there are no items.
@@ -181,6 +184,7 @@ impl<T> Blocks<T> {
             &mut self.spare,
             item,
         );
+        self.count += 1;
     }
 
     /// Puts an item before that of a rank, or after the last where the rank is the length. It needs room for one, and asks for no memory.
@@ -201,6 +205,7 @@ impl<T> Blocks<T> {
             rank,
             item,
         );
+        self.count += 1;
     }
 
     /// Puts an item in the place of that of a rank, which is dropped.
@@ -227,6 +232,7 @@ impl<T> Blocks<T> {
         }
         let (item, base) = pop(&mut self.blocks, &mut self.ends, &mut self.spare, self.base);
         self.base = base;
+        self.count -= 1;
         Some(item)
     }
 
@@ -251,5 +257,6 @@ impl<T> Blocks<T> {
             from,
             to,
         );
+        self.count -= to - from;
     }
 }

@@ -6,7 +6,7 @@ use Rattle.amqp_blocks.proofs.sequence.Blocks.blocks.Goals as goal
 pub returns : goal.returns
 returns g c =
     let bs = c.self.inside.blocks.items in
-    let some = c.self.invariant.chunked.some in
+    let some = c.self.invariant.0.chunked.some in
     let items = ap (λ (s : Sequence _). length s.items) c.self.view_is in
     let count = ap (λ (s : Sequence _). s.blocks) c.self.view_is in
     let len : c.len.result ≡ length bs = omega (arith, c.len.ensures, c.self.inside.blocks.ok.0) in

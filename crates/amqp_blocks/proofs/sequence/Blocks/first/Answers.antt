@@ -14,7 +14,7 @@ pub item_of-requires : goal.item_of-requires
 item_of-requires g c =
     let bs = c.self.inside.blocks in
     let h : 0 < length bs.items = omega (arith, bs.ok.0, c.len.ensures, c.if-len-eq0.false) in
-    record { at = λ b e. (some_at bs.items 0 b c.self.invariant.chunked.some h e).0; block = h }
+    record { at = λ b e. (some_at bs.items 0 b c.self.invariant.0.chunked.some h e).0; block = h }
 
 pub returns : goal.returns
 returns g c = sym c.item_of.ensures.value ∙ ap (λ (s : Sequence _). slice_get s.items 0) c.self.view_is

@@ -5,7 +5,7 @@ use Rattle.amqp_blocks.specs.Chunked.{items_of, Sequence}
 use Rattle.amqp_blocks.proofs.sequence.Blocks.insert.Goals as goal
 
 pub put_before-requires-clause-sound : goal.put_before-requires-clause-sound
-put_before-requires-clause-sound g c = c.self.invariant
+put_before-requires-clause-sound g c = c.self.invariant.0
 
 pub put_before-requires-clause-within : goal.put_before-requires-clause-within
 put_before-requires-clause-within g c =
@@ -23,7 +23,11 @@ put_before-requires-clause-few g c =
     omega (arith, old, c.requires.few)
 
 pub invariant_of-self : goal.invariant_of-self
-invariant_of-self g c = c.put_before.ensures.sound
+invariant_of-self g c =
+    let e = c.put_before.ensures in
+    let old = ap (λ (s : Sequence _). length s.items) c.self.view_is in
+    let long = ap length e.items ∙ length-insert (items_of c.self.inside.blocks.items) c.args.rank c.args.item (omega (arith, old, c.requires.within)) in
+    (e.sound, omega (arith, long, c.self.invariant.1))
 
 pub returns-clause-items : goal.returns-clause-items
 returns-clause-items g c =

@@ -20,7 +20,7 @@ overflow_sub-place g c =
     let end = c.end_of-end.result in
     let h : end.block < length bs.items = omega (arith, c.end_of-end.ensures.block, bs.ok.0, c.len-count.ensures, c.if-count-eq0.false) in
     let b = some_block bs.items end.block h in
-    omega (arith, c.end_of-end.ensures.at b.0 b.1, (some_at bs.items end.block b.0 c.self.invariant.chunked.some h b.1).0)
+    omega (arith, c.end_of-end.ensures.at b.0 b.1, (some_at bs.items end.block b.0 c.self.invariant.0.chunked.some h b.1).0)
 
 pub item_of-requires : goal.item_of-requires
 item_of-requires g c =
@@ -28,7 +28,7 @@ item_of-requires g c =
     let end = c.end_of-end.result in
     let h : end.block < length bs.items = omega (arith, c.end_of-end.ensures.block, bs.ok.0, c.len-count.ensures, c.if-count-eq0.false) in
     record {
-      at = λ b e. omega (arith, c.end_of-end.ensures.at b e, (some_at bs.items end.block b c.self.invariant.chunked.some h e).0);
+      at = λ b e. omega (arith, c.end_of-end.ensures.at b e, (some_at bs.items end.block b c.self.invariant.0.chunked.some h e).0);
       block = h;
     }
 
@@ -39,7 +39,7 @@ returns g c =
     let count = c.len-count.result in
     let h : end.block < length bs.items = omega (arith, c.end_of-end.ensures.block, bs.ok.0, c.len-count.ensures, c.if-count-eq0.false) in
     let b = some_block bs.items end.block h in
-    let some = (some_at bs.items end.block b.0 c.self.invariant.chunked.some h b.1).0 in
+    let some = (some_at bs.items end.block b.0 c.self.invariant.0.chunked.some h b.1).0 in
     let next = end_start bs.items end.block count end.at h (omega (arith, c.end_of-end.ensures.block, c.if-count-eq0.false)) c.end_of-end.ensures.at in
     let all = start_all bs.items count (omega (arith, bs.ok.0, c.len-count.ensures)) in
     let rank : start_of bs.items end.block + (end.at - 1) ≡ length (items_of bs.items) - 1 = omega (arith, next, all, c.end_of-end.ensures.at b.0 b.1, some) in

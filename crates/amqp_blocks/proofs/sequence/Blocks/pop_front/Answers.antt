@@ -6,21 +6,24 @@ use Rattle.amqp_blocks.proofs.sequence.Blocks.pop_front.Goals as goal
 
 pub pop-item-requires : goal.pop-item-requires
 pop-item-requires g c = record {
-  chunked = c.self.invariant.chunked;
-  spares = c.self.invariant.spares;
+  chunked = c.self.invariant.0.chunked;
+  spares = c.self.invariant.0.spares;
   some = omega (arith, c.self.inside.blocks.ok.0, c.len.ensures, c.if-len-eq0.false);
 }
 
 pub invariant_of-self : goal.invariant_of-self
 invariant_of-self g c =
-    let v = c.self.invariant in
+    let v = c.self.invariant.0 in
     let e = c.pop-item.ensures in
-    record {
-      chunked = e.chunked;
-      spares = e.spares;
-      blocks_fit = omega (arith, e.rings, v.blocks_fit, e.capacity.0);
-      ends_fit = omega (arith, e.rings, v.ends_fit, e.capacity.1);
-    }
+    let less = ap length e.items in (
+      record {
+        chunked = e.chunked;
+        spares = e.spares;
+        blocks_fit = omega (arith, e.rings, v.blocks_fit, e.capacity.0);
+        ends_fit = omega (arith, e.rings, v.ends_fit, e.capacity.1);
+      },
+      omega (arith, less, c.self.invariant.1),
+    )
 
 pub returns-then-len-eq0-clause-variant : goal.returns-then-len-eq0-clause-variant
 returns-then-len-eq0-clause-variant g c =

@@ -5,7 +5,7 @@ use Rattle.amqp_blocks.proofs.RoomLemmas.{insert_end}
 use Rattle.amqp_blocks.proofs.sequence.Blocks.push_back.Goals as goal
 
 pub put_last-requires-clause-sound : goal.put_last-requires-clause-sound
-put_last-requires-clause-sound g c = c.self.invariant
+put_last-requires-clause-sound g c = c.self.invariant.0
 
 pub put_last-requires-clause-room : goal.put_last-requires-clause-room
 put_last-requires-clause-room g c =
@@ -18,7 +18,11 @@ put_last-requires-clause-few g c =
     omega (arith, old, c.requires.few)
 
 pub invariant_of-self : goal.invariant_of-self
-invariant_of-self g c = c.put_last.ensures.sound
+invariant_of-self g c =
+    let e = c.put_last.ensures in
+    let xs = items_of c.self.inside.blocks.items in
+    let long = ap length e.items ∙ length-insert xs (length xs) c.args.item (omega arith) in
+    (e.sound, omega (arith, long, c.self.invariant.1))
 
 pub returns-clause-items : goal.returns-clause-items
 returns-clause-items g c =

@@ -1,6 +1,6 @@
-use Rattle.std.proofs.Common.{◌++◌, length, take, drop, ap, sym, ◌∙◌, arith}
-use Rattle.std.proofs.lemmas.List.{take-append-drop}
-use Rattle.amqp_blocks.specs.Chunked.{Sequence}
+use Rattle.std.proofs.Common.{◌≤◌, ◌++◌, length, take, drop, ap, sym, ◌∙◌, arith, length-append, length-drop}
+use Rattle.std.proofs.lemmas.List.{length-take-le, take-append-drop}
+use Rattle.amqp_blocks.specs.Chunked.{items_of, Sequence}
 use Rattle.amqp_blocks.proofs.sequence.Blocks.remove_range.Goals as goal
 
 pub returns-then-from-to : goal.returns-then-from-to
@@ -12,13 +12,20 @@ pub remove_some-self-inside-requires : goal.remove_some-self-inside-requires
 remove_some-self-inside-requires g c =
     let old = ap (λ (s : Sequence _). length s.items) c.self.view_is in
     record {
-      sound = c.self.invariant;
+      sound = c.self.invariant.0;
       order = omega (arith, c.requires.order, c.if-from-to.false);
       within = omega (arith, old, c.requires.within);
     }
 
 pub invariant_of-self : goal.invariant_of-self
-invariant_of-self g c = c.remove_some-self-inside.ensures.sound
+invariant_of-self g c =
+    let e = c.remove_some-self-inside.ensures in
+    let xs = items_of c.self.inside.blocks.items in
+    let old = ap (λ (s : Sequence _). length s.items) c.self.view_is in
+    let within : c.args.to ≤ length xs = omega (arith, old, c.requires.within) in
+    let front = length-take-le c.args.from xs (omega (arith, within, c.requires.order)) in
+    let long = ap length e.items ∙ length-append (take c.args.from xs) (drop c.args.to xs) in
+    (e.sound, omega (arith, long, front, length-drop c.args.to xs, within, c.requires.order, c.self.invariant.1))
 
 pub returns : goal.returns
 returns g c =

@@ -6,7 +6,7 @@ use Rattle.amqp_blocks.proofs.sequence.Blocks.replace.Goals as goal
 
 pub locate_near-place-requires : goal.locate_near-place-requires
 locate_near-place-requires g c =
-    let v = c.self.invariant.chunked in
+    let v = c.self.invariant.0.chunked in
     let s = c.self.inside in
     let old = ap (λ (s : Sequence _). length s.items) c.self.view_is in
     let within : c.args.rank < length (items_of s.blocks.items) = omega (arith, old, c.requires.within) in
@@ -17,29 +17,32 @@ pub write_at-requires : goal.write_at-requires
 write_at-requires g c =
     let e = c.locate_near-place.ensures in
     let s = c.self.inside in
-    let l = located s.base s.blocks.items s.ends.items c.locate_near-place.result.block c.locate_near-place.result.at c.args.rank c.self.invariant.chunked.stops e.block e.first e.other e.after in
+    let l = located s.base s.blocks.items s.ends.items c.locate_near-place.result.block c.locate_near-place.result.at c.args.rank c.self.invariant.0.chunked.stops e.block e.first e.other e.after in
     record { block = l.block_is; within = l.item }
 
 pub invariant_of-self : goal.invariant_of-self
 invariant_of-self g c =
     let e = c.locate_near-place.ensures in
     let s = c.self.inside in
-    let v = c.self.invariant in
+    let v = c.self.invariant.0 in
     let l = located s.base s.blocks.items s.ends.items c.locate_near-place.result.block c.locate_near-place.result.at c.args.rank v.chunked.stops e.block e.first e.other e.after in
     let u = c.write_at.ensures.replaced in
     let count = ap length u.set ∙ length-set s.blocks.items c.locate_near-place.result.block u.to in
-    record {
-      chunked = replaced_chunked s.base s.blocks.items c.write_at.new.blocks.items s.ends.items c.locate_near-place.result.block c.locate_near-place.result.at c.args.item l.block_is u v.chunked;
-      spares = v.spares;
-      blocks_fit = omega (arith, count, v.blocks_fit, c.write_at.ensures.capacity);
-      ends_fit = omega (arith, count, v.ends_fit);
-    }
+    let items = items_replaced s.blocks.items c.write_at.new.blocks.items c.locate_near-place.result.block c.locate_near-place.result.at c.args.rank c.args.item l.block_is u (l.item u.from u.was) l.rank_is in (
+      record {
+        chunked = replaced_chunked s.base s.blocks.items c.write_at.new.blocks.items s.ends.items c.locate_near-place.result.block c.locate_near-place.result.at c.args.item l.block_is u v.chunked;
+        spares = v.spares;
+        blocks_fit = omega (arith, count, v.blocks_fit, c.write_at.ensures.capacity);
+        ends_fit = omega (arith, count, v.ends_fit);
+      },
+      omega (arith, ap length items, length-set (items_of s.blocks.items) c.args.rank c.args.item, c.self.invariant.1),
+    )
 
 pub returns : goal.returns
 returns g c =
     let e = c.locate_near-place.ensures in
     let s = c.self.inside in
-    let l = located s.base s.blocks.items s.ends.items c.locate_near-place.result.block c.locate_near-place.result.at c.args.rank c.self.invariant.chunked.stops e.block e.first e.other e.after in
+    let l = located s.base s.blocks.items s.ends.items c.locate_near-place.result.block c.locate_near-place.result.at c.args.rank c.self.invariant.0.chunked.stops e.block e.first e.other e.after in
     let u = c.write_at.ensures.replaced in
     let items = items_replaced s.blocks.items c.write_at.new.blocks.items c.locate_near-place.result.block c.locate_near-place.result.at c.args.rank c.args.item l.block_is u (l.item u.from u.was) l.rank_is in
     let places = places_same s.blocks.items c.write_at.new.blocks.items c.locate_near-place.result.block c.locate_near-place.result.at c.args.item l.block_is u in

@@ -1,13 +1,13 @@
-use Rattle.std.proofs.Common.{length, ap, ◌∙◌, arith}
+use Rattle.std.proofs.Common.{length, ap, sym, ◌∙◌, arith}
 use Rattle.std.proofs.lemmas.Result.{on_ok_weaker}
 use Rattle.amqp_blocks.specs.Chunked.{Sequence}
 use Rattle.amqp_blocks.proofs.sequence.Blocks.reserve.Goals as goal
 
 pub make_room-requires : goal.make_room-requires
-make_room-requires g c = record { sound = c.self.invariant }
+make_room-requires g c = record { sound = c.self.invariant.0 }
 
 pub invariant_of-self : goal.invariant_of-self
-invariant_of-self g c = c.make_room.ensures.sound
+invariant_of-self g c = (c.make_room.ensures.sound, c.self.invariant.1 ∙ sym (ap length c.make_room.ensures.items))
 
 pub returns : goal.returns
 returns g c =

@@ -6,7 +6,7 @@ use Rattle.amqp_blocks.proofs.sequence.Blocks.seek.Goals as goal
 pub locate_near-requires : goal.locate_near-requires
 locate_near-requires g c =
     let s = c.self.inside in
-    let v = c.self.invariant.chunked in
+    let v = c.self.invariant.0.chunked in
     let old = ap (λ (s : Sequence _). length s.items) c.self.view_is in
     let within : c.args.rank < length (items_of s.blocks.items) = omega (arith, old, c.requires.within) in
     let r = reaches s.base s.blocks.items s.ends.items c.args.rank v.stops within in
