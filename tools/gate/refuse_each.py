@@ -3,10 +3,10 @@
 
     tools/gate/refuse_each.py
 
-It compiles refuse_nth.c with the machine's compiler (and installs gcc where there is none), and takes the programs oom_script and
+It compiles refuse_nth.c with the machine's compiler (and installs gcc where there is none), and takes the programs rows_engine and
 amqp_replay as `rt run` or `rt ci` left them in out/; where one is missing it has `rt run` make it. Nothing of this is proved.
 
-oom_script runs once undisturbed, and then once for each N with the N-th request refused, until a run meets no refusal. But for the lines
+rows_engine runs its scripts once undisturbed, and then once for each N with the N-th request refused, until a run meets no refusal. But for the lines
 after `~`, which tell the refusals, it has to print what it prints undisturbed: each piece in its order, nothing twice and nothing left out.
 In the second script a transfer that its session refuses is not offered again: the numbers are counted once, and nothing is recorded.
 Calls that take no memory are made while every request is refused, and have to make none. amqp_replay has to end with the whole output, or
@@ -26,7 +26,7 @@ from pathlib import Path
 sys.path.insert(0, str(Path(__file__).resolve().parents[1]))
 
 from amqp.tables import TABLES
-from gen import expected_exchange, expected_memory
+from gen import engine_memory, expected_exchange
 from shared.command import command
 
 ROOT = Path(__file__).resolve().parents[2]
@@ -216,7 +216,7 @@ def refuses_none(sweep, run, nth):
 
 def second_script(lines):
     """The lines before the second script, of the script, and after it."""
-    first, after = (lines.index("# " + it) for it in (expected_memory.REFUSED, expected_memory.CODEC))
+    first, after = (lines.index("# " + it) for it in (engine_memory.REFUSED, engine_memory.CODEC))
     return lines[:first], lines[first:after], lines[after:]
 
 
@@ -227,17 +227,17 @@ def as_wanted(whole, said):
     if lost not in script:
         return without(said) == whole
     which = [it for it in script if it.startswith(("next-incoming", "~"))].index(lost)
-    wanted = [it for it in expected_memory.received(which)]
+    wanted = [it for it in engine_memory.received(which)]
     return [*before, *after] == [it for part in second_script(whole)[::2] for it in part] and script[-len(wanted):] == wanted
 
 
 def each_of_script(sweep, program, library):
-    """oom_script, with each request refused; the calls, and the refusals of each."""
-    script = (program.parent.parent / "stdin").read_text().splitlines()
+    """The scripts of rows_engine, with each request refused; the calls, and the refusals of each."""
+    rows = engine_memory.rows()
+    script = rows.asked
     given = "\n".join(script).encode() + b"\n"
     whole = Run(program, library, given)
-    wanted = (program.parent.parent / "stdout").read_text()
-    sweep.check(whole.status == 0 and whole.said == wanted, "oom_script undisturbed prints what it has to")
+    sweep.check(whole.status == 0 and whole.lines() == rows.said, "the scripts undisturbed print what they have to")
     refuses_none(sweep, whole, 0)
     met = {}
     found = calls(whole, script)
@@ -289,10 +289,10 @@ def main():
     sweep = Sweep()
     with tempfile.TemporaryDirectory(prefix="refuse-") as room:
         library = compiled(Path(room))
-        found, met, requests = each_of_script(sweep, made("oom_script"), library)
+        found, met, requests = each_of_script(sweep, made("rows_engine"), library)
         replayed, ended = each_of_replay(sweep, made("amqp_replay"), library)
     table(sweep, found, met)
-    print(f"oom_script: {requests} requests, each refused once; amqp_replay: {replayed}, of which {ended} ended it with status 3")
+    print(f"scripts: {requests} requests, each refused once; amqp_replay: {replayed}, of which {ended} ended it with status 3")
     print(f"{sweep.passed} passed, {sweep.failed} failed")
     sys.exit(sweep.failed != 0)
 

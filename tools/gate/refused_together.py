@@ -59,8 +59,8 @@ MISSES_A_NAME = re.compile(r"has no field|has no `|is not in scope|was not admit
 
 # How the toolchain checks a crate with an edit.
 RT = toolchain.rt()
-# A check for each processor at a time.
-LANES = threading.BoundedSemaphore(RT.processors())
+# So many checks at a time.
+LANES = threading.BoundedSemaphore(int(os.environ.get("RT_JOBS") or RT.processors()))
 
 
 def any_goal(said):

@@ -5,7 +5,7 @@
 
 Each row is a transcript for an engine of its own in HeaderExchange, whose Open is named `replay`, or calls of a connection alone, or of handles
 with the runs of their engine, and what that shows. Beside each line stands what it has to print (AMQP 1.0 part 2, sections 2.4 to 2.6; docs/PROTOCOL.md for the
-tables). After them stand whole recorded exchanges. Nothing is taken from the program's output.
+tables). After them stand whole recorded exchanges, and the scripts that run with memory refused. Nothing is taken from the program's output.
 """
 
 import sys
@@ -13,7 +13,7 @@ from pathlib import Path
 
 sys.path.insert(0, str(Path(__file__).resolve().parents[1]))
 
-from gen import engine_alone, engine_connections, engine_dispositions, engine_handles, engine_lines, engine_links, engine_runs, engine_sessions
+from gen import engine_alone, engine_connections, engine_dispositions, engine_handles, engine_lines, engine_links, engine_memory, engine_runs, engine_sessions
 from gen import engine_wishes, expected_exchange
 from gen.row import EngineRows
 
@@ -27,6 +27,7 @@ def main():
     engine_runs.write(rows)
     expected_exchange.write(rows)
     rows.note()
+    engine_memory.write(rows)
     rows.write(CRATE)
 
 

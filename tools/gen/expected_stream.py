@@ -16,6 +16,7 @@ sys.path.insert(0, str(Path(__file__).resolve().parents[1]))
 
 from amqp.canonical import composite, string, uint, ushort
 from amqp.recorded import ATTACH, BEGIN, CAPTURES, CLOSE, END, FLOW, OPEN, TRANSFER, Frame
+from gen import user_calls
 from gen.expected_frames import expected
 
 CRATE = Path(__file__).resolve().parents[2] / "crates" / "example_transport"
@@ -158,6 +159,7 @@ def main():
     for frame, sent in map(in_pieces, PIECES):
         given.append(f"pieces {frame.hex()}")
         wanted.append(sent.hex())
+    wanted += user_calls.wanted()
     for file, lines in ("stdin", given), ("stdout", wanted):
         CRATE.joinpath(file).write_text("".join(line + "\n" for line in lines))
 

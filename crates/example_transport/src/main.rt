@@ -3,9 +3,10 @@
 //! A line `-- NAME` begins a recording; each line after it is one frame in hexadecimal, without its size. For each recording it
 //! prints what the engine sent and what it refused, and of all frames in one run into one buffer at which place each refusal stands. A line
 //! `stream HEX` is a stream that something is wrong with: it prints how reading it ends. A line `pieces HEX` is a frame: it prints its pieces
-//! under a limit of 24 bytes, each as it is written.
+//! under a limit of 24 bytes, each as it is written. After the lines comes what calls answer that are no transport's (`src/calls.rt`).
 #![tactic(auto)]
 
+mod calls;
 mod chunks;
 mod one_run;
 mod pieces;
@@ -70,7 +71,8 @@ fn main(rt: HostRuntime) -> anyhow::Result<()> {
     for line in BufReader::new(alloc, rt.reader())?.lines(alloc) {
         take_line(alloc, hash, line?.as_str(), &mut frames, &mut out)?;
     }
-    finish(alloc, hash, &mut frames, &mut out)
+    finish(alloc, hash, &mut frames, &mut out)?;
+    Ok(calls::calls(&rt)?)
 }
 
 /// Tells what the last frames gave.

@@ -32,6 +32,8 @@
 //! | `session CALL`, `twin CALL` | of the first of these, of the second: `is`, `try`, `end`, `end CONDITION`, `close` |
 //! | `engine STATE` | another engine is handed to the handles |
 //! | `show`, `show N`, `route CHANNEL`, `led N`, `output N NAME` | the calls that read: the engine and a session as `Debug` shows them, `session_tx_by_incoming_channel`, `has_route`, `output_handle` |
+//!
+//! After a line `scripts`, or where the first line begins with `# `, the lines are scripts: `src/script.rt` says which lines they have.
 #![tactic(auto)]
 
 mod connection;
@@ -39,16 +41,36 @@ mod handled;
 mod inputs;
 mod reading;
 mod row;
+mod script;
 
 use std::alloc::Global;
-use std::io::{self, BufRead, BufReader, BufWriter, Write};
+use std::io::{self, BufWriter, Write};
 
 fn main(rt: HostRuntime) -> anyhow::Result<()> {
+    let text = script::reading::text(&rt)?;
+    let (rows, scripts) = parts(std::str::from_utf8(text.as_slice())?);
+    write_rows(&rt, rows)?;
+    script::run(&rt, scripts)
+}
+
+/// The lines of rows, and those of scripts.
+fn parts(text: &str) -> (&str, &str) {
+    if text.starts_with("# ") {
+        return ("", text);
+    }
+    text.split_once("scripts\n").unwrap_or((text, ""))
+}
+
+/// Writes what the rows print. Where there is none it takes no memory.
+fn write_rows(rt: &HostRuntime, rows: &str) -> anyhow::Result<()> {
+    if rows.is_empty() {
+        return Ok(());
+    }
     let alloc = rt.alloc();
-    let mut out = BufWriter::new(alloc, io::writer(&rt))?;
+    let mut out = BufWriter::new(alloc, io::writer(rt))?;
     let mut lines = String::new(alloc);
-    for line in BufReader::new(alloc, rt.reader())?.lines(alloc) {
-        take_line(alloc, &mut lines, line?.as_str(), &mut out)?;
+    for line in rows.lines() {
+        take_line(alloc, &mut lines, line, &mut out)?;
     }
     finish(alloc, lines.as_str(), &mut out)
 }

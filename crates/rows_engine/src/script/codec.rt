@@ -1,7 +1,7 @@
 //! Calls of the codec, each once more where it is refused for memory.
 
-use crate::offer::out;
-use crate::{making, mark, print, reading, say, sending};
+use crate::script::offer::out;
+use crate::script::{making, mark, print, reading, say, sending};
 use bytes::{Bytes, BytesMut};
 use fe2o3_amqp::{
     Frame, FrameDecoder, FrameEncoder, Performative, Piece, ReadError, WriteError, frames,

@@ -1,20 +1,10 @@
-#!/usr/bin/env python3
-"""Writes the script of the program oom_script, and what it prints where no memory is refused.
-
-    tools/gen/expected_memory.py            writes crates/oom_script/{stdin,stdout}
+"""The scripts of the program rows_engine, and what they print where no memory is refused.
 
 Beside each line stands what it has to print (AMQP 1.0 part 2, sections 2.4 to 2.7). tools/gate/refuse_each.py runs the same script with each
 request for memory refused in turn. Nothing is taken from the program's output.
 """
 
-import sys
-from pathlib import Path
-
-sys.path.insert(0, str(Path(__file__).resolve().parents[1]))
-
 from gen.row import LAST, OUR_CLOSE, OUR_OPEN, Rows, attach, begin, closing, detach, disposition, echo, end, flow, opening, out, recv, transfer, wire
-
-CRATE = Path(__file__).resolve().parents[2] / "crates" / "oom_script"
 
 # the titles of the scripts
 EXCHANGE, REFUSED, CODEC = "An exchange", "Transfers that a session refuses", "Calls of the codec"
@@ -209,9 +199,8 @@ def rows():
     return of
 
 
-def main():
-    rows().write(CRATE)
-
-
-if __name__ == "__main__":
-    main()
+def write(after):
+    """Puts the scripts after the rows of an engine."""
+    scripts = rows()
+    after.asked += ["scripts", *scripts.asked]
+    after.said += scripts.said

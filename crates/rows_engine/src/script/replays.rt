@@ -1,6 +1,6 @@
 //! `replay` with a reader or a writer that fails at its k-th call.
 
-use crate::{print, say};
+use crate::script::{print, say};
 use fe2o3_amqp::replay;
 use std::alloc::Global;
 use std::io::{self, BufReader, ErrorKind, Read, Write};

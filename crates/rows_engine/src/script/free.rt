@@ -1,8 +1,8 @@
 //! Calls that take no memory, made while every request for memory is refused.
 
-use crate::input::{ScriptInput, of_line};
-use crate::offer::{ScriptEngine, out};
-use crate::{mark, print, reading, say};
+use crate::script::input::{ScriptInput, of_line};
+use crate::script::offer::{ScriptEngine, out};
+use crate::script::{mark, print, reading, say};
 use bytes::Bytes;
 use fe2o3_amqp::connection::Connection;
 use fe2o3_amqp::{

@@ -1,20 +1,12 @@
-#!/usr/bin/env python3
-"""Writes what the program example_user prints; what the peer is told of each refusal it reads off the table in docs/PROTOCOL.md.
-
-    tools/gen/expected_user.py            writes crates/example_user/stdout
-"""
+"""What the program example_transport prints of a user's calls; what the peer is told of each refusal is read off the table in docs/PROTOCOL.md."""
 
 import re
-import sys
 from pathlib import Path
-
-sys.path.insert(0, str(Path(__file__).resolve().parents[1]))
 
 from amqp.canonical import composite, symbol
 from amqp.frames import END
 
 ROOT = Path(__file__).resolve().parents[2]
-OUT = ROOT / "crates" / "example_user" / "stdout"
 
 CONVERSIONS = """OutputHandle(7) is Handle(7)
 InputHandle(4294967295) is Handle(4294967295)
@@ -89,17 +81,14 @@ def spelled(prefix, name):
     return f"{name}: {prefix}{'-'.join(words).lower()}"
 
 
-def main():
+def wanted():
+    """The lines, as one list."""
     of = page()
     found, quiet = table(of), after_close(of)
-    lines = [CONVERSIONS]
+    lines = CONVERSIONS.splitlines()
     lines += [told(found, variant, name) for variant, names in REFUSALS.items() for name in names.split()]
     lines += [f"{state}: {'nothing' if state in quiet else 'told'}" for state in STATES.split()]
     lines += [spelled(prefix, name) for prefix, names in CONDITIONS.items() for name in names.split()]
     lines += ["UnknownTransaction: amqp:transaction:unknown-id", BEGUN, "err UnattachedHandle"]
     lines.append("out 02000000" + composite(END, [composite(0x1D, [symbol("amqp:session:unattached-handle")])]).hex())
-    OUT.write_text("\n".join(lines) + "\n")
-
-
-if __name__ == "__main__":
-    main()
+    return lines

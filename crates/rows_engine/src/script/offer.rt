@@ -1,8 +1,8 @@
 //! Running a script: each input is offered to the engine, and once more where it is refused for memory.
 
-use crate::input::{ScriptInput, of_line};
-use crate::wishes::WishedEngine;
-use crate::{codec, free, mark, print, reading, replays, say, sending, wishes};
+use crate::script::input::{ScriptInput, of_line};
+use crate::script::wishes::WishedEngine;
+use crate::script::{codec, free, mark, print, reading, replays, say, sending, wishes};
 use fe2o3_amqp::{
     Answer, ConnectionState, Engine, HandledEngine, Open, Piece, ReplayRelay, Session,
     SessionInnerError, StepError, err_name, out_line,

@@ -1,7 +1,7 @@
 //! What is made for links: the parts of a delivery, the outcome rejected, and the room for events.
 
-use crate::codec::{Came, frame, limited};
-use crate::mark;
+use crate::script::codec::{Came, frame, limited};
+use crate::script::mark;
 use amqp_events::{Room, SharedQueue};
 use fe2o3_amqp::definitions::Error;
 use fe2o3_amqp::{

@@ -1,9 +1,9 @@
 //! Runs and calls that send into a buffer, each once more where it is refused for memory.
 
-use crate::codec::{Came, frame, limited, refusal};
-use crate::input::ScriptInput;
-use crate::offer::{ScriptEngine, queued, refused};
-use crate::{mark, print, reading, say};
+use crate::script::codec::{Came, frame, limited, refusal};
+use crate::script::input::ScriptInput;
+use crate::script::offer::{ScriptEngine, queued, refused};
+use crate::script::{mark, print, reading, say};
 use bytes::Bytes;
 use fe2o3_amqp::{Frame, FrameEncoder, Refusal, SendBuffer};
 use std::collections::VecDeque;

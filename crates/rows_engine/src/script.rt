@@ -1,4 +1,4 @@
-//! A whole exchange, each input given to the engine one at a time, and once more where it is refused for memory.
+//! A script: a whole exchange, each input given to the engine one at a time, and once more where it is refused for memory.
 //!
 //! | Line | What is done |
 //! |---|---|
@@ -24,23 +24,22 @@
 //! A line of the output is `out` and a piece, `sent` and pieces after their sizes, `err` and a refusal, or what a call answers. After `~` stands a refusal for memory.
 //! Marks on standard error, `@make`, `@run`, `@print`, say to `tools/gate/refuse_nth.c` what asks for memory from then on, and
 //! `@refuse`, `@grant` that every request is to be refused, or none.
-#![tactic(auto)]
 
 mod codec;
 mod free;
 mod input;
 mod making;
 mod offer;
-mod reading;
+pub mod reading;
 mod replays;
 mod sending;
 mod wishes;
 
 use std::io::Write;
 
-fn main(rt: HostRuntime) -> anyhow::Result<()> {
-    let text = reading::text(&rt)?;
-    offer::script(&rt, std::str::from_utf8(text.as_slice())?)
+/// Runs the lines of scripts.
+pub fn run(rt: &HostRuntime, lines: &str) -> anyhow::Result<()> {
+    offer::script(rt, lines)
 }
 
 /// Says what asks for memory from now on. It takes none itself.

@@ -1,8 +1,8 @@
 //! Wishes of handles, and what became of them, by an engine of its own.
 
-use crate::free::passes;
-use crate::offer::offered;
-use crate::{mark, print, reading, say};
+use crate::script::free::passes;
+use crate::script::offer::offered;
+use crate::script::{mark, print, reading, say};
 use fe2o3_amqp::connection::Error as ConnectionError;
 use fe2o3_amqp::definitions::Error;
 use fe2o3_amqp::session::Error as SessionError;

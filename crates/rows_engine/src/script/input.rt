@@ -1,6 +1,6 @@
 //! The input that a line says.
 
-use crate::reading;
+use crate::script::reading;
 use bytes::Bytes;
 use fe2o3_amqp::{
     Flow, Input, InputHandle, LinkFlow, Performative, ReplayRelay, SessionNo, SessionSettings,
