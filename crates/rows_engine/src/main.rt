@@ -58,7 +58,7 @@ fn parts(text: &str) -> (&str, &str) {
     if text.starts_with("# ") {
         return ("", text);
     }
-    text.split_once("scripts\n").unwrap_or((text, ""))
+    text.split_once("\nscripts\n").unwrap_or((text, ""))
 }
 
 /// Writes what the rows print. Where there is none it takes no memory.
