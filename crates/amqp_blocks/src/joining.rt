@@ -87,6 +87,10 @@ pub(crate) fn join_near<T>(
     ensures items { items_of blocks.new.items ≡ items_of blocks.old.items }
     ensures count { length blocks.new.items ≤ length blocks.old.items }
 {
+    // A block of many is joined with neither.
+    if block < blocks.len() && blocks[block].len() > FEW {
+        return;
+    }
     join(blocks, ends, base, spare, block);
     join(blocks, ends, base, spare, block.saturating_sub(1));
 }

@@ -4,6 +4,7 @@ ghost use Rattle.std.specs.Prelude.{◌≡◌, ◌+◌, ◌-◌, ◌^◌, ◌<�
 ghost use Rattle.amqp_blocks.specs.Chunked.{HoldsTarget};
 
 use crate::ends::Ends;
+use crate::sequence::BLOCK;
 
 /// The place of an item: its block, and where it is there.
 #[derive(Clone, Copy)]
@@ -46,27 +47,25 @@ fn halving(ends: &Ends, target: usize) -> usize
     low
 }
 
-/// A block nearer to a target than this one, where blocks hold about so many items.
-fn towards(ends: &Ends, target: usize, block: usize, each: usize) -> usize
+/// A block nearer to a target than this one. None has more than `BLOCK` items, so that of the target is not passed over.
+fn towards(ends: &Ends, target: usize, block: usize) -> usize
     requires block { block < length ends.now.items }
-    requires each { 0 < each }
     ensures { result < length ends.now.items }
 {
     let end = ends.at(block);
     if target < end {
-        return block.saturating_sub(((end - target) / each).max(1));
+        return block.saturating_sub(((end - target) / BLOCK).max(1));
     }
-    let steps = (target - end) / each;
+    let steps = (target - end) / BLOCK;
     block
         .saturating_add(steps)
         .saturating_add(1)
         .min(ends.len() - 1)
 }
 
-/// The block that holds a target, if it is near a guess, where blocks hold about so many items.
-fn near(ends: &Ends, target: usize, guess: usize, each: usize) -> Option<usize>
+/// The block that holds a target, if it is near a guess.
+fn near(ends: &Ends, target: usize, guess: usize) -> Option<usize>
     requires guess { guess < length ends.now.items }
-    requires each { 0 < each }
     ensures holds { IfSome result (λ block. HoldsTarget ends.now.items target block) }
 {
     let mut block = guess;
@@ -74,7 +73,7 @@ fn near(ends: &Ends, target: usize, guess: usize, each: usize) -> Option<usize>
         if holds(ends, target, block) {
             return Some(block);
         }
-        block = towards(ends, target, block, each);
+        block = towards(ends, target, block);
     }
     None
 }
@@ -96,9 +95,8 @@ fn between(ends: &Ends, base: usize, rank: usize) -> usize
     ensures holds { HoldsTarget ends.now.items (base + rank) result }
 {
     let target = base + rank;
-    let len = total(ends, base);
-    let guess = by_proportion(ends.len(), len, rank);
-    match near(ends, target, guess, (len / ends.len()).max(1)) {
+    let guess = by_proportion(ends.len(), total(ends, base), rank);
+    match near(ends, target, guess) {
         Some(block) => block,
         None => halving(ends, target),
     }
@@ -167,9 +165,6 @@ pub(crate) fn locate_near(ends: &Ends, base: usize, hint: usize, rank: usize) ->
     ensures other { 0 < result.block → slice_index ends.now.items (result.block - 1) + result.at ≡ base + rank }
     ensures after { base + rank < slice_index ends.now.items result.block }
 {
-    if holds(ends, base + rank, 0) {
-        return Place { block: 0, at: rank };
-    }
     let block = hint.min(ends.len() - 1);
     if holds(ends, base + rank, block) {
         return place_in(ends, base, rank, block);

@@ -40,7 +40,7 @@ pub struct Blocks<T> {
     count: usize,
     // Empty rings for the blocks to come.
     spare: Vec<VecDeque<T>>,
-    // The block that was sought last, which may be another one by now.
+    // The block that was remembered last, which may be another one by now.
     sought: usize,
 }
 
@@ -115,13 +115,22 @@ impl<T> Blocks<T> {
         item_of(&self.blocks, place)
     }
 
-    /// Remembers the block of a rank, which is below the length: reads near it find it at once. No item changes.
+    /// The item of a rank, which is below the length, and the block that it is in, for [`Blocks::remember`].
     #[inline(always)]
-    pub fn seek(&mut self, rank: usize)
-        requires within { rank < length self.old.items }
+    pub fn locate(&self, rank: usize) -> (&T, usize)
+        requires within { rank < length self.now.items }
+        ensures value { slice_get self.now.items rank ≡ Some result.0.now }
+    {
+        let place = locate_near(&self.ends, self.base, self.sought, rank);
+        (item_of(&self.blocks, place), place.block)
+    }
+
+    /// Remembers a block, which may be any number: what is in it is found at once. No item changes.
+    #[inline(always)]
+    pub fn remember(&mut self, block: usize)
         ensures { self.new ≡ self.old }
     {
-        self.sought = locate_near(&self.ends, self.base, self.sought, rank).block;
+        self.sought = block;
     }
 
     /// The first item, or `None` where there is none.

@@ -45,7 +45,8 @@ impl Beside {
         holds(rt, self.blocks.len() < MOST && rank <= self.blocks.len());
         self.blocks.insert(rank, item);
         holds(rt, rank < self.blocks.len() && rank <= self.plain.len());
-        self.blocks.seek(rank);
+        let (_, block) = self.blocks.locate(rank);
+        self.blocks.remember(block);
         self.plain.insert(rank, item)?;
         Ok(())
     }

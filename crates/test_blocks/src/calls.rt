@@ -51,7 +51,9 @@ fn each_call_gives_what_it_says(rt: HostRuntime) -> Result<(), Fail> {
     same(&rt, blocks.last().copied(), Some(40));
     holds(&rt, blocks.len() == 4);
     blocks.replace(2, 33);
-    blocks.seek(2);
+    let (item, block) = blocks.locate(2);
+    same(&rt, *item, 33);
+    blocks.remember(block);
     same(&rt, *blocks.get(2), 33);
     same(&rt, blocks.pop_front(), Some(10));
     holds(&rt, blocks.len() == 3);

@@ -10,8 +10,51 @@ pub(super) struct Part {
     pub(super) guess: usize,
 }
 
-/// What tells where a place is expected: where the last search ended, that so many numbers took so many places, and the place and the
-/// number that were read last. They may be wrong.
+/// More are missing only where the numbers of a table pass 4294967295, or are far apart.
+const MOST_MISSING: usize = 0x8000_0000;
+
+/// Where the last search ended: the numbers from `next` on were thought to begin at `place`. It may be wrong by now.
+#[derive(Clone, Copy)]
+pub(super) struct Landmark {
+    place: usize,
+    next: u32,
+}
+
+impl Landmark {
+    /// That of a table with no record.
+    pub(super) fn new() -> Landmark {
+        Landmark { place: 0, next: 0 }
+    }
+
+    /// The numbers after this one are thought to begin at a place.
+    #[inline(always)]
+    pub(super) fn after(number: u32, place: usize) -> Landmark {
+        Landmark {
+            place,
+            next: number.wrapping_add(1),
+        }
+    }
+
+    /// Where a number is expected in a table with so many records, and so many numbers missing between them: they are thought to be missing
+    /// evenly. Where most are missing the numbers of the table pass 4294967295, and the oldest and the newest stand side by side: it is
+    /// expected there.
+    #[inline(always)]
+    pub(super) fn expected(self, number: u32, len: usize, missing: usize) -> usize {
+        if number == self.next || missing > MOST_MISSING {
+            return self.place;
+        }
+        let numbers = len.saturating_add(missing).max(1);
+        let far = number.abs_diff(self.next) as usize;
+        let steps = far.wrapping_mul(len) / numbers;
+        if number < self.next {
+            return self.place.saturating_sub(steps);
+        }
+        self.place.saturating_add(steps)
+    }
+}
+
+/// What tells where a place is expected: a hint, that so many numbers took so many places, and the place and the number that were read last.
+/// They may be wrong.
 #[derive(Clone, Copy)]
 pub(super) struct Clues {
     hint: usize,
@@ -55,7 +98,7 @@ impl Clues {
         if steps <= most { steps } else { 1 }
     }
 
-    /// Where a place is expected between these: where the last search ended, if that is there, and else at the other one.
+    /// Where a place is expected between these: at the hint, if that is there, and else at the other one.
     #[inline(always)]
     fn guess(self, low: usize, high: usize, other: usize) -> usize {
         if low <= self.hint && self.hint < high {

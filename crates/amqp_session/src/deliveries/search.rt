@@ -4,7 +4,7 @@ ghost use Rattle.std.specs.Prelude.{◌≡◌, ℕ, ◌+◌, ◌-◌, ◌*◌, �
 ghost use Rattle.amqp_session.specs.Deliveries.{compared, number_at, IsMissing};
 
 use super::Deliveries;
-use super::part::{Clues, Part, closer, probe};
+use super::part::{Clues, Landmark, Part, closer, probe};
 
 impl Deliveries {
     /// Where the numbers from `first` on begin. Numbers are whole and rise: without missing numbers the first one gives the place. Where
@@ -38,7 +38,7 @@ impl Deliveries {
         ensures cost { (k : ℕ) × (self.new ≡ compared k self.old) × (2 ^ k ≤ 2 * length self.old.rows + 1) }
     {
         let high = self.len();
-        let guess = self.last_place();
+        let guess = self.landmark().expected(first, high, missing);
         let places = (high + 1).next_power_of_two();
         self.place_in(
             first,
@@ -68,8 +68,7 @@ impl Deliveries {
         let len = self.len();
         let far = (first - front) as usize;
         let low = far.saturating_sub(missing).min(len);
-        let last = self.last_place();
-        let guess = expected(low, last, far, len, missing);
+        let guess = self.landmark().expected(first, len, missing);
         let places = (len + 1).next_power_of_two() / 2;
         self.place_in(
             first,
@@ -78,7 +77,7 @@ impl Deliveries {
                 high: far.min(len),
                 guess,
             },
-            Clues::of(last, len, missing, Some((0, front))),
+            Clues::of(guess, len, missing, Some((0, front))),
             places,
         )
     }
@@ -110,20 +109,7 @@ impl Deliveries {
             clues = clues.learned(at, value);
             left = closer(left, at, value, first, clues);
         }
-        self.note_place(left.low);
+        self.note(Landmark::after(first, left.low));
         left.low
     }
-}
-
-/// Where a number is expected that is `far` greater than the first one: near the place that was sought last, if it can be there, and else
-/// as far as the numbers of the table are apart on average.
-#[inline(always)]
-fn expected(low: usize, last: usize, far: usize, len: usize, missing: usize) -> usize
-    requires some { 0 < len + missing }
-    requires sum { len + missing < 2 ^ 64 }
-{
-    if low <= last.saturating_add(1) && last <= far {
-        return last;
-    }
-    far.wrapping_mul(len) / (len + missing)
 }

@@ -6,7 +6,7 @@ ghost use Rattle.amqp_session.specs.Deliveries.{IsRising, IsTable, IsMissing, co
 
 mod ranges;
 
-use super::part::{Clues, Part, closer, probe};
+use super::part::{Clues, Landmark, Part, closer, probe};
 use super::{Delivery, ReadCount};
 use amqp_blocks::Blocks;
 use std::alloc::{AllocError, Global};
@@ -20,8 +20,8 @@ use std::marker::Model;
 pub(crate) struct Deliveries {
     rows: Blocks<Delivery>,
     reads: ReadCount,
-    /// Where the last search ended: a guess for the next one, which may be wrong.
-    last_place: usize,
+    /// Where the last search ended.
+    landmark: Landmark,
 }
 
 impl Model for Deliveries {
@@ -61,6 +61,19 @@ fn front_of(rows: &Blocks<Delivery>) -> u32
         unreachable!()
     };
     first.number
+}
+
+/// The number at a place. A search comes near to it next, so its block is remembered.
+#[inline(always)]
+fn number_in(rows: &mut Blocks<Delivery>, at: usize) -> u32
+    requires within { at < length rows.old.items }
+    ensures value { result ≡ number_at rows.old.items at }
+    ensures kept { rows.new ≡ rows.old }
+{
+    let (row, block) = rows.locate(at);
+    let number = row.number;
+    rows.remember(block);
+    number
 }
 
 /// Whether the number stands at the place.
@@ -120,11 +133,6 @@ fn cut_wide(rows: &mut Blocks<Delivery>, from: usize, count: usize)
     }
 }
 
-/// Where a record stands once one comes in at a place.
-fn moved(at: usize, place: usize) -> usize {
-    if place <= at { at.wrapping_add(1) } else { at }
-}
-
 /// Where the numbers from `number` on begin. They are expected at the guess, and so many numbers are thought to be missing.
 fn place_among(rows: &mut Blocks<Delivery>, number: u32, guess: usize, missing: usize) -> usize
     requires rising { IsRising rows.old.items }
@@ -146,8 +154,7 @@ fn place_among(rows: &mut Blocks<Delivery>, number: u32, guess: usize, missing: 
     while left.low < left.high {
         half /= 2;
         let at = probe(left, half);
-        rows.seek(at);
-        let value = rows.get(at).number;
+        let value = number_in(rows, at);
         clues = clues.learned(at, value);
         left = closer(left, at, value, number, clues);
     }
@@ -165,7 +172,7 @@ impl Deliveries {
         Deliveries {
             rows: Blocks::new(alloc),
             reads: ReadCount::new(),
-            last_place: 0,
+            landmark: Landmark::new(),
         }
     }
 
@@ -211,7 +218,7 @@ impl Deliveries {
         front_of(&self.rows)
     }
 
-    /// The number at a place: one comparison. A search comes near to it next, so its block is remembered.
+    /// The number at a place: one comparison.
     #[inline(always)]
     pub(crate) fn number(&mut self, at: usize) -> u32
         requires within { at < length self.old.rows }
@@ -219,22 +226,21 @@ impl Deliveries {
         ensures counted { self.new ≡ compared 1 self.old }
     {
         self.reads.comparisons = self.reads.comparisons.wrapping_add(1);
-        self.rows.seek(at);
-        self.rows.get(at).number
+        number_in(&mut self.rows, at)
     }
 
-    /// Where the last search ended. Records that came or went since may have moved what stood there.
+    /// Where the last search ended.
     #[inline(always)]
-    pub(crate) fn last_place(&self) -> usize {
-        self.last_place
+    pub(super) fn landmark(&self) -> Landmark {
+        self.landmark
     }
 
     /// Notes where a search ended, for the next one.
     #[inline(always)]
-    pub(crate) fn note_place(&mut self, place: usize)
+    pub(super) fn note(&mut self, landmark: Landmark)
         ensures { self.new ≡ self.old }
     {
-        self.last_place = place;
+        self.landmark = landmark;
     }
 
     /// The record at a place: one turn.
@@ -291,10 +297,11 @@ impl Deliveries {
         ensures capacity { self.old.capacity ≤ self.new.capacity }
         ensures reads { self.new.reads ≡ self.old.reads }
     {
-        let missing = self.missing();
-        let place = place_among(&mut self.rows, delivery.number, self.last_place, missing);
+        let (number, missing) = (delivery.number, self.missing());
+        let guess = self.landmark.expected(number, self.rows.len(), missing);
+        let place = place_among(&mut self.rows, number, guess, missing);
         put_at(&mut self.rows, place, delivery);
-        self.last_place = moved(self.last_place, place);
+        self.landmark = Landmark::after(number, place.wrapping_add(1));
     }
 
     /// Where the numbers from `number` on begin, which are expected at the guess. It is of this module alone, and counts nothing.

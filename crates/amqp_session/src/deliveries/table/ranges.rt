@@ -4,7 +4,7 @@ ghost use Rattle.std.specs.Prelude.{◌≡◌, ◌≤◌, ◌+◌, ◌-◌, true
 ghost use Rattle.std.specs.List.{filter};
 ghost use Rattle.amqp_session.specs.Disposing.{distance};
 
-use super::Deliveries;
+use super::{Deliveries, Landmark};
 use crate::session::range::SerialRange;
 
 /// How many places there are from one up to another. A range that passes the end goes on at the front.
@@ -28,9 +28,11 @@ impl Deliveries {
         let SerialRange { first, span } = range;
         let len = self.len();
         let after = first.wrapping_add(span).wrapping_add(1);
-        let from = self.find(first, self.last_place);
+        let guess = self.landmark.expected(first, len, self.missing());
+        let from = self.find(first, guess);
         let to = self.find(after, from + span as usize + 1);
         let count = stretch(from, to, len, after <= first);
+        self.note(Landmark::after(after.wrapping_sub(1), from));
         self.remove(from, count);
         count
     }

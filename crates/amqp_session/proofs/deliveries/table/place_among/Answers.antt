@@ -1,8 +1,8 @@
-use Rattle.std.proofs.Common.{◌≡◌, ◌/◌, ◌∙◌, arith, refl, sym, slice_get, Some, suc, subst}
+use Rattle.std.proofs.Common.{◌≡◌, ◌/◌, ◌∙◌, arith, refl, suc, subst}
 use Rattle.amqp_blocks.specs.Chunked.{Sequence}
 use Rattle.amqp_session.specs.Deliveries.{number_at}
 use Rattle.amqp_session.specs.declared.deliveries.Delivery.{Delivery}
-use Rattle.amqp_session.proofs.SortedTableLemmas.{closer_few, closer_part, fourfold_power, half_power, number_read, stands, whole_part}
+use Rattle.amqp_session.proofs.SortedTableLemmas.{closer_few, closer_part, fourfold_power, half_power, whole_part}
 use Rattle.amqp_session.proofs.deliveries.table.place_among.Goals as goal
 
 pub loop-left-init : goal.loop-left-init
@@ -26,15 +26,15 @@ pub loop-left-preserved : goal.loop-left-preserved
 loop-left-preserved c =
     let v = c.loop-left.invariant in
     let half = half_power v.power.0 c.loop-left.half v.power.1 (omega (arith, v.enough)) in
-    let kept = c.seek.ensures ∙ v.kept in
-    let x = c.get.result.now in
-    let at : slice_get c.args.rows.now.items c.probe-at.result ≡ Some x = subst (λ (s : Sequence Delivery). slice_get s.items c.probe-at.result ≡ Some x) kept c.get.ensures.value in
-    let value : x.number ≡ number_at c.args.rows.now.items c.probe-at.result = sym (number_read c.args.rows.now.items c.probe-at.result x (omega (arith, c.probe-at.ensures.most, v.part.within)) (stands c.args.rows.now.items c.probe-at.result x at)) in
+    let read = c.number_in-value.ensures in
+    let kept = read.kept ∙ v.kept in
+    let x = c.number_in-value.result in
+    let value : x ≡ number_at c.args.rows.now.items c.probe-at.result = subst (λ (s : Sequence Delivery). x ≡ number_at s.items c.probe-at.result) v.kept read.value in
     record {
       kept = kept;
-      part = closer_part c.args.rows.now.items c.args.number c.loop-left.left.low c.loop-left.left.high c.probe-at.result x.number c.closer-left.result.low c.closer-left.result.high
+      part = closer_part c.args.rows.now.items c.args.number c.loop-left.left.low c.loop-left.left.high c.probe-at.result x c.closer-left.result.low c.closer-left.result.high
           c.requires.rising v.part c.probe-at.ensures.least c.probe-at.ensures.most value c.closer-left.ensures.less c.closer-left.ensures.more;
-      enough = closer_few c.args.number c.loop-left.left.low c.loop-left.left.high c.probe-at.result x.number c.closer-left.result.low c.closer-left.result.high (c.loop-left.half / 2)
+      enough = closer_few c.args.number c.loop-left.left.low c.loop-left.left.high c.probe-at.result x c.closer-left.result.low c.closer-left.result.high (c.loop-left.half / 2)
           c.probe-at.ensures.most c.probe-at.ensures.before c.probe-at.ensures.after c.closer-left.ensures.less c.closer-left.ensures.more;
       few = omega (arith, v.few);
       power = (half.0, half.2);

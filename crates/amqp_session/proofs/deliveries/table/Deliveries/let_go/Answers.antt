@@ -15,7 +15,7 @@ found c =
 
 pub returns-clause-rows : goal.returns-clause-rows
 returns-clause-rows c =
-    let kept = c.find-to.ensures.kept ∙ c.find-from.ensures.kept in
+    let kept = c.note.ensures ∙ c.find-to.ensures.kept ∙ c.find-from.ensures.kept in
     c.remove.ensures.rows ∙ ap (λ (t : TableView). cut c.find-from.result c.stretch-count.result t.rows) kept ∙ (found c).left_is
 
 pub returns-clause-count : goal.returns-clause-count

@@ -39,4 +39,4 @@ probe-at-requires-clause-half c =
 pub returns-clause-cost : goal.returns-clause-cost
 returns-clause-cost c =
     let v = c.loop-left.invariant in
-    (v.cost.0, c.note_place.ensures ∙ v.cost.2, spent v.cost.0 v.cost.1 c.args.places v.cost.4)
+    (v.cost.0, c.note.ensures ∙ v.cost.2, spent v.cost.0 v.cost.1 c.args.places v.cost.4)
