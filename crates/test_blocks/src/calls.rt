@@ -52,7 +52,7 @@ fn each_call_gives_what_it_says(rt: HostRuntime) -> Result<(), Fail> {
     holds(&rt, blocks.len() == 4);
     blocks.replace(2, 33);
     let (item, block) = blocks.locate(2);
-    same(&rt, *item, 33);
+    same(&rt, (*item, block), (33, 0));
     blocks.remember(block);
     same(&rt, *blocks.get(2), 33);
     same(&rt, blocks.pop_front(), Some(10));
@@ -62,5 +62,23 @@ fn each_call_gives_what_it_says(rt: HostRuntime) -> Result<(), Fail> {
     holds(&rt, !blocks.is_empty());
     same(&rt, blocks.pop_front(), Some(40));
     holds(&rt, blocks.is_empty());
+    Ok(())
+}
+
+#[test]
+fn an_item_is_located_in_its_block(rt: HostRuntime) -> Result<(), Fail> {
+    let mut blocks: Blocks<u32> = Blocks::new(rt.alloc());
+    for item in 0..600 {
+        blocks.reserve(1)?;
+        holds(&rt, blocks.len() < 600);
+        blocks.push_back(item);
+    }
+    holds(&rt, blocks.len() == 600);
+    for (rank, wanted) in [(0, 0), (255, 0), (256, 1), (511, 1), (599, 2)] {
+        holds(&rt, rank < blocks.len());
+        let (item, block) = blocks.locate(rank);
+        same(&rt, (*item as usize, block), (rank, wanted));
+        blocks.remember(block);
+    }
     Ok(())
 }
