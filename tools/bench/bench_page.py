@@ -47,9 +47,9 @@ def peak(program, *words):
     return usage.ru_maxrss * 1024
 
 
-def weighed(program, few, many):
+def weighed(program, mode, few, many):
     """What one more holds, in bytes: the slope between the peaks of two runs, each of so many open deliveries in so many sessions."""
-    low, high = (peak(program, "forward", 0, 1, *counts) for counts in (few, many))
+    low, high = (peak(program, mode, 0, 1, *counts) for counts in (few, many))
     return (high - low) / (many[0] * many[1] - few[0] * few[1])
 
 
@@ -59,9 +59,13 @@ def sections(program, is_timed):
     yield "The engine, in instructions and requests for memory", said(ROOT / "tools" / "bench" / "bench_engine.py", program)
     if is_timed:
         yield "The engine, in nanoseconds of processor time", said(ROOT / "tools" / "bench" / "bench_engine.py", "--time", program)
-    delivery = weighed(program, (500000, 1), (1000000, 1))
-    session = weighed(program, (1, 20000), (1, 60000))
-    yield "What is held, in bytes", f"{'an open delivery, of a million':46}{delivery:10.0f}\n{'a session with a link and an open delivery':46}{session:10.0f}"
+    delivery = ((500000, 1), (1000000, 1))
+    held = {
+        "an open delivery, of a million": weighed(program, "forward", *delivery),
+        "a received one, which the relay names": weighed(program, "oldest", *delivery),
+        "a session with a link and an open delivery": weighed(program, "forward", (1, 20000), (1, 60000)),
+    }
+    yield "What is held, in bytes", "\n".join(f"{what:46}{bytes_held:10.0f}" for what, bytes_held in held.items())
 
 
 def main():

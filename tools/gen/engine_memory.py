@@ -74,9 +74,11 @@ def sends(rows):
 
 
 def receives(rows):
-    """What no later disposition names comes first: its session may refuse it for memory, for the first record or as the ring grows."""
+    """What no later disposition names comes first: its session may refuse it for memory, for the first record or as the ring grows. The last one
+    is long, so that its tag is copied, where memory for that is not refused."""
     for number in (10, 11, 20, 21):
         rows.ask(recv(transfer(number, "t") + "70", 5).replace("recv", "take"))
+    rows.ask(recv(transfer(22, "u") + "70" * 300, 5).replace("recv", "take"))
 
 
 def disposes(rows):

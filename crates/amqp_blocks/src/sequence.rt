@@ -115,7 +115,7 @@ impl<T> Blocks<T> {
         item_of(&self.blocks, place)
     }
 
-    /// The item of a rank, which is below the length, and the block that it is in, for [`Blocks::remember`].
+    /// The item of a rank, which is below the length, and the block that it is in, for [`Blocks::remember`]. The block is a hint.
     #[inline(always)]
     pub fn locate(&self, rank: usize) -> (&T, usize)
         requires within { rank < length self.now.items }

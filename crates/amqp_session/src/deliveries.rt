@@ -6,8 +6,10 @@ ghost use Rattle.amqp_session.specs.Deliveries.{nothing_counted, nothing_read, r
 mod part;
 mod search;
 mod table;
+mod tags;
 
 pub(crate) use self::table::Deliveries;
+pub(crate) use self::tags::Tags;
 use crate::numbers::InputHandle;
 use amqp_types::DeliveryTag;
 

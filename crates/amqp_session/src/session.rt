@@ -22,7 +22,7 @@ mod walk;
 
 use self::receiving::Receiving;
 use self::transfers::Sending;
-use crate::deliveries::{Deliveries, WalkCount};
+use crate::deliveries::{Deliveries, Tags, WalkCount};
 use crate::keys::KeyHash;
 use crate::link::Links;
 use crate::numbers::{IncomingChannel, OutgoingChannel};
@@ -63,6 +63,7 @@ pub struct Session<R> {
     links: Links<R>,
     sent: Deliveries,
     received: Deliveries,
+    tags: Tags,
     last_walk: WalkCount,
 }
 
@@ -82,6 +83,7 @@ impl<R: Drop> Drop for Session<R> {
             links,
             sent,
             received,
+            tags,
             last_walk: _,
         } = self;
         drop(settings);
@@ -89,6 +91,7 @@ impl<R: Drop> Drop for Session<R> {
         drop(links);
         drop(sent);
         drop(received);
+        drop(tags);
     }
 }
 
@@ -172,6 +175,7 @@ impl<R: LinkRelay> Session<R> {
             links: Links::new(alloc, hash),
             sent: Deliveries::new(alloc),
             received: Deliveries::new(alloc),
+            tags: Tags::new(alloc),
             last_walk: WalkCount::new(),
         }
     }

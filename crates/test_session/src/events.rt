@@ -7,3 +7,4 @@ mod policies;
 mod queues;
 mod seen;
 mod sessions;
+mod tags;

@@ -13,7 +13,7 @@ ghost use Rattle.amqp_session.specs.Step.{FlowStep, LinkFlowStep, FlowUnasked, F
 
 use super::Session;
 use super::transfers::Sending;
-use crate::deliveries::{Deliveries, Delivery};
+use crate::deliveries::{Deliveries, Delivery, Tags};
 use crate::error::SessionInnerError;
 use crate::flow::LinkFlow;
 use crate::frame::{SessionFrame, SessionOutgoingItem};
@@ -141,7 +141,7 @@ impl<R: LinkRelay> Session<R> {
             Err(unasked) => Err(unasked),
             Ok(Err(error)) => Err(SessionInnerError::from(error)),
             Ok(Ok(named)) => {
-                record_named(self.alloc, &mut self.received, input, named, was_long);
+                record_named(&mut self.tags, &mut self.received, input, named, was_long);
                 Ok(None)
             }
         }
@@ -260,11 +260,11 @@ impl<R: LinkRelay> Session<R> {
     }
 }
 
-/// Records the delivery that a relay named, if any. Where its frame was long, with a tag of its own, so that it does not keep the
-/// frame.
+/// Records the delivery that a relay named, if any. Its tag is a copy where its frame was long or many deliveries are open, and else keeps
+/// the frame.
 #[inline(always)]
 fn record_named(
-    alloc: Global,
+    tags: &mut Tags,
     deliveries: &mut Deliveries,
     input: InputHandle,
     named: Option<(DeliveryNumber, DeliveryTag)>,
@@ -276,7 +276,8 @@ fn record_named(
     ensures fits { RecordFits (named_delivery input.0 named) }
 {
     if let Some((number, tag)) = named {
-        let tag = if was_long { apart(alloc, tag) } else { tag };
+        let is_copied = was_long || deliveries.len() >= FEW;
+        let tag = if is_copied { tags.own(tag) } else { tag };
         deliveries.record(Delivery {
             number,
             input_handle: input,
@@ -284,6 +285,9 @@ fn record_named(
         });
     }
 }
+
+/// How many open deliveries may keep their frames. Many frames are much memory, and are dear to let go in another order than they came.
+const FEW: usize = 256;
 
 /// How many bytes beside its head a frame may have that an open delivery keeps in memory by its tag.
 const KEPT: usize = 256;
@@ -296,19 +300,4 @@ fn is_long(transfer: &Transfer, payload: &Bytes) -> bool {
         Some(state) => state.bytes().len(),
     };
     payload.len() > KEPT || state > KEPT
-}
-
-/// The same tag, with memory of its own where it is as short as the standard has it (AMQP 1.0 part 2, section 2.8.7). Where
-/// memory is refused, or it is longer, it stays what it is.
-#[inline(never)]
-fn apart(alloc: Global, tag: DeliveryTag) -> DeliveryTag
-    ensures { result.0 ≡ tag.0 }
-{
-    if tag.0.len() > 32 {
-        return tag;
-    }
-    match Bytes::copy_from_slice(alloc, &tag.0) {
-        Ok(own) => DeliveryTag(own),
-        Err(_) => tag,
-    }
 }

@@ -1,0 +1,68 @@
+//! Memory of a session's own for the tags of open deliveries: what they came in need not be kept for them.
+
+ghost use Rattle.std.specs.Prelude.{◌≡◌, ◌≤◌, [], length, IfOk, OnOk};
+
+use amqp_types::DeliveryTag;
+use bytes::{Bytes, BytesMut};
+use std::alloc::{AllocError, Global};
+
+/// Blocks of memory that tags are copied into, one after another. A block goes when the last of its tags does.
+#[derive(Drop)]
+pub(crate) struct Tags {
+    alloc: Global,
+    /// What is left of the latest block.
+    room: BytesMut,
+}
+
+/// How many bytes a block has. It is short, since one tag keeps the whole of it.
+const BLOCK: usize = 512;
+
+/// How many bytes a tag has at most (AMQP 1.0 part 2, section 2.8.7).
+const LONGEST: usize = 32;
+
+impl Tags {
+    /// No block yet.
+    pub(crate) fn new(alloc: Global) -> Tags {
+        Tags {
+            alloc,
+            room: BytesMut::new(alloc),
+        }
+    }
+
+    /// The same tag as a copy in a block. Where memory is refused, or the tag is longer than the standard has it, it stays what it is.
+    #[inline(never)]
+    pub(crate) fn own(&mut self, tag: DeliveryTag) -> DeliveryTag
+        ensures { result ≡ tag }
+    {
+        if tag.0.len() > LONGEST {
+            return tag;
+        }
+        match self.copied(&tag.0) {
+            Ok(own) => DeliveryTag(own),
+            Err(_) => tag,
+        }
+    }
+
+    /// These bytes, in a block.
+    fn copied(&mut self, bytes: &[u8]) -> Result<Bytes, AllocError>
+        requires short { length bytes.now ≤ 32 }
+        ensures { IfOk result (λ b. b ≡ bytes.now) }
+    {
+        self.make_room(bytes.len())?;
+        self.room.extend_reserved(bytes);
+        self.room.freeze_to(bytes.len())
+    }
+
+    /// Room for so many bytes: in the latest block, where they fit or none of its tags is left, and else in another.
+    fn make_room(&mut self, len: usize) -> Result<(), AllocError>
+        requires short { len ≤ 32 }
+        ensures empty { OnOk result (self.new.room.items ≡ []) }
+        ensures room { OnOk result (len ≤ self.new.room.spare) }
+    {
+        self.room.clear();
+        if !self.room.try_reclaim(len) {
+            self.room = BytesMut::with_capacity(self.alloc, BLOCK)?;
+        }
+        Ok(())
+    }
+}

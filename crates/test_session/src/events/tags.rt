@@ -1,0 +1,114 @@
+//! Many open deliveries: what their relay is told of one has the tag that it came with, whether the session keeps it as it came or as a copy.
+
+use super::frames::{attach, settled};
+use crate::same::{holds, is_done};
+use amqp_events::{Event, EventBody, EventRelay, Policy, Room, SharedQueue};
+use amqp_session::{OutgoingChannel, Session, SessionSettings};
+use amqp_types::{DeliveryTag, Handle, ReceiverSettleMode, Role, SessionState, Transfer};
+use bytes::Bytes;
+use std::alloc::{AllocError, Global};
+
+type Shared = Session<EventRelay<SharedQueue>>;
+
+/// So many that most tags are copied, into more than one block.
+const MANY: u32 = 600;
+
+/// Room for an event of each kind.
+const ROOM: Room = Room {
+    links: 1,
+    flows: 1,
+    transfers: 1,
+    dispositions: 1,
+};
+
+/// The tag of a delivery: some bytes, all of them the same, from none to more than the standard has.
+fn tag_of(alloc: Global, number: u32) -> Result<DeliveryTag, AllocError> {
+    let bytes = [(number % 251) as u8; 40];
+    let len = (number % 41) as usize;
+    let tag = Bytes::copy_from_slice(alloc, &bytes[..len])?;
+    Ok(DeliveryTag(tag))
+}
+
+/// A session with a link at the handle 5, on which this side receives.
+fn one_link(alloc: Global, queue: &SharedQueue) -> Result<Shared, AllocError> {
+    let mut session = Session::new(
+        alloc,
+        SessionSettings::new(),
+        OutgoingChannel(3),
+        SessionState::Mapped,
+        None,
+    );
+    let policy = Policy::new(Role::Receiver, ReceiverSettleMode::Second);
+    let attach = attach(alloc, "a", 5)?;
+    let name = String::from_str(alloc, "a")?;
+    let relay = EventRelay::new(queue.share()?, 9, policy);
+    let _is_allotted = is_done(session.allocate_link(name, Some(relay)));
+    let _is_attached = is_done(session.on_incoming_attach(attach));
+    drop(queue.pop());
+    Ok(session)
+}
+
+/// Whether the transfer of a delivery is taken.
+fn is_taken(
+    alloc: Global,
+    session: &mut Shared,
+    queue: &SharedQueue,
+    number: u32,
+) -> Result<bool, AllocError> {
+    let transfer = Transfer {
+        delivery_id: Some(number),
+        delivery_tag: Some(tag_of(alloc, number)?),
+        ..Transfer::new(Handle(5))
+    };
+    let is_taken = is_done(session.on_incoming_transfer(transfer, Bytes::new()));
+    drop(queue.pop());
+    Ok(is_taken)
+}
+
+/// Whether an event is a disposition of the delivery with this tag.
+fn is_of(event: &Event, wanted: &DeliveryTag) -> bool {
+    match &event.body {
+        EventBody::Disposition { tag, .. } => tag.0.as_slice() == wanted.0.as_slice(),
+        _ => false,
+    }
+}
+
+/// Whether the relay is told that a delivery is settled, by its tag.
+fn is_told(
+    alloc: Global,
+    session: &mut Shared,
+    queue: &SharedQueue,
+    number: u32,
+) -> Result<bool, AllocError> {
+    let wanted = tag_of(alloc, number)?;
+    let is_settled = is_done(session.on_incoming_disposition(settled(number)));
+    let Some(event) = queue.pop() else {
+        return Ok(false);
+    };
+    let is_told = is_of(&event, &wanted);
+    drop(event);
+    Ok(is_settled && is_told)
+}
+
+/// Deliveries that come in scattered order, and are settled in order: how many of them are told by their tags.
+fn scattered(alloc: Global) -> Result<u32, AllocError> {
+    let queue = SharedQueue::with_room(alloc, ROOM)?;
+    let mut session = one_link(alloc, &queue)?;
+    let mut told = 0_u32;
+    for at in 0..MANY {
+        if !is_taken(alloc, &mut session, &queue, at * 77 % MANY)? {
+            return Ok(told);
+        }
+    }
+    for number in 0..MANY {
+        if is_told(alloc, &mut session, &queue, number)? {
+            told = told.wrapping_add(1);
+        }
+    }
+    Ok(told)
+}
+
+#[test]
+fn many_deliveries_keep_their_tags(rt: HostRuntime) {
+    holds(&rt, scattered(rt.alloc()) == Ok(MANY));
+}
