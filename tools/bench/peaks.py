@@ -26,6 +26,8 @@ from shared.command import command
 
 CRATE = Path(__file__).resolve().parents[2] / "crates" / "amqp_replay"
 FEW, MANY, MORE = 1000, 1000000, 1024
+# So many are open that the tag of each further one is copied.
+LIVE = 300
 WIDEST = 2**32 - 1
 # A line that is refused whatever came before, and shows that all of it was answered
 MARK, MARKED = "release 4294967295", "err NoSession"
@@ -118,6 +120,11 @@ def received_and_settled(i):
     return [received(transfer(i, True), b"x" * 64), f"settle 0 receiver {i}"]
 
 
+def oldest_settled(i):
+    """One more comes, and the oldest of those that are open is let go."""
+    return [received(transfer(i + LIVE, True), b"x" * 64), f"settle 0 receiver {i}"]
+
+
 def nine_settled(i):
     """Nine come, and one line settles all."""
     numbers = range(9 * i, 9 * i + 9)
@@ -158,6 +165,7 @@ LIVES = [
     Life("held back, let out and settled", [*SENDS, received(flow(0, 0))], held_back, 3, 1),
     Life("received, and settled by this side", RECEIVES, received_and_settled, 3, 0),
     Life("received, and settled nine at once", RECEIVES, nine_settled, 3, 0),
+    Life("received, and the oldest of 300 settled", [*RECEIVES, *(received_and_settled(i)[0] for i in range(LIVE))], oldest_settled, 3, 0),
     Life("received, accepted and settled", RECEIVES, accepted_and_settled, 3, 1),
     Life("links that the peer detaches", BEGUN, lambda i: [*attached(i), received(detach())], 2, 2),
     Life("links that this side detaches", BEGUN, lambda i: [*attached(i), sent(detach()), received(detach())], 2, 2),
