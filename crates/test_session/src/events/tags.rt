@@ -1,4 +1,5 @@
-//! Many open deliveries: what their relay is told of one has the tag that it came with, whether the session keeps it as it came or as a copy.
+//! The tags of open deliveries: what a relay is told of one has the tag that it came with, whether the session keeps it as it came or as a copy; and
+//! which frames are let go for that.
 
 use super::frames::{attach, settled};
 use crate::same::{holds, is_done};
@@ -111,4 +112,59 @@ fn scattered(alloc: Global) -> Result<u32, AllocError> {
 #[test]
 fn many_deliveries_keep_their_tags(rt: HostRuntime) {
     holds(&rt, scattered(rt.alloc()) == Ok(MANY));
+}
+
+/// Whether the frame is let go once the delivery that came in it is open: nobody else holds it then. So many of its bytes are the tag. The
+/// payload has so many, in memory of its own.
+fn is_let_go(
+    alloc: Global,
+    session: &mut Shared,
+    queue: &SharedQueue,
+    number: u32,
+    tag: usize,
+    payload: usize,
+) -> Result<bool, AllocError> {
+    let bytes = [0_u8; 300];
+    let frame = Bytes::copy_from_slice(alloc, &bytes)?;
+    let transfer = Transfer {
+        delivery_id: Some(number),
+        delivery_tag: Some(DeliveryTag(frame.slice(0..tag.min(300))?)),
+        ..Transfer::new(Handle(5))
+    };
+    let payload = Bytes::copy_from_slice(alloc, &bytes[..payload.min(300)])?;
+    let _is_taken = is_done(session.on_incoming_transfer(transfer, payload));
+    drop(queue.pop());
+    Ok(frame.is_unique())
+}
+
+/// Of many open deliveries: the 256th, the next, and one whose tag is longer than the standard has it.
+fn of_many(alloc: Global) -> Result<[bool; 3], AllocError> {
+    let queue = SharedQueue::with_room(alloc, ROOM)?;
+    let mut session = one_link(alloc, &queue)?;
+    for number in 0..255 {
+        let _is_taken = is_taken(alloc, &mut session, &queue, number)?;
+    }
+    Ok([
+        is_let_go(alloc, &mut session, &queue, 255, 32, 256)?,
+        is_let_go(alloc, &mut session, &queue, 256, 32, 256)?,
+        is_let_go(alloc, &mut session, &queue, 257, 33, 256)?,
+    ])
+}
+
+/// Of few: with a payload of 256 bytes, with a longer one, and with a tag that is too long beside it.
+fn of_few(alloc: Global) -> Result<[bool; 3], AllocError> {
+    let queue = SharedQueue::with_room(alloc, ROOM)?;
+    let mut session = one_link(alloc, &queue)?;
+    Ok([
+        is_let_go(alloc, &mut session, &queue, 0, 32, 256)?,
+        is_let_go(alloc, &mut session, &queue, 1, 32, 257)?,
+        is_let_go(alloc, &mut session, &queue, 2, 33, 257)?,
+    ])
+}
+
+#[test]
+fn long_frames_and_those_of_many_are_let_go(rt: HostRuntime) {
+    let alloc = rt.alloc();
+    holds(&rt, of_many(alloc) == Ok([false, true, false]));
+    holds(&rt, of_few(alloc) == Ok([false, true, false]));
 }
