@@ -2,9 +2,8 @@
 use Rattle.std.proofs.Common.{Option, refl, arith}
 use Rattle.std.specs.Prelude.{IfSome}
 use Rattle.amqp_values.specs.Slots.{Optional}
-use Rattle.amqp_values.specs.Writing.{described_text, optional_text}
+use Rattle.amqp_values.specs.Writing.{optional_text}
 use Rattle.amqp_types.specs.Inner.Held.{ErrorHeld, OpenHeld, BeginHeld, AttachHeld, FlowHeld, TransferHeld, DispositionHeld, DetachHeld, EndHeld, CloseHeld}
-use Rattle.amqp_values.specs.Composite.{IsDescribed}
 use Rattle.amqp_types.specs.FieldTable.{IsListed, listed_text}
 use Rattle.amqp_types.specs.Error.{ErrorModel, IsErrorBody, error_table, IsError, error_text}
 use Rattle.amqp_types.specs.Open.{OpenModel, IsOpenBody, open_table}

@@ -5,10 +5,10 @@ ghost use Rattle.amqp_values.specs.Reading.{Gives};
 ghost use Rattle.amqp_types.specs.Error.{error_body_at, error_table};
 ghost use Rattle.amqp_types.specs.Error.{ErrorModel, error_at};
 
-use crate::leaf;
+use crate::borrowed;
 use amqp_values::{
-    Composite, Field, Fields, Leaf, ListReader, ReadError, Row3, Symbol, codes, described,
-    field_list,
+    Composite, Cons2, Field, Fields, ListReader, ReadError, Row1, StringRef, Symbol, SymbolRef,
+    Verbatim, codes, described, field_list,
 };
 use bytes::Bytes;
 use std::alloc::Global;
@@ -102,17 +102,24 @@ impl Field for Error {
     }
 }
 
+/// The fields, borrowed for writing, by types of their own.
+pub(crate) type ErrorRow<'a> = Cons2<
+    SymbolRef<'a>,
+    Option<StringRef<'a>>,
+    Row1<Option<Verbatim<'a>>>,
+>;
+
 impl Error {
     /// The fields, borrowed for writing.
     #[tactic(auto, unfolding(crate::specs::Error::error_table))]
     #[inline(always)]
-    pub(crate) fn parts(&self) -> Row3<Leaf<'_>>
+    pub(crate) fn parts(&self) -> ErrorRow<'_>
         ensures { result ≡ (error_table self.now).canonical }
     {
         field_list![
-            Leaf::Symbol(&self.condition),
-            leaf::optional_string(&self.description),
-            leaf::optional_fields(&self.info),
+            SymbolRef(&self.condition),
+            borrowed::optional_string(&self.description),
+            borrowed::optional_fields(&self.info),
         ]
     }
 }

@@ -1,13 +1,13 @@
 //! The types of AMQP 1.0: definitions, states, and the nine performatives with their bytes.
 #![tactic(auto)]
 
+mod borrowed;
 mod copies;
 mod defaults;
 mod definitions;
 mod error;
-mod field_ref;
+mod error_ref;
 pub mod laws;
-mod leaf;
 mod outcomes;
 mod performatives;
 mod states;

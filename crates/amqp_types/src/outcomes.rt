@@ -6,7 +6,7 @@ ghost use Rattle.amqp_values.specs.Raw.{IsRaw};
 ghost use Rattle.amqp_types.specs.Defaults.{rejected_text};
 
 use crate::error::Error;
-use crate::field_ref::FieldRef;
+use crate::error_ref::ErrorRef;
 use amqp_values::{Raw, ReadError, codes, described_len, field_list, put_described};
 use bytes::{Bytes, BytesMut};
 use std::alloc::{AllocError, Global};
@@ -19,7 +19,7 @@ pub fn rejected(alloc: Global, error: &Error) -> Result<Raw, ReadError>
     ensures text { IfOk result (λ raw. raw ≡ rejected_text error.now) }
     ensures malformed { result ≡ Err Malformed → length (rejected_text error.now) < 2 ^ 32 → IsRaw (rejected_text error.now) → ⊥ }
 {
-    let fields = field_list![FieldRef::Error(error)];
+    let fields = field_list![ErrorRef(error)];
     let len = described_len(&fields);
     if len > u128::from(u32::MAX) {
         return Err(ReadError::Malformed);
@@ -39,7 +39,7 @@ fn text_of(alloc: Global, error: &Error, len: usize) -> Result<Bytes, AllocError
     let mut text = BytesMut::with_capacity(alloc, len)?;
     put_described(
         codes::REJECTED,
-        &field_list![FieldRef::Error(error)],
+        &field_list![ErrorRef(error)],
         len,
         &mut text,
     );

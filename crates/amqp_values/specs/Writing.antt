@@ -4,8 +4,6 @@ use Rattle.std.specs.Prelude.{ℕ, ◌+◌, List, [], ◌∷◌, ◌++◌, lengt
 use Rattle.std.specs.Prelude.{if◌then◌else◌, Option, Some, None, Result, Ok, Err}
 use Rattle.std.specs.List.{list_all}
 use Rattle.std.specs.Int.{w16, w32, w64, to_be_bytes}
-use Rattle.amqp_values.specs.declared.leaf.Leaf.{Leaf}
-use Rattle.amqp_values.specs.declared.leaf.Leaf.TheVariants as leaf
 use Rattle.amqp_values.specs.declared.error.WriteError.{WriteError}
 use Rattle.amqp_values.specs.declared.error.WriteError.TheVariants as write
 use Rattle.amqp_values.specs.Reading.{joined}
@@ -74,19 +72,6 @@ symbols_text items =
     array_text (is_wide (length items) (length (symbols_body (is_long items) items))) (length items) (symbols_body (is_long items) items)
 
 -- ---- what stands in a part of a list
-
-abbrev pub leaf_text : Leaf → List ℕ
-leaf_text leaf.Null = null
-leaf_text (leaf.Boolean b) = boolean_text b
-leaf_text (leaf.Ubyte n) = ubyte_text n
-leaf_text (leaf.Ushort n) = ushort_text n
-leaf_text (leaf.Uint n) = uint_text n
-leaf_text (leaf.Ulong n) = ulong_text n
-leaf_text (leaf.Binary s) = binary_text s.now
-leaf_text (leaf.String s) = string_text s.now
-leaf_text (leaf.Symbol s) = symbol_text s.now
-leaf_text (leaf.Symbols s) = symbols_text s.now
-leaf_text (leaf.Value s) = s.now
 
 -- a field that may be absent, and one that is null where it has its default
 abbrev pub optional_text : {V : Type 0} → (V → List ℕ) → Option V → List ℕ

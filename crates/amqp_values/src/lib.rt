@@ -2,6 +2,7 @@
 #![tactic(auto)]
 
 mod array;
+mod borrowed;
 pub mod codes;
 mod composite;
 mod cursor;
@@ -10,7 +11,6 @@ mod error;
 mod field;
 mod fields;
 mod format_class;
-mod leaf;
 mod list_reader;
 mod outcome;
 mod raw;
@@ -22,19 +22,16 @@ mod value;
 mod walk;
 mod writing;
 
+pub use borrowed::{Binary, StringRef, SymbolRef, Symbols, Verbatim};
 pub use composite::{Composite, described, descriptor, read_list};
 pub use encode::Encode;
 pub use error::{ReadError, WriteError};
 pub use field::Field;
 pub use fields::Fields;
-pub use leaf::{Binary, Leaf};
 pub use list_reader::ListReader;
 pub use outcome::is_terminal;
 pub use raw::Raw;
-pub use row::{
-    Cons, Cons2, Cons4, Extent, NoMore, Row, Row1, Row2, Row3, Row4, Row5, Row6, Row7, Row8, Row9,
-    Row10, Row11, Row12, Row14,
-};
+pub use row::{Cons, Cons2, Cons4, Extent, NoMore, Row, Row1, Row3};
 pub use symbol::Symbol;
 pub use value::{Items, ValueRef};
 pub use writing::{described_len, put_described};

@@ -168,44 +168,11 @@ macro_rules! field_list {
     ($first:expr, $second:expr $(, $others:expr)* $(,)?) => { $crate::Cons2($first, $second, $crate::field_list!($($others),*)) };
 }
 
-/// One field of one type.
+/// One field.
 pub type Row1<T> = Cons<T, NoMore>;
-
-/// Two fields of one type.
-pub type Row2<T> = Cons2<T, T, NoMore>;
 
 /// Three fields of one type.
 pub type Row3<T> = Cons2<T, T, Row1<T>>;
-
-/// Four fields of one type.
-pub type Row4<T> = Cons2<T, T, Row2<T>>;
-
-/// Five fields of one type.
-pub type Row5<T> = Cons2<T, T, Row3<T>>;
-
-/// Six fields of one type.
-pub type Row6<T> = Cons2<T, T, Row4<T>>;
-
-/// Seven fields of one type.
-pub type Row7<T> = Cons2<T, T, Row5<T>>;
-
-/// Eight fields of one type.
-pub type Row8<T> = Cons2<T, T, Row6<T>>;
-
-/// Nine fields of one type.
-pub type Row9<T> = Cons2<T, T, Row7<T>>;
-
-/// Ten fields of one type.
-pub type Row10<T> = Cons2<T, T, Row8<T>>;
-
-/// Eleven fields of one type.
-pub type Row11<T> = Cons2<T, T, Row9<T>>;
-
-/// Twelve fields of one type.
-pub type Row12<T> = Cons2<T, T, Row10<T>>;
-
-/// Fourteen fields of one type.
-pub type Row14<T> = Cons2<T, T, Row12<T>>;
 
 /// Four fields, and those after them.
 pub type Cons4<A, B, C, D, R> = Cons2<A, B, Cons2<C, D, R>>;

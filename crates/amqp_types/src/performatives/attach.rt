@@ -8,11 +8,11 @@ ghost use Rattle.amqp_types.specs.Attach.{attach_rest_at, attach_body_at, attach
 ghost use Rattle.amqp_types.specs.declared.performatives.Performative.TheVariants as performative;
 ghost use Rattle.amqp_types.specs.Performatives.{performative_text};
 
+use crate::borrowed;
 use crate::definitions::{Handle, ReceiverSettleMode, Role, SenderSettleMode};
-use crate::leaf;
 use amqp_values::{
-    Composite, Fields, Leaf, ListReader, Raw, ReadError, Row14, Symbol, codes, described_len,
-    field_list, put_described,
+    Composite, Cons2, Cons4, Fields, ListReader, NoMore, Raw, ReadError, StringRef, Symbol,
+    Symbols, Verbatim, codes, described_len, field_list, put_described,
 };
 use bytes::BytesMut;
 use std::alloc::Global;
@@ -189,28 +189,49 @@ fn take_rest(alloc: Global, parts: &mut ListReader) -> Result<Rest, ReadError>
     })
 }
 
+/// The fields, borrowed for writing, by types of their own.
+pub(crate) type AttachRow<'a> = Cons4<
+    StringRef<'a>,
+    u32,
+    bool,
+    Option<u8>,
+    Cons4<
+        Option<u8>,
+        Option<Verbatim<'a>>,
+        Option<Verbatim<'a>>,
+        Option<Verbatim<'a>>,
+        Cons4<
+            Option<bool>,
+            Option<u32>,
+            Option<u64>,
+            Option<Symbols<'a>>,
+            Cons2<Option<Symbols<'a>>, Option<Verbatim<'a>>, NoMore>,
+        >,
+    >,
+>;
+
 impl Attach {
     /// The fields, borrowed for writing.
     #[tactic(auto, unfolding(crate::specs::Attach::attach_table))]
     #[inline(always)]
-    pub(crate) fn parts(&self) -> Row14<Leaf<'_>>
+    pub(crate) fn parts(&self) -> AttachRow<'_>
         ensures { result ≡ (attach_table self.now).canonical }
     {
         field_list![
-            Leaf::String(self.name.as_str()),
-            Leaf::Uint(self.handle.0),
-            leaf::role(self.role),
-            leaf::sender_mode(self.snd_settle_mode),
-            leaf::receiver_mode(self.rcv_settle_mode),
-            leaf::optional_value(&self.source),
-            leaf::optional_value(&self.target),
-            leaf::optional_fields(&self.unsettled),
-            leaf::flag(self.incomplete_unsettled),
-            leaf::optional_uint(self.initial_delivery_count),
-            leaf::optional_ulong(self.max_message_size),
-            leaf::optional_symbols(&self.offered_capabilities),
-            leaf::optional_symbols(&self.desired_capabilities),
-            leaf::optional_fields(&self.properties),
+            StringRef(self.name.as_str()),
+            self.handle.0,
+            borrowed::role(self.role),
+            borrowed::sender_mode(self.snd_settle_mode),
+            borrowed::receiver_mode(self.rcv_settle_mode),
+            borrowed::optional_value(&self.source),
+            borrowed::optional_value(&self.target),
+            borrowed::optional_fields(&self.unsettled),
+            borrowed::true_or_null(self.incomplete_unsettled),
+            self.initial_delivery_count,
+            self.max_message_size,
+            borrowed::optional_symbols(&self.offered_capabilities),
+            borrowed::optional_symbols(&self.desired_capabilities),
+            borrowed::optional_fields(&self.properties),
         ]
     }
 

@@ -6,11 +6,11 @@ ghost use Rattle.amqp_types.specs.Begin.{begin_body_at, begin_table};
 ghost use Rattle.amqp_types.specs.declared.performatives.Performative.TheVariants as performative;
 ghost use Rattle.amqp_types.specs.Performatives.{performative_text};
 
+use crate::borrowed;
 use crate::definitions::Handle;
-use crate::leaf;
 use amqp_values::{
-    Composite, Fields, Leaf, ListReader, ReadError, Row8, Symbol, codes, described_len, field_list,
-    put_described,
+    Composite, Cons4, Fields, ListReader, NoMore, ReadError, Symbol, Symbols, Verbatim, codes,
+    described_len, field_list, put_described,
 };
 use bytes::BytesMut;
 use std::alloc::Global;
@@ -108,22 +108,31 @@ impl Composite for Begin {
     }
 }
 
+/// The fields, borrowed for writing, by types of their own.
+pub(crate) type BeginRow<'a> = Cons4<
+    Option<u16>,
+    u32,
+    u32,
+    u32,
+    Cons4<Option<u32>, Option<Symbols<'a>>, Option<Symbols<'a>>, Option<Verbatim<'a>>, NoMore>,
+>;
+
 impl Begin {
     /// The fields, borrowed for writing.
     #[tactic(auto, unfolding(crate::specs::Begin::begin_table))]
     #[inline(always)]
-    pub(crate) fn parts(&self) -> Row8<Leaf<'_>>
+    pub(crate) fn parts(&self) -> BeginRow<'_>
         ensures { result ≡ (begin_table self.now).canonical }
     {
         field_list![
-            leaf::optional_ushort(self.remote_channel),
-            Leaf::Uint(self.next_outgoing_id),
-            Leaf::Uint(self.incoming_window),
-            Leaf::Uint(self.outgoing_window),
-            leaf::uint_or(self.handle_max.0, u32::MAX),
-            leaf::optional_symbols(&self.offered_capabilities),
-            leaf::optional_symbols(&self.desired_capabilities),
-            leaf::optional_fields(&self.properties),
+            self.remote_channel,
+            self.next_outgoing_id,
+            self.incoming_window,
+            self.outgoing_window,
+            borrowed::uint_or(self.handle_max.0, u32::MAX),
+            borrowed::optional_symbols(&self.offered_capabilities),
+            borrowed::optional_symbols(&self.desired_capabilities),
+            borrowed::optional_fields(&self.properties),
         ]
     }
 

@@ -6,12 +6,12 @@ ghost use Rattle.amqp_types.specs.Detach.{detach_body_at, detach_table};
 ghost use Rattle.amqp_types.specs.declared.performatives.Performative.TheVariants as performative;
 ghost use Rattle.amqp_types.specs.Performatives.{performative_text};
 
+use crate::borrowed;
 use crate::definitions::Handle;
 use crate::error::Error;
-use crate::field_ref::FieldRef;
-use crate::leaf;
+use crate::error_ref::ErrorRef;
 use amqp_values::{
-    Composite, Leaf, ListReader, ReadError, Row3, codes, described_len, field_list, put_described,
+    Composite, Cons2, ListReader, ReadError, Row1, codes, described_len, field_list, put_described,
 };
 use bytes::BytesMut;
 use std::alloc::Global;
@@ -76,17 +76,20 @@ impl Composite for Detach {
     }
 }
 
+/// The fields, borrowed for writing, by types of their own.
+pub(crate) type DetachRow<'a> = Cons2<u32, Option<bool>, Row1<Option<ErrorRef<'a>>>>;
+
 impl Detach {
     /// The fields, borrowed for writing.
     #[tactic(auto, unfolding(crate::specs::Detach::detach_table))]
     #[inline(always)]
-    pub(crate) fn parts(&self) -> Row3<FieldRef<'_>>
+    pub(crate) fn parts(&self) -> DetachRow<'_>
         ensures { result ≡ (detach_table self.now).canonical }
     {
         field_list![
-            FieldRef::Leaf(Leaf::Uint(self.handle.0)),
-            FieldRef::Leaf(leaf::flag(self.closed)),
-            FieldRef::optional(&self.error),
+            self.handle.0,
+            borrowed::true_or_null(self.closed),
+            ErrorRef::optional(&self.error),
         ]
     }
 

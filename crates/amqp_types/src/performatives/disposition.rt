@@ -6,11 +6,11 @@ ghost use Rattle.amqp_types.specs.Disposition.{disposition_body_at, disposition_
 ghost use Rattle.amqp_types.specs.declared.performatives.Performative.TheVariants as performative;
 ghost use Rattle.amqp_types.specs.Performatives.{performative_text};
 
+use crate::borrowed;
 use crate::definitions::Role;
-use crate::leaf;
 use amqp_values::{
-    Composite, Leaf, ListReader, Raw, ReadError, Row6, codes, described_len, field_list,
-    put_described,
+    Composite, Cons2, Cons4, ListReader, NoMore, Raw, ReadError, Verbatim, codes, described_len,
+    field_list, put_described,
 };
 use bytes::BytesMut;
 use std::alloc::Global;
@@ -97,20 +97,29 @@ impl Composite for Disposition {
     }
 }
 
+/// The fields, borrowed for writing, by types of their own.
+pub(crate) type DispositionRow<'a> = Cons4<
+    bool,
+    u32,
+    Option<u32>,
+    Option<bool>,
+    Cons2<Option<Verbatim<'a>>, Option<bool>, NoMore>,
+>;
+
 impl Disposition {
     /// The fields, borrowed for writing.
     #[tactic(auto, unfolding(crate::specs::Disposition::disposition_table))]
     #[inline(always)]
-    pub(crate) fn parts(&self) -> Row6<Leaf<'_>>
+    pub(crate) fn parts(&self) -> DispositionRow<'_>
         ensures { result ≡ (disposition_table self.now).canonical }
     {
         field_list![
-            leaf::role(self.role),
-            Leaf::Uint(self.first),
-            leaf::optional_uint(self.last),
-            leaf::flag(self.settled),
-            leaf::optional_value(&self.state),
-            leaf::flag(self.batchable),
+            borrowed::role(self.role),
+            self.first,
+            self.last,
+            borrowed::true_or_null(self.settled),
+            borrowed::optional_value(&self.state),
+            borrowed::true_or_null(self.batchable),
         ]
     }
 

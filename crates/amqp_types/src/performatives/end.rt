@@ -7,7 +7,7 @@ ghost use Rattle.amqp_types.specs.declared.performatives.Performative.TheVariant
 ghost use Rattle.amqp_types.specs.Performatives.{performative_text};
 
 use crate::error::Error;
-use crate::field_ref::FieldRef;
+use crate::error_ref::ErrorRef;
 use amqp_values::{
     Composite, ListReader, ReadError, Row1, codes, described_len, field_list, put_described,
 };
@@ -61,14 +61,17 @@ impl Composite for End {
     }
 }
 
+/// The fields, borrowed for writing, by types of their own.
+pub(crate) type EndRow<'a> = Row1<Option<ErrorRef<'a>>>;
+
 impl End {
     /// The fields, borrowed for writing.
     #[tactic(auto, unfolding(crate::specs::End::end_table))]
     #[inline(always)]
-    pub(crate) fn parts(&self) -> Row1<FieldRef<'_>>
+    pub(crate) fn parts(&self) -> EndRow<'_>
         ensures { result ≡ (end_table self.now).canonical }
     {
-        field_list![FieldRef::optional(&self.error)]
+        field_list![ErrorRef::optional(&self.error)]
     }
 
     /// The length in bytes of the canonical text. Takes no memory and writes nothing.

@@ -6,11 +6,11 @@ ghost use Rattle.amqp_types.specs.Flow.{flow_body_at, flow_table, flow_first_sam
 ghost use Rattle.amqp_types.specs.declared.performatives.Performative.TheVariants as performative;
 ghost use Rattle.amqp_types.specs.Performatives.{performative_text};
 
+use crate::borrowed;
 use crate::definitions::Handle;
-use crate::leaf;
 use amqp_values::{
-    Composite, Fields, Leaf, ListReader, ReadError, Row11, codes, described_len, field_list,
-    put_described,
+    Composite, Cons2, Cons4, Fields, ListReader, ReadError, Row1, Verbatim, codes, described_len,
+    field_list, put_described,
 };
 use bytes::BytesMut;
 use std::alloc::Global;
@@ -142,25 +142,40 @@ impl Composite for Flow {
     }
 }
 
+/// The fields, borrowed for writing, by types of their own.
+pub(crate) type FlowRow<'a> = Cons4<
+    Option<u32>,
+    u32,
+    u32,
+    u32,
+    Cons4<
+        Option<u32>,
+        Option<u32>,
+        Option<u32>,
+        Option<u32>,
+        Cons2<Option<bool>, Option<bool>, Row1<Option<Verbatim<'a>>>>,
+    >,
+>;
+
 impl Flow {
     /// The fields, borrowed for writing.
     #[tactic(auto, unfolding(crate::specs::Flow::flow_table))]
     #[inline(always)]
-    pub(crate) fn parts(&self) -> Row11<Leaf<'_>>
+    pub(crate) fn parts(&self) -> FlowRow<'_>
         ensures { result ≡ (flow_table self.now).canonical }
     {
         field_list![
-            leaf::optional_uint(self.next_incoming_id),
-            Leaf::Uint(self.incoming_window),
-            Leaf::Uint(self.next_outgoing_id),
-            Leaf::Uint(self.outgoing_window),
-            leaf::optional_handle(self.handle),
-            leaf::optional_uint(self.delivery_count),
-            leaf::optional_uint(self.link_credit),
-            leaf::optional_uint(self.available),
-            leaf::flag(self.drain),
-            leaf::flag(self.echo),
-            leaf::optional_fields(&self.properties),
+            self.next_incoming_id,
+            self.incoming_window,
+            self.next_outgoing_id,
+            self.outgoing_window,
+            borrowed::optional_handle(self.handle),
+            self.delivery_count,
+            self.link_credit,
+            self.available,
+            borrowed::true_or_null(self.drain),
+            borrowed::true_or_null(self.echo),
+            borrowed::optional_fields(&self.properties),
         ]
     }
 

@@ -6,10 +6,10 @@ ghost use Rattle.amqp_types.specs.Open.{open_body_at, open_table, open_first_sam
 ghost use Rattle.amqp_types.specs.declared.performatives.Performative.TheVariants as performative;
 ghost use Rattle.amqp_types.specs.Performatives.{performative_text};
 
-use crate::{copies, leaf};
+use crate::{borrowed, copies};
 use amqp_values::{
-    Composite, Fields, Leaf, ListReader, ReadError, Row10, Symbol, codes, described_len,
-    field_list, put_described,
+    Composite, Cons2, Cons4, Fields, ListReader, NoMore, ReadError, StringRef, Symbol, Symbols,
+    Verbatim, codes, described_len, field_list, put_described,
 };
 use bytes::BytesMut;
 use std::alloc::{AllocError, Global};
@@ -154,24 +154,39 @@ impl Composite for Open {
     }
 }
 
+/// The fields, borrowed for writing, by types of their own.
+pub(crate) type OpenRow<'a> = Cons4<
+    StringRef<'a>,
+    Option<StringRef<'a>>,
+    Option<u32>,
+    Option<u16>,
+    Cons4<
+        Option<u32>,
+        Option<Symbols<'a>>,
+        Option<Symbols<'a>>,
+        Option<Symbols<'a>>,
+        Cons2<Option<Symbols<'a>>, Option<Verbatim<'a>>, NoMore>,
+    >,
+>;
+
 impl Open {
     /// The fields, borrowed for writing.
     #[tactic(auto, unfolding(crate::specs::Open::open_table))]
     #[inline(always)]
-    pub(crate) fn parts(&self) -> Row10<Leaf<'_>>
+    pub(crate) fn parts(&self) -> OpenRow<'_>
         ensures { result ≡ (open_table self.now).canonical }
     {
         field_list![
-            Leaf::String(self.container_id.as_str()),
-            leaf::optional_string(&self.hostname),
-            leaf::uint_or(self.max_frame_size, u32::MAX),
-            leaf::ushort_or(self.channel_max, u16::MAX),
-            leaf::optional_uint(self.idle_time_out),
-            leaf::optional_symbols(&self.outgoing_locales),
-            leaf::optional_symbols(&self.incoming_locales),
-            leaf::optional_symbols(&self.offered_capabilities),
-            leaf::optional_symbols(&self.desired_capabilities),
-            leaf::optional_fields(&self.properties),
+            StringRef(self.container_id.as_str()),
+            borrowed::optional_string(&self.hostname),
+            borrowed::uint_or(self.max_frame_size, u32::MAX),
+            borrowed::ushort_or(self.channel_max, u16::MAX),
+            self.idle_time_out,
+            borrowed::optional_symbols(&self.outgoing_locales),
+            borrowed::optional_symbols(&self.incoming_locales),
+            borrowed::optional_symbols(&self.offered_capabilities),
+            borrowed::optional_symbols(&self.desired_capabilities),
+            borrowed::optional_fields(&self.properties),
         ]
     }
 

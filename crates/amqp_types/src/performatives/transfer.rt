@@ -7,10 +7,10 @@ ghost use Rattle.amqp_types.specs.Transfer.{transfer_table, transfer_first_same,
 ghost use Rattle.amqp_types.specs.declared.performatives.Performative.TheVariants as performative;
 ghost use Rattle.amqp_types.specs.Performatives.{performative_text};
 
+use crate::borrowed;
 use crate::definitions::{DeliveryTag, Handle, ReceiverSettleMode};
-use crate::leaf;
 use amqp_values::{
-    Binary, Composite, Cons4, Leaf, ListReader, Raw, ReadError, Row3, codes, described_len,
+    Binary, Composite, Cons4, ListReader, Raw, ReadError, Row3, Verbatim, codes, described_len,
     field_list, put_described,
 };
 use bytes::BytesMut;
@@ -163,7 +163,7 @@ pub(crate) type TransferRow<'a> = Cons4<
     Option<u32>,
     Option<Binary<'a>>,
     Option<u32>,
-    Cons4<Option<bool>, Option<bool>, Option<u8>, Leaf<'a>, Row3<Option<bool>>>,
+    Cons4<Option<bool>, Option<bool>, Option<u8>, Option<Verbatim<'a>>, Row3<Option<bool>>>,
 >;
 
 impl Transfer {
@@ -192,15 +192,15 @@ impl Transfer {
         field_list![
             self.handle.0,
             number,
-            leaf::optional_tag(&self.delivery_tag),
+            borrowed::optional_tag(&self.delivery_tag),
             self.message_format,
             self.settled,
-            leaf::true_or_null(more),
-            leaf::optional_receiver_mode(self.rcv_settle_mode),
-            leaf::optional_value(&self.state),
-            leaf::true_or_null(self.resume),
-            leaf::true_or_null(self.aborted),
-            leaf::true_or_null(self.batchable),
+            borrowed::true_or_null(more),
+            borrowed::optional_receiver_mode(self.rcv_settle_mode),
+            borrowed::optional_value(&self.state),
+            borrowed::true_or_null(self.resume),
+            borrowed::true_or_null(self.aborted),
+            borrowed::true_or_null(self.batchable),
         ]
     }
 
@@ -216,12 +216,12 @@ impl Transfer {
             None,
             None,
             None,
-            leaf::true_or_null(more),
+            borrowed::true_or_null(more),
             None,
-            leaf::optional_value(&self.state),
-            leaf::true_or_null(self.resume),
-            leaf::true_or_null(self.aborted),
-            leaf::true_or_null(self.batchable),
+            borrowed::optional_value(&self.state),
+            borrowed::true_or_null(self.resume),
+            borrowed::true_or_null(self.aborted),
+            borrowed::true_or_null(self.batchable),
         ]
     }
 

@@ -1,9 +1,9 @@
-//! Leaves: the values of fields that are no composites, borrowed for writing.
+//! Values of fields that are no composites, borrowed for writing: each kind by a type of its own.
 
 ghost use Rattle.std.specs.Prelude.{◌≡◌, ℕ, ◌+◌, ◌^◌, ◌<◌, ◌≤◌, List, ◌∷◌, [], ◌++◌, length};
 ghost use Rattle.amqp_values.specs.Slots.{is_null};
-ghost use Rattle.amqp_values.specs.Writing.{ubyte_text, uint_text, ulong_text, boolean_text, var_text};
-ghost use Rattle.amqp_values.specs.Writing.{binary_text, optional_text, leaf_text};
+ghost use Rattle.amqp_values.specs.Writing.{ubyte_text, ushort_text, uint_text, ulong_text, boolean_text, var_text};
+ghost use Rattle.amqp_values.specs.Writing.{binary_text, string_text, symbol_text, symbols_text, optional_text};
 
 use crate::array::{put_symbols, symbols_len};
 use crate::codes;
@@ -11,36 +11,25 @@ use crate::encode::Encode;
 use crate::symbol::Symbol;
 use bytes::BytesMut;
 
-/// A value that a part of a list may hold, borrowed.
-#[derive(Drop)]
-pub enum Leaf<'a> {
-    /// Nothing, or a field that has its default.
-    Null,
-    /// A `boolean` (AMQP 1.0 part 1, section 1.6.2).
-    Boolean(bool),
-    /// A `ubyte` (1.6.3).
-    Ubyte(u8),
-    /// A `ushort` (1.6.4).
-    Ushort(u16),
-    /// A `uint` (1.6.5).
-    Uint(u32),
-    /// A `ulong` (1.6.6).
-    Ulong(u64),
-    /// A `binary` (1.6.19).
-    Binary(&'a [u8]),
-    /// A `string` (1.6.20).
-    String(&'a str),
-    /// A `symbol` (1.6.21).
-    Symbol(&'a Symbol),
-    /// Multiple symbols.
-    Symbols(&'a [Symbol]),
-    /// The spelling of a value that is kept as it came.
-    Value(&'a [u8]),
-}
-
-/// Bytes, borrowed for writing.
+/// A `binary`, borrowed for writing (AMQP 1.0 part 1, section 1.6.19).
 #[derive(Clone, Copy)]
 pub struct Binary<'a>(pub &'a [u8]);
+
+/// A `string`, borrowed for writing (1.6.20).
+#[derive(Clone, Copy)]
+pub struct StringRef<'a>(pub &'a str);
+
+/// A `symbol`, borrowed for writing (1.6.21).
+#[derive(Clone, Copy)]
+pub struct SymbolRef<'a>(pub &'a Symbol);
+
+/// Multiple symbols, borrowed for writing: an array of them (part 2, the attribute `multiple` of a field).
+#[derive(Clone, Copy)]
+pub struct Symbols<'a>(pub &'a [Symbol]);
+
+/// A value that is kept as it came, borrowed for writing: its text is these bytes. It is the null where they begin as the null does.
+#[derive(Clone, Copy)]
+pub struct Verbatim<'a>(pub &'a [u8]);
 
 #[inline(always)]
 fn uint_len(n: u32) -> u128
@@ -100,16 +89,6 @@ fn put_ulong(out: &mut BytesMut, n: u64)
     }
 }
 
-#[inline(always)]
-fn put_ushort(out: &mut BytesMut, n: u16)
-    requires { 3 ≤ out.old.spare }
-    ensures items { out.new.items ≡ out.old.items ++ leaf_text (Leaf.Ushort n) }
-    ensures spare { out.new.spare + 3 ≡ out.old.spare }
-{
-    out.extend_reserved(&[codes::USHORT]);
-    out.extend_reserved(&n.to_be_bytes());
-}
-
 #[tactic(auto, unfolding(crate::specs::Writing::var_text))]
 #[inline(always)]
 fn var_len(s: &[u8], short: u8, long: u8) -> u128
@@ -152,59 +131,6 @@ fn begins_as_null(bytes: &[u8]) -> bool
     matches!(bytes, [codes::NULL, ..])
 }
 
-impl Encode for Leaf<'_> {
-    ghost text = { leaf_text };
-
-    ghost most = { 2 ^ 100 };
-
-    #[tactic(auto, unfolding(crate::specs::Writing::var_text, crate::specs::Writing::symbols_text))]
-    #[inline(always)]
-    fn is_null(&self) -> bool {
-        match self {
-            Leaf::Null => true,
-            Leaf::Value(bytes) => begins_as_null(bytes),
-            _ => false,
-        }
-    }
-
-    #[inline(always)]
-    fn encoded_len(&self) -> u128 {
-        match self {
-            Leaf::Null | Leaf::Boolean(_) => 1,
-            Leaf::Ubyte(_) => 2,
-            Leaf::Ushort(_) => 3,
-            Leaf::Uint(n) => uint_len(*n),
-            Leaf::Ulong(n) => ulong_len(*n),
-            Leaf::Binary(s) => var_len(s, codes::BINARY8, codes::BINARY32),
-            Leaf::String(s) => var_len(s.as_bytes(), codes::STRING8, codes::STRING32),
-            Leaf::Symbol(s) => var_len(s.as_str().as_bytes(), codes::SYMBOL8, codes::SYMBOL32),
-            Leaf::Symbols(s) => symbols_len(s),
-            Leaf::Value(s) => s.len() as u128,
-        }
-    }
-
-    #[inline(always)]
-    fn put(&self, out: &mut BytesMut) {
-        match self {
-            Leaf::Null => out.extend_reserved(&[codes::NULL]),
-            Leaf::Boolean(b) => b.put(out),
-            Leaf::Ubyte(n) => n.put(out),
-            Leaf::Ushort(n) => put_ushort(out, *n),
-            Leaf::Uint(n) => n.put(out),
-            Leaf::Ulong(n) => put_ulong(out, *n),
-            Leaf::Binary(s) => Binary(s).put(out),
-            Leaf::String(s) => put_var(out, s.as_bytes(), codes::STRING8, codes::STRING32),
-            Leaf::Symbol(s) => {
-                put_var(out, s.as_str().as_bytes(), codes::SYMBOL8, codes::SYMBOL32)
-            }
-            Leaf::Symbols(s) => put_symbols(out, s),
-            Leaf::Value(s) => out.extend_reserved(s),
-        }
-    }
-}
-
-// The kinds of a transfer's fields, each by a type of its own: what is not of the kind is not compiled.
-
 impl Encode for u8 {
     ghost text = { ubyte_text };
 
@@ -226,6 +152,28 @@ impl Encode for u8 {
     }
 }
 
+impl Encode for u16 {
+    ghost text = { ushort_text };
+
+    ghost most = { 3 };
+
+    #[inline(always)]
+    fn is_null(&self) -> bool {
+        false
+    }
+
+    #[inline(always)]
+    fn encoded_len(&self) -> u128 {
+        3
+    }
+
+    #[inline(always)]
+    fn put(&self, out: &mut BytesMut) {
+        out.extend_reserved(&[codes::USHORT]);
+        out.extend_reserved(&self.to_be_bytes());
+    }
+}
+
 impl Encode for u32 {
     ghost text = { uint_text };
 
@@ -244,6 +192,27 @@ impl Encode for u32 {
     #[inline(always)]
     fn put(&self, out: &mut BytesMut) {
         put_uint(out, *self)
+    }
+}
+
+impl Encode for u64 {
+    ghost text = { ulong_text };
+
+    ghost most = { 9 };
+
+    #[inline(always)]
+    fn is_null(&self) -> bool {
+        false
+    }
+
+    #[inline(always)]
+    fn encoded_len(&self) -> u128 {
+        ulong_len(*self)
+    }
+
+    #[inline(always)]
+    fn put(&self, out: &mut BytesMut) {
+        put_ulong(out, *self)
     }
 }
 
@@ -287,6 +256,98 @@ impl Encode for Binary<'_> {
     #[inline(always)]
     fn put(&self, out: &mut BytesMut) {
         put_var(out, self.0, codes::BINARY8, codes::BINARY32)
+    }
+}
+
+impl Encode for StringRef<'_> {
+    ghost text = { λ s. string_text s.0.now };
+
+    ghost most = { 2 ^ 66 };
+
+    #[tactic(auto, unfolding(crate::specs::Writing::var_text))]
+    #[inline(always)]
+    fn is_null(&self) -> bool {
+        false
+    }
+
+    #[inline(always)]
+    fn encoded_len(&self) -> u128 {
+        var_len(self.0.as_bytes(), codes::STRING8, codes::STRING32)
+    }
+
+    #[inline(always)]
+    fn put(&self, out: &mut BytesMut) {
+        put_var(out, self.0.as_bytes(), codes::STRING8, codes::STRING32)
+    }
+}
+
+impl Encode for SymbolRef<'_> {
+    ghost text = { λ s. symbol_text s.0.now };
+
+    ghost most = { 2 ^ 66 };
+
+    #[tactic(auto, unfolding(crate::specs::Writing::var_text))]
+    #[inline(always)]
+    fn is_null(&self) -> bool {
+        false
+    }
+
+    #[inline(always)]
+    fn encoded_len(&self) -> u128 {
+        var_len(self.0.as_str().as_bytes(), codes::SYMBOL8, codes::SYMBOL32)
+    }
+
+    #[inline(always)]
+    fn put(&self, out: &mut BytesMut) {
+        put_var(
+            out,
+            self.0.as_str().as_bytes(),
+            codes::SYMBOL8,
+            codes::SYMBOL32,
+        )
+    }
+}
+
+impl Encode for Symbols<'_> {
+    ghost text = { λ s. symbols_text s.0.now };
+
+    ghost most = { 2 ^ 100 };
+
+    #[tactic(auto, unfolding(crate::specs::Writing::symbols_text))]
+    #[inline(always)]
+    fn is_null(&self) -> bool {
+        false
+    }
+
+    #[inline(always)]
+    fn encoded_len(&self) -> u128 {
+        symbols_len(self.0)
+    }
+
+    #[inline(always)]
+    fn put(&self, out: &mut BytesMut) {
+        put_symbols(out, self.0)
+    }
+}
+
+impl Encode for Verbatim<'_> {
+    ghost text = { λ v. v.0.now };
+
+    ghost most = { 2 ^ 64 };
+
+    #[inline(always)]
+    fn is_null(&self) -> bool {
+        begins_as_null(self.0)
+    }
+
+    #[inline(always)]
+    fn encoded_len(&self) -> u128 {
+        self.0.len() as u128
+    }
+
+    #[inline(always)]
+    fn put(&self, out: &mut BytesMut) {
+        out.extend_reserved(self.0)
     }
 }
 
