@@ -120,7 +120,8 @@ impl<R: LinkRelay> Links<R> {
             drop(transfer);
             return Err(SessionInnerError::OutOfMemory);
         };
-        Ok(inputs::ask_transfer(&mut self.inputs, at, transfer, payload))
+        let link = self.inputs.get_index_mut(at).unwrap();
+        Ok(link.relay.on_incoming_transfer(transfer, payload))
     }
 
     /// Asks the relay under the input handle of a delivery, if one is attached there, about a disposition of the delivery, and

@@ -30,22 +30,6 @@ pub(super) fn ask_flow<R: LinkRelay>(
     link.relay.on_incoming_flow(link.handle, flow)
 }
 
-/// Asks the relay at the index of a transfer's handle about it.
-#[inline(always)]
-pub(super) fn ask_transfer<R: LinkRelay>(
-    inputs: &mut Numbered<AttachedLink<R>>,
-    at: usize,
-    transfer: Transfer,
-    payload: Bytes,
-) -> Result<Option<(DeliveryNumber, DeliveryTag)>, LinkRelayError>
-    requires { (link : AttachedLink R) × (slice_get inputs.old.entries at ≡ Some (transfer.handle, link)) }
-    ensures { Asked (of_transfer R.gives.transfer_gives) (lookup (nat_eq transfer.handle) inputs.old.entries) (transfer, payload) result
-        (λ link. inputs.new.entries ≡ set_value (nat_eq transfer.handle) inputs.old.entries link) }
-{
-    let link = inputs.get_index_mut(at).unwrap();
-    link.relay.on_incoming_transfer(transfer, payload)
-}
-
 /// Asks the relay of a link about a disposition of a delivery.
 #[inline(always)]
 fn ask<R: LinkRelay>(
