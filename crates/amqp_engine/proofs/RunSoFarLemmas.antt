@@ -1,5 +1,5 @@
 -- What has been run so far, and what is said of it at the end.
-use Rattle.std.proofs.Common.{◌≡◌, ◌+◌, List, [], ◌∷◌, ◌++◌, length, refl, ap, sym, subst, ◌∙◌, arith, append_assoc, length-append, Option, Some, None, Result, Ok, Err, inl}
+use Rattle.std.proofs.Common.{◌≡◌, ◌+◌, List, [], ◌∷◌, ◌++◌, length, refl, ap, sym, subst, ◌∙◌, arith, append_assoc, length-append, Option, Some, None, Result, Ok, Err, inl, inr}
 use Rattle.std.proofs.lemmas.List.Elements.{All-nil, All-push}
 use Rattle.amqp_types.specs.declared.states.ConnectionState.{ConnectionState}
 use Rattle.amqp_types.specs.Open.{OpenModel}
@@ -9,7 +9,7 @@ use Rattle.amqp_engine.specs.declared.engine.answer.Answer.{Answer}
 use Rattle.amqp_engine.specs.declared.engine.step_error.StepError.{StepError}
 use Rattle.amqp_session.specs.Relay.{Relays}
 use Rattle.amqp_engine.specs.EngineView.{EngineView, new_engine}
-use Rattle.amqp_engine.specs.Engine.{Steps}
+use Rattle.amqp_engine.specs.Engine.{CarriedStep, Steps}
 use Rattle.amqp_engine.specs.Entry.{Entry}
 use Rattle.amqp_engine.specs.Kept.{outcomes_after}
 use Rattle.amqp_engine.specs.History.{OutputTaken, OnlyLeft, Chain}
@@ -135,6 +135,18 @@ stepped gives law v i r w step =
     let e = one.entry_of step in
     let chain : Chain gives v (e ∷ []) w = (v, step.done, w, OutputTaken-none v, step.step, step.keeps, OutputTaken-none w) in
     record { step = step; goes_on = λ state o H l. let all = legal_more gives state o H (e ∷ []) v w l chain in (all, law state o (H ++ e ∷ []) w all) }
+
+-- what is carried out where nothing waits is a step
+pub carried : {R : Type 0} (gives : Relays R) (v w : EngineView R) (i : Input R) (r : Option StepError) → v.waiting ≡ [] → CarriedStep gives v i r w → Steps gives v i r w
+carried gives v w i r idle c = record {
+  received = c.0;
+  reached = c.1;
+  calls = c.2;
+  frames = c.3.waiting;
+  done = c.3;
+  step = inr (idle, refl, c.4);
+  keeps = c.5;
+}
 
 -- the history of a new engine
 pub legal_new : {R : Type 0} (gives : Relays R) (state : ConnectionState) (o : OpenModel) (v : EngineView R) → v ≡ new_engine state o → Legal gives state o [] v

@@ -9,13 +9,13 @@ ghost use Rattle.amqp_engine.specs.EngineView.{peer_limit};
 ghost use Rattle.amqp_engine.specs.Engine.{ReceivedStep, FieldsStep, FieldsKept, ReceivedCloseStep, moved, recorded};
 ghost use Rattle.amqp_engine.specs.ByHistory.{remote_reason};
 
-use super::Engine;
 use super::handle_state::{close_answer, copy_of, end_answer};
 use super::sessions::{
     attach_received, begin_received, detach_received, disposition_received, end_received,
     flow_received, transfer_received,
 };
 use super::step_error::StepError;
+use super::{Engine, refused};
 use amqp_connection::{Connection, ConnectionInnerError, ConnectionStateError};
 use amqp_frames::FrameEncoder;
 use amqp_session::{ConnectionStopReason, IncomingChannel, LinkRelay, keys};
@@ -71,6 +71,7 @@ fn take_close(
 
 impl<R: LinkRelay> Engine<R> {
     /// Takes a received frame: its kind decides who handles its fields. An empty one changes nothing.
+    #[inline(always)]
     pub(super) fn receive(&mut self, bytes: Bytes) -> Result<(), StepError>
         requires { self.old.waiting ≡ [] }
         ensures { ReceivedStep R.gives self.old bytes (refusal_of result) self.new }
@@ -98,17 +99,20 @@ impl<R: LinkRelay> Engine<R> {
         ensures { FieldsStep R.gives self.old channel.0 (Some kind.Transfer) fields (refusal_of result) self.new }
     {
         let mut rest = fields;
-        let transfer: Transfer = read_list(self.alloc, &mut rest)?;
+        let transfer: Transfer = match read_list(self.alloc, &mut rest) {
+            Ok(transfer) => transfer,
+            Err(error) => return refused::unread(error),
+        };
         let Some(number) = self.connection.session_tx_by_incoming_channel(channel) else {
             drop(transfer);
             drop(rest);
-            return Err(StepError::Connection(ConnectionInnerError::NotFound(None)));
+            return refused::unrouted();
         };
         let hint = self.hints.of(number.0);
         let Some(session) = keys::get_mut(&mut self.sessions, hint, &number.0) else {
             drop(transfer);
             drop(rest);
-            return Err(StepError::NoSession);
+            return refused::no_session();
         };
         transfer_received(session, &mut self.waiting, transfer, rest)
     }
@@ -119,15 +123,18 @@ impl<R: LinkRelay> Engine<R> {
         ensures { FieldsStep R.gives self.old channel.0 (Some kind.Flow) fields (refusal_of result) self.new }
     {
         let mut rest = fields;
-        let flow: Flow = read_list(self.alloc, &mut rest)?;
+        let flow: Flow = match read_list(self.alloc, &mut rest) {
+            Ok(flow) => flow,
+            Err(error) => return refused::unread(error),
+        };
         let Some(number) = self.connection.session_tx_by_incoming_channel(channel) else {
             drop(flow);
-            return Err(StepError::Connection(ConnectionInnerError::NotFound(None)));
+            return refused::unrouted();
         };
         let hint = self.hints.of(number.0);
         let Some(session) = keys::get_mut(&mut self.sessions, hint, &number.0) else {
             drop(flow);
-            return Err(StepError::NoSession);
+            return refused::no_session();
         };
         flow_received(session, &mut self.waiting, flow)
     }
@@ -142,15 +149,18 @@ impl<R: LinkRelay> Engine<R> {
         ensures { FieldsStep R.gives self.old channel.0 (Some kind.Disposition) fields (refusal_of result) self.new }
     {
         let mut rest = fields;
-        let disposition: Disposition = read_list(self.alloc, &mut rest)?;
+        let disposition: Disposition = match read_list(self.alloc, &mut rest) {
+            Ok(disposition) => disposition,
+            Err(error) => return refused::unread(error),
+        };
         let Some(number) = self.connection.session_tx_by_incoming_channel(channel) else {
             drop(disposition);
-            return Err(StepError::Connection(ConnectionInnerError::NotFound(None)));
+            return refused::unrouted();
         };
         let hint = self.hints.of(number.0);
         let Some(session) = keys::get_mut(&mut self.sessions, hint, &number.0) else {
             drop(disposition);
-            return Err(StepError::NoSession);
+            return refused::no_session();
         };
         disposition_received(session, &mut self.waiting, disposition)
     }

@@ -11,7 +11,6 @@ ghost use Rattle.amqp_engine.specs.Sessions.{BeginRequest, BegunStep, ReleaseReq
 ghost use Rattle.amqp_engine.specs.Engine.{OpenRequest, CloseRequest, CarriedStep};
 ghost use Rattle.amqp_engine.specs.ByHistory.{close_reason};
 
-use super::Engine;
 use super::input::Input;
 use super::output_queue::OutputQueue;
 use super::sessions::{
@@ -19,6 +18,7 @@ use super::sessions::{
     send_flow, send_transfer, settle, stop,
 };
 use super::step_error::StepError;
+use super::{Engine, refused};
 use amqp_connection::{ConnectionInnerError, SessionNo};
 use amqp_session::keys::KeyHash;
 use amqp_session::{
@@ -81,7 +81,7 @@ impl<R: LinkRelay> Engine<R> {
 
     /// Carries any input out.
     #[inline(never)]
-    fn dispatch_any(&mut self, input: Input<R>) -> Result<(), StepError>
+    pub(super) fn dispatch_any(&mut self, input: Input<R>) -> Result<(), StepError>
         requires { self.old.waiting ≡ [] }
         ensures { CarriedStep R.gives self.old input (refusal_of result) self.new }
     {
@@ -218,7 +218,7 @@ impl<R: LinkRelay> Engine<R> {
     }
 
     #[inline(never)]
-    fn request_transfer(
+    pub(super) fn request_transfer(
         &mut self,
         number: SessionNo,
         input: InputHandle,
@@ -233,7 +233,7 @@ impl<R: LinkRelay> Engine<R> {
         let Some(session) = keys::get_mut(&mut self.sessions, hint, &number.0) else {
             drop(transfer);
             drop(payload);
-            return Err(StepError::NoSession);
+            return refused::no_session();
         };
         send_transfer(
             session,

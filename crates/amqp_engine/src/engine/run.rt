@@ -1,10 +1,12 @@
 //! Runs: many inputs in a row, with all that is to be sent for them.
 
-ghost use Rattle.std.specs.Prelude.{◌≡◌, []};
+ghost use Rattle.std.specs.Prelude.{◌≡◌, ◌<◌, ◌++◌, ◌∷◌, [], Option, Some, length, vec_len, vec_capacity};
 ghost use Rattle.amqp_connection.specs.Connection.{refusal_of};
+ghost use Rattle.amqp_engine.specs.declared.engine.step_error.StepError.{StepError};
 ghost use Rattle.amqp_engine.specs.Output.{answer_of};
 ghost use Rattle.amqp_engine.specs.Promise.{Ends, NoneLeft};
 ghost use Rattle.amqp_engine.specs.Ran.{Ran};
+ghost use Rattle.amqp_engine.specs.Inner.Running.{StepsFirst};
 
 use super::Engine;
 use super::answer::{Answer, Stopped};
@@ -14,13 +16,26 @@ use crate::laws::{law_of_histories, law_of_views};
 use amqp_session::LinkRelay;
 use std::collections::VecDeque;
 
-fn answered(outcome: Result<(), StepError>) -> Answer
-    ensures { result ≡ answer_of (refusal_of outcome) }
+/// Appends the answer of an input, where there is room for it.
+#[inline(always)]
+fn put_answer(answers: &mut Vec<Answer>, outcome: Result<(), StepError>)
+    requires { vec_len answers.old < vec_capacity answers.old }
+    ensures { answers.new.items ≡ answers.old.items ++ answer_of (refusal_of outcome) ∷ [] }
 {
     match outcome {
-        Ok(()) => Answer::Done,
-        Err(error) => Answer::Refused(error),
+        Ok(()) => answers.push_reserved(Answer::Done),
+        Err(error) => put_refusal(answers, error),
     }
+}
+
+/// Appends a refusal, where there is room for it.
+// No part of `put_answer`, which would pay for the size of these locals.
+#[inline(never)]
+fn put_refusal(answers: &mut Vec<Answer>, error: StepError)
+    requires { vec_len answers.old < vec_capacity answers.old }
+    ensures { answers.new.items ≡ answers.old.items ++ answer_of (Some error) ∷ [] }
+{
+    answers.push_reserved(Answer::Refused(error));
 }
 
 impl<R: LinkRelay> Engine<R> {
@@ -52,9 +67,7 @@ impl<R: LinkRelay> Engine<R> {
                     done: total - inputs.len(),
                 });
             };
-            let input = inputs.pop_front().unwrap();
-            let outcome = self.step(input);
-            answers.push(answered(outcome)).unwrap();
+            self.answer_first(inputs, answers);
             let Ok(()) = self.put_out(answers) else {
                 return Err(Stopped {
                     done: total - inputs.len(),
@@ -62,5 +75,21 @@ impl<R: LinkRelay> Engine<R> {
             };
         }
         Ok(())
+    }
+
+    /// Takes the input at the front, and appends its answer where there is room for it.
+    #[inline(always)]
+    fn answer_first(&mut self, inputs: &mut VecDeque<Input<R>>, answers: &mut Vec<Answer>)
+        requires idle { self.old.waiting ≡ [] }
+        requires some { 0 < length inputs.old.items }
+        requires room { vec_len answers.old < vec_capacity answers.old }
+        ensures { (refusal : Option StepError) × StepsFirst R.gives self.old inputs.old.items refusal self.new inputs.new.items
+            × (answers.new.items ≡ answers.old.items ++ answer_of refusal ∷ []) }
+    {
+        match inputs.front() {
+            Some(Input::Received(_)) => put_answer(answers, self.receive_first(inputs)),
+            Some(Input::Transfer(..)) => put_answer(answers, self.transfer_first(inputs)),
+            _ => put_answer(answers, self.step_first(inputs)),
+        }
     }
 }

@@ -1,15 +1,17 @@
 //! Runs whose output goes to one buffer: what is to be sent is appended there, and what was refused to a list.
 
-ghost use Rattle.std.specs.Prelude.{◌≡◌, ◌++◌, ◌<◌, [], List, true, OnOk, OnErr, vec_len, vec_capacity};
+ghost use Rattle.std.specs.Prelude.{◌≡◌, ◌++◌, ◌<◌, [], List, Option, true, OnOk, OnErr, length, vec_len, vec_capacity};
 ghost use Rattle.amqp_connection.specs.Connection.{refusal_of};
 ghost use Rattle.amqp_frames.specs.Wire.{EncodesTo};
 ghost use Rattle.amqp_frames.specs.declared.frame.Frame.{Frame};
 ghost use Rattle.amqp_engine.specs.declared.engine.answer.Answer.{Answer};
+ghost use Rattle.amqp_engine.specs.declared.engine.step_error.StepError.{StepError};
 ghost use Rattle.amqp_engine.specs.History.{OnlyLeft};
 ghost use Rattle.amqp_engine.specs.Waits.{FirstIs, has_frames};
 ghost use Rattle.amqp_engine.specs.Output.{PutOut};
 ghost use Rattle.amqp_engine.specs.Promise.{Ends, NoneLeft};
 ghost use Rattle.amqp_engine.specs.Inner.Putting.{FirstUnfit};
+ghost use Rattle.amqp_engine.specs.Inner.Running.{StepsFirst};
 ghost use Rattle.amqp_engine.specs.RunInto.{HandsBack, RanInto, SendsFirst, Tells, refusal_at};
 
 use super::Engine;
@@ -66,9 +68,7 @@ impl<R: LinkRelay> Engine<R> {
                 });
             };
             let place = total - inputs.len();
-            let input = inputs.pop_front().unwrap();
-            let outcome = self.step(input);
-            note(refusals, place, outcome);
+            self.note_first(place, inputs, refusals);
             let Ok(()) = self.send_out(Some(place), out, refusals) else {
                 return Err(Stopped {
                     done: total - inputs.len(),
@@ -76,6 +76,27 @@ impl<R: LinkRelay> Engine<R> {
             };
         }
         Ok(())
+    }
+
+    /// Takes the input at the front, and appends its refusal, if it was refused, where there is room for it.
+    #[inline(always)]
+    fn note_first(
+        &mut self,
+        place: usize,
+        inputs: &mut VecDeque<Input<R>>,
+        refusals: &mut Vec<Refusal>,
+    )
+        requires idle { self.old.waiting ≡ [] }
+        requires some { 0 < length inputs.old.items }
+        requires room { vec_len refusals.old < vec_capacity refusals.old }
+        ensures { (refusal : Option StepError) × StepsFirst R.gives self.old inputs.old.items refusal self.new inputs.new.items
+            × (refusals.new.items ≡ refusals.old.items ++ refusal_at place refusal) }
+    {
+        match inputs.front() {
+            Some(Input::Received(_)) => note(refusals, place, self.receive_first(inputs)),
+            Some(Input::Transfer(..)) => note(refusals, place, self.transfer_first(inputs)),
+            _ => note(refusals, place, self.step_first(inputs)),
+        }
     }
 
     /// Sends what waits. A frame that does not fit is handed back as one of this place.

@@ -9,6 +9,7 @@ ghost use Rattle.amqp_connection.specs.Connection.{refusal_of};
 ghost use Rattle.amqp_engine.specs.Sessions.{Answered, SendsAll, RecordedEnd, comes_to_end};
 
 use super::output_queue::OutputQueue;
+use super::refused;
 use super::step_error::StepError;
 use amqp_session::{
     IncomingChannel, InputHandle, LinkFlow, LinkRelay, Session, SessionFrame, SessionFrameBody,
@@ -142,7 +143,7 @@ pub(crate) fn send_transfer<R: LinkRelay>(
             waiting.put_item(item);
             Ok(())
         }
-        Err(error) => Err(StepError::from(error)),
+        Err(error) => refused::by_session(error),
     }
 }
 
@@ -298,7 +299,7 @@ pub(crate) fn disposition_received<R: LinkRelay>(
             waiting.put_dispositions(channel, send_each(session, echoes));
             Ok(())
         }
-        Err(error) => Err(StepError::from(error)),
+        Err(error) => refused::by_session(error),
     }
 }
 
@@ -318,6 +319,6 @@ pub(crate) fn transfer_received<R: LinkRelay>(
             waiting.put_item(session.maybe_outgoing_session_flow());
             Ok(())
         }
-        Err(error) => Err(StepError::from(error)),
+        Err(error) => refused::by_session(error),
     }
 }

@@ -9,29 +9,29 @@ use Rattle.amqp_engine.proofs.RouteLemmas.{route_found, route_missing}
 use Rattle.amqp_engine.proofs.SessionListLemmas.{viewed_some, viewed_none, seated_set}
 use Rattle.amqp_engine.proofs.engine.Engine.receive_flow.Goals as goal
 
-pub returns-in_err-flow : goal.returns-in_err-flow
-returns-in_err-flow g c =
-    unread g.R.LinkRelay.gives flow_fields c.args.self.now c.args.channel.0 c.args.fields c.read_list.new.bytes c.in_err-flow.field-0.0
-    c.from_residual.result c.in_err-flow.ensures c.from_residual.ensures.1
+pub returns-in-Err : goal.returns-in-Err
+returns-in-Err g c =
+    unread g.R.LinkRelay.gives flow_fields c.args.self.now c.args.channel.0 c.args.fields c.read_list.new.bytes c.in-Err.error
+    c.unread.result c.in-Err.ensures (rw c.unread.ensures refl)
 
 pub returns-in_default : goal.returns-in_default
 returns-in_default g c =
-    unrouted g.R.LinkRelay.gives flow_fields (ReceivedFlowCalls c.in_ok-flow.flow) c.args.self.now c.args.channel.0 c.args.fields c.read_list.new.bytes c.in_ok-flow.flow
-    c.in_ok-flow.ensures (λ refusal w reached calls h. h)
-    _ c.self.view_is (route_missing _ _ c.session_tx_by_incoming_channel.ensures c.in_default.is)
+    rw c.unrouted.ensures (unrouted g.R.LinkRelay.gives flow_fields (ReceivedFlowCalls c.in-Ok.flow) c.args.self.now c.args.channel.0 c.args.fields c.read_list.new.bytes c.in-Ok.flow
+    c.in-Ok.ensures (λ refusal w reached calls h. h)
+    _ c.self.view_is (route_missing _ _ c.session_tx_by_incoming_channel.ensures c.in_default.is))
 
 pub returns-in_default-get_mut : goal.returns-in_default-get_mut
 returns-in_default-get_mut g c =
-    unknown g.R.LinkRelay.gives flow_fields (ReceivedFlowCalls c.in_ok-flow.flow) c.args.self.now c.args.channel.0 c.args.fields c.read_list.new.bytes c.in_ok-flow.flow
-    c.in_ok-flow.ensures (λ refusal w reached calls h. h)
+    rw c.no_session.ensures (unknown g.R.LinkRelay.gives flow_fields (ReceivedFlowCalls c.in-Ok.flow) c.args.self.now c.args.channel.0 c.args.fields c.read_list.new.bytes c.in-Ok.flow
+    c.in-Ok.ensures (λ refusal w reached calls h. h)
     _ _ _ _ c.in-Some.number.0 _ c.self.view_is (route_found _ _ c.in-Some.number c.session_tx_by_incoming_channel.ensures c.in-Some.is)
     (viewed_none c.in-Some.number.0 c.self.inside.sessions.entries (sym c.get_mut.ensures.value ∙ ap option_copied_mut c.in_default-get_mut.is))
-    (ap (λ (m : HashMap _ _ _). m.entries) c.get_mut.follows.holds-at-none)
+    (ap (λ (m : HashMap _ _ _). m.entries) c.get_mut.follows.holds-at-none))
 
 pub returns : goal.returns
 returns g c =
-    handed g.R.LinkRelay.gives flow_fields (ReceivedFlowCalls c.in_ok-flow.flow) c.args.self.now c.args.channel.0 c.args.fields c.read_list.new.bytes c.in_ok-flow.flow
-    c.in_ok-flow.ensures (λ refusal w reached calls h. h)
+    handed g.R.LinkRelay.gives flow_fields (ReceivedFlowCalls c.in-Ok.flow) c.args.self.now c.args.channel.0 c.args.fields c.read_list.new.bytes c.in-Ok.flow
+    c.in-Ok.ensures (λ refusal w reached calls h. h)
     _ _ _ _ c.in-Some.number.0 _ c.flow_received.new.waiting _ c.in-Some-get_mut.session.now c.flow_received.new.session _
     c.self.view_is (route_found _ _ c.in-Some.number c.session_tx_by_incoming_channel.ensures c.in-Some.is)
     (viewed_some c.in-Some.number.0 c.self.inside.sessions.entries c.in-Some-get_mut.session.now (sym c.in-Some-get_mut.ensures.value))

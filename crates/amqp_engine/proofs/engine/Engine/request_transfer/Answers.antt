@@ -20,7 +20,7 @@ returns-in_default g c =
     let asks = TransferCalls (record { input_handle = c.args.input.0; transfer = c.args.transfer; payload = c.args.payload; is_first = c.args.is_first }) in
     let none = viewed_none n c.self.inside.sessions.entries (sym c.get_mut.ensures.value ∙ ap option_copied_mut c.in_default.is) in
     let stays = ap (λ (m : HashMap _ _ _). m.entries) c.get_mut.follows.holds-at-none in
-    let d = did_not g.R.LinkRelay.gives asks c.args.self.now _ _ _ _ n _ c.self.view_is none stays in (None, d.0, d.1, _, (refl, d.2), refl)
+    let d = did_not g.R.LinkRelay.gives asks c.args.self.now _ _ _ _ n _ c.self.view_is none stays in rw c.no_session.ensures (None, d.0, d.1, _, (refl, d.2), refl)
 
 pub invariant_of-self-2 : goal.invariant_of-self-2
 invariant_of-self-2 g c = seated_set c.self.inside.sessions.entries _ c.args.number.0 c.send_transfer.new.session c.self.inside.kept.places (c.get_mut.follows.holds c.send_transfer.new.session) c.self.invariant

@@ -1,5 +1,4 @@
-use Rattle.std.proofs.Common.{◌≡◌, ◌<◌, ◌++◌, [], ◌∷◌, List, length, arith, ap, ◌∙◌, rules}
-use Rattle.amqp_engine.specs.declared.engine.answer.Answer.{Answer}
+use Rattle.std.proofs.Common.{◌≡◌, ◌<◌, [], length, arith, ap, rules}
 use Rattle.amqp_engine.proofs.RunSoFarLemmas.{Taking-start, Taking-more, Taking-Ran, empty}
 use Rattle.amqp_engine.proofs.engine.Engine.run.Goals as goal
 
@@ -21,24 +20,22 @@ returns-in_default-reserve-clause-ran g c =
 
 pub loop-answers-preserved : goal.loop-answers-preserved
 loop-answers-preserved g c =
-    let popped = rw c.unwrap-input.ensures at c.pop_front.ensures.items in
-    let pushed = rw c.unwrap.ensures at c.push.ensures.items in
-    let same : c.reserve.new.self.items ≡ c.loop-answers.answers.items = c.reserve.ensures.items in
+    let first = c.answer_first.ensures in
+    let pushed = rw (c.reserve.ensures.items) at first.2 in
     let s = c.put_out-in-loop-answers.ensures.said in
     let r = c.loop-answers.invariant in (
-      Taking-more g.R.LinkRelay.gives _ _ _ _ _ _ _ _ _ _ _ _ _ _ r.0 r.1 popped c.step-outcome.ensures.step (pushed ∙ ap (λ (xs : List Answer). xs ++ c.answered.result ∷ []) same ∙ ap (λ (x : Answer). c.loop-answers.answers.items ++ x ∷ []) c.answered.ensures) c.put_out-in-loop-answers.ensures.taken s.1 s.2,
+      Taking-more g.R.LinkRelay.gives _ _ _ _ _ _ _ _ _ _ _ _ _ _ r.0 r.1 first.1.1 first.1.2 pushed c.put_out-in-loop-answers.ensures.taken s.1 s.2,
       c.in-Ok-put_out.ensures.ok,
       r.2,
     )
 
 pub returns-in_default-put_out-clause-ran : goal.returns-in_default-put_out-clause-ran
 returns-in_default-put_out-clause-ran g c =
-    let popped = rw c.unwrap-input.ensures at c.pop_front.ensures.items in
-    let pushed = rw c.unwrap.ensures at c.push.ensures.items in
-    let same : c.reserve.new.self.items ≡ c.loop-answers.answers.items = c.reserve.ensures.items in
+    let first = c.answer_first.ensures in
+    let pushed = rw (c.reserve.ensures.items) at first.2 in
     let s = c.put_out-in-loop-answers.ensures.said in
     let r = c.loop-answers.invariant in
-    let more = Taking-more g.R.LinkRelay.gives _ _ _ _ _ _ _ _ _ _ _ _ _ _ r.0 r.1 popped c.step-outcome.ensures.step (pushed ∙ ap (λ (xs : List Answer). xs ++ c.answered.result ∷ []) same ∙ ap (λ (x : Answer). c.loop-answers.answers.items ++ x ∷ []) c.answered.ensures) c.put_out-in-loop-answers.ensures.taken s.1 s.2 in
+    let more = Taking-more g.R.LinkRelay.gives _ _ _ _ _ _ _ _ _ _ _ _ _ _ r.0 r.1 first.1.1 first.1.2 pushed c.put_out-in-loop-answers.ensures.taken s.1 s.2 in
     Taking-Ran g.R.LinkRelay.gives _ _ _ _ _ _ c.law_of_histories.ensures c.law_of_views.ensures more
 
 pub returns-clause-ran : goal.returns-clause-ran
@@ -47,12 +44,11 @@ returns-clause-ran g c =
 
 pub returns-in_default-put_out-clause-wishes : goal.returns-in_default-put_out-clause-wishes
 returns-in_default-put_out-clause-wishes g c =
-    let popped = rw c.unwrap-input.ensures at c.pop_front.ensures.items in
-    let pushed = rw c.unwrap.ensures at c.push.ensures.items in
-    let same : c.reserve.new.self.items ≡ c.loop-answers.answers.items = c.reserve.ensures.items in
+    let first = c.answer_first.ensures in
+    let pushed = rw (c.reserve.ensures.items) at first.2 in
     let s = c.put_out-in-loop-answers.ensures.said in
     let r = c.loop-answers.invariant in
-    (Taking-more g.R.LinkRelay.gives _ _ _ _ _ _ _ _ _ _ _ _ _ _ r.0 r.1 popped c.step-outcome.ensures.step (pushed ∙ ap (λ (xs : List Answer). xs ++ c.answered.result ∷ []) same ∙ ap (λ (x : Answer). c.loop-answers.answers.items ++ x ∷ []) c.answered.ensures) c.put_out-in-loop-answers.ensures.taken s.1 s.2).wishes_stay
+    (Taking-more g.R.LinkRelay.gives _ _ _ _ _ _ _ _ _ _ _ _ _ _ r.0 r.1 first.1.1 first.1.2 pushed c.put_out-in-loop-answers.ensures.taken s.1 s.2).wishes_stay
 
 pub returns-in_default-clause-ends : goal.returns-in_default-clause-ends
 returns-in_default-clause-ends g c = (omega arith, λ p. c.in_default.ensures.err p.1)
@@ -65,12 +61,11 @@ returns-in_default-reserve-clause-ends g c =
 
 pub returns-in_default-put_out-clause-ends : goal.returns-in_default-put_out-clause-ends
 returns-in_default-put_out-clause-ends g c =
-    let popped = rw c.unwrap-input.ensures at c.pop_front.ensures.items in
-    let pushed = rw c.unwrap.ensures at c.push.ensures.items in
-    let same : c.reserve.new.self.items ≡ c.loop-answers.answers.items = c.reserve.ensures.items in
+    let first = c.answer_first.ensures in
+    let pushed = rw (c.reserve.ensures.items) at first.2 in
     let s = c.put_out-in-loop-answers.ensures.said in
     let r = c.loop-answers.invariant in
-    let more = Taking-more g.R.LinkRelay.gives _ _ _ _ _ _ _ _ _ _ _ _ _ _ r.0 r.1 popped c.step-outcome.ensures.step (pushed ∙ ap (λ (xs : List Answer). xs ++ c.answered.result ∷ []) same ∙ ap (λ (x : Answer). c.loop-answers.answers.items ++ x ∷ []) c.answered.ensures) c.put_out-in-loop-answers.ensures.taken s.1 s.2 in
+    let more = Taking-more g.R.LinkRelay.gives _ _ _ _ _ _ _ _ _ _ _ _ _ _ r.0 r.1 first.1.1 first.1.2 pushed c.put_out-in-loop-answers.ensures.taken s.1 s.2 in
     (omega (arith, more.counted, c.len-in_default-put_out.ensures), λ p. c.in_default-put_out.ensures.err p.1)
 
 pub returns-clause-ends : goal.returns-clause-ends

@@ -19,35 +19,35 @@ returns-in_default-reserve-clause-ran g c =
 
 pub loop-refusals-preserved : goal.loop-refusals-preserved
 loop-refusals-preserved g c =
-    let popped = rw c.unwrap-input.ensures at c.pop_front.ensures.items in
+    let first = c.note_first.ensures in
     let same : c.reserve.new.self.items ≡ c.loop-refusals.refusals.items = c.reserve.ensures.items in
-    let noted = rw same at c.note.ensures in
+    let noted = rw same at first.2 in
     let s = c.send_out-in-loop-refusals.ensures.said in
     let r = c.loop-refusals.invariant in
     let at : _ ≡ length c.args.inputs.now.items - length c.loop-refusals.inputs.items = omega (arith, r.2, c.len-in-loop-refusals.ensures, c.loop-refusals.inputs.ok.0) in
-    let more = Sending-more g.R.LinkRelay.gives _ _ _ _ _ _ _ _ _ _ _ _ _ _ s.0 _ _ _ r.0 r.1 popped c.step-outcome.ensures.step at noted c.send_out-in-loop-refusals.ensures.taken s.1 s.2 in
+    let more = Sending-more g.R.LinkRelay.gives _ _ _ _ _ _ _ _ _ _ _ _ _ _ s.0 _ _ _ r.0 r.1 first.1.1 first.1.2 at noted c.send_out-in-loop-refusals.ensures.taken s.1 s.2 in
     (more, c.in-Ok-send_out.ensures.ok, r.2)
 
 pub returns-in_default-send_out-clause-ran : goal.returns-in_default-send_out-clause-ran
 returns-in_default-send_out-clause-ran g c =
-    let popped = rw c.unwrap-input.ensures at c.pop_front.ensures.items in
+    let first = c.note_first.ensures in
     let same : c.reserve.new.self.items ≡ c.loop-refusals.refusals.items = c.reserve.ensures.items in
-    let noted = rw same at c.note.ensures in
+    let noted = rw same at first.2 in
     let s = c.send_out-in-loop-refusals.ensures.said in
     let r = c.loop-refusals.invariant in
     let at : _ ≡ length c.args.inputs.now.items - length c.loop-refusals.inputs.items = omega (arith, r.2, c.len-in-loop-refusals.ensures, c.loop-refusals.inputs.ok.0) in
-    let more = Sending-more g.R.LinkRelay.gives _ _ _ _ _ _ _ _ _ _ _ _ _ _ s.0 _ _ _ r.0 r.1 popped c.step-outcome.ensures.step at noted c.send_out-in-loop-refusals.ensures.taken s.1 s.2 in
+    let more = Sending-more g.R.LinkRelay.gives _ _ _ _ _ _ _ _ _ _ _ _ _ _ s.0 _ _ _ r.0 r.1 first.1.1 first.1.2 at noted c.send_out-in-loop-refusals.ensures.taken s.1 s.2 in
     Sending-RanInto g.R.LinkRelay.gives _ _ _ _ _ _ _ _ c.law_of_histories.ensures c.law_of_views.ensures more
 
 pub returns-in_default-send_out-clause-wishes : goal.returns-in_default-send_out-clause-wishes
 returns-in_default-send_out-clause-wishes g c =
-    let popped = rw c.unwrap-input.ensures at c.pop_front.ensures.items in
+    let first = c.note_first.ensures in
     let same : c.reserve.new.self.items ≡ c.loop-refusals.refusals.items = c.reserve.ensures.items in
-    let noted = rw same at c.note.ensures in
+    let noted = rw same at first.2 in
     let s = c.send_out-in-loop-refusals.ensures.said in
     let r = c.loop-refusals.invariant in
     let at : _ ≡ length c.args.inputs.now.items - length c.loop-refusals.inputs.items = omega (arith, r.2, c.len-in-loop-refusals.ensures, c.loop-refusals.inputs.ok.0) in
-    let more = Sending-more g.R.LinkRelay.gives _ _ _ _ _ _ _ _ _ _ _ _ _ _ s.0 _ _ _ r.0 r.1 popped c.step-outcome.ensures.step at noted c.send_out-in-loop-refusals.ensures.taken s.1 s.2 in
+    let more = Sending-more g.R.LinkRelay.gives _ _ _ _ _ _ _ _ _ _ _ _ _ _ s.0 _ _ _ r.0 r.1 first.1.1 first.1.2 at noted c.send_out-in-loop-refusals.ensures.taken s.1 s.2 in
     more.taking.wishes_stay
 
 pub returns-clause-ran : goal.returns-clause-ran

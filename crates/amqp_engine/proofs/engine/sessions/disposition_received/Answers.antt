@@ -1,4 +1,5 @@
 use Rattle.std.proofs.Common.{Some, None, Ok, Err, refl, ap, sym, subst, ◌∙◌, [], ◌∷◌, map, option_map}
+use Rattle.amqp_connection.specs.Connection.{refusal_of}
 use Rattle.amqp_session.specs.History as session
 use Rattle.amqp_session.specs.Disposing.{TakeDispositionStep}
 use Rattle.amqp_engine.specs.Waits.{sent, disposition_frame}
@@ -34,7 +35,7 @@ returns-in-Err g c =
     let received = c.in-Err.ensures.step in
     record {
       calls = session.TakesDisposition c.args.disposition received.0 (Err c.in-Err.error) ∷ [];
-      asked = (received.0, Err c.in-Err.error, [], refl, refl, ap Some c.from.ensures);
+      asked = (received.0, Err c.in-Err.error, [], refl, refl, ap refusal_of c.by_session.ensures);
       steps = (c.on_incoming_disposition.new.self.view, received.1, refl);
       handed_out = c.requires;
     }

@@ -1,5 +1,6 @@
-use Rattle.std.proofs.Common.{◌∙◌, sym, ap, Ok, Err, Some, refl, [], ◌∷◌}
+use Rattle.std.proofs.Common.{◌∙◌, sym, ap, Ok, Err, refl, [], ◌∷◌}
 use Rattle.std.proofs.lemmas.List.{append-nil}
+use Rattle.amqp_connection.specs.Connection.{refusal_of}
 use Rattle.amqp_session.specs.History as session
 use Rattle.amqp_session.specs.Items.{item_frames}
 use Rattle.amqp_session.specs.Transfers.{RequestedTransfer}
@@ -21,7 +22,7 @@ returns-in-Err g c =
     let held : RequestedTransfer = record { input_handle = c.args.input.0; transfer = c.args.transfer; payload = c.args.payload; is_first = c.args.is_first } in
     record {
       calls = session.SendsTransfer held (Err c.in-Err.error) ∷ [];
-      asked = (Err c.in-Err.error, refl, ap Some c.from.ensures);
+      asked = (Err c.in-Err.error, refl, ap refusal_of c.by_session.ensures);
       steps = (c.on_outgoing_transfer.new.self.view, c.in-Err.ensures.step, refl);
       handed_out = c.requires;
     }

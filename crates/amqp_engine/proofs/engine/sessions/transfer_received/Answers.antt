@@ -1,5 +1,6 @@
-use Rattle.std.proofs.Common.{◌∙◌, sym, ap, Ok, Err, Some, None, refl, [], ◌∷◌}
+use Rattle.std.proofs.Common.{◌∙◌, sym, ap, Ok, Err, None, refl, [], ◌∷◌}
 use Rattle.std.proofs.lemmas.List.{append-nil}
+use Rattle.amqp_connection.specs.Connection.{refusal_of}
 use Rattle.amqp_session.specs.History as session
 use Rattle.amqp_session.specs.Items.{item_frames}
 use Rattle.amqp_engine.specs.Waits.{sent}
@@ -21,7 +22,7 @@ returns-in-Err g c =
     let received = c.in-Err.ensures.step in
     record {
       calls = session.TakesTransfer c.args.transfer c.args.payload received.0 (Err c.in-Err.error) ∷ [];
-      asked = (received.0, Err c.in-Err.error, None, refl, ap Some c.from.ensures);
+      asked = (received.0, Err c.in-Err.error, None, refl, ap refusal_of c.by_session.ensures);
       steps = (c.on_incoming_transfer.new.self.view, received.1, refl);
       handed_out = c.requires;
     }
