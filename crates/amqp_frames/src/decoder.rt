@@ -8,8 +8,8 @@ ghost use Rattle.amqp_frames.specs.Head.{Opens, ReadsFrameOf, as_head};
 
 use crate::error::Error;
 use crate::frame::{Frame, FrameBody};
-use amqp_types::Kind;
 use amqp_types::laws::{kinds_are_read, lists_are_read};
+use amqp_types::{Kind, Transfer};
 use amqp_values::read_list;
 use bytes::Bytes;
 use std::alloc::Global;
@@ -80,7 +80,7 @@ impl FrameDecoder {
             Ok((channel, Some(Kind::Begin))) => read_begin(alloc, channel, fields),
             Ok((channel, Some(Kind::Attach))) => read_attach(alloc, channel, fields),
             Ok((channel, Some(Kind::Flow))) => read_flow(alloc, channel, fields),
-            Ok((channel, Some(Kind::Transfer))) => read_transfer(alloc, channel, fields),
+            Ok((channel, Some(Kind::Transfer))) => read_transfer(channel, fields),
             Ok((channel, Some(Kind::Disposition))) => read_disposition(alloc, channel, fields),
             Ok((channel, Some(Kind::Detach))) => read_detach(alloc, channel, fields),
             Ok((channel, Some(Kind::End))) => read_end(alloc, channel, fields),
@@ -204,12 +204,12 @@ fn read_flow(alloc: Global, channel: u16, fields: Bytes) -> Result<(Frame, Bytes
 }
 
 #[inline(never)]
-fn read_transfer(alloc: Global, channel: u16, fields: Bytes) -> Result<(Frame, Bytes), Error>
+fn read_transfer(channel: u16, fields: Bytes) -> Result<(Frame, Bytes), Error>
     ensures { ReadsFrameOf channel (Some kind.Transfer) fields result }
 {
     lists_are_read();
     let mut rest = fields;
-    let performative = match read_list(alloc, &mut rest) {
+    let performative = match Transfer::read_list(&mut rest) {
         Ok(performative) => performative,
         Err(error) => return Err(Error::from(error)),
     };

@@ -1,4 +1,4 @@
--- Part: the promise; every call exactly.
+-- Part: the promise; every call exactly; other calls.
 -- What each call of a session does: its answer, the frames handed out with it, the questions to relays, and the session
 -- after it. The case of a refusal says that the refusals that are tested before it do not apply.
 use Rattle.std.specs.Prelude.{◌≡◌, ◌<◌, ◌^◌, ◌⊎◌, ℕ, Bool, true, false, List, [], ◌∷◌, ◌++◌, Option, Some, None, Result, Ok, Err, IsSome}
@@ -216,6 +216,11 @@ LinkTransferStep gives v input t payload (Some q) result w =
 abbrev pub TakeTransferStep : {R : Type 0} → TransferGives R → SessionView R → TransferModel → List ℕ →
     Option (TransferQuestion R) → Result (Option DispositionModel) SessionInnerError → SessionView R → Type 0
 TakeTransferStep gives v t payload asked result w = LinkTransferStep gives (counted_by v) t.handle t payload asked result w
+
+-- what a call says that leaves the disposition out, which is never there
+abbrev pub without_answer : Result (Unit {0}) SessionInnerError → Result (Option DispositionModel) SessionInnerError
+without_answer (Ok none) = Ok None
+without_answer (Err e) = Err e
 
 -- ---- flows of this side, and stop reasons
 

@@ -7,3 +7,4 @@ pub mod BodyCanonicalLemmas
 pub mod PerformativeCanonicalLemmas
 pub mod CutTransferLemmas
 pub mod ItemsWalkLemmas
+pub mod WalkLemmas

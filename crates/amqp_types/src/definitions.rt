@@ -1,6 +1,9 @@
 //! The small types of the standard's definitions (AMQP 1.0 part 2, section 2.8).
 
-ghost use Rattle.std.specs.Prelude.{◌≡◌, ℕ, List};
+ghost use Rattle.std.specs.Prelude.{◌≡◌, ◌≤◌, ℕ, List, length, take};
+ghost use Rattle.std.specs.Option.{option_map};
+ghost use Rattle.amqp_values.specs.Walking.{ahead};
+ghost use Rattle.amqp_values.specs.Slots.{optional_at};
 ghost use Rattle.amqp_values.specs.Reading.{Gives};
 ghost use Rattle.amqp_values.specs.Number.{uint_at};
 ghost use Rattle.amqp_values.specs.Text.{binary_at};
@@ -9,7 +12,7 @@ ghost use Rattle.amqp_types.specs.declared.definitions.SenderSettleMode.{SenderS
 ghost use Rattle.amqp_types.specs.declared.definitions.ReceiverSettleMode.{ReceiverSettleMode};
 ghost use Rattle.amqp_types.specs.Definitions.{role_at, sender_mode_at, receiver_mode_at};
 
-use amqp_values::{Field, ReadError};
+use amqp_values::{Field, ListWalk, ReadError};
 use bytes::Bytes;
 use std::alloc::Global;
 
@@ -131,6 +134,46 @@ impl Field for SenderSettleMode {
             2 => Ok(SenderSettleMode::Mixed),
             _ => Err(ReadError::Malformed),
         }
+    }
+}
+
+/// The next part, which is how the receiver is to settle; `None` where it is null or the list has ended.
+#[tactic(auto, using(crate::proofs::WalkLemmas::mode_none, crate::proofs::WalkLemmas::mode_some, crate::proofs::WalkLemmas::mode_other, crate::proofs::WalkLemmas::mode_refused))]
+#[inline(always)]
+pub(crate) fn optional_receiver_mode(
+    walk: &mut ListWalk,
+    text: &[u8],
+) -> Result<Option<ReceiverSettleMode>, ReadError>
+    requires { walk.old.at ≤ length text.now }
+    ensures value { Gives (λ x. x) result (ahead text.now walk.new) (optional_at receiver_mode_at (ahead text.now walk.old)) }
+    ensures bound { walk.new.at ≤ length text.now }
+{
+    match walk.ubyte(text) {
+        Ok(None) => Ok(None),
+        Ok(Some(0)) => Ok(Some(ReceiverSettleMode::First)),
+        Ok(Some(1)) => Ok(Some(ReceiverSettleMode::Second)),
+        Ok(Some(_)) => Err(ReadError::Malformed),
+        Err(error) => Err(error),
+    }
+}
+
+/// The next part, which is the tag of a delivery, cut out of the bytes that the text is the front of; `None` where it is null or the
+/// list has ended.
+#[inline(always)]
+pub(crate) fn optional_tag(
+    walk: &mut ListWalk,
+    text: &[u8],
+    bytes: &Bytes,
+) -> Result<Option<DeliveryTag>, ReadError>
+    requires at { walk.old.at ≤ length text.now }
+    requires front { text.now ≡ take (length text.now) bytes.now }
+    ensures value { Gives (option_map (λ t. t.0)) result (ahead text.now walk.new) (optional_at binary_at (ahead text.now walk.old)) }
+    ensures bound { walk.new.at ≤ length text.now }
+{
+    match walk.binary(text, bytes) {
+        Ok(Some(tag)) => Ok(Some(DeliveryTag(tag))),
+        Ok(None) => Ok(None),
+        Err(error) => Err(error),
     }
 }
 

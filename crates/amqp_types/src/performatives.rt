@@ -4,6 +4,7 @@ ghost use Rattle.std.specs.Prelude.{◌≡◌, ◌<◌, ◌≤◌, ◌^◌, ◌+
 ghost use Rattle.amqp_values.specs.Composite.{composite_at};
 ghost use Rattle.amqp_values.specs.Reading.{Answers, Gives, ReadsFront};
 ghost use Rattle.amqp_values.specs.Writing.{IsTooLarge};
+ghost use Rattle.amqp_types.specs.Transfer.{transfer_body_at};
 ghost use Rattle.amqp_types.specs.Performatives.{IsPerformative, body_at, performative_at, performative_text};
 
 mod attach;
@@ -67,6 +68,14 @@ fn list_of<C: Composite>(alloc: Global, bytes: &mut Bytes) -> Result<C, ReadErro
     read_list(alloc, bytes)
 }
 
+/// Reads the list of a transfer, likewise.
+#[inline(never)]
+fn transfer_list(bytes: &mut Bytes) -> Result<Transfer, ReadError>
+    ensures { Gives (λ x. x) result bytes.new (composite_at transfer_body_at bytes.old) }
+{
+    Transfer::read_list(bytes)
+}
+
 /// Reads the list of a performative of this kind.
 #[tactic(auto, unfolding(crate::specs::Performatives::body_at))]
 fn body(alloc: Global, kind: Kind, bytes: &mut Bytes) -> Result<Performative, ReadError>
@@ -77,7 +86,7 @@ fn body(alloc: Global, kind: Kind, bytes: &mut Bytes) -> Result<Performative, Re
         Kind::Begin => Ok(Performative::Begin(list_of(alloc, bytes)?)),
         Kind::Attach => Ok(Performative::Attach(list_of(alloc, bytes)?)),
         Kind::Flow => Ok(Performative::Flow(list_of(alloc, bytes)?)),
-        Kind::Transfer => Ok(Performative::Transfer(list_of(alloc, bytes)?)),
+        Kind::Transfer => Ok(Performative::Transfer(transfer_list(bytes)?)),
         Kind::Disposition => Ok(Performative::Disposition(list_of(alloc, bytes)?)),
         Kind::Detach => Ok(Performative::Detach(list_of(alloc, bytes)?)),
         Kind::End => Ok(Performative::End(list_of(alloc, bytes)?)),

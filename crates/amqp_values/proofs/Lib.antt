@@ -27,3 +27,4 @@ pub mod NumberCanonicalLemmas
 pub mod TextCanonicalLemmas
 pub mod SymbolCanonicalLemmas
 pub mod CompositeCanonicalLemmas
+pub mod WalkLemmas

@@ -4,6 +4,7 @@ pub mod Text
 pub mod Symbols
 pub mod Slots
 pub mod Composite
+pub mod Walking
 pub mod Writing
 pub mod Same
 pub mod FormatClass

@@ -91,6 +91,7 @@ impl<R: LinkRelay> Engine<R> {
     }
 
     /// Puts out what waits.
+    #[inline(always)]
     pub(crate) fn put_out(&mut self, answers: &mut Vec<Answer>) -> Result<(), AllocError>
         ensures said { (out : List Answer) × (answers.new.items ≡ answers.old.items ++ out)
             × PutOut self.old.limit self.old.waiting self.new.waiting out }

@@ -99,7 +99,7 @@ impl<R: LinkRelay> Engine<R> {
         ensures { FieldsStep R.gives self.old channel.0 (Some kind.Transfer) fields (refusal_of result) self.new }
     {
         let mut rest = fields;
-        let transfer: Transfer = match read_list(self.alloc, &mut rest) {
+        let transfer = match Transfer::read_list(&mut rest) {
             Ok(transfer) => transfer,
             Err(error) => return refused::unread(error),
         };

@@ -314,8 +314,8 @@ pub(crate) fn transfer_received<R: LinkRelay>(
     requires { waiting.old ≡ [] }
     ensures { Answered R.gives session.old.view (ReceivedTransferCalls transfer payload) (refusal_of result) waiting.new session.new.view }
 {
-    match session.on_incoming_transfer(transfer, payload) {
-        Ok(_none) => {
+    match session.take_transfer(transfer, payload) {
+        Ok(()) => {
             waiting.put_item(session.maybe_outgoing_session_flow());
             Ok(())
         }

@@ -1,6 +1,6 @@
 //! What a session takes from its peer for its links (AMQP 1.0 part 2, section 2.5.6).
 
-ghost use Rattle.std.specs.Prelude.{◌≡◌, ◌≤◌, ◌<◌, ◌^◌, ◌+◌, ◌++◌, ℕ, [], true, false, Option, Some, None, IsSome, IfOk, OnOk, length, vec_len, vec_capacity};
+ghost use Rattle.std.specs.Prelude.{◌≡◌, ◌≤◌, ◌<◌, ◌^◌, ◌+◌, ◌++◌, ℕ, [], true, false, Option, Some, None, Err, IsSome, IfOk, OnOk, length, vec_len, vec_capacity};
 ghost use Rattle.std.specs.Option.{option_map};
 ghost use Rattle.amqp_session.specs.Items.{HandsOut, is_some_list, first_frame};
 ghost use Rattle.amqp_session.specs.Deliveries.{with_record, RecordFits};
@@ -9,12 +9,13 @@ ghost use Rattle.amqp_session.specs.Links.{attached_at};
 ghost use Rattle.amqp_session.specs.Relay.{FlowQuestion, TransferQuestion};
 ghost use Rattle.amqp_session.specs.Sending.{let_out, drained, opened_by, ready_count, moved};
 ghost use Rattle.amqp_session.specs.Session.{flow_frame};
-ghost use Rattle.amqp_session.specs.Step.{FlowStep, LinkFlowStep, FlowUnasked, FlowFits, TakeTransferStep, LinkTransferStep, flow_moved, named_delivery};
+ghost use Rattle.amqp_session.specs.Step.{FlowStep, LinkFlowStep, FlowUnasked, FlowFits, TakeTransferStep, LinkTransferStep, flow_moved, named_delivery, without_answer};
+ghost use Rattle.amqp_session.specs.Errors.{inner_of_relay};
 
 use super::Session;
 use super::transfers::Sending;
 use crate::deliveries::{Deliveries, Delivery, Tags};
-use crate::error::SessionInnerError;
+use crate::error::{LinkRelayError, SessionInnerError};
 use crate::flow::LinkFlow;
 use crate::frame::{SessionFrame, SessionOutgoingItem};
 use crate::numbers::{InputHandle, OutgoingChannel};
@@ -86,6 +87,23 @@ fn alone(frame: Option<SessionFrame>) -> Option<SessionOutgoingItem>
     }
 }
 
+/// No relay was asked, for this reason. Where an answer of this size is made in place, its function pays for it on the ways that it does
+/// not take.
+#[inline(never)]
+fn refused(error: SessionInnerError) -> Result<(), SessionInnerError>
+    ensures { result ≡ Err error }
+{
+    Err(error)
+}
+
+/// The relay refuses.
+#[inline(never)]
+fn refused_by_relay(error: LinkRelayError) -> Result<(), SessionInnerError>
+    ensures { result ≡ Err (inner_of_relay error) }
+{
+    Err(SessionInnerError::from(error))
+}
+
 impl<R: LinkRelay> Session<R> {
     /// Takes the peer's Flow: it gives both windows and the peer's next number, in every state and whatever is then
     /// answered. A flow that names a link goes on to its relay. What goes out is the relay's flow, if any, and after it, in
@@ -131,6 +149,24 @@ impl<R: LinkRelay> Session<R> {
         ensures walk { self.new.last_walk ≡ self.old.last_walk }
         ensures reads { self.new.reads ≡ self.old.reads }
     {
+        match self.take_transfer(transfer, payload) {
+            Ok(()) => Ok(None),
+            Err(error) => Err(error),
+        }
+    }
+
+    /// [`Session::on_incoming_transfer`], without the answer that is always `None`.
+    #[inline(always)]
+    pub fn take_transfer(
+        &mut self,
+        transfer: Transfer,
+        payload: Bytes,
+    ) -> Result<(), SessionInnerError>
+        ensures step { (asked : Option (TransferQuestion R))
+            × TakeTransferStep R.gives.transfer_gives self.old.view transfer payload asked (without_answer result) self.new.view }
+        ensures walk { self.new.last_walk ≡ self.old.last_walk }
+        ensures reads { self.new.reads ≡ self.old.reads }
+    {
         self.receiving.count_transfer();
         let input = InputHandle(transfer.handle.0);
         let was_long = is_long(&transfer, &payload);
@@ -138,11 +174,11 @@ impl<R: LinkRelay> Session<R> {
             .links
             .ask_transfer(transfer, payload, &mut self.received);
         match asked {
-            Err(unasked) => Err(unasked),
-            Ok(Err(error)) => Err(SessionInnerError::from(error)),
+            Err(unasked) => refused(unasked),
+            Ok(Err(error)) => refused_by_relay(error),
             Ok(Ok(named)) => {
                 record_named(&mut self.tags, &mut self.received, input, named, was_long);
-                Ok(None)
+                Ok(())
             }
         }
     }

@@ -1,6 +1,7 @@
 //! Transfer (AMQP 1.0 part 2, section 2.7.5).
 
 ghost use Rattle.std.specs.Prelude.{◌≡◌, ◌<◌, ◌≤◌, ◌+◌, ◌^◌, ◌++◌, length, List, ℕ, Option};
+ghost use Rattle.amqp_values.specs.Composite.{composite_at};
 ghost use Rattle.amqp_values.specs.Reading.{Gives};
 ghost use Rattle.amqp_types.specs.Transfer.{continuation, said_in, transfer_body_at, widest};
 ghost use Rattle.amqp_types.specs.Transfer.{transfer_table, transfer_first_same, transfer_last_same};
@@ -8,13 +9,12 @@ ghost use Rattle.amqp_types.specs.declared.performatives.Performative.TheVariant
 ghost use Rattle.amqp_types.specs.Performatives.{performative_text};
 
 use crate::borrowed;
-use crate::definitions::{DeliveryTag, Handle, ReceiverSettleMode};
+use crate::definitions::{self, DeliveryTag, Handle, ReceiverSettleMode};
 use amqp_values::{
-    Binary, Composite, Cons4, ListReader, Raw, ReadError, Row3, Verbatim, codes, described_len,
-    field_list, put_described,
+    Binary, Cons4, ListWalk, Raw, ReadError, Row3, Verbatim, codes, described_len, field_list,
+    put_described,
 };
-use bytes::BytesMut;
-use std::alloc::Global;
+use bytes::{Bytes, BytesMut};
 use std::marker::Model;
 
 /// A message, or a part of one, on a link (AMQP 1.0 part 2, section 2.7.5).
@@ -123,26 +123,42 @@ impl Transfer {
     }
 }
 
-impl Composite for Transfer {
-    ghost body_at = { transfer_body_at };
-
-    #[tactic(auto, unfolding(crate::specs::Transfer::transfer_body_at))]
+impl Transfer {
+    /// Reads the list of a transfer's fields at the front, after its descriptor, by one walk over its bytes, and leaves the rest. The tag
+    /// and the state are cuts of the bytes; nothing is copied.
+    ///
+    /// `Malformed` where no front of the bytes is such a list, `OutOfMemory` where memory for a cut is refused. After an error the
+    /// bytes are of no use.
+    #[tactic(auto, using(crate::proofs::WalkLemmas::list_some, crate::proofs::WalkLemmas::list_none, crate::proofs::WalkLemmas::body_none), unfolding(crate::specs::Transfer::transfer_body_at))]
     #[inline(always)]
-    fn fields(alloc: Global, parts: &mut ListReader) -> Result<Transfer, ReadError> {
-        let handle = parts.required(alloc)?;
-        let delivery_id = parts.next(alloc)?;
-        let delivery_tag = parts.next(alloc)?;
-        let message_format = parts.next(alloc)?;
-        let settled = parts.next(alloc)?;
-        let more = parts.or(alloc, false)?;
-        let rcv_settle_mode = parts.next(alloc)?;
-        let state = parts.next(alloc)?;
-        let resume = parts.or(alloc, false)?;
-        let aborted = parts.or(alloc, false)?;
-        let batchable = parts.or(alloc, false)?;
-        parts.finish()?;
+    pub fn read_list(bytes: &mut Bytes) -> Result<Transfer, ReadError>
+        ensures { Gives (λ x. x) result bytes.new (composite_at transfer_body_at bytes.old) }
+    {
+        let (mut walk, end) = match ListWalk::enter(bytes.as_slice()) {
+            Ok(entered) => entered,
+            Err(error) => return Err(error),
+        };
+        let (text, _) = bytes.as_slice().split_at(end);
+        let handle = walk.required_uint(text)?;
+        let delivery_id = walk.uint(text)?;
+        let delivery_tag = definitions::optional_tag(&mut walk, text, &*bytes)?;
+        let message_format = walk.uint(text)?;
+        let settled = walk.boolean(text)?;
+        let more = walk.flag(text)?;
+        let rcv_settle_mode = definitions::optional_receiver_mode(&mut walk, text)?;
+        let state = walk.raw(text, &*bytes)?;
+        let resume = walk.flag(text)?;
+        let aborted = walk.flag(text)?;
+        let batchable = match walk.flag(text) {
+            Ok(batchable) => batchable,
+            Err(error) => return Err(error),
+        };
+        if let Err(error) = walk.finish(text) {
+            return Err(error);
+        }
+        bytes.advance(end);
         Ok(Transfer {
-            handle,
+            handle: Handle(handle),
             delivery_id,
             delivery_tag,
             message_format,

@@ -11,9 +11,9 @@ returns-in-Ok g c =
     let received = c.in-Ok.ensures.step in
     let item = c.maybe_outgoing_session_flow.result in
     record {
-      calls = session.TakesTransfer c.args.transfer c.args.payload received.0 (Ok c.in-Ok._none) ∷ session.SendsSessionFlow item ∷ [];
-      asked = (received.0, Ok c.in-Ok._none, item, refl, refl);
-      steps = (c.on_incoming_transfer.new.self.view, received.1, (c.maybe_outgoing_session_flow.new.self.view, c.maybe_outgoing_session_flow.ensures.step, refl));
+      calls = session.TakesTransfer c.args.transfer c.args.payload received.0 (Ok None) ∷ session.SendsSessionFlow item ∷ [];
+      asked = (received.0, Ok None, item, refl, refl);
+      steps = (c.take_transfer.new.self.view, received.1, (c.maybe_outgoing_session_flow.new.self.view, c.maybe_outgoing_session_flow.ensures.step, refl));
       handed_out = c.put_item.ensures ∙ sym (ap sent (append-nil (item_frames item)));
     }
 
@@ -23,6 +23,6 @@ returns-in-Err g c =
     record {
       calls = session.TakesTransfer c.args.transfer c.args.payload received.0 (Err c.in-Err.error) ∷ [];
       asked = (received.0, Err c.in-Err.error, None, refl, ap refusal_of c.by_session.ensures);
-      steps = (c.on_incoming_transfer.new.self.view, received.1, refl);
+      steps = (c.take_transfer.new.self.view, received.1, refl);
       handed_out = c.requires;
     }

@@ -1,20 +1,20 @@
 use Rattle.std.proofs.Common.{◌≡◌, Some, None, Ok, Err, refl, ap}
 use Rattle.amqp_types.specs.Transfer.{TransferModel}
 use Rattle.amqp_session.proofs.FlowLemmas.{sender_room_taken, named_is, unasked_is}
-use Rattle.amqp_session.proofs.session.Session.on_incoming_transfer.Goals as goal
+use Rattle.amqp_session.proofs.session.Session.take_transfer.Goals as goal
 
 pub returns-in-Err-clause-step : goal.returns-in-Err-clause-step
 returns-in-Err-clause-step g c =
     let u = c.in-Err.ensures.unasked in
     let same = sender_room_taken _ _ c.ask_transfer-asked.ensures.rows in
-    rw (← c.self.view_is, u.1, c.count_transfer.ensures) (None, unasked_is _ _ c.in-Err.unasked _ u.0 same)
+    rw (← c.self.view_is, u.1, c.count_transfer.ensures, c.refused.ensures) (None, unasked_is _ _ c.in-Err.unasked _ u.0 same)
 
 pub returns-in-Ok-Err-clause-step : goal.returns-in-Ok-Err-clause-step
 returns-in-Ok-Err-clause-step g c =
     let a = rw c.in-Ok-Err.field-0-is at c.in-Ok-Err.ensures.asked in
-    rw (← c.self.view_is, a.put, c.count_transfer.ensures) (
+    rw (← c.self.view_is, a.put, c.count_transfer.ensures, c.refused_by_relay.ensures) (
       Some (record { before = a.before; handle = a.handle; asked = (c.args.transfer, c.args.payload); answer = Err c.in-Ok-Err.error; after = a.after }),
-      (refl, record { attached = a.attached; stands = a.stands }, (c.from.ensures, sender_room_taken _ _ c.ask_transfer-asked.ensures.rows)),
+      (refl, record { attached = a.attached; stands = a.stands }, (refl, sender_room_taken _ _ c.ask_transfer-asked.ensures.rows)),
     )
 
 pub returns-in-Ok-Ok-clause-step : goal.returns-in-Ok-Ok-clause-step
