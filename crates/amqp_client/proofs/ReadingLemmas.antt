@@ -1,6 +1,7 @@
 -- What is read of bytes, by kind.
-use Rattle.std.proofs.Common.{◌≡◌, ℕ, List, [], ◌∷◌, ◌++◌, Option, Some, None, Result, Ok, Err, refl, ap, sym, subst, ◌∙◌}
-use Rattle.std.proofs.lemmas.List.{append-nil}
+use Rattle.std.proofs.Common.{◌≡◌, ◌<◌, ◌+◌, ℕ, List, [], ◌∷◌, ◌++◌, take, drop, length, get_or, Option, Some, None, Result, Ok, Err, refl, ap, sym, subst, ◌∙◌}
+use Rattle.std.proofs.Math.Seq.{take-length, drop-length}
+use Rattle.std.proofs.lemmas.List.{append-nil, drop_more}
 use Rattle.amqp_values.specs.Reading.{ReadsFront}
 use Rattle.amqp_values.specs.declared.error.ReadError.{ReadError}
 use Rattle.amqp_values.specs.declared.error.ReadError.TheVariants.{Malformed, OutOfMemory}
@@ -75,3 +76,14 @@ flow_read bytes p r = λ x h. let e : its.Flow x ≡ p = r.1 (its.Flow x) h in a
 pub disposition_read : (bytes : List ℕ) (p : Performative) → ReadsOne (Whole bytes) (Ok p) → ReadsOne (λ x. Whole bytes (its.Disposition x)) (as_disposition p)
 disposition_read bytes (its.Disposition x) r = (r.0, λ y h. ap (λ p. got x (as_disposition p)) (r.1 (its.Disposition y) h))
 disposition_read bytes p r = λ x h. let e : its.Disposition x ≡ p = r.1 (its.Disposition x) h in absurd cc
+
+-- ---- places in bytes
+
+pub whole_front : (bytes : List ℕ) → bytes ≡ take (length bytes) bytes
+whole_front bytes = sym (take-length bytes)
+
+pub at_end : (at : ℕ) (bytes : List ℕ) → at ≡ length bytes → drop at bytes ≡ []
+at_end at bytes e = rw e (drop-length bytes)
+
+pub before_end : (at : ℕ) (bytes : List ℕ) → at < length bytes → drop at bytes ≡ get_or bytes at 0 ∷ drop (at + 1) bytes
+before_end at bytes h = drop_more bytes at 0 h

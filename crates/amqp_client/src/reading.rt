@@ -271,12 +271,18 @@ pub(crate) fn error(alloc: Global, input: &[u8]) -> Result<Option<Error>, ReadEr
 }
 
 /// The error that the bytes are, of which there are some.
+#[tactic(auto, using(crate::proofs::ReadingLemmas::whole_front, crate::proofs::ReadingLemmas::at_end, crate::proofs::ReadingLemmas::before_end))]
 fn whole_error(alloc: Global, bytes: Bytes) -> Result<Option<Error>, ReadError>
     ensures { IsSomeError bytes result }
 {
-    let mut rest = bytes;
-    match Error::read(alloc, &mut rest) {
-        Ok(error) if rest.is_empty() => Ok(Some(error)),
+    let text = bytes.as_slice();
+    let [code, ..] = text else {
+        Error::never_empty();
+        return Err(ReadError::Malformed);
+    };
+    let mut place = 1;
+    match Error::read(alloc, *code, text, &mut place, &bytes) {
+        Ok(error) if place == text.len() => Ok(Some(error)),
         Ok(error) => {
             drop(error);
             Err(ReadError::Malformed)

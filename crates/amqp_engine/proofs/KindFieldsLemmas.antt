@@ -1,6 +1,6 @@
 -- How the fields of each kind are read, and the body that they say.
 use Rattle.std.proofs.Common.{ℕ, List, [], Option, Some}
-use Rattle.amqp_values.specs.declared.list_reader.ListReader.{ListReader}
+use Rattle.amqp_values.specs.Slots.{PartsLeft}
 use Rattle.amqp_values.proofs.SlotLemmas.{IsBody}
 use Rattle.amqp_types.specs.declared.performatives.kind.Kind.{Kind}
 use Rattle.amqp_types.specs.declared.performatives.kind.Kind.TheVariants as kind
@@ -21,7 +21,7 @@ use Rattle.amqp_frames.specs.Head.{IsFields, IsBodyOf}
 -- the grammar of a kind's fields, their reader with its law, and the body that they say, with the bytes after it
 pub record Reads (k : Kind) (V : Type 0) : Type 1 where
   pub IsText : V → List (List ℕ) → Type 0
-  pub reader : ListReader → Option (V × ListReader)
+  pub reader : PartsLeft → Option (V × PartsLeft)
   pub law : IsBody IsText reader
   pub says : V → List ℕ → FrameBody × List ℕ
   pub is_fields : (b : FrameBody) (fields rest : List ℕ) → IsBodyOf (Some k) b fields rest → IsFields IsText says b fields rest

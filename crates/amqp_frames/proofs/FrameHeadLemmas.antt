@@ -1,7 +1,7 @@
 -- A frame is exactly a head and the fields after it.
 use Rattle.std.proofs.Common.{◌≡◌, ℕ, ◌<◌, ◌≤◌, List, [], ◌∷◌, ◌++◌, length, drop, Option, Some, None, refl, sym, ap, subst, ◌∙◌, arith, inl, inr, append_assoc}
 use Rattle.std.specs.Prelude.{Result, Ok, Err}
-use Rattle.amqp_values.specs.declared.list_reader.ListReader.{ListReader}
+use Rattle.amqp_values.specs.Slots.{PartsLeft}
 use Rattle.amqp_values.specs.declared.error.ReadError.{ReadError}
 use Rattle.amqp_values.specs.declared.error.ReadError.TheVariants as read
 use Rattle.amqp_values.specs.Reading.{Gives, IsReader}
@@ -193,26 +193,26 @@ not_opened bytes (no.Io text) n = absurd n
 
 -- ---- what the reader of a kind's fields answers, as a body
 
-read_found : {V : Type 0} (B : V → List (List ℕ) → Type 0) (at : ListReader → Option (V × ListReader)) → IsReader (IsComposite B) (composite_at at) → (says : V → List ℕ → FrameBody × List ℕ)
+read_found : {V : Type 0} (B : V → List (List ℕ) → Type 0) (at : PartsLeft → Option (V × PartsLeft)) → IsReader (IsComposite B) (composite_at at) → (says : V → List ℕ → FrameBody × List ℕ)
     → (fields left : List ℕ) (v : V) (b : FrameBody) (rest : List ℕ) → composite_at at fields ≡ Some (v, left) → says v left ≡ (b, rest) → IsFields B says b fields rest
 read_found B at law says fields left v b rest e s =
     let f = law.found fields v left e in
     record { value = v; text = f.0; after = left; is = f.1; whole = f.2; said = s }
 
-read_nothing : {V : Type 0} (B : V → List (List ℕ) → Type 0) (at : ListReader → Option (V × ListReader)) → IsReader (IsComposite B) (composite_at at) → (says : V → List ℕ → FrameBody × List ℕ)
+read_nothing : {V : Type 0} (B : V → List (List ℕ) → Type 0) (at : PartsLeft → Option (V × PartsLeft)) → IsReader (IsComposite B) (composite_at at) → (says : V → List ℕ → FrameBody × List ℕ)
     → (fields : List ℕ) → composite_at at fields ≡ None → (b : FrameBody) (rest : List ℕ) → IsFields B says b fields rest → ⊥
 read_nothing B at law says fields e b rest f =
     let again : composite_at at fields ≡ Some (f.value, f.after) = ap (composite_at at) f.whole ∙ law.again f.value f.text f.after f.is in
     absurd cc
 
-reader : {V : Type 0} (B : V → List (List ℕ) → Type 0) (at : ListReader → Option (V × ListReader)) → slot.IsBody B at → IsReader (IsComposite B) (composite_at at)
+reader : {V : Type 0} (B : V → List (List ℕ) → Type 0) (at : PartsLeft → Option (V × PartsLeft)) → slot.IsBody B at → IsReader (IsComposite B) (composite_at at)
 reader B at law = let l = composite_law B at law in record { found = l.found; again = l.again }
 
-pub fields_found : {V : Type 0} (B : V → List (List ℕ) → Type 0) (at : ListReader → Option (V × ListReader)) → slot.IsBody B at → (says : V → List ℕ → FrameBody × List ℕ)
+pub fields_found : {V : Type 0} (B : V → List (List ℕ) → Type 0) (at : PartsLeft → Option (V × PartsLeft)) → slot.IsBody B at → (says : V → List ℕ → FrameBody × List ℕ)
     → (fields left : List ℕ) (v : V) (b : FrameBody) (rest : List ℕ) → composite_at at fields ≡ Some (v, left) → says v left ≡ (b, rest) → IsFields B says b fields rest
 fields_found B at law = read_found B at (reader B at law)
 
-pub no_fields : {V : Type 0} (B : V → List (List ℕ) → Type 0) (at : ListReader → Option (V × ListReader)) → slot.IsBody B at → (says : V → List ℕ → FrameBody × List ℕ)
+pub no_fields : {V : Type 0} (B : V → List (List ℕ) → Type 0) (at : PartsLeft → Option (V × PartsLeft)) → slot.IsBody B at → (says : V → List ℕ → FrameBody × List ℕ)
     → (fields : List ℕ) → composite_at at fields ≡ None → (b : FrameBody) (rest : List ℕ) → IsFields B says b fields rest → ⊥
 no_fields B at law = read_nothing B at (reader B at law)
 
@@ -226,7 +226,7 @@ not_decoded bytes left h (no.Io text) o n = absurd n
 
 -- ---- the whole frame
 
-pub body_read : {V : Type 0} (B : V → List (List ℕ) → Type 0) (at : ListReader → Option (V × ListReader)) → IsReader (IsComposite B) (composite_at at) → (says : V → List ℕ → FrameBody × List ℕ)
+pub body_read : {V : Type 0} (B : V → List (List ℕ) → Type 0) (at : PartsLeft → Option (V × PartsLeft)) → IsReader (IsComposite B) (composite_at at) → (says : V → List ℕ → FrameBody × List ℕ)
     → (k : Kind) → ((b : FrameBody) (fields rest : List ℕ) → IsFields B says b fields rest → IsBodyOf (Some k) b fields rest)
     → ((b : FrameBody) (fields rest : List ℕ) → IsBodyOf (Some k) b fields rest → IsFields B says b fields rest)
     → (fields left : List ℕ) (v : V) → composite_at at fields ≡ Some (v, left) → ReadsBodyOf (Some k) fields (Ok (says v left))
@@ -239,7 +239,7 @@ body_read {V} B at law says k to from fields left v a =
         let same : ◌≡◌ {A = V × List ℕ} (f.value, f.after) (v, left) = some_is _ _ (sym again ∙ a) in
         sym f.said ∙ ap (λ (x : V × List ℕ). says x.0 x.1) same
 
-pub body_not_read : {V : Type 0} (B : V → List (List ℕ) → Type 0) (at : ListReader → Option (V × ListReader)) → IsReader (IsComposite B) (composite_at at) → (says : V → List ℕ → FrameBody × List ℕ)
+pub body_not_read : {V : Type 0} (B : V → List (List ℕ) → Type 0) (at : PartsLeft → Option (V × PartsLeft)) → IsReader (IsComposite B) (composite_at at) → (says : V → List ℕ → FrameBody × List ℕ)
     → (k : Kind) → ((b : FrameBody) (fields rest : List ℕ) → IsBodyOf (Some k) b fields rest → IsFields B says b fields rest)
     → (fields left : List ℕ) (e : ReadError) → Gives {X = V} (λ x. x) (Err e) left (composite_at at fields) → ReadsBodyOf (Some k) fields (Err (error_of e))
 body_not_read B at law says k from fields left read.Malformed a = λ b rest f. read_nothing B at law says fields a b rest (from b fields rest f)

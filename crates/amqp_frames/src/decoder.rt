@@ -9,8 +9,8 @@ ghost use Rattle.amqp_frames.specs.Head.{Opens, ReadsFrameOf, as_head};
 use crate::error::Error;
 use crate::frame::{Frame, FrameBody};
 use amqp_types::laws::{kinds_are_read, lists_are_read};
-use amqp_types::{Kind, Transfer};
-use amqp_values::read_list;
+use amqp_types::{Attach, Begin, Close, Detach, Disposition, End, Flow, Kind, Open, Transfer};
+use amqp_values::Composite;
 use bytes::Bytes;
 use std::alloc::Global;
 
@@ -80,7 +80,7 @@ impl FrameDecoder {
             Ok((channel, Some(Kind::Begin))) => read_begin(alloc, channel, fields),
             Ok((channel, Some(Kind::Attach))) => read_attach(alloc, channel, fields),
             Ok((channel, Some(Kind::Flow))) => read_flow(alloc, channel, fields),
-            Ok((channel, Some(Kind::Transfer))) => read_transfer(channel, fields),
+            Ok((channel, Some(Kind::Transfer))) => read_transfer(alloc, channel, fields),
             Ok((channel, Some(Kind::Disposition))) => read_disposition(alloc, channel, fields),
             Ok((channel, Some(Kind::Detach))) => read_detach(alloc, channel, fields),
             Ok((channel, Some(Kind::End))) => read_end(alloc, channel, fields),
@@ -152,7 +152,7 @@ fn read_open(alloc: Global, channel: u16, fields: Bytes) -> Result<(Frame, Bytes
     Ok((
         Frame {
             channel,
-            body: FrameBody::Open(read_list(alloc, &mut rest)?),
+            body: FrameBody::Open(Open::read_list(alloc, &mut rest)?),
         },
         rest,
     ))
@@ -167,7 +167,7 @@ fn read_begin(alloc: Global, channel: u16, fields: Bytes) -> Result<(Frame, Byte
     Ok((
         Frame {
             channel,
-            body: FrameBody::Begin(read_list(alloc, &mut rest)?),
+            body: FrameBody::Begin(Begin::read_list(alloc, &mut rest)?),
         },
         rest,
     ))
@@ -182,7 +182,7 @@ fn read_attach(alloc: Global, channel: u16, fields: Bytes) -> Result<(Frame, Byt
     Ok((
         Frame {
             channel,
-            body: FrameBody::Attach(read_list(alloc, &mut rest)?),
+            body: FrameBody::Attach(Attach::read_list(alloc, &mut rest)?),
         },
         rest,
     ))
@@ -197,19 +197,19 @@ fn read_flow(alloc: Global, channel: u16, fields: Bytes) -> Result<(Frame, Bytes
     Ok((
         Frame {
             channel,
-            body: FrameBody::Flow(read_list(alloc, &mut rest)?),
+            body: FrameBody::Flow(Flow::read_list(alloc, &mut rest)?),
         },
         rest,
     ))
 }
 
 #[inline(never)]
-fn read_transfer(channel: u16, fields: Bytes) -> Result<(Frame, Bytes), Error>
+fn read_transfer(alloc: Global, channel: u16, fields: Bytes) -> Result<(Frame, Bytes), Error>
     ensures { ReadsFrameOf channel (Some kind.Transfer) fields result }
 {
     lists_are_read();
     let mut rest = fields;
-    let performative = match Transfer::read_list(&mut rest) {
+    let performative = match Transfer::read_list(alloc, &mut rest) {
         Ok(performative) => performative,
         Err(error) => return Err(Error::from(error)),
     };
@@ -234,7 +234,7 @@ fn read_disposition(alloc: Global, channel: u16, fields: Bytes) -> Result<(Frame
     Ok((
         Frame {
             channel,
-            body: FrameBody::Disposition(read_list(alloc, &mut rest)?),
+            body: FrameBody::Disposition(Disposition::read_list(alloc, &mut rest)?),
         },
         rest,
     ))
@@ -249,7 +249,7 @@ fn read_detach(alloc: Global, channel: u16, fields: Bytes) -> Result<(Frame, Byt
     Ok((
         Frame {
             channel,
-            body: FrameBody::Detach(read_list(alloc, &mut rest)?),
+            body: FrameBody::Detach(Detach::read_list(alloc, &mut rest)?),
         },
         rest,
     ))
@@ -264,7 +264,7 @@ fn read_end(alloc: Global, channel: u16, fields: Bytes) -> Result<(Frame, Bytes)
     Ok((
         Frame {
             channel,
-            body: FrameBody::End(read_list(alloc, &mut rest)?),
+            body: FrameBody::End(End::read_list(alloc, &mut rest)?),
         },
         rest,
     ))
@@ -279,7 +279,7 @@ fn read_close(alloc: Global, channel: u16, fields: Bytes) -> Result<(Frame, Byte
     Ok((
         Frame {
             channel,
-            body: FrameBody::Close(read_list(alloc, &mut rest)?),
+            body: FrameBody::Close(Close::read_list(alloc, &mut rest)?),
         },
         rest,
     ))

@@ -1,5 +1,6 @@
 -- Each composite's reader is exactly its grammar: a line for each field.
-use Rattle.std.proofs.Common.{refl, false}
+use Rattle.std.proofs.Common.{◌≡◌, [], None, refl, false}
+use Rattle.amqp_values.specs.Composite.{descriptor_at, described_at}
 use Rattle.amqp_types.specs.declared.definitions.SenderSettleMode.TheVariants.{Mixed}
 use Rattle.amqp_types.specs.declared.definitions.ReceiverSettleMode.TheVariants.{First}
 use Rattle.amqp_types.specs.Error.{error_table, IsErrorBody, error_of, error_slots, error_body_at, IsError, error_at}
@@ -29,6 +30,11 @@ error_body = named_law _ _ error_of error_slots (λ v. refl) (λ w. refl)
     (then_law _ _ _ _ (optional_law _ _ string_format)
     (then_law _ _ _ _ (optional_law _ _ map_format)
     end_law)))
+
+-- no error is empty
+pub no_error : error_at [] ≡ None
+unfolding error_at described_at descriptor_at
+no_error = refl
 
 pub error_format : IsFormat IsError error_at
 unfolding error_at

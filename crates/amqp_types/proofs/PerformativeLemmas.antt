@@ -1,6 +1,6 @@
 -- A performative is read exactly by its grammar.
 use Rattle.std.proofs.Common.{◌≡◌, ℕ, List, ◌∷◌, ◌++◌, Option, Some, None, refl, sym, ap, subst, ◌∙◌, append_assoc}
-use Rattle.amqp_values.specs.declared.list_reader.ListReader.{ListReader}
+use Rattle.amqp_values.specs.Slots.{PartsLeft}
 use Rattle.amqp_types.specs.declared.performatives.Performative.{Performative}
 use Rattle.amqp_types.specs.declared.performatives.Performative.TheVariants.{Open, Begin, Attach, Flow, Transfer, Disposition, Detach, End, Close}
 use Rattle.amqp_types.specs.declared.performatives.kind.Kind.{Kind}
@@ -25,7 +25,7 @@ use Rattle.amqp_types.proofs.BodyLemmas.{open_body, begin_body, attach_body, flo
 use Rattle.amqp_types.proofs.KindLemmas.{kind_found, kind_again, kind_no_null}
 
 -- what a reading of one kind's list found
-list_found : {V : Type 0} (wrap : V → Performative) (code : ℕ) (B : V → List (List ℕ) → Type 0) (body : ListReader → Option (V × ListReader)) → IsBody B body
+list_found : {V : Type 0} (wrap : V → Performative) (code : ℕ) (B : V → List (List ℕ) → Type 0) (body : PartsLeft → Option (V × PartsLeft)) → IsBody B body
     → ((v : V) (t : List ℕ) → IsDescribed code B v t → IsPerformative (wrap v) t)
     → (descriptor bytes : List ℕ) (p : Performative) (rest : List ℕ) → IsDescriptor code descriptor → wrapped_at wrap (composite_at body) bytes ≡ Some (p, rest)
     → (text : List ℕ) × IsPerformative p text × (descriptor ++ bytes ≡ text ++ rest)
@@ -59,7 +59,7 @@ performative_found bytes p rest e =
     (g.0, g.1, f.2 ∙ g.2)
 
 -- one kind is read again
-list_again : {V : Type 0} (k : Kind) (B : V → List (List ℕ) → Type 0) (body : ListReader → Option (V × ListReader)) → IsBody B body → (wrap : V → Performative) (v : V) (text rest : List ℕ)
+list_again : {V : Type 0} (k : Kind) (B : V → List (List ℕ) → Type 0) (body : PartsLeft → Option (V × PartsLeft)) → IsBody B body → (wrap : V → Performative) (v : V) (text rest : List ℕ)
     → IsDescribed (code_of k) B v text → ((bytes : List ℕ) → body_at k bytes ≡ wrapped_at wrap (composite_at body) bytes) → performative_at (text ++ rest) ≡ Some (wrap v, rest)
 unfolding performative_at
 list_again k B body law wrap v text rest h is =
@@ -89,7 +89,7 @@ performative_format = record { found = performative_found; again = performative_
 
 -- ---- each list by itself
 
-list_read : {V : Type 0} (B : V → List (List ℕ) → Type 0) (body : ListReader → Option (V × ListReader)) → IsBody B body → IsReader (IsComposite B) (composite_at body)
+list_read : {V : Type 0} (B : V → List (List ℕ) → Type 0) (body : PartsLeft → Option (V × PartsLeft)) → IsBody B body → IsReader (IsComposite B) (composite_at body)
 list_read B body law = let l = composite_law B body law in record { found = l.found; again = l.again }
 
 pub lists_read : ListsAreRead

@@ -6,7 +6,7 @@ use Rattle.amqp_types.specs.declared.definitions.SenderSettleMode.{SenderSettleM
 use Rattle.amqp_types.specs.declared.definitions.ReceiverSettleMode.{ReceiverSettleMode}
 use Rattle.amqp_types.specs.declared.definitions.SenderSettleMode.TheVariants.{Mixed}
 use Rattle.amqp_types.specs.declared.definitions.ReceiverSettleMode.TheVariants.{First}
-use Rattle.amqp_values.specs.declared.list_reader.ListReader.{ListReader}
+use Rattle.amqp_values.specs.Slots.{PartsLeft}
 use Rattle.amqp_values.specs.Number.{IsBoolean, IsUint, IsUlong, boolean_at, uint_at, ulong_at}
 use Rattle.amqp_values.specs.Text.{IsString, string_at}
 use Rattle.amqp_values.specs.Symbols.{IsSymbols, symbols_at}
@@ -108,7 +108,7 @@ attach_slots p =
 abbrev pub AttachRest : Type 0
 AttachRest = Option ℕ × (Option ℕ × (Option (List (List ℕ)) × (Option (List (List ℕ)) × (Option (List ℕ) × Unit {0}))))
 
-unfoldable pub attach_rest_at : ListReader → Option (AttachRest × ListReader)
+unfoldable pub attach_rest_at : PartsLeft → Option (AttachRest × PartsLeft)
 attach_rest_at =
     then_at (optional_at uint_at)
     (then_at (optional_at ulong_at)
@@ -117,7 +117,7 @@ attach_rest_at =
     (then_at (optional_at map_at)
     end_at))))
 
-unfoldable pub attach_body_at : ListReader → Option (AttachModel × ListReader)
+unfoldable pub attach_body_at : PartsLeft → Option (AttachModel × PartsLeft)
 attach_body_at = named_at attach_of
     (then_at (required_at string_at)
     (then_at (required_at uint_at)

@@ -1,7 +1,7 @@
 -- Part: the bytes; other calls; inner.
 -- Begin: its fields, and how they stand in a list (AMQP 1.0 part 2, section 2.7.2).
 use Rattle.std.specs.Prelude.{ℕ, List, Option}
-use Rattle.amqp_values.specs.declared.list_reader.ListReader.{ListReader}
+use Rattle.amqp_values.specs.Slots.{PartsLeft}
 use Rattle.amqp_values.specs.Number.{IsUint, IsUshort, uint_at, ushort_at}
 use Rattle.amqp_values.specs.Symbols.{IsSymbols, symbols_at}
 use Rattle.amqp_values.specs.Raw.{SpellsMap, map_at}
@@ -68,7 +68,7 @@ begin_slots p =
     (beside p.properties
     tt)))))))
 
-unfoldable pub begin_body_at : ListReader → Option (BeginModel × ListReader)
+unfoldable pub begin_body_at : PartsLeft → Option (BeginModel × PartsLeft)
 begin_body_at = named_at begin_of
     (then_at (optional_at ushort_at)
     (then_at (required_at uint_at)

@@ -1,7 +1,7 @@
 -- Part: the bytes; other calls; inner.
 -- Detach: its fields, and how they stand in a list (AMQP 1.0 part 2, section 2.7.7).
 use Rattle.std.specs.Prelude.{ℕ, List, Option, Bool, false}
-use Rattle.amqp_values.specs.declared.list_reader.ListReader.{ListReader}
+use Rattle.amqp_values.specs.Slots.{PartsLeft}
 use Rattle.amqp_values.specs.Number.{IsBoolean, IsUint, boolean_at, uint_at}
 use Rattle.amqp_values.specs.Slots.{then_at, end_at, named_at, required_at, optional_at, default_at}
 use Rattle.amqp_values.specs.Writing.{uint_text}
@@ -38,7 +38,7 @@ detach_of (handle, (closed, (error, end))) = record { handle = handle; closed = 
 abbrev pub detach_slots : DetachModel → DetachSlots
 detach_slots p = (p.handle, (p.closed, (p.error, tt)))
 
-unfoldable pub detach_body_at : ListReader → Option (DetachModel × ListReader)
+unfoldable pub detach_body_at : PartsLeft → Option (DetachModel × PartsLeft)
 detach_body_at = named_at detach_of
     (then_at (required_at uint_at)
     (then_at (default_at false boolean_at)

@@ -2,7 +2,7 @@
 -- Disposition: its fields, and how they stand in a list (AMQP 1.0 part 2, section 2.7.6).
 use Rattle.std.specs.Prelude.{ℕ, List, Option, Bool, false}
 use Rattle.amqp_types.specs.declared.definitions.Role.{Role}
-use Rattle.amqp_values.specs.declared.list_reader.ListReader.{ListReader}
+use Rattle.amqp_values.specs.Slots.{PartsLeft}
 use Rattle.amqp_values.specs.Number.{IsBoolean, IsUint, boolean_at, uint_at}
 use Rattle.amqp_values.specs.Raw.{SpellsRaw, raw_at}
 use Rattle.amqp_values.specs.Slots.{beside, slot0, slot1, slot2, slot3, slot4, slot5}
@@ -60,7 +60,7 @@ disposition_slots p =
     (beside p.batchable
     tt)))))
 
-unfoldable pub disposition_body_at : ListReader → Option (DispositionModel × ListReader)
+unfoldable pub disposition_body_at : PartsLeft → Option (DispositionModel × PartsLeft)
 disposition_body_at = named_at disposition_of
     (then_at (required_at role_at)
     (then_at (required_at uint_at)

@@ -1,7 +1,7 @@
 -- Part: the bytes; other calls; inner.
 -- End: its fields, and how they stand in a list (AMQP 1.0 part 2, section 2.7.8).
 use Rattle.std.specs.Prelude.{ℕ, List, Option}
-use Rattle.amqp_values.specs.declared.list_reader.ListReader.{ListReader}
+use Rattle.amqp_values.specs.Slots.{PartsLeft}
 use Rattle.amqp_values.specs.Slots.{then_at, end_at, named_at, optional_at}
 use Rattle.amqp_values.specs.Same.{Test, field, maybe}
 use Rattle.amqp_types.specs.Error.{ErrorModel, IsError, error_at, error_text, error_same}
@@ -31,7 +31,7 @@ end_of (error, end) = record { error = error }
 abbrev pub end_slots : EndModel → EndSlots
 end_slots p = (p.error, tt)
 
-unfoldable pub end_body_at : ListReader → Option (EndModel × ListReader)
+unfoldable pub end_body_at : PartsLeft → Option (EndModel × PartsLeft)
 end_body_at = named_at end_of
     (then_at (optional_at error_at)
     end_at)

@@ -1,7 +1,7 @@
 -- Part: the bytes; other calls; inner.
 -- Error: its fields, and how they stand in a list (AMQP 1.0 part 2, section 2.8.14).
 use Rattle.std.specs.Prelude.{ℕ, List, Option}
-use Rattle.amqp_values.specs.declared.list_reader.ListReader.{ListReader}
+use Rattle.amqp_values.specs.Slots.{PartsLeft}
 use Rattle.amqp_values.specs.Text.{IsString, IsSymbol, string_at, symbol_at}
 use Rattle.amqp_values.specs.Raw.{SpellsMap, map_at}
 use Rattle.amqp_values.specs.Slots.{then_at, end_at, named_at, required_at, optional_at}
@@ -42,7 +42,7 @@ error_of (condition, (description, (info, end))) = record { condition = conditio
 abbrev pub error_slots : ErrorModel → ErrorSlots
 error_slots p = (p.condition, (p.description, (p.info, tt)))
 
-unfoldable pub error_body_at : ListReader → Option (ErrorModel × ListReader)
+unfoldable pub error_body_at : PartsLeft → Option (ErrorModel × PartsLeft)
 error_body_at = named_at error_of
     (then_at (required_at symbol_at)
     (then_at (optional_at string_at)

@@ -1,7 +1,7 @@
 -- Part: the bytes; other calls; inner.
 -- Flow: its fields, and how they stand in a list (AMQP 1.0 part 2, section 2.7.4).
 use Rattle.std.specs.Prelude.{ℕ, List, Option, Bool, false}
-use Rattle.amqp_values.specs.declared.list_reader.ListReader.{ListReader}
+use Rattle.amqp_values.specs.Slots.{PartsLeft}
 use Rattle.amqp_values.specs.Number.{IsBoolean, IsUint, boolean_at, uint_at}
 use Rattle.amqp_values.specs.Raw.{SpellsMap, map_at}
 use Rattle.amqp_values.specs.Slots.{beside, slot0, slot1, slot2, slot3, slot4, slot5, slot6, slot7, slot8, slot9, slot10}
@@ -81,7 +81,7 @@ flow_slots p =
     (beside p.properties
     tt))))))))))
 
-unfoldable pub flow_body_at : ListReader → Option (FlowModel × ListReader)
+unfoldable pub flow_body_at : PartsLeft → Option (FlowModel × PartsLeft)
 flow_body_at = named_at flow_of
     (then_at (optional_at uint_at)
     (then_at (required_at uint_at)

@@ -1,7 +1,7 @@
 -- Part: the bytes; other calls; inner.
 -- Open: its fields, and how they stand in a list (AMQP 1.0 part 2, section 2.7.1).
 use Rattle.std.specs.Prelude.{ℕ, List, Option}
-use Rattle.amqp_values.specs.declared.list_reader.ListReader.{ListReader}
+use Rattle.amqp_values.specs.Slots.{PartsLeft}
 use Rattle.amqp_values.specs.Number.{IsUint, IsUshort, uint_at, ushort_at}
 use Rattle.amqp_values.specs.Text.{IsString, string_at}
 use Rattle.amqp_values.specs.Symbols.{IsSymbols, symbols_at}
@@ -79,7 +79,7 @@ open_slots p =
     (beside p.properties
     tt)))))))))
 
-unfoldable pub open_body_at : ListReader → Option (OpenModel × ListReader)
+unfoldable pub open_body_at : PartsLeft → Option (OpenModel × PartsLeft)
 open_body_at = named_at open_of
     (then_at (required_at string_at)
     (then_at (optional_at string_at)

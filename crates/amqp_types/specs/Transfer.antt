@@ -4,7 +4,7 @@ use Rattle.std.specs.Prelude.{ℕ, List, Option, Some, None, Bool, true, false}
 use Rattle.amqp_types.specs.declared.definitions.ReceiverSettleMode.{ReceiverSettleMode}
 use Rattle.amqp_types.specs.declared.performatives.transfer.TransferFragment.{TransferFragment}
 use Rattle.amqp_types.specs.declared.performatives.transfer.TransferFragment.TheVariants as text
-use Rattle.amqp_values.specs.declared.list_reader.ListReader.{ListReader}
+use Rattle.amqp_values.specs.Slots.{PartsLeft}
 use Rattle.amqp_values.specs.Number.{IsBoolean, IsUint, boolean_at, uint_at}
 use Rattle.amqp_values.specs.Text.{IsBinary, binary_at}
 use Rattle.amqp_values.specs.Raw.{SpellsRaw, raw_at}
@@ -85,7 +85,7 @@ transfer_slots p =
     (beside p.batchable
     tt))))))))))
 
-unfoldable pub transfer_body_at : ListReader → Option (TransferModel × ListReader)
+unfoldable pub transfer_body_at : PartsLeft → Option (TransferModel × PartsLeft)
 transfer_body_at = named_at transfer_of
     (then_at (required_at uint_at)
     (then_at (optional_at uint_at)

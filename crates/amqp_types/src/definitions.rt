@@ -1,10 +1,6 @@
 //! The small types of the standard's definitions (AMQP 1.0 part 2, section 2.8).
 
-ghost use Rattle.std.specs.Prelude.{◌≡◌, ◌≤◌, ℕ, List, length, take};
-ghost use Rattle.std.specs.Option.{option_map};
-ghost use Rattle.amqp_values.specs.Walking.{ahead};
-ghost use Rattle.amqp_values.specs.Slots.{optional_at};
-ghost use Rattle.amqp_values.specs.Reading.{Gives};
+ghost use Rattle.std.specs.Prelude.{ℕ, List};
 ghost use Rattle.amqp_values.specs.Number.{uint_at};
 ghost use Rattle.amqp_values.specs.Text.{binary_at};
 ghost use Rattle.amqp_types.specs.declared.definitions.Role.{Role};
@@ -12,7 +8,7 @@ ghost use Rattle.amqp_types.specs.declared.definitions.SenderSettleMode.{SenderS
 ghost use Rattle.amqp_types.specs.declared.definitions.ReceiverSettleMode.{ReceiverSettleMode};
 ghost use Rattle.amqp_types.specs.Definitions.{role_at, sender_mode_at, receiver_mode_at};
 
-use amqp_values::{Field, ListWalk, ReadError};
+use amqp_values::{Field, ReadError};
 use bytes::Bytes;
 use std::alloc::Global;
 
@@ -82,8 +78,19 @@ impl Field for Handle {
     ghost at = { uint_at };
 
     #[inline(always)]
-    fn read(alloc: Global, bytes: &mut Bytes) -> Result<Handle, ReadError> {
-        Ok(Handle(u32::read(alloc, bytes)?))
+    fn never_empty() {
+        u32::never_empty();
+    }
+
+    #[inline(always)]
+    fn read(
+        alloc: Global,
+        code: u8,
+        text: &[u8],
+        place: &mut usize,
+        bytes: &Bytes,
+    ) -> Result<Handle, ReadError> {
+        Ok(Handle(u32::read(alloc, code, text, place, bytes)?))
     }
 }
 
@@ -95,8 +102,19 @@ impl Field for DeliveryTag {
     ghost at = { binary_at };
 
     #[inline(always)]
-    fn read(alloc: Global, bytes: &mut Bytes) -> Result<DeliveryTag, ReadError> {
-        Ok(DeliveryTag(Bytes::read(alloc, bytes)?))
+    fn never_empty() {
+        Bytes::never_empty();
+    }
+
+    #[inline(always)]
+    fn read(
+        alloc: Global,
+        code: u8,
+        text: &[u8],
+        place: &mut usize,
+        bytes: &Bytes,
+    ) -> Result<DeliveryTag, ReadError> {
+        Ok(DeliveryTag(Bytes::read(alloc, code, text, place, bytes)?))
     }
 }
 
@@ -109,8 +127,20 @@ impl Field for Role {
 
     #[tactic(auto, unfolding(crate::specs::Definitions::role_at))]
     #[inline(always)]
-    fn read(alloc: Global, bytes: &mut Bytes) -> Result<Role, ReadError> {
-        if bool::read(alloc, bytes)? {
+    fn never_empty() {
+        bool::never_empty();
+    }
+
+    #[tactic(auto, unfolding(crate::specs::Definitions::role_at))]
+    #[inline(always)]
+    fn read(
+        alloc: Global,
+        code: u8,
+        text: &[u8],
+        place: &mut usize,
+        bytes: &Bytes,
+    ) -> Result<Role, ReadError> {
+        if bool::read(alloc, code, text, place, bytes)? {
             Ok(Role::Receiver)
         } else {
             Ok(Role::Sender)
@@ -127,53 +157,25 @@ impl Field for SenderSettleMode {
 
     #[tactic(auto, unfolding(crate::specs::Definitions::sender_mode_at))]
     #[inline(always)]
-    fn read(alloc: Global, bytes: &mut Bytes) -> Result<SenderSettleMode, ReadError> {
-        match u8::read(alloc, bytes)? {
+    fn never_empty() {
+        u8::never_empty();
+    }
+
+    #[tactic(auto, unfolding(crate::specs::Definitions::sender_mode_at))]
+    #[inline(always)]
+    fn read(
+        alloc: Global,
+        code: u8,
+        text: &[u8],
+        place: &mut usize,
+        bytes: &Bytes,
+    ) -> Result<SenderSettleMode, ReadError> {
+        match u8::read(alloc, code, text, place, bytes)? {
             0 => Ok(SenderSettleMode::Unsettled),
             1 => Ok(SenderSettleMode::Settled),
             2 => Ok(SenderSettleMode::Mixed),
             _ => Err(ReadError::Malformed),
         }
-    }
-}
-
-/// The next part, which is how the receiver is to settle; `None` where it is null or the list has ended.
-#[tactic(auto, using(crate::proofs::WalkLemmas::mode_none, crate::proofs::WalkLemmas::mode_some, crate::proofs::WalkLemmas::mode_other, crate::proofs::WalkLemmas::mode_refused))]
-#[inline(always)]
-pub(crate) fn optional_receiver_mode(
-    walk: &mut ListWalk,
-    text: &[u8],
-) -> Result<Option<ReceiverSettleMode>, ReadError>
-    requires { walk.old.at ≤ length text.now }
-    ensures value { Gives (λ x. x) result (ahead text.now walk.new) (optional_at receiver_mode_at (ahead text.now walk.old)) }
-    ensures bound { walk.new.at ≤ length text.now }
-{
-    match walk.ubyte(text) {
-        Ok(None) => Ok(None),
-        Ok(Some(0)) => Ok(Some(ReceiverSettleMode::First)),
-        Ok(Some(1)) => Ok(Some(ReceiverSettleMode::Second)),
-        Ok(Some(_)) => Err(ReadError::Malformed),
-        Err(error) => Err(error),
-    }
-}
-
-/// The next part, which is the tag of a delivery, cut out of the bytes that the text is the front of; `None` where it is null or the
-/// list has ended.
-#[inline(always)]
-pub(crate) fn optional_tag(
-    walk: &mut ListWalk,
-    text: &[u8],
-    bytes: &Bytes,
-) -> Result<Option<DeliveryTag>, ReadError>
-    requires at { walk.old.at ≤ length text.now }
-    requires front { text.now ≡ take (length text.now) bytes.now }
-    ensures value { Gives (option_map (λ t. t.0)) result (ahead text.now walk.new) (optional_at binary_at (ahead text.now walk.old)) }
-    ensures bound { walk.new.at ≤ length text.now }
-{
-    match walk.binary(text, bytes) {
-        Ok(Some(tag)) => Ok(Some(DeliveryTag(tag))),
-        Ok(None) => Ok(None),
-        Err(error) => Err(error),
     }
 }
 
@@ -186,8 +188,20 @@ impl Field for ReceiverSettleMode {
 
     #[tactic(auto, unfolding(crate::specs::Definitions::receiver_mode_at))]
     #[inline(always)]
-    fn read(alloc: Global, bytes: &mut Bytes) -> Result<ReceiverSettleMode, ReadError> {
-        match u8::read(alloc, bytes)? {
+    fn never_empty() {
+        u8::never_empty();
+    }
+
+    #[tactic(auto, unfolding(crate::specs::Definitions::receiver_mode_at))]
+    #[inline(never)]
+    fn read(
+        alloc: Global,
+        code: u8,
+        text: &[u8],
+        place: &mut usize,
+        bytes: &Bytes,
+    ) -> Result<ReceiverSettleMode, ReadError> {
+        match u8::read(alloc, code, text, place, bytes)? {
             0 => Ok(ReceiverSettleMode::First),
             1 => Ok(ReceiverSettleMode::Second),
             _ => Err(ReadError::Malformed),

@@ -7,7 +7,7 @@ ghost use Rattle.amqp_types.specs.Error.{ErrorModel, error_at};
 
 use crate::borrowed;
 use amqp_values::{
-    Composite, Cons2, Field, Fields, ListReader, ReadError, Row1, StringRef, Symbol, SymbolRef,
+    Composite, Cons2, Field, Fields, ListWalk, ReadError, Row1, StringRef, Symbol, SymbolRef,
     Verbatim, codes, described, field_list,
 };
 use bytes::Bytes;
@@ -75,12 +75,18 @@ impl Display for Error {
 impl Composite for Error {
     ghost body_at = { error_body_at };
 
-    #[tactic(auto, unfolding(crate::specs::Error::error_body_at))]
-    fn fields(alloc: Global, parts: &mut ListReader) -> Result<Error, ReadError> {
-        let condition = parts.required(alloc)?;
-        let description = parts.next(alloc)?;
-        let info = parts.next(alloc)?;
-        parts.finish()?;
+    #[tactic(auto, using(crate::proofs::WalkLemmas::list_some, crate::proofs::WalkLemmas::list_none, crate::proofs::WalkLemmas::body_none), unfolding(crate::specs::Error::error_body_at))]
+    fn read_list(alloc: Global, bytes: &mut Bytes) -> Result<Error, ReadError> {
+        let (mut walk, end) = match ListWalk::enter(bytes.as_slice()) {
+            Ok(entered) => entered,
+            Err(error) => return Err(error),
+        };
+        let (text, _) = bytes.as_slice().split_at(end);
+        let condition = walk.required(alloc, text, &*bytes)?;
+        let description = walk.next(alloc, text, &*bytes)?;
+        let info = walk.next(alloc, text, &*bytes)?;
+        walk.finish(text)?;
+        bytes.advance(end);
         Ok(Error {
             condition,
             description,
@@ -96,9 +102,20 @@ impl Field for Error {
 
     ghost at = { error_at };
 
+    #[tactic(auto, using(crate::proofs::BodyLemmas::no_error))]
+    #[inline(always)]
+    fn never_empty() {}
+
     #[tactic(auto, unfolding(crate::specs::Error::error_at))]
-    fn read(alloc: Global, bytes: &mut Bytes) -> Result<Error, ReadError> {
-        described(alloc, u64::from(codes::ERROR), bytes)
+    fn read(
+        alloc: Global,
+        _code: u8,
+        text: &[u8],
+        place: &mut usize,
+        bytes: &Bytes,
+    ) -> Result<Error, ReadError> {
+        *place -= 1;
+        described(alloc, u64::from(codes::ERROR), text, place, bytes)
     }
 }
 

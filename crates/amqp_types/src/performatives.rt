@@ -4,7 +4,6 @@ ghost use Rattle.std.specs.Prelude.{◌≡◌, ◌<◌, ◌≤◌, ◌^◌, ◌+
 ghost use Rattle.amqp_values.specs.Composite.{composite_at};
 ghost use Rattle.amqp_values.specs.Reading.{Answers, Gives, ReadsFront};
 ghost use Rattle.amqp_values.specs.Writing.{IsTooLarge};
-ghost use Rattle.amqp_types.specs.Transfer.{transfer_body_at};
 ghost use Rattle.amqp_types.specs.Performatives.{IsPerformative, body_at, performative_at, performative_text};
 
 mod attach;
@@ -18,7 +17,7 @@ mod kind;
 mod open;
 mod transfer;
 
-use amqp_values::{Composite, ReadError, WriteError, read_list};
+use amqp_values::{Composite, ReadError, WriteError};
 pub use attach::Attach;
 pub use begin::Begin;
 use bytes::{Bytes, BytesMut};
@@ -65,15 +64,7 @@ pub enum Performative {
 fn list_of<C: Composite>(alloc: Global, bytes: &mut Bytes) -> Result<C, ReadError>
     ensures { Gives (λ x. x) result bytes.new (composite_at C.body_at bytes.old) }
 {
-    read_list(alloc, bytes)
-}
-
-/// Reads the list of a transfer, likewise.
-#[inline(never)]
-fn transfer_list(bytes: &mut Bytes) -> Result<Transfer, ReadError>
-    ensures { Gives (λ x. x) result bytes.new (composite_at transfer_body_at bytes.old) }
-{
-    Transfer::read_list(bytes)
+    C::read_list(alloc, bytes)
 }
 
 /// Reads the list of a performative of this kind.
@@ -86,7 +77,7 @@ fn body(alloc: Global, kind: Kind, bytes: &mut Bytes) -> Result<Performative, Re
         Kind::Begin => Ok(Performative::Begin(list_of(alloc, bytes)?)),
         Kind::Attach => Ok(Performative::Attach(list_of(alloc, bytes)?)),
         Kind::Flow => Ok(Performative::Flow(list_of(alloc, bytes)?)),
-        Kind::Transfer => Ok(Performative::Transfer(transfer_list(bytes)?)),
+        Kind::Transfer => Ok(Performative::Transfer(list_of(alloc, bytes)?)),
         Kind::Disposition => Ok(Performative::Disposition(list_of(alloc, bytes)?)),
         Kind::Detach => Ok(Performative::Detach(list_of(alloc, bytes)?)),
         Kind::End => Ok(Performative::End(list_of(alloc, bytes)?)),

@@ -3,7 +3,7 @@ use Rattle.std.proofs.Common.{◌≡◌, ℕ, Bool, true, false, eqb, List, [], 
 use Rattle.std.specs.Prelude.{codes, bytes_eq}
 use Rattle.std.specs.Int.{w64}
 use Rattle.std.proofs.lemmas.Bool.{eqb-true, eq-eqb}
-use Rattle.amqp_values.specs.declared.list_reader.ListReader.{ListReader}
+use Rattle.amqp_values.specs.Slots.{PartsLeft}
 use Rattle.amqp_values.specs.Reading.{◌>>=◌, count_at, region_at, IsNumber, joined}
 use Rattle.amqp_values.specs.Text.{by_width, IsVar, var}
 use Rattle.amqp_values.specs.Composite.{IsList, list0, list, IsComposite, IsName, open_name, begin_name, attach_name, flow_name, transfer_name, disposition_name, detach_name, end_name, close_name, error_name, IsDescriptor, described0, described_small, described_by_number, described_by_name, IsDescribed, counted_parts, list_at, composite_at, code_of, meaning_at, code_at, descriptor_at, coded_at, described_at}
@@ -20,18 +20,18 @@ nothing [] e = refl
 nothing (x ∷ xs) e = absurd (omega arith)
 
 -- a region is a count and as many parts
-counted : (wide : Bool) (region left rest : List ℕ) (p : ListReader) (parts : List (List ℕ)) → counted_parts wide (region, left) ≡ Some (p, rest) → Ahead p parts
+counted : (wide : Bool) (region left rest : List ℕ) (p : PartsLeft) (parts : List (List ℕ)) → counted_parts wide (region, left) ≡ Some (p, rest) → Ahead p parts
     → (count : List ℕ) × IsNumber wide count (length parts) × (region ≡ count ++ joined parts) × (left ≡ rest)
 counted wide region left rest p parts e a =
     let b = bind_some (count_at wide region) (λ n. Some (record { left = n.0; bytes = n.1 }, left)) (p, rest) e in
     let s = pair_is (record { left = b.0.0; bytes = b.0.1 }) p left rest b.2 in
-    let n : b.0.0 ≡ length parts = ap (λ (q : ListReader). q.left) s.0 ∙ a.count in
-    let m : b.0.1 ≡ joined parts = ap (λ (q : ListReader). q.bytes) s.0 ∙ a.bytes in
+    let n : b.0.0 ≡ length parts = ap (λ (q : PartsLeft). q.left) s.0 ∙ a.count in
+    let m : b.0.1 ≡ joined parts = ap (λ (q : PartsLeft). q.bytes) s.0 ∙ a.bytes in
     let f = count_found wide region b.0.0 b.0.1 b.1 in
     (f.0, subst (λ k. IsNumber wide f.0 k) n f.1, f.2 ∙ ap (λ (x : List ℕ). f.0 ++ x) m, s.1)
 
 -- a list of this width is found
-wide_found : (wide : Bool) (c : ℕ) (bytes rest : List ℕ) (p : ListReader) (parts : List (List ℕ)) → c ≡ by_width wide 0xc0 0xd0 → (region_at wide bytes >>= counted_parts wide) ≡ Some (p, rest) → Ahead p parts
+wide_found : (wide : Bool) (c : ℕ) (bytes rest : List ℕ) (p : PartsLeft) (parts : List (List ℕ)) → c ≡ by_width wide 0xc0 0xd0 → (region_at wide bytes >>= counted_parts wide) ≡ Some (p, rest) → Ahead p parts
     → (text : List ℕ) × IsList parts text × ◌≡◌ {A = List ℕ} (c ∷ bytes) (text ++ rest)
 wide_found wide c bytes rest p parts code e a =
     let b = bind_some (region_at wide bytes) (counted_parts wide) (p, rest) e in
@@ -41,14 +41,14 @@ wide_found wide c bytes rest p parts code e a =
     let whole : bytes ≡ (f.0 ++ (g.0 ++ joined parts)) ++ rest = f.2 ∙ ap (λ (r : List ℕ). (f.0 ++ r) ++ b.0.1) g.2 ∙ ap (λ (x : List ℕ). (f.0 ++ (g.0 ++ joined parts)) ++ x) g.3 in
     (by_width wide 0xc0 0xd0 ∷ f.0 ++ (g.0 ++ joined parts), list wide f.0 g.0 parts size_is g.1, headed c (by_width wide 0xc0 0xd0) bytes (f.0 ++ (g.0 ++ joined parts)) rest code whole)
 
-list_found : (bytes rest : List ℕ) (p : ListReader) (parts : List (List ℕ)) → list_at bytes ≡ Some (p, rest) → Ahead p parts → (text : List ℕ) × IsList parts text × (bytes ≡ text ++ rest)
+list_found : (bytes rest : List ℕ) (p : PartsLeft) (parts : List (List ℕ)) → list_at bytes ≡ Some (p, rest) → Ahead p parts → (text : List ℕ) × IsList parts text × (bytes ≡ text ++ rest)
 unfolding list_at
 list_found [] rest p parts e a = absurd cc
 list_found (c ∷ bytes) rest p parts e a =
     elim (chosen (eqb c 0x45) _ _ _ e) [
       | inl x ↦
           let s = pair_is (record { left = 0; bytes = [] }) p bytes rest x.1 in
-          let none : parts ≡ [] = nothing parts (sym a.count ∙ sym (ap (λ (q : ListReader). q.left) s.0)) in
+          let none : parts ≡ [] = nothing parts (sym a.count ∙ sym (ap (λ (q : PartsLeft). q.left) s.0)) in
           (0x45 ∷ [], subst (λ (ps : List (List ℕ)). IsList ps (0x45 ∷ [])) (sym none) list0, headed c 0x45 bytes [] rest (eqb-true c 0x45 x.0) s.1)
       | inr x ↦ elim (chosen (eqb c 0xc0) _ _ _ x.1) [
         | inl y ↦ wide_found false c bytes rest p parts (eqb-true c 0xc0 y.0) y.1 a
@@ -59,7 +59,7 @@ list_found (c ∷ bytes) rest p parts e a =
       ]
     ]
 
-list_again : (parts : List (List ℕ)) (text rest : List ℕ) → IsList parts text → (p : ListReader) × (list_at (text ++ rest) ≡ Some (p, rest)) × Ahead p parts
+list_again : (parts : List (List ℕ)) (text rest : List ℕ) → IsList parts text → (p : PartsLeft) × (list_at (text ++ rest) ≡ Some (p, rest)) × Ahead p parts
 unfolding list_at
 list_again _ _ rest list0 = (record { left = 0; bytes = [] }, refl, record { count = refl; bytes = refl })
 list_again parts _ rest (list false size count _ s c) =
@@ -71,7 +71,7 @@ no_list : (rest : List ℕ) → list_at (0x40 ∷ rest) ≡ None
 unfolding list_at
 no_list rest = refl
 
-pub composite_law : {V : Type 0} (B : V → List (List ℕ) → Type 0) (body : ListReader → Option (V × ListReader)) → IsBody B body → IsFormat (IsComposite B) (composite_at body)
+pub composite_law : {V : Type 0} (B : V → List (List ℕ) → Type 0) (body : PartsLeft → Option (V × PartsLeft)) → IsBody B body → IsFormat (IsComposite B) (composite_at body)
 unfolding composite_at
 composite_law B body law = record {
   found = λ bytes v rest e.
@@ -205,7 +205,7 @@ pub no_descriptor : (rest : List ℕ) → descriptor_at (0x40 ∷ rest) ≡ None
 unfolding descriptor_at
 no_descriptor rest = refl
 
-pub described_law : {V : Type 0} (code : ℕ) (B : V → List (List ℕ) → Type 0) (body : ListReader → Option (V × ListReader)) → IsBody B body → IsFormat (IsDescribed code B) (described_at code body)
+pub described_law : {V : Type 0} (code : ℕ) (B : V → List (List ℕ) → Type 0) (body : PartsLeft → Option (V × PartsLeft)) → IsBody B body → IsFormat (IsDescribed code B) (described_at code body)
 unfolding described_at
 described_law code B body law =
     let inner = composite_law B body law in

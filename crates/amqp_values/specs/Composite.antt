@@ -3,7 +3,7 @@
 use Rattle.std.specs.Prelude.{◌≡◌, ℕ, List, [], ◌∷◌, ◌++◌, length, Option, Some, None, Bool, true, false, ◌==◌}
 use Rattle.std.specs.Prelude.{if◌then◌else◌, codes, bytes_eq}
 use Rattle.std.specs.Int.{w64, from_be_bytes}
-use Rattle.amqp_values.specs.declared.list_reader.ListReader.{ListReader}
+use Rattle.amqp_values.specs.Slots.{PartsLeft}
 use Rattle.amqp_values.specs.Reading.{◌>>=◌, byte_at, number_at, count_at, region_at, IsNumber, joined}
 use Rattle.amqp_values.specs.Text.{by_width, IsVar}
 
@@ -52,10 +52,10 @@ pub record IsDescribed {V : Type 0} (code : ℕ) (B : V → List (List ℕ) → 
 -- ---- their readers
 
 -- the parts of a region that begins with their count
-abbrev pub counted_parts : Bool → List ℕ × List ℕ → Option (ListReader × List ℕ)
+abbrev pub counted_parts : Bool → List ℕ × List ℕ → Option (PartsLeft × List ℕ)
 counted_parts wide region = count_at wide region.0 >>= λ n. Some (record { left = n.0; bytes = n.1 }, region.1)
 
-unfoldable pub list_at : List ℕ → Option (ListReader × List ℕ)
+unfoldable pub list_at : List ℕ → Option (PartsLeft × List ℕ)
 list_at bytes =
     byte_at bytes >>= λ code.
     if code.0 == 0x45 then Some (record { left = 0; bytes = [] }, code.1)
@@ -63,8 +63,12 @@ list_at bytes =
     else if code.0 == 0xd0 then (region_at true code.1 >>= counted_parts true)
     else None
 
-unfoldable pub composite_at : {V : Type 0} → (ListReader → Option (V × ListReader)) → List ℕ → Option (V × List ℕ)
-composite_at body bytes = list_at bytes >>= λ l. body l.0 >>= λ v. Some (v.0, l.1)
+-- the fields of a list whose parts are those, before the rest
+abbrev pub fields_at : {V : Type 0} → (PartsLeft → Option (V × PartsLeft)) → PartsLeft × List ℕ → Option (V × List ℕ)
+fields_at body l = body l.0 >>= λ v. Some (v.0, l.1)
+
+unfoldable pub composite_at : {V : Type 0} → (PartsLeft → Option (V × PartsLeft)) → List ℕ → Option (V × List ℕ)
+composite_at body bytes = list_at bytes >>= fields_at body
 
 unfoldable pub code_of : List ℕ → Option ℕ
 code_of name =
@@ -105,5 +109,5 @@ descriptor_at bytes = do
 abbrev pub coded_at : {V : Type 0} → ℕ → (List ℕ → Option (V × List ℕ)) → ℕ × List ℕ → Option (V × List ℕ)
 coded_at code at d = if d.0 == code then at d.1 else None
 
-unfoldable pub described_at : {V : Type 0} → ℕ → (ListReader → Option (V × ListReader)) → List ℕ → Option (V × List ℕ)
+unfoldable pub described_at : {V : Type 0} → ℕ → (PartsLeft → Option (V × PartsLeft)) → List ℕ → Option (V × List ℕ)
 described_at code body bytes = descriptor_at bytes >>= coded_at code (composite_at body)

@@ -1,8 +1,12 @@
 -- Part: the bytes; other calls; inner.
 -- The fields of a list, in order (AMQP 1.0 part 1, section 1.4).
 use Rattle.std.specs.Prelude.{◌≡◌, ℕ, ◌-◌, List, [], ◌∷◌, drop, Option, Some, None, Bool, false, ◌==◌, if◌then◌else◌, ◌⊎◌}
-use Rattle.amqp_values.specs.declared.list_reader.ListReader.{ListReader}
 use Rattle.amqp_values.specs.Reading.{◌>>=◌, is_empty}
+
+-- the parts of a list that are left: how many its count promises, and the bytes that hold them
+pub record PartsLeft : Type 0 where
+  pub left : ℕ
+  pub bytes : List ℕ
 
 abbrev pub null : List ℕ
 null = 0x40 ∷ []
@@ -32,13 +36,13 @@ abbrev pub is_null : List ℕ → Bool
 is_null [] = false
 is_null (b ∷ bytes) = b == 0x40
 
-unfoldable pub optional_at : {V : Type 0} → (List ℕ → Option (V × List ℕ)) → ListReader → Option (Option V × ListReader)
+unfoldable pub optional_at : {V : Type 0} → (List ℕ → Option (V × List ℕ)) → PartsLeft → Option (Option V × PartsLeft)
 optional_at at p =
     if p.left == 0 then Some (None, p)
     else if is_null p.bytes then Some (None, record { left = p.left - 1; bytes = drop 1 p.bytes })
     else (at p.bytes >>= λ x. Some (Some x.0, record { left = p.left - 1; bytes = x.1 }))
 
-abbrev pub needed : {V : Type 0} → Option V × ListReader → Option (V × ListReader)
+abbrev pub needed : {V : Type 0} → Option V × PartsLeft → Option (V × PartsLeft)
 needed (Some v, p) = Some (v, p)
 needed (None, p) = None
 
@@ -46,21 +50,21 @@ abbrev pub defaulted : {V : Type 0} → V → Option V → V
 defaulted d (Some v) = v
 defaulted d None = d
 
-unfoldable pub required_at : {V : Type 0} → (List ℕ → Option (V × List ℕ)) → ListReader → Option (V × ListReader)
+unfoldable pub required_at : {V : Type 0} → (List ℕ → Option (V × List ℕ)) → PartsLeft → Option (V × PartsLeft)
 required_at at p = optional_at at p >>= needed
 
-unfoldable pub default_at : {V : Type 0} → V → (List ℕ → Option (V × List ℕ)) → ListReader → Option (V × ListReader)
+unfoldable pub default_at : {V : Type 0} → V → (List ℕ → Option (V × List ℕ)) → PartsLeft → Option (V × PartsLeft)
 default_at d at p = optional_at at p >>= λ x. Some (defaulted d x.0, x.1)
 
-unfoldable pub end_at : ListReader → Option (Unit {0} × ListReader)
+unfoldable pub end_at : PartsLeft → Option (Unit {0} × PartsLeft)
 end_at p = if p.left == 0 then (if is_empty p.bytes then Some (tt, p) else None) else None
 
 -- one slot and those after it
-abbrev pub then_at : {V W : Type 0} → (ListReader → Option (V × ListReader)) → (ListReader → Option (W × ListReader)) → ListReader → Option ((V × W) × ListReader)
+abbrev pub then_at : {V W : Type 0} → (PartsLeft → Option (V × PartsLeft)) → (PartsLeft → Option (W × PartsLeft)) → PartsLeft → Option ((V × W) × PartsLeft)
 then_at first others p = first p >>= λ x. others x.1 >>= λ y. Some ((x.0, y.0), y.1)
 
 -- the fields of a chain, under their names
-abbrev pub named_at : {V W : Type 0} → (V → W) → (ListReader → Option (V × ListReader)) → ListReader → Option (W × ListReader)
+abbrev pub named_at : {V W : Type 0} → (V → W) → (PartsLeft → Option (V × PartsLeft)) → PartsLeft → Option (W × PartsLeft)
 named_at name at p = at p >>= λ x. Some (name x.0, x.1)
 
 -- ---- the values of a table of fields: each beside those after it

@@ -1,65 +1,28 @@
 //! Composites: described lists, read by the table of their fields.
 
-ghost use Rattle.std.specs.Prelude.{◌≡◌, ℕ, List, Option};
-ghost use Rattle.amqp_values.specs.declared.list_reader.ListReader.{ListReader};
+ghost use Rattle.std.specs.Prelude.{◌≡◌, ◌≤◌, ℕ, List, Option, take, drop, length};
+ghost use Rattle.amqp_values.specs.Slots.{PartsLeft};
 ghost use Rattle.amqp_values.specs.Reading.{Gives};
-ghost use Rattle.amqp_values.specs.Composite.{list_at, composite_at, code_of, meaning_at, name_at, descriptor_at, described_at};
+ghost use Rattle.amqp_values.specs.Composite.{composite_at, code_of, meaning_at, name_at, code_at, descriptor_at, described_at};
 
 use crate::codes;
-use crate::cursor::{take_byte, take_count, take_region, take_u64};
+use crate::cursor::{take_byte, take_region, take_u64};
 use crate::error::ReadError;
-use crate::list_reader::ListReader;
+use crate::list_walk::ListWalk;
 use bytes::Bytes;
 use std::alloc::Global;
 
 /// A type whose fields stand in a described list (AMQP 1.0 part 1, section 1.4).
 pub trait Composite: Drop {
-    ghost body_at: { ListReader → Option (Self × ListReader) };
+    ghost body_at: { PartsLeft → Option (Self × PartsLeft) };
 
-    /// The fields, in order: all parts are taken, and no more than the table has. `Malformed` where one is not of its
-    /// type, a mandatory one is null or absent, or a part is left over; `OutOfMemory` as the fields answer it.
-    fn fields(alloc: Global, parts: &mut ListReader) -> Result<Self, ReadError>
-        ensures { Gives (λ x. x) result parts.new (body_at parts.old) };
-}
-
-#[tactic(auto, unfolding(crate::specs::Composite::list_at))]
-#[inline(always)]
-fn list(bytes: &mut Bytes) -> Result<ListReader, ReadError>
-    ensures { Gives (λ p. p) result bytes.new (list_at bytes.old) }
-{
-    let wide = match take_byte(bytes)? {
-        codes::LIST0 => {
-            return Ok(ListReader {
-                left: 0,
-                bytes: Bytes::new(),
-            });
-        }
-        codes::LIST8 => false,
-        codes::LIST32 => true,
-        _ => return Err(ReadError::Malformed),
-    };
-    let mut bytes = match take_region(wide, bytes) {
-        Ok(region) => region,
-        Err(error) => return Err(error),
-    };
-    let left = match take_count(wide, &mut bytes) {
-        Ok(left) => left,
-        Err(error) => return Err(error),
-    };
-    Ok(ListReader { left, bytes })
-}
-
-/// The composite whose list stands at the front, after its descriptor.
-#[tactic(auto, unfolding(crate::specs::Composite::composite_at))]
-#[inline(always)]
-pub fn read_list<C: Composite>(alloc: Global, bytes: &mut Bytes) -> Result<C, ReadError>
-    ensures { Gives (λ x. x) result bytes.new (composite_at C.body_at bytes.old) }
-{
-    let mut parts = match list(bytes) {
-        Ok(parts) => parts,
-        Err(error) => return Err(error),
-    };
-    C::fields(alloc, &mut parts)
+    /// Reads the list at the front of the bytes, after its descriptor, by one walk, and leaves the rest: all parts are taken, and no more
+    /// than the table has. `Malformed` where no list stands there, a part is not of its type, a mandatory one is null or absent,
+    /// or one is left over; `OutOfMemory` as the fields answer it. After an error the bytes are of no use.
+    ///
+    /// Each type enters its list and leaves it by itself, so that its value is made where it stays.
+    fn read_list(alloc: Global, bytes: &mut Bytes) -> Result<Self, ReadError>
+        ensures { Gives (λ x. x) result bytes.new (composite_at body_at bytes.old) };
 }
 
 #[tactic(auto, unfolding(crate::specs::Composite::code_of))]
@@ -101,13 +64,31 @@ fn meaning(name: &[u8]) -> Result<u64, ReadError>
     }
 }
 
-/// What the name at the front means.
+/// What the name at this place means.
 #[inline(never)]
-fn named(wide: bool, bytes: &mut Bytes) -> Result<u64, ReadError>
-    ensures { Gives (λ x. x) result bytes.new (name_at wide bytes.old) }
+fn named(wide: bool, text: &[u8], at: &mut usize) -> Result<u64, ReadError>
+    requires { at.old ≤ length text.now }
+    ensures value { Gives (λ x. x) result (drop at.new text.now) (name_at wide (drop at.old text.now)) }
+    ensures bound { at.new ≤ length text.now }
 {
-    let name = take_region(wide, bytes)?;
-    meaning(name.as_slice())
+    let from = take_region(wide, text, at)?;
+    meaning(&text[from..*at])
+}
+
+/// The code at this place, after the byte that says that it is a descriptor.
+fn code(text: &[u8], at: &mut usize) -> Result<u64, ReadError>
+    requires { at.old ≤ length text.now }
+    ensures value { Gives (λ x. x) result (drop at.new text.now) (code_at (drop at.old text.now)) }
+    ensures bound { at.new ≤ length text.now }
+{
+    match take_byte(text, at)? {
+        codes::ULONG0 => Ok(0),
+        codes::SMALL_ULONG => Ok(u64::from(take_byte(text, at)?)),
+        codes::ULONG => take_u64(text, at),
+        codes::SYMBOL8 => named(false, text, at),
+        codes::SYMBOL32 => named(true, text, at),
+        _ => Err(ReadError::Malformed),
+    }
 }
 
 /// The code of the descriptor at the front, in every spelling: a number, or one of the standard's names.
@@ -117,38 +98,41 @@ pub fn descriptor(bytes: &mut Bytes) -> Result<u64, ReadError>
     ensures { Gives (λ x. x) result bytes.new (descriptor_at bytes.old) }
 {
     match bytes.as_slice() {
-        [codes::DESCRIBED, codes::ULONG0, ..] => {
-            bytes.advance(2);
-            Ok(0)
-        }
         [codes::DESCRIBED, codes::SMALL_ULONG, code, ..] => {
             let code = *code;
             bytes.advance(3);
             Ok(u64::from(code))
         }
-        [codes::DESCRIBED, codes::ULONG, ..] => {
-            bytes.advance(2);
-            take_u64(bytes)
-        }
-        [codes::DESCRIBED, codes::SYMBOL8, ..] => {
-            bytes.advance(2);
-            named(false, bytes)
-        }
-        [codes::DESCRIBED, codes::SYMBOL32, ..] => {
-            bytes.advance(2);
-            named(true, bytes)
+        [codes::DESCRIBED, ..] => {
+            let mut at = 1;
+            let code = code(bytes.as_slice(), &mut at)?;
+            bytes.advance(at);
+            Ok(code)
         }
         _ => Err(ReadError::Malformed),
     }
 }
 
-/// The described list at the front, with this code for its descriptor; the rest is left.
-#[tactic(auto, unfolding(crate::specs::Composite::described_at))]
-pub fn described<C: Composite>(alloc: Global, code: u64, bytes: &mut Bytes) -> Result<C, ReadError>
-    ensures { Gives (λ x. x) result bytes.new (described_at code C.body_at bytes.old) }
+/// The described list at a place of the text, with this code for its descriptor; the place is behind it then. The text is the front of
+/// the bytes.
+#[tactic(auto, using(crate::proofs::WalkLemmas::rest_slice, crate::proofs::WalkLemmas::front_short, crate::proofs::WalkLemmas::described_left, crate::proofs::WalkLemmas::described_short, crate::proofs::WalkLemmas::described_is), unfolding(crate::specs::Composite::described_at, crate::specs::Composite::composite_at))]
+pub fn described<C: Composite>(
+    alloc: Global,
+    code: u64,
+    text: &[u8],
+    at: &mut usize,
+    bytes: &Bytes,
+) -> Result<C, ReadError>
+    requires inside { at.old ≤ length text.now }
+    requires front { text.now ≡ take (length text.now) bytes.now }
+    ensures value { Gives (λ x. x) result (drop at.new text.now) (described_at code C.body_at (drop at.old text.now)) }
+    ensures bound { at.new ≤ length text.now }
 {
-    if descriptor(bytes)? != code {
+    let mut rest = bytes.slice(*at..text.len())?;
+    if descriptor(&mut rest)? != code {
         return Err(ReadError::Malformed);
     }
-    read_list(alloc, bytes)
+    let (_, end) = ListWalk::enter(rest.as_slice())?;
+    *at = text.len() - (rest.len() - end);
+    C::read_list(alloc, &mut rest)
 }

@@ -1,13 +1,14 @@
 //! Fields: a map of any keys and values, kept as it came (AMQP 1.0 part 2, section 2.8.13, `fields`).
 
 ghost use Rattle.std.specs.Prelude.{◌≡◌};
-ghost use Rattle.amqp_values.specs.Reading.{Gives};
 ghost use Rattle.amqp_values.specs.Raw.{IsMap, MakesFields, has_map_code, map_at};
 
 use crate::codes;
 use crate::error::ReadError;
+use crate::field::Field;
 use crate::raw::Raw;
 use bytes::Bytes;
+use std::alloc::Global;
 use std::marker::Model;
 
 /// A raw value that is a map.
@@ -66,13 +67,30 @@ impl Fields {
     {
         &self.raw
     }
+}
 
-    /// Cuts the first value off the bytes, which is to be a map, and leaves the rest there.
+impl Field for Fields {
+    ghost use Rattle.std.specs.Prelude.{ℕ, List};
+
+    ghost Seen = { List ℕ };
+
+    ghost view = { λ v. v };
+
+    ghost at = { map_at };
+
+    #[tactic(auto, unfolding(crate::specs::Raw::map_at, crate::specs::Raw::raw_at))]
+    #[inline(always)]
+    fn never_empty() {}
+
     #[tactic(auto, unfolding(crate::specs::Raw::map_at))]
-    pub(crate) fn take(bytes: &mut Bytes) -> Result<Fields, ReadError>
-        ensures { Gives (λ v. v) result bytes.new (map_at bytes.old) }
-    {
-        let raw = Raw::take(bytes)?;
+    fn read(
+        alloc: Global,
+        code: u8,
+        text: &[u8],
+        place: &mut usize,
+        bytes: &Bytes,
+    ) -> Result<Fields, ReadError> {
+        let raw = <Raw as Field>::read(alloc, code, text, place, bytes)?;
         if is_map(&raw) {
             Ok(Fields { raw })
         } else {

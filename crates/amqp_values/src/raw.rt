@@ -7,9 +7,11 @@ ghost use Rattle.amqp_values.specs.Outcome.{outcome_text};
 
 use crate::codes;
 use crate::error::ReadError;
+use crate::field::Field;
 use crate::value::ValueRef;
 use crate::walk::{first, value_rest};
 use bytes::Bytes;
+use std::alloc::Global;
 use std::marker::Model;
 
 /// One whole value of any type but the bare null, of a depth of at most 64, as it was spelled.
@@ -135,7 +137,7 @@ impl Raw {
 
     /// Cuts the first value off the bytes, and leaves the rest there.
     #[tactic(auto, unfolding(crate::specs::Raw::raw_at))]
-    pub(crate) fn take(bytes: &mut Bytes) -> Result<Raw, ReadError>
+    fn take(bytes: &mut Bytes) -> Result<Raw, ReadError>
         ensures { Gives (λ v. v) result bytes.new (raw_at bytes.old) }
     {
         let whole = bytes.as_slice();
@@ -166,6 +168,35 @@ impl Raw {
         ensures { result ≡ self.now }
     {
         ValueRef::new(self.bytes.as_slice())
+    }
+}
+
+impl Field for Raw {
+    ghost use Rattle.std.specs.Prelude.{ℕ, List};
+
+    ghost Seen = { List ℕ };
+
+    ghost view = { λ v. v };
+
+    ghost at = { raw_at };
+
+    #[tactic(auto, unfolding(crate::specs::Raw::raw_at))]
+    #[inline(always)]
+    fn never_empty() {}
+
+    #[tactic(auto, using(crate::proofs::WalkLemmas::rest_slice, crate::proofs::WalkLemmas::front_short, crate::proofs::WalkLemmas::raw_left, crate::proofs::WalkLemmas::raw_short))]
+    #[inline(never)]
+    fn read(
+        _alloc: Global,
+        _code: u8,
+        text: &[u8],
+        place: &mut usize,
+        bytes: &Bytes,
+    ) -> Result<Raw, ReadError> {
+        let mut rest = bytes.slice(*place - 1..text.len())?;
+        let raw = Raw::take(&mut rest)?;
+        *place = text.len() - rest.len();
+        Ok(raw)
     }
 }
 

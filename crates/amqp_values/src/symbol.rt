@@ -1,7 +1,7 @@
 //! Symbols: texts of ASCII bytes that name things (AMQP 1.0 part 1, section 1.6.21).
 
 ghost use Rattle.std.specs.Prelude.{◌≡◌, ◌<◌, ◌^◌, ℕ, List, IsSome, IfSome, IfOk, ◌↔◌, string_bytes, length, true};
-ghost use Rattle.amqp_values.specs.Reading.{Answers, Gives};
+ghost use Rattle.amqp_values.specs.Reading.{Answers};
 ghost use Rattle.amqp_values.specs.Text.{symbol_at, is_ascii, IsSymbolText};
 ghost use Rattle.amqp_values.specs.Symbols.{symbol_of};
 
@@ -95,9 +95,19 @@ impl Field for Symbol {
 
     ghost at = { symbol_at };
 
+    #[tactic(auto, unfolding(crate::specs::Text::symbol_at, crate::specs::Text::var_at))]
+    #[inline(always)]
+    fn never_empty() {}
+
     #[tactic(auto, unfolding(crate::specs::Text::symbol_at))]
-    fn read(alloc: Global, bytes: &mut Bytes) -> Result<Symbol, ReadError> {
-        let text = variable(bytes, codes::SYMBOL8, codes::SYMBOL32)?;
-        Symbol::of_bytes(alloc, text.as_slice())
+    fn read(
+        alloc: Global,
+        code: u8,
+        text: &[u8],
+        place: &mut usize,
+        _bytes: &Bytes,
+    ) -> Result<Symbol, ReadError> {
+        let from = variable(code, text, place, codes::SYMBOL8, codes::SYMBOL32)?;
+        Symbol::of_bytes(alloc, &text[from..*place])
     }
 }

@@ -1,28 +1,30 @@
 //! Multiple symbols: a field that holds one symbol or an array of them. An array is walked and its symbols are counted before
 //! memory is asked for.
 
-ghost use Rattle.std.specs.Prelude.{◌≡◌, ℕ, List, is_some, IsSome, IfOk, IfErr, vec_capacity, vec_len};
+ghost use Rattle.std.specs.Prelude.{◌≡◌, ◌≤◌, ◌∷◌, ℕ, List, drop, length, is_some, IsSome, IfOk, IfErr, vec_capacity, vec_len};
 ghost use Rattle.std.specs.Option.{option_map};
 ghost use Rattle.amqp_values.specs.declared.error.ReadError.TheVariants.{OutOfMemory};
 ghost use Rattle.amqp_values.specs.Reading.{Answers, Gives};
 ghost use Rattle.amqp_values.specs.Symbols.{item_at, run_at, all_at, array_at, alone_at, symbols_at};
 
 use crate::codes;
-use crate::cursor::{take_byte, take_count, take_region};
+use crate::cursor::take_region;
 use crate::error::ReadError;
 use crate::field::Field;
 use crate::symbol::{Symbol, all_ascii};
-use crate::walk::region;
+use crate::walk::{count, region};
 use bytes::Bytes;
 use std::alloc::Global;
 
 /// One symbol without its constructor.
 #[tactic(auto, unfolding(crate::specs::Symbols::item_at))]
-fn item(alloc: Global, long: bool, bytes: &mut Bytes) -> Result<Symbol, ReadError>
-    ensures { Gives (λ s. s) result bytes.new (item_at long bytes.old) }
+fn item(alloc: Global, long: bool, text: &[u8], at: &mut usize) -> Result<Symbol, ReadError>
+    requires { at.old ≤ length text.now }
+    ensures value { Gives (λ s. s) result (drop at.new text.now) (item_at long (drop at.old text.now)) }
+    ensures bound { at.new ≤ length text.now }
 {
-    let text = take_region(long, bytes)?;
-    Symbol::of_bytes(alloc, text.as_slice())
+    let from = take_region(long, text, at)?;
+    Symbol::of_bytes(alloc, &text[from..*at])
 }
 
 /// The text of one symbol without its constructor, and the rest. Takes no memory.
@@ -53,15 +55,15 @@ fn is_run(count: u32, long: bool, bytes: &[u8]) -> bool
 }
 
 /// The `count` symbols that the bytes are, in a list that is asked for once.
-fn fill(alloc: Global, count: u32, long: bool, bytes: Bytes) -> Result<Vec<Symbol>, ReadError>
-    requires { IsSome (run_at count long bytes) }
-    ensures value { Answers (λ v. v.items) result (run_at count long bytes) }
+fn fill(alloc: Global, count: u32, long: bool, bytes: &[u8]) -> Result<Vec<Symbol>, ReadError>
+    requires { IsSome (run_at count long bytes.now) }
+    ensures value { Answers (λ v. v.items) result (run_at count long bytes.now) }
     ensures exact { IfOk result (λ v. vec_capacity v ≡ vec_len v) }
 {
     let mut items = Vec::with_capacity(alloc, count as usize)?;
-    let mut rest = bytes;
+    let mut at = 0;
     for _ in 0..count {
-        let symbol = match item(alloc, long, &mut rest) {
+        let symbol = match item(alloc, long, bytes, &mut at) {
             Ok(symbol) => symbol,
             Err(e) => return Err(e),
         };
@@ -71,12 +73,12 @@ fn fill(alloc: Global, count: u32, long: bool, bytes: Bytes) -> Result<Vec<Symbo
 }
 
 /// Reads `count` symbols, which have to fill the bytes. The count may be wrong, so they are counted before memory is asked for.
-fn run(alloc: Global, count: u32, long: bool, bytes: Bytes) -> Result<Vec<Symbol>, ReadError>
-    ensures value { Answers (λ v. v.items) result (run_at count long bytes) }
+fn run(alloc: Global, count: u32, long: bool, bytes: &[u8]) -> Result<Vec<Symbol>, ReadError>
+    ensures value { Answers (λ v. v.items) result (run_at count long bytes.now) }
     ensures exact { IfOk result (λ v. vec_capacity v ≡ vec_len v) }
-    ensures counted { IfErr result (λ e. e ≡ OutOfMemory → IsSome (run_at count long bytes)) }
+    ensures counted { IfErr result (λ e. e ≡ OutOfMemory → IsSome (run_at count long bytes.now)) }
 {
-    if !is_run(count, long, bytes.as_slice()) {
+    if !is_run(count, long, bytes) {
         return Err(ReadError::Malformed);
     }
     fill(alloc, count, long, bytes)
@@ -84,40 +86,39 @@ fn run(alloc: Global, count: u32, long: bool, bytes: Bytes) -> Result<Vec<Symbol
 
 /// Reads the region of an array after its count.
 #[tactic(auto, unfolding(crate::specs::Symbols::all_at))]
-fn all(alloc: Global, count: u32, bytes: Bytes) -> Result<Vec<Symbol>, ReadError>
-    ensures value { Answers (λ v. v.items) result (all_at count bytes) }
+fn all(alloc: Global, count: u32, bytes: &[u8]) -> Result<Vec<Symbol>, ReadError>
+    ensures value { Answers (λ v. v.items) result (all_at count bytes.now) }
     ensures exact { IfOk result (λ v. vec_capacity v ≡ vec_len v) }
 {
-    let mut bytes = bytes;
-    if bytes.is_empty() {
-        return if count == 0 {
-            Ok(Vec::new(alloc))
-        } else {
-            Err(ReadError::Malformed)
-        };
-    }
-    match take_byte(&mut bytes)? {
-        codes::SYMBOL8 => run(alloc, count, false, bytes),
-        codes::SYMBOL32 => run(alloc, count, true, bytes),
+    match bytes {
+        [] if count == 0 => Ok(Vec::new(alloc)),
+        [codes::SYMBOL8, items @ ..] => run(alloc, count, false, items),
+        [codes::SYMBOL32, items @ ..] => run(alloc, count, true, items),
         _ => Err(ReadError::Malformed),
     }
 }
 
 #[tactic(auto, unfolding(crate::specs::Symbols::array_at))]
-fn array(alloc: Global, wide: bool, bytes: &mut Bytes) -> Result<Vec<Symbol>, ReadError>
-    ensures value { Gives (λ v. v.items) result bytes.new (array_at wide bytes.old) }
+fn array(alloc: Global, wide: bool, text: &[u8], at: &mut usize) -> Result<Vec<Symbol>, ReadError>
+    requires { at.old ≤ length text.now }
+    ensures value { Gives (λ v. v.items) result (drop at.new text.now) (array_at wide (drop at.old text.now)) }
+    ensures bound { at.new ≤ length text.now }
     ensures exact { IfOk result (λ v. vec_capacity v ≡ vec_len v) }
 {
-    let mut inner = take_region(wide, bytes)?;
-    let count = take_count(wide, &mut inner)?;
-    all(alloc, count, inner)
+    let from = take_region(wide, text, at)?;
+    match count(wide, &text[from..*at]) {
+        Some((count, items)) => all(alloc, count, items),
+        None => Err(ReadError::Malformed),
+    }
 }
 
-fn alone(alloc: Global, long: bool, bytes: &mut Bytes) -> Result<Vec<Symbol>, ReadError>
-    ensures value { Gives (λ v. v.items) result bytes.new (alone_at long bytes.old) }
+fn alone(alloc: Global, long: bool, text: &[u8], at: &mut usize) -> Result<Vec<Symbol>, ReadError>
+    requires { at.old ≤ length text.now }
+    ensures value { Gives (λ v. v.items) result (drop at.new text.now) (alone_at long (drop at.old text.now)) }
+    ensures bound { at.new ≤ length text.now }
     ensures exact { IfOk result (λ v. vec_capacity v ≡ vec_len v) }
 {
-    let symbol = item(alloc, long, bytes)?;
+    let symbol = item(alloc, long, text, at)?;
     let mut items = Vec::with_capacity(alloc, 1)?;
     items.push_reserved(symbol);
     Ok(items)
@@ -130,18 +131,30 @@ impl Field for Vec<Symbol> {
 
     ghost at = { symbols_at };
 
+    #[tactic(auto, unfolding(crate::specs::Symbols::symbols_at))]
+    #[inline(always)]
+    fn never_empty() {}
+
     /// Asks for a list of exactly as many symbols as there are, and for the text of each that is not empty. For an array
     /// whose size, count, lengths or texts are wrong nothing is asked for.
     #[tactic(auto, unfolding(crate::specs::Symbols::symbols_at))]
-    fn read(alloc: Global, bytes: &mut Bytes) -> Result<Vec<Symbol>, ReadError>
-        ensures value { Gives (λ v. v.items) result bytes.new (symbols_at bytes.old) }
+    fn read(
+        alloc: Global,
+        code: u8,
+        text: &[u8],
+        place: &mut usize,
+        _bytes: &Bytes,
+    ) -> Result<Vec<Symbol>, ReadError>
+        requires { place.old ≤ length text.now }
+        ensures value { Gives (λ v. v.items) result (drop place.new text.now) (symbols_at (code ∷ drop place.old text.now)) }
+        ensures bound { place.new ≤ length text.now }
         ensures exact { IfOk result (λ v. vec_capacity v ≡ vec_len v) }
     {
-        match take_byte(bytes)? {
-            codes::SYMBOL8 => alone(alloc, false, bytes),
-            codes::SYMBOL32 => alone(alloc, true, bytes),
-            codes::ARRAY8 => array(alloc, false, bytes),
-            codes::ARRAY32 => array(alloc, true, bytes),
+        match code {
+            codes::SYMBOL8 => alone(alloc, false, text, place),
+            codes::SYMBOL32 => alone(alloc, true, text, place),
+            codes::ARRAY8 => array(alloc, false, text, place),
+            codes::ARRAY32 => array(alloc, true, text, place),
             _ => Err(ReadError::Malformed),
         }
     }

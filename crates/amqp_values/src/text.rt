@@ -1,28 +1,37 @@
 //! Binaries and strings.
 
-ghost use Rattle.std.specs.Prelude.{◌≡◌, ◌<◌, ◌^◌, ℕ, List, length, string_bytes, IfOk};
-ghost use Rattle.amqp_values.specs.Reading.{Gives};
+ghost use Rattle.std.specs.Prelude.{◌≡◌, ◌<◌, ◌≤◌, ◌+◌, ◌^◌, ◌∷◌, ℕ, List, drop, length, string_bytes, IfOk, IfErr};
+ghost use Rattle.amqp_values.specs.declared.error.ReadError.TheVariants.{Malformed};
+ghost use Rattle.amqp_values.specs.Walking.{IsRegion};
 ghost use Rattle.amqp_values.specs.Text.{var_at, binary_at, string_at};
 
 use crate::codes;
-use crate::cursor::{take_byte, take_region};
+use crate::cursor::take_region;
 use crate::error::ReadError;
 use crate::field::Field;
 use bytes::Bytes;
 use std::alloc::Global;
 
-/// A length and that many bytes, after the short code or the long one.
+/// Where the bytes of a length and that many bytes stand, after the short code or the long one, which was read. The place is after them then.
 #[tactic(auto, unfolding(crate::specs::Text::var_at))]
-#[inline]
-pub(crate) fn variable(bytes: &mut Bytes, short: u8, long: u8) -> Result<Bytes, ReadError>
-    ensures value { Gives (λ x. x) result bytes.new (var_at short long bytes.old) }
-    ensures bound { IfOk result (λ b. length b < 2 ^ 32) }
+#[inline(always)]
+pub(crate) fn variable(
+    code: u8,
+    text: &[u8],
+    at: &mut usize,
+    short: u8,
+    long: u8,
+) -> Result<usize, ReadError>
+    requires { at.old ≤ length text.now }
+    ensures value { IsRegion text.now at.new result (var_at short long (code ∷ drop at.old text.now)) }
+    ensures bound { at.new ≤ length text.now }
+    ensures short { IfOk result (λ from. at.new < from + 2 ^ 32) }
+    ensures malformed { IfErr result (λ e. e ≡ Malformed) }
 {
-    let code = take_byte(bytes)?;
     if code != short && code != long {
         return Err(ReadError::Malformed);
     }
-    take_region(code != short, bytes)
+    take_region(code != short, text, at)
 }
 
 impl Field for Bytes {
@@ -32,10 +41,21 @@ impl Field for Bytes {
 
     ghost at = { binary_at };
 
-    #[tactic(auto, unfolding(crate::specs::Text::binary_at))]
+    #[tactic(auto, unfolding(crate::specs::Text::binary_at, crate::specs::Text::var_at))]
     #[inline(always)]
-    fn read(_alloc: Global, bytes: &mut Bytes) -> Result<Bytes, ReadError> {
-        variable(bytes, codes::BINARY8, codes::BINARY32)
+    fn never_empty() {}
+
+    #[tactic(auto, using(crate::proofs::WalkLemmas::front_slice, crate::proofs::WalkLemmas::front_short), unfolding(crate::specs::Text::binary_at))]
+    #[inline(always)]
+    fn read(
+        _alloc: Global,
+        code: u8,
+        text: &[u8],
+        place: &mut usize,
+        bytes: &Bytes,
+    ) -> Result<Bytes, ReadError> {
+        let from = variable(code, text, place, codes::BINARY8, codes::BINARY32)?;
+        Ok(bytes.slice(from..*place)?)
     }
 }
 
@@ -46,11 +66,21 @@ impl Field for String {
 
     ghost at = { string_at };
 
+    #[tactic(auto, unfolding(crate::specs::Text::string_at, crate::specs::Text::var_at))]
+    #[inline(always)]
+    fn never_empty() {}
+
     #[tactic(auto, unfolding(crate::specs::Text::string_at))]
-    fn read(alloc: Global, bytes: &mut Bytes) -> Result<String, ReadError> {
-        let text = variable(bytes, codes::STRING8, codes::STRING32)?;
-        match str::from_utf8(text.as_slice()) {
-            Ok(text) => Ok(String::from_str(alloc, text)?),
+    fn read(
+        alloc: Global,
+        code: u8,
+        text: &[u8],
+        place: &mut usize,
+        _bytes: &Bytes,
+    ) -> Result<String, ReadError> {
+        let from = variable(code, text, place, codes::STRING8, codes::STRING32)?;
+        match str::from_utf8(&text[from..*place]) {
+            Ok(string) => Ok(String::from_str(alloc, string)?),
             Err(_) => Err(ReadError::Malformed),
         }
     }

@@ -23,7 +23,7 @@ use amqp_types::{
     Attach, Begin, Close, ConnectionState, Detach, Disposition, End, Error, Flow, Kind, Open,
     Transfer,
 };
-use amqp_values::read_list;
+use amqp_values::Composite;
 use bytes::Bytes;
 
 /// Why the connection stops with a Close of the peer.
@@ -99,7 +99,7 @@ impl<R: LinkRelay> Engine<R> {
         ensures { FieldsStep R.gives self.old channel.0 (Some kind.Transfer) fields (refusal_of result) self.new }
     {
         let mut rest = fields;
-        let transfer = match Transfer::read_list(&mut rest) {
+        let transfer = match Transfer::read_list(self.alloc, &mut rest) {
             Ok(transfer) => transfer,
             Err(error) => return refused::unread(error),
         };
@@ -123,7 +123,7 @@ impl<R: LinkRelay> Engine<R> {
         ensures { FieldsStep R.gives self.old channel.0 (Some kind.Flow) fields (refusal_of result) self.new }
     {
         let mut rest = fields;
-        let flow: Flow = match read_list(self.alloc, &mut rest) {
+        let flow = match Flow::read_list(self.alloc, &mut rest) {
             Ok(flow) => flow,
             Err(error) => return refused::unread(error),
         };
@@ -149,7 +149,7 @@ impl<R: LinkRelay> Engine<R> {
         ensures { FieldsStep R.gives self.old channel.0 (Some kind.Disposition) fields (refusal_of result) self.new }
     {
         let mut rest = fields;
-        let disposition: Disposition = match read_list(self.alloc, &mut rest) {
+        let disposition = match Disposition::read_list(self.alloc, &mut rest) {
             Ok(disposition) => disposition,
             Err(error) => return refused::unread(error),
         };
@@ -171,7 +171,7 @@ impl<R: LinkRelay> Engine<R> {
         ensures { FieldsStep R.gives self.old channel.0 (Some kind.Attach) fields (refusal_of result) self.new }
     {
         let mut rest = fields;
-        let attach: Attach = read_list(self.alloc, &mut rest)?;
+        let attach = Attach::read_list(self.alloc, &mut rest)?;
         let Some(number) = self.connection.session_tx_by_incoming_channel(channel) else {
             drop(attach);
             return Err(StepError::Connection(ConnectionInnerError::NotFound(None)));
@@ -190,7 +190,7 @@ impl<R: LinkRelay> Engine<R> {
         ensures { FieldsStep R.gives self.old channel.0 (Some kind.Detach) fields (refusal_of result) self.new }
     {
         let mut rest = fields;
-        let detach: Detach = read_list(self.alloc, &mut rest)?;
+        let detach = Detach::read_list(self.alloc, &mut rest)?;
         let Some(number) = self.connection.session_tx_by_incoming_channel(channel) else {
             drop(detach);
             return Err(StepError::Connection(ConnectionInnerError::NotFound(None)));
@@ -210,7 +210,7 @@ impl<R: LinkRelay> Engine<R> {
         ensures { FieldsStep R.gives self.old channel.0 (Some kind.Begin) fields (refusal_of result) self.new }
     {
         let mut rest = fields;
-        let begin: Begin = read_list(self.alloc, &mut rest)?;
+        let begin = Begin::read_list(self.alloc, &mut rest)?;
         let number = self.connection.route_begin(channel, begin.remote_channel)?;
         let hint = self.hints.of(number.0);
         let Some(session) = keys::get_mut(&mut self.sessions, hint, &number.0) else {
@@ -226,7 +226,7 @@ impl<R: LinkRelay> Engine<R> {
         ensures { FieldsKept R.gives self.old channel.0 (Some kind.End) fields (refusal_of result) self.new }
     {
         let mut rest = fields;
-        let end: End = read_list(self.alloc, &mut rest)?;
+        let end = End::read_list(self.alloc, &mut rest)?;
         let Ok(copy) = copy_of(&end.error) else {
             drop(end);
             return Err(StepError::OutOfMemory);
@@ -249,7 +249,7 @@ impl<R: LinkRelay> Engine<R> {
         ensures { FieldsStep R.gives self.old channel.0 (Some kind.Open) fields (refusal_of result) self.new }
     {
         let mut rest = fields;
-        let open: Open = read_list(self.alloc, &mut rest)?;
+        let open = Open::read_list(self.alloc, &mut rest)?;
         let limit = limit_of(&open);
         self.connection.on_incoming_open(channel, open)?;
         self.encoder = FrameEncoder::new(limit);
@@ -262,7 +262,7 @@ impl<R: LinkRelay> Engine<R> {
         ensures { FieldsKept R.gives self.old channel.0 (Some kind.Close) fields (refusal_of result) self.new }
     {
         let mut rest = fields;
-        let close: Close = read_list(self.alloc, &mut rest)?;
+        let close = Close::read_list(self.alloc, &mut rest)?;
         let Ok(copy) = copy_of(&close.error) else {
             drop(close);
             return Err(StepError::OutOfMemory);

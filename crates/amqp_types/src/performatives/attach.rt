@@ -1,9 +1,11 @@
 //! Attach (AMQP 1.0 part 2, section 2.7.3).
 
-ghost use Rattle.std.specs.Prelude.{◌≡◌, ◌<◌, ◌≤◌, ◌+◌, ◌^◌, ◌++◌, length, List, ℕ, Option};
+ghost use Rattle.std.specs.Prelude.{◌≡◌, ◌<◌, ◌≤◌, ◌+◌, ◌^◌, ◌++◌, length, take, drop, List, ℕ, Option};
 ghost use Rattle.std.specs.Option.{option_map};
 ghost use Rattle.amqp_values.specs.Reading.{Gives};
 ghost use Rattle.amqp_values.specs.Slots.{beside};
+ghost use Rattle.amqp_values.specs.Walking.{ahead};
+ghost use Rattle.amqp_values.specs.Composite.{fields_at};
 ghost use Rattle.amqp_types.specs.Attach.{attach_rest_at, attach_body_at, attach_table, attach_first_same, attach_last_same};
 ghost use Rattle.amqp_types.specs.declared.performatives.Performative.TheVariants as performative;
 ghost use Rattle.amqp_types.specs.Performatives.{performative_text};
@@ -11,10 +13,10 @@ ghost use Rattle.amqp_types.specs.Performatives.{performative_text};
 use crate::borrowed;
 use crate::definitions::{Handle, ReceiverSettleMode, Role, SenderSettleMode};
 use amqp_values::{
-    Composite, Cons2, Cons4, Fields, ListReader, NoMore, Raw, ReadError, StringRef, Symbol,
-    Symbols, Verbatim, codes, described_len, field_list, put_described,
+    Composite, Cons2, Cons4, Fields, ListWalk, NoMore, Raw, ReadError, StringRef, Symbol, Symbols,
+    Verbatim, codes, described_len, field_list, put_described,
 };
-use bytes::BytesMut;
+use bytes::{Bytes, BytesMut};
 use std::alloc::Global;
 use std::marker::Model;
 
@@ -125,36 +127,59 @@ impl Attach {
 impl Composite for Attach {
     ghost body_at = { attach_body_at };
 
-    #[tactic(auto, unfolding(crate::specs::Attach::attach_body_at))]
+    #[tactic(auto, using(crate::proofs::WalkLemmas::list_none, crate::proofs::WalkLemmas::of_fields))]
     #[inline(always)]
-    fn fields(alloc: Global, parts: &mut ListReader) -> Result<Attach, ReadError> {
-        let name = parts.required(alloc)?;
-        let handle = parts.required(alloc)?;
-        let role = parts.required(alloc)?;
-        let snd_settle_mode = parts.or(alloc, SenderSettleMode::Mixed)?;
-        let rcv_settle_mode = parts.or(alloc, ReceiverSettleMode::First)?;
-        let source = parts.next(alloc)?;
-        let target = parts.next(alloc)?;
-        let unsettled = parts.next(alloc)?;
-        let incomplete_unsettled = parts.or(alloc, false)?;
-        let rest = take_rest(alloc, parts)?;
-        Ok(Attach {
-            name,
-            handle,
-            role,
-            snd_settle_mode,
-            rcv_settle_mode,
-            source,
-            target,
-            unsettled,
-            incomplete_unsettled,
-            initial_delivery_count: rest.initial_delivery_count,
-            max_message_size: rest.max_message_size,
-            offered_capabilities: rest.offered_capabilities,
-            desired_capabilities: rest.desired_capabilities,
-            properties: rest.properties,
-        })
+    fn read_list(alloc: Global, bytes: &mut Bytes) -> Result<Attach, ReadError> {
+        let (walk, end) = match ListWalk::enter(bytes.as_slice()) {
+            Ok(entered) => entered,
+            Err(error) => return Err(error),
+        };
+        take_fields(alloc, walk, end, bytes)
     }
+}
+
+/// The fields of the list that was entered and goes so far; the rest of the bytes is left.
+#[tactic(auto, unfolding(crate::specs::Attach::attach_body_at))]
+#[inline(always)]
+fn take_fields(
+    alloc: Global,
+    walk: ListWalk,
+    end: usize,
+    bytes: &mut Bytes,
+) -> Result<Attach, ReadError>
+    requires inside { walk.at ≤ end }
+    requires front { end ≤ length bytes.old }
+    ensures { Gives (λ x. x) result bytes.new (fields_at attach_body_at (ahead (take end bytes.old) walk, drop end bytes.old)) }
+{
+    let (text, _) = bytes.as_slice().split_at(end);
+    let mut walk = walk;
+    let name = walk.required(alloc, text, &*bytes)?;
+    let handle = walk.required(alloc, text, &*bytes)?;
+    let role = walk.required(alloc, text, &*bytes)?;
+    let snd_settle_mode = walk.or(alloc, text, &*bytes, SenderSettleMode::Mixed)?;
+    let rcv_settle_mode = walk.or(alloc, text, &*bytes, ReceiverSettleMode::First)?;
+    let source = walk.next(alloc, text, &*bytes)?;
+    let target = walk.next(alloc, text, &*bytes)?;
+    let unsettled = walk.next(alloc, text, &*bytes)?;
+    let incomplete_unsettled = walk.or(alloc, text, &*bytes, false)?;
+    let rest = take_rest(alloc, &mut walk, text, &*bytes)?;
+    bytes.advance(end);
+    Ok(Attach {
+        name,
+        handle,
+        role,
+        snd_settle_mode,
+        rcv_settle_mode,
+        source,
+        target,
+        unsettled,
+        incomplete_unsettled,
+        initial_delivery_count: rest.initial_delivery_count,
+        max_message_size: rest.max_message_size,
+        offered_capabilities: rest.offered_capabilities,
+        desired_capabilities: rest.desired_capabilities,
+        properties: rest.properties,
+    })
 }
 
 /// The fields from the delivery count on.
@@ -168,18 +193,25 @@ struct Rest {
 }
 
 #[tactic(auto, unfolding(crate::specs::Attach::attach_rest_at))]
-fn take_rest(alloc: Global, parts: &mut ListReader) -> Result<Rest, ReadError>
+fn take_rest(
+    alloc: Global,
+    walk: &mut ListWalk,
+    text: &[u8],
+    bytes: &Bytes,
+) -> Result<Rest, ReadError>
+    requires inside { walk.old.at ≤ length text.now }
+    requires front { text.now ≡ take (length text.now) bytes.now }
     ensures { let symbols = option_map (λ v. v.items) in
         Gives (λ r. beside r.initial_delivery_count (beside r.max_message_size
         (beside (symbols r.offered_capabilities) (beside (symbols r.desired_capabilities) (beside r.properties tt)))))
-        result parts.new (attach_rest_at parts.old) }
+        result (ahead text.now walk.new) (attach_rest_at (ahead text.now walk.old)) }
 {
-    let initial_delivery_count = parts.next(alloc)?;
-    let max_message_size = parts.next(alloc)?;
-    let offered_capabilities = parts.next(alloc)?;
-    let desired_capabilities = parts.next(alloc)?;
-    let properties = parts.next(alloc)?;
-    parts.finish()?;
+    let initial_delivery_count = walk.next(alloc, text, bytes)?;
+    let max_message_size = walk.next(alloc, text, bytes)?;
+    let offered_capabilities = walk.next(alloc, text, bytes)?;
+    let desired_capabilities = walk.next(alloc, text, bytes)?;
+    let properties = walk.next(alloc, text, bytes)?;
+    walk.finish(text)?;
     Ok(Rest {
         initial_delivery_count,
         max_message_size,

@@ -9,10 +9,10 @@ ghost use Rattle.amqp_types.specs.Performatives.{performative_text};
 use crate::borrowed;
 use crate::definitions::Handle;
 use amqp_values::{
-    Composite, Cons4, Fields, ListReader, NoMore, ReadError, Symbol, Symbols, Verbatim, codes,
+    Composite, Cons4, Fields, ListWalk, NoMore, ReadError, Symbol, Symbols, Verbatim, codes,
     described_len, field_list, put_described,
 };
-use bytes::BytesMut;
+use bytes::{Bytes, BytesMut};
 use std::alloc::Global;
 use std::marker::Model;
 
@@ -83,18 +83,24 @@ impl PartialEq for Begin {
 impl Composite for Begin {
     ghost body_at = { begin_body_at };
 
-    #[tactic(auto, unfolding(crate::specs::Begin::begin_body_at))]
+    #[tactic(auto, using(crate::proofs::WalkLemmas::begin_some, crate::proofs::WalkLemmas::begin_none, crate::proofs::WalkLemmas::no_begin), unfolding(crate::specs::Begin::begin_body_at))]
     #[inline(always)]
-    fn fields(alloc: Global, parts: &mut ListReader) -> Result<Begin, ReadError> {
-        let remote_channel = parts.next(alloc)?;
-        let next_outgoing_id = parts.required(alloc)?;
-        let incoming_window = parts.required(alloc)?;
-        let outgoing_window = parts.required(alloc)?;
-        let handle_max = parts.or(alloc, Handle(u32::MAX))?;
-        let offered_capabilities = parts.next(alloc)?;
-        let desired_capabilities = parts.next(alloc)?;
-        let properties = parts.next(alloc)?;
-        parts.finish()?;
+    fn read_list(alloc: Global, bytes: &mut Bytes) -> Result<Begin, ReadError> {
+        let (mut walk, end) = match ListWalk::enter(bytes.as_slice()) {
+            Ok(entered) => entered,
+            Err(error) => return Err(error),
+        };
+        let (text, _) = bytes.as_slice().split_at(end);
+        let remote_channel = walk.next(alloc, text, &*bytes)?;
+        let next_outgoing_id = walk.required(alloc, text, &*bytes)?;
+        let incoming_window = walk.required(alloc, text, &*bytes)?;
+        let outgoing_window = walk.required(alloc, text, &*bytes)?;
+        let handle_max = walk.or(alloc, text, &*bytes, Handle(u32::MAX))?;
+        let offered_capabilities = walk.next(alloc, text, &*bytes)?;
+        let desired_capabilities = walk.next(alloc, text, &*bytes)?;
+        let properties = walk.next(alloc, text, &*bytes)?;
+        walk.finish(text)?;
+        bytes.advance(end);
         Ok(Begin {
             remote_channel,
             next_outgoing_id,

@@ -11,9 +11,9 @@ use crate::definitions::Handle;
 use crate::error::Error;
 use crate::error_ref::ErrorRef;
 use amqp_values::{
-    Composite, Cons2, ListReader, ReadError, Row1, codes, described_len, field_list, put_described,
+    Composite, Cons2, ListWalk, ReadError, Row1, codes, described_len, field_list, put_described,
 };
-use bytes::BytesMut;
+use bytes::{Bytes, BytesMut};
 use std::alloc::Global;
 use std::marker::Model;
 
@@ -61,13 +61,19 @@ impl PartialEq for Detach {
 impl Composite for Detach {
     ghost body_at = { detach_body_at };
 
-    #[tactic(auto, unfolding(crate::specs::Detach::detach_body_at))]
+    #[tactic(auto, using(crate::proofs::WalkLemmas::list_some, crate::proofs::WalkLemmas::list_none, crate::proofs::WalkLemmas::body_none), unfolding(crate::specs::Detach::detach_body_at))]
     #[inline(always)]
-    fn fields(alloc: Global, parts: &mut ListReader) -> Result<Detach, ReadError> {
-        let handle = parts.required(alloc)?;
-        let closed = parts.or(alloc, false)?;
-        let error = parts.next(alloc)?;
-        parts.finish()?;
+    fn read_list(alloc: Global, bytes: &mut Bytes) -> Result<Detach, ReadError> {
+        let (mut walk, end) = match ListWalk::enter(bytes.as_slice()) {
+            Ok(entered) => entered,
+            Err(error) => return Err(error),
+        };
+        let (text, _) = bytes.as_slice().split_at(end);
+        let handle = walk.required(alloc, text, &*bytes)?;
+        let closed = walk.or(alloc, text, &*bytes, false)?;
+        let error = walk.next(alloc, text, &*bytes)?;
+        walk.finish(text)?;
+        bytes.advance(end);
         Ok(Detach {
             handle,
             closed,

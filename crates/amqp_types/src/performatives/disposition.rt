@@ -9,10 +9,10 @@ ghost use Rattle.amqp_types.specs.Performatives.{performative_text};
 use crate::borrowed;
 use crate::definitions::Role;
 use amqp_values::{
-    Composite, Cons2, Cons4, ListReader, NoMore, Raw, ReadError, Verbatim, codes, described_len,
+    Composite, Cons2, Cons4, ListWalk, NoMore, Raw, ReadError, Verbatim, codes, described_len,
     field_list, put_described,
 };
-use bytes::BytesMut;
+use bytes::{Bytes, BytesMut};
 use std::alloc::Global;
 use std::marker::Model;
 
@@ -76,16 +76,22 @@ impl PartialEq for Disposition {
 impl Composite for Disposition {
     ghost body_at = { disposition_body_at };
 
-    #[tactic(auto, unfolding(crate::specs::Disposition::disposition_body_at))]
+    #[tactic(auto, using(crate::proofs::WalkLemmas::disposition_some, crate::proofs::WalkLemmas::disposition_none, crate::proofs::WalkLemmas::no_disposition), unfolding(crate::specs::Disposition::disposition_body_at))]
     #[inline(always)]
-    fn fields(alloc: Global, parts: &mut ListReader) -> Result<Disposition, ReadError> {
-        let role = parts.required(alloc)?;
-        let first = parts.required(alloc)?;
-        let last = parts.next(alloc)?;
-        let settled = parts.or(alloc, false)?;
-        let state = parts.next(alloc)?;
-        let batchable = parts.or(alloc, false)?;
-        parts.finish()?;
+    fn read_list(alloc: Global, bytes: &mut Bytes) -> Result<Disposition, ReadError> {
+        let (mut walk, end) = match ListWalk::enter(bytes.as_slice()) {
+            Ok(entered) => entered,
+            Err(error) => return Err(error),
+        };
+        let (text, _) = bytes.as_slice().split_at(end);
+        let role = walk.required(alloc, text, &*bytes)?;
+        let first = walk.required(alloc, text, &*bytes)?;
+        let last = walk.next(alloc, text, &*bytes)?;
+        let settled = walk.or(alloc, text, &*bytes, false)?;
+        let state = walk.next(alloc, text, &*bytes)?;
+        let batchable = walk.or(alloc, text, &*bytes, false)?;
+        walk.finish(text)?;
+        bytes.advance(end);
         Ok(Disposition {
             role,
             first,

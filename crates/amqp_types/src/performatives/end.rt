@@ -9,9 +9,9 @@ ghost use Rattle.amqp_types.specs.Performatives.{performative_text};
 use crate::error::Error;
 use crate::error_ref::ErrorRef;
 use amqp_values::{
-    Composite, ListReader, ReadError, Row1, codes, described_len, field_list, put_described,
+    Composite, ListWalk, ReadError, Row1, codes, described_len, field_list, put_described,
 };
-use bytes::BytesMut;
+use bytes::{Bytes, BytesMut};
 use std::alloc::Global;
 use std::marker::Model;
 
@@ -52,11 +52,17 @@ impl PartialEq for End {
 impl Composite for End {
     ghost body_at = { end_body_at };
 
-    #[tactic(auto, unfolding(crate::specs::End::end_body_at))]
+    #[tactic(auto, using(crate::proofs::WalkLemmas::list_some, crate::proofs::WalkLemmas::list_none, crate::proofs::WalkLemmas::body_none), unfolding(crate::specs::End::end_body_at))]
     #[inline(always)]
-    fn fields(alloc: Global, parts: &mut ListReader) -> Result<End, ReadError> {
-        let error = parts.next(alloc)?;
-        parts.finish()?;
+    fn read_list(alloc: Global, bytes: &mut Bytes) -> Result<End, ReadError> {
+        let (mut walk, end) = match ListWalk::enter(bytes.as_slice()) {
+            Ok(entered) => entered,
+            Err(error) => return Err(error),
+        };
+        let (text, _) = bytes.as_slice().split_at(end);
+        let error = walk.next(alloc, text, &*bytes)?;
+        walk.finish(text)?;
+        bytes.advance(end);
         Ok(End { error })
     }
 }

@@ -1,7 +1,9 @@
 //! Flow (AMQP 1.0 part 2, section 2.7.4).
 
-ghost use Rattle.std.specs.Prelude.{◌≡◌, ◌<◌, ◌≤◌, ◌+◌, ◌^◌, ◌++◌, length, List, ℕ, Option};
+ghost use Rattle.std.specs.Prelude.{◌≡◌, ◌<◌, ◌≤◌, ◌+◌, ◌^◌, ◌++◌, length, take, drop, List, ℕ, Option};
 ghost use Rattle.amqp_values.specs.Reading.{Gives};
+ghost use Rattle.amqp_values.specs.Walking.{ahead};
+ghost use Rattle.amqp_values.specs.Composite.{fields_at};
 ghost use Rattle.amqp_types.specs.Flow.{flow_body_at, flow_table, flow_first_same, flow_last_same};
 ghost use Rattle.amqp_types.specs.declared.performatives.Performative.TheVariants as performative;
 ghost use Rattle.amqp_types.specs.Performatives.{performative_text};
@@ -9,10 +11,10 @@ ghost use Rattle.amqp_types.specs.Performatives.{performative_text};
 use crate::borrowed;
 use crate::definitions::Handle;
 use amqp_values::{
-    Composite, Cons2, Cons4, Fields, ListReader, ReadError, Row1, Verbatim, codes, described_len,
+    Composite, Cons2, Cons4, Fields, ListWalk, ReadError, Row1, Verbatim, codes, described_len,
     field_list, put_described,
 };
-use bytes::BytesMut;
+use bytes::{Bytes, BytesMut};
 use std::alloc::Global;
 use std::marker::Model;
 
@@ -111,35 +113,58 @@ impl Flow {
 impl Composite for Flow {
     ghost body_at = { flow_body_at };
 
-    #[tactic(auto, unfolding(crate::specs::Flow::flow_body_at))]
+    #[tactic(auto, using(crate::proofs::WalkLemmas::list_none, crate::proofs::WalkLemmas::of_fields))]
     #[inline(always)]
-    fn fields(alloc: Global, parts: &mut ListReader) -> Result<Flow, ReadError> {
-        let next_incoming_id = parts.next(alloc)?;
-        let incoming_window = parts.required(alloc)?;
-        let next_outgoing_id = parts.required(alloc)?;
-        let outgoing_window = parts.required(alloc)?;
-        let handle = parts.next(alloc)?;
-        let delivery_count = parts.next(alloc)?;
-        let link_credit = parts.next(alloc)?;
-        let available = parts.next(alloc)?;
-        let drain = parts.or(alloc, false)?;
-        let echo = parts.or(alloc, false)?;
-        let properties = parts.next(alloc)?;
-        parts.finish()?;
-        Ok(Flow {
-            next_incoming_id,
-            incoming_window,
-            next_outgoing_id,
-            outgoing_window,
-            handle,
-            delivery_count,
-            link_credit,
-            available,
-            drain,
-            echo,
-            properties,
-        })
+    fn read_list(alloc: Global, bytes: &mut Bytes) -> Result<Flow, ReadError> {
+        let (walk, end) = match ListWalk::enter(bytes.as_slice()) {
+            Ok(entered) => entered,
+            Err(error) => return Err(error),
+        };
+        take_fields(alloc, walk, end, bytes)
     }
+}
+
+/// The fields of the list that was entered and goes so far; the rest of the bytes is left.
+#[tactic(auto, unfolding(crate::specs::Flow::flow_body_at))]
+#[inline(always)]
+fn take_fields(
+    alloc: Global,
+    walk: ListWalk,
+    end: usize,
+    bytes: &mut Bytes,
+) -> Result<Flow, ReadError>
+    requires inside { walk.at ≤ end }
+    requires front { end ≤ length bytes.old }
+    ensures { Gives (λ x. x) result bytes.new (fields_at flow_body_at (ahead (take end bytes.old) walk, drop end bytes.old)) }
+{
+    let (text, _) = bytes.as_slice().split_at(end);
+    let mut walk = walk;
+    let next_incoming_id = walk.next(alloc, text, &*bytes)?;
+    let incoming_window = walk.required(alloc, text, &*bytes)?;
+    let next_outgoing_id = walk.required(alloc, text, &*bytes)?;
+    let outgoing_window = walk.required(alloc, text, &*bytes)?;
+    let handle = walk.next(alloc, text, &*bytes)?;
+    let delivery_count = walk.next(alloc, text, &*bytes)?;
+    let link_credit = walk.next(alloc, text, &*bytes)?;
+    let available = walk.next(alloc, text, &*bytes)?;
+    let drain = walk.or(alloc, text, &*bytes, false)?;
+    let echo = walk.or(alloc, text, &*bytes, false)?;
+    let properties = walk.next(alloc, text, &*bytes)?;
+    walk.finish(text)?;
+    bytes.advance(end);
+    Ok(Flow {
+        next_incoming_id,
+        incoming_window,
+        next_outgoing_id,
+        outgoing_window,
+        handle,
+        delivery_count,
+        link_credit,
+        available,
+        drain,
+        echo,
+        properties,
+    })
 }
 
 /// The fields, borrowed for writing, by types of their own.

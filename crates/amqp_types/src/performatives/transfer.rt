@@ -1,20 +1,22 @@
 //! Transfer (AMQP 1.0 part 2, section 2.7.5).
 
-ghost use Rattle.std.specs.Prelude.{◌≡◌, ◌<◌, ◌≤◌, ◌+◌, ◌^◌, ◌++◌, length, List, ℕ, Option};
-ghost use Rattle.amqp_values.specs.Composite.{composite_at};
+ghost use Rattle.std.specs.Prelude.{◌≡◌, ◌<◌, ◌≤◌, ◌+◌, ◌^◌, ◌++◌, length, take, drop, List, ℕ, Option};
 ghost use Rattle.amqp_values.specs.Reading.{Gives};
+ghost use Rattle.amqp_values.specs.Walking.{ahead};
+ghost use Rattle.amqp_values.specs.Composite.{fields_at};
 ghost use Rattle.amqp_types.specs.Transfer.{continuation, said_in, transfer_body_at, widest};
 ghost use Rattle.amqp_types.specs.Transfer.{transfer_table, transfer_first_same, transfer_last_same};
 ghost use Rattle.amqp_types.specs.declared.performatives.Performative.TheVariants as performative;
 ghost use Rattle.amqp_types.specs.Performatives.{performative_text};
 
 use crate::borrowed;
-use crate::definitions::{self, DeliveryTag, Handle, ReceiverSettleMode};
+use crate::definitions::{DeliveryTag, Handle, ReceiverSettleMode};
 use amqp_values::{
-    Binary, Cons4, ListWalk, Raw, ReadError, Row3, Verbatim, codes, described_len, field_list,
-    put_described,
+    Binary, Composite, Cons4, ListWalk, Raw, ReadError, Row3, Verbatim, codes, described_len,
+    field_list, put_described,
 };
 use bytes::{Bytes, BytesMut};
+use std::alloc::Global;
 use std::marker::Model;
 
 /// A message, or a part of one, on a link (AMQP 1.0 part 2, section 2.7.5).
@@ -123,54 +125,61 @@ impl Transfer {
     }
 }
 
-impl Transfer {
-    /// Reads the list of a transfer's fields at the front, after its descriptor, by one walk over its bytes, and leaves the rest. The tag
-    /// and the state are cuts of the bytes; nothing is copied.
-    ///
-    /// `Malformed` where no front of the bytes is such a list, `OutOfMemory` where memory for a cut is refused. After an error the
-    /// bytes are of no use.
-    #[tactic(auto, using(crate::proofs::WalkLemmas::list_some, crate::proofs::WalkLemmas::list_none, crate::proofs::WalkLemmas::body_none), unfolding(crate::specs::Transfer::transfer_body_at))]
+impl Composite for Transfer {
+    ghost body_at = { transfer_body_at };
+
+    #[tactic(auto, using(crate::proofs::WalkLemmas::list_none, crate::proofs::WalkLemmas::of_fields))]
     #[inline(always)]
-    pub fn read_list(bytes: &mut Bytes) -> Result<Transfer, ReadError>
-        ensures { Gives (λ x. x) result bytes.new (composite_at transfer_body_at bytes.old) }
-    {
-        let (mut walk, end) = match ListWalk::enter(bytes.as_slice()) {
+    fn read_list(alloc: Global, bytes: &mut Bytes) -> Result<Transfer, ReadError> {
+        let (walk, end) = match ListWalk::enter(bytes.as_slice()) {
             Ok(entered) => entered,
             Err(error) => return Err(error),
         };
-        let (text, _) = bytes.as_slice().split_at(end);
-        let handle = walk.required_uint(text)?;
-        let delivery_id = walk.uint(text)?;
-        let delivery_tag = definitions::optional_tag(&mut walk, text, &*bytes)?;
-        let message_format = walk.uint(text)?;
-        let settled = walk.boolean(text)?;
-        let more = walk.flag(text)?;
-        let rcv_settle_mode = definitions::optional_receiver_mode(&mut walk, text)?;
-        let state = walk.raw(text, &*bytes)?;
-        let resume = walk.flag(text)?;
-        let aborted = walk.flag(text)?;
-        let batchable = match walk.flag(text) {
-            Ok(batchable) => batchable,
-            Err(error) => return Err(error),
-        };
-        if let Err(error) = walk.finish(text) {
-            return Err(error);
-        }
-        bytes.advance(end);
-        Ok(Transfer {
-            handle: Handle(handle),
-            delivery_id,
-            delivery_tag,
-            message_format,
-            settled,
-            more,
-            rcv_settle_mode,
-            state,
-            resume,
-            aborted,
-            batchable,
-        })
+        take_fields(alloc, walk, end, bytes)
     }
+}
+
+/// The fields of the list that was entered and goes so far; the rest of the bytes is left.
+#[tactic(auto, unfolding(crate::specs::Transfer::transfer_body_at))]
+#[inline(always)]
+fn take_fields(
+    alloc: Global,
+    walk: ListWalk,
+    end: usize,
+    bytes: &mut Bytes,
+) -> Result<Transfer, ReadError>
+    requires inside { walk.at ≤ end }
+    requires front { end ≤ length bytes.old }
+    ensures { Gives (λ x. x) result bytes.new (fields_at transfer_body_at (ahead (take end bytes.old) walk, drop end bytes.old)) }
+{
+    let (text, _) = bytes.as_slice().split_at(end);
+    let mut walk = walk;
+    let handle = walk.required(alloc, text, &*bytes)?;
+    let delivery_id = walk.next(alloc, text, &*bytes)?;
+    let delivery_tag = walk.next(alloc, text, &*bytes)?;
+    let message_format = walk.next(alloc, text, &*bytes)?;
+    let settled = walk.next(alloc, text, &*bytes)?;
+    let more = walk.or(alloc, text, &*bytes, false)?;
+    let rcv_settle_mode = walk.next(alloc, text, &*bytes)?;
+    let state = walk.next(alloc, text, &*bytes)?;
+    let resume = walk.or(alloc, text, &*bytes, false)?;
+    let aborted = walk.or(alloc, text, &*bytes, false)?;
+    let batchable = walk.or(alloc, text, &*bytes, false)?;
+    walk.finish(text)?;
+    bytes.advance(end);
+    Ok(Transfer {
+        handle,
+        delivery_id,
+        delivery_tag,
+        message_format,
+        settled,
+        more,
+        rcv_settle_mode,
+        state,
+        resume,
+        aborted,
+        batchable,
+    })
 }
 
 /// The fields, borrowed for writing, by types of their own.

@@ -78,14 +78,18 @@ fn text_len(symbols: &[Symbol]) -> usize {
 }
 
 fn read(alloc: Global, bytes: &'static [u8]) -> Many {
-    let mut rest = Bytes::from_static(bytes);
-    let read = <Vec<Symbol> as Field>::read(alloc, &mut rest);
+    let [code, ..] = bytes else {
+        return Many::Malformed;
+    };
+    let mut place = 1;
+    let whole = Bytes::from_static(bytes);
+    let read = <Vec<Symbol> as Field>::read(alloc, *code, bytes, &mut place, &whole);
     let answer = match &read {
         Ok(symbols) => Many::Symbols {
             count: symbols.len(),
             len: text_len(symbols.as_slice()),
             room: symbols.capacity(),
-            left: rest.len(),
+            left: bytes.len() - place,
         },
         Err(ReadError::Malformed) => Many::Malformed,
         Err(ReadError::OutOfMemory) => Many::OutOfMemory,
