@@ -307,12 +307,12 @@ def place(crate, file):
 
 @cache
 def near(crate, function):
-    """The definitions that the contract of a function cites, or that are reached from it through two others at most."""
+    """The definitions that the contract of a function cites, or that are reached from it through three others at most."""
     item = in_words.functions(all_crates()[crate]).get(function)
     seen, todo = set(), [*cited(written([item]))] if item else []
-    for _ in range(3):
-        todo = [of for of in todo if not of[1].startswith(("contracts.", "declared."))]
-        seen |= {*todo}
+    for _ in range(4):
+        todo = {of for of in todo if of not in seen and not of[1].startswith(("contracts.", "declared."))}
+        seen |= todo
         todo = [use if isinstance(use, tuple) else (*of[:2], use) for of in todo if of not in BY_NAME for use in uses_of(*of)]
     return seen
 

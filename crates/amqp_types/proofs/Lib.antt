@@ -7,4 +7,3 @@ pub mod BodyCanonicalLemmas
 pub mod PerformativeCanonicalLemmas
 pub mod CutTransferLemmas
 pub mod ItemsWalkLemmas
-pub mod WalkLemmas

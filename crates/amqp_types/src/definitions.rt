@@ -1,6 +1,8 @@
 //! The small types of the standard's definitions (AMQP 1.0 part 2, section 2.8).
 
-ghost use Rattle.std.specs.Prelude.{ℕ, List};
+ghost use Rattle.std.specs.Prelude.{◌≡◌, ◌≤◌, ◌∷◌, ℕ, List, drop, length, IfErr};
+ghost use Rattle.amqp_values.specs.declared.error.ReadError.TheVariants.{Malformed};
+ghost use Rattle.amqp_values.specs.Reading.{Gives};
 ghost use Rattle.amqp_values.specs.Number.{uint_at};
 ghost use Rattle.amqp_values.specs.Text.{binary_at};
 ghost use Rattle.amqp_types.specs.declared.definitions.Role.{Role};
@@ -89,7 +91,12 @@ impl Field for Handle {
         text: &[u8],
         place: &mut usize,
         bytes: &Bytes,
-    ) -> Result<Handle, ReadError> {
+    ) -> Result<Handle, ReadError>
+        requires { place.old ≤ length text.now }
+        ensures value { Gives (λ h. h.0) result (drop place.new text.now) (uint_at (code ∷ drop place.old text.now)) }
+        ensures bound { place.new ≤ length text.now }
+        ensures malformed { IfErr result (λ e. e ≡ Malformed) }
+    {
         Ok(Handle(u32::read(alloc, code, text, place, bytes)?))
     }
 }
@@ -139,7 +146,12 @@ impl Field for Role {
         text: &[u8],
         place: &mut usize,
         bytes: &Bytes,
-    ) -> Result<Role, ReadError> {
+    ) -> Result<Role, ReadError>
+        requires { place.old ≤ length text.now }
+        ensures value { Gives (λ r. r) result (drop place.new text.now) (role_at (code ∷ drop place.old text.now)) }
+        ensures bound { place.new ≤ length text.now }
+        ensures malformed { IfErr result (λ e. e ≡ Malformed) }
+    {
         if bool::read(alloc, code, text, place, bytes)? {
             Ok(Role::Receiver)
         } else {
@@ -169,7 +181,12 @@ impl Field for SenderSettleMode {
         text: &[u8],
         place: &mut usize,
         bytes: &Bytes,
-    ) -> Result<SenderSettleMode, ReadError> {
+    ) -> Result<SenderSettleMode, ReadError>
+        requires { place.old ≤ length text.now }
+        ensures value { Gives (λ m. m) result (drop place.new text.now) (sender_mode_at (code ∷ drop place.old text.now)) }
+        ensures bound { place.new ≤ length text.now }
+        ensures malformed { IfErr result (λ e. e ≡ Malformed) }
+    {
         match u8::read(alloc, code, text, place, bytes)? {
             0 => Ok(SenderSettleMode::Unsettled),
             1 => Ok(SenderSettleMode::Settled),
@@ -200,7 +217,12 @@ impl Field for ReceiverSettleMode {
         text: &[u8],
         place: &mut usize,
         bytes: &Bytes,
-    ) -> Result<ReceiverSettleMode, ReadError> {
+    ) -> Result<ReceiverSettleMode, ReadError>
+        requires { place.old ≤ length text.now }
+        ensures value { Gives (λ m. m) result (drop place.new text.now) (receiver_mode_at (code ∷ drop place.old text.now)) }
+        ensures bound { place.new ≤ length text.now }
+        ensures malformed { IfErr result (λ e. e ≡ Malformed) }
+    {
         match u8::read(alloc, code, text, place, bytes)? {
             0 => Ok(ReceiverSettleMode::First),
             1 => Ok(ReceiverSettleMode::Second),

@@ -75,7 +75,7 @@ impl Display for Error {
 impl Composite for Error {
     ghost body_at = { error_body_at };
 
-    #[tactic(auto, using(crate::proofs::WalkLemmas::list_some, crate::proofs::WalkLemmas::list_none, crate::proofs::WalkLemmas::body_none), unfolding(crate::specs::Error::error_body_at))]
+    #[tactic(auto, unfolding(crate::specs::Error::error_body_at))]
     fn read_list(alloc: Global, bytes: &mut Bytes) -> Result<Error, ReadError> {
         let (mut walk, end) = match ListWalk::enter(bytes.as_slice()) {
             Ok(entered) => entered,

@@ -72,7 +72,6 @@ unfolding list_at
 no_list rest = refl
 
 pub composite_law : {V : Type 0} (B : V → List (List ℕ) → Type 0) (body : PartsLeft → Option (V × PartsLeft)) → IsBody B body → IsFormat (IsComposite B) (composite_at body)
-unfolding composite_at
 composite_law B body law = record {
   found = λ bytes v rest e.
       let l = bind_some (list_at bytes) (λ l. body l.0 >>= λ v. Some (v.0, l.1)) (v, rest) e in

@@ -1,16 +1,16 @@
 -- Places in bytes, for a walk over them.
-use Rattle.std.proofs.Common.{◌≡◌, ◌≢◌, Bool, true, false, eqb, ◌≤◌, ◌+◌, ◌-◌, ℕ, List, [], ◌∷◌, ◌++◌, ◌<◌, get_or, length, take, drop, min, Option, Some, None, refl, sym, ap, ◌∙◌, arith}
+use Rattle.std.proofs.Common.{◌≡◌, ◌≢◌, Bool, true, false, eqb, ◌≤◌, ◌+◌, ◌-◌, ℕ, List, [], ◌∷◌, ◌++◌, ◌<◌, get_or, length, take, drop, min, Option, Some, None, refl, sym, ap, subst, ◌∙◌, arith}
 use Rattle.std.specs.Prelude.{Result, Ok, Err, if◌then◌else◌}
 use Rattle.std.proofs.lemmas.Bool.{eq-eqb, ne_eqb}
 use Rattle.std.proofs.Math.Seq.{drop-length}
 use Rattle.std.proofs.lemmas.List.{drop_more, drop-drop, take_all, length-append, length-drop, length-take, take-take, drop-take}
 use Rattle.std.specs.Prelude.{slice_range}
-use Rattle.amqp_values.specs.Raw.{raw_at}
+use Rattle.amqp_values.specs.Raw.{raw_at, IsRaw}
 use Rattle.amqp_values.specs.Reading.{◌>>=◌, Gives, byte_at}
 use Rattle.amqp_values.specs.declared.error.ReadError.{ReadError}
 use Rattle.amqp_values.specs.declared.error.ReadError.TheVariants.{Malformed, OutOfMemory}
 use Rattle.amqp_values.specs.Slots.{PartsLeft, is_null, optional_at}
-use Rattle.amqp_values.specs.Walking.{code_at}
+use Rattle.amqp_values.specs.Walking.{part_code_at}
 use Rattle.amqp_values.specs.Composite.{list_at, composite_at, descriptor_at, described_at, fields_at}
 use Rattle.amqp_values.proofs.CompositeLemmas.{descriptor_found}
 use Rattle.amqp_values.proofs.RawValueLemmas.{raw_format}
@@ -65,15 +65,17 @@ left_of at text value rest inside e =
     let place : at + length value ≡ length text - length rest = omega arith in
     (omega arith, ap (λ n. drop n text) (sym place) ∙ sym (drop-drop (length value) at text) ∙ ap (drop (length value)) e ∙ past_front value rest)
 
-raw_ends : (at : ℕ) (text v rest : List ℕ) → at ≤ length text → raw_at (drop at text) ≡ Some (v, rest) → (length rest ≤ length text) × (drop (length text - length rest) text ≡ rest)
-raw_ends at text v rest inside e = let f = raw_format.found (drop at text) v rest e in left_of at text f.0 rest inside f.2
+-- what a raw value is read as is one
+pub raw_front : (text v rest : List ℕ) → raw_at text ≡ Some (v, rest) → IsRaw v
+raw_front text v rest e = let f = raw_format.found text v rest e in subst IsRaw (sym f.1.1) f.1.0
 
--- what is left after a raw value is not longer than the text, and begins where the value ends in it
-pub raw_short : (at : ℕ) (text v rest : List ℕ) → at ≤ length text → raw_at (drop at text) ≡ Some (v, rest) → length rest ≤ length text
-raw_short at text v rest inside e = (raw_ends at text v rest inside e).0
-
-pub raw_left : (at : ℕ) (text v rest : List ℕ) → at ≤ length text → raw_at (drop at text) ≡ Some (v, rest) → drop (length text - length rest) text ≡ rest
-raw_left at text v rest inside e = (raw_ends at text v rest inside e).1
+-- and so is what is cut from the bytes there
+pub raw_inside : (from len : ℕ) (text bytes after : List ℕ) → text ≡ take (length text) bytes → from ≤ length text → len ≤ length (drop from text)
+    → raw_at (drop from text) ≡ Some (take len (drop from text), after) → IsRaw (slice_range bytes from (from + len))
+raw_inside from len text bytes after front inside short e =
+    let size : length (drop from text) ≡ length text - from = length-drop from text in
+    let same : slice_range bytes from (from + len) ≡ take len (drop from text) = front_slice from (from + len) text bytes front (omega arith) (omega arith) ∙ slice_is from len text in
+    subst IsRaw (sym same) (raw_front (drop from text) (take len (drop from text)) after e)
 
 descriptor_ends : (at n : ℕ) (text rest : List ℕ) → at ≤ length text → descriptor_at (drop at text) ≡ Some (n, rest) → (length rest ≤ length text) × (drop (length text - length rest) text ≡ rest)
 descriptor_ends at n text rest inside e = let f = descriptor_found (drop at text) rest n e in left_of at text f.0 rest inside f.2
@@ -104,7 +106,7 @@ fields_rest body p x rest left e = rest_is (body p) x rest left e
 pub described_is : {V : Type 0} (body : PartsLeft → Option (V × PartsLeft)) (code n : ℕ) (bytes list left rest : List ℕ) (p : PartsLeft) (result : Result V ReadError)
     → descriptor_at bytes ≡ Some (n, list) → n ≡ code → list_at list ≡ Some (p, rest) → Gives {X = V} {V = V} (λ x. x) result left (composite_at body list)
     → Gives {X = V} {V = V} (λ x. x) result rest (described_at code body bytes)
-unfolding described_at composite_at
+unfolding described_at
 described_is body code n bytes list left rest p (Ok x) e same l g =
     let found : fields_at body (p, rest) ≡ Some (x, left) = sym (ap (λ r. r >>= fields_at body) l) ∙ g in
     rw (e, eq-eqb n code same, l) (found ∙ ap (λ s. Some (x, s)) (fields_rest body p x rest left found))
@@ -143,19 +145,19 @@ by_end at false [] p left e none = rw none refl
 by_end at false (b ∷ bytes) p left e none = absurd cc
 
 -- null, or the end of the list
-pub no_part : {V : Type 0} (at : List ℕ → Option (V × List ℕ)) (p q : PartsLeft) → code_at p ≡ Some (0x40, q) → optional_at at p ≡ Some (None, q)
-unfolding code_at optional_at
+pub no_part : {V : Type 0} (at : List ℕ → Option (V × List ℕ)) (p q : PartsLeft) → part_code_at p ≡ Some (0x40, q) → optional_at at p ≡ Some (None, q)
+unfolding part_code_at optional_at
 no_part at p q e = by_null at (eqb p.left 0) p.bytes p q (p.left - 1) e
 
-pub a_part : {V : Type 0} (at : List ℕ → Option (V × List ℕ)) (p q : PartsLeft) (code : ℕ) (v : V) (rest : List ℕ) → code_at p ≡ Some (code, q) → code ≢ 0x40 → at (code ∷ q.bytes) ≡ Some (v, rest)
+pub a_part : {V : Type 0} (at : List ℕ → Option (V × List ℕ)) (p q : PartsLeft) (code : ℕ) (v : V) (rest : List ℕ) → part_code_at p ≡ Some (code, q) → code ≢ 0x40 → at (code ∷ q.bytes) ≡ Some (v, rest)
     → optional_at at p ≡ Some (Some v, record { left = q.left; bytes = rest })
-unfolding code_at optional_at
+unfolding part_code_at optional_at
 a_part at p q code v rest e other read = by_code at (eqb p.left 0) p.bytes p q (p.left - 1) code e other ∙ rw read refl
 
-pub not_a_part : {V : Type 0} (at : List ℕ → Option (V × List ℕ)) (p q : PartsLeft) (code : ℕ) → code_at p ≡ Some (code, q) → code ≢ 0x40 → at (code ∷ q.bytes) ≡ None → optional_at at p ≡ None
-unfolding code_at optional_at
+pub not_a_part : {V : Type 0} (at : List ℕ → Option (V × List ℕ)) (p q : PartsLeft) (code : ℕ) → part_code_at p ≡ Some (code, q) → code ≢ 0x40 → at (code ∷ q.bytes) ≡ None → optional_at at p ≡ None
+unfolding part_code_at optional_at
 not_a_part at p q code e other read = by_code at (eqb p.left 0) p.bytes p q (p.left - 1) code e other ∙ rw read refl
 
-pub part_ended : {V : Type 0} (at : List ℕ → Option (V × List ℕ)) (p : PartsLeft) → code_at p ≡ None → at [] ≡ None → optional_at at p ≡ None
-unfolding code_at optional_at
+pub part_ended : {V : Type 0} (at : List ℕ → Option (V × List ℕ)) (p : PartsLeft) → part_code_at p ≡ None → at [] ≡ None → optional_at at p ≡ None
+unfolding part_code_at optional_at
 part_ended at p e none = by_end at (eqb p.left 0) p.bytes p (p.left - 1) e none

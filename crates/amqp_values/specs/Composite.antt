@@ -67,7 +67,7 @@ list_at bytes =
 abbrev pub fields_at : {V : Type 0} → (PartsLeft → Option (V × PartsLeft)) → PartsLeft × List ℕ → Option (V × List ℕ)
 fields_at body l = body l.0 >>= λ v. Some (v.0, l.1)
 
-unfoldable pub composite_at : {V : Type 0} → (PartsLeft → Option (V × PartsLeft)) → List ℕ → Option (V × List ℕ)
+abbrev pub composite_at : {V : Type 0} → (PartsLeft → Option (V × PartsLeft)) → List ℕ → Option (V × List ℕ)
 composite_at body bytes = list_at bytes >>= fields_at body
 
 unfoldable pub code_of : List ℕ → Option ℕ

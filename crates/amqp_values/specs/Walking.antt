@@ -13,8 +13,8 @@ abbrev pub ahead : List ℕ → ListWalk → PartsLeft
 ahead text w = record { left = w.left; bytes = drop w.at text }
 
 -- the code of the next part; that of null also where the list has ended
-unfoldable pub code_at : PartsLeft → Option (ℕ × PartsLeft)
-code_at p =
+unfoldable pub part_code_at : PartsLeft → Option (ℕ × PartsLeft)
+part_code_at p =
     if p.left == 0 then Some (0x40, p)
     else (byte_at p.bytes >>= λ x. Some (x.0, record { left = p.left - 1; bytes = x.1 }))
 

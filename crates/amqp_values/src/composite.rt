@@ -1,6 +1,7 @@
 //! Composites: described lists, read by the table of their fields.
 
-ghost use Rattle.std.specs.Prelude.{◌≡◌, ◌≤◌, ℕ, List, Option, take, drop, length};
+ghost use Rattle.std.specs.Prelude.{◌≡◌, ◌≤◌, ℕ, List, Option, take, drop, length, IfErr};
+ghost use Rattle.amqp_values.specs.declared.error.ReadError.TheVariants.{Malformed};
 ghost use Rattle.amqp_values.specs.Slots.{PartsLeft};
 ghost use Rattle.amqp_values.specs.Reading.{Gives};
 ghost use Rattle.amqp_values.specs.Composite.{composite_at, code_of, meaning_at, name_at, code_at, descriptor_at, described_at};
@@ -56,7 +57,8 @@ fn code_of_name(name: &[u8]) -> Option<u8>
 
 #[inline(never)]
 fn meaning(name: &[u8]) -> Result<u64, ReadError>
-    ensures { (rest : List ℕ) → Gives (λ x. x) result rest (meaning_at (name.now, rest)) }
+    ensures value { (rest : List ℕ) → Gives (λ x. x) result rest (meaning_at (name.now, rest)) }
+    ensures malformed { IfErr result (λ e. e ≡ Malformed) }
 {
     match code_of_name(name) {
         Some(code) => Ok(u64::from(code)),
@@ -70,6 +72,7 @@ fn named(wide: bool, text: &[u8], at: &mut usize) -> Result<u64, ReadError>
     requires { at.old ≤ length text.now }
     ensures value { Gives (λ x. x) result (drop at.new text.now) (name_at wide (drop at.old text.now)) }
     ensures bound { at.new ≤ length text.now }
+    ensures malformed { IfErr result (λ e. e ≡ Malformed) }
 {
     let from = take_region(wide, text, at)?;
     meaning(&text[from..*at])
@@ -80,6 +83,7 @@ fn code(text: &[u8], at: &mut usize) -> Result<u64, ReadError>
     requires { at.old ≤ length text.now }
     ensures value { Gives (λ x. x) result (drop at.new text.now) (code_at (drop at.old text.now)) }
     ensures bound { at.new ≤ length text.now }
+    ensures malformed { IfErr result (λ e. e ≡ Malformed) }
 {
     match take_byte(text, at)? {
         codes::ULONG0 => Ok(0),
@@ -95,7 +99,8 @@ fn code(text: &[u8], at: &mut usize) -> Result<u64, ReadError>
 #[tactic(auto, unfolding(crate::specs::Composite::descriptor_at))]
 #[inline(always)]
 pub fn descriptor(bytes: &mut Bytes) -> Result<u64, ReadError>
-    ensures { Gives (λ x. x) result bytes.new (descriptor_at bytes.old) }
+    ensures value { Gives (λ x. x) result bytes.new (descriptor_at bytes.old) }
+    ensures malformed { IfErr result (λ e. e ≡ Malformed) }
 {
     match bytes.as_slice() {
         [codes::DESCRIBED, codes::SMALL_ULONG, code, ..] => {
@@ -115,7 +120,7 @@ pub fn descriptor(bytes: &mut Bytes) -> Result<u64, ReadError>
 
 /// The described list at a place of the text, with this code for its descriptor; the place is behind it then. The text is the front of
 /// the bytes.
-#[tactic(auto, using(crate::proofs::WalkLemmas::rest_slice, crate::proofs::WalkLemmas::front_short, crate::proofs::WalkLemmas::described_left, crate::proofs::WalkLemmas::described_short, crate::proofs::WalkLemmas::described_is), unfolding(crate::specs::Composite::described_at, crate::specs::Composite::composite_at))]
+#[tactic(auto, using(crate::proofs::WalkLemmas::rest_slice, crate::proofs::WalkLemmas::front_short, crate::proofs::WalkLemmas::described_left, crate::proofs::WalkLemmas::described_short, crate::proofs::WalkLemmas::described_is), unfolding(crate::specs::Composite::described_at))]
 pub fn described<C: Composite>(
     alloc: Global,
     code: u64,

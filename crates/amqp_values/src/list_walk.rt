@@ -4,7 +4,7 @@
 ghost use Rattle.std.specs.Prelude.{◌≡◌, ◌≢◌, ◌<◌, ◌≤◌, ◌-◌, ◌∷◌, drop, take, length, IfOk, IfErr};
 ghost use Rattle.std.specs.Option.{option_map};
 ghost use Rattle.amqp_values.specs.declared.error.ReadError.TheVariants.{Malformed};
-ghost use Rattle.amqp_values.specs.Walking.{ahead, code_at, IsEntered};
+ghost use Rattle.amqp_values.specs.Walking.{ahead, part_code_at, IsEntered};
 ghost use Rattle.amqp_values.specs.Reading.{Gives};
 ghost use Rattle.amqp_values.specs.Slots.{default_at, end_at, optional_at, required_at};
 
@@ -48,11 +48,11 @@ impl ListWalk {
     }
 
     /// The code of the next part, which is behind the walk then; that of null also where the list has ended.
-    #[tactic(auto, using(crate::proofs::WalkLemmas::byte_is, crate::proofs::WalkLemmas::no_byte), unfolding(crate::specs::Walking::code_at))]
+    #[tactic(auto, using(crate::proofs::WalkLemmas::byte_is, crate::proofs::WalkLemmas::no_byte), unfolding(crate::specs::Walking::part_code_at))]
     #[inline(always)]
     fn code(&mut self, text: &[u8]) -> Result<u8, ReadError>
         requires { self.old.at ≤ length text.now }
-        ensures value { Gives (λ x. x) result (ahead text.now self.new) (code_at (ahead text.now self.old)) }
+        ensures value { Gives (λ x. x) result (ahead text.now self.new) (part_code_at (ahead text.now self.old)) }
         ensures bound { self.new.at ≤ length text.now }
         ensures behind { IfOk result (λ c. c ≢ 64 → 0 < self.new.at) }
         ensures coded { IfOk result (λ c. c ≢ 64 → drop (self.new.at - 1) text.now ≡ c ∷ drop self.new.at text.now) }

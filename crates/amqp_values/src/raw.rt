@@ -1,6 +1,7 @@
 //! Raw values: one whole value of any type, kept as it came (AMQP 1.0 part 1, section 1.2).
 
-ghost use Rattle.std.specs.Prelude.{◌≡◌};
+ghost use Rattle.std.specs.Prelude.{◌≡◌, ◌≤◌, Some, None, take, drop, length, IfOk, IfErr};
+ghost use Rattle.amqp_values.specs.declared.error.ReadError.TheVariants.{Malformed};
 ghost use Rattle.amqp_values.specs.Reading.{Answers, Gives, ReadsFront};
 ghost use Rattle.amqp_values.specs.Raw.{IsRaw, MakesRaw, SpellsRaw, begins_null, is_raw_text, raw_at};
 ghost use Rattle.amqp_values.specs.Outcome.{outcome_text};
@@ -136,21 +137,11 @@ impl Raw {
     }
 
     /// Cuts the first value off the bytes, and leaves the rest there.
-    #[tactic(auto, unfolding(crate::specs::Raw::raw_at))]
+    #[tactic(auto, using(crate::proofs::WalkLemmas::raw_front))]
     fn take(bytes: &mut Bytes) -> Result<Raw, ReadError>
         ensures { Gives (λ v. v) result bytes.new (raw_at bytes.old) }
     {
-        let whole = bytes.as_slice();
-        let Some(rest) = value_rest(whole, 64) else {
-            return Err(ReadError::Malformed);
-        };
-        let Some((code, _)) = first(whole) else {
-            return Err(ReadError::Malformed);
-        };
-        if code == codes::NULL {
-            return Err(ReadError::Malformed);
-        }
-        let len = whole.len() - rest.len();
+        let len = raw_len(bytes.as_slice())?;
         let bytes = bytes.split_to(len)?;
         Ok(Raw { bytes })
     }
@@ -184,7 +175,7 @@ impl Field for Raw {
     #[inline(always)]
     fn never_empty() {}
 
-    #[tactic(auto, using(crate::proofs::WalkLemmas::rest_slice, crate::proofs::WalkLemmas::front_short, crate::proofs::WalkLemmas::raw_left, crate::proofs::WalkLemmas::raw_short))]
+    #[tactic(auto, using(crate::proofs::WalkLemmas::front_slice, crate::proofs::WalkLemmas::front_short, crate::proofs::WalkLemmas::slice_is, crate::proofs::WalkLemmas::drop_past, crate::proofs::WalkLemmas::raw_inside))]
     #[inline(never)]
     fn read(
         _alloc: Global,
@@ -193,11 +184,32 @@ impl Field for Raw {
         place: &mut usize,
         bytes: &Bytes,
     ) -> Result<Raw, ReadError> {
-        let mut rest = bytes.slice(*place - 1..text.len())?;
-        let raw = Raw::take(&mut rest)?;
-        *place = text.len() - rest.len();
-        Ok(raw)
+        let from = *place - 1;
+        let (_, rest) = text.split_at(from);
+        let end = from + raw_len(rest)?;
+        let bytes = bytes.slice(from..end)?;
+        *place = end;
+        Ok(Raw { bytes })
     }
+}
+
+/// How long the first value of the bytes is. `Malformed` where no front of them is one of a depth of at most 64, or where it is the null.
+#[tactic(auto, unfolding(crate::specs::Raw::raw_at))]
+fn raw_len(bytes: &[u8]) -> Result<usize, ReadError>
+    ensures value { IfOk result (λ len. raw_at bytes.now ≡ Some (take len bytes.now, drop len bytes.now)) }
+    ensures bound { IfOk result (λ len. len ≤ length bytes.now) }
+    ensures malformed { IfErr result (λ e. (e ≡ Malformed) × (raw_at bytes.now ≡ None)) }
+{
+    let Some(rest) = value_rest(bytes, 64) else {
+        return Err(ReadError::Malformed);
+    };
+    let Some((code, _)) = first(bytes) else {
+        return Err(ReadError::Malformed);
+    };
+    if code == codes::NULL {
+        return Err(ReadError::Malformed);
+    }
+    Ok(bytes.len() - rest.len())
 }
 
 /// Whether the bytes are exactly one value, and not the null.

@@ -6,3 +6,4 @@ mod parts;
 mod raw_values;
 mod reading;
 mod symbols;
+mod walks;

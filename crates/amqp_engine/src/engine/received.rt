@@ -12,7 +12,7 @@ ghost use Rattle.amqp_engine.specs.ByHistory.{remote_reason};
 use super::handle_state::{close_answer, copy_of, end_answer};
 use super::sessions::{
     attach_received, begin_received, detach_received, disposition_received, end_received,
-    flow_received, transfer_received,
+    flow_received,
 };
 use super::step_error::StepError;
 use super::{Engine, refused};
@@ -114,7 +114,13 @@ impl<R: LinkRelay> Engine<R> {
             drop(rest);
             return refused::no_session();
         };
-        transfer_received(session, &mut self.waiting, transfer, rest)
+        match session.take_transfer(transfer, rest) {
+            Ok(()) => {
+                self.waiting.put_item(session.maybe_outgoing_session_flow());
+                Ok(())
+            }
+            Err(error) => refused::by_session(error),
+        }
     }
 
     #[inline(never)]

@@ -15,7 +15,7 @@ use super::input::Input;
 use super::output_queue::OutputQueue;
 use super::sessions::{
     allocate_incoming_link, allocate_link, end, send_attach, send_detach, send_disposition,
-    send_flow, send_transfer, settle, stop,
+    send_flow, settle, stop,
 };
 use super::step_error::StepError;
 use super::{Engine, refused};
@@ -235,14 +235,13 @@ impl<R: LinkRelay> Engine<R> {
             drop(payload);
             return refused::no_session();
         };
-        send_transfer(
-            session,
-            &mut self.waiting,
-            input,
-            transfer,
-            payload,
-            is_first,
-        )
+        match session.on_outgoing_transfer(input, transfer, payload, is_first) {
+            Ok(item) => {
+                self.waiting.put_item(item);
+                Ok(())
+            }
+            Err(error) => refused::by_session(error),
+        }
     }
 
     #[inline(never)]

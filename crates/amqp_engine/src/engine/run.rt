@@ -86,10 +86,11 @@ impl<R: LinkRelay> Engine<R> {
         ensures { (refusal : Option StepError) × StepsFirst R.gives self.old inputs.old.items refusal self.new inputs.new.items
             × (answers.new.items ≡ answers.old.items ++ answer_of refusal ∷ []) }
     {
-        match inputs.front() {
-            Some(Input::Received(_)) => put_answer(answers, self.receive_first(inputs)),
-            Some(Input::Transfer(..)) => put_answer(answers, self.transfer_first(inputs)),
-            _ => put_answer(answers, self.step_first(inputs)),
-        }
+        let outcome = match inputs.front() {
+            Some(Input::Received(_)) => self.receive_first(inputs),
+            Some(Input::Transfer(..)) => self.transfer_first(inputs),
+            _ => self.step_first(inputs),
+        };
+        put_answer(answers, outcome);
     }
 }

@@ -92,11 +92,12 @@ impl<R: LinkRelay> Engine<R> {
         ensures { (refusal : Option StepError) × StepsFirst R.gives self.old inputs.old.items refusal self.new inputs.new.items
             × (refusals.new.items ≡ refusals.old.items ++ refusal_at place refusal) }
     {
-        match inputs.front() {
-            Some(Input::Received(_)) => note(refusals, place, self.receive_first(inputs)),
-            Some(Input::Transfer(..)) => note(refusals, place, self.transfer_first(inputs)),
-            _ => note(refusals, place, self.step_first(inputs)),
-        }
+        let outcome = match inputs.front() {
+            Some(Input::Received(_)) => self.receive_first(inputs),
+            Some(Input::Transfer(..)) => self.transfer_first(inputs),
+            _ => self.step_first(inputs),
+        };
+        note(refusals, place, outcome);
     }
 
     /// Sends what waits. A frame that does not fit is handed back as one of this place.

@@ -2,7 +2,7 @@
 
 ghost use Rattle.std.specs.Prelude.{◌≡◌, None, [], string_bytes};
 ghost use Rattle.amqp_engine.specs.Calls.{end_reason, remote_end_reason, ReceivedDispositionCalls};
-ghost use Rattle.amqp_engine.specs.Inner.Calls.{EndCalls, AllocateLinkCalls, AllocateIncomingCalls, AttachCalls, DetachCalls, ReceivedAttachCalls, ReceivedDetachCalls, FlowCalls, TransferCalls, SettleCalls, StopCalls, ReceivedBeginCalls, ReceivedEndCalls, ReceivedFlowCalls, ReceivedTransferCalls, DispositionCalls};
+ghost use Rattle.amqp_engine.specs.Inner.Calls.{EndCalls, AllocateLinkCalls, AllocateIncomingCalls, AttachCalls, DetachCalls, ReceivedAttachCalls, ReceivedDetachCalls, FlowCalls, SettleCalls, StopCalls, ReceivedBeginCalls, ReceivedEndCalls, ReceivedFlowCalls, DispositionCalls};
 ghost use Rattle.amqp_types.specs.Disposition.{DispositionModel};
 ghost use Rattle.amqp_session.specs.declared.frame.SessionFrameBody.TheVariants as said;
 ghost use Rattle.amqp_connection.specs.Connection.{refusal_of};
@@ -17,9 +17,7 @@ use amqp_session::{
 };
 use amqp_types::{
     Attach, Begin, DeliveryNumber, Detach, Disposition, End, Error, Flow, Role, SessionState,
-    Transfer,
 };
-use bytes::Bytes;
 use std::collections::VecDeque;
 
 /// Why a session stops with an End of this side.
@@ -122,29 +120,6 @@ pub(crate) fn send_flow<R: LinkRelay>(
     ensures { Answered R.gives session.old.view (FlowCalls flow) None waiting.new session.new.view }
 {
     waiting.put_frame(session.on_outgoing_flow(flow));
-}
-
-#[inline(always)]
-pub(crate) fn send_transfer<R: LinkRelay>(
-    session: &mut Session<R>,
-    waiting: &mut OutputQueue,
-    input: InputHandle,
-    transfer: Transfer,
-    payload: Bytes,
-    is_first: bool,
-) -> Result<(), StepError>
-    requires { waiting.old ≡ [] }
-    ensures { Answered R.gives session.old.view
-        (TransferCalls (record { input_handle = input.0; transfer = transfer; payload = payload; is_first = is_first }))
-        (refusal_of result) waiting.new session.new.view }
-{
-    match session.on_outgoing_transfer(input, transfer, payload, is_first) {
-        Ok(item) => {
-            waiting.put_item(item);
-            Ok(())
-        }
-        Err(error) => refused::by_session(error),
-    }
 }
 
 pub(crate) fn send_disposition<R: LinkRelay>(
@@ -297,26 +272,6 @@ pub(crate) fn disposition_received<R: LinkRelay>(
         Ok(Some(echoes)) => {
             let channel = session.outgoing_channel();
             waiting.put_dispositions(channel, send_each(session, echoes));
-            Ok(())
-        }
-        Err(error) => refused::by_session(error),
-    }
-}
-
-/// The peer's transfer; after one that is accepted a session flow may be due.
-#[inline(always)]
-pub(crate) fn transfer_received<R: LinkRelay>(
-    session: &mut Session<R>,
-    waiting: &mut OutputQueue,
-    transfer: Transfer,
-    payload: Bytes,
-) -> Result<(), StepError>
-    requires { waiting.old ≡ [] }
-    ensures { Answered R.gives session.old.view (ReceivedTransferCalls transfer payload) (refusal_of result) waiting.new session.new.view }
-{
-    match session.take_transfer(transfer, payload) {
-        Ok(()) => {
-            waiting.put_item(session.maybe_outgoing_session_flow());
             Ok(())
         }
         Err(error) => refused::by_session(error),

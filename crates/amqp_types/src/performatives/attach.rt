@@ -1,11 +1,10 @@
 //! Attach (AMQP 1.0 part 2, section 2.7.3).
 
-ghost use Rattle.std.specs.Prelude.{◌≡◌, ◌<◌, ◌≤◌, ◌+◌, ◌^◌, ◌++◌, length, take, drop, List, ℕ, Option};
+ghost use Rattle.std.specs.Prelude.{◌≡◌, ◌<◌, ◌≤◌, ◌+◌, ◌^◌, ◌++◌, length, take, List, ℕ, Option};
 ghost use Rattle.std.specs.Option.{option_map};
 ghost use Rattle.amqp_values.specs.Reading.{Gives};
 ghost use Rattle.amqp_values.specs.Slots.{beside};
 ghost use Rattle.amqp_values.specs.Walking.{ahead};
-ghost use Rattle.amqp_values.specs.Composite.{fields_at};
 ghost use Rattle.amqp_types.specs.Attach.{attach_rest_at, attach_body_at, attach_table, attach_first_same, attach_last_same};
 ghost use Rattle.amqp_types.specs.declared.performatives.Performative.TheVariants as performative;
 ghost use Rattle.amqp_types.specs.Performatives.{performative_text};
@@ -127,59 +126,42 @@ impl Attach {
 impl Composite for Attach {
     ghost body_at = { attach_body_at };
 
-    #[tactic(auto, using(crate::proofs::WalkLemmas::list_none, crate::proofs::WalkLemmas::of_fields))]
+    #[tactic(auto, unfolding(crate::specs::Attach::attach_body_at))]
     #[inline(always)]
     fn read_list(alloc: Global, bytes: &mut Bytes) -> Result<Attach, ReadError> {
-        let (walk, end) = match ListWalk::enter(bytes.as_slice()) {
+        let (mut walk, end) = match ListWalk::enter(bytes.as_slice()) {
             Ok(entered) => entered,
             Err(error) => return Err(error),
         };
-        take_fields(alloc, walk, end, bytes)
+        let (text, _) = bytes.as_slice().split_at(end);
+        let name = walk.required(alloc, text, &*bytes)?;
+        let handle = walk.required(alloc, text, &*bytes)?;
+        let role = walk.required(alloc, text, &*bytes)?;
+        let snd_settle_mode = walk.or(alloc, text, &*bytes, SenderSettleMode::Mixed)?;
+        let rcv_settle_mode = walk.or(alloc, text, &*bytes, ReceiverSettleMode::First)?;
+        let source = walk.next(alloc, text, &*bytes)?;
+        let target = walk.next(alloc, text, &*bytes)?;
+        let unsettled = walk.next(alloc, text, &*bytes)?;
+        let incomplete_unsettled = walk.or(alloc, text, &*bytes, false)?;
+        let rest = take_rest(alloc, &mut walk, text, &*bytes)?;
+        bytes.advance(end);
+        Ok(Attach {
+            name,
+            handle,
+            role,
+            snd_settle_mode,
+            rcv_settle_mode,
+            source,
+            target,
+            unsettled,
+            incomplete_unsettled,
+            initial_delivery_count: rest.initial_delivery_count,
+            max_message_size: rest.max_message_size,
+            offered_capabilities: rest.offered_capabilities,
+            desired_capabilities: rest.desired_capabilities,
+            properties: rest.properties,
+        })
     }
-}
-
-/// The fields of the list that was entered and goes so far; the rest of the bytes is left.
-#[tactic(auto, unfolding(crate::specs::Attach::attach_body_at))]
-#[inline(always)]
-fn take_fields(
-    alloc: Global,
-    walk: ListWalk,
-    end: usize,
-    bytes: &mut Bytes,
-) -> Result<Attach, ReadError>
-    requires inside { walk.at ≤ end }
-    requires front { end ≤ length bytes.old }
-    ensures { Gives (λ x. x) result bytes.new (fields_at attach_body_at (ahead (take end bytes.old) walk, drop end bytes.old)) }
-{
-    let (text, _) = bytes.as_slice().split_at(end);
-    let mut walk = walk;
-    let name = walk.required(alloc, text, &*bytes)?;
-    let handle = walk.required(alloc, text, &*bytes)?;
-    let role = walk.required(alloc, text, &*bytes)?;
-    let snd_settle_mode = walk.or(alloc, text, &*bytes, SenderSettleMode::Mixed)?;
-    let rcv_settle_mode = walk.or(alloc, text, &*bytes, ReceiverSettleMode::First)?;
-    let source = walk.next(alloc, text, &*bytes)?;
-    let target = walk.next(alloc, text, &*bytes)?;
-    let unsettled = walk.next(alloc, text, &*bytes)?;
-    let incomplete_unsettled = walk.or(alloc, text, &*bytes, false)?;
-    let rest = take_rest(alloc, &mut walk, text, &*bytes)?;
-    bytes.advance(end);
-    Ok(Attach {
-        name,
-        handle,
-        role,
-        snd_settle_mode,
-        rcv_settle_mode,
-        source,
-        target,
-        unsettled,
-        incomplete_unsettled,
-        initial_delivery_count: rest.initial_delivery_count,
-        max_message_size: rest.max_message_size,
-        offered_capabilities: rest.offered_capabilities,
-        desired_capabilities: rest.desired_capabilities,
-        properties: rest.properties,
-    })
 }
 
 /// The fields from the delivery count on.

@@ -83,7 +83,7 @@ impl PartialEq for Begin {
 impl Composite for Begin {
     ghost body_at = { begin_body_at };
 
-    #[tactic(auto, using(crate::proofs::WalkLemmas::begin_some, crate::proofs::WalkLemmas::begin_none, crate::proofs::WalkLemmas::no_begin), unfolding(crate::specs::Begin::begin_body_at))]
+    #[tactic(auto, unfolding(crate::specs::Begin::begin_body_at))]
     #[inline(always)]
     fn read_list(alloc: Global, bytes: &mut Bytes) -> Result<Begin, ReadError> {
         let (mut walk, end) = match ListWalk::enter(bytes.as_slice()) {

@@ -52,7 +52,7 @@ impl PartialEq for Close {
 impl Composite for Close {
     ghost body_at = { close_body_at };
 
-    #[tactic(auto, using(crate::proofs::WalkLemmas::list_some, crate::proofs::WalkLemmas::list_none, crate::proofs::WalkLemmas::body_none), unfolding(crate::specs::Close::close_body_at))]
+    #[tactic(auto, unfolding(crate::specs::Close::close_body_at))]
     #[inline(always)]
     fn read_list(alloc: Global, bytes: &mut Bytes) -> Result<Close, ReadError> {
         let (mut walk, end) = match ListWalk::enter(bytes.as_slice()) {

@@ -61,7 +61,7 @@ impl PartialEq for Detach {
 impl Composite for Detach {
     ghost body_at = { detach_body_at };
 
-    #[tactic(auto, using(crate::proofs::WalkLemmas::list_some, crate::proofs::WalkLemmas::list_none, crate::proofs::WalkLemmas::body_none), unfolding(crate::specs::Detach::detach_body_at))]
+    #[tactic(auto, unfolding(crate::specs::Detach::detach_body_at))]
     #[inline(always)]
     fn read_list(alloc: Global, bytes: &mut Bytes) -> Result<Detach, ReadError> {
         let (mut walk, end) = match ListWalk::enter(bytes.as_slice()) {

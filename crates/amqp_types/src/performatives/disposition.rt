@@ -76,7 +76,7 @@ impl PartialEq for Disposition {
 impl Composite for Disposition {
     ghost body_at = { disposition_body_at };
 
-    #[tactic(auto, using(crate::proofs::WalkLemmas::disposition_some, crate::proofs::WalkLemmas::disposition_none, crate::proofs::WalkLemmas::no_disposition), unfolding(crate::specs::Disposition::disposition_body_at))]
+    #[tactic(auto, unfolding(crate::specs::Disposition::disposition_body_at))]
     #[inline(always)]
     fn read_list(alloc: Global, bytes: &mut Bytes) -> Result<Disposition, ReadError> {
         let (mut walk, end) = match ListWalk::enter(bytes.as_slice()) {

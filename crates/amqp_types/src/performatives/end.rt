@@ -52,7 +52,7 @@ impl PartialEq for End {
 impl Composite for End {
     ghost body_at = { end_body_at };
 
-    #[tactic(auto, using(crate::proofs::WalkLemmas::list_some, crate::proofs::WalkLemmas::list_none, crate::proofs::WalkLemmas::body_none), unfolding(crate::specs::End::end_body_at))]
+    #[tactic(auto, unfolding(crate::specs::End::end_body_at))]
     #[inline(always)]
     fn read_list(alloc: Global, bytes: &mut Bytes) -> Result<End, ReadError> {
         let (mut walk, end) = match ListWalk::enter(bytes.as_slice()) {

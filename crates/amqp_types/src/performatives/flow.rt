@@ -1,9 +1,7 @@
 //! Flow (AMQP 1.0 part 2, section 2.7.4).
 
-ghost use Rattle.std.specs.Prelude.{◌≡◌, ◌<◌, ◌≤◌, ◌+◌, ◌^◌, ◌++◌, length, take, drop, List, ℕ, Option};
+ghost use Rattle.std.specs.Prelude.{◌≡◌, ◌<◌, ◌≤◌, ◌+◌, ◌^◌, ◌++◌, length, List, ℕ, Option};
 ghost use Rattle.amqp_values.specs.Reading.{Gives};
-ghost use Rattle.amqp_values.specs.Walking.{ahead};
-ghost use Rattle.amqp_values.specs.Composite.{fields_at};
 ghost use Rattle.amqp_types.specs.Flow.{flow_body_at, flow_table, flow_first_same, flow_last_same};
 ghost use Rattle.amqp_types.specs.declared.performatives.Performative.TheVariants as performative;
 ghost use Rattle.amqp_types.specs.Performatives.{performative_text};
@@ -113,58 +111,41 @@ impl Flow {
 impl Composite for Flow {
     ghost body_at = { flow_body_at };
 
-    #[tactic(auto, using(crate::proofs::WalkLemmas::list_none, crate::proofs::WalkLemmas::of_fields))]
+    #[tactic(auto, unfolding(crate::specs::Flow::flow_body_at))]
     #[inline(always)]
     fn read_list(alloc: Global, bytes: &mut Bytes) -> Result<Flow, ReadError> {
-        let (walk, end) = match ListWalk::enter(bytes.as_slice()) {
+        let (mut walk, end) = match ListWalk::enter(bytes.as_slice()) {
             Ok(entered) => entered,
             Err(error) => return Err(error),
         };
-        take_fields(alloc, walk, end, bytes)
+        let (text, _) = bytes.as_slice().split_at(end);
+        let next_incoming_id = walk.next(alloc, text, &*bytes)?;
+        let incoming_window = walk.required(alloc, text, &*bytes)?;
+        let next_outgoing_id = walk.required(alloc, text, &*bytes)?;
+        let outgoing_window = walk.required(alloc, text, &*bytes)?;
+        let handle = walk.next(alloc, text, &*bytes)?;
+        let delivery_count = walk.next(alloc, text, &*bytes)?;
+        let link_credit = walk.next(alloc, text, &*bytes)?;
+        let available = walk.next(alloc, text, &*bytes)?;
+        let drain = walk.or(alloc, text, &*bytes, false)?;
+        let echo = walk.or(alloc, text, &*bytes, false)?;
+        let properties = walk.next(alloc, text, &*bytes)?;
+        walk.finish(text)?;
+        bytes.advance(end);
+        Ok(Flow {
+            next_incoming_id,
+            incoming_window,
+            next_outgoing_id,
+            outgoing_window,
+            handle,
+            delivery_count,
+            link_credit,
+            available,
+            drain,
+            echo,
+            properties,
+        })
     }
-}
-
-/// The fields of the list that was entered and goes so far; the rest of the bytes is left.
-#[tactic(auto, unfolding(crate::specs::Flow::flow_body_at))]
-#[inline(always)]
-fn take_fields(
-    alloc: Global,
-    walk: ListWalk,
-    end: usize,
-    bytes: &mut Bytes,
-) -> Result<Flow, ReadError>
-    requires inside { walk.at ≤ end }
-    requires front { end ≤ length bytes.old }
-    ensures { Gives (λ x. x) result bytes.new (fields_at flow_body_at (ahead (take end bytes.old) walk, drop end bytes.old)) }
-{
-    let (text, _) = bytes.as_slice().split_at(end);
-    let mut walk = walk;
-    let next_incoming_id = walk.next(alloc, text, &*bytes)?;
-    let incoming_window = walk.required(alloc, text, &*bytes)?;
-    let next_outgoing_id = walk.required(alloc, text, &*bytes)?;
-    let outgoing_window = walk.required(alloc, text, &*bytes)?;
-    let handle = walk.next(alloc, text, &*bytes)?;
-    let delivery_count = walk.next(alloc, text, &*bytes)?;
-    let link_credit = walk.next(alloc, text, &*bytes)?;
-    let available = walk.next(alloc, text, &*bytes)?;
-    let drain = walk.or(alloc, text, &*bytes, false)?;
-    let echo = walk.or(alloc, text, &*bytes, false)?;
-    let properties = walk.next(alloc, text, &*bytes)?;
-    walk.finish(text)?;
-    bytes.advance(end);
-    Ok(Flow {
-        next_incoming_id,
-        incoming_window,
-        next_outgoing_id,
-        outgoing_window,
-        handle,
-        delivery_count,
-        link_credit,
-        available,
-        drain,
-        echo,
-        properties,
-    })
 }
 
 /// The fields, borrowed for writing, by types of their own.

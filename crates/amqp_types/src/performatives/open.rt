@@ -1,9 +1,7 @@
 //! Open (AMQP 1.0 part 2, section 2.7.1).
 
-ghost use Rattle.std.specs.Prelude.{◌≡◌, ◌<◌, ◌≤◌, ◌+◌, ◌^◌, ◌++◌, length, take, drop, List, ℕ, Option};
+ghost use Rattle.std.specs.Prelude.{◌≡◌, ◌<◌, ◌≤◌, ◌+◌, ◌^◌, ◌++◌, length, List, ℕ, Option};
 ghost use Rattle.amqp_values.specs.Reading.{Gives};
-ghost use Rattle.amqp_values.specs.Walking.{ahead};
-ghost use Rattle.amqp_values.specs.Composite.{fields_at};
 ghost use Rattle.amqp_types.specs.Open.{open_body_at, open_table, open_first_same, open_last_same};
 ghost use Rattle.amqp_types.specs.declared.performatives.Performative.TheVariants as performative;
 ghost use Rattle.amqp_types.specs.Performatives.{performative_text};
@@ -127,56 +125,39 @@ impl Open {
 impl Composite for Open {
     ghost body_at = { open_body_at };
 
-    #[tactic(auto, using(crate::proofs::WalkLemmas::list_none, crate::proofs::WalkLemmas::of_fields))]
+    #[tactic(auto, unfolding(crate::specs::Open::open_body_at))]
     #[inline(always)]
     fn read_list(alloc: Global, bytes: &mut Bytes) -> Result<Open, ReadError> {
-        let (walk, end) = match ListWalk::enter(bytes.as_slice()) {
+        let (mut walk, end) = match ListWalk::enter(bytes.as_slice()) {
             Ok(entered) => entered,
             Err(error) => return Err(error),
         };
-        take_fields(alloc, walk, end, bytes)
+        let (text, _) = bytes.as_slice().split_at(end);
+        let container_id = walk.required(alloc, text, &*bytes)?;
+        let hostname = walk.next(alloc, text, &*bytes)?;
+        let max_frame_size = walk.or(alloc, text, &*bytes, u32::MAX)?;
+        let channel_max = walk.or(alloc, text, &*bytes, u16::MAX)?;
+        let idle_time_out = walk.next(alloc, text, &*bytes)?;
+        let outgoing_locales = walk.next(alloc, text, &*bytes)?;
+        let incoming_locales = walk.next(alloc, text, &*bytes)?;
+        let offered_capabilities = walk.next(alloc, text, &*bytes)?;
+        let desired_capabilities = walk.next(alloc, text, &*bytes)?;
+        let properties = walk.next(alloc, text, &*bytes)?;
+        walk.finish(text)?;
+        bytes.advance(end);
+        Ok(Open {
+            container_id,
+            hostname,
+            max_frame_size,
+            channel_max,
+            idle_time_out,
+            outgoing_locales,
+            incoming_locales,
+            offered_capabilities,
+            desired_capabilities,
+            properties,
+        })
     }
-}
-
-/// The fields of the list that was entered and goes so far; the rest of the bytes is left.
-#[tactic(auto, unfolding(crate::specs::Open::open_body_at))]
-#[inline(always)]
-fn take_fields(
-    alloc: Global,
-    walk: ListWalk,
-    end: usize,
-    bytes: &mut Bytes,
-) -> Result<Open, ReadError>
-    requires inside { walk.at ≤ end }
-    requires front { end ≤ length bytes.old }
-    ensures { Gives (λ x. x) result bytes.new (fields_at open_body_at (ahead (take end bytes.old) walk, drop end bytes.old)) }
-{
-    let (text, _) = bytes.as_slice().split_at(end);
-    let mut walk = walk;
-    let container_id = walk.required(alloc, text, &*bytes)?;
-    let hostname = walk.next(alloc, text, &*bytes)?;
-    let max_frame_size = walk.or(alloc, text, &*bytes, u32::MAX)?;
-    let channel_max = walk.or(alloc, text, &*bytes, u16::MAX)?;
-    let idle_time_out = walk.next(alloc, text, &*bytes)?;
-    let outgoing_locales = walk.next(alloc, text, &*bytes)?;
-    let incoming_locales = walk.next(alloc, text, &*bytes)?;
-    let offered_capabilities = walk.next(alloc, text, &*bytes)?;
-    let desired_capabilities = walk.next(alloc, text, &*bytes)?;
-    let properties = walk.next(alloc, text, &*bytes)?;
-    walk.finish(text)?;
-    bytes.advance(end);
-    Ok(Open {
-        container_id,
-        hostname,
-        max_frame_size,
-        channel_max,
-        idle_time_out,
-        outgoing_locales,
-        incoming_locales,
-        offered_capabilities,
-        desired_capabilities,
-        properties,
-    })
 }
 
 /// The fields, borrowed for writing, by types of their own.

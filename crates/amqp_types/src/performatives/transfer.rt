@@ -1,9 +1,6 @@
 //! Transfer (AMQP 1.0 part 2, section 2.7.5).
 
-ghost use Rattle.std.specs.Prelude.{◌≡◌, ◌<◌, ◌≤◌, ◌+◌, ◌^◌, ◌++◌, length, take, drop, List, ℕ, Option};
-ghost use Rattle.amqp_values.specs.Reading.{Gives};
-ghost use Rattle.amqp_values.specs.Walking.{ahead};
-ghost use Rattle.amqp_values.specs.Composite.{fields_at};
+ghost use Rattle.std.specs.Prelude.{◌≡◌, ◌<◌, ◌≤◌, ◌+◌, ◌^◌, ◌++◌, length, List, ℕ, Option};
 ghost use Rattle.amqp_types.specs.Transfer.{continuation, said_in, transfer_body_at, widest};
 ghost use Rattle.amqp_types.specs.Transfer.{transfer_table, transfer_first_same, transfer_last_same};
 ghost use Rattle.amqp_types.specs.declared.performatives.Performative.TheVariants as performative;
@@ -128,58 +125,41 @@ impl Transfer {
 impl Composite for Transfer {
     ghost body_at = { transfer_body_at };
 
-    #[tactic(auto, using(crate::proofs::WalkLemmas::list_none, crate::proofs::WalkLemmas::of_fields))]
+    #[tactic(auto, unfolding(crate::specs::Transfer::transfer_body_at))]
     #[inline(always)]
     fn read_list(alloc: Global, bytes: &mut Bytes) -> Result<Transfer, ReadError> {
-        let (walk, end) = match ListWalk::enter(bytes.as_slice()) {
+        let (mut walk, end) = match ListWalk::enter(bytes.as_slice()) {
             Ok(entered) => entered,
             Err(error) => return Err(error),
         };
-        take_fields(alloc, walk, end, bytes)
+        let (text, _) = bytes.as_slice().split_at(end);
+        let handle = walk.required(alloc, text, &*bytes)?;
+        let delivery_id = walk.next(alloc, text, &*bytes)?;
+        let delivery_tag = walk.next(alloc, text, &*bytes)?;
+        let message_format = walk.next(alloc, text, &*bytes)?;
+        let settled = walk.next(alloc, text, &*bytes)?;
+        let more = walk.or(alloc, text, &*bytes, false)?;
+        let rcv_settle_mode = walk.next(alloc, text, &*bytes)?;
+        let state = walk.next(alloc, text, &*bytes)?;
+        let resume = walk.or(alloc, text, &*bytes, false)?;
+        let aborted = walk.or(alloc, text, &*bytes, false)?;
+        let batchable = walk.or(alloc, text, &*bytes, false)?;
+        walk.finish(text)?;
+        bytes.advance(end);
+        Ok(Transfer {
+            handle,
+            delivery_id,
+            delivery_tag,
+            message_format,
+            settled,
+            more,
+            rcv_settle_mode,
+            state,
+            resume,
+            aborted,
+            batchable,
+        })
     }
-}
-
-/// The fields of the list that was entered and goes so far; the rest of the bytes is left.
-#[tactic(auto, unfolding(crate::specs::Transfer::transfer_body_at))]
-#[inline(always)]
-fn take_fields(
-    alloc: Global,
-    walk: ListWalk,
-    end: usize,
-    bytes: &mut Bytes,
-) -> Result<Transfer, ReadError>
-    requires inside { walk.at ≤ end }
-    requires front { end ≤ length bytes.old }
-    ensures { Gives (λ x. x) result bytes.new (fields_at transfer_body_at (ahead (take end bytes.old) walk, drop end bytes.old)) }
-{
-    let (text, _) = bytes.as_slice().split_at(end);
-    let mut walk = walk;
-    let handle = walk.required(alloc, text, &*bytes)?;
-    let delivery_id = walk.next(alloc, text, &*bytes)?;
-    let delivery_tag = walk.next(alloc, text, &*bytes)?;
-    let message_format = walk.next(alloc, text, &*bytes)?;
-    let settled = walk.next(alloc, text, &*bytes)?;
-    let more = walk.or(alloc, text, &*bytes, false)?;
-    let rcv_settle_mode = walk.next(alloc, text, &*bytes)?;
-    let state = walk.next(alloc, text, &*bytes)?;
-    let resume = walk.or(alloc, text, &*bytes, false)?;
-    let aborted = walk.or(alloc, text, &*bytes, false)?;
-    let batchable = walk.or(alloc, text, &*bytes, false)?;
-    walk.finish(text)?;
-    bytes.advance(end);
-    Ok(Transfer {
-        handle,
-        delivery_id,
-        delivery_tag,
-        message_format,
-        settled,
-        more,
-        rcv_settle_mode,
-        state,
-        resume,
-        aborted,
-        batchable,
-    })
 }
 
 /// The fields, borrowed for writing, by types of their own.

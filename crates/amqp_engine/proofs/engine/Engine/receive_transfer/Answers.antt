@@ -1,6 +1,12 @@
-use Rattle.std.proofs.Common.{sym, ap, ◌∙◌, refl}
+use Rattle.std.proofs.Common.{◌∙◌, sym, ap, Ok, Err, Some, None, refl, [], ◌∷◌}
+use Rattle.std.proofs.lemmas.List.{append-nil}
 use Rattle.std.specs.Option.{option_copied_mut}
 use Rattle.std.specs.HashMap.{HashMap}
+use Rattle.amqp_session.specs.History as session
+use Rattle.amqp_session.specs.Items.{item_frames}
+use Rattle.amqp_engine.specs.EngineView.{EngineView}
+use Rattle.amqp_engine.specs.Waits.{sent}
+use Rattle.amqp_engine.specs.declared.engine.step_error.StepError.TheVariants as refused
 use Rattle.amqp_engine.specs.Inner.Calls.{ReceivedTransferCalls}
 use Rattle.amqp_engine.proofs.KindFieldsLemmas.{transfer_fields}
 use Rattle.amqp_engine.proofs.ReceivedFieldsLemmas.{unread}
@@ -28,16 +34,43 @@ returns-in_default-get_mut g c =
     (viewed_none c.in-Some.number.0 c.self.inside.sessions.entries (sym c.get_mut.ensures.value ∙ ap option_copied_mut c.in_default-get_mut.is))
     (ap (λ (m : HashMap _ _ _). m.entries) c.get_mut.follows.holds-at-none))
 
-pub returns : goal.returns
-returns g c =
+pub returns-in-Ok-take_transfer : goal.returns-in-Ok-take_transfer
+returns-in-Ok-take_transfer g c =
+    let received = c.in-Ok-take_transfer.ensures.step in
+    let item = c.maybe_outgoing_session_flow.result in
     handed g.R.LinkRelay.gives transfer_fields (ReceivedTransferCalls c.in-Ok.transfer c.read_list.new.bytes) c.args.self.now c.args.channel.0 c.args.fields c.read_list.new.bytes c.in-Ok.transfer
     c.in-Ok.ensures (λ refusal w reached calls h. h)
-    _ _ _ _ c.in-Some.number.0 _ c.transfer_received.new.waiting _ c.in-Some-get_mut.session.now c.transfer_received.new.session _
+    _ _ _ _ c.in-Some.number.0 _ c.put_item.new.self c.put_item.new.self c.in-Some-get_mut.session.now c.maybe_outgoing_session_flow.new.self None
     c.self.view_is (route_found _ _ c.in-Some.number c.session_tx_by_incoming_channel.ensures c.in-Some.is)
     (viewed_some c.in-Some.number.0 c.self.inside.sessions.entries c.in-Some-get_mut.session.now (sym c.in-Some-get_mut.ensures.value))
-    c.transfer_received.ensures
+    (record {
+      calls = session.TakesTransfer c.in-Ok.transfer c.read_list.new.bytes received.0 (Ok None) ∷ session.SendsSessionFlow item ∷ [];
+      asked = (received.0, Ok None, item, refl, refl);
+      steps = (c.take_transfer.new.self.view, received.1, (c.maybe_outgoing_session_flow.new.self.view, c.maybe_outgoing_session_flow.ensures.step, refl));
+      handed_out = c.put_item.ensures ∙ sym (ap sent (append-nil (item_frames item)));
+    })
     refl
-    (c.get_mut.follows.holds c.transfer_received.new.session)
+    (c.get_mut.follows.holds c.maybe_outgoing_session_flow.new.self)
 
-pub invariant_of-self-2 : goal.invariant_of-self-2
-invariant_of-self-2 g c = seated_set c.self.inside.sessions.entries _ c.in-Some.number.0 c.transfer_received.new.session c.self.inside.kept.places (c.get_mut.follows.holds c.transfer_received.new.session) c.self.invariant
+pub returns-in-Err-take_transfer : goal.returns-in-Err-take_transfer
+returns-in-Err-take_transfer g c =
+    let received = c.in-Err-take_transfer.ensures.step in
+    rw c.by_session.ensures (handed g.R.LinkRelay.gives transfer_fields (ReceivedTransferCalls c.in-Ok.transfer c.read_list.new.bytes) c.args.self.now c.args.channel.0 c.args.fields c.read_list.new.bytes c.in-Ok.transfer
+    c.in-Ok.ensures (λ refusal w reached calls h. h)
+    _ _ _ _ c.in-Some.number.0 _ c.self.inside.waiting c.self.inside.waiting c.in-Some-get_mut.session.now c.take_transfer.new.self (Some (refused.Session c.in-Err-take_transfer.error))
+    c.self.view_is (route_found _ _ c.in-Some.number c.session_tx_by_incoming_channel.ensures c.in-Some.is)
+    (viewed_some c.in-Some.number.0 c.self.inside.sessions.entries c.in-Some-get_mut.session.now (sym c.in-Some-get_mut.ensures.value))
+    (record {
+      calls = session.TakesTransfer c.in-Ok.transfer c.read_list.new.bytes received.0 (Err c.in-Err-take_transfer.error) ∷ [];
+      asked = (received.0, Err c.in-Err-take_transfer.error, None, refl, refl);
+      steps = (c.take_transfer.new.self.view, received.1, refl);
+      handed_out = ap (λ (v : EngineView _). v.waiting) c.self.view_is ∙ c.requires;
+    })
+    refl
+    (c.get_mut.follows.holds c.take_transfer.new.self))
+
+pub invariant_of-self-in-Ok-take_transfer : goal.invariant_of-self-in-Ok-take_transfer
+invariant_of-self-in-Ok-take_transfer g c = seated_set c.self.inside.sessions.entries _ c.in-Some.number.0 c.maybe_outgoing_session_flow.new.self c.self.inside.kept.places (c.get_mut.follows.holds c.maybe_outgoing_session_flow.new.self) c.self.invariant
+
+pub invariant_of-self-in-Err-take_transfer : goal.invariant_of-self-in-Err-take_transfer
+invariant_of-self-in-Err-take_transfer g c = seated_set c.self.inside.sessions.entries _ c.in-Some.number.0 c.take_transfer.new.self c.self.inside.kept.places (c.get_mut.follows.holds c.take_transfer.new.self) c.self.invariant

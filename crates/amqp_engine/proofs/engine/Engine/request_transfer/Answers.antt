@@ -1,18 +1,49 @@
-use Rattle.std.proofs.Common.{None, refl, sym, ap, ◌∙◌}
+use Rattle.std.proofs.Common.{None, Some, Ok, Err, refl, sym, ap, ◌∙◌, [], ◌∷◌}
+use Rattle.std.proofs.lemmas.List.{append-nil}
 use Rattle.std.specs.Option.{option_copied_mut}
 use Rattle.std.specs.HashMap.{HashMap}
+use Rattle.amqp_session.specs.History as session
+use Rattle.amqp_session.specs.Items.{item_frames}
+use Rattle.amqp_session.specs.Transfers.{RequestedTransfer}
+use Rattle.amqp_engine.specs.declared.engine.step_error.StepError.TheVariants as refused
+use Rattle.amqp_engine.specs.EngineView.{EngineView}
+use Rattle.amqp_engine.specs.Waits.{sent}
 use Rattle.amqp_engine.specs.Inner.Calls.{TransferCalls}
 use Rattle.amqp_engine.proofs.AskedSessionLemmas.{did, did_not}
 use Rattle.amqp_engine.proofs.SessionListLemmas.{viewed_some, viewed_none, seated_set}
 use Rattle.amqp_engine.proofs.engine.Engine.request_transfer.Goals as goal
 
-pub returns : goal.returns
-returns g c =
+pub returns-in-Ok : goal.returns-in-Ok
+returns-in-Ok g c =
     let n = c.args.number.0 in
-    let asks = TransferCalls (record { input_handle = c.args.input.0; transfer = c.args.transfer; payload = c.args.payload; is_first = c.args.is_first }) in
+    let asked : RequestedTransfer = record { input_handle = c.args.input.0; transfer = c.args.transfer; payload = c.args.payload; is_first = c.args.is_first } in
     let known = viewed_some n c.self.inside.sessions.entries c.in-Some.session.now (sym c.in-Some.ensures.value) in
-    let set = (c.get_mut.follows.holds c.send_transfer.new.session) in
-    let d = did g.R.LinkRelay.gives asks c.args.self.now _ _ _ _ n _ c.send_transfer.new.waiting _ c.in-Some.session.now c.send_transfer.new.session _ c.self.view_is known c.send_transfer.ensures refl set in (None, d.0, d.1, _, (refl, d.2), refl)
+    let set = c.get_mut.follows.holds c.on_outgoing_transfer.new.self in
+    let d = did g.R.LinkRelay.gives (TransferCalls asked) c.args.self.now _ _ _ _ n _ c.put_item.new.self c.put_item.new.self c.in-Some.session.now c.on_outgoing_transfer.new.self None c.self.view_is known
+    (record {
+      calls = session.SendsTransfer asked (Ok c.in-Ok.item) ∷ [];
+      asked = (Ok c.in-Ok.item, refl, refl);
+      steps = (c.on_outgoing_transfer.new.self.view, c.in-Ok.ensures.step, refl);
+      handed_out = c.put_item.ensures ∙ sym (ap sent (append-nil (item_frames c.in-Ok.item)));
+    })
+    refl set in
+    (None, d.0, d.1, _, (refl, d.2), refl)
+
+pub returns-in-Err : goal.returns-in-Err
+returns-in-Err g c =
+    let n = c.args.number.0 in
+    let asked : RequestedTransfer = record { input_handle = c.args.input.0; transfer = c.args.transfer; payload = c.args.payload; is_first = c.args.is_first } in
+    let known = viewed_some n c.self.inside.sessions.entries c.in-Some.session.now (sym c.in-Some.ensures.value) in
+    let set = c.get_mut.follows.holds c.on_outgoing_transfer.new.self in
+    let d = did g.R.LinkRelay.gives (TransferCalls asked) c.args.self.now _ _ _ _ n _ c.self.inside.waiting c.self.inside.waiting c.in-Some.session.now c.on_outgoing_transfer.new.self (Some (refused.Session c.in-Err.error)) c.self.view_is known
+    (record {
+      calls = session.SendsTransfer asked (Err c.in-Err.error) ∷ [];
+      asked = (Err c.in-Err.error, refl, refl);
+      steps = (c.on_outgoing_transfer.new.self.view, c.in-Err.ensures.step, refl);
+      handed_out = ap (λ (v : EngineView _). v.waiting) c.self.view_is ∙ c.requires;
+    })
+    refl set in
+    rw c.by_session.ensures (None, d.0, d.1, _, (refl, d.2), refl)
 
 pub returns-in_default : goal.returns-in_default
 returns-in_default g c =
@@ -22,5 +53,8 @@ returns-in_default g c =
     let stays = ap (λ (m : HashMap _ _ _). m.entries) c.get_mut.follows.holds-at-none in
     let d = did_not g.R.LinkRelay.gives asks c.args.self.now _ _ _ _ n _ c.self.view_is none stays in rw c.no_session.ensures (None, d.0, d.1, _, (refl, d.2), refl)
 
-pub invariant_of-self-2 : goal.invariant_of-self-2
-invariant_of-self-2 g c = seated_set c.self.inside.sessions.entries _ c.args.number.0 c.send_transfer.new.session c.self.inside.kept.places (c.get_mut.follows.holds c.send_transfer.new.session) c.self.invariant
+pub invariant_of-self-in-Ok : goal.invariant_of-self-in-Ok
+invariant_of-self-in-Ok g c = seated_set c.self.inside.sessions.entries _ c.args.number.0 c.on_outgoing_transfer.new.self c.self.inside.kept.places (c.get_mut.follows.holds c.on_outgoing_transfer.new.self) c.self.invariant
+
+pub invariant_of-self-in-Err : goal.invariant_of-self-in-Err
+invariant_of-self-in-Err g c = seated_set c.self.inside.sessions.entries _ c.args.number.0 c.on_outgoing_transfer.new.self c.self.inside.kept.places (c.get_mut.follows.holds c.on_outgoing_transfer.new.self) c.self.invariant

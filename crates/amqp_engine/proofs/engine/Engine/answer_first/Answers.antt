@@ -1,0 +1,14 @@
+use Rattle.amqp_connection.specs.Connection.{refusal_of}
+use Rattle.amqp_engine.proofs.engine.Engine.answer_first.Goals as goal
+use Rattle.amqp_engine.proofs.engine.Engine.answer_first.Goals.{in-Some-Received, in-Some-Transfer, in_default}
+
+pub returns : goal.returns
+returns g c = (
+  refusal_of c.match-front.outcome,
+  elim c.match-front.branch [
+    | in-Some-Received w ↦ rw (w.self-is, w.inputs-is, w.outcome-is) w.receive_first-outcome.ensures
+    | in-Some-Transfer w ↦ rw (w.self-is, w.inputs-is, w.outcome-is) w.transfer_first-outcome.ensures
+    | in_default w ↦ rw (w.self-is, w.inputs-is, w.outcome-is) w.step_first-outcome.ensures
+  ],
+  c.put_answer.ensures,
+)
