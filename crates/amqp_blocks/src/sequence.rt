@@ -3,6 +3,7 @@
 ghost use Rattle.std.specs.Prelude.{◌≡◌, ◌==◌, ◌↔◌, ◌+◌, ◌-◌, ◌*◌, ◌^◌, ◌<◌, ◌≤◌, [], ◌∷◌, ◌++◌, length, take, drop, slice_get, slice_set, slice_index_or, Some, IsSome, OnOk, option_copied};
 ghost use Rattle.std.specs.List.{insert};
 ghost use Rattle.std.specs.Option.{option_to_list};
+ghost use Rattle.std.specs.Borrow.{sem};
 ghost use Rattle.amqp_blocks.specs.Chunked.{Block, items_of, start_of, HasItem};
 
 use crate::cascade::end_of;
@@ -66,6 +67,8 @@ fn item_of<T>(blocks: &Vec<VecDeque<T>>, place: Place) -> &T
 }
 
 impl<T> Blocks<T> {
+    ghost use Rattle.amqp_blocks.specs.Lending.{LeftAlone};
+
     /// A sequence of no items. It asks for no memory.
     pub fn new(alloc: Global) -> Blocks<T>
         ensures items { result.items ≡ [] }
@@ -115,22 +118,16 @@ impl<T> Blocks<T> {
         item_of(&self.blocks, place)
     }
 
-    /// The item of a rank, which is below the length, and the block that it is in, for [`Blocks::remember`]. The block is a hint.
+    /// The item of a rank, which is below the length. Its block is remembered: what is in it is found at once.
     #[inline(always)]
-    pub fn locate(&self, rank: usize) -> (&T, usize)
-        requires within { rank < length self.now.items }
-        ensures value { slice_get self.now.items rank ≡ Some result.0.now }
+    pub fn seek(&mut self, rank: usize) -> &T
+        requires within { rank < length self.old.items }
+        ensures* kept { sem 𝓛 (LeftAlone T.row self.entry) }
+        ensures value { slice_get self.old.items rank ≡ Some result.now }
     {
         let place = locate_near(&self.ends, self.base, self.sought, rank);
-        (item_of(&self.blocks, place), place.block)
-    }
-
-    /// Remembers a block, which may be any number: what is in it is found at once. No item changes.
-    #[inline(always)]
-    pub fn remember(&mut self, block: usize)
-        ensures { self.new ≡ self.old }
-    {
-        self.sought = block;
+        self.sought = place.block;
+        item_of(&self.blocks, place)
     }
 
     /// The first item, or `None` where there is none.

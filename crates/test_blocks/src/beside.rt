@@ -45,8 +45,7 @@ impl Beside {
         holds(rt, self.blocks.len() < MOST && rank <= self.blocks.len());
         self.blocks.insert(rank, item);
         holds(rt, rank < self.blocks.len() && rank <= self.plain.len());
-        let (_, block) = self.blocks.locate(rank);
-        self.blocks.remember(block);
+        same(rt, *self.blocks.seek(rank), item);
         self.plain.insert(rank, item)?;
         Ok(())
     }

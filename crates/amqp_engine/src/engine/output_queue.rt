@@ -242,7 +242,11 @@ impl OutputQueue {
         ensures { self.new ≡ frame_of frame ∷ [] }
     {
         place(&mut self.front, frame);
-        set(&mut self.after, Backlog::Nothing);
+        // An assignment copies what stood there out and drops it by a call, also where it is nothing.
+        match self.after {
+            Backlog::Nothing => {},
+            _ => set(&mut self.after, Backlog::Nothing),
+        }
     }
 
     #[inline(never)]

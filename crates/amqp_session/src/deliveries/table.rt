@@ -63,17 +63,14 @@ fn front_of(rows: &Blocks<Delivery>) -> u32
     first.number
 }
 
-/// The number at a place. A search comes near to it next, so its block is remembered.
+/// The number at a place. A search comes near to it next.
 #[inline(always)]
 fn number_in(rows: &mut Blocks<Delivery>, at: usize) -> u32
     requires within { at < length rows.old.items }
     ensures value { result ≡ number_at rows.old.items at }
     ensures kept { rows.new ≡ rows.old }
 {
-    let (row, block) = rows.locate(at);
-    let number = row.number;
-    rows.remember(block);
-    number
+    rows.seek(at).number
 }
 
 /// Whether the number stands at the place.
@@ -243,7 +240,7 @@ impl Deliveries {
         self.landmark = landmark;
     }
 
-    /// The record at a place: one turn.
+    /// The record at a place: one turn. A walk comes near to it next.
     #[inline(always)]
     pub(crate) fn delivery(&mut self, at: usize) -> &Delivery
         requires within { at < length self.old.rows }
@@ -251,7 +248,7 @@ impl Deliveries {
         ensures value { slice_get self.old.rows at ≡ Some result.now }
     {
         self.reads.turns = self.reads.turns.wrapping_add(1);
-        self.rows.get(at)
+        self.rows.seek(at)
     }
 
     /// Reserves room for more records. When memory is refused the table stays as it is.

@@ -1,7 +1,7 @@
-use Rattle.std.proofs.Common.{◌<◌, length, ap, sym, ◌∙◌, arith, slice_get}
+use Rattle.std.proofs.Common.{◌<◌, length, ap, sym, ◌∙◌, arith, slice_get, refl}
 use Rattle.amqp_blocks.specs.Chunked.{items_of, Sequence}
 use Rattle.amqp_blocks.proofs.PlaceLemmas.{reaches, located}
-use Rattle.amqp_blocks.proofs.sequence.Blocks.locate.Goals as goal
+use Rattle.amqp_blocks.proofs.sequence.Blocks.seek.Goals as goal
 
 pub locate_near-place-requires : goal.locate_near-place-requires
 locate_near-place-requires g c =
@@ -24,4 +24,5 @@ returns g c =
     let e = c.locate_near-place.ensures in
     let s = c.self.inside in
     let l = located s.base s.blocks.items s.ends.items c.locate_near-place.result.block c.locate_near-place.result.at c.args.rank c.self.invariant.0.chunked.stops e.block e.first e.other e.after in
-    record { value = sym (ap (λ (s : Sequence _). slice_get s.items c.args.rank) c.self.view_is) ∙ ap (λ n. slice_get (items_of s.blocks.items) n) l.rank_is ∙ c.item_of.ensures.value }
+    let value = sym (ap (λ (s : Sequence _). slice_get s.items c.args.rank) c.self.view_is) ∙ ap (λ n. slice_get (items_of s.blocks.items) n) l.rank_is ∙ c.item_of.ensures.value in
+    ((refl, (λ b. tt), c.self.view_is), record { kept = tt; value = value })
