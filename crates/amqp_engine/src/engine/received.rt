@@ -70,79 +70,115 @@ fn take_close(
 }
 
 impl<R: LinkRelay> Engine<R> {
-    /// Takes a received frame: its kind decides who handles its fields. An empty one changes nothing.
+    /// Takes a received frame: its kind decides who handles its fields. An empty one changes nothing. The most frequent kinds are picked out
+    /// here. What is refused is written where the answer stays.
     #[inline(always)]
-    pub(super) fn receive(&mut self, bytes: Bytes) -> Result<(), StepError>
-        requires { self.old.waiting ≡ [] }
-        ensures { ReceivedStep R.gives self.old bytes (refusal_of result) self.new }
+    pub(super) fn receive(&mut self, bytes: Bytes, outcome: &mut Result<(), StepError>)
+        requires idle { self.old.waiting ≡ [] }
+        requires clear { refusal_of outcome.old ≡ None }
+        ensures { ReceivedStep R.gives self.old bytes (refusal_of outcome.new) self.new }
     {
         let mut fields = bytes;
-        let head = self.decoder.head(&mut fields)?;
+        let head = match self.decoder.head(&mut fields) {
+            Ok(head) => head,
+            Err(error) => return refused::no_frame(outcome, error),
+        };
         let channel = IncomingChannel(head.channel);
         match head.kind {
-            None => Ok(()),
-            Some(Kind::Transfer) => self.receive_transfer(channel, fields),
-            Some(Kind::Flow) => self.receive_flow(channel, fields),
-            Some(Kind::Disposition) => self.receive_disposition(channel, fields),
-            Some(Kind::Attach) => self.receive_attach(channel, fields),
-            Some(Kind::Detach) => self.receive_detach(channel, fields),
-            Some(Kind::Begin) => self.receive_begin(channel, fields),
-            Some(Kind::End) => self.receive_end(channel, fields),
-            Some(Kind::Open) => self.receive_open(channel, fields),
-            Some(Kind::Close) => self.receive_close(channel, fields),
+            None => {},
+            Some(Kind::Transfer) => self.receive_transfer(channel, fields, outcome),
+            Some(Kind::Disposition) => self.receive_disposition(channel, fields, outcome),
+            Some(Kind::Flow) => self.receive_flow(channel, fields, outcome),
+            Some(kind) => self.receive_any(kind, channel, fields, outcome),
         }
     }
 
+    /// Takes the fields of any kind.
     #[inline(never)]
-    fn receive_transfer(&mut self, channel: IncomingChannel, fields: Bytes) -> Result<(), StepError>
-        requires { self.old.waiting ≡ [] }
-        ensures { FieldsStep R.gives self.old channel.0 (Some kind.Transfer) fields (refusal_of result) self.new }
+    fn receive_any(
+        &mut self,
+        kind: Kind,
+        channel: IncomingChannel,
+        fields: Bytes,
+        outcome: &mut Result<(), StepError>,
+    )
+        requires idle { self.old.waiting ≡ [] }
+        requires clear { refusal_of outcome.old ≡ None }
+        ensures { FieldsKept R.gives self.old channel.0 (Some kind) fields (refusal_of outcome.new) self.new }
+    {
+        let answer = match kind {
+            Kind::Transfer => return self.receive_transfer(channel, fields, outcome),
+            Kind::Disposition => return self.receive_disposition(channel, fields, outcome),
+            Kind::Flow => return self.receive_flow(channel, fields, outcome),
+            Kind::Attach => self.receive_attach(channel, fields),
+            Kind::Detach => self.receive_detach(channel, fields),
+            Kind::Begin => self.receive_begin(channel, fields),
+            Kind::End => self.receive_end(channel, fields),
+            Kind::Open => self.receive_open(channel, fields),
+            Kind::Close => self.receive_close(channel, fields),
+        };
+        *outcome = answer;
+    }
+
+    #[inline(never)]
+    fn receive_transfer(
+        &mut self,
+        channel: IncomingChannel,
+        fields: Bytes,
+        outcome: &mut Result<(), StepError>,
+    )
+        requires idle { self.old.waiting ≡ [] }
+        requires clear { refusal_of outcome.old ≡ None }
+        ensures { FieldsStep R.gives self.old channel.0 (Some kind.Transfer) fields (refusal_of outcome.new) self.new }
     {
         let mut rest = fields;
         let transfer = match Transfer::read_list(self.alloc, &mut rest) {
             Ok(transfer) => transfer,
-            Err(error) => return refused::unread(error),
+            Err(error) => return refused::unread(outcome, error),
         };
         let Some(number) = self.connection.session_tx_by_incoming_channel(channel) else {
             drop(transfer);
             drop(rest);
-            return refused::unrouted();
+            return refused::unrouted(outcome);
         };
         let hint = self.hints.of(number.0);
         let Some(session) = keys::get_mut(&mut self.sessions, hint, &number.0) else {
             drop(transfer);
             drop(rest);
-            return refused::no_session();
+            return refused::no_session(outcome);
         };
         match session.take_transfer(transfer, rest) {
-            Ok(()) => {
-                self.waiting.put_item(session.maybe_outgoing_session_flow());
-                Ok(())
-            }
-            Err(error) => refused::by_session(error),
+            Ok(()) => self.waiting.put_item(session.maybe_outgoing_session_flow()),
+            Err(error) => refused::by_session(outcome, error),
         }
     }
 
     #[inline(never)]
-    fn receive_flow(&mut self, channel: IncomingChannel, fields: Bytes) -> Result<(), StepError>
-        requires { self.old.waiting ≡ [] }
-        ensures { FieldsStep R.gives self.old channel.0 (Some kind.Flow) fields (refusal_of result) self.new }
+    fn receive_flow(
+        &mut self,
+        channel: IncomingChannel,
+        fields: Bytes,
+        outcome: &mut Result<(), StepError>,
+    )
+        requires idle { self.old.waiting ≡ [] }
+        requires clear { refusal_of outcome.old ≡ None }
+        ensures { FieldsStep R.gives self.old channel.0 (Some kind.Flow) fields (refusal_of outcome.new) self.new }
     {
         let mut rest = fields;
         let flow = match Flow::read_list(self.alloc, &mut rest) {
             Ok(flow) => flow,
-            Err(error) => return refused::unread(error),
+            Err(error) => return refused::unread(outcome, error),
         };
         let Some(number) = self.connection.session_tx_by_incoming_channel(channel) else {
             drop(flow);
-            return refused::unrouted();
+            return refused::unrouted(outcome);
         };
         let hint = self.hints.of(number.0);
         let Some(session) = keys::get_mut(&mut self.sessions, hint, &number.0) else {
             drop(flow);
-            return refused::no_session();
+            return refused::no_session(outcome);
         };
-        flow_received(session, &mut self.waiting, flow)
+        flow_received(session, &mut self.waiting, flow, outcome);
     }
 
     #[inline(never)]
@@ -150,25 +186,27 @@ impl<R: LinkRelay> Engine<R> {
         &mut self,
         channel: IncomingChannel,
         fields: Bytes,
-    ) -> Result<(), StepError>
-        requires { self.old.waiting ≡ [] }
-        ensures { FieldsStep R.gives self.old channel.0 (Some kind.Disposition) fields (refusal_of result) self.new }
+        outcome: &mut Result<(), StepError>,
+    )
+        requires idle { self.old.waiting ≡ [] }
+        requires clear { refusal_of outcome.old ≡ None }
+        ensures { FieldsStep R.gives self.old channel.0 (Some kind.Disposition) fields (refusal_of outcome.new) self.new }
     {
         let mut rest = fields;
         let disposition = match Disposition::read_list(self.alloc, &mut rest) {
             Ok(disposition) => disposition,
-            Err(error) => return refused::unread(error),
+            Err(error) => return refused::unread(outcome, error),
         };
         let Some(number) = self.connection.session_tx_by_incoming_channel(channel) else {
             drop(disposition);
-            return refused::unrouted();
+            return refused::unrouted(outcome);
         };
         let hint = self.hints.of(number.0);
         let Some(session) = keys::get_mut(&mut self.sessions, hint, &number.0) else {
             drop(disposition);
-            return refused::no_session();
+            return refused::no_session(outcome);
         };
-        disposition_received(session, &mut self.waiting, disposition)
+        disposition_received(session, &mut self.waiting, disposition, outcome);
     }
 
     #[inline(never)]

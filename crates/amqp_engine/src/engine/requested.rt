@@ -71,9 +71,15 @@ impl<R: LinkRelay> Engine<R> {
         ensures { CarriedStep R.gives self.old input (refusal_of result) self.new }
     {
         match input {
-            Input::Received(bytes) => self.receive(bytes),
+            Input::Received(bytes) => {
+                let mut outcome = Ok(());
+                self.receive(bytes, &mut outcome);
+                outcome
+            }
             Input::Transfer(number, input, transfer, payload, is_first) => {
-                self.request_transfer(number, input, transfer, payload, is_first)
+                let mut outcome = Ok(());
+                self.request_transfer(number, input, transfer, payload, is_first, &mut outcome);
+                outcome
             }
             other => self.dispatch_any(other),
         }
@@ -86,7 +92,11 @@ impl<R: LinkRelay> Engine<R> {
         ensures { CarriedStep R.gives self.old input (refusal_of result) self.new }
     {
         match input {
-            Input::Received(bytes) => self.receive(bytes),
+            Input::Received(bytes) => {
+                let mut outcome = Ok(());
+                self.receive(bytes, &mut outcome);
+                outcome
+            }
             Input::Open => self.request_open(),
             Input::Close(error) => self.request_close(error),
             Input::Begin(number, settings) => self.request_begin(number, settings),
@@ -101,7 +111,9 @@ impl<R: LinkRelay> Engine<R> {
             }
             Input::Flow(number, flow) => self.request_flow(number, flow),
             Input::Transfer(number, input, transfer, payload, is_first) => {
-                self.request_transfer(number, input, transfer, payload, is_first)
+                let mut outcome = Ok(());
+                self.request_transfer(number, input, transfer, payload, is_first, &mut outcome);
+                outcome
             }
             Input::Disposition(number, disposition) => self.request_disposition(
                 number,
@@ -225,22 +237,21 @@ impl<R: LinkRelay> Engine<R> {
         transfer: Transfer,
         payload: Bytes,
         is_first: bool,
-    ) -> Result<(), StepError>
-        requires { self.old.waiting ≡ [] }
-        ensures { CarriedStep R.gives self.old (given.Transfer number input transfer payload is_first) (refusal_of result) self.new }
+        outcome: &mut Result<(), StepError>,
+    )
+        requires idle { self.old.waiting ≡ [] }
+        requires clear { refusal_of outcome.old ≡ None }
+        ensures { CarriedStep R.gives self.old (given.Transfer number input transfer payload is_first) (refusal_of outcome.new) self.new }
     {
         let hint = self.hints.of(number.0);
         let Some(session) = keys::get_mut(&mut self.sessions, hint, &number.0) else {
             drop(transfer);
             drop(payload);
-            return refused::no_session();
+            return refused::no_session(outcome);
         };
         match session.on_outgoing_transfer(input, transfer, payload, is_first) {
-            Ok(item) => {
-                self.waiting.put_item(item);
-                Ok(())
-            }
-            Err(error) => refused::by_session(error),
+            Ok(item) => self.waiting.put_item(item),
+            Err(error) => refused::by_session(outcome, error),
         }
     }
 

@@ -86,11 +86,12 @@ impl<R: LinkRelay> Engine<R> {
         ensures { (refusal : Option StepError) × StepsFirst R.gives self.old inputs.old.items refusal self.new inputs.new.items
             × (answers.new.items ≡ answers.old.items ++ answer_of refusal ∷ []) }
     {
-        let outcome = match inputs.front() {
-            Some(Input::Received(_)) => self.receive_first(inputs),
-            Some(Input::Transfer(..)) => self.transfer_first(inputs),
-            _ => self.step_first(inputs),
-        };
+        let mut outcome = Ok(());
+        match inputs.front() {
+            Some(Input::Received(_)) => self.receive_first(inputs, &mut outcome),
+            Some(Input::Transfer(..)) => self.transfer_first(inputs, &mut outcome),
+            _ => self.step_first(inputs, &mut outcome),
+        }
         put_answer(answers, outcome);
     }
 }

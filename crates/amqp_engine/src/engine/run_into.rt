@@ -92,11 +92,12 @@ impl<R: LinkRelay> Engine<R> {
         ensures { (refusal : Option StepError) × StepsFirst R.gives self.old inputs.old.items refusal self.new inputs.new.items
             × (refusals.new.items ≡ refusals.old.items ++ refusal_at place refusal) }
     {
-        let outcome = match inputs.front() {
-            Some(Input::Received(_)) => self.receive_first(inputs),
-            Some(Input::Transfer(..)) => self.transfer_first(inputs),
-            _ => self.step_first(inputs),
-        };
+        let mut outcome = Ok(());
+        match inputs.front() {
+            Some(Input::Received(_)) => self.receive_first(inputs, &mut outcome),
+            Some(Input::Transfer(..)) => self.transfer_first(inputs, &mut outcome),
+            _ => self.step_first(inputs, &mut outcome),
+        }
         note(refusals, place, outcome);
     }
 

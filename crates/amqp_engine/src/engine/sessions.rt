@@ -219,12 +219,16 @@ pub(crate) fn flow_received<R: LinkRelay>(
     session: &mut Session<R>,
     waiting: &mut OutputQueue,
     flow: Flow,
-) -> Result<(), StepError>
-    requires { waiting.old ≡ [] }
-    ensures { Answered R.gives session.old.view (ReceivedFlowCalls flow) (refusal_of result) waiting.new session.new.view }
+    outcome: &mut Result<(), StepError>,
+)
+    requires idle { waiting.old ≡ [] }
+    requires clear { refusal_of outcome.old ≡ None }
+    ensures { Answered R.gives session.old.view (ReceivedFlowCalls flow) (refusal_of outcome.new) waiting.new session.new.view }
 {
-    waiting.put_item(session.on_incoming_flow(flow)?);
-    Ok(())
+    match session.on_incoming_flow(flow) {
+        Ok(item) => waiting.put_item(item),
+        Err(error) => refused::by_session(outcome, error),
+    }
 }
 
 /// Sends each disposition, in order, on the session's channel. They wait as dispositions, and become frames as they are put out: that takes
@@ -263,17 +267,18 @@ pub(crate) fn disposition_received<R: LinkRelay>(
     session: &mut Session<R>,
     waiting: &mut OutputQueue,
     disposition: Disposition,
-) -> Result<(), StepError>
-    requires { waiting.old ≡ [] }
-    ensures { Answered R.gives session.old.view (ReceivedDispositionCalls disposition) (refusal_of result) waiting.new session.new.view }
+    outcome: &mut Result<(), StepError>,
+)
+    requires idle { waiting.old ≡ [] }
+    requires clear { refusal_of outcome.old ≡ None }
+    ensures { Answered R.gives session.old.view (ReceivedDispositionCalls disposition) (refusal_of outcome.new) waiting.new session.new.view }
 {
     match session.on_incoming_disposition(disposition) {
-        Ok(None) => Ok(()),
+        Ok(None) => {},
         Ok(Some(echoes)) => {
             let channel = session.outgoing_channel();
             waiting.put_dispositions(channel, send_each(session, echoes));
-            Ok(())
         }
-        Err(error) => refused::by_session(error),
+        Err(error) => refused::by_session(outcome, error),
     }
 }

@@ -6,9 +6,9 @@ pub returns : goal.returns
 returns g c = (
   refusal_of c.match-front.outcome,
   elim c.match-front.branch [
-    | in-Some-Received w ↦ rw (w.self-is, w.inputs-is, w.outcome-is) w.receive_first-outcome.ensures
-    | in-Some-Transfer w ↦ rw (w.self-is, w.inputs-is, w.outcome-is) w.transfer_first-outcome.ensures
-    | in_default w ↦ rw (w.self-is, w.inputs-is, w.outcome-is) w.step_first-outcome.ensures
+    | in-Some-Received w ↦ rw (w.self-is, w.inputs-is, w.outcome-is) w.receive_first.ensures
+    | in-Some-Transfer w ↦ rw (w.self-is, w.inputs-is, w.outcome-is) w.transfer_first.ensures
+    | in_default w ↦ rw (w.self-is, w.inputs-is, w.outcome-is) w.step_first.ensures
   ],
   c.put_answer.ensures,
 )

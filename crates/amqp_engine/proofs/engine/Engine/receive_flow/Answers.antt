@@ -12,7 +12,7 @@ use Rattle.amqp_engine.proofs.engine.Engine.receive_flow.Goals as goal
 pub returns-in-Err : goal.returns-in-Err
 returns-in-Err g c =
     unread g.R.LinkRelay.gives flow_fields c.args.self.now c.args.channel.0 c.args.fields c.read_list.new.bytes c.in-Err.error
-    c.unread.result c.in-Err.ensures (rw c.unread.ensures refl)
+    c.unread.new.outcome c.in-Err.ensures (rw c.unread.ensures refl)
 
 pub returns-in_default : goal.returns-in_default
 returns-in_default g c =

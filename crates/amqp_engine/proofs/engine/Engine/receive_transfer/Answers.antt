@@ -2,6 +2,7 @@ use Rattle.std.proofs.Common.{◌∙◌, sym, ap, Ok, Err, Some, None, refl, [],
 use Rattle.std.proofs.lemmas.List.{append-nil}
 use Rattle.std.specs.Option.{option_copied_mut}
 use Rattle.std.specs.HashMap.{HashMap}
+use Rattle.amqp_connection.specs.Connection.{refusal_of}
 use Rattle.amqp_session.specs.History as session
 use Rattle.amqp_session.specs.Items.{item_frames}
 use Rattle.amqp_engine.specs.EngineView.{EngineView}
@@ -18,7 +19,7 @@ use Rattle.amqp_engine.proofs.engine.Engine.receive_transfer.Goals as goal
 pub returns-in-Err : goal.returns-in-Err
 returns-in-Err g c =
     unread g.R.LinkRelay.gives transfer_fields c.args.self.now c.args.channel.0 c.args.fields c.read_list.new.bytes c.in-Err.error
-    c.unread.result c.in-Err.ensures (rw c.unread.ensures refl)
+    c.unread.new.outcome c.in-Err.ensures (rw c.unread.ensures refl)
 
 pub returns-in_default : goal.returns-in_default
 returns-in_default g c =
@@ -40,12 +41,12 @@ returns-in-Ok-take_transfer g c =
     let item = c.maybe_outgoing_session_flow.result in
     handed g.R.LinkRelay.gives transfer_fields (ReceivedTransferCalls c.in-Ok.transfer c.read_list.new.bytes) c.args.self.now c.args.channel.0 c.args.fields c.read_list.new.bytes c.in-Ok.transfer
     c.in-Ok.ensures (λ refusal w reached calls h. h)
-    _ _ _ _ c.in-Some.number.0 _ c.put_item.new.self c.put_item.new.self c.in-Some-get_mut.session.now c.maybe_outgoing_session_flow.new.self None
+    _ _ _ _ c.in-Some.number.0 _ c.put_item.new.self c.put_item.new.self c.in-Some-get_mut.session.now c.maybe_outgoing_session_flow.new.self (refusal_of c.args.outcome.now)
     c.self.view_is (route_found _ _ c.in-Some.number c.session_tx_by_incoming_channel.ensures c.in-Some.is)
     (viewed_some c.in-Some.number.0 c.self.inside.sessions.entries c.in-Some-get_mut.session.now (sym c.in-Some-get_mut.ensures.value))
     (record {
       calls = session.TakesTransfer c.in-Ok.transfer c.read_list.new.bytes received.0 (Ok None) ∷ session.SendsSessionFlow item ∷ [];
-      asked = (received.0, Ok None, item, refl, refl);
+      asked = (received.0, Ok None, item, refl, c.requires.clear);
       steps = (c.take_transfer.new.self.view, received.1, (c.maybe_outgoing_session_flow.new.self.view, c.maybe_outgoing_session_flow.ensures.step, refl));
       handed_out = c.put_item.ensures ∙ sym (ap sent (append-nil (item_frames item)));
     })
@@ -64,7 +65,7 @@ returns-in-Err-take_transfer g c =
       calls = session.TakesTransfer c.in-Ok.transfer c.read_list.new.bytes received.0 (Err c.in-Err-take_transfer.error) ∷ [];
       asked = (received.0, Err c.in-Err-take_transfer.error, None, refl, refl);
       steps = (c.take_transfer.new.self.view, received.1, refl);
-      handed_out = ap (λ (v : EngineView _). v.waiting) c.self.view_is ∙ c.requires;
+      handed_out = ap (λ (v : EngineView _). v.waiting) c.self.view_is ∙ c.requires.idle;
     })
     refl
     (c.get_mut.follows.holds c.take_transfer.new.self))

@@ -2,6 +2,7 @@ use Rattle.std.proofs.Common.{None, Some, Ok, Err, refl, sym, ap, ◌∙◌, [],
 use Rattle.std.proofs.lemmas.List.{append-nil}
 use Rattle.std.specs.Option.{option_copied_mut}
 use Rattle.std.specs.HashMap.{HashMap}
+use Rattle.amqp_connection.specs.Connection.{refusal_of}
 use Rattle.amqp_session.specs.History as session
 use Rattle.amqp_session.specs.Items.{item_frames}
 use Rattle.amqp_session.specs.Transfers.{RequestedTransfer}
@@ -19,10 +20,10 @@ returns-in-Ok g c =
     let asked : RequestedTransfer = record { input_handle = c.args.input.0; transfer = c.args.transfer; payload = c.args.payload; is_first = c.args.is_first } in
     let known = viewed_some n c.self.inside.sessions.entries c.in-Some.session.now (sym c.in-Some.ensures.value) in
     let set = c.get_mut.follows.holds c.on_outgoing_transfer.new.self in
-    let d = did g.R.LinkRelay.gives (TransferCalls asked) c.args.self.now _ _ _ _ n _ c.put_item.new.self c.put_item.new.self c.in-Some.session.now c.on_outgoing_transfer.new.self None c.self.view_is known
+    let d = did g.R.LinkRelay.gives (TransferCalls asked) c.args.self.now _ _ _ _ n _ c.put_item.new.self c.put_item.new.self c.in-Some.session.now c.on_outgoing_transfer.new.self (refusal_of c.args.outcome.now) c.self.view_is known
     (record {
       calls = session.SendsTransfer asked (Ok c.in-Ok.item) ∷ [];
-      asked = (Ok c.in-Ok.item, refl, refl);
+      asked = (Ok c.in-Ok.item, refl, c.requires.clear);
       steps = (c.on_outgoing_transfer.new.self.view, c.in-Ok.ensures.step, refl);
       handed_out = c.put_item.ensures ∙ sym (ap sent (append-nil (item_frames c.in-Ok.item)));
     })
@@ -40,7 +41,7 @@ returns-in-Err g c =
       calls = session.SendsTransfer asked (Err c.in-Err.error) ∷ [];
       asked = (Err c.in-Err.error, refl, refl);
       steps = (c.on_outgoing_transfer.new.self.view, c.in-Err.ensures.step, refl);
-      handed_out = ap (λ (v : EngineView _). v.waiting) c.self.view_is ∙ c.requires;
+      handed_out = ap (λ (v : EngineView _). v.waiting) c.self.view_is ∙ c.requires.idle;
     })
     refl set in
     rw c.by_session.ensures (None, d.0, d.1, _, (refl, d.2), refl)

@@ -11,9 +11,9 @@ returns-in-Ok-None g c =
     let step = subst (λ (answer : _). TakeDispositionStep g.R.LinkRelay.gives.disposition_gives c.args.session.now.view c.args.disposition received.0 (Ok (option_map (λ v. v.items) answer)) c.on_incoming_disposition.new.self.view) c.in-Ok-None.field-0-is received.1 in
     record {
       calls = session.TakesDisposition c.args.disposition received.0 (Ok None) ∷ [];
-      asked = (received.0, Ok None, [], refl, refl, refl);
+      asked = (received.0, Ok None, [], refl, refl, c.requires.clear);
       steps = (c.on_incoming_disposition.new.self.view, step, refl);
-      handed_out = c.requires;
+      handed_out = c.requires.idle;
     }
 
 pub returns-in-Ok-Some : goal.returns-in-Ok-Some
@@ -24,7 +24,7 @@ returns-in-Ok-Some g c =
     let all = c.send_each.ensures.sent in
     record {
       calls = session.TakesDisposition c.args.disposition received.0 (Ok (Some echoes.items)) ∷ all.0;
-      asked = (received.0, Ok (Some echoes.items), all.0, all.1, refl, refl);
+      asked = (received.0, Ok (Some echoes.items), all.0, all.1, refl, c.requires.clear);
       steps = (c.on_incoming_disposition.new.self.view, step, all.2);
       handed_out = c.put_dispositions.ensures ∙ sym (ap sent (all.3 ∙ ap (λ k. map (disposition_frame k) echoes.items) (sym c.outgoing_channel-channel.ensures)
           ∙ ap (map (disposition_frame c.outgoing_channel-channel.result.0)) (sym c.send_each.ensures.same)));
@@ -37,5 +37,5 @@ returns-in-Err g c =
       calls = session.TakesDisposition c.args.disposition received.0 (Err c.in-Err.error) ∷ [];
       asked = (received.0, Err c.in-Err.error, [], refl, refl, ap refusal_of c.by_session.ensures);
       steps = (c.on_incoming_disposition.new.self.view, received.1, refl);
-      handed_out = c.requires;
+      handed_out = c.requires.idle;
     }
