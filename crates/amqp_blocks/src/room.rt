@@ -178,14 +178,12 @@ pub(crate) fn make_room<T>(
     additional: usize,
 ) -> Result<(), AllocError>
     requires sound { IsSound base blocks.old ends.old spare.old }
+    requires some { 0 < additional }
     ensures sound { IsSound base blocks.new ends.new spare.new }
     ensures items { items_of blocks.new.items ≡ items_of blocks.old.items }
     ensures kept { places_of blocks.old.items + places_of spare.old.items ≤ places_of blocks.new.items + places_of spare.new.items }
     ensures ok { OnOk result (length (items_of blocks.new.items) + additional ≤ places_of blocks.new.items + places_of spare.new.items) }
 {
-    if additional <= spare.len() {
-        return Ok(());
-    }
     let count = blocks.len();
     let rest = BLOCK - total(ends, base).min(BLOCK);
     if count == 1 && additional <= rest {

@@ -165,6 +165,10 @@ impl<T> Blocks<T> {
         ensures kept { self.old.room ≤ self.new.room }
         ensures room { OnOk result (additional ≤ self.new.room) }
     {
+        // Each spare ring has a place.
+        if additional <= self.spare.len() {
+            return Ok(());
+        }
         make_room(
             &mut self.blocks,
             &mut self.ends,

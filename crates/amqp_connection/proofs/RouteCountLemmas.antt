@@ -9,6 +9,7 @@ use Rattle.std.specs.FinMap as map
 use Rattle.std.specs.FinMap.{get-insert, get-remove, same_map, nat_cmp-IsAntisymmetric}
 use Rattle.std.specs.Ordering.{nat_cmp, eq_by_cmp}
 use Rattle.std.specs.Cmp.{nat_cmp_total, eq_by_cmp_equiv}
+use Rattle.amqp_values.proofs.ReaderLemmas.{pair_is}
 use Rattle.amqp_session.proofs.FiniteMapLemmas.{same_test, get_at}
 use Rattle.amqp_connection.specs.Channels.{ChannelTable, mark}
 use Rattle.amqp_connection.specs.RouteCounts.{leads, leading, count_at, NoZero, Counted, Raised, Lowered, IsLedTo}
@@ -240,3 +241,18 @@ there routes k number is = same_map nat_cmp_total nat_cmp-IsAntisymmetric _ _ (�
     by : (q : ℕ) (b : Bool) → nat_eq k q ≡ b → map.get routes q ≡ map.get (map.insert routes k number) q
     by q true t = ap (λ c. map.get routes c) (sym (same_number k q t)) ∙ is ∙ sym (get-insert nat_cmp_total routes k number q ∙ ap (λ b. cond b (Some number) (map.get routes q)) (turned k q ∙ t))
     by q false t = sym (get-insert nat_cmp_total routes k number q ∙ ap (λ b. cond b (Some number) (map.get routes q)) (turned k q ∙ t))
+
+-- ---- an entry that was sought by its key
+
+-- where no key is found, no value is
+pub none_found : (r : Option ℕ) → false ≡ is_some r → None ≡ r
+none_found None e = refl
+none_found (Some n) e = absurd cc
+
+-- no entry stands where one was found
+pub none_stands : {X : Type 0} (o : Option X) (x : X) → None ≡ o → o ≡ Some x → ⊥
+none_stands o x none some = absurd cc
+
+-- the value under the key that stands at a place
+pub found_value : (es : List (ℕ × ℕ)) (k found n v : ℕ) → ◌≡◌ {A = Option (ℕ × ℕ)} (Some (found, n)) (Some (k, v)) → lookup (nat_eq found) es ≡ Some n → Some n ≡ lookup (nat_eq k) es
+found_value es k found n v e l = sym l ∙ ap (λ x. lookup (nat_eq x) es) (pair_is found k n v e).0

@@ -13,7 +13,6 @@ ghost use Rattle.amqp_connection.specs.Connection.{refusal_of};
 pub mod answer;
 mod debug;
 mod forgetting;
-mod front;
 pub(crate) mod handle_state;
 mod handling;
 pub mod input;

@@ -1,6 +1,7 @@
 -- A frame is exactly a head and the fields after it.
-use Rattle.std.proofs.Common.{◌≡◌, ℕ, ◌<◌, ◌≤◌, List, [], ◌∷◌, ◌++◌, length, drop, Option, Some, None, refl, sym, ap, subst, ◌∙◌, arith, inl, inr, append_assoc}
+use Rattle.std.proofs.Common.{◌≡◌, ℕ, ◌<◌, ◌≤◌, List, [], ◌∷◌, ◌++◌, length, get_or, drop, Option, Some, None, refl, sym, ap, subst, ◌∙◌, arith, inl, inr, append_assoc}
 use Rattle.std.specs.Prelude.{Result, Ok, Err}
+use Rattle.std.specs.Int.{w16, from_be_bytes}
 use Rattle.amqp_values.specs.Slots.{PartsLeft}
 use Rattle.amqp_values.specs.declared.error.ReadError.{ReadError}
 use Rattle.amqp_values.specs.declared.error.ReadError.TheVariants as read
@@ -24,7 +25,7 @@ use Rattle.amqp_frames.specs.Frame.{IsBody, IsFrame, IsSaid, Decodes, body_of}
 use Rattle.amqp_frames.specs.Inner.Decoding.{IsHeader, Names}
 use Rattle.amqp_frames.specs.Head.{as_head, IsFields, IsBodyOf, IsHead, IsLongEnough, MayAskForMemory, NamesKind, HasNoHead, NoBodyOf, Opens, ReadsBodyOf, ReadsFrameOf}
 use Rattle.amqp_frames.specs.FrameError.{error_of}
-use Rattle.amqp_frames.proofs.DecodedFrameLemmas.{same_header, same_body, has_header, same_frame, framed}
+use Rattle.amqp_frames.proofs.DecodedFrameLemmas.{same_header, same_body, has_header, header_is, same_frame, framed}
 
 -- ---- the body
 
@@ -163,10 +164,15 @@ opened kinds bytes left n four h (Err no.NotImplemented) a = absurd a
 opened kinds bytes left n four h (Err no.TooLarge) a = absurd a
 opened kinds bytes left n four h (Err (no.Io text)) a = absurd a
 
-pub opened_from : KindsAreRead → (bytes header after left : List ℕ) (n : ℕ) → header ≡ bytes → after ≡ drop 4 bytes → ((4 ≤ length header) × IsHeader header n)
-    → (r : Result (Option Kind) Error) → Names after left r → Opens bytes left (headed n r)
-opened_from kinds bytes header after left n e d h r a =
-    opened kinds bytes left n (subst (λ (x : List ℕ). 4 ≤ length x) e h.0) (subst (λ (x : List ℕ). IsHeader x n) e h.1) r (subst (λ (x : List ℕ). Names x left r) d a)
+pub opened_from : KindsAreRead → (bytes header after left : List ℕ) (n : ℕ) → header ≡ bytes → after ≡ drop 4 bytes → 4 ≤ length header → get_or header 0 0 ≡ 2 → get_or header 1 0 ≡ 0
+    → n ≡ from_be_bytes w16 (get_or header 2 0 ∷ get_or header 3 0 ∷ []) → (r : Result (Option Kind) Error) → Names after left r → Opens bytes left (headed n r)
+opened_from kinds bytes header after left n e d four first second n_is r a =
+    opened kinds bytes left n (subst (λ (x : List ℕ). 4 ≤ length x) e four) (subst (λ (x : List ℕ). IsHeader x n) e (header_is header n four first second n_is)) r (subst (λ (x : List ℕ). Names x left r) d a)
+
+-- no descriptor of a kind, for this reason
+pub unnamed : (e : ReadError) (bytes left : List ℕ) → ¬ (bytes ≡ []) → Gives {X = Kind} {V = Kind} (λ k. k) (Err e) left (kind_at bytes) → Names bytes left (Err (error_of e))
+unnamed read.Malformed bytes left some none = (some, none)
+unnamed read.OutOfMemory bytes left some none = some
 
 -- ---- a frame has a head
 

@@ -2,7 +2,6 @@
 
 ghost use Rattle.std.specs.Prelude.{◌≡◌, ◌<◌, ◌≤◌, length, None, Some, Err};
 ghost use Rattle.amqp_types.specs.declared.performatives.kind.Kind.TheVariants as kind;
-ghost use Rattle.amqp_frames.specs.Inner.Decoding.{Names, ReadsHeader};
 ghost use Rattle.amqp_frames.specs.Frame.{Decodes};
 ghost use Rattle.amqp_frames.specs.Head.{Opens, ReadsFrameOf, as_head};
 
@@ -50,13 +49,28 @@ impl FrameDecoder {
     ///
     /// The errors are those of [`FrameDecoder::decode`]: `DecodeError` for fewer than four bytes, and where no performative
     /// is named; `NotImplemented` for another frame type or an extended header. After an error the bytes are of no use.
+    #[inline(always)]
     pub fn head(&self, bytes: &mut Bytes) -> Result<FrameHead, Error>
         ensures { Opens bytes.old bytes.new result }
     {
         kinds_are_read();
-        let channel = channel(bytes.as_slice())?;
+        let header = bytes.as_slice();
+        if header.len() < 4 {
+            return Err(Error::DecodeError);
+        }
+        // The frame's type, and how many words the header has.
+        if header[1] != 0 || header[0] != 2 {
+            return Err(Error::NotImplemented);
+        }
+        let channel = u16::from_be_bytes([header[2], header[3]]);
         bytes.advance(4);
-        let kind = kind(bytes)?;
+        if bytes.is_empty() {
+            return Ok(FrameHead {
+                channel,
+                kind: None,
+            });
+        }
+        let kind = Some(Kind::read(bytes)?);
         Ok(FrameHead { channel, kind })
     }
 
@@ -66,6 +80,8 @@ impl FrameDecoder {
     /// `DecodeError` for fewer than four bytes, and where the body is no performative; `NotImplemented` for another frame
     /// type or an extended header (AMQP 1.0 part 2, section 2.3.1); `OutOfMemory` where memory is refused, which an empty
     /// frame never asks for.
+    // A function that hands on an answer of 384 bytes copies it.
+    #[inline(always)]
     #[tactic(auto, using(crate::proofs::FrameHeadLemmas::decodes_told, crate::proofs::FrameHeadLemmas::refused_told))]
     pub fn decode(&self, alloc: Global, bytes: Bytes) -> Result<(Frame, Bytes), Error>
         ensures { Decodes bytes result }
@@ -107,32 +123,6 @@ fn refused(error: Error) -> Result<(Frame, Bytes), Error>
     ensures { result ≡ Err error }
 {
     Err(error)
-}
-
-/// The header's channel. The frame's type, in the second byte, is tested first.
-fn channel(bytes: &[u8]) -> Result<u16, Error>
-    ensures { ReadsHeader bytes.now result }
-{
-    if bytes.len() < 4 {
-        return Err(Error::DecodeError);
-    }
-    if bytes[1] != 0 {
-        return Err(Error::NotImplemented);
-    }
-    if bytes[0] != 2 {
-        return Err(Error::NotImplemented);
-    }
-    Ok(u16::from_be_bytes([bytes[2], bytes[3]]))
-}
-
-/// The kind that the descriptor names; none where there is no body.
-fn kind(bytes: &mut Bytes) -> Result<Option<Kind>, Error>
-    ensures { Names bytes.old bytes.new result }
-{
-    if bytes.is_empty() {
-        return Ok(None);
-    }
-    Ok(Some(Kind::read(bytes)?))
 }
 
 #[inline(never)]

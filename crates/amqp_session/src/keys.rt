@@ -114,25 +114,12 @@ pub fn get_mut<'a, K: Eq + Hash, V, S: BuildHasher, A: Allocator>(
     ensures* writes_back { sem 𝓛 (lends_under K.row V.row S.row A.row S.Hasher.row K.Hash S.BuildHasher S.Hasher.Hasher A.Allocator map.entry (K.eq key.now) result) }
     ensures value { option_copied_mut result ≡ get_by (K.eq key.now) map.old }
 {
-    if is_at(map, hint, key) {
-        return map.get_index_mut(hint);
+    if let Some((found, _)) = map.get_index(hint) {
+        if *key == *found {
+            return map.get_index_mut(hint);
+        }
     }
     map.get_mut(key)
-}
-
-/// Whether the key stands at an index.
-#[inline(always)]
-fn is_at<K: Eq + Hash, V, S: BuildHasher, A: Allocator>(
-    map: &IndexMap<K, V, S, A>,
-    index: usize,
-    key: &K,
-) -> bool
-    ensures { result ≡ true → (found : K) × (value : V) × (slice_get map.now.entries index ≡ Some (found, value)) × (K.eq key.now found ≡ true) }
-{
-    match map.get_index(index) {
-        Some((found, _)) => *key == *found,
-        None => false,
-    }
 }
 
 /// Puts a value under a key, and hands back the value that stood there. Takes no memory: room for it has to be made before.

@@ -55,7 +55,9 @@ impl RouteTable {
     pub(crate) fn of(&self, channel: IncomingChannel) -> Option<u32>
         ensures { result ≡ map.get self.now channel.0 }
     {
-        keys::get(&self.routes, &self.hints, u32::from(channel.0)).copied()
+        let at = keys::index_of(&self.routes, &self.hints, u32::from(channel.0))?;
+        let (_, number) = self.routes.get_index(at)?;
+        Some(*number)
     }
 
     /// Whether some channel leads to the session.

@@ -99,7 +99,7 @@ impl<R: LinkRelay> Engine<R> {
         ensures ok { OnOk result (self.new.waiting ≡ []) }
         ensures err { OnErr result (¬ (self.new.waiting ≡ [])) }
     {
-        while self.has_output() {
+        while self.waiting.has_frames() {
             let Ok(()) = self.put_first(answers) else {
                 return Err(AllocError);
             };

@@ -114,7 +114,7 @@ impl<R: LinkRelay> Engine<R> {
         ensures ok { OnOk result (self.new.waiting ≡ []) }
         ensures err { OnErr result (¬ (self.new.waiting ≡ [])) }
     {
-        while self.has_output() {
+        while self.waiting.has_frames() {
             let Ok(()) = self.send_first(place, out, refusals) else {
                 return Err(AllocError);
             };

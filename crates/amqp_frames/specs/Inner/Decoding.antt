@@ -1,12 +1,11 @@
 -- Part: inner.
--- What the steps of decoding answer: the header, then the descriptor.
-use Rattle.std.specs.Prelude.{◌≡◌, ◌<◌, ◌≤◌, ℕ, List, [], ◌∷◌, ◌++◌, length, drop, Option, Some, None, Result, Ok, Err}
+-- What the steps of reading a head find: the header, then the descriptor.
+use Rattle.std.specs.Prelude.{◌≡◌, ℕ, List, [], ◌∷◌, ◌++◌, length, drop, Option, Some, None, Result, Ok, Err}
 use Rattle.std.specs.Int.{w16, from_be_bytes}
 use Rattle.amqp_types.specs.declared.performatives.kind.Kind.{Kind}
 use Rattle.amqp_types.specs.Kinds.{kind_at}
 use Rattle.amqp_frames.specs.declared.error.Error.{Error}
 use Rattle.amqp_frames.specs.declared.error.Error.TheVariants as no
-use Rattle.amqp_frames.specs.Frame.{HasHeader}
 
 -- the bytes begin with a header that names this channel
 pub record IsHeader (bytes : List ℕ) (n : ℕ) : Type 0 where
@@ -14,14 +13,6 @@ pub record IsHeader (bytes : List ℕ) (n : ℕ) : Type 0 where
   pub two : length channel ≡ 2
   pub channel_is : n ≡ from_be_bytes w16 channel
   pub whole : bytes ≡ 0x02 ∷ 0x00 ∷ channel ++ drop 4 bytes
-
-abbrev pub ReadsHeader : List ℕ → Result ℕ Error → Type 0
-ReadsHeader bytes (Ok n) = (4 ≤ length bytes) × IsHeader bytes n
-ReadsHeader bytes (Err no.DecodeError) = length bytes < 4
-ReadsHeader bytes (Err no.NotImplemented) = (4 ≤ length bytes) × ¬ HasHeader bytes
-ReadsHeader bytes (Err no.OutOfMemory) = ⊥
-ReadsHeader bytes (Err no.TooLarge) = ⊥
-ReadsHeader bytes (Err (no.Io text)) = ⊥
 
 -- no body and no kind, or the descriptor of a kind and what is after it
 abbrev pub Names : List ℕ → List ℕ → Result (Option Kind) Error → Type 0

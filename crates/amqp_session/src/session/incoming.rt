@@ -167,9 +167,16 @@ impl<R: LinkRelay> Session<R> {
         ensures walk { self.new.last_walk ≡ self.old.last_walk }
         ensures reads { self.new.reads ≡ self.old.reads }
     {
-        self.receiving.count_transfer();
+        let counts = &mut self.receiving;
+        counts.next_incoming_id = counts.next_incoming_id.wrapping_add(1);
+        counts.remote_outgoing_window = counts.remote_outgoing_window.saturating_sub(1);
+        counts.unreported = counts.unreported.saturating_add(1);
         let input = InputHandle(transfer.handle.0);
-        let was_long = is_long(&transfer, &payload);
+        let state_len = match &transfer.state {
+            None => 0,
+            Some(state) => state.bytes().len(),
+        };
+        let was_long = payload.len() > KEPT || state_len > KEPT;
         let asked = self
             .links
             .ask_transfer(transfer, payload, &mut self.received);
@@ -327,13 +334,3 @@ const FEW: usize = 256;
 
 /// How many bytes beside its head a frame may have that an open delivery keeps in memory by its tag.
 const KEPT: usize = 256;
-
-/// Whether a transfer's frame is too long to be kept by a tag.
-#[inline(always)]
-fn is_long(transfer: &Transfer, payload: &Bytes) -> bool {
-    let state = match &transfer.state {
-        None => 0,
-        Some(state) => state.bytes().len(),
-    };
-    payload.len() > KEPT || state > KEPT
-}

@@ -1,7 +1,7 @@
 //! What a session sends for its links, and its own flows (AMQP 1.0 part 2, section 2.5.6).
 
 ghost use Rattle.std.specs.Prelude.{◌≡◌, ◌/◌, [], true};
-ghost use Rattle.amqp_session.specs.Session.{session_flow, flow_frame, is_due};
+ghost use Rattle.amqp_session.specs.Session.{session_flow, flow_frame};
 ghost use Rattle.amqp_session.specs.States.{is_mapped};
 ghost use Rattle.amqp_session.specs.Step.{IsUntagged, SendFlowStep, SendTransferStep, SessionFlowStep};
 
@@ -12,7 +12,7 @@ use crate::flow::LinkFlow;
 use crate::frame::{SessionFrame, SessionFrameBody, SessionOutgoingItem};
 use crate::numbers::InputHandle;
 use crate::relay::LinkRelay;
-use amqp_types::{Flow, Transfer};
+use amqp_types::{Flow, SessionState, Transfer};
 use bytes::Bytes;
 
 impl<R: LinkRelay> Session<R> {
@@ -126,7 +126,9 @@ impl<R: LinkRelay> Session<R> {
         ensures walk { self.new.last_walk ≡ self.old.last_walk }
         ensures reads { self.new.reads ≡ self.old.reads }
     {
-        if !self.is_flow_due() {
+        let is_due = matches!(self.state, SessionState::Mapped)
+            && self.settings.incoming_window / 2 <= self.receiving.unreported;
+        if !is_due {
             return None;
         }
         let flow = self.session_flow();
@@ -135,14 +137,6 @@ impl<R: LinkRelay> Session<R> {
             self.outgoing_channel.0,
             SessionFrameBody::Flow(flow),
         )))
-    }
-
-    /// Whether a session flow is due.
-    #[inline(always)]
-    fn is_flow_due(&self) -> bool
-        ensures { result ≡ is_due self.now.view }
-    {
-        self.can_send() && self.settings.incoming_window / 2 <= self.receiving.unreported
     }
 
     /// What a flow of the session alone says.

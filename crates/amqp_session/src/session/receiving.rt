@@ -2,7 +2,7 @@
 
 ghost use Rattle.std.specs.Prelude.{◌≡◌};
 ghost use Rattle.amqp_session.specs.Disposing.{widened};
-ghost use Rattle.amqp_session.specs.Receiving.{nothing_received, numbered_anew, counted, reported};
+ghost use Rattle.amqp_session.specs.Receiving.{nothing_received, numbered_anew, reported};
 
 /// The numbers of the transfers that the peer sends (AMQP 1.0 part 2, section 2.5.6).
 #[derive(Clone, Copy, Debug, PartialEq, Eq)]
@@ -33,15 +33,6 @@ impl Receiving {
     {
         self.next_incoming_id = next;
         self.remote_outgoing_window = window;
-    }
-
-    /// A transfer came.
-    pub(crate) fn count_transfer(&mut self)
-        ensures { self.new ≡ counted self.old }
-    {
-        self.next_incoming_id = self.next_incoming_id.wrapping_add(1);
-        self.remote_outgoing_window = self.remote_outgoing_window.saturating_sub(1);
-        self.unreported = self.unreported.saturating_add(1);
     }
 
     /// The remote outgoing window grows by these messages, up to 4294967295.

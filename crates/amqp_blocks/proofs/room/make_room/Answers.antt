@@ -2,15 +2,8 @@ use Rattle.std.proofs.Common.{ap, arith}
 use Rattle.std.proofs.lemmas.Result.{on_ok_weaker}
 use Rattle.amqp_blocks.specs.Chunked.{items_of, places_of}
 use Rattle.amqp_blocks.proofs.PlaceLemmas.{base_low, total_is}
-use Rattle.amqp_blocks.proofs.RoomLemmas.{items_fit, spares_count}
+use Rattle.amqp_blocks.proofs.RoomLemmas.{items_fit}
 use Rattle.amqp_blocks.proofs.room.make_room.Goals as goal
-
-pub returns-then-additional-len-clause-ok : goal.returns-then-additional-len-clause-ok
-returns-then-additional-len-clause-ok g c =
-    let v = c.requires.sound in
-    let fit = items_fit c.args.blocks.now.items v.chunked.some in
-    let spare = spares_count c.args.spare.now.items v.spares in
-    omega (arith, fit, spare, c.if-additional-len.true, c.len.ensures, c.args.spare.now.ok.0)
 
 pub total-requires : goal.total-requires
 total-requires g c = base_low c.args.base c.args.blocks.now.items c.args.ends.now.items c.requires.sound.chunked.stops
@@ -18,7 +11,7 @@ total-requires g c = base_low c.args.base c.args.blocks.now.items c.args.ends.no
 pub make_room_in_block-requires-clause-fits : goal.make_room_in_block-requires-clause-fits
 make_room_in_block-requires-clause-fits g c =
     let n = total_is c.args.base c.total.result c.args.blocks.now.items c.args.ends.now.items c.requires.sound.chunked.stops c.total.ensures.none c.total.ensures.some in
-    omega (arith, n, c.min-rest.ensures, c.if-additional-rest.true, c.if-additional-len.false)
+    omega (arith, n, c.min-rest.ensures, c.if-additional-rest.true, c.requires.some)
 
 pub returns-then-additional-rest-clause-kept : goal.returns-then-additional-rest-clause-kept
 returns-then-additional-rest-clause-kept g c = omega (arith, c.make_room_in_block.ensures.kept)

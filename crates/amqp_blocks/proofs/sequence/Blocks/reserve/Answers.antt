@@ -1,10 +1,19 @@
 use Rattle.std.proofs.Common.{length, ap, sym, ◌∙◌, arith}
 use Rattle.std.proofs.lemmas.Result.{on_ok_weaker}
 use Rattle.amqp_blocks.specs.Chunked.{Sequence}
+use Rattle.amqp_blocks.proofs.RoomLemmas.{items_fit, spares_count}
 use Rattle.amqp_blocks.proofs.sequence.Blocks.reserve.Goals as goal
 
+pub returns-then-additional-len-clause-room : goal.returns-then-additional-len-clause-room
+returns-then-additional-len-clause-room g c =
+    let v = c.self.invariant.0 in
+    let fit = items_fit c.self.inside.blocks.items v.chunked.some in
+    let spare = spares_count c.self.inside.spare.items v.spares in
+    let room = ap (λ (s : Sequence _). s.room) c.self.view_is in
+    omega (arith, fit, spare, room, c.if-additional-len.true, c.len.ensures, c.self.inside.spare.ok.0)
+
 pub make_room-requires : goal.make_room-requires
-make_room-requires g c = record { sound = c.self.invariant.0 }
+make_room-requires g c = record { sound = c.self.invariant.0; some = omega (arith, c.if-additional-len.false) }
 
 pub invariant_of-self : goal.invariant_of-self
 invariant_of-self g c = (c.make_room.ensures.sound, c.self.invariant.1 ∙ sym (ap length c.make_room.ensures.items))
