@@ -159,7 +159,9 @@ def counted(program, row, count, lines, more):
     with tempfile.TemporaryDirectory() as folder:
         profile = Path(folder) / "profile"
         under = ["valgrind", "--tool=callgrind", f"--callgrind-out-file={profile}"]
-        out, said = run(program, (row.mode, count, row.batch, row.open_before, row.sessions, *more), lines, under)
+        # Both counts have as many digits: a longer word moves the stack, and a copy costs by where it lies.
+        digits = str(count).zfill(len(str(row.counts[1])))
+        out, said = run(program, (row.mode, digits, row.batch, row.open_before, row.sessions, *more), lines, under)
         if more != ["idle"]:
             row.check(out, count)
         return int(re.search(r"Collected : (\d+)", said).group(1)), requests_in(profile)
