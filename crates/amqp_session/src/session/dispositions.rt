@@ -133,7 +133,6 @@ impl<R: LinkRelay> Session<R> {
     }
 
     /// Asks the relays of an unsettled disposition over a forward range about the deliveries of its role.
-    #[inline(never)]
     fn ask(
         &mut self,
         disposition: &Disposition,

@@ -89,7 +89,6 @@ fn alone(frame: Option<SessionFrame>) -> Option<SessionOutgoingItem>
 
 /// No relay was asked, for this reason. Where an answer of this size is made in place, its function pays for it on the ways that it does
 /// not take.
-#[inline(never)]
 fn refused(error: SessionInnerError) -> Result<(), SessionInnerError>
     ensures { result ≡ Err error }
 {
@@ -97,7 +96,6 @@ fn refused(error: SessionInnerError) -> Result<(), SessionInnerError>
 }
 
 /// The relay refuses.
-#[inline(never)]
 fn refused_by_relay(error: LinkRelayError) -> Result<(), SessionInnerError>
     ensures { result ≡ Err (inner_of_relay error) }
 {
@@ -156,7 +154,6 @@ impl<R: LinkRelay> Session<R> {
     }
 
     /// [`Session::on_incoming_transfer`], without the answer that is always `None`.
-    #[inline(always)]
     pub fn take_transfer(
         &mut self,
         transfer: Transfer,

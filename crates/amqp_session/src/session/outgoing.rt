@@ -46,7 +46,6 @@ impl<R: LinkRelay> Session<R> {
     ///
     /// `IllegalState` outside `Mapped`, and where the first transfer of a delivery has no tag. `OutOfMemory` where memory is
     /// refused. Nothing changes then.
-    #[inline(always)]
     pub fn on_outgoing_transfer(
         &mut self,
         input_handle: InputHandle,
@@ -120,7 +119,6 @@ impl<R: LinkRelay> Session<R> {
     /// A flow of the session alone, in `Mapped`, where the transfers that came since the last one are at least half of the
     /// incoming window, rounded down: it opens the peer's window again. `None` where fewer came, and in every other state. Takes no
     /// memory.
-    #[inline(always)]
     pub fn maybe_outgoing_session_flow(&mut self) -> Option<SessionOutgoingItem>
         ensures step { SessionFlowStep self.old.view result self.new.view }
         ensures walk { self.new.last_walk ≡ self.old.last_walk }
@@ -140,7 +138,6 @@ impl<R: LinkRelay> Session<R> {
     }
 
     /// What a flow of the session alone says.
-    #[inline(always)]
     pub(super) fn session_flow(&self) -> Flow
         ensures { result ≡ session_flow self.now.view }
     {

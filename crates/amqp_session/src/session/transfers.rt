@@ -45,7 +45,6 @@ impl Model for Sending {
 }
 
 /// Records the delivery, if any.
-#[inline(always)]
 fn record_opened(deliveries: &mut Deliveries, delivery: Option<Delivery>)
     requires room { length deliveries.old.rows < deliveries.old.capacity }
     ensures rows { deliveries.new.rows ≡ with_record delivery deliveries.old.rows }
@@ -197,7 +196,6 @@ impl Sending {
     }
 
     /// The transfer goes out alone, with the tag of its record: none waits, and the window is not used up.
-    #[inline(always)]
     pub(crate) fn send_alone(
         &mut self,
         channel: OutgoingChannel,
