@@ -1,7 +1,7 @@
 -- Part: every call exactly; inner.
 -- What each call of a session for its links does: output handles are allotted and released, and links are attached and detached
 -- (AMQP 1.0 part 2, sections 2.6.2 to 2.6.6).
-use Rattle.std.specs.Prelude.{◌≡◌, ◌<◌, ◌^◌, ℕ, Bool, true, false, not, if◌then◌else◌, List, Option, Some, None, Result, Ok, Err, IsSome}
+use Rattle.std.specs.Prelude.{◌≡◌, ◌<◌, ◌^◌, ℕ, Bool, true, false, not, if◌then◌else◌, List, Option, Some, None, is_some, Result, Ok, Err, IsSome}
 use Rattle.std.specs.FinMap as map
 use Rattle.amqp_types.specs.Attach.{AttachModel}
 use Rattle.amqp_types.specs.Detach.{DetachModel}
@@ -49,6 +49,15 @@ named_so (Some name) l = named_at name l
 -- the live link of a handle, with the relay that waits, if any
 abbrev pub link_at : {R : Type 0} → ℕ → LinksView R → Option (LiveLink R)
 link_at h l = named_so (name_at h l) l
+
+-- the output handle of an attached link, while a live link has it: none once this side detached the link
+abbrev pub live_output : {R : Type 0} → Option (AttachedLink R) → LinksView R → Option OutputHandle
+live_output None l = None
+live_output (Some a) l = if is_some (name_at a.handle.0 l) then Some a.handle else None
+
+-- the same of the link that is attached under an input handle
+abbrev pub output_at : {R : Type 0} → ℕ → LinksView R → Option OutputHandle
+output_at h l = live_output (attached_at h l) l
 
 -- whether the peer's answer to the detach of a handle's last link is awaited
 abbrev pub is_awaited : Option (Option (List ℕ)) → Bool

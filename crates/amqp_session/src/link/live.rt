@@ -1,9 +1,9 @@
 //! The calls of a session for its links: allotment, release, attach and detach.
 
-ghost use Rattle.std.specs.Prelude.{◌≡◌, ◌<◌, ◌^◌, Option, Some, None, IfOk, IfErr, OnOk, OnErr, if◌then◌else◌, option_map, string_bytes};
+ghost use Rattle.std.specs.Prelude.{◌≡◌, ◌<◌, ◌^◌, Option, Some, None, IfOk, IfErr, OnOk, OnErr, if◌then◌else◌, is_some, option_map, string_bytes};
 ghost use Rattle.std.specs.FinMap as map;
 ghost use Rattle.amqp_session.specs.Links.{put_at, attached_at};
-ghost use Rattle.amqp_session.specs.Linking.{named_at, link_at, linked, IsFull, Releases, Leaves, Attaches, Detaches, awaits};
+ghost use Rattle.amqp_session.specs.Linking.{named_at, link_at, name_at, output_at, linked, IsFull, Releases, Leaves, Attaches, Detaches, awaits};
 ghost use Rattle.amqp_session.specs.Relay.{AttachQuestion, DetachQuestion};
 
 use super::handles::{self, HandleSlot};
@@ -21,6 +21,27 @@ impl<R: LinkRelay> Links<R> {
         ensures { result ≡ option_map (λ n. n.handle) (named_at name.now self.now) }
     {
         names::handle_of(&self.names, name)
+    }
+
+    /// The output handle of the live link that is attached under an input handle.
+    pub(crate) fn output_handle_of(&self, input: InputHandle) -> Option<OutputHandle>
+        ensures { result ≡ output_at input.0 self.now }
+    {
+        match keys::get(&self.inputs, &self.hints, input.0) {
+            None => None,
+            Some(link) => self.while_live(link.handle),
+        }
+    }
+
+    /// A handle, while a live link has it.
+    fn while_live(&self, handle: OutputHandle) -> Option<OutputHandle>
+        ensures { result ≡ if is_some (name_at handle.0 self.now) then Some handle else None }
+    {
+        if handles::is_live(&self.handles, handle.0) {
+            Some(handle)
+        } else {
+            None
+        }
     }
 
     /// Allots an output handle for a link of this name, which no live link has. Its relay, if any, waits for the peer's attach,

@@ -1,7 +1,7 @@
 //! The calls of a session for its links (AMQP 1.0 part 2, section 2.6).
 
 ghost use Rattle.std.specs.Prelude.{◌≡◌, Option, option_map, string_bytes, OnOk, IfErr};
-ghost use Rattle.amqp_session.specs.Linking.{named_at, has_ended, why_unallotted, MayAllot, AllotRefused, AllocateLinkStep, AllocateIncomingStep, DeallocateStep, TakeAttachStep, TakeDetachStep, SendAttachStep, SendDetachStep};
+ghost use Rattle.amqp_session.specs.Linking.{named_at, output_at, has_ended, why_unallotted, MayAllot, AllotRefused, AllocateLinkStep, AllocateIncomingStep, DeallocateStep, TakeAttachStep, TakeDetachStep, SendAttachStep, SendDetachStep};
 ghost use Rattle.amqp_session.specs.Relay.{AttachQuestion, DetachQuestion};
 
 use super::Session;
@@ -28,6 +28,14 @@ impl<R: LinkRelay> Session<R> {
         ensures { result ≡ option_map (λ n. n.handle) (named_at name.now self.now.view.links) }
     {
         self.links.output_handle(name)
+    }
+
+    /// The output handle of the live link that is attached under an input handle: the peer's attach came on it. `None` where no link is
+    /// attached there, and where this side has detached it.
+    pub fn output_handle_of(&self, input: InputHandle) -> Option<OutputHandle>
+        ensures { result ≡ output_at input.0 self.now.view.links }
+    {
+        self.links.output_handle_of(input)
     }
 
     /// Allots an output handle for a link of this name, in `Mapped`. The relay, if any, waits under the name for the peer's attach. Without
