@@ -1,6 +1,7 @@
 //! The queue of events, as a value.
 
 ghost use Rattle.std.specs.Prelude.{◌≡◌, [], ◌∷◌, ◌++◌, length, true, IfOk};
+ghost use Rattle.std.specs.VecDeque.{deque_capacity};
 ghost use Rattle.amqp_events.specs.Event.{kind_of};
 ghost use Rattle.amqp_events.specs.Queue.{new_queue, has_room, Pushes, Pops, Misses};
 
@@ -10,9 +11,11 @@ use amqp_session::LinkRelayError;
 use std::alloc::{AllocError, Global};
 use std::collections::VecDeque;
 use std::marker::Model;
+use std::mem;
 
 /// The events that wait, in the order in which they came. Memory for as many of each kind as there is room for is taken when the queue is
-/// made; after that it asks for none. A contract sees the room, the list of the events, and how many were missed.
+/// made; after that it asks for none. An empty queue begins at the first place of its memory, so that a queue of few events, taken as they come,
+/// touches little of it. A contract sees the room, the list of the events, and how many were missed.
 ///
 /// ```
 /// let mut queue = EventQueue::with_room(alloc, room)?;
@@ -100,6 +103,7 @@ impl EventQueue {
     {
         let event = self.events.pop_front()?;
         self.used.lower(event.body.kind());
+        begin_anew(&mut self.events);
         Some(event)
     }
 
@@ -120,4 +124,18 @@ impl EventQueue {
         self.events.push_back_reserved(event);
         self.used.raise(kind);
     }
+}
+
+/// Has a ring that is empty begin at the first of its places, in the same memory. Else events that come one at a time go through all places, and
+/// make the whole of the memory resident.
+fn begin_anew(events: &mut VecDeque<Event>)
+    ensures items { events.new.items ≡ events.old.items }
+    ensures capacity { deque_capacity events.new ≡ deque_capacity events.old }
+{
+    if !events.is_empty() {
+        return;
+    }
+    let none = VecDeque::new(*events.allocator());
+    let ring = mem::replace(events, none);
+    drop(mem::replace(events, VecDeque::from_vec(ring.into_vec())));
 }
