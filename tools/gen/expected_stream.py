@@ -124,6 +124,13 @@ STREAMS = [
     (HEADER + b"\xff\xff\xff\xff" + b"\2\0\0\0", "invalid data"),
 ]
 
+# The same where frames may have any size: what is announced takes no memory before it comes
+UNLIMITED = [
+    (HEADER + b"\xff\xff\xff\xff" + b"\2\0\0\0", "unexpected end"),
+    (HEADER + EMPTY + (1 << 30).to_bytes(4, "big") + bytes(17000), "unexpected end"),
+    (HEADER + (17000).to_bytes(4, "big") + bytes(16996), "end"),
+]
+
 # transfers, and the frames that each is sent in: the head of a piece, and how much of the payload it has
 HEAD = bytes.fromhex("02000000005314")
 ALONE, FIRST = HEAD + bytes.fromhex("c00b054343a004000000014342"), HEAD + bytes.fromhex("c00c064343a00400000001434241")
@@ -153,9 +160,9 @@ def main():
             frames = [it for it in recording(name) if it[0].side == side]
             given += [f"-- {name} {side}", *[frame.bytes.hex() for frame, _ in frames]]
             wanted += [f"-- {name} {side}", *told(frames)]
-    for stream, end in STREAMS:
-        given.append(f"stream {stream.hex()}")
-        wanted.append(end)
+    for word, streams in ("stream", STREAMS), ("unlimited", UNLIMITED):
+        given += [f"{word} {stream.hex()}" for stream, _ in streams]
+        wanted += [end for _, end in streams]
     for frame, sent in map(in_pieces, PIECES):
         given.append(f"pieces {frame.hex()}")
         wanted.append(sent.hex())

@@ -37,7 +37,7 @@ pub fn exchange_headers<I: Read, O: Write>(input: &mut I, output: &mut O) -> io:
 ///
 /// `InvalidData` where its size, which counts its own four bytes, is below 8 or above `max_frame_size`, that of this side's Open;
 /// `UnexpectedEof` where the input ends inside it. It fails too where memory for the frame is refused, and an error of `input` is passed on.
-/// After an error the stream is of no use.
+/// After an error the stream is of no use. Memory is taken as the frame comes: a size that is announced takes none.
 pub fn next_frame<I: BufRead>(
     alloc: Global,
     input: &mut I,
@@ -75,13 +75,31 @@ fn read_size<I: Read>(input: &mut I) -> io::Result<u32>
     Ok(u32::from_be_bytes(size))
 }
 
-/// Reads so many bytes.
+/// How many bytes of a frame memory is taken for before any of them has come.
+const STEP: usize = 16384;
+
+/// Reads so many bytes. Memory is taken as they come: for a step, and then for no more than have come.
 fn read_bytes<I: Read>(alloc: Global, input: &mut I, len: usize) -> io::Result<Bytes>
     ensures { IfOk result (λ frame. (length frame ≡ len) × Consumes (I.remaining input.old) (I.remaining input.new) frame) }
 {
-    let mut frame = vec![in alloc; 0; len]?;
-    input.read_exact(frame.as_mut_slice())?;
+    let mut frame = Vec::new(alloc);
+    while frame.len() < len {
+        let more = (len - frame.len()).min(frame.len().max(STEP));
+        read_more(input, &mut frame, more)?;
+    }
     Ok(Bytes::from_vec(frame)?)
+}
+
+/// Reads so many bytes behind those that came before.
+fn read_more<I: Read>(input: &mut I, frame: &mut Vec<u8>, count: usize) -> io::Result<()>
+    ensures { OnOk result ((more : List ℕ) × (length more ≡ count) × (frame.new.items ≡ frame.old.items ++ more)
+        × Consumes (I.remaining input.old) (I.remaining input.new) more) }
+{
+    let at = frame.len();
+    frame.reserve_exact(count)?;
+    frame.resize(at + count, 0)?;
+    input.read_exact(&mut frame.as_mut_slice()[at..])?;
+    Ok(())
 }
 
 /// Writes what waits to be sent, and takes it off: `out` is empty then. An error of `output` is passed on; after it the stream is of no use,

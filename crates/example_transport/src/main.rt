@@ -2,8 +2,9 @@
 //!
 //! A line `-- NAME` begins a recording; each line after it is one frame in hexadecimal, without its size. For each recording it
 //! prints what the engine sent and what it refused, and of all frames in one run into one buffer at which place each refusal stands. A line
-//! `stream HEX` is a stream that something is wrong with: it prints how reading it ends. A line `pieces HEX` is a frame: it prints its pieces
-//! under a limit of 24 bytes, each as it is written. After the lines comes what calls answer that are no transport's (`src/calls.rt`).
+//! `stream HEX` is a stream that something is wrong with: it prints how reading it ends; `unlimited HEX` is one whose frames may have any size. A
+//! line `pieces HEX` is a frame: it prints its pieces under a limit of 24 bytes, each as it is written. After the lines comes what calls answer
+//! that are no transport's (`src/calls.rt`).
 #![tactic(auto)]
 
 mod calls;
@@ -98,7 +99,11 @@ fn take_line<O: Write>(
         None => gather(alloc, line, frames),
         Some(("stream", digits)) => {
             tell(alloc, hash, frames, out)?;
-            tell_end(alloc, digits, out)
+            tell_end(alloc, digits, MAX_FRAME_SIZE, out)
+        }
+        Some(("unlimited", digits)) => {
+            tell(alloc, hash, frames, out)?;
+            tell_end(alloc, digits, u32::MAX, out)
         }
         Some(("pieces", digits)) => {
             tell(alloc, hash, frames, out)?;
@@ -116,9 +121,14 @@ fn gather(alloc: Global, digits: &str, frames: &mut Vec<Bytes>) -> anyhow::Resul
     Ok(())
 }
 
-fn tell_end<O: Write>(alloc: Global, digits: &str, out: &mut O) -> anyhow::Result<()> {
+fn tell_end<O: Write>(
+    alloc: Global,
+    digits: &str,
+    max_frame_size: u32,
+    out: &mut O,
+) -> anyhow::Result<()> {
     let stream = bytes_of(alloc, digits)?;
-    let end = ended(alloc, stream.as_slice());
+    let end = ended(alloc, stream.as_slice(), max_frame_size);
     drop(stream);
     writeln!(out, "{end}")?;
     Ok(())
@@ -332,14 +342,14 @@ fn stream_of(alloc: Global, frames: &[Bytes]) -> anyhow::Result<Vec<u8>> {
     Ok(stream)
 }
 
-/// How reading a stream ends: where its frames end, or why it is refused.
-fn ended(alloc: Global, stream: &[u8]) -> &'static str {
+/// How reading a stream ends, of frames that have at most so many bytes: where its frames end, or why it is refused.
+fn ended(alloc: Global, stream: &[u8], max_frame_size: u32) -> &'static str {
     let mut input = Chunks::new(stream, 3);
     if let Err(error) = exchange_headers(&mut input, &mut io::sink()) {
         return name_of(error.kind());
     }
     for _ in 0..stream.len() {
-        match next_frame(alloc, &mut input, MAX_FRAME_SIZE) {
+        match next_frame(alloc, &mut input, max_frame_size) {
             Ok(Some(_)) => {}
             Ok(None) => return "end",
             Err(error) => return name_of(error.kind()),
