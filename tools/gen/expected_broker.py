@@ -12,7 +12,7 @@ from pathlib import Path
 
 sys.path.insert(0, str(Path(__file__).resolve().parents[1]))
 
-from amqp.canonical import boolean, composite, string, symbol, tag, ubyte, uint, ushort
+from amqp.canonical import boolean, composite, string, symbol, tag, ubyte, uint, ulong, ushort
 from amqp.frames import ATTACH, BEGIN, CLOSE, DETACH, DISPOSITION, END, FLOW, NULL, OPEN, TRANSFER
 
 CRATE = Path(__file__).resolve().parents[2] / "crates" / "example_broker"
@@ -24,6 +24,8 @@ ACCEPTED, RELEASED = composite(0x24, []), composite(0x26, [])
 # the client's channel, and the broker's, which is the lowest
 THEIRS, OURS = 3, 0
 LONG = bytes(range(256)) * 4
+# how many bytes of a message the broker takes
+MOST_MESSAGE = 1048576
 
 
 class Exchange:
@@ -92,7 +94,8 @@ def attached(it, handle, role, mode=NULL, name="link", settles=NULL):
     count = uint(0)
     it.client(ATTACH, [string(name), uint(handle), role, settles, mode, SOURCE, TARGET, NULL, NULL, count if role == SENDER else NULL])
     other = RECEIVER if role == SENDER else SENDER
-    it.broker(ATTACH, [string(name), uint(handle), other, settles, mode, SOURCE, TARGET, NULL, NULL, count if role == RECEIVER else NULL])
+    last = [uint(0)] if role == RECEIVER else [NULL, ulong(MOST_MESSAGE)]
+    it.broker(ATTACH, [string(name), uint(handle), other, settles, mode, SOURCE, TARGET, NULL, NULL, *last])
     if role == SENDER:
         it.grants(handle, 0)
 

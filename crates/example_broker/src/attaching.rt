@@ -2,7 +2,7 @@
 
 use crate::broker::{Broker, Progress, attach_of};
 use crate::consumers::Consumer;
-use crate::senders::Sender;
+use crate::senders::{MOST_MESSAGE, Sender};
 use crate::unsettled::give_back;
 use amqp_events::{EventRelay, LinkNames, Policy};
 use amqp_transport::{marked_name, push};
@@ -125,8 +125,7 @@ impl Broker {
         let (Some(input), Some(output)) = (link.input, link.output) else {
             return Ok(());
         };
-        self.senders
-            .retain(|it| !is_link(link, it.session, it.input));
+        self.drop_senders(link.session, Some(input.0));
         self.consumers
             .retain(|it| !is_link(link, it.session, it.input));
         give_back(
@@ -162,13 +161,14 @@ fn other_end(role: Role) -> Role {
 /// The Attach that answers one of the client's: the same link, from its other end.
 fn answer_to(theirs: Attach, handle: Handle) -> Attach {
     let role = other_end(theirs.role);
-    let initial_delivery_count = if role == Role::Sender { Some(0) } else { None };
+    let is_sender = role == Role::Sender;
     Attach {
         snd_settle_mode: theirs.snd_settle_mode,
         rcv_settle_mode: theirs.rcv_settle_mode,
         source: theirs.source,
         target: theirs.target,
-        initial_delivery_count,
+        initial_delivery_count: if is_sender { Some(0) } else { None },
+        max_message_size: if is_sender { None } else { Some(MOST_MESSAGE) },
         ..Attach::new(theirs.name, handle, role)
     }
 }

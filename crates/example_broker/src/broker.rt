@@ -27,6 +27,10 @@ pub const MOST_UNSETTLED: usize = 2048;
 /// How many messages the queue holds before senders get no more credit.
 pub const MOST_QUEUED: usize = 16384;
 
+/// How many bytes of memory messages may take, about: those that wait, those that are sent and not settled, and those that are coming. A
+/// message that finds no room is released.
+pub const MOST_BYTES: usize = 67108864;
+
 /// What is left in the queue of events after each frame: nothing. So there is room for what one frame brings.
 const ROOM: Room = Room {
     links: 1,
@@ -64,6 +68,10 @@ pub struct Broker {
     pub consumers: Vec<Consumer>,
     pub queue: VecDeque<Message>,
     pub unsettled: VecDeque<Unsettled>,
+    /// How many bytes of memory all messages take, about.
+    pub held: usize,
+    /// What the client did that it may not do, if anything.
+    pub fault: Option<&'static str>,
 }
 
 impl Broker {
@@ -83,6 +91,8 @@ impl Broker {
             consumers: Vec::new(alloc),
             queue: VecDeque::new(alloc),
             unsettled: VecDeque::new(alloc),
+            held: 0,
+            fault: None,
         })
     }
 
@@ -208,7 +218,7 @@ impl Broker {
         push(&mut self.inputs, Input::End(number, None))?;
         push(&mut self.inputs, Input::Release(number))?;
         push(&mut self.inputs, Input::Forget(number))?;
-        self.senders.retain(|it| it.session != number.0);
+        self.drop_senders(number.0, None);
         self.consumers.retain(|it| it.session != number.0);
         give_back(&mut self.unsettled, number.0, None, &mut self.queue)?;
         self.go_on(output)

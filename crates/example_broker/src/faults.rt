@@ -32,7 +32,7 @@ fn is_an_end(error: &StepError) -> bool {
     }
 }
 
-/// The condition of a fault (AMQP 1.0 part 2, sections 2.8.15 to 2.8.17).
+/// The condition of a fault (AMQP 1.0 part 2, sections 2.8.15 to 2.8.18).
 fn condition(fault: &str) -> &'static str {
     match fault {
         "DecodeError" => "amqp:decode-error",
@@ -41,6 +41,8 @@ fn condition(fault: &str) -> &'static str {
         "UnattachedHandle" => "amqp:session:unattached-handle",
         "HandleInUse" => "amqp:session:handle-in-use",
         "TooLarge" => "amqp:frame-size-too-small",
+        "TransferLimitExceeded" => "amqp:link:transfer-limit-exceeded",
+        "MessageSizeExceeded" => "amqp:link:message-size-exceeded",
         _ => "amqp:not-allowed",
     }
 }

@@ -3,11 +3,14 @@
 use crate::message::Message;
 use bytes::Bytes;
 use fe2o3_amqp::{Disposition, Handle, LinkFlow, Raw, ReceiverSettleMode, Role, Transfer};
-use std::alloc::Global;
+use std::alloc::{AllocError, Global};
 use std::{io, mem};
 
 /// How many messages a sender may send before it waits.
 const CREDIT: u32 = 500;
+
+/// How many bytes a message may have.
+pub const MOST_MESSAGE: u64 = 1048576;
 
 /// A link on which the client sends.
 #[derive(Drop)]
@@ -31,15 +34,29 @@ pub struct Sender {
 #[derive(Drop)]
 struct Coming {
     message: Message,
+    has_begun: bool,
+    /// Whether it finds no room: what came of it is gone.
+    is_dropped: bool,
     number: Option<u32>,
     is_settled: bool,
     mode: ReceiverSettleMode,
 }
 
-/// A message that came whole, and what is to be said to the client.
+/// What a transfer comes to.
+#[derive(Drop)]
+pub enum Taken {
+    /// More of its message is to come, or the message is aborted.
+    GoesOn,
+    /// Its message is whole.
+    Arrived(Arrived),
+    /// The client may not send it, for a fault of this name.
+    Fault(&'static str),
+}
+
+/// A message that came whole, unless it found no room, and what is to be said to the client.
 #[derive(Drop)]
 pub struct Arrived {
-    pub message: Message,
+    pub message: Option<Message>,
     pub answer: Option<Disposition>,
 }
 
@@ -77,29 +94,58 @@ impl Sender {
         })
     }
 
-    /// Takes a transfer. Where it ends a message, that comes out.
+    /// How many bytes of memory the delivery that is coming takes, about.
+    pub fn weight(&self) -> usize {
+        self.coming.message.weight()
+    }
+
+    /// Takes a transfer. Where it ends a message, that comes out. With `is_full` there is no room for more of it.
     pub fn take(
         &mut self,
         alloc: Global,
         transfer: Transfer,
         payload: Bytes,
-    ) -> io::Result<Option<Arrived>> {
+        is_full: bool,
+    ) -> io::Result<Taken> {
+        if let Some(fault) = self.fault(payload.len()) {
+            drop(transfer);
+            drop(payload);
+            return Ok(Taken::Fault(fault));
+        }
         let is_aborted = transfer.aborted;
         let has_more = transfer.more;
         self.coming.note(&transfer);
         drop(transfer);
-        self.coming.message.push(payload)?;
+        self.coming.put(alloc, payload, is_full)?;
         if has_more && !is_aborted {
-            return Ok(None);
+            return Ok(Taken::GoesOn);
         }
+        Ok(self.end(alloc, is_aborted))
+    }
+
+    /// Why the client may not send so many bytes more: a message past its credit, or one that is too long.
+    fn fault(&self, more: usize) -> Option<&'static str> {
+        let coming = &self.coming;
+        if !coming.has_begun && self.credit == 0 {
+            return Some("TransferLimitExceeded");
+        }
+        let len = coming.message.len().saturating_add(more);
+        if len as u64 > MOST_MESSAGE {
+            return Some("MessageSizeExceeded");
+        }
+        None
+    }
+
+    /// The delivery that was coming is over.
+    fn end(&mut self, alloc: Global, is_aborted: bool) -> Taken {
         self.count = self.count.wrapping_add(1);
         self.credit = self.credit.saturating_sub(1);
         let coming = replace(&mut self.coming, Coming::none(alloc, self.mode));
         if is_aborted {
             drop(coming);
-            return Ok(None);
+            return Taken::GoesOn;
         }
-        Ok(Some(coming.arrived()))
+        Taken::Arrived(coming.arrived())
     }
 }
 
@@ -111,10 +157,26 @@ impl Coming {
     fn none(alloc: Global, mode: ReceiverSettleMode) -> Coming {
         Coming {
             message: Message::new(alloc),
+            has_begun: false,
+            is_dropped: false,
             number: None,
             is_settled: false,
             mode,
         }
+    }
+
+    /// Puts a part to those that came. Where there is no room for it the message goes, with what came of it.
+    fn put(&mut self, alloc: Global, part: Bytes, is_full: bool) -> Result<(), AllocError> {
+        self.has_begun = true;
+        if is_full && !self.is_dropped {
+            self.is_dropped = true;
+            drop(replace(&mut self.message, Message::new(alloc)));
+        }
+        if self.is_dropped {
+            drop(part);
+            return Ok(());
+        }
+        self.message.push(part)
     }
 
     /// What a transfer says of its delivery.
@@ -130,26 +192,43 @@ impl Coming {
         }
     }
 
-    /// The message is accepted. It is settled at once, unless the client settles first.
+    /// The message is accepted, or released where it found no room. It is settled at once, unless the client settles first.
     fn arrived(self) -> Arrived {
         let Coming {
             message,
+            has_begun: _,
+            is_dropped,
             number,
             is_settled,
             mode,
         } = self;
         let answer = match number {
-            Some(first) if !is_settled => Some(disposition(first, mode)),
+            Some(first) if !is_settled => Some(disposition(first, mode, is_dropped)),
             _ => None,
         };
-        Arrived { message, answer }
+        if is_dropped {
+            drop(message);
+            return Arrived {
+                message: None,
+                answer,
+            };
+        }
+        Arrived {
+            message: Some(message),
+            answer,
+        }
     }
 }
 
-fn disposition(first: u32, mode: ReceiverSettleMode) -> Disposition {
+fn disposition(first: u32, mode: ReceiverSettleMode, is_released: bool) -> Disposition {
+    let state = if is_released {
+        Raw::released()
+    } else {
+        Raw::accepted()
+    };
     Disposition {
         settled: mode == ReceiverSettleMode::First,
-        state: Some(Raw::accepted()),
+        state: Some(state),
         ..Disposition::new(Role::Receiver, first)
     }
 }

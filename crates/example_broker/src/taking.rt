@@ -1,10 +1,10 @@
 //! What the engine tells by events, and what the broker does for it.
 
 use crate::attaching::is_link;
-use crate::broker::{Broker, MOST_QUEUED, MOST_UNSETTLED, Progress};
+use crate::broker::{Broker, MOST_BYTES, MOST_QUEUED, MOST_UNSETTLED, Progress};
 use crate::message::Message;
 use crate::outcome::is_given_back;
-use crate::senders::Arrived;
+use crate::senders::{Arrived, Taken};
 use crate::unsettled::{Unsettled, number_of, put_first, take};
 use amqp_events::{Event, EventBody, LinkNames};
 use amqp_transport::push;
@@ -23,6 +23,9 @@ impl Broker {
                 break;
             };
             self.take_event(event)?;
+        }
+        if let Some(fault) = self.fault {
+            return self.fail(fault, output);
         }
         if self.events.missed() > 0 {
             return self.fail("OutOfMemory", output);
@@ -91,10 +94,13 @@ impl Broker {
         transfer: Transfer,
         payload: Bytes,
     ) -> io::Result<()> {
+        let is_full = self.held >= MOST_BYTES;
         for it in self.senders.iter_mut() {
             if is_link(link, it.session, it.input) {
-                let arrived = it.take(self.alloc, transfer, payload)?;
-                return self.keep(SessionNo(link.session), arrived);
+                let before = it.weight();
+                let taken = it.take(self.alloc, transfer, payload, is_full)?;
+                self.held = self.held.saturating_sub(before).saturating_add(it.weight());
+                return self.take_message(SessionNo(link.session), taken);
             }
         }
         drop(transfer);
@@ -102,12 +108,24 @@ impl Broker {
         Ok(())
     }
 
+    fn take_message(&mut self, number: SessionNo, taken: Taken) -> io::Result<()> {
+        match taken {
+            Taken::GoesOn => Ok(()),
+            Taken::Arrived(arrived) => self.keep(number, arrived),
+            Taken::Fault(fault) => {
+                self.fault = Some(fault);
+                Ok(())
+            }
+        }
+    }
+
     /// A message that came goes into the queue, and the client is told.
-    fn keep(&mut self, number: SessionNo, arrived: Option<Arrived>) -> io::Result<()> {
-        let Some(Arrived { message, answer }) = arrived else {
-            return Ok(());
-        };
-        push(&mut self.queue, message)?;
+    fn keep(&mut self, number: SessionNo, arrived: Arrived) -> io::Result<()> {
+        let Arrived { message, answer } = arrived;
+        if let Some(message) = message {
+            self.held = self.held.saturating_add(message.weight());
+            push(&mut self.queue, message)?;
+        }
         match answer {
             None => Ok(()),
             Some(disposition) => push(&mut self.inputs, Input::Disposition(number, disposition)),
@@ -135,7 +153,7 @@ impl Broker {
         if is_given_back(state) {
             put_first(&mut self.queue, message)?;
         } else {
-            drop(message);
+            self.let_go(message);
         }
         if settled {
             return Ok(());
@@ -145,6 +163,25 @@ impl Broker {
             &mut self.inputs,
             Input::Settle(SessionNo(link.session), Role::Sender, number, None),
         )
+    }
+
+    /// A message that nobody waits for any more.
+    fn let_go(&mut self, message: Message) {
+        self.held = self.held.saturating_sub(message.weight());
+        drop(message);
+    }
+
+    /// The links of a session on which the client sends go, or one of them, with what is coming on them.
+    pub fn drop_senders(&mut self, session: u32, input: Option<u32>) {
+        let mut held = self.held;
+        self.senders.retain(|it| {
+            let goes = it.session == session && (input.is_none() || input == Some(it.input));
+            if goes {
+                held = held.saturating_sub(it.weight());
+            }
+            !goes
+        });
+        self.held = held;
     }
 
     /// Sends messages while a client's link has credit.
@@ -187,7 +224,7 @@ impl Broker {
         let limit = self.engine.max_piece_len();
         let asked = consumer.send(self.alloc, number, &message, limit, &mut self.inputs);
         if consumer.is_settled || asked.is_err() {
-            drop(message);
+            self.let_go(message);
             return asked;
         }
         push(
@@ -223,7 +260,7 @@ impl Broker {
 
     /// Grants credit to the links on which the client sends, while the queue has room.
     fn grant(&mut self) -> io::Result<()> {
-        if self.queue.len() >= MOST_QUEUED {
+        if self.queue.len() >= MOST_QUEUED || self.held >= MOST_BYTES {
             return Ok(());
         }
         for it in self.senders.iter_mut() {

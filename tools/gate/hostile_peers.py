@@ -1,0 +1,204 @@
+#!/usr/bin/env python3
+"""Has peers that wish them ill talk to two programs over the transport, and says whether they end as they have to, and what memory they held.
+
+    tools/gate/hostile_peers.py [BROKER TRANSPORT]
+
+These are the programs example_broker and example_transport as `rt run` or `rt ci` left them in out/; where one is missing `rt run` makes it. Each peer
+writes frames to the broker's standard input and reads what it answers; of memory the kernel's high-water mark of the process is read. The
+transport reads its recorded streams, some of which announce frames that do not come, with little memory. The last line is 'N passed, M failed'.
+"""
+
+import itertools
+import re
+import resource
+import subprocess
+import sys
+import threading
+from pathlib import Path
+
+sys.path.insert(0, str(Path(__file__).resolve().parents[1]))
+
+from amqp.canonical import boolean, composite, string, tag, uint
+from amqp.frames import ATTACH, BEGIN, CLOSE, DETACH, DISPOSITION, NULL, OPEN, TRANSFER
+from shared.command import command
+
+CRATES = Path(__file__).resolve().parents[2] / "crates"
+HEADER = b"AMQP\0\1\0\0"
+SOURCE, TARGET = composite(0x28, [string("q")]), composite(0x29, [string("q")])
+# The bounds that the broker's page gives: of a message, and of the memory for all of them, in bytes
+MOST_MESSAGE, MOST_BYTES = 1 << 20, 64 << 20
+# How much of a message stands in one frame
+PART = 65000
+# What the program holds beside its messages, at most, in kB
+BESIDE = 24 << 10
+ACCEPTED, RELEASED = b"\0\x53\x24", b"\0\x53\x26"
+
+
+def sized(frame):
+    return (len(frame) + 4).to_bytes(4, "big") + frame
+
+
+def framed(code, fields, payload=b""):
+    return sized(b"\2\0\0\0" + composite(code, fields) + payload)
+
+
+def begun():
+    """Headers, Open, a session with windows that nobody uses up, and a link on which messages are sent."""
+    wide = uint((1 << 31) - 1)
+    yield HEADER + framed(OPEN, [string("peer")]) + framed(BEGIN, [NULL, uint(0), wide, wide])
+    yield framed(ATTACH, [string("l"), uint(0), boolean(False), NULL, NULL, SOURCE, TARGET, NULL, NULL, uint(0)])
+
+
+def transfers(number, parts, settled):
+    """A message, each part in a transfer of its own."""
+    first = [uint(0), uint(number), tag({"bin": f"{number:08x}"}), uint(0), boolean(settled)]
+    for at, part in enumerate(parts):
+        more = boolean(at + 1 < len(parts))
+        yield framed(TRANSFER, [*(first if at == 0 else [uint(0), *[NULL] * 4]), more], part)
+
+
+def message(number, size, settled=False):
+    return transfers(number, [b"x" * min(PART, size - at) for at in range(0, size, PART)], settled)
+
+
+def detached():
+    return framed(DETACH, [uint(0), boolean(True)])
+
+
+class Told:
+    """What the broker sent: how many frames of each kind, how many messages it accepted and released, and the bytes of its Close."""
+
+    def __init__(self):
+        self.frames, self.accepted, self.released, self.close = {}, 0, 0, b""
+
+    def take(self, frame):
+        code = frame[6]
+        self.frames[code] = self.frames.get(code, 0) + 1
+        if code == DISPOSITION:
+            self.accepted += ACCEPTED in frame
+            self.released += RELEASED in frame
+        if code == CLOSE:
+            self.close = frame
+
+
+def feed(process, stream):
+    """Writes the pieces of a stream; ends where the broker reads no more."""
+    try:
+        for some in iter(lambda: b"".join(itertools.islice(stream, 64)), b""):
+            process.stdin.write(some)
+        process.stdin.flush()
+    except BrokenPipeError:
+        pass
+
+
+def frames(stream):
+    """The frames that come after the header."""
+    stream.read(len(HEADER))
+    while size := stream.read(4):
+        yield stream.read(int.from_bytes(size, "big") - 4)
+
+
+def talk(program, stream):
+    """What the broker told until it detached, closed or ended, and its high-water mark in kB."""
+    process = subprocess.Popen([program], stdin=subprocess.PIPE, stdout=subprocess.PIPE, stderr=subprocess.DEVNULL)
+    feeder = threading.Thread(target=feed, args=(process, stream), daemon=True)
+    feeder.start()
+    told, held = Told(), 0
+    for frame in frames(process.stdout):
+        told.take(frame)
+        if frame[6] in (DETACH, CLOSE):
+            held = high_water(process)
+            break
+    process.kill()
+    feeder.join()
+    process.wait()
+    return told, held
+
+
+def high_water(process):
+    """A program that has ended has none any more."""
+    found = re.search(r"VmHWM:\s+(\d+) kB", Path(f"/proc/{process.pid}/status").read_text())
+    return int(found.group(1)) if found else 0
+
+
+# ---- the peers: what each sends, and what has to come of it
+
+
+def of_many_messages(number, size):
+    """So many messages, that nobody takes, and at the end the link's Detach."""
+    return itertools.chain(begun(), *(message(i, size) for i in range(number)), [detached()])
+
+
+def keeps_what_it_has_room_for(program):
+    """Two hundred messages of the greatest size, of which a third finds room: the others are released."""
+    told, held = talk(program, of_many_messages(200, MOST_MESSAGE))
+    fits = MOST_BYTES // MOST_MESSAGE
+    return told.accepted + told.released == 200 and fits - 2 <= told.accepted <= fits + 1 and held < (MOST_BYTES >> 10) + BESIDE
+
+
+def counts_what_a_part_takes(program):
+    """A message whose parts have a byte each takes more memory than it has bytes; it ends before it takes all of that."""
+    parts = [b"x"] * (MOST_MESSAGE - 1)
+    told, held = talk(program, itertools.chain(begun(), transfers(0, parts, False), [detached()]))
+    return told.released == 1 and held < 2 * (MOST_BYTES >> 10) + BESIDE
+
+
+def passes_over_parts_of_no_bytes(program):
+    """A message of a million transfers without a payload takes no memory to speak of."""
+    told, held = talk(program, itertools.chain(begun(), transfers(0, [b""] * 1000000, False), [detached()]))
+    return told.accepted == 1 and held < BESIDE
+
+
+def refuses_a_message_that_is_too_long(program):
+    told, held = talk(program, itertools.chain(begun(), message(0, 64 * MOST_MESSAGE)))
+    return b"amqp:link:message-size-exceeded" in told.close and held < BESIDE
+
+
+def refuses_a_message_past_the_credit(program):
+    """Where the queue is full no more credit comes, and who goes on all the same is closed."""
+    told, held = talk(program, itertools.chain(begun(), *(message(i, 1, True) for i in range(20000))))
+    return b"amqp:link:transfer-limit-exceeded" in told.close and held < BESIDE
+
+
+def takes_no_memory_for_a_size(program):
+    """A size past the limit is no frame: the program ends, and says nothing more."""
+    told, held = talk(program, itertools.chain(begun(), [(1 << 31).to_bytes(4, "big")]))
+    return held == 0 and not told.close
+
+
+PEERS = (
+    keeps_what_it_has_room_for, counts_what_a_part_takes, passes_over_parts_of_no_bytes, refuses_a_message_that_is_too_long,
+    refuses_a_message_past_the_credit, takes_no_memory_for_a_size,
+)  # fmt: skip
+
+
+def reads_in_little_memory(program):
+    """The recorded streams of the transport, with so much address space that no announced frame finds room before it comes."""
+    crate = CRATES / "example_transport"
+    limit = 256 << 20
+    with open(crate / "stdin", "rb") as given:
+        how = {"preexec_fn": lambda: resource.setrlimit(resource.RLIMIT_AS, (limit, limit)), "stdout": subprocess.PIPE}
+        return subprocess.run([program], stdin=given, check=False, **how).stdout == (crate / "stdout").read_bytes()
+
+
+def built(name):
+    program = CRATES / name / "out" / name
+    if not program.exists():
+        subprocess.run(["rt", "run"], cwd=CRATES / name, stdin=subprocess.DEVNULL, stdout=subprocess.DEVNULL, check=True)
+    return str(program)
+
+
+def main():
+    broker, transport = sys.argv[1:3] if len(sys.argv) > 2 else map(built, ("example_broker", "example_transport"))
+    outcomes = [(peer.__name__, peer(broker)) for peer in PEERS]
+    outcomes.append((reads_in_little_memory.__name__, reads_in_little_memory(transport)))
+    for name, is_so in outcomes:
+        if not is_so:
+            print(f"FAILED: {name}")
+    failed = sum(not is_so for _, is_so in outcomes)
+    print(f"{len(outcomes) - failed} passed, {failed} failed")
+    sys.exit(1 if failed else 0)
+
+
+if __name__ == "__main__":
+    command(main, __doc__)
