@@ -82,6 +82,10 @@ def disposition(of_receiver, number, settled):
     return c.composite(0x15, [c.boolean(of_receiver), c.uint(number), b"\x40", c.boolean(settled), ACCEPTED])
 
 
+def disposition_of_range(of_receiver, first, last, settled=True):
+    return c.composite(0x15, [c.boolean(of_receiver), c.uint(first), c.uint(last), c.boolean(settled), ACCEPTED])
+
+
 # ---- lives
 
 OPEN = ["open", received(c.composite(0x10, [c.string("peer")]))]

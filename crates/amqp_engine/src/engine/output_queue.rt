@@ -1,6 +1,6 @@
 //! Frames that wait to be put out. They come from one call, and waiting takes no memory of its own.
 
-ghost use Rattle.std.specs.Prelude.{◌≡◌, [], ◌∷◌, List, Some, map, IfSome, is_some};
+ghost use Rattle.std.specs.Prelude.{◌≡◌, [], ◌∷◌, List, Some, map, IfSome, IsTrue, is_some};
 ghost use Rattle.amqp_session.specs.Items.{first_frame, item_frames};
 ghost use Rattle.amqp_engine.specs.Waits.{body_of, frame_of, sent, disposition_frame, after_frames, waits, has_frames, InFront, FirstIs, TakesFirst};
 ghost use Rattle.amqp_engine.specs.Inner.Putting.{DropsFirst};
@@ -69,8 +69,38 @@ fn frame_of(frame: SessionFrame) -> Frame
     Frame::new(frame.channel, body_of(frame.body))
 }
 
-/// The first of those that wait after the first frame, taken out.
+/// Whether there is a list of what waits, of which nothing is left.
+fn is_used_up(after: &Backlog) -> bool
+    ensures { IsTrue result → after_frames after.now ≡ [] }
+{
+    match after {
+        Backlog::Nothing => false,
+        Backlog::Frames(frames) => frames.is_empty(),
+        Backlog::Dispositions(_, dispositions) => dispositions.is_empty(),
+    }
+}
+
+/// Gives back the room of what waited once none of it does.
+fn give_back(after: &mut Backlog)
+    ensures { after_frames after.new ≡ after_frames after.old }
+{
+    if is_used_up(after) {
+        set(after, Backlog::Nothing);
+    }
+}
+
+/// The first of those that wait after the first frame, taken out. The room of the last one goes with it.
 fn next_of(after: &mut Backlog) -> Option<Frame>
+    ensures same { waits result (after_frames after.new) ≡ sent (after_frames after.old) }
+    ensures front { InFront result (after_frames after.new) }
+{
+    let next = first_of(after);
+    give_back(after);
+    next
+}
+
+/// The first of those that wait after the first frame, taken out of their list.
+fn first_of(after: &mut Backlog) -> Option<Frame>
     ensures same { waits result (after_frames after.new) ≡ sent (after_frames after.old) }
     ensures front { InFront result (after_frames after.new) }
 {

@@ -17,7 +17,7 @@ pub(crate) struct Tags {
 /// How many bytes a block has. It is short, since one tag keeps the whole of it.
 const BLOCK: usize = 512;
 
-/// How many bytes a tag has at most (AMQP 1.0 part 2, section 2.8.7).
+/// How many bytes a tag has at most (AMQP 1.0 part 2, section 2.8.7). A peer may send a longer one all the same.
 const LONGEST: usize = 32;
 
 impl Tags {
@@ -29,12 +29,14 @@ impl Tags {
         }
     }
 
-    /// The same tag as a copy in a block. Where memory is refused, or the tag is longer than the standard has it, it stays what it is.
+    /// The same tag as a copy: in a block, or in a buffer of its own where it is longer than the standard has it. Where memory is refused it stays
+    /// what it is. So does a longer one that is most of what it came in: `beside` tells how many bytes of payload and state came with it.
     #[inline(never)]
-    pub(crate) fn own(&mut self, tag: DeliveryTag) -> DeliveryTag
+    pub(crate) fn own(&mut self, tag: DeliveryTag, beside: usize) -> DeliveryTag
         ensures { result ≡ tag }
     {
-        if tag.0.len() > LONGEST {
+        let len = tag.0.len();
+        if len > LONGEST && len >= beside {
             return tag;
         }
         match self.copied(&tag.0) {
@@ -43,11 +45,13 @@ impl Tags {
         }
     }
 
-    /// These bytes, in a block.
+    /// These bytes, in a block or, where they are too many for one, in a buffer of their own.
     fn copied(&mut self, bytes: &[u8]) -> Result<Bytes, AllocError>
-        requires short { length bytes.now ≤ 32 }
         ensures { IfOk result (λ b. b ≡ bytes.now) }
     {
+        if bytes.len() > LONGEST {
+            return Bytes::copy_from_slice(self.alloc, bytes);
+        }
         self.make_room(bytes.len())?;
         self.room.extend_reserved(bytes);
         self.room.freeze_to(bytes.len())

@@ -173,7 +173,7 @@ impl<R: LinkRelay> Session<R> {
             None => 0,
             Some(state) => state.bytes().len(),
         };
-        let was_long = payload.len() > KEPT || state_len > KEPT;
+        let beside = payload.len().saturating_add(state_len);
         let asked = self
             .links
             .ask_transfer(transfer, payload, &mut self.received);
@@ -181,7 +181,7 @@ impl<R: LinkRelay> Session<R> {
             Err(unasked) => refused(unasked),
             Ok(Err(error)) => refused_by_relay(error),
             Ok(Ok(named)) => {
-                record_named(&mut self.tags, &mut self.received, input, named, was_long);
+                record_named(&mut self.tags, &mut self.received, input, named, beside);
                 Ok(())
             }
         }
@@ -300,15 +300,15 @@ impl<R: LinkRelay> Session<R> {
     }
 }
 
-/// Records the delivery that a relay named, if any. Its tag is a copy where its frame was long or many deliveries are open, and else keeps
-/// the frame.
+/// Records the delivery that a relay named, if any. Its tag is a copy where so many bytes came `beside` it that a cut would keep much, or many
+/// deliveries are open; else it keeps the frame.
 #[inline(always)]
 fn record_named(
     tags: &mut Tags,
     deliveries: &mut Deliveries,
     input: InputHandle,
     named: Option<(DeliveryNumber, DeliveryTag)>,
-    was_long: bool,
+    beside: usize,
 )
     requires { length deliveries.old.rows < deliveries.old.capacity }
     ensures rows { deliveries.new.rows ≡ with_record (named_delivery input.0 named) deliveries.old.rows }
@@ -316,8 +316,12 @@ fn record_named(
     ensures fits { RecordFits (named_delivery input.0 named) }
 {
     if let Some((number, tag)) = named {
-        let is_copied = was_long || deliveries.len() >= FEW;
-        let tag = if is_copied { tags.own(tag) } else { tag };
+        let is_copied = beside > KEPT || deliveries.len() >= FEW;
+        let tag = if is_copied {
+            tags.own(tag, beside)
+        } else {
+            tag
+        };
         deliveries.record(Delivery {
             number,
             input_handle: input,
@@ -329,5 +333,5 @@ fn record_named(
 /// How many open deliveries may keep their frames. Many frames are much memory, and are dear to let go in another order than they came.
 const FEW: usize = 256;
 
-/// How many bytes beside its head a frame may have that an open delivery keeps in memory by its tag.
+/// How many bytes of payload and state a frame may have that an open delivery keeps in memory by its tag.
 const KEPT: usize = 256;

@@ -44,6 +44,20 @@ impl Model for Sending {
     } };
 }
 
+/// How many transfers there may be room for that none waits in: a place for each of a few costs less than to ask for it again and again.
+const SPARE: usize = 16;
+
+/// Gives back room that those that wait do not need: what many of them once took does not stay for the life of the session. There is room for
+/// four times as many at most, or for a few. It takes no memory.
+fn give_back(held: &mut VecDeque<HeldTransfer>)
+    ensures { held.new.items ≡ held.old.items }
+{
+    let len = held.len();
+    if held.capacity() > SPARE && held.capacity() / 4 >= len {
+        held.shrink_to(len * 2);
+    }
+}
+
 /// Records the delivery, if any.
 fn record_opened(deliveries: &mut Deliveries, delivery: Option<Delivery>)
     requires room { length deliveries.old.rows < deliveries.old.capacity }
@@ -169,6 +183,7 @@ impl Sending {
             count,
             self.next_delivery,
         );
+        give_back(&mut self.held);
         self.next_outgoing_id = self.next_outgoing_id.wrapping_add(count as u32);
         self.remote_incoming_window -= count as u32;
     }
