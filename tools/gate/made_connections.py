@@ -93,8 +93,6 @@ FLIGHT_A = [
     f"frame 7, B, Attach: NotFound {FLEW}",
     f"frame 8, B, Flow: NotFound {FLEW}",
     f"frame 9, B, End: IllegalState {FLEW}",
-    f"frame 10, B, Attach: RemoteAttachingLinkNameNotFound {FLEW}",
-    f"frame 11, B, Flow: UnattachedHandle {FLEW}",
     # its link is detached, or was never attached; the channel has a session; no session, and one that has ended
     "frame 13, B, Flow: UnattachedHandle",
     "frame 14, B, Transfer: UnattachedHandle",
