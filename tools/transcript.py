@@ -15,9 +15,8 @@ What this side asks for before its session is mapped waits for the peer's Begin,
 peer's, a flow of the session alone, and empty frames are left out: the engine answers by itself, or has no need of them. After an Open, a
 Begin, an Attach or a Detach that the engine cannot read comes what can be read of it, so that what follows is not refused for it.
 What the peer had sent before it read this side's Close, or its End, is no breach, also where the engine refuses it: it is shown as in flight.
-With --run stands, besides what the engine refuses, what a judge of both sides finds in the peer's frames that an engine takes (amqp/judging.py says what it
-looks at). After a `DecodeError` stands what is wrong with the recorded frame, by a reader of its own (strict.py), since the engine does not say it: the
-field, and the byte of the frame, counted from 0 without its size.
+After what the engine refuses stands what it takes and a judge of both sides finds: watch.py says what that looks at. After a `DecodeError` stands
+what is wrong, by a reader of its own (strict.py): the field, and the byte of the recorded frame, counted from 0 without its size.
 The status is 0 where all was read and run, whatever was refused; 1 where a file or the program cannot be read or run.
 """
 
@@ -25,13 +24,12 @@ import re
 import subprocess
 import sys
 from itertools import count
-from pathlib import Path
 
 from amqp.canonical import composite, string, uint, ushort
-from amqp.frames import ATTACH, BEGIN, CLOSE, DETACH, DISPOSITION, END, FLOW, NAMES, NULL, OPEN, TRANSFER, Frame, Malformed, flag, integer, text
+from amqp.frames import ATTACH, BEGIN, CLOSE, DETACH, DISPOSITION, END, FLOW, NULL, OPEN, TRANSFER, flag, integer, text
 from amqp.judging import Judge
-from amqp.mended import mended, wrong_with
-from amqp.streams import Stream
+from amqp.mended import kind_of, mended, wrong_with
+from amqp.streams import recorded
 from amqp.strict import why
 from shared.command import command, told
 
@@ -40,30 +38,6 @@ MARK, MARKED = "release 4294967295\nrecv \n", "err NoSession\nerr DecodeError\n"
 # Refusals that are no breach, and by what names the engine refuses a lawful frame that comes after this side's Close or End
 PEER_ENDED, IN_FLIGHT, IN_SESSION = "the peer ended", "in flight after this side's Close", "in flight after this side's End"
 OF_LAWFUL = ("IllegalState", "NotFound", "RemoteAttachingLinkNameNotFound", "UnattachedHandle")
-
-
-# ---- recordings
-
-
-def recorded(path):
-    """The frames of a recording: side and bytes, without their size, in the order in which they were whole."""
-    lines = Path(path).read_text().splitlines()
-    if any(line.startswith("Follow: tcp") for line in lines):
-        return followed(lines)
-    return [(line[0], bytes.fromhex(line[2:])) for line in lines if re.fullmatch(r"[AB] [0-9a-fA-F]*", line)]
-
-
-def followed(lines):
-    """The frames of a followed stream: the second node's chunks are indented."""
-    streams, found = {"A": Stream(), "B": Stream()}, []
-    for line in lines:
-        if re.fullmatch(r"\t?[0-9a-fA-F]+", line):
-            side = "B" if line.startswith("\t") else "A"
-            found += [(side, of) for _, of in streams[side].feed(bytes.fromhex(line.strip()))]
-    for side, stream in streams.items():
-        if stream.broken is not None:
-            print(f"{side}: no more of it was read: {stream.broken}", file=sys.stderr)
-    return found
 
 
 # ---- what the engine gives
@@ -140,22 +114,22 @@ class Transcript:
     def receive(self, at, of, frame):
         if frame is None:
             self.said(at, "recv " + of.hex())
-            frame, of = self.stand_in(of), None
+            frame = self.stand_in(of)
+            of = frame and frame.bytes()
         if frame is not None and frame.code is not None:
-            return self.take(at, of, frame)
-        self.said(at, "recv " + of.hex()) if of is not None else None
-        return None
+            self.take(at, of, frame)
+        elif frame is not None:
+            self.said(at, "recv " + of.hex())
 
     def take(self, at, of, frame):
-        """A frame that was read; `of` is its bytes where they go to the engine as they came, but for its numbers."""
+        """A frame that has a performative; its bytes go to the engine as they came where no number changes."""
         self.opened(at, frame)
         if frame.code == CLOSE and self.closing is not None:
             self.close(self.closing)
         self.mark_in_flight(at, frame)
         before = frame.bytes()
         self.translate(at, frame)
-        of = frame.bytes() if of is None or frame.bytes() != before else of
-        self.said(at, "recv " + of.hex())
+        self.said(at, "recv " + (of if frame.bytes() == before else frame.bytes()).hex())
         if frame.channel in self.by_peer:
             self.after(at, frame, self.by_peer[frame.channel])
 
@@ -368,23 +342,13 @@ def answers(lines, program):
 
 
 def refusals(transcript, program, judges=False):
-    """Each refused frame, as a text: its place among the recorded ones, who sent it, its kind, and the refusal; and, where `judges`, what the judge finds besides."""
-    lines, found, told_of = transcript.run(), [], set()
+    """Each refused frame, as a text: its place among the recorded ones, who sent it, its kind, and the refusal. Where `judges`, also each other fault."""
+    lines, found = transcript.run(), []
+    faults = dict(transcript.faults) if judges else {}
     for (at, line), names in zip(lines, answers(lines, program)):
-        is_new = line.startswith("recv ") and at not in told_of
-        told_of |= {at} if is_new else set()
-        if is_new and judges and not names and transcript.faults[at]:
-            names = [transcript.faults[at]]
-        found += [shown(transcript, at, line, name) for name in names]
+        fault = faults.pop(at, None) if line.startswith("recv ") else None
+        found += [shown(transcript, at, line, name) for name in names or [fault] if name]
     return found
-
-
-def kind_of(of):
-    """The performative that the bytes say they are."""
-    try:
-        return NAMES.get(Frame(of).code, "empty frame")
-    except (Malformed, RecursionError):
-        return "no frame"
 
 
 def shown(transcript, at, line, name):

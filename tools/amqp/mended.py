@@ -1,13 +1,21 @@
 """A frame as far as it can be read, for judging.py and transcript.py: what one malformed field would hide of the frames after it is not lost."""
 
 from amqp import strict
-from amqp.frames import NULL, Frame, Malformed
+from amqp.frames import NAMES, NULL, Frame, Malformed
 from amqp.tables import MUST, TABLES
 
 
 def plain(of):
     """The frame without an extended header (AMQP 1.0 part 2, section 2.3.1)."""
     return b"\x02" + of[1:4] + of[of[0] * 4 - 4 :] if of[:1] > b"\x02" and len(of) >= of[0] * 4 - 4 else of
+
+
+def kind_of(of):
+    """The performative that the bytes say they are."""
+    try:
+        return NAMES.get(Frame(plain(of)).code, "empty frame")
+    except (Malformed, RecursionError):
+        return "no frame"
 
 
 def wrong_with(of):

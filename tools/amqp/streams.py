@@ -1,4 +1,8 @@
-"""Cuts what one side sends into frames, for transcript.py and watch.py (AMQP 1.0 part 2, sections 2.2 and 2.3)."""
+"""Cuts what one side sends into frames, and reads recordings, for transcript.py and watch.py (AMQP 1.0 part 2, sections 2.2 and 2.3)."""
+
+import re
+import sys
+from pathlib import Path
 
 HEADER = b"AMQP"
 # The least size of a frame, which counts its own four bytes
@@ -28,6 +32,10 @@ class Stream:
         if self.broken is not None:
             self.waiting.clear()
         return found
+
+    def is_within(self):
+        """Whether what was fed ends within a frame or a header."""
+        return bool(self.waiting) or self.passing > 0
 
     def size_at(self, at):
         """The size of what begins there, or `None` where it is not known yet."""
@@ -59,3 +67,24 @@ class Stream:
         here = min(self.passing, len(data))
         self.passing -= here
         return data[here:] if here else data
+
+
+def recorded(path):
+    """The frames of a recording: side and bytes, without their size, in the order in which they were whole."""
+    lines = Path(path).read_text().splitlines()
+    if any(line.startswith("Follow: tcp") for line in lines):
+        return followed(lines)
+    return [(line[0], bytes.fromhex(line[2:])) for line in lines if re.fullmatch(r"[AB] [0-9a-fA-F]*", line)]
+
+
+def followed(lines):
+    """The frames of a followed stream: the second node's chunks are indented."""
+    streams, found = {"A": Stream(), "B": Stream()}, []
+    for line in lines:
+        if re.fullmatch(r"\t?[0-9a-fA-F]+", line):
+            side = "B" if line.startswith("\t") else "A"
+            found += [(side, of) for _, of in streams[side].feed(bytes.fromhex(line.strip()))]
+    for side, stream in streams.items():
+        if stream.broken is not None:
+            print(f"{side}: no more of it was read: {stream.broken}", file=sys.stderr)
+    return found
