@@ -156,7 +156,8 @@ class Side:
         return None
 
     def close(self):
-        self.is_closed, self.halves, self.unanswered = True, {}, {}
+        # the other side may answer a Begin yet
+        self.is_closed, self.halves = True, {}
 
     def refuses(self, channel, size):
         """What of a frame is past the limits that this side gave (section 2.7.1)."""
