@@ -27,6 +27,7 @@ from itertools import count
 
 from amqp.canonical import composite, string, uint, ushort
 from amqp.frames import ATTACH, BEGIN, CLOSE, DETACH, DISPOSITION, END, FLOW, NULL, OPEN, TRANSFER, flag, integer, text
+from amqp.given import Session, in_a_line
 from amqp.judging import Judge
 from amqp.mended import kind_of, mended, wrong_with
 from amqp.streams import recorded
@@ -35,42 +36,10 @@ from shared.command import command, told
 
 # Two lines that are always refused, and change nothing: no line of a transcript is answered so
 MARK, MARKED = "release 4294967295\nrecv \n", "err NoSession\nerr DecodeError\n"
-# Refusals that are no breach, and by what names the engine refuses a lawful frame that comes after this side's Close or End
+# Refusals that are no breach, and by what names the engine refuses what was in flight, or hangs on a frame that was not read
 PEER_ENDED, IN_FLIGHT, IN_SESSION = "the peer ended", "in flight after this side's Close", "in flight after this side's End"
+AFTER_UNREAD = "after a frame that cannot be read"
 OF_LAWFUL = ("IllegalState", "NotFound", "RemoteAttachingLinkNameNotFound", "UnattachedHandle")
-
-
-# ---- what the engine gives
-
-
-def in_a_line(name):
-    """The name of a link; of one that no line can have, another."""
-    return name if name and not set(name) & set("\r\n") else f"the name {name.encode().hex()}"
-
-
-class Handles:
-    """The output handles of a session: the one that was freed last is given out first."""
-
-    def __init__(self):
-        self.free, self.next = [], 0
-
-    def give(self):
-        if self.free:
-            return self.free.pop()
-        self.next += 1
-        return self.next - 1
-
-
-class Session:
-    """A session of this side: its number, its recorded channel and the one here, and what its recorded numbers count from."""
-
-    def __init__(self, number, own, channel, first_id, first_delivery):
-        self.number, self.own, self.channel = number, own, channel
-        self.first_id, self.first_delivery = first_id, first_delivery
-        self.is_mapped, self.is_held, self.ended, self.waiting = False, True, set(), []
-        self.handles, self.links, self.awaited, self.inputs, self.going = Handles(), {}, set(), {}, set()
-        # the recorded handle of a link, and its handle here
-        self.given = {}
 
 
 class Transcript:
@@ -79,8 +48,8 @@ class Transcript:
         self.read = [self.parsed(side, of) for side, of in frames]
         # sessions by this side's recorded channel, and by the peer's; the channels that are held here
         self.sessions, self.by_own, self.by_peer, self.held, self.is_open = [], {}, {}, set(), False
-        # the place of a Close that waits; the places of what may be in flight after it, or after an End, and after which
-        self.closing, self.is_closed, self.in_flight = None, False, {}
+        # the place of a Close that waits; by place, why a frame that the engine may refuse is no breach
+        self.closing, self.is_closed, self.lawful = None, False, {}
         # whether the peer's Open came, or what may have been it; what a judge of both sides finds, by the frame's place
         self.heard, self.is_lost, self.judge, self.faults = False, False, Judge(), {}
 
@@ -126,7 +95,7 @@ class Transcript:
         self.opened(at, frame)
         if frame.code == CLOSE and self.closing is not None:
             self.close(self.closing)
-        self.mark_in_flight(at, frame)
+        self.lawful[at] = self.why_lawful(at, frame)
         before = frame.bytes()
         self.translate(at, frame)
         self.said(at, "recv " + (of if frame.bytes() == before else frame.bytes()).hex())
@@ -158,10 +127,16 @@ class Transcript:
             self.heard = True
         self.heard = self.heard or frame.code == OPEN
 
-    def mark_in_flight(self, at, frame):
+    def why_lawful(self, at, frame):
+        """Why a frame may be no breach that the engine refuses, if any."""
         session = self.by_peer.get(frame.channel)
-        if self.faults[at] is None and (self.is_closed or session and "own" in session.ended):
-            self.in_flight[at] = IN_FLIGHT if self.is_closed else IN_SESSION
+        if self.faults[at] is not None:
+            return None
+        if self.is_closed:
+            return IN_FLIGHT
+        if session and "own" in session.ended:
+            return IN_SESSION
+        return AFTER_UNREAD if self.judge.is_lost(self.frames[at][0], frame.channel) else None
 
     def translate(self, at, frame):
         """The numbers of the peer's frame, as this side's are here; and what has to be asked for before it comes."""
@@ -357,8 +332,8 @@ def shown(transcript, at, line, name):
     mark = ""
     if name.startswith("Remote") and frame and frame.code in (END, CLOSE):
         mark = f" ({PEER_ENDED})"
-    elif line.startswith("recv") and at in transcript.in_flight and name in OF_LAWFUL:
-        mark = f" ({transcript.in_flight[at]})"
+    elif line.startswith("recv") and transcript.lawful.get(at) and name in OF_LAWFUL:
+        mark = f" ({transcript.lawful[at]})"
     elif line.startswith("recv") and name == "DecodeError" and why(of):
         mark = f" ({why(of)})"
     return f"frame {at + 1}, {side}, {kind_of(of)}{asked}: {name}{mark}"
@@ -366,7 +341,8 @@ def shown(transcript, at, line, name):
 
 def counted(frames, found):
     """The last line: how many frames there are, how many are refused as breaches, and how many lawful ones are named."""
-    named = {mark: sum(it.endswith(f"({mark})") for it in found) for mark in (PEER_ENDED, IN_FLIGHT, IN_SESSION)}
+    marks = (PEER_ENDED, IN_FLIGHT, IN_SESSION, AFTER_UNREAD)
+    named = {mark: sum(it.endswith(f"({mark})") for it in found) for mark in marks}
     line = f"{len(frames)} frames, {len(found) - sum(named.values())} refused, {named.pop(PEER_ENDED)} by which {PEER_ENDED}"
     return line + "".join(f", {count} {mark}" for mark, count in named.items() if count)
 

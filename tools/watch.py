@@ -30,7 +30,7 @@ import time
 
 from amqp.frames import CLOSE, END, NULL, end_of, parts, text
 from amqp.judging import Judge
-from amqp.mended import kind_of, mended, plain
+from amqp.mended import kind_of
 from amqp.streams import Stream
 from shared.command import command
 
@@ -91,7 +91,7 @@ class Seen:
             self.count += 1
             if self.shows:
                 self.tell(f"{time.strftime('%H:%M:%S')} {WHO[side]}, frame {self.count}: {of.hex()}")
-            found = self.judge.step(side, of, size) or ended(of)
+            found = self.judge.step(side, of, size) or ended(self.judge.read)
             if found:
                 self.tell(f"{WHO[side]}, frame {self.count}, {kind_of(of)}: {found}")
         if stream.broken != was_broken:
@@ -103,9 +103,8 @@ class Seen:
             self.tell(f"{WHO[side]}, after frame {self.count}: ends within a frame")
 
 
-def ended(of):
+def ended(frame):
     """What an End or a Close with an error is told as."""
-    frame = mended(plain(of))
     if frame is None or frame.code not in (END, CLOSE) or frame[0] == NULL:
         return None
     fields, _ = parts(frame[0], end_of(frame[0], 1))
@@ -151,6 +150,10 @@ class Watched:
             await asyncio.gather(self.carry("A", near[0], far[1]), self.carry("B", far[0], near[1]))
         for _, writer in (near, far):
             writer.close()
+        for _, writer in (near, far):
+            # what it holds is sent yet
+            with contextlib.suppress(OSError):
+                await writer.wait_closed()
         self.desk.give(CHUNK, lambda: self.tell(f"over, after {self.seen.count} frames"))
 
 

@@ -49,10 +49,10 @@ class Link:
 
 
 class Half:
-    """What one side sent in a session: numbers of transfers count from 0, and `room` is how many the other side let it send at most."""
+    """What one side sent in a session: numbers of transfers count from 0, and `room` is how many the other side, `across`, let it send at most."""
 
-    def __init__(self, first_id, window):
-        self.first_id, self.window, self.sent, self.room = first_id, window, 0, None
+    def __init__(self, first_id, window, across):
+        self.first_id, self.window, self.across, self.sent, self.room = first_id, window, across, 0, None
         self.links, self.names, self.next_delivery, self.other, self.is_lost = {}, set(), None, None, False
 
     def pair(self, other):
@@ -101,7 +101,8 @@ class Half:
             self.window = max(self.window, window)
         else:
             self.other.allow(self.other.place_of(integer(frame[0])) + window)
-        return None if integer(frame[4]) in (None, *self.links) else "UnattachedHandle"
+        handle = integer(frame[4])
+        return None if handle is None or handle in self.links else "UnattachedHandle"
 
     def place_of(self, transfer_id):
         """How many transfers stand before the one of this number: of those near the last one that was sent."""
@@ -121,7 +122,7 @@ class Half:
 
     def past_window(self):
         if self.room is None:
-            return "WindowViolation (no window was given yet)"
+            return None if self.across.is_doubtful else "WindowViolation (no window was given yet)"
         return f"WindowViolation ({self.sent - self.room} past the window)" if self.sent > self.room else None
 
     def number(self, number):
@@ -144,9 +145,9 @@ class Side:
         # something could not be read: it may have been a Begin
         self.is_doubtful = False
 
-    def lose(self, channel):
+    def lose(self, channel, other):
         self.is_begun = self.is_doubtful = True
-        self.halves.setdefault(channel, Half(0, inf)).lose()
+        self.halves.setdefault(channel, Half(0, inf, other)).lose()
 
     def open(self, frame):
         if self.limits is not None:
@@ -174,20 +175,28 @@ class Judge:
 
     def __init__(self):
         self.sides = {"A": Side(), "B": Side()}
+        # the frame that came last, as far as it could be read
+        self.read = None
 
     def step(self, side, of, size=None):
         """The fault of the next frame of a side, `None` of a lawful one: a name, and what it means in brackets. `of` is without its size, and may be cut."""
         mine, other = self.sides[side], self.sides["B" if side == "A" else "A"]
         size = len(of) + 4 if size is None else size
+        self.read = None
         if mine.is_closed:
             return "AfterClose"
         is_cut, of = len(of) + 4 < size, plain(of)
         wrong, channel = wrong_with(of), int.from_bytes(of[2:4], "big")
-        frame = mended(of) if wrong else Frame(of)
-        fault = mine.lose(channel) if frame is None else self.state(mine, other, frame)
+        self.read = frame = mended(of) if wrong else Frame(of)
+        fault = mine.lose(channel, other) if frame is None else self.state(mine, other, frame)
         if wrong and is_cut:
             wrong = f"NotRead ({size} bytes)"
         return other.refuses(channel, size) or wrong or fault
+
+    def is_lost(self, side, channel):
+        """Whether something that the side sent on this channel could not be read, so that it is not blamed there."""
+        half = self.sides[side].halves.get(channel)
+        return half is not None and half.is_lost
 
     def state(self, mine, other, frame):
         """What the frame changes, and its fault in this state."""
@@ -218,9 +227,7 @@ class Judge:
         fault = None if before is None or before.is_lost else f"ChannelInUse (channel {frame.channel})"
         if fault and answers is not None and answers not in other.unanswered:
             return fault
-        half = mine.halves[frame.channel] = Half(integer(frame[1]), integer(frame[2]))
-        if other.is_doubtful:
-            half.room = inf
+        half = mine.halves[frame.channel] = Half(integer(frame[1]), integer(frame[2]), other)
         if answers is None:
             mine.unanswered[frame.channel] = (mine.unanswered.get(frame.channel, (0,))[0] + 1, half)
             return fault

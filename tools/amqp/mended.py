@@ -4,6 +4,9 @@ from amqp import strict
 from amqp.frames import NAMES, NULL, Frame, Malformed
 from amqp.tables import MUST, TABLES
 
+# Optional fields without which a frame says something else: which session it is of, which link, or which delivery
+TOLD_BY = ("remote_channel", "next_incoming_id", "handle", "delivery_id", "more", "aborted")
+
 
 def plain(of):
     """The frame without an extended header (AMQP 1.0 part 2, section 2.3.1)."""
@@ -27,7 +30,7 @@ def wrong_with(of):
 
 
 def mended(of):
-    """The frame, without those optional fields that are malformed; `None` where the rest cannot be read either."""
+    """The frame, without those optional fields that are malformed; `None` where the rest cannot be read either, or says too little."""
     try:
         frame = Frame(of)
     except (Malformed, RecursionError):
@@ -36,7 +39,7 @@ def mended(of):
     frame.fields = frame.fields[: len(table)]
     for at, (name, kind, need) in enumerate(table):
         if not is_well(frame[at], name, kind, need):
-            if need == MUST:
+            if need == MUST or name in TOLD_BY:
                 return None
             frame[at] = NULL
     return frame

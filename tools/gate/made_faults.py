@@ -77,6 +77,7 @@ FAULTS = [
         [attached()[1], transfer(0)], "DecodeError (field 12 of Attach"),
     ("an Attach that cannot be read", IN_A_SESSION, [frame("A", 0, ATTACH, uint(1))], [transfer(0), DETACHED], "DecodeError (field 1 of Attach"),
     ("a Begin that cannot be read", opened(), [frame("A", 0, BEGIN, symbol("x"))], [begin("B", 0, 0), *attached(), transfer(0), *ended(0, 0)], "DecodeError (field 1 of Begin"),
+    ("an answer that cannot be read", [*opened(), begin("A", 0)], [frame("B", 0, BEGIN, symbol("x"))], [*attached(), transfer(0), *ended(0, 0)], "DecodeError (field 1 of Begin"),
     ("a Flow that cannot be read", [*opened(), *narrow(0), *attached()], [frame("B", 0, FLOW, NULL)], [transfer(0)], "DecodeError (field 2 of Flow"),
     ("a performative that is none", opened(), [frame("A", 0, 0x30)], [begin("B", 0, 0), flow("A", 0)], "DecodeError (no performative"),
     ("another type", opened(), [("A", b"\x02\x07\0\0")], closed(), "NotImplemented (a header of 2 words, type 7)"),

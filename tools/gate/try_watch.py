@@ -113,6 +113,9 @@ class Sink:
 
     close = write_eof
 
+    async def wait_closed(self):
+        pass
+
 
 class Quiet(Watched):
     """It tells a list."""
