@@ -146,39 +146,59 @@ class Watched:
             self.desk.give(CHUNK, self.seen.end, side)
 
     async def between(self, near, far):
-        with contextlib.suppress(asyncio.CancelledError):
-            await asyncio.gather(self.carry("A", near[0], far[1]), self.carry("B", far[0], near[1]))
-        for _, writer in (near, far):
-            writer.close()
-        for _, writer in (near, far):
-            # what it holds is sent yet
-            with contextlib.suppress(OSError):
-                await writer.wait_closed()
-        self.desk.give(CHUNK, lambda: self.tell(f"over, after {self.seen.count} frames"))
-
-
-async def watch(listen, host, port, connections, shows):
-    gone, count, desk = asyncio.Semaphore(0), 0, Desk()
-    desk.start()
-
-    async def met(reader, writer):
-        nonlocal count
-        count += 1
-        watched = Watched(count, desk, shows)
+        writers = near[1], far[1]
         try:
-            far = await asyncio.open_connection(host, port)
-        except OSError as error:
-            desk.give(CHUNK, watched.tell, f"{host}:{port}: {error.strerror or error}")
-            writer.close()
-        else:
-            await watched.between((reader, writer), far)
-        gone.release()
+            await asyncio.gather(self.carry("A", near[0], far[1]), self.carry("B", far[0], near[1]))
+            for writer in writers:
+                writer.close()
+            for writer in writers:
+                # what it holds is sent yet
+                with contextlib.suppress(OSError):
+                    await writer.wait_closed()
+        finally:
+            for writer in writers:
+                writer.close()
+            self.desk.give(CHUNK, lambda: self.tell(f"over, after {self.seen.count} frames"))
 
-    async with await asyncio.start_server(met, "127.0.0.1", listen) as server:
-        print(f"listens on 127.0.0.1:{server.sockets[0].getsockname()[1]}", flush=True)
-        for _ in range(connections or sys.maxsize):
-            await gone.acquire()
-    desk.end()
+
+class Watcher:
+    """Hands on each connection that comes, `most` at most."""
+
+    def __init__(self, host, port, most, shows):
+        self.host, self.port, self.most, self.shows, self.count = host, port, most, shows, 0
+        self.desk, self.come, self.gone = Desk(), asyncio.Semaphore(0), asyncio.Semaphore(0)
+
+    async def met(self, reader, writer):
+        if self.count == self.most:
+            return writer.close()
+        self.count += 1
+        self.come.release()
+        with contextlib.suppress(asyncio.CancelledError):
+            await self.hand_on(Watched(self.count, self.desk, self.shows), (reader, writer))
+        self.gone.release()
+
+    async def hand_on(self, watched, near):
+        try:
+            far = await asyncio.open_connection(self.host, self.port)
+        except OSError as error:
+            self.desk.give(CHUNK, watched.tell, f"{self.host}:{self.port}: {error.strerror or error}")
+            near[1].close()
+        else:
+            await watched.between(near, far)
+
+    async def watch(self, listen):
+        self.desk.start()
+        async with await asyncio.start_server(self.met, "127.0.0.1", listen) as server:
+            print(f"listens on 127.0.0.1:{server.sockets[0].getsockname()[1]}", flush=True)
+            for _ in range(self.most):
+                await self.come.acquire()
+        for _ in range(self.most):
+            await self.gone.acquire()
+        self.desk.end()
+
+
+async def watch(listen, host, port, most, shows):
+    await Watcher(host, port, most, shows).watch(listen)
 
 
 def main():
@@ -189,7 +209,7 @@ def main():
     parser.add_argument("--connections", type=int)
     parser.add_argument("--frames", action="store_true")
     said = parser.parse_args()
-    asyncio.run(watch(said.listen, said.host, said.port, said.connections, said.frames))
+    asyncio.run(watch(said.listen, said.host, said.port, said.connections or sys.maxsize, said.frames))
 
 
 if __name__ == "__main__":
