@@ -1,5 +1,5 @@
 #!/usr/bin/env python3
-"""Stands between a client and a server, and prints each frame that breaks the protocol, by name, side and frame.
+"""Stands between a client and a server, and prints the frames that break the protocol, by name, side and place.
 
     tools/watch.py LISTEN HOST PORT [--connections N] [--frames]
 

@@ -2,13 +2,8 @@
 
 The judge stands between the sides: what one sends may not have come to the other when that sends its next frame. So a frame is blamed only where it
 is wrong whatever its sender had read. Where the standard lets a limit change, the greatest that was given counts; and what a side may not know yet
-of the other's End, Detach or Close is no breach.
-
-Looked at are, of each frame: its bytes; its size and its channel, once the other side's Open came; the order of Open, Begin, Attach, Detach, End and
-Close, and what is sent after the last three; which Begin is answered; handles and names of links; transfers against the session's window, and
-their delivery-ids. A frame has one fault at most. After one that cannot be read its side is not blamed on that channel, but for its bytes, until the next Begin.
-
-Not looked at: link credit, tags, settlement and states of deliveries, ranges of dispositions, handle-max, max-message-size, time.
+of the other's End, Detach or Close is no breach. A frame has one fault at most. After one that cannot be read its side is not blamed on that channel, but for
+its bytes, until the next Begin. What is looked at, and what is not, stands in watch.py. No library is needed.
 """
 
 from math import inf
@@ -142,7 +137,7 @@ class Side:
         self.is_begun, self.limits, self.is_closed, self.halves = False, None, False, {}
         # by channel: how many Begins no Begin of the other side has answered, and the last of them
         self.unanswered = {}
-        # something could not be read: it may have been a Begin
+        # which Begins came is not sure: one could not be read, or came where none may
         self.is_doubtful = False
 
     def lose(self, channel, other):
@@ -225,13 +220,14 @@ class Judge:
     def begin(self, mine, other, frame):
         answers, before = integer(frame[0]), mine.halves.get(frame.channel)
         fault = None if before is None or before.is_lost else f"ChannelInUse (channel {frame.channel})"
-        if fault and answers is not None and answers not in other.unanswered:
+        if fault and answers not in other.unanswered:
+            mine.is_doubtful = mine.is_doubtful or answers is None
             return fault
         half = mine.halves[frame.channel] = Half(integer(frame[1]), integer(frame[2]), other)
         if answers is None:
             mine.unanswered[frame.channel] = (mine.unanswered.get(frame.channel, (0,))[0] + 1, half)
             return fault
-        return fault or self.answer(half, other, answers)
+        return self.answer(half, other, answers) or fault
 
     def answer(self, half, other, channel):
         """A Begin that answers the other side's on this channel (section 2.5.1)."""

@@ -26,6 +26,11 @@ def transfer(number, more=False, handle=0, side="A", payload=b"", aborted=False)
     return side, b"\x02\x00\x00\x00" + composite(TRANSFER, fields) + payload
 
 
+def transfer_on(channel, number=0, handle=0, side="A"):
+    _, of = transfer(number, handle=handle)
+    return side, of[:2] + channel.to_bytes(2, "big") + of[4:]
+
+
 def narrow(count):
     """A session in which the server takes so many transfers."""
     return [begin("A", 0), frame("B", 0, BEGIN, ushort(0), uint(0), uint(count), uint(100))]
@@ -45,8 +50,7 @@ FAULTS = [
     ("past a window that a flow gave", [*opened(), *narrow(0), *attached(), window("B", 0, 1), transfer(0)], [transfer(1)], closed(), "WindowViolation (1 past"),
     ("before any window", [*opened(), begin("A", 0), attach("A", 0, "link", 0, SENDER)], [transfer(0)], [begin("B", 0, 0)], "WindowViolation (no window"),
     ("the server's past the window", [*opened(), frame("A", 0, BEGIN, NULL, uint(7), uint(1), uint(9)), begin("B", 3, 0), attach("B", 3, "l", 4, SENDER),
-        ("B", transfer(9, handle=4)[1][:3] + b"\x03" + transfer(9, handle=4)[1][4:])],
-        [("B", transfer(10, handle=4)[1][:3] + b"\x03" + transfer(10, handle=4)[1][4:])], closed(), "WindowViolation (1 past"),
+        transfer_on(3, 9, 4, "B")], [transfer_on(3, 10, 4, "B")], closed(), "WindowViolation (1 past"),
     ("too long a frame", [*limits(600, 9), *begun(0, 0), *attached()], [transfer(0, payload=bytes(600))], [transfer(1, payload=bytes(500))], "FrameTooLong (6"),
     ("too high a channel", [*limits(600, 3), *begun(0, 0)], [begin("A", 4)], [begin("B", 1, 4)], "ChannelTooHigh (4"),
     ("a transfer after a Detach", [*TO, DETACHED], [transfer(0)], [frame("B", 0, DETACH, uint(0))], "UnattachedHandle"),
@@ -57,6 +61,9 @@ FAULTS = [
     ("a second Attach of a name", TO, [attach("B", 0, "link", 1, RECEIVER)], closed(), "NameInUse"),
     ("a second Open", opened(), [opened()[1]], [*begun(0, 0), *ended(0, 0), *closed()], "IllegalState (a second Open)"),
     ("a second Begin on a channel", IN_A_SESSION, [begin("B", 0, 0)], [*attached(), transfer(0)], "ChannelInUse"),
+    ("a second Begin of the client", [*IN_A_SESSION, *attached()], [begin("A", 0)], [transfer(0), begin("B", 1, 0), transfer(1), frame("B", 1, END)], "ChannelInUse"),
+    ("a second Begin before the answer", [*opened(), begin("A", 0)], [begin("A", 0)], [begin("B", 0, 0), *attached(), transfer(0), begin("B", 1, 0)], "ChannelInUse"),
+    ("a channel that answers twice", [*IN_A_SESSION, begin("A", 1)], [begin("B", 0, 1)], [attach("A", 1, "l", 0, SENDER), transfer_on(1)], "ChannelInUse"),
     ("a second Begin that answers", IN_A_SESSION, [begin("B", 1, 0)], [*attached(), transfer(0)], "NotFound (no Begin on channel 0"),
     ("a Begin that answers nothing", opened(), [begin("B", 1, 7)], closed(), "NotFound (no Begin on channel 7"),
     ("a second End", [*IN_A_SESSION, *ended(0, 0)], [frame("B", 0, END)], closed(), "NotFound (no session"),
