@@ -153,10 +153,14 @@ class Transcript:
                 if frame[field] != NULL:
                     frame[field] = uint((integer(frame[field]) - session.first_delivery) % 2**32)
         elif frame.code == ATTACH:
-            frame[0] = string(in_a_line(text(frame[0])))
-            if text(frame[0]) not in session.links and "own" not in session.ended:
-                # also where this side never attaches it: it may end the session for it
-                self.link(at, session, text(frame[0]))
+            self.allot(at, session, frame)
+
+    def allot(self, at, session, frame):
+        """A link for the peer's Attach, also where this side never attaches it: it may end the session for it."""
+        name = in_a_line(text(frame[0]))
+        frame[0] = string(name)
+        if name not in session.links and "own" not in session.ended:
+            self.link(at, session, name)
 
     def answered(self, at, frame):
         """The session whose Begin the peer's answers; where it answers none, one that this side begins for it."""

@@ -67,8 +67,6 @@ class Half:
     def over(self):
         """The End was sent. What is kept until the other side's Begin answers is small."""
         self.links, self.names = {}, set()
-        if self.other is not None:
-            self.other.other = None
 
     # ---- what is sent in it: the fault of each
 

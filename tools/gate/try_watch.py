@@ -143,13 +143,14 @@ async def handed_on(stream, desk):
     return sinks, watched
 
 
-def is_handed_on(name, stream):
+def is_handed_on(name, stream, raises=False):
+    """Tests that both sides are handed all, and then the end, and that nothing was raised; the connection."""
     desk = Desk()
     desk.start()
     sinks, watched = asyncio.run(handed_on(stream, desk))
     desk.end()
     is_whole = all(bytes(sinks[side].got) == b"".join(of for by, of in stream if by == side) for side in "AB")
-    check(name, is_whole and not watched.seen.is_over and sinks["A"].is_closed and sinks["B"].is_closed, *watched.told)
+    check(name, is_whole and watched.seen.is_over == raises and sinks["A"].is_closed and sinks["B"].is_closed, *watched.told)
     return watched
 
 
@@ -182,6 +183,13 @@ def what_cannot_be_read_is_told_once():
     stream = [*streamed(opened()), ("A", b"\0\0\0\3"), *[("A", sized(begin("A", 0)[1]))] * 3, *streamed(opened())[3:]]
     watched = is_handed_on("a size that no frame has", stream)
     check("told once", sum("looked at no more (no frame has 3 bytes)" in it for it in watched.told) == 1, *watched.told)
+
+
+def what_raises_is_told_once():
+    step, watch.Judge.step = watch.Judge.step, None
+    watched = is_handed_on("what raises", [*streamed(opened()), *streamed(opened())[2:]], raises=True)
+    watch.Judge.step = step
+    check("what raises is told once", len(watched.told) == 2 and "frame 1: looked at no more (TypeError" in watched.told[0], *watched.told)
 
 
 def nothing_waits_for_what_looks():
@@ -267,7 +275,7 @@ def main():
     made()
     damages(seed)
     noise(seed)
-    for test in (what_cannot_be_read_is_told_once, nothing_waits_for_what_looks, over_sockets, keeps_what_is_live, takes_many_sessions_at_once):
+    for test in (what_cannot_be_read_is_told_once, what_raises_is_told_once, nothing_waits_for_what_looks, over_sockets, keeps_what_is_live, takes_many_sessions_at_once):
         test()
     print(f"{FAILED.count(False)} passed, {FAILED.count(True)} failed")
     sys.exit(any(FAILED))

@@ -6,10 +6,10 @@ from pathlib import Path
 sys.path.insert(0, str(Path(__file__).resolve().parents[2] / "bindings" / "python"))
 
 from amqp.frames import ATTACH, DETACH, DISPOSITION, FLOW, TRANSFER, Frame, integer
-from amqp_engine import Attach, Begin, Detach, Detached, Disposition, Engine, Flow, Malformed, Open, Refusal, Room, Transfer
+from amqp_engine import Attach, Begin, Detach, Detached, Disposition, Engine, Flow, Malformed, Open, Refusal, Transfer
 from amqp_engine.serving import frames_of
 
-__all__ = ["Detach", "Detached", "Engine", "LineEngine", "Malformed", "Open", "Refusal", "Room"]
+__all__ = ["Detach", "Detached", "LineEngine", "Malformed", "Open"]
 
 ASKS = {ATTACH: ("attach", Attach), FLOW: ("flow", Flow), DISPOSITION: ("disposition", Disposition), DETACH: ("detach", Detach)}
 
