@@ -12,10 +12,11 @@ what this side sent is asked for. The engine gives its own channels, handles and
 - next-incoming-id of the peer's flows and the numbers in its dispositions count from this side's first ones, which are 0 here;
 - handles are those that the engine gives: the handle that was freed last, else the next one.
 What this side asks for before its session is mapped waits for the peer's Begin, and its Close waits for that. A detach that answers the
-peer's, a flow of the session alone, and empty frames are left out: the engine answers by itself, or has no need of them.
-What the peer had sent before it read this side's Close is no breach, also where the engine refuses it: it is shown as in flight.
-After a `DecodeError` stands what is wrong with the recorded frame, by a reader of its own (strict.py), since the engine does not say it: the
-field, and the byte of the frame, counted from 0 without its size.
+peer's, a flow of the session alone, and empty frames are left out: the engine answers by itself, or has no need of them. After an Open, a
+Begin, an Attach or a Detach that the engine cannot read comes what can be read of it, so that what follows is not refused for it.
+What the peer had sent before it read this side's Close, or its End, is no breach, also where the engine refuses it: it is shown as in flight.
+After what the engine refuses stands what it takes and a judge of both sides finds: watch.py says what that looks at. After a `DecodeError` stands
+what is wrong, by a reader of its own (strict.py): the field, and the byte of the recorded frame, counted from 0 without its size.
 The status is 0 where all was read and run, whatever was refused; 1 where a file or the program cannot be read or run.
 """
 
@@ -23,97 +24,38 @@ import re
 import subprocess
 import sys
 from itertools import count
-from pathlib import Path
 
-from amqp.canonical import uint, ushort
-from amqp.frames import ATTACH, BEGIN, CLOSE, DETACH, DISPOSITION, END, FLOW, NAMES, NULL, OPEN, TRANSFER, Frame, Malformed, flag, integer, text
-from amqp.in_flight import OF_LAWFUL, InFlight
+from amqp.canonical import composite, string, uint, ushort
+from amqp.frames import ATTACH, BEGIN, CLOSE, DETACH, DISPOSITION, END, FLOW, NULL, OPEN, TRANSFER, flag, integer, text
+from amqp.given import Session, in_a_line
+from amqp.judging import Judge
+from amqp.mended import kind_of, mended, wrong_with
+from amqp.streams import recorded
 from amqp.strict import why
 from shared.command import command, told
 
 # Two lines that are always refused, and change nothing: no line of a transcript is answered so
 MARK, MARKED = "release 4294967295\nrecv \n", "err NoSession\nerr DecodeError\n"
-# Refusals that are no breach
-PEER_ENDED, IN_FLIGHT = "the peer ended", "in flight after this side's Close"
-
-
-# ---- recordings
-
-
-def recorded(path):
-    """The frames of a recording: side and bytes, without their size, in the order in which they were whole."""
-    lines = Path(path).read_text().splitlines()
-    if any(line.startswith("Follow: tcp") for line in lines):
-        return followed(lines)
-    return [(line[0], bytes.fromhex(line[2:])) for line in lines if re.fullmatch(r"[AB] [0-9a-fA-F]*", line)]
-
-
-def followed(lines):
-    """The frames of a followed stream: the second node's chunks are indented."""
-    waiting, found = {"A": b"", "B": b""}, []
-    for line in lines:
-        if re.fullmatch(r"\t?[0-9a-fA-F]+", line):
-            side = "B" if line.startswith("\t") else "A"
-            frames, waiting[side] = split(waiting[side] + bytes.fromhex(line.strip()))
-            found += [(side, it) for it in frames]
-    return found
-
-
-def split(stream):
-    """The whole AMQP frames at the stream's front, and what is left; protocol headers and frames of SASL are passed over."""
-    found = []
-    while len(stream) >= 8:
-        size = 8 if stream.startswith(b"AMQP") else max(int.from_bytes(stream[:4], "big"), 8)
-        if len(stream) < size:
-            break
-        if not stream.startswith(b"AMQP") and stream[5] != 1:
-            found.append(stream[4:size])
-        stream = stream[size:]
-    return found, stream
-
-
-# ---- what the engine gives
-
-
-class Handles:
-    """The output handles of a session: the one that was freed last is given out first."""
-
-    def __init__(self):
-        self.free, self.next = [], 0
-
-    def give(self):
-        if self.free:
-            return self.free.pop()
-        self.next += 1
-        return self.next - 1
-
-
-class Session:
-    """A session of this side: its number, its recorded channel and the one here, and what its recorded numbers count from."""
-
-    def __init__(self, number, own, channel, first_id, first_delivery):
-        self.number, self.own, self.channel = number, own, channel
-        self.first_id, self.first_delivery = first_id, first_delivery
-        self.is_mapped, self.is_held, self.ended, self.waiting = False, True, set(), []
-        self.handles, self.links, self.awaited, self.inputs, self.going = Handles(), {}, set(), {}, set()
-        # the recorded handle of a link, and its handle here
-        self.given = {}
+# Refusals that are no breach, and by what names the engine refuses what was in flight, or hangs on a frame that was not read
+PEER_ENDED, IN_FLIGHT, IN_SESSION = "the peer ended", "in flight after this side's Close", "in flight after this side's End"
+AFTER_UNREAD = "after a frame that cannot be read"
+OF_LAWFUL = ("IllegalState", "NotFound", "RemoteAttachingLinkNameNotFound", "UnattachedHandle")
 
 
 class Transcript:
     def __init__(self, frames, side):
         self.frames, self.side, self.lines = frames, side, []
-        self.read = [self.parsed(of) for _, of in frames]
+        self.read = [self.parsed(side, of) for side, of in frames]
         # sessions by this side's recorded channel, and by the peer's; the channels that are held here
         self.sessions, self.by_own, self.by_peer, self.held, self.is_open = [], {}, {}, set(), False
-        # the place of a Close that waits; from this side's Close on, what may still be in flight, and the places of it
-        self.closing, self.late, self.in_flight = None, None, set()
+        # the place of a Close that waits; by place, why a frame that the engine may refuse is no breach
+        self.closing, self.is_closed, self.lawful = None, False, {}
+        # whether the peer's Open came, or what may have been it; what a judge of both sides finds, by the frame's place
+        self.heard, self.is_lost, self.judge, self.faults = False, False, Judge(), {}
 
-    def parsed(self, of):
-        try:
-            return Frame(of)
-        except (Malformed, RecursionError):
-            return None
+    def parsed(self, side, of):
+        """The frame; of a malformed one that this side sent, which the engine does not read, what can be read."""
+        return mended(of) if side == self.side or not wrong_with(of) else None
 
     def said(self, at, line):
         self.lines.append((at, line))
@@ -127,6 +69,7 @@ class Transcript:
 
     def run(self):
         for at, ((side, of), frame) in enumerate(zip(self.frames, self.read)):
+            self.faults[at] = self.judge.step(side, of)
             if side != self.side:
                 self.receive(at, of, frame)
             elif frame is not None and frame.code is not None:
@@ -138,24 +81,66 @@ class Transcript:
     # ---- what the peer sent
 
     def receive(self, at, of, frame):
+        if frame is None:
+            self.said(at, "recv " + of.hex())
+            frame = self.stand_in(of)
+            of = frame and frame.bytes()
         if frame is not None and frame.code is not None:
-            if frame.code != OPEN:
-                self.open(at)
-            if frame.code == CLOSE and self.closing is not None:
-                self.close(self.closing)
-            if self.late and self.late.has(frame, frame.channel in self.by_peer):
-                self.in_flight.add(at)
-            before = frame.bytes()
-            self.translate(at, frame)
-            if frame.bytes() != before:
-                of = frame.bytes()
-        self.said(at, "recv " + of.hex())
-        if frame is not None and frame.channel in self.by_peer:
+            self.take(at, of, frame)
+        elif frame is not None:
+            self.said(at, "recv " + of.hex())
+
+    def take(self, at, of, frame):
+        """A frame that has a performative; its bytes go to the engine as they came where no number changes."""
+        self.opened(at, frame)
+        if frame.code == CLOSE and self.closing is not None:
+            self.close(self.closing)
+        self.lawful[at] = self.why_lawful(at, frame)
+        before = frame.bytes()
+        self.translate(at, frame)
+        self.said(at, "recv " + (of if frame.bytes() == before else frame.bytes()).hex())
+        if frame.channel in self.by_peer:
             self.after(at, frame, self.by_peer[frame.channel])
+
+    def stand_in(self, of):
+        """What can be read of a malformed frame, where much hangs on it and the engine takes that."""
+        frame = mended(of)
+        self.is_lost = self.is_lost or frame is None
+        if frame is None or self.is_closed:
+            return None
+        session = self.by_peer.get(frame.channel)
+        handles = session.inputs if session else {}
+        takes = {
+            OPEN: not self.heard,
+            BEGIN: session is None,
+            ATTACH: session and integer(frame[1]) not in handles,
+            DETACH: integer(frame[0]) in handles,
+        }
+        return frame if takes.get(frame.code) else None
+
+    def opened(self, at, frame):
+        """Where the peer's Open could not be read, a plain one stands for it."""
+        if frame.code != OPEN:
+            self.open(at)
+        if frame.code != OPEN and self.is_lost and not self.heard:
+            self.said(at, "recv 02000000" + composite(OPEN, [string("")]).hex())
+            self.heard = True
+        self.heard = self.heard or frame.code == OPEN
+
+    def why_lawful(self, at, frame):
+        """Why a frame may be no breach that the engine refuses, if any."""
+        session = self.by_peer.get(frame.channel)
+        if self.faults[at] is not None:
+            return None
+        if self.is_closed:
+            return IN_FLIGHT
+        if session and "own" in session.ended:
+            return IN_SESSION
+        return AFTER_UNREAD if self.judge.is_lost(self.frames[at][0], frame.channel) else None
 
     def translate(self, at, frame):
         """The numbers of the peer's frame, as this side's are here; and what has to be asked for before it comes."""
-        if frame.code == BEGIN and not self.late:
+        if frame.code == BEGIN and not self.is_closed:
             self.by_peer[frame.channel] = self.answered(at, frame)
             frame[0] = ushort(self.by_peer[frame.channel].channel)
         session = self.by_peer.get(frame.channel)
@@ -167,8 +152,15 @@ class Transcript:
             for field in (1, 2):
                 if frame[field] != NULL:
                     frame[field] = uint((integer(frame[field]) - session.first_delivery) % 2**32)
-        elif frame.code == ATTACH and self.is_attached_later(at, frame):
-            self.link(at, session, text(frame[0]))
+        elif frame.code == ATTACH:
+            self.allot(at, session, frame)
+
+    def allot(self, at, session, frame):
+        """A link for the peer's Attach, also where this side never attaches it: it may end the session for it."""
+        name = in_a_line(text(frame[0]))
+        frame[0] = string(name)
+        if name not in session.links and "own" not in session.ended:
+            self.link(at, session, name)
 
     def answered(self, at, frame):
         """The session whose Begin the peer's answers; where it answers none, one that this side begins for it."""
@@ -180,10 +172,6 @@ class Transcript:
         if own not in self.by_own or self.by_own[own].is_mapped:
             self.begin(at, own)
         return self.by_own[own]
-
-    def is_attached_later(self, at, frame):
-        session, name = self.by_peer[frame.channel], frame[0]
-        return text(name) not in session.links and self.later(at, self.side, ATTACH, lambda it: (it.channel, it[0]) == (session.own, name))
 
     def after(self, at, frame, session):
         """What follows from a frame of the peer."""
@@ -236,12 +224,11 @@ class Transcript:
 
     def close(self, at):
         self.said(at, "close")
-        self.closing, self.late = None, InFlight()
+        self.closing, self.is_closed = None, True
 
     def link(self, at, session, name):
         session.links[name] = session.handles.give()
-        # no line can have a name with a line feed: one without a name is refused as a bad line
-        self.said(at, f"link {session.number} {'' if chr(10) in name else name}")
+        self.said(at, f"link {session.number} {name}")
 
     def request(self, at, frame):
         if frame.code == OPEN:
@@ -277,6 +264,7 @@ class Transcript:
         return True
 
     def attach(self, at, session, frame):
+        frame[0] = string(in_a_line(text(frame[0])))
         if text(frame[0]) not in session.links:
             self.link(at, session, text(frame[0]))
         session.given[integer(frame[1])] = session.links[text(frame[0])]
@@ -332,32 +320,35 @@ def answers(lines, program):
         return [{**names, **unread}[place] for place in range(len(lines))]
 
 
-def refusals(transcript, program):
-    """Each refused frame, as a text: its place among the recorded ones, who sent it, its kind, and the refusal."""
-    lines = transcript.run()
-    named = zip(lines, answers(lines, program))
-    return [shown(transcript, at, line, name) for (at, line), names in named for name in names]
+def refusals(transcript, program, judges=False):
+    """Each refused frame, as a text: its place among the recorded ones, who sent it, its kind, and the refusal. Where `judges`, also each other fault."""
+    lines, found = transcript.run(), []
+    faults = dict(transcript.faults) if judges else {}
+    for (at, line), names in zip(lines, answers(lines, program)):
+        fault = faults.pop(at, None) if line.startswith("recv ") else None
+        found += [shown(transcript, at, line, name) for name in names or [fault] if name]
+    return found
 
 
 def shown(transcript, at, line, name):
-    side, frame = transcript.frames[at][0], transcript.read[at]
-    kind = "no frame" if frame is None else NAMES.get(frame.code, "empty frame")
+    (side, of), frame = transcript.frames[at], transcript.read[at]
     asked = "" if line.startswith(("recv", "send")) else f" ({line.split(' ')[0]})"
     mark = ""
     if name.startswith("Remote") and frame and frame.code in (END, CLOSE):
         mark = f" ({PEER_ENDED})"
-    elif line.startswith("recv") and at in transcript.in_flight and name in OF_LAWFUL:
-        mark = f" ({IN_FLIGHT})"
-    elif line.startswith("recv") and name == "DecodeError" and why(transcript.frames[at][1]):
-        mark = f" ({why(transcript.frames[at][1])})"
-    return f"frame {at + 1}, {side}, {kind}{asked}: {name}{mark}"
+    elif line.startswith("recv") and transcript.lawful.get(at) and name in OF_LAWFUL:
+        mark = f" ({transcript.lawful[at]})"
+    elif line.startswith("recv") and name == "DecodeError" and why(of):
+        mark = f" ({why(of)})"
+    return f"frame {at + 1}, {side}, {kind_of(of)}{asked}: {name}{mark}"
 
 
 def counted(frames, found):
     """The last line: how many frames there are, how many are refused as breaches, and how many lawful ones are named."""
-    ended, flew = (sum(it.endswith(f"({mark})") for it in found) for mark in (PEER_ENDED, IN_FLIGHT))
-    line = f"{len(frames)} frames, {len(found) - ended - flew} refused, {ended} by which {PEER_ENDED}"
-    return f"{line}, {flew} {IN_FLIGHT}" if flew else line
+    marks = (PEER_ENDED, IN_FLIGHT, IN_SESSION, AFTER_UNREAD)
+    named = {mark: sum(it.endswith(f"({mark})") for it in found) for mark in marks}
+    line = f"{len(frames)} frames, {len(found) - sum(named.values())} refused, {named.pop(PEER_ENDED)} by which {PEER_ENDED}"
+    return line + "".join(f", {count} {mark}" for mark, count in named.items() if count)
 
 
 def main():
@@ -379,7 +370,7 @@ def main():
     if program is None:
         print("\n".join(line for _, line in transcript.run()))
         return
-    found = refusals(transcript, program)
+    found = refusals(transcript, program, judges=True)
     print("".join(f"{it}\n" for it in found), end="")
     print(counted(frames, found))
 

@@ -1,200 +1,204 @@
 #!/usr/bin/env python3
-"""Stands between a client and a server, and prints each frame that breaks the protocol, by name, side and frame.
+"""Stands between a client and a server, and prints the frames that break the protocol, by name, side and place.
 
     tools/watch.py LISTEN HOST PORT [--connections N] [--frames]
 
-It listens on 127.0.0.1:LISTEN (on a port that is free where that is 0), and hands what comes on to HOST:PORT and back, unchanged. Two engines look on: one stands in the server's place and hears the
-client, one stands in the client's place and hears the server. What an engine refuses is told as it comes:
+It listens on 127.0.0.1:LISTEN (on a port that is free where that is 0), and hands what comes on to HOST:PORT and back, unchanged, whatever it is. A judge
+follows both sides, apart from that, and tells what it finds:
 
     connection 1, client, frame 7, Flow: UnattachedHandle
 
 Frames are counted over both sides, as in a recording. `--frames` prints each, with its time. With `--connections N` it ends after so many. SASL and protocol
-headers pass by; TLS is not looked into. A peer's End and Close with an error are told as what they are. The library is that of `tools/build_c.sh`, which
-AMQP_LIBRARY names. Where no engine can be had, or nobody listens, a line on standard error says so, and the status is 1.
+headers pass by; TLS is not looked into. A peer's End and Close with an error are told as what they are.
+
+Looked at are: the bytes of each frame; its size and channel, once the other side's Open came by; the order of Open, Begin, Attach, Detach, End and Close, and
+what is sent after the last three; handles and names of links; transfers against the session's window; delivery-ids, which go up by one. A frame may
+have been sent before what came by from the other side was read: it is told only where it is wrong all the same. Not looked at are: link credit, tags, states and
+settlement of deliveries, ranges of dispositions, handle-max, max-message-size, and time.
+
+What cannot be read is told once, and no more is told of what hangs on it. Of a frame of more than 1 MiB the front is read. Where more waits to be looked at than 64 MiB, a
+line says so, and that connection is looked at no more. Where nobody listens, a line says so, and the client's connection is closed.
 """
 
 import argparse
 import asyncio
 import contextlib
+import queue
 import sys
+import threading
 import time
 
-from amqp.canonical import string
-from amqp.frames import ATTACH, BEGIN, NAMES, NULL, OPEN, flag, integer, text
-from amqp.in_flight import OF_LAWFUL
-from amqp.strict import why
-from shared.by_library import Engine, LineEngine, Open, Room
-from shared.command import command, told
-from transcript import PEER_ENDED, Session, Transcript, split
+from amqp.frames import CLOSE, END, NULL, end_of, parts, text
+from amqp.judging import Judge
+from amqp.mended import kind_of
+from amqp.streams import Stream
+from shared.command import command
 
-ROOM = Room(links=1024, flows=4096, transfers=65536, dispositions=65536)
-
-
-def mark(role, name):
-    """A name of a link, with the role of the end in whose place no engine stands: a client may give one name to a sender and a receiver."""
-    return ("r" if role else "s") + name
+# Of a frame so much is kept, and so much may wait to be looked at
+KEPT, MOST_WAITING = 2**20, 2**26
+# What is counted for a chunk besides its bytes
+CHUNK = 200
+WHO = {"A": "client", "B": "server"}
 
 
-class Marked(LineEngine):
-    """The engine of an onlooker: a link's role stands in its name, and its handles are those that the onlooker saw."""
+class Desk(threading.Thread):
+    """Where things are looked at, one after the other, apart from the sockets: nothing that is handed on waits for it."""
 
-    def __init__(self, onlooker, open):
-        super().__init__(open, key=bytes(16), room=ROOM)
-        self.onlooker = onlooker
+    def __init__(self):
+        super().__init__(daemon=True)
+        # each count is changed by one thread alone
+        self.tasks, self.given, self.taken = queue.SimpleQueue(), 0, 0
 
-    def role_of(self, name):
-        return name[:1] == "s"
+    def give(self, size, task, *words):
+        self.given += size
+        self.tasks.put((size, task, words))
 
-    def input_of(self, number, handle):
-        inputs = {own: theirs for theirs, own in self.onlooker.sessions[number].inputs.items()}
-        return inputs.get(handle, handle)
+    def waiting(self):
+        return self.given - self.taken
+
+    def run(self):
+        while (it := self.tasks.get()) is not None:
+            size, task, words = it
+            task(*words)
+            self.taken += size
+
+    def end(self):
+        self.tasks.put(None)
+        self.join()
 
 
-class Onlooker(Transcript):
-    """An engine in the place of a side, fed as the frames come: nothing is known yet of those to come."""
+class Seen:
+    """What was seen of one connection: it is told to `tell`."""
 
-    def __init__(self, side, tell):
-        super().__init__([], side)
-        self.tell, self.engine, self.pending = tell, None, []
+    def __init__(self, tell, shows=False):
+        self.tell, self.shows, self.count, self.is_over = tell, shows, 0, False
+        self.judge, self.streams = Judge(), {side: Stream(KEPT) for side in WHO}
 
-    def step(self, at, side, of):
-        """The frame `at`, counted from 0, of a side. What the peer sends before this side's Open waits for that."""
-        frame = self.parsed(of)
-        self.frames = {at: (side, of)}
-        if side != self.side and self.engine is None:
-            self.pending.append((at, side, of))
-        elif side != self.side:
-            self.mark(frame, False)
-            self.receive(at, of if frame is None or frame.code != ATTACH else frame.bytes(), frame)
-        elif frame is not None and frame.code is not None:
-            if frame.code == OPEN and self.engine is None:
-                self.engine = Marked(self, Open.decode(frame.body()))
-            if self.engine is not None:
-                self.mark(frame, True)
-                self.request(at, frame)
-            pending, self.pending = (self.pending, []) if self.engine else ([], self.pending)
-            for it in pending:
-                self.step(*it)
-
-    def mark(self, frame, is_own):
-        if frame is not None and frame.code == ATTACH and frame[0] != NULL:
-            frame[0] = string(mark(flag(frame[2]) != is_own, text(frame[0])))
-
-    # ---- where a recording would be looked up ahead
-
-    def answered(self, at, frame):
-        """The session that the peer's Begin is of. One that the peer begins is begun here at once; this side's answer names its channel later."""
-        own = integer(frame[0])
-        if own is None or own not in self.by_own or self.by_own[own].is_mapped:
-            own = ("peer", frame.channel)
-            self.begin(at, own)
-        return self.by_own[own]
-
-    def begin(self, at, own):
-        number, channel = len(self.sessions), min(set(range(len(self.held_channels()) + 1)) - self.held_channels())
-        self.by_own[own] = Session(number, own, channel, 0, None)
-        self.sessions.append(self.by_own[own])
-        self.said(at, f"begin {number}")
-        # the channel that the engine gave stands in its Begin
-        self.by_own[own].channel = channel
-
-    def held_channels(self):
-        return {it.channel for it in self.sessions if it.is_held}
-
-    def is_attached_later(self, at, frame):
-        return text(frame[0]) not in self.by_peer[frame.channel].links
-
-    def request(self, at, frame):
-        if frame.code == BEGIN and (session := self.by_own.pop(("peer", integer(frame[0])), None)):
-            session.first_id, session.own = integer(frame[1]), frame.channel
-            self.by_own[frame.channel] = session
+    def see(self, side, data):
+        """The next bytes of a side."""
+        if self.is_over:
             return
-        super().request(at, frame)
-        if frame.code == BEGIN and frame.channel in self.by_own:
-            self.by_own[frame.channel].first_id = integer(frame[1])
+        try:
+            self.read(side, data)
+        except Exception as error:  # whatever it is, the connection goes on
+            self.is_over = True
+            self.tell(f"{WHO[side]}, frame {self.count}: looked at no more ({type(error).__name__}: {error})")
 
-    def transfer(self, at, session, frame):
-        if session.first_delivery is None and frame[1] != NULL:
-            session.first_delivery = integer(frame[1])
-        return super().transfer(at, session, frame)
+    def read(self, side, data):
+        stream = self.streams[side]
+        was_broken = stream.broken
+        for size, of in stream.feed(data):
+            self.count += 1
+            if self.shows:
+                self.tell(f"{time.strftime('%H:%M:%S')} {WHO[side]}, frame {self.count}: {of.hex()}")
+            found = self.judge.step(side, of, size) or ended(self.judge.read)
+            if found:
+                self.tell(f"{WHO[side]}, frame {self.count}, {kind_of(of)}: {found}")
+        if stream.broken != was_broken:
+            self.tell(f"{WHO[side]}, after frame {self.count}: looked at no more ({stream.broken})")
 
-    # ---- lines go to the engine
+    def end(self, side):
+        """The side has sent all."""
+        if self.streams[side].is_within():
+            self.tell(f"{WHO[side]}, after frame {self.count}: ends within a frame")
 
-    def said(self, at, line):
-        for refusal in self.engine.ask(line):
-            # what this side's own frames break is told by the engine that hears them
-            if line.startswith("recv "):
-                self.shown(at, refusal)
-        self.engine.pieces()
 
-    def shown(self, at, refusal):
-        side, of = self.frames[at]
-        frame = self.parsed(of)
-        kind = "no frame" if frame is None else NAMES.get(frame.code, "empty frame")
-        mark = ""
-        # no breach: an end that says nothing of an error, and what was sent before this side's Close was read
-        if refusal.name in ("RemoteClosed", "RemoteEnded") or at in self.in_flight and refusal.name in OF_LAWFUL:
-            return
-        if refusal.name in ("RemoteClosedWithError", "RemoteEndedWithError"):
-            mark = f" ({PEER_ENDED}: {refusal.condition})"
-        elif refusal.name == "DecodeError" and why(of):
-            mark = f" ({why(of)})"
-        self.tell(f"{'client' if side == 'A' else 'server'}, frame {at + 1}, {kind}: {refusal.name}{mark}")
+def ended(frame):
+    """What an End or a Close with an error is told as."""
+    if frame is None or frame.code not in (END, CLOSE) or frame[0] == NULL:
+        return None
+    fields, _ = parts(frame[0], end_of(frame[0], 1))
+    return f"Remote{'Ended' if frame.code == END else 'Closed'}WithError (the peer ended: {text(fields[0])})"
 
 
 class Watched:
-    """One connection: both streams, and the two engines that look on."""
+    """One connection that is handed on."""
 
-    def __init__(self, number, shows):
-        self.number, self.shows, self.count = number, shows, 0
-        self.onlookers = [Onlooker("A", self.tell), Onlooker("B", self.tell)]
-        self.waiting = {"A": b"", "B": b""}
+    def __init__(self, number, desk, shows):
+        self.number, self.desk, self.is_behind = number, desk, False
+        self.seen = Seen(self.tell, shows)
 
     def tell(self, what):
-        print(f"connection {self.number}, {what}", flush=True)
+        # where nobody reads what is told, the connection goes on
+        with contextlib.suppress(OSError):
+            print(f"connection {self.number}, {what}", flush=True)
 
-    def see(self, side, data):
-        frames, self.waiting[side] = split(self.waiting[side] + data)
-        for of in frames:
-            if self.shows:
-                print(f"{time.strftime('%H:%M:%S')} {side} {of.hex()}", flush=True)
-            for onlooker in self.onlookers:
-                onlooker.step(self.count, side, of)
-            self.count += 1
+    def look(self, side, data):
+        """Has the bytes looked at; once too much waits, nothing more."""
+        if not self.is_behind and self.desk.waiting() > MOST_WAITING:
+            self.is_behind = True
+            self.desk.give(CHUNK, self.tell, "looked at no more (more comes than can be looked at)")
+        if not self.is_behind:
+            self.desk.give(len(data) + CHUNK, self.seen.see, side, data)
 
     async def carry(self, side, reader, writer):
+        """Hands on what comes. It waits to be looked at before an answer to it can come."""
         try:
             while data := await reader.read(65536):
-                self.see(side, data)
                 writer.write(data)
+                self.look(side, data)
                 await writer.drain()
-        except ConnectionError:
-            pass
-        writer.close()
-
-
-async def watch(listen, host, port, connections, shows):
-    gone, count = asyncio.Semaphore(0), 0
-
-    async def met(reader, writer):
-        nonlocal count
-        count += 1
-        watched = Watched(count, shows)
-        try:
-            far = await asyncio.open_connection(host, port)
-        except OSError as error:
-            watched.tell(f"{host}:{port}: {error.strerror or error}")
+            writer.write_eof()
+        except OSError:
+            # one of the two is gone: so is the other then
             writer.close()
-        else:
-            with contextlib.suppress(asyncio.CancelledError):
-                await asyncio.gather(watched.carry("A", reader, far[1]), watched.carry("B", far[0], writer))
-            watched.tell(f"over, after {watched.count} frames")
-        gone.release()
+        if not self.is_behind:
+            self.desk.give(CHUNK, self.seen.end, side)
 
-    async with await asyncio.start_server(met, "127.0.0.1", listen) as server:
-        print(f"listens on 127.0.0.1:{server.sockets[0].getsockname()[1]}", flush=True)
-        for _ in range(connections or sys.maxsize):
-            await gone.acquire()
+    async def between(self, near, far):
+        writers = near[1], far[1]
+        try:
+            await asyncio.gather(self.carry("A", near[0], far[1]), self.carry("B", far[0], near[1]))
+            for writer in writers:
+                writer.close()
+            for writer in writers:
+                # what it holds is sent yet
+                with contextlib.suppress(OSError):
+                    await writer.wait_closed()
+        finally:
+            for writer in writers:
+                writer.close()
+            self.desk.give(CHUNK, lambda: self.tell(f"over, after {self.seen.count} frames"))
+
+
+class Watcher:
+    """Hands on each connection that comes, `most` at most."""
+
+    def __init__(self, host, port, most, shows):
+        self.host, self.port, self.most, self.shows, self.count = host, port, most, shows, 0
+        self.desk, self.come, self.gone = Desk(), asyncio.Semaphore(0), asyncio.Semaphore(0)
+
+    async def met(self, reader, writer):
+        if self.count == self.most:
+            return writer.close()
+        self.count += 1
+        self.come.release()
+        with contextlib.suppress(asyncio.CancelledError):
+            await self.hand_on(Watched(self.count, self.desk, self.shows), (reader, writer))
+        self.gone.release()
+
+    async def hand_on(self, watched, near):
+        try:
+            far = await asyncio.open_connection(self.host, self.port)
+        except OSError as error:
+            self.desk.give(CHUNK, watched.tell, f"{self.host}:{self.port}: {error.strerror or error}")
+            near[1].close()
+        else:
+            await watched.between(near, far)
+
+    async def watch(self, listen):
+        self.desk.start()
+        async with await asyncio.start_server(self.met, "127.0.0.1", listen) as server:
+            print(f"listens on 127.0.0.1:{server.sockets[0].getsockname()[1]}", flush=True)
+            for _ in range(self.most):
+                await self.come.acquire()
+        for _ in range(self.most):
+            await self.gone.acquire()
+        self.desk.end()
+
+
+async def watch(listen, host, port, most, shows):
+    await Watcher(host, port, most, shows).watch(listen)
 
 
 def main():
@@ -205,11 +209,7 @@ def main():
     parser.add_argument("--connections", type=int)
     parser.add_argument("--frames", action="store_true")
     said = parser.parse_args()
-    try:
-        Engine(Open("watch")).free()
-    except OSError as error:
-        told(f"no libamqp.so: {error}")
-    asyncio.run(watch(said.listen, said.host, said.port, said.connections, said.frames))
+    asyncio.run(watch(said.listen, said.host, said.port, said.connections or sys.maxsize, said.frames))
 
 
 if __name__ == "__main__":

@@ -93,8 +93,6 @@ FLIGHT_A = [
     f"frame 7, B, Attach: NotFound {FLEW}",
     f"frame 8, B, Flow: NotFound {FLEW}",
     f"frame 9, B, End: IllegalState {FLEW}",
-    f"frame 10, B, Attach: RemoteAttachingLinkNameNotFound {FLEW}",
-    f"frame 11, B, Flow: UnattachedHandle {FLEW}",
     # its link is detached, or was never attached; the channel has a session; no session, and one that has ended
     "frame 13, B, Flow: UnattachedHandle",
     "frame 14, B, Transfer: UnattachedHandle",
@@ -103,6 +101,41 @@ FLIGHT_A = [
     f"frame 17, B, End: IllegalState {FLEW}",
     "frame 18, B, End: IllegalState",
     "frame 20, B, Close: IllegalState",
+]
+
+
+def crossed():
+    """What the server had sent before it read the client's End; and then what it cannot have sent."""
+    late = [flow("B", 0), attach("B", 0, "late", 3, RECEIVER), flow("B", 0, uint(3)), frame("B", 0, DETACH, uint(3)), frame("B", 0, END)]
+    return [*opened(), *begun(0, 0), frame("A", 0, END), *late, flow("B", 0), *closed()]
+
+
+CROSSED_A = [
+    "frame 7, B, Attach: RemoteAttachingLinkNameNotFound (in flight after this side's End)",
+    "frame 8, B, Flow: UnattachedHandle (in flight after this side's End)",
+    # after its own End
+    "frame 11, B, Flow: NotFound",
+]
+
+
+def answered_by_an_end():
+    """The server refuses a link by an End, and never attaches it."""
+    return [*opened(), *begun(0, 0), attach("A", 0, "link", 0, SENDER), frame("B", 0, END), frame("A", 0, END), *closed()]
+
+
+def unread():
+    """A Begin of the server's cannot be read, nor one of its Attaches in a session of its own: what hangs on them is no breach."""
+    begins = [begin("A", 0), frame("B", 0, BEGIN, symbol("x")), attach("A", 0, "a", 0, SENDER), attach("B", 0, "a", 0, RECEIVER)]
+    attaches = [*begun(1, 1), frame("B", 1, ATTACH, uint(1)), flow("B", 1, uint(0))]
+    names = [attach(side, 1, name, at, role) for at, name in enumerate(("", "a\nb", "a\rb"), 1) for side, role in (("A", SENDER), ("B", RECEIVER))]
+    return [*opened(), *begins, *attaches, *names, *ended(1, 1), *closed()]
+
+
+UNREAD_A = [
+    "frame 4, B, Begin: DecodeError (field 1 of Begin, remote-channel: no ushort has the code a3; byte 10)",
+    "frame 6, B, Attach: NotFound (after a frame that cannot be read)",
+    "frame 9, B, Attach: DecodeError (field 1 of Attach, name: no string has the code 52; byte 10)",
+    "frame 10, B, Flow: UnattachedHandle (after a frame that cannot be read)",
 ]
 
 
@@ -159,5 +192,9 @@ def cases():
         yield f"many_lives {seed}", lives, "B", peer_ends(lives)
     yield "begun_too_early", begun_too_early()[0], "A", begun_too_early()[1]
     yield "in_flight", in_flight(), "A", FLIGHT_A
+    yield "crossed", crossed(), "A", CROSSED_A
+    yield "answered_by_an_end", answered_by_an_end(), "A", [f"frame 6, B, End: {ENDED}"]
+    yield "answered_by_an_end", answered_by_an_end(), "B", [f"frame 8, A, Close: {CLOSED}"]
+    yield "unread", unread(), "A", UNREAD_A
     yield "malformed", malformed(), "A", MALFORMED_A
     yield "pipelined", pipelined(), "A", [f"frame 8, B, End: IllegalState {FLEW}"]

@@ -15,9 +15,10 @@ from pathlib import Path
 sys.path.insert(0, str(Path(__file__).resolve().parents[1]))
 
 from amqp.recorded import CAPTURES
+from amqp.streams import followed, recorded
 from gate.made_connections import cases
 from shared.command import command
-from transcript import Transcript, followed, recorded, refusals
+from transcript import Transcript, refusals
 
 ROOT = Path(__file__).resolve().parents[2]
 

@@ -1,4 +1,4 @@
-"""The engine of the library `libamqp.so`, driven by the lines of amqp_replay, for bridge.py and watch.py."""
+"""The engine of the library `libamqp.so`, driven by the lines of amqp_replay, for bridge.py and try_c_captures.py."""
 
 import sys
 from pathlib import Path
@@ -6,16 +6,20 @@ from pathlib import Path
 sys.path.insert(0, str(Path(__file__).resolve().parents[2] / "bindings" / "python"))
 
 from amqp.frames import ATTACH, DETACH, DISPOSITION, FLOW, TRANSFER, Frame, integer
-from amqp_engine import Attach, Begin, Detach, Detached, Disposition, Engine, Flow, Malformed, Open, Refusal, Room, Transfer
+from amqp_engine import Attach, Begin, Detach, Detached, Disposition, Engine, Flow, Malformed, Open, Refusal, Transfer
 from amqp_engine.serving import frames_of
 
-__all__ = ["Detach", "Detached", "Engine", "LineEngine", "Malformed", "Open", "Refusal", "Room"]
+__all__ = ["Detach", "Detached", "LineEngine", "Malformed", "Open"]
 
 ASKS = {ATTACH: ("attach", Attach), FLOW: ("flow", Flow), DISPOSITION: ("disposition", Disposition), DETACH: ("detach", Detach)}
 
+# This side's, as a line names it
+ROLES = {"receiver": True, "sender": False}
+
 
 class LineEngine:
-    """An engine that takes lines: `open`, `close`, `recv HEX`, `begin N`, `end N`, `release N`, `forget N`, `link N NAME`, `send N HEX`."""
+    """An engine that takes lines: `open`, `close`, `recv HEX`, `begin N`, `end N`, `release N`, `forget N`, `link N NAME`, `send N HEX`,
+    `settle N ROLE FIRST`, `settle N ROLE FIRST LAST`, and empty ones."""
 
     def __init__(self, open, **how):
         self.engine = Engine(open, **how)
@@ -47,8 +51,8 @@ class LineEngine:
         return list(frames_of(self.engine.to_send()))
 
     def request(self, word, rest):
-        if word in ("open", "close"):
-            return getattr(self.engine, word)()
+        if word in ("", "open", "close"):
+            return getattr(self.engine, word)() if word else None
         number, _, said = rest.partition(" ")
         if word == "begin":
             self.engine.begin(int(number), Begin(incoming_window=5000, outgoing_window=5000))
@@ -56,6 +60,9 @@ class LineEngine:
             self.engine.link(int(number), said, self.role_of(said), 1)
         elif word == "send":
             self.send(int(number), Frame(b"\x02\x00\x00\x00" + bytes.fromhex(said)))
+        elif word == "settle":
+            role, *range_of = said.split(" ")
+            self.engine.settle(int(number), ROLES[role], *map(int, range_of))
         else:
             getattr(self.engine, word)(int(number))
 
