@@ -53,7 +53,7 @@ def _made(reader: asyncio.StreamReader, writer: asyncio.StreamWriter, *given: An
 
 def log(error: Exception) -> None:
     """What is told where nobody else is: a peer's fault as a line of level INFO, a fault of this side with its traceback."""
-    if isinstance(error, (OSError, Malformed, Refusal, Missed)):
+    if isinstance(error, (ConnectionError, TimeoutError, Malformed, Refusal, Missed)):
         _LOG.info("a connection ended: %r", error)
     else:
         _LOG.error("a connection ended", exc_info=error)

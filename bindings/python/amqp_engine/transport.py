@@ -72,6 +72,8 @@ class Connection:
         # until when the peer may answer this side's Close
         self._until: Optional[float] = None
         self._is_begun = False
+        #: Set where bytes were handed to the stream, for a task that waits for the peer to read them, by `drain`
+        self.went = asyncio.Event()
 
     # ---- headers and SASL
 
@@ -137,10 +139,12 @@ class Connection:
     # ---- frames
 
     def push(self) -> int:
-        """Has what the engine is to send wait for the peer to read, and answers how many bytes. Who pushes much has to `flush` too, or look at `unsent`."""
+        """Hands what the engine is to send to the stream, at once, and answers how many bytes. Raises the refusal of a frame that does not fit the peer's
+        limit; the others go out with the next call."""
         data = (self.server or self.engine).to_send()
         if data:
             self._stream.write(data)
+            self.went.set()
         return len(data)
 
     @property
@@ -149,9 +153,12 @@ class Connection:
         return self._stream.unsent
 
     async def flush(self) -> None:
-        """Sends what the engine is to send, and waits while the peer has much to read. Raises the refusal of a frame that does not fit the peer's limit;
-        the others go out with the next call."""
+        """Sends what the engine is to send, as `push` does, and waits while the peer has much to read."""
         self.push()
+        await self.drain()
+
+    async def drain(self) -> None:
+        """Waits while the peer has much to read. One that does not read is given up, by `PeerSilent`."""
         await self._stream.drain()
 
     def __aiter__(self) -> AsyncIterator[ServerEvent]:
