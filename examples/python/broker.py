@@ -18,7 +18,7 @@ sys.path.insert(0, str(Path(__file__).resolve().parents[2] / "bindings" / "pytho
 
 from amqp_engine import (
     ACCEPTED, RECEIVER, SECOND, SENDER, SETTLED, Attach, Attached, Begin, Detach, Detached, Disposed, Disposition, Error, Flow, Flowed, Open,
-    Refusal, Room, SessionEnded, Transfer, Transferred, address_of, rejected, serve,
+    Refusal, Room, SessionEnded, Transfer, Transferred, address_of, condition_of, rejected, serve,
 )  # fmt: skip
 from queues import MESSAGE_MOST, Queues
 
@@ -277,7 +277,7 @@ class Client:
         """A client that breaks the protocol is told so, and closed."""
         self.is_closing = True
         with contextlib.suppress(Refusal):
-            self.engine.close(Error(refusal.condition or "amqp:internal-error", refusal.name))
+            self.engine.close(Error(condition_of(refusal), refusal.name))
 
     def take_of(self, event):
         if isinstance(event, Refusal):

@@ -21,7 +21,7 @@ from .performatives import (
 from .sasl import Anonymous, LoginRefused, Plain
 from .serving import Closed, Server, SessionBegan, SessionEnded
 from .stream import PeerSilent, Waits
-from .transport import Connection, HeaderRefused, SessionRefused
+from .transport import Connection, HeaderRefused, SessionRefused, condition_of
 from .values import Array, Described, Malformed, Map, Repeated, Symbol, Ubyte, Uint, Ulong, Ushort
 
 __version__ = "0.1.0"

@@ -13,7 +13,7 @@ from dataclasses import dataclass, replace
 from typing import Deque, Dict, Iterator, Optional, Union
 
 from .engine import Engine
-from .events import AnyEvent, Attached, Detached, Event, Missed, Refusal
+from .events import AnyEvent, Attached, Detached, Event, Missed, Refusal, unreadable
 from .performatives import FIRST, RECEIVER, SECOND, Attach, Begin
 from .values import Malformed, read
 
@@ -154,8 +154,8 @@ class Server:
     def _take_begin(self, frame: bytes, channel: int) -> Iterator[ServerEvent]:
         try:
             theirs = Begin.decode(frame[4:])
-        except Malformed:
-            yield from self.engine.receive(sized(frame))
+        except Malformed as error:
+            yield unreadable(error)
             return
         yield from self._put_aside()
         number, self._next = self._next, self._next + 1
@@ -181,12 +181,13 @@ class Server:
             yield SessionBegan(number, None, None, theirs)
 
     def _take_attach(self, frame: bytes, channel: int) -> Iterator[ServerEvent]:
-        number = self.engine.session_of(channel)
         try:
             attach = Attach.decode(frame[4:])
-        except Malformed:
-            number = None
-        # what is no lawful settle mode the engine refuses
+        except Malformed as error:
+            yield unreadable(error)
+            return
+        number = self.engine.session_of(channel)
+        # what goes to no session, or is no lawful settle mode, the engine refuses
         if number is None or attach.rcv_settle_mode not in (None, FIRST, SECOND):
             yield from self.engine.receive(sized(frame))
             return

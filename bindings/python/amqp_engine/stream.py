@@ -41,6 +41,8 @@ async def within(seconds: Optional[float], what: Awaitable[Any], otherwise: str)
             return task.result()
     finally:
         task.cancel()
+        # where this call is cancelled, nobody asks how the task ended
+        task.add_done_callback(lambda it: it.cancelled() or it.exception())
     raise PeerSilent(f"{otherwise} within {seconds:g} seconds")
 
 

@@ -246,12 +246,19 @@ class Connection:
             self._until = time.monotonic() + self._waits.answer
         until = min((it for it in (until, self._until) if it is not None), default=None)
         if until is not None:
-            return await self._stream.read(max(0.0, until - time.monotonic()), "no answer of the peer's")
+            return await self._read_until(until)
         try:
             return await self._stream.read(self._own_limit, "nothing came")
         except PeerSilent:
             await self._close_soon(Error("amqp:resource-limit-exceeded", "nothing came within the idle time-out"))
             raise
+
+    async def _read_until(self, until: float) -> bytes:
+        """What comes before the time is over. Bytes that keep coming do not put it off."""
+        left = until - time.monotonic()
+        if left <= 0:
+            raise PeerSilent("the peer did not answer in time")
+        return await self._stream.read(left, "no answer of the peer's")
 
     async def _close_soon(self, error: Error) -> None:
         """Has a Close go out, if one still can."""
