@@ -58,7 +58,7 @@ FRAMES = [
     (frame(Attach("l", 0, SENDER, target=Described(Ulong(0x30), [Symbol("amqp:local-transactions")]), initial_delivery_count=0)), None),
     (frame(with_bytes(Begin(None, 0, 9, 9), properties=keyed(array(b"\x56", b"\x01"))), 3), None), (frame(Transfer(7, 0, b"t", 0)), "amqp:session:unattached-handle"),
     (b"".join(frame(Begin(None, 0, 9, 9), at) for at in range(1, 40)), "amqp:connection:framing-error"), (bytes(4), "amqp:connection:framing-error"),
-    (b"\xff\xff\xff\xff", "amqp:connection:framing-error"), (frame(b"\x00\x53\x99\x45"), DECODE), (sends() + sends(5), "amqp:internal-error"),
+    (b"\xff\xff\xff\xff", "amqp:connection:framing-error"), (frame(b"\x00\x53\x99\x45"), DECODE), (sends() + sends(5), "amqp:not-allowed"), (frame(Begin(None, 0, 9, 9)), "amqp:not-allowed"),
 ]  # fmt: skip
 #: What a client sends that has a sender and a receiver, and one message from each side
 LINKED = [

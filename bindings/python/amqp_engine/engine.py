@@ -73,6 +73,8 @@ class Engine:
         self._has_theirs = False
         #: The most bytes of a frame, with its size, that this side takes
         self.max_frame_size = 2**32 - 1 if open.max_frame_size is None else open.max_frame_size
+        #: The last channel of the peer's on which this side takes frames
+        self.channel_max = 65535 if open.channel_max is None else open.channel_max
         room = room or Room()
         given = os.urandom(16) if key is None else key
         if len(given) != 16:

@@ -72,6 +72,15 @@ def sized(frame: bytes) -> bytes:
     return (len(frame) + 4).to_bytes(4, "big") + frame
 
 
+@contextlib.contextmanager
+def _asked_by_client() -> Iterator[None]:
+    """What is asked here is asked for the client: where the refusal says no condition, it is that the client may not ask for it."""
+    try:
+        yield
+    except Refusal as refusal:
+        raise replace(refusal, condition=refusal.condition or "amqp:not-allowed") from None
+
+
 class Server:
     """An engine that serves one client. Requests of links are those of `engine`, but for `attach`, which takes the client's name of the link."""
 
@@ -160,15 +169,24 @@ class Server:
         yield from self._put_aside()
         number, self._next = self._next, self._next + 1
         try:
-            self.engine.begin(number, self._begin)
-            own = next(frames_of(self.engine.to_send()), None)
+            own = self._begun(number, channel)
         except Refusal as refusal:
             yield refusal
             return
-        if own is None:
-            yield Refusal("IllegalState", "amqp:illegal-state", "a Begin before the connection is open")
-            return
         yield from self._turn(number, own, frame, theirs)
+
+    def _begun(self, number: int, channel: int) -> bytes:
+        """This side's Begin, which answers one on this channel of the client's."""
+        if channel > self.engine.channel_max:
+            raise Refusal("ChannelTooHigh", "amqp:connection:framing-error")
+        if self.engine.session_of(channel) is not None:
+            raise Refusal("ChannelInUse", "amqp:not-allowed")
+        with _asked_by_client():
+            self.engine.begin(number, self._begin)
+        own = next(frames_of(self.engine.to_send()), None)
+        if own is None:
+            raise Refusal("IllegalState", "amqp:illegal-state", "a Begin before the connection is open")
+        return own
 
     def _turn(self, number: int, own: bytes, frame: bytes, theirs: Begin) -> Iterator[ServerEvent]:
         """Each of the two Begins becomes the answer to the other."""
@@ -209,7 +227,8 @@ class Server:
             raise Refusal("HandleInUse", "amqp:session:handle-in-use")
         if len(turned) > self.engine.max_frame_size:
             raise Refusal("TooLarge", "amqp:resource-limit-exceeded", "no room for the mark of a link's name")
-        links[attach.handle] = self.engine.link(number, mark(attach.role, attach.name), not attach.role, attach.rcv_settle_mode or FIRST)
+        with _asked_by_client():
+            links[attach.handle] = self.engine.link(number, mark(attach.role, attach.name), not attach.role, attach.rcv_settle_mode or FIRST)
 
     def _take_end(self, sized_frame: bytes, channel: int) -> Iterator[ServerEvent]:
         number = self.engine.session_of(channel)
