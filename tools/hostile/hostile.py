@@ -58,7 +58,7 @@ def main():
     os.environ["AMQP_LIBRARY"] = str(Path(sys.argv[1]).resolve())
     if len(sys.argv) == 3:
         return asyncio.run(group(sys.argv[2]))
-    running = [subprocess.Popen([sys.executable, __file__, sys.argv[1], it], stdout=subprocess.PIPE, stderr=subprocess.STDOUT) for it in GROUPS]
+    running = [subprocess.Popen([sys.executable, __file__, sys.argv[1], it], stdout=subprocess.PIPE) for it in GROUPS]
     passed = failed = 0
     for name, it in zip(GROUPS, running):
         lines = it.communicate()[0].decode(errors="replace").strip().split("\n")

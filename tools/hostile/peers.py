@@ -15,7 +15,7 @@ ROOT = Path(__file__).resolve().parents[2]
 HEADER, SASL = b"AMQP\x00\x01\x00\x00", b"AMQP\x03\x01\x00\x00"
 EMPTY = b"\x00\x00\x00\x08\x02\x00\x00\x00"
 #: How long a good client may wait while others attack, and how long a test may take, in seconds
-PATIENCE, LONGEST = 5.0, 30.0
+PATIENCE, LONGEST = 10.0, 30.0
 LARGE = 2**31 - 1
 
 

@@ -11,7 +11,8 @@ from amqp_engine import (
 from hostile.peers import EMPTY, HEADER, LARGE, PATIENCE, Raw, frame, holds, listens
 
 AT_ONCE, TESTS = 8, []
-WAITS = Waits(login=2.0, answer=0.5, reading=0.5, closing=0.5)
+#: For peers that are given up, and for those that are not
+WAITS, LONG = Waits(login=20.0, answer=1.0, reading=1.0, closing=0.5), Waits(closing=0.5)
 OPEN, BEGIN = frame(Open("peer")), frame(Begin(0, 0, LARGE, LARGE))
 
 
@@ -20,12 +21,7 @@ def test(function):
     return function
 
 
-def connected(port, **how):
-    how = {"open": Open("client"), **how}
-    return connect("127.0.0.1", port, login=None, waits=WAITS, **how)
-
-
-async def against(script, client, **how):
+async def against(script, client, waits=WAITS, **how):
     """What a client makes of a peer that does this after both headers. The peer goes when the client has."""
     peers = []
 
@@ -43,7 +39,7 @@ async def against(script, client, **how):
 
     server, port = await listens(begins)
     try:
-        async with connected(port, **how) as connection:
+        async with connect("127.0.0.1", port, login=None, waits=waits, **{"open": Open("client"), **how}) as connection:
             connection.engine.open()
             return await client(connection)
     finally:
@@ -82,7 +78,7 @@ async def takes_seven(connection, begins):
 
 @test
 async def a_session_begun_in_the_middle_loses_nothing():
-    await against(five_at_once, lambda connection: takes_seven(connection, lambda it: it.session(1)))
+    await against(five_at_once, lambda connection: takes_seven(connection, lambda it: it.session(1)), LONG)
 
 
 @test
@@ -94,7 +90,7 @@ async def a_session_that_is_cancelled_loses_nothing():
         await asyncio.wait([task])
         assert task.cancelled()
 
-    await against(five_at_once, lambda connection: takes_seven(connection, begins))
+    await against(five_at_once, lambda connection: takes_seven(connection, begins), LONG)
 
 
 @test
@@ -109,7 +105,7 @@ async def an_iterator_that_is_left_loses_nothing():
                 break
         assert came == [b"%d" % at for at in range(5)], came
 
-    await against(five_at_once, client)
+    await against(five_at_once, client, LONG)
 
 
 @test
@@ -290,7 +286,7 @@ async def many_flush_and_the_heart_beats():
         assert not connection._beats.done(), connection._beats
         reads.cancel()
 
-    await against(script, client)
+    await against(script, client, LONG)
 
 
 @test
@@ -319,7 +315,7 @@ async def what_is_missed_is_told_and_ends_the_connection():
             return
         raise AssertionError("nobody was told")
 
-    await against(script, client, room=Room(dispositions=40))
+    await against(script, client, LONG, room=Room(dispositions=40))
 
 
 @test
@@ -357,7 +353,7 @@ async def thousands_of_sessions_come_and_go():
         async for event in connection:
             served.append(type(event).__name__)
 
-    server = await serve("127.0.0.1", 0, lambda: Open("server"), handle, waits=WAITS)
+    server = await serve("127.0.0.1", 0, lambda: Open("server"), handle, waits=LONG)
     peer = await Raw.opened(server.sockets[0].getsockname()[1])
     for _ in range(3000 // each):
         peer.send(*[frame(Begin(None, 0, 8, 8), 1) + frame(End(), 1)] * each)
