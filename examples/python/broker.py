@@ -23,7 +23,7 @@ from amqp_engine import (
 from queues import MESSAGE_MOST, Queues
 
 CREDIT, WINDOW = 200, 2048
-CHANNEL_MAX, HANDLE_MAX = 31, 255
+CHANNEL_MAX, HANDLE_MAX, NAME_MOST = 31, 255, 1024
 #: How many deliveries of a session may be open in each direction: events have room for them, so that no disposition is missed
 OPEN_MOST = 4096
 #: How many bytes of messages a client may have here that are not whole, leave unread, and leave unsettled
@@ -83,6 +83,8 @@ class Incoming:
     def take_first(self, transfer):
         if transfer.delivery_id is None:
             raise Fault("amqp:invalid-field", "the first transfer of a delivery without its delivery-id")
+        if len(transfer.delivery_tag or b"") > 32:
+            raise Fault("amqp:invalid-field", "a delivery-tag of more than 32 bytes")
         if self.credit == 0:
             raise Fault("amqp:link:transfer-limit-exceeded", "no credit")
         self.number, self.tag = transfer.delivery_id, transfer.delivery_tag
@@ -319,6 +321,8 @@ class Client:
     def attached(self, event):
         theirs, output = event.attach, self.connection.server.output_of(event)
         address = address_of(theirs.target if theirs.role == SENDER else theirs.source)
+        if len(theirs.name) + len(address or "") > NAME_MOST:
+            raise Refusal("NameTooLong", "amqp:not-allowed")
         mine = Attach(
             theirs.name, output, not theirs.role, theirs.snd_settle_mode, theirs.rcv_settle_mode, theirs.source, theirs.target,
             initial_delivery_count=0 if theirs.role == RECEIVER else None, max_message_size=MESSAGE_MOST,

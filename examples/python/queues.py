@@ -4,8 +4,8 @@ from collections import OrderedDict, deque
 
 #: Bytes of a message, of all messages of a queue, and of all queues
 MESSAGE_MOST, QUEUE_MOST, ALL_MOST = 1 << 20, 16 << 20, 64 << 20
-#: What a message, or a queue, takes beside the bytes of the message
-BESIDE = 512
+#: What a message, alone in its queue, takes beside its bytes
+BESIDE = 1024
 
 
 class Queue:
@@ -28,7 +28,13 @@ class Queue:
 
     def forget(self, message):
         """A message is gone for good."""
+        was_full = self.queues.is_full()
         self.count(-len(message) - BESIDE)
+        for queue in self.queues.all() if was_full and not self.queues.is_full() else [self]:
+            queue.grant()
+
+    def grant(self):
+        """Senders that wait may send again."""
         while self.senders and self.has_room():
             self.senders.popitem(last=False)[0].grant()
 
@@ -37,7 +43,7 @@ class Queue:
         self.queues.size += size
 
     def has_room(self):
-        return self.size < QUEUE_MOST // 2 and self.queues.size < ALL_MOST // 2
+        return self.size < QUEUE_MOST // 2 and not self.queues.is_full()
 
     def hand_out(self):
         """Messages go to the links that have credit, in turn. A link whose client cannot take more now waits with its client."""
@@ -65,11 +71,14 @@ class Queues:
         self.of_address, self.size = {}, 0
 
     def __getitem__(self, address):
-        if address not in self.of_address:
-            self.of_address[address] = Queue(self, address)
-            self.size += BESIDE
-        return self.of_address[address]
+        return self.of_address.setdefault(address, Queue(self, address))
+
+    def all(self):
+        return list(self.of_address.values())
+
+    def is_full(self):
+        """Whether no sender is to have more credit."""
+        return self.size >= ALL_MOST // 2
 
     def go(self, queue):
         del self.of_address[queue.address]
-        self.size -= BESIDE

@@ -58,13 +58,13 @@ FRAMES = [
     (frame(Attach("l", 0, SENDER, target=Described(Ulong(0x30), [Symbol("amqp:local-transactions")]), initial_delivery_count=0)), None),
     (frame(with_bytes(Begin(None, 0, 9, 9), properties=keyed(array(b"\x56", b"\x01"))), 3), None), (frame(Transfer(7, 0, b"t", 0)), "amqp:session:unattached-handle"),
     (b"".join(frame(Begin(None, 0, 9, 9), at) for at in range(1, 40)), "amqp:connection:framing-error"), (bytes(4), "amqp:connection:framing-error"),
-    (b"\xff\xff\xff\xff", "amqp:connection:framing-error"), (frame(b"\x00\x53\x99\x45"), DECODE), (sends() + sends(5), "amqp:not-allowed"), (frame(Begin(None, 0, 9, 9)), "amqp:not-allowed"),
+    (b"\xff\xff\xff\xff", "amqp:connection:framing-error"), (frame(b"\x00\x53\x99\x45"), DECODE), (sends() + sends(5), "amqp:not-allowed"), (sends(address="q" * 2000), "amqp:not-allowed"), (frame(Begin(None, 0, 9, 9)), "amqp:not-allowed"),
 ]  # fmt: skip
 #: What a client sends that has a sender and a receiver, and one message from each side
 LINKED = [
     (frame(with_bytes(Disposition(RECEIVER, 0, settled=True), state=compound(0xD0, [b"\x43"]))), DECODE), (frame(with_bytes(Disposition(RECEIVER, 0, settled=True), state=b"\x43")), DECODE),
     (frame(with_bytes(Disposition(RECEIVER, 0), state=b"\x00\x53\x24" + compound(0xD0, [b"\x73\x00\x11\x00\x00"]))), DECODE), (frame(Disposition(SENDER, 0, 99, settled=True)), None),
-    (frame(Transfer(0, None, None, 0), 0, b"x"), "amqp:invalid-field"),
+    (frame(Transfer(0, None, None, 0), 0, b"x"), "amqp:invalid-field"), (frame(Transfer(0, 1, bytes(33), 0), 0, b"x"), "amqp:invalid-field"),
     (b"".join(frame(Transfer(0, 1 if at == 0 else None, b"t", 0, more=True), 0, bytes(60000)) for at in range(20)), "amqp:link:message-size-exceeded"),
     (b"".join(frame(Transfer(0, 1, b"t", 0, more=True), 0, b"") for at in range(20)) + frame(Transfer(0, 1, b"t", aborted=True)), None),
 ]  # fmt: skip

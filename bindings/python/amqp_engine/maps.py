@@ -72,4 +72,10 @@ def _name_of(key: Any) -> Any:
         return str(key)
     if isinstance(key, bytes):
         return bytes(key)
-    return ("number", hex(key)) if isinstance(key, int) else ("value", write(key))
+    if isinstance(key, int):
+        return ("number", hex(key))
+    try:
+        return ("value", write(key))
+    except (TypeError, ValueError):
+        # what has no type of AMQP is no key of a map that was read
+        return object()

@@ -76,7 +76,7 @@ class Stream:
         reading, self._reading = self._reading, None
         if self._failed is not None:
             raise self._failed
-        return reading.result()
+        return b"" if reading.cancelled() else reading.result()
 
     def write(self, data: bytes) -> None:
         """Has bytes wait to go out."""

@@ -29,6 +29,8 @@ from .values import Malformed
 
 _AMQP, _SASL = b"AMQP\x00\x01\x00\x00", b"AMQP\x03\x01\x00\x00"
 _EMPTY_FRAME = b"\x00\x00\x00\x08\x02\x00\x00\x00"
+#: How many events a session that is waited for may leave for the iterator
+_MOST_KEPT = 65536
 #: The states in which this side's Close went out, and the peer's is awaited
 _CLOSING = ("CLOSE_SENT", "DISCARDING", "CLOSE_PIPE", "OC_PIPE")
 
@@ -221,6 +223,8 @@ class Connection:
             if not await self._pump(until):
                 return
             self._keep()
+            if len(self._kept) > _MOST_KEPT:
+                raise PeerSilent(f"the peer answers no Begin, and sent {len(self._kept)} other things")
 
     def _keep(self) -> None:
         """Keeps what came for the iterator."""
@@ -300,7 +304,7 @@ class Connection:
         if not self._is_begun:
             return
         await self._close_soon(Error(condition_of(error), str(error) if isinstance(error, Refusal) else None))
-        with contextlib.suppress(Refusal, ConnectionError):
+        with contextlib.suppress(Refusal, OSError):
             await within(self._waits.closing, self._passed_over(), "no answer to a Close")
 
     async def _passed_over(self) -> None:
