@@ -68,6 +68,8 @@ class Engine:
         self._at = self._told_missed = 0
         # the refusal that comes after the events that wait
         self._refused: Optional[Refusal] = None
+        #: Whether a frame had no lawful size: nothing more can be read
+        self.is_broken = False
         # the peer's Open, and whether it came
         self._theirs: Optional[Open] = None
         self._has_theirs = False
@@ -238,6 +240,7 @@ class Engine:
         if status == lib.REFUSED:
             self._refused = self._refusal()
             if self._refused.name == "BadSize":
+                self.is_broken = True
                 self._came.clear()
                 self._at = 0
         elif status != lib.EVENTS_WAIT:

@@ -29,6 +29,8 @@ from .values import Malformed
 
 _AMQP, _SASL = b"AMQP\x00\x01\x00\x00", b"AMQP\x03\x01\x00\x00"
 _EMPTY_FRAME = b"\x00\x00\x00\x08\x02\x00\x00\x00"
+#: The least time between two empty frames, in seconds, whatever time-out a peer asks for
+_BRIEFEST = 0.05
 #: How many events a session that is waited for may leave for the iterator
 _MOST_KEPT = 65536
 #: The states in which this side's Close went out, and the peer's is awaited
@@ -247,7 +249,8 @@ class Connection:
     async def _receive(self, until: Optional[float]) -> bytes:
         self._keep_alive()
         if self._until is None and self.engine.state in _CLOSING:
-            self._until = time.monotonic() + self._waits.answer
+            # no answer can be read of a stream that is broken; what was said last has a moment to go out
+            self._until = time.monotonic() + (self._waits.closing if self.engine.is_broken else self._waits.answer)
         until = min((it for it in (until, self._until) if it is not None), default=None)
         if until is not None:
             return await self._read_until(until)
@@ -278,7 +281,7 @@ class Connection:
     async def _beat(self, limit: float) -> None:
         with contextlib.suppress(ConnectionError):
             while True:
-                await asyncio.sleep(max(0.01, self._stream.sent + limit / 2 - time.monotonic()))
+                await asyncio.sleep(max(_BRIEFEST, self._stream.sent + limit / 2 - time.monotonic()))
                 if time.monotonic() - self._stream.sent >= limit / 2 and not self._stream.drains:
                     await self._put(_EMPTY_FRAME)
 
