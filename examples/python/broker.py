@@ -213,8 +213,7 @@ class Client:
                 self.take(event)
         finally:
             writer.cancel()
-            for link in list(self.links.values()):
-                self.drop(link)
+            self.drop(*self.links.values())
 
     async def write(self):
         """Waits for the client to read, whoever had something sent to it; then it may be handed out more."""
@@ -341,16 +340,20 @@ class Client:
             link.grant()
 
     def ended(self, session):
-        for key in [it for it in self.links if it[0] == session]:
-            self.drop(self.links[key])
+        self.drop(*(link for link in self.links.values() if link.session == session))
         for of_session in (self.open, self.owed, self.numbers, self.held):
             of_session.pop(session, None)
 
-    def drop(self, link):
-        del self.links[link.session, link.input]
-        link.drop()
-        link.queue.hand_out()
-        link.queue.detach()
+    def drop(self, *links):
+        """Links are gone, all of them before their messages go to others."""
+        for link in links:
+            del self.links[link.session, link.input]
+            link.drop()
+        for link in links:
+            link.queue.hand_out()
+            link.queue.detach()
+        if self.parked:
+            self.connection.went.set()
 
 
 async def main():

@@ -1,6 +1,8 @@
 """Frames that no good peer writes, given to engines in memory: each is a refusal in its place, and what stands after it is read."""
 
+import asyncio
 import random
+import sys
 from dataclasses import replace
 
 from amqp_engine import (
@@ -8,7 +10,12 @@ from amqp_engine import (
     Server, SessionBegan, Symbol, Transfer, Transferred, Ulong, data, source, target,
 )  # fmt: skip
 from amqp_engine.values import write
-from hostile.peers import array, compound, frame, with_bytes
+from hostile.peers import ROOT, array, compound, frame, with_bytes
+
+sys.path.insert(0, str(ROOT / "examples" / "python"))
+
+from broker import Client
+from queues import BESIDE, Queues
 
 AT_ONCE, TESTS = 1, []
 NAMED = Described(Ulong(0x24), [])
@@ -161,33 +168,76 @@ async def an_exception_in_a_loop_loses_nothing():
         assert got == list(range(5)), got
 
 
+GOOD = [
+    frame(of)
+    for of in (
+        Begin(None, 0, 9, 9, 3, ["a"], None, {Symbol("k"): [1, "a", {1: 2}]}), Attach("m", 1, SENDER, 1, 1, source("a"), target("b"), {}, False, 0, 9), Detach(0, True),
+        Attach("n", 2, RECEIVER, source=source("q"), properties={Symbol("k"): Described(Symbol("d"), b"x")}), Flow(0, 9, 0, 9, 0, 0, 9, properties={Symbol("a"): None}),
+        Transfer(0, 0, b"t", 0, state=ACCEPTED), Disposition(RECEIVER, 0, 3, True, ACCEPTED), Disposition(SENDER, 0, 3, True, NAMED), End(Error("a:b", "c")),
+        Close(Error("a:b", "c", {Symbol("k"): 1})), Open("x", "y", 512, 3, 1000, ["a"], "b", properties={Symbol("k"): [True]}), Flow(0, 9, 0, 9, 2, 0, 99),
+    )
+]  # fmt: skip
+
+
+def changed(chance):
+    """A good frame in one to three bytes of which others stand."""
+    said = bytearray(chance.choice(GOOD))
+    for _ in range(chance.randrange(4)):
+        said[chance.randrange(8, len(said))] = chance.randrange(256)
+    return bytes(said)
+
+
 @test
 async def frames_with_changed_bytes_raise_nothing():
-    """Each is changed in one to three bytes, and given to a server, and to a client; what comes of it are events and refusals."""
-    chance = random.Random(1)
-    good = [
-        frame(of)
-        for of in (
-            Begin(None, 0, 9, 9, 3, ["a"], None, {Symbol("k"): [1, "a", {1: 2}]}), Attach("m", 1, SENDER, 1, 1, source("a"), target("b"), {}, False, 0, 9), Detach(0, True),
-            Attach("n", 2, RECEIVER, properties={Symbol("k"): Described(Symbol("d"), b"x")}), Flow(0, 9, 0, 9, 0, 0, 9, properties={Symbol("a"): None}),
-            Transfer(0, 0, b"t", 0, state=ACCEPTED), Disposition(RECEIVER, 0, 3, True, ACCEPTED), Disposition(SENDER, 0, 3, True, NAMED), End(Error("a:b", "c")),
-            Close(Error("a:b", "c", {Symbol("k"): 1})), Open("x", "y", 512, 3, 1000, ["a"], "b", properties={Symbol("k"): [True]}),
-        )
-    ]  # fmt: skip
-    sides = []
+    chance, sides = random.Random(1), []
     for at in range(4000):
         if at % 40 == 0:
             sides = [attached(), attached(RECEIVER), sender()]
-        said = bytearray(chance.choice(good))
-        for _ in range(chance.randrange(1, 4)):
-            said[chance.randrange(8, len(said))] = chance.randrange(256)
+        said = changed(chance)
         for side in sides:
             try:
-                came = list(side.receive(bytes(said)))
+                came = list(side.receive(said))
                 side.to_send()
             except (Missed, Refusal) as error:
                 came = [error]
             assert all(isinstance(it, Refusal) or it.session is not None for it in came), (said, came)
+
+
+class Stood:
+    """What the broker sees of a connection, in memory."""
+
+    def __init__(self):
+        self.engine = Engine(Open("server", max_frame_size=4096, channel_max=3))
+        self.server, self.went, self.unsent = Server(self.engine), asyncio.Event(), 0
+
+    def push(self):
+        return len(self.server.to_send())
+
+
+@test
+async def frames_with_changed_bytes_raise_nothing_in_the_broker():
+    chance, queues, clients = random.Random(3), Queues(), []
+    for at in range(4000):
+        if at % 100 == 0:
+            for it in clients:
+                it.drop(*it.links.values())
+            clients = [Client(queues, Stood()) for _ in range(2)]
+            hears(clients, frame(Open("client")) + frame(Begin(None, 0, 1000, 1000)) + frame(Attach("s", 0, SENDER, target=target("q"), initial_delivery_count=0)))
+        hears(clients[:1] if at % 2 else clients[1:], changed(chance))
+    for it in clients:
+        it.drop(*it.links.values())
+    # what is left are messages
+    assert all(it.messages and not it.links for it in queues.all()) and queues.size == sum(it.size for it in queues.all())
+    assert queues.size == sum(len(message) + BESIDE for it in queues.all() for message in it.messages), queues.size
+
+
+def hears(clients, data):
+    for it in clients:
+        if it.engine.state == "START" or it.engine.state == "HDR_EXCH":
+            it.engine.open()
+        for event in it.connection.server.receive(data):
+            it.take(event)
+        it.push()
 
 
 @test

@@ -10,7 +10,7 @@ from __future__ import annotations
 import contextlib
 from collections import deque
 from dataclasses import dataclass, replace
-from typing import Deque, Dict, Iterator, Optional, Union
+from typing import Deque, Dict, Iterator, List, Optional, Union
 
 from .engine import Engine
 from .events import AnyEvent, Attached, Detached, Event, Missed, Refusal, unreadable
@@ -232,9 +232,9 @@ class Server:
 
     def _take_end(self, sized_frame: bytes, channel: int) -> Iterator[ServerEvent]:
         number = self.engine.session_of(channel)
-        came = list(self.engine.receive(sized_frame))
-        yield from (it for it in came if not (isinstance(it, Refusal) and it.name.startswith("RemoteEnded")))
-        if number is None:
+        refused = _refused_of(self.engine.receive(sized_frame), "RemoteEnded")
+        yield from refused
+        if number is None or refused:
             return
         with contextlib.suppress(Refusal):
             self.engine.end(number)
@@ -247,11 +247,12 @@ class Server:
         yield SessionEnded(number, None, None)
 
     def _take_close(self, sized_frame: bytes) -> Iterator[ServerEvent]:
-        came = list(self.engine.receive(sized_frame))
-        yield from (it for it in came if not (isinstance(it, Refusal) and it.name.startswith("RemoteClosed")))
+        refused = _refused_of(self.engine.receive(sized_frame), "RemoteClosed")
+        yield from refused
         if self.engine.state == "CLOSE_RCVD":
             self.engine.close()
-        yield Closed(0, None, None)
+        if not refused:
+            yield Closed(0, None, None)
 
     # ---- what goes
 
@@ -294,6 +295,11 @@ class Server:
         if b"\x00\x53\x12" not in data:
             return data
         return b"".join(sized(_unmark(frame)) for frame in frames_of(data))
+
+
+def _refused_of(came: Iterator[Union[AnyEvent, Refusal]], but: str) -> List[Union[AnyEvent, Refusal]]:
+    """What came of an End or a Close, but for the refusals by which the engine says that it came."""
+    return [it for it in came if not (isinstance(it, Refusal) and it.name.startswith(but))]
 
 
 def _unmark(frame: bytes) -> bytes:
