@@ -248,7 +248,7 @@ async def a_window_that_stays_shut_is_filled_with_little():
 @test
 async def messages_that_one_disposition_accepts_do_not_come_again():
     async with Broker() as broker:
-        peer, count = await Raw.opened(broker.port), 6000
+        peer, count = await Raw.opened(broker.port), 5000
         peer.send(sends(), receives(credit=LARGE))
         sender = asyncio.ensure_future(sends_all(broker, count))
         got, first = 0, 0
@@ -291,9 +291,9 @@ async def sends_all(broker, count):
 async def links_and_queues_by_the_thousand_hold_nobody_up():
     async with Broker() as broker:
         peer = await Raw.opened(broker.port)
-        peer.send(*[frame(Begin(None, 0, LARGE, LARGE), at) for at in range(1, 32)])
+        peer.send(*[frame(Begin(None, 0, LARGE, LARGE), at) for at in range(1, 6)])
         reads = asyncio.ensure_future(peer.over())
-        for channel in range(8):
+        for channel in range(6):
             peer.send(*[frame(Attach(f"l{at}", at, RECEIVER, source=source(f"{channel}-{at}")), channel) for at in range(256)])
             await peer.drain()
             assert await ping(broker.port) < PATIENCE
@@ -308,9 +308,9 @@ async def links_that_come_and_go_leave_nothing():
     async with Broker() as broker:
         for turn in range(3):
             peer = await Raw.opened(broker.port)
-            for at in range(500):
+            for at in range(300):
                 peer.send(sends(0, f"q{turn}-{at}", f"n{at}"), frame(Detach(0, True)))
-            for _ in range(500):
+            for _ in range(300):
                 await peer.until(0x16)
             peer.gone()
             if turn == 0:
@@ -323,17 +323,15 @@ async def links_that_come_and_go_leave_nothing():
 async def deliveries_that_nobody_settles_are_bounded():
     async with Broker() as broker:
         peer = await Raw.opened(broker.port)
-        peer.send(sends(rcv_settle_mode=SECOND), receives(1, "q", 100))
+        peer.send(sends(rcv_settle_mode=SECOND))
         await credited(peer)
-        credit, count, condition = 200, 0, None
-        reads = asyncio.ensure_future(peer.ended())
-        while count < 8000 and not reads.done():
-            peer.send(transfer(count, data(b"x")))
-            count += 1
-            if count % 100 == 0:
-                await holds(reads.done, 0.05)
-        condition = await asyncio.wait_for(reads, PATIENCE)
-        assert condition in ("amqp:resource-limit-exceeded", "amqp:link:transfer-limit-exceeded") and count <= 5000 and credit, (condition, count)
+        reads, count = asyncio.ensure_future(peer.ended()), 0
+        while count < 20000 and not reads.done():
+            peer.send(*[transfer(count + at, data(b"x")) for at in range(100)])
+            count += 100
+            # no faster than the broker, which gives credit as it takes
+            await holds(reads.done, 0.05)
+        assert await asyncio.wait_for(reads, PATIENCE) == "amqp:resource-limit-exceeded", count
         peer.gone()
         assert await broker.closes_all()
 

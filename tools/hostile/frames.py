@@ -190,7 +190,7 @@ def changed(chance):
 @test
 async def frames_with_changed_bytes_raise_nothing():
     chance, sides = random.Random(1), []
-    for at in range(4000):
+    for at in range(2000):
         if at % 40 == 0:
             sides = [attached(), attached(RECEIVER), sender()]
         said = changed(chance)
@@ -217,7 +217,7 @@ class Stood:
 @test
 async def frames_with_changed_bytes_raise_nothing_in_the_broker():
     chance, queues, clients = random.Random(3), Queues(), []
-    for at in range(4000):
+    for at in range(2000):
         if at % 100 == 0:
             for it in clients:
                 it.drop(*it.links.values())

@@ -345,7 +345,7 @@ async def no_socket_stays_where_no_connection_can_be_made():
 
 
 @test
-async def thousands_of_sessions_come_and_go():
+async def a_thousand_sessions_come_and_go():
     served, each = [], 100
 
     async def handle(connection):
@@ -355,11 +355,11 @@ async def thousands_of_sessions_come_and_go():
 
     server = await serve("127.0.0.1", 0, lambda: Open("server"), handle, waits=LONG)
     peer = await Raw.opened(server.sockets[0].getsockname()[1])
-    for _ in range(3000 // each):
+    for _ in range(1000 // each):
         peer.send(*[frame(Begin(None, 0, 8, 8), 1) + frame(End(), 1)] * each)
         for _ in range(each):
             await peer.until(0x17)
     peer.send(frame(Close()))
-    assert await peer.ended() is None and served.count("SessionEnded") == 3000 and "Refusal" not in served
+    assert await peer.ended() is None and served.count("SessionEnded") == 1000 and "Refusal" not in served
     peer.gone()
     server.close()
