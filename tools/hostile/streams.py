@@ -94,6 +94,25 @@ async def a_session_that_is_cancelled_loses_nothing():
 
 
 @test
+async def two_tasks_that_read_are_told():
+    async def client(connection):
+        await connection.session(0)
+        first = asyncio.ensure_future(connection.__anext__())
+        await asyncio.sleep(0)
+        try:
+            await connection.__anext__()
+        except RuntimeError:
+            first.cancel()
+            return
+        raise AssertionError("two tasks read")
+
+    async def script(peer):
+        peer.send(OPEN, BEGIN)
+
+    await against(script, client, LONG)
+
+
+@test
 async def an_iterator_that_is_left_loses_nothing():
     async def client(connection):
         await connection.session(0)

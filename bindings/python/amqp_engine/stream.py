@@ -53,6 +53,7 @@ class Stream:
         self._reader, self._writer, self._waits = reader, writer, waits
         # one task reads, whoever waits for it: a call that is cancelled, or whose time is over, takes nothing with it
         self._reading: Optional["asyncio.Task[bytes]"] = None
+        self._is_awaited = False
         # before Python 3.10 two tasks may not drain one writer
         self._drains = asyncio.Lock()
         self._failed: Optional[PeerSilent] = None
@@ -68,9 +69,15 @@ class Stream:
 
     async def read(self, seconds: Optional[float], otherwise: str) -> bytes:
         """Bytes that came; none where the stream is over. Raises the error of another task that gave the peer up, and `PeerSilent` after so many seconds."""
+        if self._is_awaited:
+            raise RuntimeError("two tasks wait for what comes on one connection")
         if self._reading is None:
             self._reading = asyncio.ensure_future(self._reader.read(65536))
-        await asyncio.wait({self._reading}, timeout=seconds)
+        self._is_awaited = True
+        try:
+            await asyncio.wait({self._reading}, timeout=seconds)
+        finally:
+            self._is_awaited = False
         if not self._reading.done():
             raise PeerSilent(f"{otherwise} within {seconds:g} seconds")
         reading, self._reading = self._reading, None

@@ -52,7 +52,8 @@ class SessionRefused(ConnectionError):
 
 class Connection:
     """One connection: an engine, and the stream that carries its bytes. An asynchronous iterator of events and refusals; it ends with the stream,
-    or when both sides have closed. A Close of the peer's is answered. `server` is there where the connection was accepted."""
+    or when both sides have closed. A Close of the peer's is answered. `server` is there where the connection was accepted. One task at a time iterates,
+    begins a session or closes; any may `push` and `flush`."""
 
     def __init__(
         self,
