@@ -254,11 +254,12 @@ async def messages_that_one_disposition_accepts_do_not_come_again():
         got, first = 0, 0
         while got < count:
             # as many as come, and then one disposition of all of them
+            wait = PATIENCE
             with contextlib.suppress(asyncio.TimeoutError):
                 while got < count:
-                    of = await asyncio.wait_for(peer.until(0x14, 0x18), 1)
+                    of = await asyncio.wait_for(peer.until(0x14, 0x18), wait)
                     assert of[6] == 0x14, Close.decode(of[4:])
-                    got += 1
+                    got, wait = got + 1, 1
             assert got > first, (got, first)
             peer.send(frame(Disposition(RECEIVER, first, got - 1, settled=True, state=ACCEPTED)))
             first = got

@@ -232,9 +232,9 @@ async def writes_much(connection):
 
 @test
 async def a_peer_that_does_not_read_is_given_up():
-    for how in ({}, {"open": Open("client", idle_time_out=1000)}):
+    for waits, how in ((WAITS, {}), (WAITS, {"open": Open("client", idle_time_out=9000)}), (LONG, {"open": Open("client", idle_time_out=1000)})):
         try:
-            await asyncio.wait_for(against(never_reads, writes_much, **how), 2 * PATIENCE)
+            await asyncio.wait_for(against(never_reads, writes_much, waits, **how), 2 * PATIENCE)
         except PeerSilent:
             continue
         raise AssertionError("it was waited for")

@@ -8,9 +8,10 @@ import time
 from dataclasses import dataclass
 from typing import Any, Awaitable, Optional
 
-
 #: As many bytes may wait before a call waits for the peer to read them, and so many it has to read within `Waits.reading`
 _FEW = 65536
+#: How much earlier a time may be over, by the clock
+_MOMENT = 0.05
 
 
 class PeerSilent(ConnectionError):
@@ -51,6 +52,7 @@ class Stream:
 
     def __init__(self, reader: asyncio.StreamReader, writer: asyncio.StreamWriter, waits: Waits) -> None:
         self._reader, self._writer, self._waits = reader, writer, waits
+        self._loop, self._written = asyncio.get_running_loop(), bytearray()
         # one task reads, whoever waits for it: a call that is cancelled, or whose time is over, takes nothing with it
         self._reading: Optional["asyncio.Task[bytes]"] = None
         self._is_awaited = False
@@ -71,47 +73,71 @@ class Stream:
         """Bytes that came; none where the stream is over. Raises the error of another task that gave the peer up, and `PeerSilent` after so many seconds."""
         if self._is_awaited:
             raise RuntimeError("two tasks wait for what comes on one connection")
-        if self._reading is None:
-            self._reading = asyncio.ensure_future(self._reader.read(65536))
+        reading = self._begin_to_read()
         self._is_awaited = True
         try:
-            await asyncio.wait({self._reading}, timeout=seconds)
+            await asyncio.wait({reading}, timeout=seconds)
         finally:
             self._is_awaited = False
-        if not self._reading.done():
+        if not reading.done():
             raise PeerSilent(f"{otherwise} within {seconds:g} seconds")
-        reading, self._reading = self._reading, None
+        self._reading = None
         if self._failed is not None:
             raise self._failed
         return b"" if reading.cancelled() else reading.result()
 
+    def _begin_to_read(self) -> "asyncio.Task[bytes]":
+        if self._reading is None:
+            self._reading = asyncio.ensure_future(self._reader.read(65536))
+        return self._reading
+
     def write(self, data: bytes) -> None:
-        """Has bytes wait to go out."""
-        self._writer.write(data)
+        """Has bytes wait to go out. What several calls write before the loop goes on goes out at once."""
+        if not self._written:
+            self._loop.call_soon(self._write_out)
+        self._written += data
         self.sent = time.monotonic()
+
+    def _write_out(self) -> None:
+        if self._written:
+            self._writer.write(bytes(self._written))
+            self._written.clear()
 
     @property
     def unsent(self) -> int:
         """How many bytes wait."""
-        return self._writer.transport.get_write_buffer_size()
+        return len(self._written) + self._writer.transport.get_write_buffer_size()
 
     @property
     def drains(self) -> bool:
         """Whether a task waits for the peer to read."""
         return self._drains.locked()
 
-    async def drain(self) -> None:
-        """Waits until few bytes wait. A peer that reads too few of them is given up: the stream ends."""
+    async def drain(self, idle: Optional[float] = None) -> None:
+        """Waits until few bytes wait. A peer that reads too few of them is given up: the stream ends. So is one that reads none while nothing comes from it
+        for `idle` seconds."""
+        self._write_out()
         if self.unsent <= _FEW:
             return
         async with self._drains:
+            before, until = self.unsent, time.monotonic() + self._waits.reading
             while self.unsent > _FEW:
-                before = self.unsent
                 try:
-                    await within(self._waits.reading, self._writer.drain(), "the peer did not read")
+                    await self._drained(until - time.monotonic(), idle)
                 except PeerSilent as error:
-                    if self.unsent > before - _FEW:
+                    if self.unsent <= before - _FEW:
+                        before, until = self.unsent, time.monotonic() + self._waits.reading
+                    elif self._is_silent(idle) or time.monotonic() > until - _MOMENT:
                         raise self._given_up(error) from None
+
+    async def _drained(self, left: float, idle: Optional[float]) -> None:
+        if idle is not None:
+            # what comes meanwhile shows that the peer is there
+            self._begin_to_read()
+        await within(min(left, left if idle is None else idle), self._writer.drain(), "the peer did not read")
+
+    def _is_silent(self, idle: Optional[float]) -> bool:
+        return idle is not None and self._reading is not None and not self._reading.done()
 
     def _given_up(self, error: PeerSilent) -> PeerSilent:
         self._failed = error
@@ -122,6 +148,7 @@ class Stream:
         """Closes the stream. What waits goes out, if the peer reads it soon; else it does not."""
         if self._reading is not None:
             self._reading.cancel()
+        self._write_out()
         self._writer.close()
         try:
             with contextlib.suppress(OSError):

@@ -163,8 +163,9 @@ class Connection:
         await self.drain()
 
     async def drain(self) -> None:
-        """Waits while the peer has much to read. One that does not read is given up, by `PeerSilent`."""
-        await self._stream.drain()
+        """Waits while the peer has much to read. One that does not read is given up, by `PeerSilent`; sooner where nothing comes from it either, and this
+        side has an `idle_time_out`."""
+        await self._stream.drain(self._own_limit)
 
     def __aiter__(self) -> AsyncIterator[ServerEvent]:
         return self
