@@ -25,7 +25,7 @@ from queues import MESSAGE_MOST, Queues
 CREDIT, WINDOW = 200, 2048
 CHANNEL_MAX, HANDLE_MAX, NAME_MOST = 31, 255, 1024
 #: How many deliveries of a session may be open in each direction: events have room for them, so that no disposition is missed
-OPEN_MOST = 4096
+OPEN_MOST = 1024
 #: How many bytes of messages a client may have here that are not whole, leave unread, and leave unsettled
 PARTS_MOST, UNREAD_MOST, UNSETTLED_MOST = 8 << 20, 256 << 10, 4 << 20
 RELEASED, MODIFIED = (0x26, "amqp:released:list"), (0x27, "amqp:modified:list")
