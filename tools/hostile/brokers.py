@@ -1,4 +1,4 @@
-"""The broker of the examples, as a process: what one client does ends in a Close or a Detach that says why, holds up no other, and fills no memory."""
+"""The broker of the examples, as a process: what a client does ends in a Close or a Detach that says why, holds up no other, and fills no memory."""
 
 import asyncio
 import contextlib
@@ -49,27 +49,41 @@ def keyed(value):
 
 ATTACH = Attach("l", 0, SENDER, target=target("q"), initial_delivery_count=0)
 DECODE = "amqp:decode-error"
+ARRAYS = [
+    (b"\x56", b"\x01"), (b"\xa0", b"\x01a"), (b"\x72", bytes(4)), (b"\x98", bytes(16)), (b"\x00\x43\xa3", b"\x01a"), (b"\x45",),
+    (b"\x40", b"", 2**32 - 1),
+]  # fmt: skip
 #: What a client with a session sends, and the condition of what ends it; None where nothing is wrong with it
 FRAMES = [
-    *[(frame(with_bytes(ATTACH, properties=keyed(array(*it)))), None) for it in ((b"\x56", b"\x01"), (b"\xa0", b"\x01a"), (b"\x72", bytes(4)), (b"\x98", bytes(16)))],
-    *[(frame(with_bytes(ATTACH, properties=keyed(array(*it)))), None) for it in ((b"\x00\x43\xa3", b"\x01a"), (b"\x45",), (b"\x40", b"", 2**32 - 1))],
+    *[(frame(with_bytes(ATTACH, properties=keyed(array(*it)))), None) for it in ARRAYS],
     (frame(with_bytes(ATTACH, properties=keyed(compound(0xD0, [array(b"\x40", count=65536)] * 100)))), None),
     (frame(with_bytes(ATTACH, properties=compound(0xD1, [write([1]), b"\x43"]))), None),
-    (frame(with_bytes(ATTACH, source=b"\x73\x00\x11\x00\x00")), DECODE), (frame(with_bytes(ATTACH, rcv_settle_mode=b"\x50\x07")), DECODE),
-    (frame(Attach("l", 256, RECEIVER, source=source("q"))), "amqp:connection:framing-error"), (frame(Attach("l", 0, SENDER, initial_delivery_count=0)), "amqp:not-found"),
+    (frame(with_bytes(ATTACH, source=b"\x73\x00\x11\x00\x00")), DECODE),
+    (frame(with_bytes(ATTACH, rcv_settle_mode=b"\x50\x07")), DECODE),
+    (frame(Attach("l", 256, RECEIVER, source=source("q"))), "amqp:connection:framing-error"),
+    (frame(Attach("l", 0, SENDER, initial_delivery_count=0)), "amqp:not-found"),
     (frame(Attach("l", 0, SENDER, target=Described(Ulong(0x30), [Symbol("amqp:local-transactions")]), initial_delivery_count=0)), None),
-    (frame(with_bytes(Begin(None, 0, 9, 9), properties=keyed(array(b"\x56", b"\x01"))), 3), None), (frame(Transfer(7, 0, b"t", 0)), "amqp:session:unattached-handle"),
-    (b"".join(frame(Begin(None, 0, 9, 9), at) for at in range(1, 40)), "amqp:connection:framing-error"), (bytes(4), "amqp:connection:framing-error"),
-    (b"\xff\xff\xff\xff", "amqp:connection:framing-error"), (frame(b"\x00\x53\x99\x45"), DECODE), (sends() + sends(5), "amqp:not-allowed"), (sends(address="q" * 2000), "amqp:not-allowed"), (frame(Begin(None, 0, 9, 9)), "amqp:not-allowed"),
-]  # fmt: skip
+    (frame(with_bytes(Begin(None, 0, 9, 9), properties=keyed(array(b"\x56", b"\x01"))), 3), None),
+    (frame(Begin(None, 0, 9, 9)), "amqp:not-allowed"),
+    (b"".join(frame(Begin(None, 0, 9, 9), at) for at in range(1, 40)), "amqp:connection:framing-error"),
+    (frame(Transfer(7, 0, b"t", 0)), "amqp:session:unattached-handle"),
+    (bytes(4), "amqp:connection:framing-error"),
+    (b"\xff\xff\xff\xff", "amqp:connection:framing-error"),
+    (frame(b"\x00\x53\x99\x45"), DECODE),
+    (sends() + sends(5), "amqp:not-allowed"),
+    (sends(address="q" * 2000), "amqp:not-allowed"),
+]
 #: What a client sends that has a sender and a receiver, and one message from each side
 LINKED = [
-    (frame(with_bytes(Disposition(RECEIVER, 0, settled=True), state=compound(0xD0, [b"\x43"]))), DECODE), (frame(with_bytes(Disposition(RECEIVER, 0, settled=True), state=b"\x43")), DECODE),
-    (frame(with_bytes(Disposition(RECEIVER, 0), state=b"\x00\x53\x24" + compound(0xD0, [b"\x73\x00\x11\x00\x00"]))), DECODE), (frame(Disposition(SENDER, 0, 99, settled=True)), None),
-    (frame(Transfer(0, None, None, 0), 0, b"x"), "amqp:invalid-field"), (frame(Transfer(0, 1, bytes(33), 0), 0, b"x"), "amqp:invalid-field"),
-    (b"".join(frame(Transfer(0, 1 if at == 0 else None, b"t", 0, more=True), 0, bytes(60000)) for at in range(20)), "amqp:link:message-size-exceeded"),
-    (b"".join(frame(Transfer(0, 1, b"t", 0, more=True), 0, b"") for at in range(20)) + frame(Transfer(0, 1, b"t", aborted=True)), None),
-]  # fmt: skip
+    (frame(with_bytes(Disposition(RECEIVER, 0, settled=True), state=compound(0xD0, [b"\x43"]))), DECODE),
+    (frame(with_bytes(Disposition(RECEIVER, 0, settled=True), state=b"\x43")), DECODE),
+    (frame(with_bytes(Disposition(RECEIVER, 0), state=b"\x00\x53\x24" + compound(0xD0, [b"\x73\x00\x11\x00\x00"]))), DECODE),
+    (frame(Disposition(SENDER, 0, 99, settled=True)), None),
+    (frame(Transfer(0, None, None, 0), 0, b"x"), "amqp:invalid-field"),
+    (frame(Transfer(0, 1, bytes(33), 0), 0, b"x"), "amqp:invalid-field"),
+    (b"".join(frame(Transfer(0, None if at else 1, b"t", 0, more=True), 0, bytes(60000)) for at in range(20)), "amqp:link:message-size-exceeded"),
+    (frame(Transfer(0, 1, b"t", 0, more=True)) * 20 + frame(Transfer(0, 1, b"t", aborted=True)), None),
+]
 
 
 async def condition_after(peer, said):
@@ -364,7 +378,8 @@ async def released_messages_come_again_in_their_order():
         peer.send(*[transfer(at, data(b"%d" % at), settled=True) for at in range(3)], EMPTY)
         for _ in range(3):
             await peer.until(0x14)
-        peer.send(frame(Disposition(RECEIVER, 0, settled=True, state=RELEASED)), frame(Disposition(RECEIVER, 1, settled=True, state=Described(Symbol("amqp:released:list"), []))))
+        named = Described(Symbol("amqp:released:list"), [])
+        peer.send(*[frame(Disposition(RECEIVER, at, settled=True, state=it)) for at, it in enumerate((RELEASED, named))])
         peer.send(frame(Disposition(RECEIVER, 2, settled=True, state=ACCEPTED)), frame(Detach(1, True)), receives(2, name="again", credit=3))
         came = [(await asyncio.wait_for(peer.until(0x14), PATIENCE))[-1:] for _ in range(2)]
         assert sorted(came) == [b"0", b"1"], came

@@ -77,7 +77,8 @@ async def what_cannot_be_read_is_refused_in_its_place():
 
 @test
 async def an_open_that_cannot_be_read_is_refused_in_its_place():
-    for said in (with_bytes(Open("x"), properties=compound(0xD1, [b"\xa3\x01a", b"\xa1\x01\xff"])), with_bytes(Open("x"), properties=compound(0xD1, [b"\xa3\x01a", b"\xe0\x01\x00"]))):
+    for value in (b"\xa1\x01\xff", b"\xe0\x01\x00", b"\x73\x00\x11\x00\x00"):
+        said = with_bytes(Open("x"), properties=compound(0xD1, [b"\xa3\x01a", value]))
         engine = Engine(Open("server"))
         engine.open()
         came = list(engine.receive(frame(said)))
