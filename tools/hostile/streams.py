@@ -339,19 +339,23 @@ async def what_is_missed_is_told_and_ends_the_connection():
 
 @test
 async def no_socket_stays_where_no_connection_can_be_made():
+    gone, kept, told = [], [], []
+
     async def quiet(peer):
         await peer.over()
+        gone.append(peer)
         peer.gone()
 
     server, port = await listens(quiet)
-    before, told = len(os.listdir("/proc/self/fd")), []
+    before = len(os.listdir("/proc/self/fd"))
     for _ in range(5):
         try:
             async with connect("127.0.0.1", port, Open("client"), key=b"short"):
                 pass
-        except ValueError:
-            continue
-        raise AssertionError("a key")
+        except ValueError as error:
+            # an error that is kept keeps the stream, if nobody closed it
+            kept.append(error)
+    assert len(kept) == 5 and await holds(lambda: len(gone) == 5), (kept, gone)
     for fails in (lambda: 1 / 0, lambda: Open("x" * 300, max_frame_size=1)):
         served = await serve("127.0.0.1", 0, fails, quiet, told=told.append, key=b"short")
         peer = await Raw.to(served.sockets[0].getsockname()[1])
