@@ -66,7 +66,8 @@ class Engine:
         # received bytes that the engine was not given yet, and how many of the first ones it was
         self._came: Deque[bytes] = deque()
         self._at = self._told_missed = 0
-        # the refusal that comes after the events that wait
+        # whether received frames may have left events that nobody took yet, and the refusal that comes after them
+        self._is_to_look = False
         self._refused: Optional[Refusal] = None
         #: Whether a frame had no lawful size: nothing more can be read
         self.is_broken = False
@@ -217,9 +218,11 @@ class Engine:
 
     def _take_all(self) -> Iterator[Union[AnyEvent, Refusal]]:
         while True:
-            yield from self._opened()
-            yield from self.events()
-            self._judge_missed()
+            if self._is_to_look:
+                yield from self._opened()
+                yield from self.events()
+                self._is_to_look = False
+                self._judge_missed()
             if self._refused is not None:
                 refused, self._refused = self._refused, None
                 yield refused
@@ -232,6 +235,7 @@ class Engine:
         """Gives the engine of what came as much as it takes at once: up to a frame that is refused or leaves events."""
         data = self._came[0]
         start = ctypes.cast(ctypes.c_char_p(data), ctypes.c_void_p).value or 0
+        self._is_to_look = True
         status, taken = self._call(_RECEIVE, start + self._at, len(data) - self._at)
         self._at += taken
         if self._at == len(data):
