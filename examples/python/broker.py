@@ -1,100 +1,130 @@
 #!/usr/bin/env python3
-"""A broker in memory: one queue for each address, credit, settlement, both settle modes, messages of any length.
+"""A broker in memory: one queue for each address, credit, settlement, both settle modes, messages of up to a million bytes.
 
     examples/python/broker.py PORT [--user USER:PASSWORD] [--clients N]
 
 It listens on loopback, and serves any client of AMQP 1.0. A message goes back to its queue where its receiver releases it, or goes without settling it.
-With `--clients N` it ends when so many have come and gone.
+Where a queue is full, its senders get no credit, and what they send all the same is rejected. With `--clients N` it ends when so many have come and gone.
 """
 
 import argparse
 import asyncio
 import contextlib
+import hmac
 import sys
-from collections import deque
-from dataclasses import dataclass, field
 from pathlib import Path
 
 sys.path.insert(0, str(Path(__file__).resolve().parents[2] / "bindings" / "python"))
 
 from amqp_engine import (
     ACCEPTED, RECEIVER, SECOND, SENDER, SETTLED, Attach, Attached, Begin, Detach, Detached, Disposed, Disposition, Error, Flow, Flowed, Open,
-    Refusal, SessionEnded, Transfer, Transferred, address_of, serve,
+    Refusal, Room, SessionEnded, Transfer, Transferred, address_of, condition_of, rejected, serve,
 )  # fmt: skip
+from queues import MESSAGE_MOST, Queues
 
 CREDIT, WINDOW = 200, 2048
-RELEASED, MODIFIED = 0x26, 0x27
+CHANNEL_MAX, HANDLE_MAX, NAME_MOST = 31, 255, 1024
+#: How many deliveries of a session may be open in each direction: events have room for them, so that no disposition is missed
+OPEN_MOST = 1024
+#: How many bytes of messages a client may have here that are not whole, leave unread, and leave unsettled
+PARTS_MOST, UNREAD_MOST, UNSETTLED_MOST = 8 << 20, 256 << 10, 4 << 20
+RELEASED, MODIFIED = (0x26, "amqp:released:list"), (0x27, "amqp:modified:list")
 
 
-@dataclass
-class Queue:
-    """Messages that wait, and the links that want some."""
+class Fault(Exception):
+    """What a client did wrong on a link, which is detached for it."""
 
-    messages: deque = field(default_factory=deque)
-    links: list = field(default_factory=list)
-
-
-class Broker:
-    """All queues, by their address."""
-
-    def __init__(self):
-        self.queues = {}
-
-    def queue(self, address):
-        return self.queues.setdefault(address, Queue())
-
-    def hand_out(self, queue):
-        """Messages go to the links that have credit, in turn. Answers the clients that have something to send."""
-        awake = set()
-        while queue.messages:
-            link = next((it for it in queue.links if it.credit > 0), None)
-            if link is None:
-                break
-            queue.links.remove(link)
-            queue.links.append(link)
-            link.send(queue.messages.popleft())
-            awake.add(link.client)
-        return awake
+    def __init__(self, condition, description):
+        super().__init__(description)
+        self.error = Error(condition, description)
 
 
 class Incoming:
     """A link on which a client sends."""
 
-    def __init__(self, client, event, queue, second):
-        self.client, self.queue, self.second = client, queue, second
-        self.session, self.input, self.output = event.session, event.input_handle, client.outputs[event.session, event.attach.name, SENDER]
-        self.count, self.credit, self.parts, self.number, self.settled = event.attach.initial_delivery_count or 0, 0, [], None, False
+    def __init__(self, client, event, output, queue):
+        self.client, self.queue, self.second = client, queue, event.attach.rcv_settle_mode == SECOND
+        self.session, self.input, self.output = event.session, event.input_handle, output
+        # of deliveries that the client is to settle, the numbers by their tags
+        self.count, self.credit, self.owed = event.attach.initial_delivery_count or 0, 0, {}
+        self.begin_anew()
+
+    def begin_anew(self):
+        self.body, self.number, self.tag, self.settled = bytearray(), None, None, False
 
     def grant(self):
-        if self.credit <= CREDIT // 2:
-            self.credit = CREDIT
-            self.client.engine.flow(self.session, Flow(handle=self.output, delivery_count=self.count, link_credit=CREDIT))
+        if self.credit > CREDIT // 2 or self.client.links.get((self.session, self.input)) is not self:
+            return
+        if not self.queue.has_room():
+            self.queue.senders[self] = None
+            return
+        self.credit = CREDIT
+        self.client.ask(Flow(handle=self.output, delivery_count=self.count, link_credit=CREDIT), self.session)
 
     def take(self, event):
         transfer = event.transfer
-        if transfer.delivery_id is not None:
-            self.number = transfer.delivery_id
+        if self.number is None:
+            self.take_first(transfer)
         self.settled = self.settled or bool(transfer.settled)
-        self.parts.append(event.payload)
+        self.body += event.payload
+        self.client.parts += len(event.payload)
+        self.judge()
         if transfer.more and not transfer.aborted:
             return
-        if not transfer.aborted:
-            self.queue.messages.append(b"".join(self.parts))
-            if not self.settled:
-                # where the receiver settles second, the client settles what this side has told, and then it is over
-                said = Disposition(RECEIVER, self.number, settled=not self.second, state=ACCEPTED)
-                self.client.engine.disposition(self.session, said)
-        self.parts, self.settled, self.count, self.credit = [], False, (self.count + 1) % 2**32, self.credit - 1
+        if transfer.aborted:
+            self.client.settle(self.session, RECEIVER, self.number)
+        else:
+            self.put(bytes(self.body))
+        self.client.parts -= len(self.body)
+        self.count, self.credit = (self.count + 1) % 2**32, self.credit - 1
+        self.begin_anew()
         self.grant()
+
+    def take_first(self, transfer):
+        if transfer.delivery_id is None:
+            raise Fault("amqp:invalid-field", "the first transfer of a delivery without its delivery-id")
+        if len(transfer.delivery_tag or b"") > 32:
+            raise Fault("amqp:invalid-field", "a delivery-tag of more than 32 bytes")
+        if self.credit == 0:
+            raise Fault("amqp:link:transfer-limit-exceeded", "no credit")
+        self.number, self.tag = transfer.delivery_id, transfer.delivery_tag
+
+    def judge(self):
+        if len(self.body) > MESSAGE_MOST:
+            raise Fault("amqp:link:message-size-exceeded", f"a message has at most {MESSAGE_MOST} bytes")
+        if self.client.parts > PARTS_MOST or self.client.owed.get(self.session, 0) >= OPEN_MOST:
+            raise Fault("amqp:resource-limit-exceeded", "too much that is not whole, or not settled")
+
+    def put(self, message):
+        state = ACCEPTED if self.queue.put(message) else rejected(Error("amqp:resource-limit-exceeded", "the queue is full"))
+        if self.settled:
+            return
+        # where the receiver settles second, the client settles what this side has told, and then it is over
+        if self.second:
+            self.owed[self.tag] = self.number
+            self.client.owed[self.session] = self.client.owed.get(self.session, 0) + 1
+        self.client.engine.disposition(self.session, Disposition(RECEIVER, self.number, settled=not self.second, state=state))
+
+    def settle(self, event):
+        if event.settled and self.owed.pop(event.tag, None) is not None:
+            self.client.owed[self.session] -= 1
+
+    def drop(self):
+        self.client.parts -= len(self.body)
+        self.queue.senders.pop(self, None)
+        for number in [*self.owed.values(), *([] if self.number is None else [self.number])]:
+            self.client.settle(self.session, RECEIVER, number)
+        self.client.owed[self.session] = self.client.owed.get(self.session, 0) - len(self.owed)
 
 
 class Outgoing:
     """A link on which a client receives."""
 
-    def __init__(self, client, event, queue):
+    def __init__(self, client, event, output, queue):
         self.client, self.queue = client, queue
-        self.session, self.input, self.output = event.session, event.input_handle, client.outputs[event.session, event.attach.name, RECEIVER]
+        self.session, self.input, self.output = event.session, event.input_handle, output
         self.settles = event.attach.snd_settle_mode == SETTLED
+        # messages that are not settled, with the numbers of their deliveries, by their tags
         self.count, self.credit, self.open = 0, 0, {}
 
     def take_flow(self, flow):
@@ -102,67 +132,141 @@ class Outgoing:
         if flow.link_credit is not None:
             left = ((flow.delivery_count or 0) + flow.link_credit - self.count) % 2**32
             self.credit = left if left <= flow.link_credit else 0
-        return flow
+        self.want()
+
+    def want(self):
+        if self.credit and self not in self.client.parked:
+            self.queue.ready[self] = None
+        elif not self.credit:
+            self.leave()
+
+    def leave(self):
+        self.queue.ready.pop(self, None)
+        self.client.parked.pop(self, None)
 
     def answer(self, flow):
         """What is drained is used up; a flow that asks for one is answered."""
         if flow.drain:
             self.count, self.credit = (self.count + self.credit) % 2**32, 0
+            self.leave()
         if flow.drain or flow.echo:
             said = Flow(handle=self.output, delivery_count=self.count, link_credit=self.credit, drain=flow.drain)
             self.client.engine.flow(self.session, said)
 
     def send(self, message):
+        """Sends a message; where that is refused, it comes back, and the client is closed. Answers whether it was sent."""
         tag = self.count.to_bytes(4, "big") + self.input.to_bytes(4, "big")
         transfer = Transfer(self.output, delivery_tag=tag, message_format=0, settled=self.settles)
-        self.client.engine.deliver(self.session, self.input, transfer, message)
+        try:
+            number = self.client.deliver(self, transfer, message)
+        except Refusal as refusal:
+            self.queue.messages.appendleft(message)
+            self.client.fail(refusal)
+            return False
         self.count, self.credit = (self.count + 1) % 2**32, self.credit - 1
-        if not self.settles:
-            self.open[tag] = message
-
-    def settle(self, event):
-        """The client's word on a message: it is gone, or comes back. Answers whether it came back."""
-        code = event.state.descriptor if event.state else None
-        if not event.settled and event.state is None:
-            return False
-        message = self.open.pop(event.tag, None)
-        if message is None or code not in (RELEASED, MODIFIED):
-            return False
-        self.queue.messages.appendleft(message)
+        if self.settles:
+            self.queue.forget(message)
+        else:
+            self.open[tag] = number, message
         return True
 
-    def give_back(self):
-        self.queue.messages.extendleft(reversed(self.open.values()))
-        self.open = {}
-        if self in self.queue.links:
-            self.queue.links.remove(self)
+    def settle(self, event):
+        """The client's word on a message: it is gone, or comes back."""
+        code = event.state.descriptor if event.state else None
+        if event.tag not in self.open or not (event.settled or event.state):
+            return
+        message = self.close(event.tag)
+        if code in RELEASED or code in MODIFIED:
+            self.queue.messages.appendleft(message)
+        else:
+            self.queue.forget(message)
+
+    def close(self, tag):
+        """A delivery is open no longer."""
+        number, message = self.open.pop(tag)
+        self.client.open[self.session] -= 1
+        self.client.unsettled -= len(message)
+        self.client.settle(self.session, SENDER, number)
+        return message
+
+    def drop(self):
+        self.leave()
+        self.queue.messages.extendleft([self.close(tag) for tag in reversed(list(self.open))])
 
 
 class Client:
     """One client, and its links by session and handle."""
 
-    def __init__(self, broker, connection):
-        self.broker, self.connection, self.engine = broker, connection, connection.engine
-        self.links, self.outputs, self.awake = {}, {}, set()
+    def __init__(self, queues, connection):
+        self.queues, self.connection, self.engine = queues, connection, connection.engine
+        self.links, self.parked, self.is_closing = {}, {}, False
+        # bytes of messages that are not whole, and of those that are not settled
+        self.parts = self.unsettled = 0
+        # by session: deliveries that the client is to settle, on each side; the number of the next one; and how many transfers had gone out when one did not
+        self.open, self.owed, self.numbers, self.held = {}, {}, {}, {}
 
     async def serve(self):
         self.engine.open()
+        writer = asyncio.ensure_future(self.write())
         try:
             async for event in self.connection:
                 self.take(event)
-                await self.wake()
         finally:
-            for link in list(self.links.values()):
-                self.drop(link)
-            await self.wake()
+            writer.cancel()
+            self.drop(*self.links.values())
 
-    async def wake(self):
-        """Other clients whose links were given messages send them."""
-        awake, self.awake = self.awake - {self}, set()
-        for client in awake:
-            with contextlib.suppress(ConnectionError, RuntimeError):
-                # one that has gone gives its messages back itself
-                await client.connection.flush()
+    async def write(self):
+        """Waits for the client to read, whoever had something sent to it; then it may be handed out more."""
+        with contextlib.suppress(ConnectionError):
+            while True:
+                await self.connection.went.wait()
+                self.connection.went.clear()
+                await self.connection.drain()
+                self.refill()
+
+    def refill(self):
+        parked, self.parked = self.parked, {}
+        for link in parked:
+            link.want()
+            link.queue.hand_out()
+
+    def can_take(self, session):
+        """Whether the client reads what it has, its window let the last message go out, and it has not left too many unsettled."""
+        is_held = self.held.get(session) == self.connection.server.transfers(session)
+        is_full = self.open.get(session, 0) >= OPEN_MOST or self.unsettled >= UNSETTLED_MOST or self.connection.unsent >= UNREAD_MOST
+        return not (is_held or is_full or self.is_closing)
+
+    def deliver(self, link, transfer, message):
+        """Has a message go out, and answers the number of its delivery."""
+        before = self.connection.server.transfers(link.session)
+        self.engine.deliver(link.session, link.input, transfer, message)
+        number = self.numbers.get(link.session, 0)
+        self.numbers[link.session] = (number + 1) % 2**32
+        self.open[link.session] = self.open.get(link.session, 0) + (not link.settles)
+        self.unsettled += 0 if link.settles else len(message)
+        self.push()
+        self.held[link.session] = before if self.connection.server.transfers(link.session) == before else None
+        return number
+
+    def push(self):
+        """What was asked goes out, whoever's turn it is."""
+        try:
+            self.connection.push()
+        except Refusal as refusal:
+            self.fail(refusal)
+
+    def ask(self, flow, session):
+        """A flow goes out, whoever's turn it is."""
+        try:
+            self.engine.flow(session, flow)
+        except Refusal as refusal:
+            self.fail(refusal)
+        self.push()
+
+    def settle(self, session, role, number):
+        """A delivery is let go; where its session has gone, it has gone with it."""
+        with contextlib.suppress(Refusal):
+            self.engine.settle(session, role, number)
 
     def take(self, event):
         try:
@@ -172,8 +276,9 @@ class Client:
 
     def fail(self, refusal):
         """A client that breaks the protocol is told so, and closed."""
+        self.is_closing = True
         with contextlib.suppress(Refusal):
-            self.engine.close(Error(refusal.condition or "amqp:internal-error", refusal.name))
+            self.engine.close(Error(condition_of(refusal), refusal.name))
 
     def take_of(self, event):
         if isinstance(event, Refusal):
@@ -181,31 +286,45 @@ class Client:
         elif isinstance(event, Attached):
             self.attached(event)
         elif isinstance(event, SessionEnded):
-            for key in [it for it in self.links if it[0] == event.session]:
-                self.drop(self.links[key])
-        elif (link := self.links.get((event.session, event.input_handle))) is None:
-            return
-        elif isinstance(event, Transferred):
-            link.take(event)
-            self.awake |= self.broker.hand_out(link.queue)
+            self.ended(event.session)
+        elif (link := self.links.get((event.session, event.input_handle))) is not None:
+            self.take_of_link(link, event)
+        elif isinstance(event, Transferred) and event.transfer.delivery_id is not None:
+            # on its way when the link was detached
+            self.settle(event.session, RECEIVER, event.transfer.delivery_id)
+
+    def take_of_link(self, link, event):
+        if isinstance(event, Transferred) and isinstance(link, Incoming):
+            self.received(link, event)
         elif isinstance(event, Flowed) and isinstance(link, Outgoing):
-            flow = link.take_flow(event.flow)
-            self.awake |= self.broker.hand_out(link.queue)
-            link.answer(flow)
-        elif isinstance(event, Disposed) and isinstance(link, Outgoing) and link.settle(event):
-            self.awake |= self.broker.hand_out(link.queue)
+            link.take_flow(event.flow)
+            link.queue.hand_out()
+            link.answer(event.flow)
+        elif isinstance(event, Disposed):
+            link.settle(event)
+            link.queue.hand_out()
+            if self.parked:
+                self.connection.went.set()
         elif isinstance(event, Detached):
             self.drop(link)
             self.engine.detach(event.session, Detach(link.output, closed=event.detach.closed), expects_answer=False)
 
+    def received(self, link, event):
+        try:
+            link.take(event)
+        except Fault as fault:
+            self.drop(link)
+            self.engine.detach(link.session, Detach(link.output, True, fault.error))
+        link.queue.hand_out()
+
     def attached(self, event):
-        theirs = event.attach
+        theirs, output = event.attach, self.connection.server.output_of(event)
         address = address_of(theirs.target if theirs.role == SENDER else theirs.source)
-        output = self.connection.server.output_of(event)
-        self.outputs[event.session, theirs.name, theirs.role] = output
+        if len(theirs.name) + len(address or "") > NAME_MOST:
+            raise Refusal("NameTooLong", "amqp:not-allowed")
         mine = Attach(
             theirs.name, output, not theirs.role, theirs.snd_settle_mode, theirs.rcv_settle_mode, theirs.source, theirs.target,
-            initial_delivery_count=0 if theirs.role == RECEIVER else None,
+            initial_delivery_count=0 if theirs.role == RECEIVER else None, max_message_size=MESSAGE_MOST,
         )  # fmt: skip
         if address is None:
             # an attach without the terminus, and a detach that says why (AMQP 1.0 part 2, section 2.6.3)
@@ -214,20 +333,27 @@ class Client:
             self.engine.detach(event.session, Detach(output, True, Error("amqp:not-found", "no address")))
             return
         self.connection.server.attach(event.session, mine)
-        queue = self.broker.queue(address)
-        if theirs.role == SENDER:
-            link = Incoming(self, event, queue, theirs.rcv_settle_mode == SECOND)
-            link.grant()
-        else:
-            link = Outgoing(self, event, queue)
-            queue.links.append(link)
+        link = (Incoming if theirs.role == SENDER else Outgoing)(self, event, output, self.queues[address])
+        link.queue.attach()
         self.links[event.session, event.input_handle] = link
+        if isinstance(link, Incoming):
+            link.grant()
 
-    def drop(self, link):
-        self.links.pop((link.session, link.input), None)
-        if isinstance(link, Outgoing):
-            link.give_back()
-            self.awake |= self.broker.hand_out(link.queue)
+    def ended(self, session):
+        self.drop(*(link for link in self.links.values() if link.session == session))
+        for of_session in (self.open, self.owed, self.numbers, self.held):
+            of_session.pop(session, None)
+
+    def drop(self, *links):
+        """Links are gone, all of them before their messages go to others."""
+        for link in links:
+            del self.links[link.session, link.input]
+            link.drop()
+        for link in links:
+            link.queue.hand_out()
+            link.queue.detach()
+        if self.parked:
+            self.connection.went.set()
 
 
 async def main():
@@ -236,24 +362,25 @@ async def main():
     parser.add_argument("--user")
     parser.add_argument("--clients", type=int)
     said = parser.parse_args()
-    broker, gone = Broker(), asyncio.Semaphore(0)
+    queues, gone = Queues(), asyncio.Semaphore(0)
 
     async def handle(connection):
         try:
-            await Client(broker, connection).serve()
+            await Client(queues, connection).serve()
         finally:
             gone.release()
 
     def check(user, password):
-        return f"{user}:{password}" == said.user
+        return hmac.compare_digest(f"{user}:{password}".encode(), said.user.encode())
 
     def opened():
-        return Open("broker", max_frame_size=65536, channel_max=255, idle_time_out=60000)
+        return Open("broker", max_frame_size=65536, channel_max=CHANNEL_MAX, idle_time_out=60000)
 
-    begin = Begin(incoming_window=WINDOW, outgoing_window=WINDOW)
-    server = await serve("127.0.0.1", said.port, opened, handle, begin=begin, check=check if said.user else None)
+    begin = Begin(incoming_window=WINDOW, outgoing_window=WINDOW, handle_max=HANDLE_MAX)
+    how = {"begin": begin, "check": check if said.user else None, "room": Room(dispositions=2 * OPEN_MOST)}
+    server = await serve("127.0.0.1", said.port, opened, handle, **how)
     async with server:
-        print(f"listens on 127.0.0.1:{said.port}", flush=True)
+        print(f"listens on 127.0.0.1:{server.sockets[0].getsockname()[1]}", flush=True)
         for _ in range(said.clients or sys.maxsize):
             await gone.acquire()
 

@@ -14,11 +14,14 @@ from pathlib import Path
 sys.path.insert(0, str(Path(__file__).resolve().parents[2] / "bindings" / "python"))
 
 from amqp_engine import (
-    ACCEPTED, RECEIVER, SENDER, Anonymous, Attach, Attached, Detach, Detached, Disposed, Disposition, Flow, Flowed, Open, Plain, Refusal, Transfer,
-    Transferred, body_of, connect, data, source, target,
+    ACCEPTED, RECEIVER, SENDER, Anonymous, Attach, Attached, Detach, Detached, Disposed, Disposition, Flow, Flowed, Missed, Open, Plain, Refusal, Room,
+    Transfer, Transferred, body_of, connect, data, source, target,
 )  # fmt: skip
 
 SESSION = 0
+#: How many messages may be unsettled: events have room for the dispositions of all of them
+UNSETTLED_MOST = 1024
+ROOM = Room(dispositions=2 * UNSETTLED_MOST)
 
 
 class Link:
@@ -53,12 +56,14 @@ async def send(connection, address, messages):
     await next_event(connection, Attached, link)
     credit, sent, settled = 0, 0, 0
     while settled < len(messages):
-        while credit and sent < len(messages):
+        while credit and sent < min(len(messages), settled + UNSETTLED_MOST):
             transfer = Transfer(link.output, delivery_tag=sent.to_bytes(4, "big"), message_format=0, settled=False)
             connection.engine.deliver(SESSION, link.input, transfer, data(messages[sent]))
             credit, sent = credit - 1, sent + 1
         event = await next_event(connection, (Flowed, Disposed), link)
         if isinstance(event, Disposed):
+            if event.state not in (None, ACCEPTED):
+                sys.exit(f"the peer does not take a message: {event.state}")
             settled += event.settled or event.state == ACCEPTED
         elif event.flow.link_credit is not None:
             credit = max(0, (event.flow.delivery_count or 0) + event.flow.link_credit - sent)
@@ -96,7 +101,7 @@ async def main():
     said = parser.parse_args()
     login = Plain(*said.sasl.split(":", 1)) if said.sasl else Anonymous()
     messages = [b"%08d" % at + bytes(max(0, said.size - 8)) for at in range(said.messages)]
-    async with connect(said.host, said.port, Open("send_receive", hostname=said.host, idle_time_out=60000), login=login) as connection:
+    async with connect(said.host, said.port, Open("send_receive", hostname=said.host, idle_time_out=60000), login=login, room=ROOM) as connection:
         connection.engine.open()
         await connection.session(SESSION)
         for link in (await send(connection, said.address, messages), await receive(connection, said.address, messages)):
@@ -109,5 +114,5 @@ async def main():
 if __name__ == "__main__":
     try:
         asyncio.run(main())
-    except (OSError, Refusal) as error:
+    except (OSError, Refusal, Missed) as error:
         sys.exit(f"send_receive: {error}")

@@ -6,20 +6,19 @@ Two engines talk in memory, and over sockets on loopback; each call is made once
 
 import os
 import sys
-import uuid
 from pathlib import Path
 
 sys.path.insert(0, str(Path(__file__).resolve().parents[1]))
 sys.path.insert(0, str(Path(__file__).resolve().parents[2] / "bindings" / "python"))
 
 from amqp_engine import (
-    ACCEPTED, FIRST, RECEIVER, RELEASED, SECOND, SENDER, SETTLED, Array, Attach, BadArgument, Begin, Close, Closed, Described, Detach, Detached,
-    Disposed, Disposition, Engine, Error, Flow, Flowed, Malformed, Open, Refusal, Room, Server, SessionBegan, SessionEnded, Symbol, Transfer,
-    Transferred, Ubyte, Uint, Ulong, Ushort, address_of, body_of, data, rejected, source, target,
+    ACCEPTED, FIRST, RECEIVER, RELEASED, SECOND, SENDER, Attach, BadArgument, Begin, Closed, Detach, Detached, Disposed, Disposition, Engine,
+    Error, Flow, Flowed, Missed, Open, Refusal, Room, Server, SessionBegan, SessionEnded, Transfer, Transferred, address_of, data, source,
+    target,
 )  # fmt: skip
-from amqp_engine.values import Byte, Char, Float, Int, Short, Timestamp, read, write
 from shared.command import command
 from try_c.try_c_sockets import OPEN, TESTS as OVER_SOCKETS
+from try_c.try_c_values import TESTS as OF_VALUES
 
 TESTS = []
 
@@ -67,43 +66,6 @@ def mapped(**how):
     came = pair.carry()
     assert came == ([], [SessionBegan(0, None, None, Begin(None, 0, 8, 8))]), came
     return pair
-
-
-# ---- values
-
-
-@test
-def values_are_read_as_they_were_written():
-    for value in [
-        None, True, False, Ubyte(3), Ushort(300), Uint(0), Uint(255), Uint(256), Ulong(0), Ulong(7), Ulong(2**63), Byte(-1), Short(-300), Int(-1),
-        Int(70000), -5, 2**40, Timestamp(12345), 1.5, Float(1.5), uuid.uuid4(), Symbol("abc"), "x" * 300, b"a" * 255, b"b" * 256, [], [1, "a", [None]],
-        {Symbol("k"): 3}, Described(Ulong(0x24), []), Array([Symbol("a"), Symbol("b" * 300)]), Array([Uint(1), Uint(2)]), Char("x"), ["x" * 252],
-        ["x" * 253],
-    ]:  # fmt: skip
-        of = write(value)
-        assert read(of) == (value, len(of)) and type(read(of)[0]) is type(value), (value, of)
-
-
-@test
-def what_is_no_value_is_malformed():
-    for of in [b"", b"\x56\x02", b"\xa1\x05ab", b"\xc0\x02\x01", b"\xff\x00\x00\x00\x00", b"\x00" * 100, b"\xc1\x03\x01\x40\x40", b"\xa1\x01\xff", b"\xe0\x02\x05\x52", b"\xf0\x00\x00\x00\x05\xff\xff\xff\xff\x40"]:
-        try:
-            read(of)
-        except Malformed:
-            continue
-        raise AssertionError(of)
-
-
-@test
-def performatives_are_read_as_they_were_written():
-    for it in [
-        Open("me", "host", 1024, 7, 1000, None, None, ["a", "b"], "c", {Symbol("x"): "y"}), Begin(3, 1, 2, 4, 5), Flow(1, 2, 3, 4, 5, 6, 7, 8, True, False),
-        Attach("q", 0, SENDER, SETTLED, SECOND, source("a"), target(), {}, True, 9, 2**40), Transfer(0, 1, b"t", 0, True, True, SECOND, ACCEPTED, False, False, True),
-        Disposition(RECEIVER, 3, 5, True, rejected(Error("amqp:not-found"))), Detach(3, True, Error("amqp:internal-error", "no", {})), Close(Error("a:b")),
-    ]:  # fmt: skip
-        assert type(it).decode(it.encode()) == it, it
-    assert Open("a").encode() == bytes.fromhex("005310c00401a10161") and Close().encode() == bytes.fromhex("00531845")
-    assert body_of(data(b"hello")) == b"hello" and address_of(target("q")) == "q" and address_of(source()) is None
 
 
 # ---- two engines
@@ -270,8 +232,31 @@ def events_past_their_room_are_refused_or_counted():
         pair.client.transfer(0, answer.input_handle, Transfer(handle, delivery_tag=tag, settled=False), b"x")
     pair.carry()
     pair.server.engine.disposition(0, Disposition(RECEIVER, 0, 1, settled=True, state=ACCEPTED))
-    assert [it.tag for it in pair.carry()[0]] == [b"a"]
-    assert pair.client.missed == 1 and pair.server.engine.missed == 0
+    told = pair.client.receive(pair.server.to_send())
+    assert next(told).tag == b"a"
+    try:
+        next(told)
+    except Missed as missed:
+        assert missed.count == pair.client.missed == 1 and pair.server.engine.missed == 0
+        assert list(pair.client.receive(b"")) == []
+        return
+    raise AssertionError("nobody was told")
+
+
+@test
+def what_an_iterator_leaves_the_next_one_gives():
+    for side in (lambda pair: pair.server, lambda pair: pair.server.engine):
+        pair = mapped()
+        handle, event, mine, answer = pair.attached()
+        pair.server.engine.flow(0, Flow(handle=mine, delivery_count=0, link_credit=5))
+        pair.carry()
+        for at in range(5):
+            pair.client.transfer(0, answer.input_handle, Transfer(handle, delivery_tag=bytes([at]), settled=True), bytes([at]))
+        came, left = pair.client.to_send(), []
+        left.append(next(side(pair).receive(came[:-3])))
+        side(pair).receive(came[-3:])
+        left += side(pair).receive(b"")
+        assert [it.payload for it in left] == [bytes([at]) for at in range(5)], left
 
 
 @test
@@ -343,7 +328,7 @@ def main():
     if len(sys.argv) != 2:
         sys.exit(__doc__.strip())
     os.environ["AMQP_LIBRARY"] = str(Path(sys.argv[1]).resolve())
-    failed, tests = 0, TESTS + OVER_SOCKETS
+    failed, tests = 0, OF_VALUES + TESTS + OVER_SOCKETS
     for it in tests:
         try:
             it()

@@ -95,14 +95,14 @@ def a_silent_peer_is_ended_and_a_quiet_one_is_kept():
     async def both(limit):
         """A server whose Open asks for frames, and a client that asks for some itself."""
         server = await serve("127.0.0.1", 0, lambda: Open("s", idle_time_out=limit), quiet)
-        async with server, connect("127.0.0.1", server.sockets[0].getsockname()[1], Open("c", idle_time_out=200)) as connection:
+        async with server, connect("127.0.0.1", server.sockets[0].getsockname()[1], Open("c", idle_time_out=800)) as connection:
             connection.engine.open()
             waited = asyncio.ensure_future(connection.__anext__())
-            done, _ = await asyncio.wait([waited], timeout=1)
+            done, _ = await asyncio.wait([waited], timeout=2)
             return [type(it.exception()) for it in done] or waited.cancel()
 
     # the client is kept alive by its own empty frames, and hears the server's as long as that beats too
-    assert asyncio.run(both(200)) is True
+    assert asyncio.run(both(800)) is True
     assert asyncio.run(both(None)) is True
 
     async def mute():

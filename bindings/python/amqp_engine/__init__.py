@@ -12,14 +12,16 @@
 """
 
 from .engine import BadArgument, Engine, NoMemory, Room
-from .events import AnyEvent, Attached, Detached, Disposed, Event, Flowed, Refusal, Transferred
+from .events import AnyEvent, Attached, Detached, Disposed, Event, Flowed, Missed, Refusal, Transferred
+from .listening import connect, serve
 from .performatives import (
     ACCEPTED, FIRST, MIXED, RECEIVER, RELEASED, SECOND, SENDER, SETTLED, UNSETTLED, Attach, Begin, Close, Detach, Disposition, End, Error, Flow, Open,
     Transfer, address_of, body_of, data, rejected, source, target,
 )  # fmt: skip
 from .sasl import Anonymous, LoginRefused, Plain
 from .serving import Closed, Server, SessionBegan, SessionEnded
-from .transport import Connection, HeaderRefused, PeerSilent, connect, serve
-from .values import Array, Described, Malformed, Symbol, Ubyte, Uint, Ulong, Ushort
+from .stream import PeerSilent, Waits
+from .transport import Connection, HeaderRefused, SessionRefused, condition_of
+from .values import Array, Described, Malformed, Map, Repeated, Symbol, Ubyte, Uint, Ulong, Ushort
 
 __version__ = "0.1.0"

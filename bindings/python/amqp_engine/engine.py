@@ -5,12 +5,14 @@ from __future__ import annotations
 import ctypes
 import os
 import struct
+from collections import deque
 from dataclasses import dataclass, replace
-from typing import Iterator, List, Optional, Tuple, Union
+from typing import Deque, Iterator, List, Optional, Tuple, Union
 
 from . import library as lib
-from .events import AnyEvent, Refusal, event_of
+from .events import AnyEvent, Missed, Refusal, event_of, unreadable
 from .performatives import Attach, Begin, Detach, Disposition, Error, Flow, Open, Transfer
+from .values import Malformed
 
 (
     _RECEIVE, _OPEN, _CLOSE, _BEGIN, _END, _RELEASE, _FORGET, _LINK, _LINK_ON, _ATTACH, _DETACH, _FLOW, _TRANSFER, _DISPOSITION, _SETTLE, _SEND, _EVENT,
@@ -61,8 +63,21 @@ class Engine:
         self._place, self._written = lib.Place(), ctypes.c_size_t(0)
         self._buffer = ctypes.create_string_buffer(65536)
         self._waiting: List[bytes] = []
+        # received bytes that the engine was not given yet, and how many of the first ones it was
+        self._came: Deque[bytes] = deque()
+        self._at = self._told_missed = 0
+        # whether received frames may have left events that nobody took yet, and the refusal that comes after them
+        self._is_to_look = False
+        self._refused: Optional[Refusal] = None
+        #: Whether a frame had no lawful size: nothing more can be read
+        self.is_broken = False
+        # the peer's Open, and whether it came
+        self._theirs: Optional[Open] = None
+        self._has_theirs = False
         #: The most bytes of a frame, with its size, that this side takes
         self.max_frame_size = 2**32 - 1 if open.max_frame_size is None else open.max_frame_size
+        #: The last channel of the peer's on which this side takes frames
+        self.channel_max = 65535 if open.channel_max is None else open.channel_max
         room = room or Room()
         given = os.urandom(16) if key is None else key
         if len(given) != 16:
@@ -96,9 +111,8 @@ class Engine:
 
     @property
     def remote_open(self) -> Optional[Open]:
-        """The peer's Open, once it came."""
-        of = self._get(_REMOTE_OPEN)
-        return Open.decode(of) if of else None
+        """The peer's Open, once it came; `None` too where it was told as `Unreadable`."""
+        return self._theirs
 
     @property
     def state(self) -> str:
@@ -195,24 +209,71 @@ class Engine:
     def receive(self, data: bytes) -> Iterator[Union[AnyEvent, Refusal]]:
         """Takes received bytes, in any splitting, and gives what they bring, in order: events, and refusals of frames.
 
-        All of them are taken when the iterator has ended. After the refusal `BadSize` the stream is of no use."""
-        at, start = 0, ctypes.cast(ctypes.c_char_p(data), ctypes.c_void_p).value or 0
-        while at < len(data):
-            status, taken = self._call(_RECEIVE, start + at, len(data) - at)
-            at += taken
-            yield from self.events()
-            if status == lib.REFUSED:
-                refusal = self._refusal()
-                yield refusal
-                if refusal.name == "BadSize":
-                    return
-            elif status not in (lib.DONE, lib.EVENTS_WAIT):
-                self._judge(status)
+        The engine is given the bytes as the iterator goes on, so that what is asked in answer to an event comes before the frames after it. What an
+        iterator leaves, the next one begins with: nothing is lost, and `receive(b"")` goes on too. After the refusal `BadSize` the stream is of no use.
+        Raises `Missed` where there was no room for dispositions, after those for which there was."""
+        if data:
+            self._came.append(bytes(data))
+        return self._take_all()
 
-    def events(self) -> Iterator[AnyEvent]:
-        """The events that wait, in order; each is taken when it is given."""
+    def _take_all(self) -> Iterator[Union[AnyEvent, Refusal]]:
+        while True:
+            if self._is_to_look:
+                yield from self._opened()
+                yield from self.events()
+                self._is_to_look = False
+                self._judge_missed()
+            if self._refused is not None:
+                refused, self._refused = self._refused, None
+                yield refused
+            elif self._came:
+                self._take_some()
+            else:
+                return
+
+    def _take_some(self) -> None:
+        """Gives the engine of what came as much as it takes at once: up to a frame that is refused or leaves events."""
+        data = self._came[0]
+        start = ctypes.cast(ctypes.c_char_p(data), ctypes.c_void_p).value or 0
+        self._is_to_look = True
+        status, taken = self._call(_RECEIVE, start + self._at, len(data) - self._at)
+        self._at += taken
+        if self._at == len(data):
+            self._came.popleft()
+            self._at = 0
+        if status == lib.REFUSED:
+            self._refused = self._refusal()
+            if self._refused.name == "BadSize":
+                self.is_broken = True
+                self._came.clear()
+                self._at = 0
+        elif status != lib.EVENTS_WAIT:
+            self._judge(status)
+
+    def _opened(self) -> Iterator[Refusal]:
+        """Keeps the peer's Open, once it came."""
+        if self._has_theirs or not (of := self._get(_REMOTE_OPEN)):
+            return
+        self._has_theirs = True
+        try:
+            self._theirs = Open.decode(of)
+        except Malformed as error:
+            yield unreadable(error)
+
+    def _judge_missed(self) -> None:
+        missed, told = self.missed, self._told_missed
+        self._told_missed = missed
+        if missed > told:
+            raise Missed(missed - told)
+
+    def events(self) -> Iterator[Union[AnyEvent, Refusal]]:
+        """The events that wait, in order; each is taken when it is given. One that cannot be read is a refusal, `Unreadable`."""
         while record := self._get(_EVENT):
-            yield event_of(record)
+            try:
+                event: Union[AnyEvent, Refusal] = event_of(record)
+            except Malformed as error:
+                event = unreadable(error)
+            yield event
 
     def to_send(self) -> bytes:
         """All bytes that wait to be sent, with their sizes; they are taken. Where a frame that waited is refused, or memory is, that is raised, and the
@@ -253,7 +314,7 @@ class Engine:
         return ctypes.string_at(self._buffer, count)
 
     def _refusal(self) -> Refusal:
-        name, condition, description = (self._get(_REFUSAL).decode().split("\n", 2) + ["", ""])[:3]
+        name, condition, description = (self._get(_REFUSAL).decode(errors="replace").split("\n", 2) + ["", ""])[:3]
         return Refusal(name, condition or None, description or None)
 
     def _judge(self, status: int) -> None:

@@ -7,7 +7,7 @@ from dataclasses import dataclass
 from typing import Any, Optional, Union
 
 from .performatives import Attach, Detach, Flow, Transfer
-from .values import read
+from .values import Described, Malformed, read
 
 # kind, flags, session, input handle, output handle, length of what comes next, length of the rest
 HEAD = struct.Struct(">BBHIIIII")
@@ -51,7 +51,7 @@ class Disposed(Event):
 
     role: bool
     settled: bool
-    state: Any
+    state: Optional[Described]
     tag: bytes
 
 
@@ -67,7 +67,7 @@ AnyEvent = Union[Attached, Flowed, Transferred, Disposed, Detached]
 
 
 def event_of(record: bytes) -> AnyEvent:
-    """The event of a record that the library wrote."""
+    """The event of a record that the library wrote. Raises `Malformed` where the peer's values in it cannot be read: the engine looks at their sizes alone."""
     kind, flags, _, session, given, taken, first, rest = HEAD.unpack_from(record)
     body, tail = record[HEAD.size : HEAD.size + first], record[HEAD.size + first : HEAD.size + first + rest]
     link = (session, given if flags & _INPUT else None, taken if flags & _OUTPUT else None)
@@ -78,15 +78,24 @@ def event_of(record: bytes) -> AnyEvent:
     if kind == 3:
         return Transferred(*link, Transfer.decode(body), tail)
     if kind == 4:
-        state = read(body)[0] if flags & _STATE else None
+        state = _state_of(body) if flags & _STATE else None
         return Disposed(*link, bool(flags & _RECEIVER), bool(flags & _SETTLED), state, tail)
     return Detached(*link, Detach.decode(body), bool(flags & _REMOTE))
+
+
+def _state_of(body: bytes) -> Described:
+    """A delivery's state, which is a composite (AMQP 1.0 part 3, section 3.4)."""
+    state, _ = read(body)
+    if not isinstance(state, Described):
+        raise Malformed("a delivery's state that is no described value")
+    return state
 
 
 @dataclass
 class Refusal(Exception):
     """A frame or a request was refused by the engine: the refusal's name, and the condition that a peer is told, if there is one. Of `RemoteClosedWithError`
-    and `RemoteEndedWithError` condition and description are those that the peer sent."""
+    and `RemoteEndedWithError` condition and description are those that the peer sent. `Unreadable` is this package's: the engine took a frame, and values
+    in it are none that Python has, as text that is no UTF-8."""
 
     name: str
     condition: Optional[str] = None
@@ -94,3 +103,19 @@ class Refusal(Exception):
 
     def __str__(self) -> str:
         return self.name if self.condition is None else f"{self.name} ({self.condition})"
+
+
+def unreadable(error: Malformed) -> Refusal:
+    """What is told in the place of an event, or an Open, that cannot be read."""
+    return Refusal("Unreadable", "amqp:decode-error", str(error))
+
+
+class Missed(Exception):
+    """Dispositions came for more deliveries than there was room for (`Room.dispositions`): of so many this side was not told. What it knows of the
+    connection's deliveries is wrong from then on, so the connection is to be closed."""
+
+    CONDITION = "amqp:resource-limit-exceeded"
+
+    def __init__(self, count: int) -> None:
+        super().__init__(f"{count} events were missed for want of room")
+        self.count = count

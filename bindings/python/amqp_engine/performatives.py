@@ -1,22 +1,31 @@
 """The performatives of AMQP 1.0 as data classes (part 2, section 2.7), and the error (section 2.8.14).
 
 A field that is `None` is null: the standard's default holds then. Texts, numbers and flags are plain Python values, and are written as the standard's
-type of the field. A source, a target, the state of a delivery and properties are any `values.Described` or `dict`.
+type of the field. A source, a target and the state of a delivery are any `values.Described`; properties are a `dict`, and of a performative that came
+a `values.Map`.
 """
 
 from __future__ import annotations
 
 from dataclasses import dataclass, fields
-from typing import Any, ClassVar, Dict, List, Optional, Tuple, Type, TypeVar
+from functools import lru_cache
+from typing import Any, ClassVar, List, Mapping, Optional, Tuple, Type, TypeVar
 
-from .values import Array, Described, Malformed, Symbol, Ubyte, Uint, Ulong, Ushort, read, write
+from .values import Array, Described, Malformed, Map, Symbol, Ubyte, Uint, Ulong, Ushort, read, write
 
 SENDER, RECEIVER = False, True
 #: Settle modes of a sender: unsettled, settled, mixed; of a receiver: first, second
 UNSETTLED, SETTLED, MIXED = 0, 1, 2
 FIRST, SECOND = 0, 1
+#: The longest frame that this side takes, where an Open does not say another; `max_frame_size=2**32 - 1` asks for any length
+MAX_FRAME_SIZE = 1048576
 
 _P = TypeVar("_P", bound="Performative")
+
+
+@lru_cache(None)
+def _names(cls: type) -> Tuple[str, ...]:
+    return tuple(field.name for field in fields(cls))  # type: ignore[arg-type]
 
 
 def _symbols(value: Any) -> Any:
@@ -26,11 +35,11 @@ def _symbols(value: Any) -> Any:
 
 _WRITTEN = {
     "string": str, "symbol": Symbol, "symbols": _symbols, "ulong": Ulong, "uint": Uint, "ushort": Ushort, "ubyte": Ubyte, "boolean": bool,
-    "binary": bytes, "fields": dict, "value": lambda it: it, "error": lambda it: it.described(),
+    "binary": bytes, "fields": lambda it: it, "value": lambda it: it, "error": lambda it: it.described(),
 }  # fmt: skip
 _READ = {
     "string": (str,), "symbol": (Symbol,), "symbols": (Symbol, Array), "ulong": (Ulong,), "uint": (Uint,), "ushort": (Ushort,), "ubyte": (Ubyte,),
-    "boolean": (bool,), "binary": (bytes,), "fields": (dict,), "value": (object,), "error": (Described,),
+    "boolean": (bool,), "binary": (bytes,), "fields": (Map,), "value": (object,), "error": (Described,),
 }  # fmt: skip
 
 
@@ -46,10 +55,10 @@ class Performative:
     def described(self) -> Described:
         """The described list; nulls at its end are left out."""
         items: List[Any] = []
-        for field, kind in zip(fields(self), self.TYPES):  # type: ignore[arg-type]
-            value = getattr(self, field.name)
-            if value is None and field.name in self.MANDATORY:
-                raise ValueError(f"{type(self).__name__}.{field.name} is mandatory")
+        for name, kind in zip(_names(type(self)), self.TYPES):
+            value = getattr(self, name)
+            if value is None and name in self.MANDATORY:
+                raise ValueError(f"{type(self).__name__}.{name} is mandatory")
             items.append(None if value is None else _WRITTEN[kind](value))
         while items and items[-1] is None:
             items.pop()
@@ -64,12 +73,14 @@ class Performative:
         """The performative that a described list is."""
         if not isinstance(value, Described) or value.descriptor not in (cls.CODE, f"amqp:{cls.__name__.lower()}:list") or not isinstance(value.value, list):
             raise Malformed(f"no {cls.__name__}")
-        names = [field.name for field in fields(cls)]  # type: ignore[arg-type]
+        names = _names(cls)
         if len(value.value) > len(names):
             raise Malformed(f"{cls.__name__} has more than its fields")
-        found = {name: _checked(cls, name, kind, item) for name, kind, item in zip(names, cls.TYPES, value.value)}
+        # a field that the peer left out is null, whatever this side's own has for a default
+        found = dict.fromkeys(names)
+        found.update((name, _checked(cls, name, kind, item)) for name, kind, item in zip(names, cls.TYPES, value.value))
         for name in cls.MANDATORY:
-            if found.get(name) is None:
+            if found[name] is None:
                 raise Malformed(f"{cls.__name__}.{name} is mandatory")
         return cls(**found)
 
@@ -89,7 +100,17 @@ def _checked(cls: type, name: str, kind: str, item: Any) -> Any:
         raise Malformed(f"{cls.__name__}.{name}: {type(item).__name__} where a {kind} stands")
     if kind == "error":
         return Error.of(item)
-    return list(item.items) if isinstance(item, Array) and kind == "symbols" else item
+    return symbols_of(item) if kind == "symbols" else item
+
+
+def symbols_of(item: Any) -> Any:
+    """The symbols of an array as a list; one that stands alone as it is. Raises `Malformed` where it is another array."""
+    if not isinstance(item, Array) or not len(item.items):
+        return [] if isinstance(item, Array) else item
+    # what is no list is one item without bytes, thousands of millions of times perhaps
+    if not isinstance(item.items, list) or not all(isinstance(it, Symbol) for it in item.items):
+        raise Malformed("an array of others than symbols")
+    return item.items
 
 
 @dataclass
@@ -98,7 +119,7 @@ class Error(Performative):
 
     condition: str
     description: Optional[str] = None
-    info: Optional[Dict[Any, Any]] = None
+    info: Optional[Mapping[Any, Any]] = None
 
     CODE: ClassVar[int] = 0x1D
     TYPES: ClassVar[Tuple[str, ...]] = ("symbol", "string", "fields")
@@ -107,18 +128,18 @@ class Error(Performative):
 
 @dataclass
 class Open(Performative):
-    """Begins a connection."""
+    """Begins a connection. This side takes frames of a million bytes, so that a peer cannot have it keep more of one; `None` would stand for 2^32-1."""
 
     container_id: str
     hostname: Optional[str] = None
-    max_frame_size: Optional[int] = None
+    max_frame_size: Optional[int] = MAX_FRAME_SIZE
     channel_max: Optional[int] = None
     idle_time_out: Optional[int] = None
     outgoing_locales: Any = None
     incoming_locales: Any = None
     offered_capabilities: Any = None
     desired_capabilities: Any = None
-    properties: Optional[Dict[Any, Any]] = None
+    properties: Optional[Mapping[Any, Any]] = None
 
     CODE: ClassVar[int] = 0x10
     TYPES: ClassVar[Tuple[str, ...]] = ("string", "string", "uint", "ushort", "uint", "symbols", "symbols", "symbols", "symbols", "fields")
@@ -136,7 +157,7 @@ class Begin(Performative):
     handle_max: Optional[int] = None
     offered_capabilities: Any = None
     desired_capabilities: Any = None
-    properties: Optional[Dict[Any, Any]] = None
+    properties: Optional[Mapping[Any, Any]] = None
 
     CODE: ClassVar[int] = 0x11
     TYPES: ClassVar[Tuple[str, ...]] = ("ushort", "uint", "uint", "uint", "uint", "symbols", "symbols", "fields")
@@ -154,13 +175,13 @@ class Attach(Performative):
     rcv_settle_mode: Optional[int] = None
     source: Any = None
     target: Any = None
-    unsettled: Optional[Dict[Any, Any]] = None
+    unsettled: Optional[Mapping[Any, Any]] = None
     incomplete_unsettled: Optional[bool] = None
     initial_delivery_count: Optional[int] = None
     max_message_size: Optional[int] = None
     offered_capabilities: Any = None
     desired_capabilities: Any = None
-    properties: Optional[Dict[Any, Any]] = None
+    properties: Optional[Mapping[Any, Any]] = None
 
     CODE: ClassVar[int] = 0x12
     TYPES: ClassVar[Tuple[str, ...]] = (
@@ -183,7 +204,7 @@ class Flow(Performative):
     available: Optional[int] = None
     drain: Optional[bool] = None
     echo: Optional[bool] = None
-    properties: Optional[Dict[Any, Any]] = None
+    properties: Optional[Mapping[Any, Any]] = None
 
     CODE: ClassVar[int] = 0x13
     TYPES: ClassVar[Tuple[str, ...]] = (

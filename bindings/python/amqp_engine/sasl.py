@@ -2,13 +2,19 @@
 
 from __future__ import annotations
 
+import inspect
 from dataclasses import dataclass
-from typing import Any, Callable, List, Optional, Union
+from typing import Any, Awaitable, Callable, List, Optional, Union
 
+from .performatives import symbols_of
 from .values import Array, Described, Malformed, Symbol, Ubyte, Ulong, read, write
 
 _MECHANISMS, _INIT, _OUTCOME = 0x40, 0x41, 0x44
-OK, AUTH = 0, 1
+#: What an outcome says: the login is taken, it is not, or this side failed to judge it (section 5.3.3.6)
+OK, AUTH, SYS = 0, 1, 2
+
+#: What judges a name and a password. `True` lets them in, and nothing else does, be it as true as a coroutine that nobody awaited.
+Check = Callable[[str, str], Union[bool, Awaitable[bool]]]
 
 
 @dataclass
@@ -52,7 +58,7 @@ def fields_of(body: bytes, code: int) -> List[Any]:
 def init(login: Login, mechanisms: bytes) -> bytes:
     """The client's answer to the frame in which the server offers its mechanisms."""
     offered = fields_of(mechanisms, _MECHANISMS)[:1]
-    names = list(offered[0].items) if offered and isinstance(offered[0], Array) else offered
+    names = symbols_of(offered[0]) if offered and isinstance(offered[0], Array) else offered
     name = "PLAIN" if isinstance(login, Plain) else "ANONYMOUS"
     if name not in names:
         raise LoginRefused(f"the peer offers {', '.join(map(str, names)) or 'nothing'}, and not {name}")
@@ -65,20 +71,35 @@ def is_taken(outcome: bytes) -> bool:
     return fields_of(outcome, _OUTCOME)[:1] == [OK]
 
 
-def offers(check: Optional[Callable[[str, str], bool]]) -> bytes:
+def offers(check: Optional[Check]) -> bytes:
     """The server's frame: PLAIN where logins are checked, else ANONYMOUS."""
     return frame(_MECHANISMS, [Array([Symbol("PLAIN" if check else "ANONYMOUS")])])
 
 
-def judge(asked: bytes, check: Optional[Callable[[str, str], bool]]) -> bool:
-    """Whether the client's init is a login that is taken."""
+def login_of(asked: bytes) -> Optional[Login]:
+    """The login that a client's init is, if it is one of these two. In whose name it is to act, which PLAIN says first, is left aside."""
     fields = fields_of(asked, _INIT)
-    if check is None:
-        return fields[:1] == ["ANONYMOUS"]
+    if fields[:1] == ["ANONYMOUS"]:
+        return Anonymous()
     parts = (fields[1] if len(fields) > 1 and isinstance(fields[1], bytes) else b"").split(b"\0")
-    return fields[:1] == ["PLAIN"] and len(parts) == 3 and check(parts[1].decode(errors="replace"), parts[2].decode(errors="replace"))
+    if fields[:1] != ["PLAIN"] or len(parts) != 3:
+        return None
+    try:
+        return Plain(parts[1].decode(), parts[2].decode())
+    except UnicodeDecodeError:
+        return None
 
 
-def outcome(taken: bool) -> bytes:
+async def judge(login: Optional[Login], check: Optional[Check]) -> bool:
+    """Whether a client's login is taken. What `check` raises is raised."""
+    if check is None:
+        return isinstance(login, Anonymous)
+    if not isinstance(login, Plain):
+        return False
+    said = check(login.user, login.password)
+    return (await said if inspect.isawaitable(said) else said) is True
+
+
+def outcome(code: int) -> bytes:
     """The server's last frame."""
-    return frame(_OUTCOME, [Ubyte(OK if taken else AUTH)])
+    return frame(_OUTCOME, [Ubyte(code)])

@@ -8,15 +8,17 @@ client in front, which goes in when an Attach comes and is taken off when one go
 from __future__ import annotations
 
 import contextlib
+from collections import deque
 from dataclasses import dataclass, replace
-from typing import Dict, Iterator, Optional, Tuple, Union
+from typing import Deque, Dict, Iterator, List, Optional, Union
 
 from .engine import Engine
-from .events import AnyEvent, Attached, Detached, Event, Refusal
-from .performatives import FIRST, RECEIVER, Attach, Begin
+from .events import AnyEvent, Attached, Detached, Event, Missed, Refusal, unreadable
+from .performatives import FIRST, RECEIVER, SECOND, Attach, Begin
 from .values import Malformed, read
 
 _BEGIN, _ATTACH, _END, _CLOSE = 0x11, 0x12, 0x17, 0x18
+_TRANSFER = b"\x00\x53\x14"
 _NAMES = {"amqp:begin:list": _BEGIN, "amqp:attach:list": _ATTACH, "amqp:end:list": _END, "amqp:close:list": _CLOSE}
 
 
@@ -70,6 +72,15 @@ def sized(frame: bytes) -> bytes:
     return (len(frame) + 4).to_bytes(4, "big") + frame
 
 
+@contextlib.contextmanager
+def _asked_by_client() -> Iterator[None]:
+    """What is asked here is asked for the client: where the refusal says no condition, it is that the client may not ask for it."""
+    try:
+        yield
+    except Refusal as refusal:
+        raise replace(refusal, condition=refusal.condition or "amqp:not-allowed") from None
+
+
 class Server:
     """An engine that serves one client. Requests of links are those of `engine`, but for `attach`, which takes the client's name of the link."""
 
@@ -77,30 +88,48 @@ class Server:
         """`begin` is how this side begins each session. A link settles as the client's Attach says."""
         self.engine = engine
         self._begin = begin or Begin()
-        # received bytes, of which those before `_at` were taken
+        # received bytes, of which those before `_at` were taken, and what the last frame brought and nobody took yet
         self._rest, self._at = bytearray(), 0
+        self._ready: Deque[Union[ServerEvent, Missed]] = deque()
         self._turned, self._next, self._is_broken = b"", 0, False
         # the links that the client attached: this side's handles, by session and the client's handle
-        self._outputs: Dict[Tuple[int, int], int] = {}
+        self._outputs: Dict[int, Dict[int, int]] = {}
+        # the session of each channel of this side's, and how many transfers went out on it
+        self._channels: Dict[int, int] = {}
+        self._sent: Dict[int, int] = {}
 
     # ---- what comes
 
     def receive(self, data: bytes) -> Iterator[ServerEvent]:
-        """Takes received bytes, in any splitting, and gives what they bring, in order. After the refusal `BadSize` the stream is of no use."""
-        if self._is_broken:
-            return
-        self._rest += data
-        while (frame := self._next_frame()) is not None:
-            yield from self._take(frame)
+        """Takes received bytes, in any splitting, and gives what they bring, in order. What an iterator leaves, the next one begins with. After the
+        refusal `BadSize` the stream is of no use. Raises `Missed`, as `Engine.receive` does."""
         del self._rest[: self._at]
         self._at = 0
+        if not self._is_broken:
+            self._rest += data
+        return self._take_all()
+
+    def _take_all(self) -> Iterator[ServerEvent]:
+        while True:
+            while self._ready:
+                event = self._ready.popleft()
+                if isinstance(event, Missed):
+                    raise event
+                yield event
+            frame = self._next_frame()
+            if frame is None:
+                return
+            try:
+                self._ready.extend(self._take(frame))
+            except Missed as missed:
+                self._ready.append(missed)
 
     def _next_frame(self) -> Optional[bytes]:
         """The next frame, with its size, once it is whole. One of no lawful size is given to the engine at once, which refuses it, and nothing after it."""
+        size = int.from_bytes(self._rest[self._at : self._at + 4], "big")
         left = len(self._rest) - self._at
         if left < 4 or self._is_broken:
             return None
-        size = int.from_bytes(self._rest[self._at : self._at + 4], "big")
         self._is_broken = not 8 <= size <= self.engine.max_frame_size
         size = 4 if self._is_broken else size
         if left < size:
@@ -128,92 +157,149 @@ class Server:
             if isinstance(event, Attached):
                 event.attach.name = event.attach.name[1:]
             elif isinstance(event, Detached):
-                self._outputs.pop((event.session, event.detach.handle), None)
+                self._outputs.get(event.session, {}).pop(event.detach.handle, None)
             yield event
 
     def _take_begin(self, frame: bytes, channel: int) -> Iterator[ServerEvent]:
         try:
             theirs = Begin.decode(frame[4:])
-        except Malformed:
-            yield from self.engine.receive(sized(frame))
+        except Malformed as error:
+            yield unreadable(error)
             return
-        self._turned += self._unmarked(self.engine.to_send())
+        yield from self._put_aside()
         number, self._next = self._next, self._next + 1
         try:
-            self.engine.begin(number, self._begin)
+            own = self._begun(number, channel)
         except Refusal as refusal:
             yield refusal
             return
-        own = next(frames_of(self.engine.to_send()))
+        yield from self._turn(number, own, frame, theirs)
+
+    def _begun(self, number: int, channel: int) -> bytes:
+        """This side's Begin, which answers one on this channel of the client's."""
+        if channel > self.engine.channel_max:
+            raise Refusal("ChannelTooHigh", "amqp:connection:framing-error")
+        if self.engine.session_of(channel) is not None:
+            raise Refusal("ChannelInUse", "amqp:not-allowed")
+        with _asked_by_client():
+            self.engine.begin(number, self._begin)
+        own = next(frames_of(self.engine.to_send()), None)
+        if own is None:
+            raise Refusal("IllegalState", "amqp:illegal-state", "a Begin before the connection is open")
+        return own
+
+    def _turn(self, number: int, own: bytes, frame: bytes, theirs: Begin) -> Iterator[ServerEvent]:
+        """Each of the two Begins becomes the answer to the other."""
+        mine, channel = int.from_bytes(own[2:4], "big"), int.from_bytes(frame[2:4], "big")
+        self._channels[mine], self._sent[number] = number, 0
         self._turned += sized(own[:4] + replace(Begin.decode(own[4:]), remote_channel=channel).encode())
-        turned = replace(theirs, remote_channel=int.from_bytes(own[2:4], "big"))
-        came = list(self.engine.receive(sized(frame[:4] + turned.encode())))
+        came = list(self.engine.receive(sized(frame[:4] + replace(theirs, remote_channel=mine).encode())))
         yield from came
         if not came:
             yield SessionBegan(number, None, None, theirs)
 
     def _take_attach(self, frame: bytes, channel: int) -> Iterator[ServerEvent]:
-        number = self.engine.session_of(channel)
         try:
             attach = Attach.decode(frame[4:])
-        except Malformed:
-            number = None
-        if number is None:
+        except Malformed as error:
+            yield unreadable(error)
+            return
+        number = self.engine.session_of(channel)
+        # what goes to no session, or is no lawful settle mode, the engine refuses
+        if number is None or attach.rcv_settle_mode not in (None, FIRST, SECOND):
             yield from self.engine.receive(sized(frame))
             return
-        if (number, attach.handle) in self._outputs:
-            yield Refusal("HandleInUse", "amqp:session:handle-in-use")
-            return
-        name = mark(attach.role, attach.name)
+        turned = sized(frame[:4] + replace(attach, name=mark(attach.role, attach.name)).encode())
         try:
-            self._outputs[number, attach.handle] = self.engine.link(number, name, not attach.role, attach.rcv_settle_mode or FIRST)
+            self._admit(number, attach, turned)
         except Refusal as refusal:
             yield refusal
             return
-        turned = frame[:4] + replace(attach, name=name).encode()
-        yield from self._given(sized(turned))
+        yield from self._given(turned)
+
+    def _admit(self, number: int, attach: Attach, turned: bytes) -> None:
+        """Allots a handle to the client's link. The engine looks neither at this side's handle-max (AMQP 1.0 part 2, section 2.7.2), nor whether a handle is
+        used in this direction."""
+        links = self._outputs.setdefault(number, {})
+        if self._begin.handle_max is not None and attach.handle > self._begin.handle_max:
+            raise Refusal("HandleTooHigh", "amqp:connection:framing-error")
+        if attach.handle in links:
+            raise Refusal("HandleInUse", "amqp:session:handle-in-use")
+        if len(turned) > self.engine.max_frame_size:
+            raise Refusal("TooLarge", "amqp:resource-limit-exceeded", "no room for the mark of a link's name")
+        with _asked_by_client():
+            links[attach.handle] = self.engine.link(number, mark(attach.role, attach.name), not attach.role, attach.rcv_settle_mode or FIRST)
 
     def _take_end(self, sized_frame: bytes, channel: int) -> Iterator[ServerEvent]:
         number = self.engine.session_of(channel)
-        came = list(self.engine.receive(sized_frame))
-        yield from (it for it in came if not (isinstance(it, Refusal) and it.name.startswith("RemoteEnded")))
-        if number is None:
+        refused = _refused_of(self.engine.receive(sized_frame), "RemoteEnded")
+        yield from refused
+        if number is None or refused:
             return
         with contextlib.suppress(Refusal):
             self.engine.end(number)
-        self._turned += self._unmarked(self.engine.to_send())
+        yield from self._put_aside()
         with contextlib.suppress(Refusal):
             self.engine.release(number)
             self.engine.forget(number)
-        self._outputs = {key: its for key, its in self._outputs.items() if key[0] != number}
+        self._outputs.pop(number, None)
+        self._sent.pop(number, None)
         yield SessionEnded(number, None, None)
 
     def _take_close(self, sized_frame: bytes) -> Iterator[ServerEvent]:
-        came = list(self.engine.receive(sized_frame))
-        yield from (it for it in came if not (isinstance(it, Refusal) and it.name.startswith("RemoteClosed")))
+        refused = _refused_of(self.engine.receive(sized_frame), "RemoteClosed")
+        yield from refused
         if self.engine.state == "CLOSE_RCVD":
             self.engine.close()
-        yield Closed(0, None, None)
+        if not refused:
+            yield Closed(0, None, None)
 
     # ---- what goes
 
     def output_of(self, event: Event) -> int:
         """This side's handle of the link that an event names."""
-        return self._outputs[event.session, event.input_handle]  # type: ignore[index]
+        return self._outputs[event.session][event.input_handle]  # type: ignore[index]
 
     def attach(self, session: int, attach: Attach) -> None:
         """An Attach is to be sent: the answer to the client's, with the client's name of the link."""
         self.engine.attach(session, replace(attach, name=mark(not attach.role, attach.name)))
 
+    def transfers(self, session: int) -> int:
+        """How many transfers of a session `to_send` has given: fewer than were asked for where the client's window holds some back."""
+        return self._sent.get(session, 0)
+
     def to_send(self) -> bytes:
-        """All bytes that wait to be sent, with their sizes; they are taken."""
-        waiting, self._turned = self._turned + self._unmarked(self.engine.to_send()), b""
+        """All bytes that wait to be sent, with their sizes; they are taken. Raises the refusal of a frame that does not fit; the others come with the
+        next call."""
+        waiting = self._looked_at(self.engine.to_send())
+        waiting, self._turned = self._turned + waiting, b""
         return waiting
 
-    def _unmarked(self, data: bytes) -> bytes:
+    def _put_aside(self) -> Iterator[Refusal]:
+        """What waits goes before what is asked for next, which does not go as it is."""
+        while True:
+            try:
+                self._turned += self._looked_at(self.engine.to_send())
+                return
+            except Refusal as refusal:
+                yield refusal
+
+    def _looked_at(self, data: bytes) -> bytes:
+        """Takes the marks off, and counts the transfers."""
+        at = 0
+        while at < len(data):
+            session = self._channels.get(int.from_bytes(data[at + 6 : at + 8], "big"))
+            if data[at + 8 : at + 11] == _TRANSFER and session in self._sent:
+                self._sent[session] += 1
+            at += int.from_bytes(data[at : at + 4], "big")
         if b"\x00\x53\x12" not in data:
             return data
         return b"".join(sized(_unmark(frame)) for frame in frames_of(data))
+
+
+def _refused_of(came: Iterator[Union[AnyEvent, Refusal]], but: str) -> List[Union[AnyEvent, Refusal]]:
+    """What came of an End or a Close, but for the refusals by which the engine says that it came."""
+    return [it for it in came if not (isinstance(it, Refusal) and it.name.startswith(but))]
 
 
 def _unmark(frame: bytes) -> bytes:

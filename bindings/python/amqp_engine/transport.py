@@ -7,77 +7,104 @@
             ...
         await connection.close()
 
-What is asked of `connection.engine` goes out with the next `await connection.flush()`, or as soon as the next bytes come.
+What is asked of `connection.engine` goes out with the next `await connection.flush()`, or as soon as the next bytes come. Whatever the peer does, no call
+waits longer than `Waits` says, but for the next event of a peer that is to be silent by its own and this side's word (no `idle_time_out`).
 """
 
 from __future__ import annotations
 
 import asyncio
 import contextlib
-import ssl
 import time
 from collections import deque
-from typing import Any, AsyncIterator, Awaitable, Callable, Deque, Iterator, Optional
+from typing import Any, AsyncIterator, Deque, Iterator, Optional, Union
 
 from . import sasl
-from .engine import Engine, Room
-from .events import Refusal
+from .engine import Engine
+from .events import Missed, Refusal
 from .performatives import Begin, Error, Open
 from .serving import Server, ServerEvent
+from .stream import PeerSilent, Stream, Waits, within
 from .values import Malformed
 
 _AMQP, _SASL = b"AMQP\x00\x01\x00\x00", b"AMQP\x03\x01\x00\x00"
 _EMPTY_FRAME = b"\x00\x00\x00\x08\x02\x00\x00\x00"
-#: How long the peer may take for headers and SASL, in seconds
-_HANDSHAKE = 20.0
+#: The least time between two empty frames, in seconds, whatever time-out a peer asks for
+_BRIEFEST = 0.05
+#: How many events a session that is waited for may leave for the iterator
+_MOST_KEPT = 65536
+#: The states in which this side's Close went out, and the peer's is awaited
+_CLOSING = ("CLOSE_SENT", "DISCARDING", "CLOSE_PIPE", "OC_PIPE")
 
 
 class HeaderRefused(ConnectionError):
     """The peer speaks another protocol, or another version."""
 
 
-class PeerSilent(ConnectionError):
-    """Nothing came from the peer for longer than this side's `idle_time_out`."""
+class SessionRefused(ConnectionError):
+    """The peer did not begin a session: it ended it at once, or the connection; `refusal` says why, where the peer did."""
+
+    def __init__(self, number: int, refusal: Optional[Refusal]) -> None:
+        why = "the stream ended" if refusal is None else ": ".join(filter(None, (str(refusal), refusal.description)))
+        super().__init__(f"the peer did not begin session {number}: {why}")
+        self.refusal = refusal
 
 
 class Connection:
     """One connection: an engine, and the stream that carries its bytes. An asynchronous iterator of events and refusals; it ends with the stream,
-    or when both sides have closed. A Close of the peer's is answered. `server` is there where the connection was accepted."""
+    or when both sides have closed. A Close of the peer's is answered. `server` is there where the connection was accepted. One task at a time iterates,
+    begins a session or closes; any may `push` and `flush`."""
 
     def __init__(
-        self, reader: asyncio.StreamReader, writer: asyncio.StreamWriter, open: Open, *, serves: Optional[Begin] = None, **how: Any
+        self,
+        reader: asyncio.StreamReader,
+        writer: asyncio.StreamWriter,
+        open: Open,
+        *,
+        serves: Optional[Begin] = None,
+        waits: Optional[Waits] = None,
+        **how: Any,
     ) -> None:
         self.engine = Engine(open, **how)
         self.server = None if serves is None else Server(self.engine, begin=serves)
-        self._reader, self._writer = reader, writer
+        self._waits = waits or Waits()
+        self._stream = Stream(reader, writer, self._waits)
         self._own_limit = None if not open.idle_time_out else open.idle_time_out / 1000
-        self._sent = self._came = time.monotonic()
-        self._kept: Deque[ServerEvent] = deque()
+        # what came while a session was waited for, and what the engine gives next
+        self._kept: Deque[Union[ServerEvent, Missed]] = deque()
         self._coming: Iterator[ServerEvent] = iter(())
         self._beats: Optional["asyncio.Task[None]"] = None
+        # until when the peer may answer this side's Close
+        self._until: Optional[float] = None
+        self._is_begun = False
+        #: Set where bytes were handed to the stream, for a task that waits for the peer to read them, by `drain`
+        self.went = asyncio.Event()
 
     # ---- headers and SASL
 
-    async def _take(self, count: int) -> bytes:
-        try:
-            return await asyncio.wait_for(self._reader.readexactly(count), _HANDSHAKE)
-        except asyncio.IncompleteReadError:
-            raise ConnectionError("the peer hung up") from None
+    async def _put(self, data: bytes) -> None:
+        self._stream.write(data)
+        await self._stream.drain()
 
     async def _take_frame(self) -> bytes:
-        size = int.from_bytes(await self._take(4), "big")
+        """A frame of SASL without its size (AMQP 1.0 part 5, section 5.3.1)."""
+        size = int.from_bytes(await self._stream.take(4), "big")
         if not 8 <= size <= 512:
             raise Malformed("a frame of SASL has from 8 to 512 bytes")
-        return await self._take(size - 4)
+        return await self._stream.take(size - 4)
 
     async def _header(self, mine: bytes) -> None:
         await self._put(mine)
-        theirs = await self._take(8)
+        theirs = await self._stream.take(8)
         if theirs != mine:
             raise HeaderRefused(f"the peer answers {theirs!r}")
 
     async def begin(self, login: Optional[sasl.Login] = None) -> None:
         """The client's part: SASL, if there is a login, and the protocol header."""
+        await within(self._waits.login, self._begin(login), "no protocol header and no answer to a login")
+        self._is_begun = True
+
+    async def _begin(self, login: Optional[sasl.Login]) -> None:
         if login is not None:
             await self._header(_SASL)
             await self._put(sasl.init(login, await self._take_frame()))
@@ -85,16 +112,17 @@ class Connection:
                 raise sasl.LoginRefused("the peer refused the login")
         await self._header(_AMQP)
 
-    async def accept(self, check: Optional[Callable[[str, str], bool]] = None) -> None:
-        """The server's part. A client need not use SASL where no login is checked."""
-        header = await self._take(8)
+    async def accept(self, check: Optional[sasl.Check] = None) -> None:
+        """The server's part. A client need not use SASL where no login is checked. What `check` raises is raised, after the login was refused."""
+        await within(self._waits.login, self._accept(check), "no protocol header and no login")
+        self._is_begun = True
+
+    async def _accept(self, check: Optional[sasl.Check]) -> None:
+        header = await self._stream.take(8)
         if header == _SASL:
             await self._put(_SASL + sasl.offers(check))
-            taken = sasl.judge(await self._take_frame(), check)
-            await self._put(sasl.outcome(taken))
-            if not taken:
-                raise sasl.LoginRefused("the login was refused")
-            header = await self._take(8)
+            await self._judge(check)
+            header = await self._stream.take(8)
         elif check is not None:
             await self._put(_SASL)
             raise HeaderRefused("a login is needed")
@@ -102,67 +130,150 @@ class Connection:
         if header != _AMQP:
             raise HeaderRefused(f"the peer begins with {header!r}")
 
+    async def _judge(self, check: Optional[sasl.Check]) -> None:
+        login = sasl.login_of(await self._take_frame())
+        try:
+            taken = await sasl.judge(login, check)
+        except Exception:
+            await self._put(sasl.outcome(sasl.SYS))
+            raise
+        await self._put(sasl.outcome(sasl.OK if taken else sasl.AUTH))
+        if not taken:
+            raise sasl.LoginRefused("the login was refused")
+
     # ---- frames
 
-    async def _put(self, data: bytes) -> None:
-        self._writer.write(data)
-        self._sent = time.monotonic()
-        await self._writer.drain()
-
-    async def flush(self) -> None:
-        """Sends what the engine is to send."""
+    def push(self) -> int:
+        """Hands what the engine is to send to the stream, at once, and answers how many bytes. Raises the refusal of a frame that does not fit the peer's
+        limit; the others go out with the next call."""
         data = (self.server or self.engine).to_send()
         if data:
-            await self._put(data)
+            self._stream.write(data)
+            self.went.set()
+        return len(data)
+
+    @property
+    def unsent(self) -> int:
+        """How many bytes wait for the peer to read."""
+        return self._stream.unsent
+
+    async def flush(self) -> None:
+        """Sends what the engine is to send, as `push` does, and waits while the peer has much to read."""
+        self.push()
+        await self.drain()
+
+    async def drain(self) -> None:
+        """Waits while the peer has much to read. One that does not read is given up, by `PeerSilent`; sooner where nothing comes from it either, and this
+        side has an `idle_time_out`."""
+        await self._stream.drain(self._own_limit)
 
     def __aiter__(self) -> AsyncIterator[ServerEvent]:
         return self
 
     async def __anext__(self) -> ServerEvent:
         while True:
-            if self._kept:
-                return self._kept.popleft()
-            # one at a time: what is asked in answer to an event goes out before the engine takes the next frame
-            for event in self._coming:
-                return event
+            try:
+                return self._next()
+            except StopIteration:
+                pass
+            except Missed:
+                await self._close_soon(Error(Missed.CONDITION, "more dispositions than this side has room for"))
+                raise
             if not await self._pump():
                 raise StopAsyncIteration
 
-    async def _pump(self) -> bool:
-        """Sends what waits, and reads what comes next. False where the stream is over, or both sides have closed."""
-        if self.engine.state == "CLOSE_RCVD":
-            self.engine.close()
+    def _next(self) -> ServerEvent:
+        """One at a time: what is asked in answer to an event goes out before the engine takes the next frame."""
+        if not self._kept:
+            return next(self._coming)
+        event = self._kept.popleft()
+        if isinstance(event, Missed):
+            raise event
+        return event
+
+    async def _pump(self, until: Optional[float] = None) -> bool:
+        """Sends what waits, and reads what comes next, until a time on the clock of `time.monotonic`, if there is one. False where the stream is over, or
+        both sides have closed."""
+        self._answer_close()
         await self.flush()
         if self.engine.state == "END":
             return False
-        data = await self._receive()
+        data = await self._receive(until)
+        # what the iterator before left is the first that this one gives
         self._coming = (self.server or self.engine).receive(data)
         return bool(data)
 
+    def _answer_close(self) -> None:
+        if self.engine.state == "CLOSE_RCVD":
+            with contextlib.suppress(Refusal):
+                self.engine.close()
+
     async def session(self, number: int, begin: Optional[Begin] = None) -> None:
-        """Begins a session, and waits until the peer's Begin has come. What else comes meanwhile is kept for the iterator."""
+        """Begins a session, and waits until the peer's Begin has come. What else comes meanwhile is kept for the iterator. Raises `SessionRefused` where
+        the peer ends the session, or the connection, and `PeerSilent` where it does not answer."""
+        self._keep()
+        known = len(self._kept)
         self.engine.begin(number, begin)
-        while self.engine.session_state(number) != "MAPPED":
-            if not await self._pump():
-                raise ConnectionError("the peer closed before it answered a Begin")
-            self._kept.extend(self._coming)
+        await self._mapped(number)
+        if self.engine.session_state(number) != "MAPPED":
+            told = [it for it in list(self._kept)[known:] if isinstance(it, Refusal)]
+            await self._let_go(number)
+            raise SessionRefused(number, told[0] if told else None)
 
-    async def _receive(self) -> bytes:
-        self._keep_alive()
-        if self._own_limit is None:
-            return await self._reader.read(65536)
+    async def _mapped(self, number: int) -> None:
+        """Until the session is mapped, or will never be."""
+        until = time.monotonic() + self._waits.answer
+        while self.engine.session_state(number) == "BEGIN_SENT" and self.engine.state not in ("CLOSE_RCVD", "END"):
+            if not await self._pump(until):
+                return
+            self._keep()
+            if len(self._kept) > _MOST_KEPT:
+                raise PeerSilent(f"the peer answers no Begin, and sent {len(self._kept)} other things")
+
+    def _keep(self) -> None:
+        """Keeps what came for the iterator."""
         try:
-            return await asyncio.wait_for(self._reader.read(65536), self._own_limit)
-        except asyncio.TimeoutError:
-            self._close_silently(Error("amqp:resource-limit-exceeded", "nothing came within the idle time-out"))
+            self._kept.extend(self._coming)
+        except Missed as missed:
+            self._kept.append(missed)
+
+    async def _let_go(self, number: int) -> None:
+        """The peer's End, or its Close, is answered."""
+        self._answer_close()
+        with contextlib.suppress(Refusal, ConnectionError):
+            self.engine.end(number)
+            self.engine.release(number)
+        with contextlib.suppress(Refusal, ConnectionError):
             await self.flush()
-            raise PeerSilent(f"nothing came for {self._own_limit} seconds") from None
 
-    def _close_silently(self, error: Error) -> None:
-        with contextlib.suppress(Refusal):
+    # ---- time
+
+    async def _receive(self, until: Optional[float]) -> bytes:
+        self._keep_alive()
+        if self._until is None and self.engine.state in _CLOSING:
+            # no answer can be read of a stream that is broken; what was said last has a moment to go out
+            self._until = time.monotonic() + (self._waits.closing if self.engine.is_broken else self._waits.answer)
+        until = min((it for it in (until, self._until) if it is not None), default=None)
+        if until is not None:
+            return await self._read_until(until)
+        try:
+            return await self._stream.read(self._own_limit, "nothing came")
+        except PeerSilent:
+            await self._close_soon(Error("amqp:resource-limit-exceeded", "nothing came within the idle time-out"))
+            raise
+
+    async def _read_until(self, until: float) -> bytes:
+        """What comes before the time is over. Bytes that keep coming do not put it off."""
+        left = until - time.monotonic()
+        if left <= 0:
+            raise PeerSilent("the peer did not answer in time")
+        return await self._stream.read(left, "no answer of the peer's")
+
+    async def _close_soon(self, error: Error) -> None:
+        """Has a Close go out, if one still can."""
+        with contextlib.suppress(Refusal, ConnectionError):
             self.engine.close(error)
-
-    # ---- the peer's idle time-out
+            await self.flush()
 
     def _keep_alive(self) -> None:
         """From the peer's Open on an empty frame goes out where else nothing would."""
@@ -172,74 +283,48 @@ class Connection:
     async def _beat(self, limit: float) -> None:
         with contextlib.suppress(ConnectionError):
             while True:
-                await asyncio.sleep(max(0.01, self._sent + limit / 2 - time.monotonic()))
-                if time.monotonic() - self._sent >= limit / 2:
+                await asyncio.sleep(max(_BRIEFEST, self._stream.sent + limit / 2 - time.monotonic()))
+                if time.monotonic() - self._stream.sent >= limit / 2 and not self._stream.drains:
                     await self._put(_EMPTY_FRAME)
+
+    # ---- the end
 
     async def aclose(self) -> None:
         """Closes the stream and frees the engine. A Close of the protocol is the caller's, by `close`."""
         if self._beats is not None:
             self._beats.cancel()
-        self._writer.close()
         try:
-            with contextlib.suppress(ConnectionError, ssl.SSLError):
-                await self._writer.wait_closed()
+            await self._stream.close()
         finally:
             self.engine.free()
 
     async def close(self, error: Optional[Error] = None) -> None:
-        """Sends a Close, and waits until the peer's has come; what else comes meanwhile is passed over."""
+        """Sends a Close, and waits until the peer's has come; what else comes meanwhile is passed over. Raises `PeerSilent` where none comes in time."""
         self.engine.close(error)
-        async for _ in self:
-            pass
+        await self._passed_over()
+
+    async def fail(self, error: BaseException) -> None:
+        """Ends the connection for this error, of the peer's or of this side's: the peer is told the condition, where protocol headers have passed, and
+        has a moment to read it."""
+        if not self._is_begun:
+            return
+        await self._close_soon(Error(condition_of(error), str(error) if isinstance(error, Refusal) else None))
+        with contextlib.suppress(Refusal, OSError):
+            await within(self._waits.closing, self._passed_over(), "no answer to a Close")
+
+    async def _passed_over(self) -> None:
+        while await self._pump():
+            with contextlib.suppress(Missed):
+                for _ in self._coming:
+                    pass
 
 
-@contextlib.asynccontextmanager
-async def connect(
-    host: str,
-    port: int,
-    open: Open,
-    *,
-    login: Optional[sasl.Login] = sasl.Anonymous(),
-    tls: Optional[ssl.SSLContext] = None,
-    key: Optional[bytes] = None,
-    room: Optional[Room] = None,
-    library: Optional[str] = None,
-) -> AsyncIterator[Connection]:
-    """A connection to a peer that listens, with its headers and SASL done. `login=None` leaves SASL out."""
-    reader, writer = await asyncio.open_connection(host, port, ssl=tls)
-    connection = Connection(reader, writer, open, key=key, room=room, library=library)
-    try:
-        await connection.begin(login)
-        yield connection
-    finally:
-        await connection.aclose()
-
-
-async def serve(
-    host: str,
-    port: int,
-    open: Callable[[], Open],
-    handle: Callable[[Connection], Awaitable[None]],
-    *,
-    begin: Optional[Begin] = None,
-    check: Optional[Callable[[str, str], bool]] = None,
-    tls: Optional[ssl.SSLContext] = None,
-    **how: Any,
-) -> asyncio.AbstractServer:
-    """Listens; each client has a connection of its own, whose headers and SASL are done when `handle` is called. `begin` is how sessions begin on this
-    side. `check`, if there is one, judges a name and a password (PLAIN); else clients are anonymous."""
-
-    async def client(reader: asyncio.StreamReader, writer: asyncio.StreamWriter) -> None:
-        connection = Connection(reader, writer, open(), serves=begin or Begin(), **how)
-        try:
-            await connection.accept(check)
-            await handle(connection)
-        except (ConnectionError, Malformed, asyncio.TimeoutError):
-            pass
-        finally:
-            # where the loop ends meanwhile, nobody waits for this task
-            with contextlib.suppress(asyncio.CancelledError):
-                await connection.aclose()
-
-    return await asyncio.start_server(client, host, port, ssl=tls)
+def condition_of(error: BaseException) -> str:
+    """The condition by which a peer is told of an error: of a refusal its own; of what is this side's fault, that it is (AMQP 1.0 part 2, section 2.8.15)."""
+    if isinstance(error, Missed):
+        return Missed.CONDITION
+    if isinstance(error, Malformed):
+        return "amqp:decode-error"
+    if isinstance(error, Refusal) and error.condition:
+        return error.condition
+    return "amqp:frame-size-too-small" if isinstance(error, Refusal) and error.name == "TooLarge" else "amqp:internal-error"
