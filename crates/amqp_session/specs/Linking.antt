@@ -1,4 +1,4 @@
--- Part: every call exactly; inner.
+-- Part: every call exactly; other calls; inner.
 -- What each call of a session for its links does: output handles are allotted and released, and links are attached and detached
 -- (AMQP 1.0 part 2, sections 2.6.2 to 2.6.6).
 use Rattle.std.specs.Prelude.{◌≡◌, ◌<◌, ◌^◌, ℕ, Bool, true, false, not, if◌then◌else◌, List, Option, Some, None, is_some, Result, Ok, Err, IsSome}
