@@ -4,6 +4,7 @@ pub mod Client
 pub mod Linking
 pub mod Machine
 pub mod Operation
+pub mod Pairing
 pub mod Reading
 pub mod Receiving
 pub mod Record

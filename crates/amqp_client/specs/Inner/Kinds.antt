@@ -42,6 +42,10 @@ abbrev pub as_flow : Performative → Result FlowModel ReadError
 as_flow (its.Flow p) = Ok p
 as_flow p = Err Malformed
 
+abbrev pub as_transfer : Performative → Result TransferModel ReadError
+as_transfer (its.Transfer p) = Ok p
+as_transfer p = Err Malformed
+
 abbrev pub as_disposition : Performative → Result DispositionModel ReadError
 as_disposition (its.Disposition p) = Ok p
 as_disposition p = Err Malformed
