@@ -1,10 +1,11 @@
 -- Part: other calls.
 -- Pairs of handles: a transfer names its link by the peer's handle, and in its performative by this side's.
-use Rattle.std.specs.Prelude.{◌≡◌, ◌⊎◌, ℕ, Bool, true, false, Option, Some, None, nat_eq}
+use Rattle.std.specs.Prelude.{◌≡◌, ◌⊎◌, ℕ, Bool, true, false, Option, Some, None, if◌then◌else◌, nat_eq}
 use Rattle.std.specs.Map.{lookup}
 use Rattle.amqp_session.specs.Linking.{output_at}
 use Rattle.amqp_session.specs.Relay.{Relays}
 use Rattle.amqp_session.specs.Session.{SessionView}
+use Rattle.amqp_session.specs.States.{is_mapped}
 use Rattle.amqp_session.specs.declared.numbers.OutputHandle.{OutputHandle}
 use Rattle.amqp_engine.specs.EngineView.{EngineView}
 use Rattle.amqp_engine.specs.declared.engine.input.Input.{Input}
@@ -18,10 +19,11 @@ abbrev pub is_handle : Option OutputHandle → ℕ → Bool
 is_handle None n = false
 is_handle (Some h) n = nat_eq h.0 n
 
--- whether the link that is attached under the first handle has the second one, in the session that was found; with none the engine refuses
+-- Whether the link that is attached under the first handle has the second one, in the session that was found. Where there is none, or it is not
+-- mapped, the engine refuses.
 abbrev pub is_pair_in : {R : Type 0} → Option (SessionView R) → ℕ → ℕ → Bool
 is_pair_in None input output = true
-is_pair_in (Some s) input output = is_handle (output_at input s.links) output
+is_pair_in (Some s) input output = if is_mapped s.state then is_handle (output_at input s.links) output else true
 
 abbrev pub is_pair : {R : Type 0} → EngineView R → ℕ → ℕ → ℕ → Bool
 is_pair v n input output = is_pair_in (lookup (nat_eq n) v.sessions) input output

@@ -42,9 +42,9 @@
 //! A call answers a status ([`Status`]) and a number: how many bytes it wrote, or, of `Receive`, took.
 //!
 //! - 0 `Done`.
-//! - 1 `Refused`, by a name, which `Refusal` gives. A transfer whose two handles are not those of one live link of the session (the peer's attach
-//!   came on the one, and was not followed by a detach of this side's or the peer's; the other was allotted to that link) is refused
-//!   `UnattachedHandle`, and is not run. A frame that does not fit the peer's limit is refused `TooLarge`. A size below 8, or above this
+//! - 1 `Refused`, by a name, which `Refusal` gives. In a session that is mapped a transfer whose two handles are not those of one live link (the
+//!   peer's attach came on the one, and no detach of either side since; the other was allotted to that link) is refused `UnattachedHandle`, and is
+//!   not run. A frame that does not fit the peer's limit is refused `TooLarge`. A size below 8, or above this
 //!   side's max-frame-size, is refused `BadSize`, and no byte is taken from then on.
 //! - 2 `NoMemory`: memory was refused, and the request or the frame was not taken; it may be asked again. Where it was taken, and what it hands
 //!   out found no room, the answer is another: that waits in the engine, and goes out with the next request or by `Send`. `Send` answers

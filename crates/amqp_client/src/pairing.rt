@@ -8,8 +8,8 @@ use amqp_engine::{Engine, Input};
 use amqp_session::{InputHandle, LinkRelay};
 use amqp_types::Handle;
 
-/// Whether an input is no transfer whose two handles are not those of one link. The engine itself compares them never: it would send the frame
-/// on one link, and tell the other what becomes of the delivery.
+/// Whether an input is no transfer whose two handles are not those of one link. The engine never compares them: it would send the frame on one
+/// link, and tell the other what becomes of the delivery.
 pub(crate) fn is_paired<R: LinkRelay>(engine: &Engine<R>, input: &Input<R>) -> bool
     ensures { result ≡ is_paired engine.now input.now }
 {
@@ -21,7 +21,7 @@ pub(crate) fn is_paired<R: LinkRelay>(engine: &Engine<R>, input: &Input<R>) -> b
     }
 }
 
-/// Whether both handles are those of one live link of the session. Where there is no such session, it is the engine that refuses.
+/// Whether both handles are those of one live link of the session. Where there is no such session, or it is not in `Mapped`, the engine refuses.
 fn is_pair<R: LinkRelay>(
     engine: &Engine<R>,
     session: SessionNo,
@@ -33,6 +33,9 @@ fn is_pair<R: LinkRelay>(
     let Some(session) = engine.session(session) else {
         return true;
     };
+    if !session.can_send() {
+        return true;
+    }
     match session.output_handle_of(input) {
         Some(handle) => handle.0 == output.0,
         None => false,
