@@ -1,4 +1,4 @@
-"""Rows of a client's transfers: where PERF ends and the payload begins, and which pairs of handles are one link's."""
+"""Rows of a client's transfers: where PERF ends and the payload begins, and which handles are those of one link."""
 
 from gen.client_rows import ATTACH, DETACH, END, EVENT, LINK, LINK_ON, NO_ERROR, TRANSFER, record, sending as sent, u32
 from gen.row import attach, begin, detach, disposition, end, transfer, wire
@@ -24,7 +24,7 @@ def parts(rows):
     rows.sends(wire(transfer(1, "u")))
 
 
-def pairs(rows):
+def handles(rows):
     rows.row("A transfer is of one link by both handles: of a link that is not attached yet it is not")
     rows.begun(7)
     for handle, name in enumerate("ab"):

@@ -332,7 +332,7 @@ def limits(rows):
 
 def main():
     rows = ClientRows()
-    for write in (made, opens, closes, splits, sessions, links, sending, client_transfers.parts, client_transfers.pairs, receiving, limits):
+    for write in (made, opens, closes, splits, sessions, links, sending, client_transfers.parts, client_transfers.handles, receiving, limits):
         write(rows)
     rows.write(ROWS)
 

@@ -102,7 +102,7 @@ int main(int count, char **words)
     try_sending();
     try_receiving();
     try_writers();
-    try_pairs();
+    try_handles();
     try_peers();
     try_numbers();
     try_streams();

@@ -47,7 +47,7 @@ void try_connection(void);
 void try_sending(void);
 void try_receiving(void);
 void try_writers(void);
-void try_pairs(void);
+void try_handles(void);
 void try_peers(void);
 void try_numbers(void);
 void try_streams(void);

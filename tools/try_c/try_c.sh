@@ -47,7 +47,7 @@ holds() {
 
 [ -n "$prefix" ] || { prefix=$folder/built && tools/build_c.sh "$prefix"; }
 include=$prefix/include library=$prefix/lib
-tests=(tools/try_c/try_c{,_bytes,_places,_operations,_links,_writers,_pairs,_peers,_streams,_texts,_recorded}.c)
+tests=(tools/try_c/try_c{,_bytes,_places,_operations,_links,_writers,_handles,_peers,_streams,_texts,_recorded}.c)
 strict=(-std=c99 -Wall -Wextra -Wpedantic -Wconversion -Wshadow -Werror -I"$include" -Itools/try_c)
 
 as_cpp() {

@@ -74,9 +74,11 @@ transfer_after n bytes handle flag count after rest parts e f h i a =
     let b : a.after ≡ after = same_rest (number_at w32 bytes) handle a.handle after a.after e a.has_handle in
     let g : HasByte after a.flag a.rest = subst (λ t. HasByte t a.flag a.rest) b a.has_flag in
     let d : a.rest ≡ rest = same_rest (byte_at after) flag a.flag rest a.rest f g in
-    let k : HasNumber rest a.count a.parts = subst (λ t. HasNumber t a.count a.parts) d a.has_count in
-    (a.transfer, subst (λ t. HasTransfer count t a.transfer) (same_rest (number_at w32 rest) count a.count parts a.parts h k)
-    (subst (λ m. HasTransfer m a.parts a.transfer) (same_number (number_at w32 rest) count a.count parts a.parts h k) a.has_transfer))
+    let k : HasNumber rest a.count a.parts = subst (λ t. HasNumber t a.count a.parts) d a.has_count in (
+      a.transfer,
+      subst (λ t. HasTransfer count t a.transfer) (same_rest (number_at w32 rest) count a.count parts a.parts h k)
+          (subst (λ m. HasTransfer m a.parts a.transfer) (same_number (number_at w32 rest) count a.count parts a.parts h k) a.has_transfer),
+    )
 
 -- an operation that is none of these five is of a session
 pub plain_or_session : {R : Type 0} (o : Operation) (bytes : List ℕ) (r : Result (Input R) ReadError) → ¬ (o ≡ op.Open) → ¬ (o ≡ op.Close) → ¬ (o ≡ op.Release)

@@ -3,8 +3,8 @@ pub mod Asking
 pub mod Client
 pub mod Linking
 pub mod Machine
+pub mod Matching
 pub mod Operation
-pub mod Pairing
 pub mod Reading
 pub mod Receiving
 pub mod Record

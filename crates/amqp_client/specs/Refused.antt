@@ -29,8 +29,8 @@ abbrev pub bad_size : RefusedModel
 bad_size = record { name = codes "BadSize"; condition = codes "amqp:connection:framing-error"; peer = None }
 
 -- the two handles of a transfer that is requested are not those of one link
-abbrev pub no_pair : RefusedModel
-no_pair = record { name = codes "UnattachedHandle"; condition = []; peer = None }
+abbrev pub unmatched : RefusedModel
+unmatched = record { name = codes "UnattachedHandle"; condition = []; peer = None }
 
 -- the condition that an End or a Close carries
 abbrev pub condition_said : Option PeerAnswer → List ℕ

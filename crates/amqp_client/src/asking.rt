@@ -4,12 +4,12 @@ ghost use Rattle.std.specs.Prelude.{◌≡◌, [], Some};
 ghost use Rattle.amqp_client.specs.Reading.{Reads};
 ghost use Rattle.amqp_client.specs.Asked.{Answers};
 ghost use Rattle.amqp_client.specs.Asking.{Asks, AsksInSession, AsksOfSession, AsksOpen, AsksClose, AsksRelease, AsksForget, AsksSettle, HasNumber};
-ghost use Rattle.amqp_client.specs.Pairing.{RunsPaired};
+ghost use Rattle.amqp_client.specs.Matching.{RunsMatched};
 ghost use Rattle.amqp_client.specs.Asking.{AsksBegin, AsksEnd, AsksAttach, AsksDetach, AsksFlow, AsksTransfer, AsksDisposition, settings_of, IsBegun, IsNumber};
 
 use crate::machine::Machine;
+use crate::matching::is_matched;
 use crate::operation::Operation;
-use crate::pairing::is_paired;
 use crate::reading;
 use crate::status::Status;
 use amqp_connection::SessionNo;
@@ -30,21 +30,21 @@ pub(crate) fn ask<R: LinkRelay>(
     ensures { Answers R.gives operation input.now machine.old result machine.new }
 {
     match asked(alloc, operation, input) {
-        Ok(input) => run_paired(machine, input),
+        Ok(input) => run_matched(machine, input),
         Err(ReadError::Malformed) => Status::BadArgument,
         Err(ReadError::OutOfMemory) => Status::NoMemory,
     }
 }
 
 /// Has the machine run an input, unless it is a transfer whose two handles are not those of one link.
-fn run_paired<R: LinkRelay>(machine: &mut Machine<R>, input: Input<R>) -> Status
-    ensures { RunsPaired R.gives machine.old input result machine.new }
+fn run_matched<R: LinkRelay>(machine: &mut Machine<R>, input: Input<R>) -> Status
+    ensures { RunsMatched R.gives machine.old input result machine.new }
 {
-    if is_paired(machine.engine(), &input) {
+    if is_matched(machine.engine(), &input) {
         return machine.run(input);
     }
     drop(input);
-    machine.refuse_pair();
+    machine.refuse_unmatched();
     Status::Refused
 }
 

@@ -80,7 +80,7 @@
 //! # What is proved, and what is only tested
 //!
 //! `specs/Client` says of each operation what it does. A request is one run of the engine with the one input that its bytes ask for, or its bytes
-//! ask for none, or for a transfer whose two handles are not those of one link (`specs/Pairing`); what it sends goes after what waits. The bytes that were kept and those that were taken are frames, each of which is run once, in
+//! ask for none, or for a transfer whose two handles are not those of one link (`specs/Matching`); what it sends goes after what waits. The bytes that were kept and those that were taken are frames, each of which is run once, in
 //! order, and what is kept then. What `Send` writes is a front of what waits, as much as fits, and waits no longer. A record is that of the event.
 //! An output that is too small stays as it is, and so does all else.
 //!
@@ -95,8 +95,8 @@ mod client;
 mod key;
 mod linking;
 mod machine;
+mod matching;
 mod operation;
-mod pairing;
 mod reading;
 mod receiving;
 mod record;

@@ -3,7 +3,7 @@
 ghost use Rattle.std.specs.Prelude.{◌≡◌, ◌<◌, ◌∷◌, [], List, length};
 ghost use Rattle.amqp_engine.specs.EngineView.{new_engine};
 ghost use Rattle.amqp_engine.specs.Legal.{Legal};
-ghost use Rattle.amqp_client.specs.Refused.{Notes, bad_size, no_pair};
+ghost use Rattle.amqp_client.specs.Refused.{Notes, bad_size, unmatched};
 ghost use Rattle.amqp_client.specs.Machine.{new_machine, RunsOne, SendsOut, TakesOff, TakesFront, Pushes, status_of};
 
 use crate::refused::Refused;
@@ -95,10 +95,10 @@ impl<R: LinkRelay> Machine<R> {
     }
 
     /// Notes that the two handles of a transfer are not those of one link.
-    pub(crate) fn refuse_pair(&mut self)
-        ensures { self.new ≡ record self.old { last = no_pair } }
+    pub(crate) fn refuse_unmatched(&mut self)
+        ensures { self.new ≡ record self.old { last = unmatched } }
     {
-        self.last = Refused::no_pair();
+        self.last = Refused::unmatched();
     }
 
     /// Runs one input, after what waits in the engine. `NoMemory` where it was not taken.

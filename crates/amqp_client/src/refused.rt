@@ -1,7 +1,7 @@
 //! The last refusal: its name, and the condition that answers it, or the error with which the peer ended or closed.
 
 ghost use Rattle.std.specs.Prelude.{◌≡◌};
-ghost use Rattle.amqp_client.specs.Refused.{nothing, bad_size, no_pair, refused_of, condition_said, peer_error};
+ghost use Rattle.amqp_client.specs.Refused.{nothing, bad_size, unmatched, refused_of, condition_said, peer_error};
 
 use amqp_connection::ConnectionStateError;
 use amqp_engine::{Refusal, StepError};
@@ -53,8 +53,8 @@ impl Refused {
     }
 
     /// The two handles of a transfer are not those of one link. It is a request, so that no frame is answered.
-    pub(crate) fn no_pair() -> Refused
-        ensures { result ≡ no_pair }
+    pub(crate) fn unmatched() -> Refused
+        ensures { result ≡ unmatched }
     {
         Refused {
             name: "UnattachedHandle",

@@ -47,7 +47,7 @@ static void try_two(amqp *engine)
     CHECK(transfer(engine, 6, 1) == AMQP_DONE && sends(engine, "[02000000 005314 c0(05 5201 5201 a0(74) 43 41)]"));
 }
 
-void try_pairs(void)
+void try_handles(void)
 {
     amqp engine = begun();
     amqp_event event;
