@@ -1,6 +1,6 @@
 //! What an input is made of: numbers, flags, names and performatives.
 
-ghost use Rattle.std.specs.Prelude.{◌≡◌};
+ghost use Rattle.std.specs.Prelude.{◌≡◌, ◌-◌, length, nat_eq};
 ghost use Rattle.std.specs.Int.{w32};
 ghost use Rattle.std.specs.Option.{option_map};
 ghost use Rattle.amqp_values.specs.Reading.{number_at, byte_at, ReadsFront};
@@ -268,7 +268,7 @@ pub(crate) fn transfer_and_payload(
     let len = input.len();
     match front(alloc, input) {
         Ok((performative, payload)) => {
-            if len.saturating_sub(payload.len()) != count as usize {
+            if !has_length(count, len, &payload) {
                 drop(performative);
                 return Err(ReadError::Malformed);
             }
@@ -276,6 +276,13 @@ pub(crate) fn transfer_and_payload(
         }
         Err(error) => Err(error),
     }
+}
+
+/// Whether the performative has this length, where it and the payload after it are `len` bytes.
+fn has_length(count: u32, len: usize, payload: &Bytes) -> bool
+    ensures { result ≡ nat_eq (len - length payload.now) count }
+{
+    len.saturating_sub(payload.len()) == count as usize
 }
 
 fn with_payload(performative: Performative, payload: Bytes) -> Result<(Transfer, Bytes), ReadError>

@@ -5,14 +5,14 @@ use Rattle.amqp_client.specs.Reading.{Reads, HasTransfer}
 use Rattle.amqp_client.proofs.ReadingLemmas.{payload_read, other_length, no_payload_read}
 use Rattle.amqp_client.proofs.reading.transfer_and_payload.Goals as goal
 
-pub returns-then-saturating_sub-count : goal.returns-then-saturating_sub-count
-returns-then-saturating_sub-count c = other_length c.args.count c.args.input.now c.in-Ok.performative c.in-Ok.payload c.in-Ok.ensures
-    (λ e. let t = c.if-saturating_sub-count.true in let s = c.saturating_sub.ensures in let l = c.len.ensures.value in grind (arith, nat_tests, common_steps))
+pub returns-then-not-has_length : goal.returns-then-not-has_length
+returns-then-not-has_length c = other_length c.args.count c.args.input.now c.in-Ok.performative c.in-Ok.payload c.in-Ok.ensures
+    (λ e. let t = c.if-not-has_length.true in let s = c.has_length.ensures in grind (arith, nat_tests, common_steps))
 
-pub returns-else-saturating_sub-count : goal.returns-else-saturating_sub-count
-returns-else-saturating_sub-count c = subst (Reads (HasTransfer c.args.count c.args.input.now)) (sym c.with_payload.ensures)
+pub returns-else-not-has_length : goal.returns-else-not-has_length
+returns-else-not-has_length c = subst (Reads (HasTransfer c.args.count c.args.input.now)) (sym c.with_payload.ensures)
     (payload_read c.args.count c.args.input.now c.in-Ok.performative c.in-Ok.payload c.in-Ok.ensures
-    (let t = c.if-saturating_sub-count.false in let s = c.saturating_sub.ensures in let l = c.len.ensures.value in grind (arith, nat_tests, common_steps)))
+    (let t = c.if-not-has_length.false in let s = c.has_length.ensures in grind (arith, nat_tests, common_steps)))
 
 pub returns-in-Err : goal.returns-in-Err
 returns-in-Err c = no_payload_read c.args.count c.args.input.now c.in-Err.error c.in-Err.ensures
