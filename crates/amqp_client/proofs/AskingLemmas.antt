@@ -1,5 +1,5 @@
 -- What bytes ask for, where parts of them were read.
-use Rattle.std.proofs.Common.{◌≡◌, ℕ, List, [], Bool, Option, Some, None, Result, Ok, Err, refl, ap, sym, subst, ◌∙◌}
+use Rattle.std.proofs.Common.{◌≡◌, ℕ, List, Option, Some, None, Result, Ok, Err, refl, ap, sym, subst, ◌∙◌}
 use Rattle.std.specs.Int.{w32}
 use Rattle.amqp_values.specs.Reading.{number_at, byte_at}
 use Rattle.amqp_values.specs.declared.error.ReadError.{ReadError}
@@ -11,7 +11,6 @@ use Rattle.amqp_types.specs.Transfer.{TransferModel}
 use Rattle.amqp_types.specs.Performatives.{IsPerformative}
 use Rattle.amqp_types.specs.declared.performatives.Performative.TheVariants as its
 use Rattle.amqp_session.specs.LinkFlow.{link_part}
-use Rattle.amqp_session.specs.declared.flow.LinkFlow.{LinkFlow}
 use Rattle.amqp_engine.specs.declared.engine.input.Input.{Input}
 use Rattle.amqp_client.specs.declared.operation.Operation.{Operation}
 use Rattle.amqp_client.specs.declared.operation.Operation.TheVariants as op

@@ -1,5 +1,5 @@
 -- What is read of bytes, by kind.
-use Rattle.std.proofs.Common.{◌≡◌, ◌<◌, ◌+◌, ◌-◌, ℕ, List, [], ◌∷◌, ◌++◌, Bool, true, false, arith, take, drop, length, get_or, Option, Some, None, Result, Ok, Err, refl, ap, sym, subst, ◌∙◌}
+use Rattle.std.proofs.Common.{◌≡◌, ◌<◌, ◌+◌, ◌-◌, ℕ, List, [], ◌∷◌, ◌++◌, arith, take, drop, length, get_or, Option, Some, None, Result, Ok, Err, ap, sym, subst, ◌∙◌}
 use Rattle.std.proofs.Math.Seq.{take-length, drop-length}
 use Rattle.std.proofs.lemmas.List.{append-nil, drop_more, length-append}
 use Rattle.amqp_values.specs.Reading.{ReadsFront}
@@ -10,8 +10,7 @@ use Rattle.amqp_types.specs.Performatives.{IsPerformative}
 use Rattle.amqp_types.specs.declared.performatives.Performative.{Performative}
 use Rattle.amqp_types.specs.declared.performatives.Performative.TheVariants as its
 use Rattle.amqp_client.specs.Inner.Kinds.{whole_of, with_payload, as_open, as_begin, as_attach, as_detach, as_flow, as_transfer, as_disposition}
-use Rattle.amqp_types.specs.Error.{ErrorModel, error_at}
-use Rattle.amqp_client.specs.Reading.{HasTransfer, IsErrorIfAny, IsSomeError, Reads, ReadsOne, flag_of}
+use Rattle.amqp_client.specs.Reading.{HasTransfer, Reads, ReadsOne}
 
 abbrev said : Performative × List ℕ → Option (Performative × List ℕ) → Performative × List ℕ
 said d None = d

@@ -6,7 +6,6 @@ use Rattle.amqp_values.specs.declared.error.ReadError.TheVariants.{Malformed, Ou
 use Rattle.amqp_types.specs.Error.{ErrorModel, error_at}
 use Rattle.amqp_types.specs.Performatives.{IsPerformative}
 use Rattle.amqp_types.specs.Transfer.{TransferModel}
-use Rattle.amqp_types.specs.declared.performatives.Performative.{Performative}
 use Rattle.amqp_types.specs.declared.performatives.Performative.TheVariants as its
 use Rattle.amqp_types.specs.declared.definitions.ReceiverSettleMode.{ReceiverSettleMode}
 use Rattle.amqp_types.specs.declared.definitions.ReceiverSettleMode.TheVariants.{First, Second}

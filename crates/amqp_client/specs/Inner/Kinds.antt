@@ -1,6 +1,6 @@
 -- Part: inner.
 -- The performative of a kind, where bytes were read as one.
-use Rattle.std.specs.Prelude.{◌≡◌, [], ◌∷◌, ℕ, List, Result, Ok, Err}
+use Rattle.std.specs.Prelude.{[], ◌∷◌, ℕ, List, Result, Ok, Err}
 use Rattle.amqp_values.specs.declared.error.ReadError.{ReadError}
 use Rattle.amqp_values.specs.declared.error.ReadError.TheVariants.{Malformed}
 use Rattle.amqp_types.specs.Transfer.{TransferModel}
