@@ -5,10 +5,8 @@
 //! rustc --edition 2024 -O program.rs -L native=PREFIX/lib -l static=amqp    # with `mod amqp_engine;`
 //! ```
 //!
-//! It compiles in the editions 2021 and 2024, by a compiler of 1.82 or later.
-//!
 //! An [`Engine`] takes bytes and requests, and gives bytes and events. It opens no socket and reads no clock. Performatives go in and come out as
-//! their bytes (AMQP 1.0 part 2, section 2.7). The library's exports are proved; this file is not.
+//! their bytes (AMQP 1.0 part 2, section 2.7). The library's exports are proved; this file is not. Editions 2021 and 2024, from rustc 1.82 on.
 
 #![allow(dead_code)]
 
@@ -84,16 +82,14 @@ impl fmt::Display for Error {
 
 impl std::error::Error for Error {}
 
-/// For how many events of each kind memory is taken at the start, about 352 bytes for each. One frame leaves at most one attach or detach, one flow,
-/// one transfer, and nothing more is received while events wait: so 1 of these is enough.
+/// For how many events of each kind memory is taken at the start. One frame leaves at most one of the first three, so 1 is enough.
 #[derive(Clone, Copy, Debug)]
 pub struct Room {
     /// Attaches and detaches.
     pub links: u32,
     pub flows: u32,
     pub transfers: u32,
-    /// As many as deliveries may be open at once in one session and one direction, since one frame may settle them all. Those past the room are
-    /// settled, but have no event; `missed` counts them.
+    /// One frame may settle all deliveries that are open. Those past the room have no event; `missed` counts them.
     pub dispositions: u32,
 }
 
@@ -263,7 +259,7 @@ impl Engine {
         self.ask(Operation::Open, &[])
     }
 
-    /// With an error (a described list `amqp:error`), or with none. One of no bytes is `BadArgument`.
+    /// With an error (a described list `amqp:error`), or with none, as in `end` too. One of no bytes is `BadArgument`.
     pub fn close(&mut self, error: Option<&[u8]>) -> Result<(), Error> {
         self.ask(Operation::Close, &[&[error.is_some() as u8], error.unwrap_or_default()])
     }
@@ -273,7 +269,6 @@ impl Engine {
         self.ask(Operation::Begin, &[&session.to_be_bytes(), begin])
     }
 
-    /// The session ends, with an error or with none, as in [`Engine::close`]; or the peer's End is answered.
     pub fn end(&mut self, session: u32, error: Option<&[u8]>) -> Result<(), Error> {
         self.ask(Operation::End, &[&session.to_be_bytes(), &[error.is_some() as u8], error.unwrap_or_default()])
     }
@@ -315,11 +310,9 @@ impl Engine {
         self.ask(Operation::Flow, &[&session.to_be_bytes(), flow])
     }
 
-    /// A transfer of a link, the first of its delivery or a later one. The input handle and the handle in PERF are those of one link, whose attach
-    /// came and which neither side has detached: else it is refused `UnattachedHandle`. PERF of no bytes is `BadArgument`.
+    /// A transfer of the attached link that has the input handle and the handle in PERF: the first of its delivery, or a later one.
     pub fn transfer(&mut self, session: u32, input_handle: u32, first: bool, transfer: &[u8], payload: &[u8]) -> Result<(), Error> {
-        let length = u32::try_from(transfer.len()).map_err(|_| Error::BadArgument)?.to_be_bytes();
-        let handle = input_handle.to_be_bytes();
+        let (length, handle) = (u32::try_from(transfer.len()).map_err(|_| Error::BadArgument)?.to_be_bytes(), input_handle.to_be_bytes());
         self.ask(Operation::Transfer, &[&session.to_be_bytes(), &handle, &[first as u8], &length, transfer, payload])
     }
 
