@@ -15,7 +15,7 @@
 
    The folder amqp/ has the exports, the calls that are made of them, writers of performatives, and readers of events and of fields. All numbers
    in inputs and outputs are in network order; PERF stands for the bytes of one performative (AMQP 1.0 part 2, section 2.7): its descriptor and
-   its list, as in a frame after the header.
+   its list, as in a frame after the header. Of no bytes there is no PERF: where a writer answered 0, each call answers AMQP_BAD_ARGUMENT.
 
    What the caller owes:
    - The place is all zero before the first call (AMQP_EMPTY), and from then on only these calls write it.

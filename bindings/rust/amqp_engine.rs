@@ -2,11 +2,11 @@
 //!
 //! ```sh
 //! tools/build_c.sh PREFIX
-//! rustc --edition 2021 -O program.rs -L native=PREFIX/lib -l static=amqp    # with `mod amqp_engine;`
+//! rustc --edition 2024 -O program.rs -L native=PREFIX/lib -l static=amqp    # with `mod amqp_engine;`
 //! ```
 //!
 //! An [`Engine`] takes bytes and requests, and gives bytes and events. It opens no socket and reads no clock. Performatives go in and come out as
-//! their bytes (AMQP 1.0 part 2, section 2.7). The library's exports are proved; this file is not.
+//! their bytes (AMQP 1.0 part 2, section 2.7). The library's exports are proved; this file is not. Editions 2021 and 2024, from rustc 1.82 on.
 
 #![allow(dead_code)]
 
@@ -19,7 +19,7 @@ struct Place {
     at: *mut c_void,
 }
 
-extern "C" {
+unsafe extern "C" {
     fn amqp_new(place: *mut Place, input: *const u8, input_length: usize) -> i32;
     fn amqp_call(
         place: *mut Place,
@@ -82,20 +82,20 @@ impl fmt::Display for Error {
 
 impl std::error::Error for Error {}
 
-/// For how many events of each kind memory is taken at the start.
+/// For how many events of each kind memory is taken at the start. One frame leaves at most one of the first three, so 1 is enough.
 #[derive(Clone, Copy, Debug)]
 pub struct Room {
     /// Attaches and detaches.
     pub links: u32,
     pub flows: u32,
-    /// At least the incoming window of the sessions.
     pub transfers: u32,
+    /// One frame may settle all deliveries that are open. Those past the room have no event; `missed` counts them.
     pub dispositions: u32,
 }
 
 impl Default for Room {
     fn default() -> Room {
-        Room { links: 64, flows: 64, transfers: 2048, dispositions: 2048 }
+        Room { links: 1, flows: 1, transfers: 1, dispositions: 2048 }
     }
 }
 
@@ -259,9 +259,9 @@ impl Engine {
         self.ask(Operation::Open, &[])
     }
 
-    /// An error (a described list `amqp:error`), or nothing.
-    pub fn close(&mut self, error: &[u8]) -> Result<(), Error> {
-        self.ask(Operation::Close, &[error])
+    /// With an error (a described list `amqp:error`), or with none, as in `end` too. One of no bytes is `BadArgument`.
+    pub fn close(&mut self, error: Option<&[u8]>) -> Result<(), Error> {
+        self.ask(Operation::Close, &[&[error.is_some() as u8], error.unwrap_or_default()])
     }
 
     /// A session begins, under a number that none had, with PERF of a Begin without remote-channel.
@@ -269,8 +269,8 @@ impl Engine {
         self.ask(Operation::Begin, &[&session.to_be_bytes(), begin])
     }
 
-    pub fn end(&mut self, session: u32, error: &[u8]) -> Result<(), Error> {
-        self.ask(Operation::End, &[&session.to_be_bytes(), error])
+    pub fn end(&mut self, session: u32, error: Option<&[u8]>) -> Result<(), Error> {
+        self.ask(Operation::End, &[&session.to_be_bytes(), &[error.is_some() as u8], error.unwrap_or_default()])
     }
 
     /// The session's channel is given back, after the exchange of End.
@@ -310,10 +310,10 @@ impl Engine {
         self.ask(Operation::Flow, &[&session.to_be_bytes(), flow])
     }
 
-    /// A transfer of the link of an input handle: the first of its delivery, or a later one.
+    /// A transfer of the attached link that has the input handle and the handle in PERF: the first of its delivery, or a later one.
     pub fn transfer(&mut self, session: u32, input_handle: u32, first: bool, transfer: &[u8], payload: &[u8]) -> Result<(), Error> {
-        let handle = input_handle.to_be_bytes();
-        self.ask(Operation::Transfer, &[&session.to_be_bytes(), &handle, &[first as u8], transfer, payload])
+        let (length, handle) = (u32::try_from(transfer.len()).map_err(|_| Error::BadArgument)?.to_be_bytes(), input_handle.to_be_bytes());
+        self.ask(Operation::Transfer, &[&session.to_be_bytes(), &handle, &[first as u8], &length, transfer, payload])
     }
 
     pub fn disposition(&mut self, session: u32, disposition: &[u8]) -> Result<(), Error> {

@@ -51,7 +51,8 @@ fn a_connection_opens_and_closes() {
     assert_eq!(engine.remote_open().unwrap(), b"\0\x53\x10\xc0\x0d\x03\xa1\x04peer\x40\x70\0\0\x04\0");
     assert_eq!((engine.max_piece_len().unwrap(), engine.missed().unwrap()), (1020, 0));
     assert_eq!((engine.session_of(3).unwrap(), engine.session_of(4).unwrap()), (Some(7), None));
-    engine.close(&[]).unwrap();
+    assert_eq!(engine.close(Some(&[])), Err(Error::BadArgument));
+    engine.close(None).unwrap();
     assert_eq!(sent(&mut engine), framed(0, b"\0\x53\x18\x45"));
     hear(&mut engine, 0, b"\0\x53\x18\x45").unwrap();
     assert_eq!(engine.state().unwrap(), 13);
@@ -71,6 +72,25 @@ fn a_message_is_sent_and_accepted() {
 }
 
 #[test]
+fn a_payload_is_never_the_performative() {
+    let mut engine = sending();
+    let transfer = b"\0\x53\x14\xc0\x08\x05\x43\x40\xa0\x01t\x43\x42";
+    assert_eq!(engine.transfer(7, 5, true, b"", transfer), Err(Error::BadArgument));
+    assert_eq!(engine.transfer(7, 5, true, &transfer[..3], &transfer[3..]), Err(Error::BadArgument));
+    assert_eq!(sent(&mut engine), b"");
+}
+
+#[test]
+fn a_transfer_is_of_one_link() {
+    let mut engine = sending();
+    let transfer = b"\0\x53\x14\xc0\x08\x05\x43\x40\xa0\x01t\x43\x42";
+    let refused = engine.transfer(7, 6, true, transfer, b"hello").unwrap_err();
+    assert!(matches!(refused, Error::Refused(refusal) if refusal.name == "UnattachedHandle"));
+    assert_eq!(sent(&mut engine), b"");
+    engine.transfer(7, 5, true, transfer, b"hello").unwrap();
+}
+
+#[test]
 fn events_are_taken_before_more_comes() {
     let mut engine = sending();
     hear(&mut engine, 3, b"\0\x53\x13\xc0\x0c\x07\x43\x52\x40\x43\x52\x0a\x52\x05\x43\x52\x0a").unwrap();
@@ -86,7 +106,8 @@ fn what_is_none_is_refused() {
     assert!(matches!(Engine::new([0; 16], Room::default(), b"\0\x53\x11\x45"), Err(Error::BadArgument)));
     let mut engine = made();
     assert_eq!(engine.begin(7, OPEN), Err(Error::BadArgument));
-    assert!(matches!(engine.end(7, &[]), Err(Error::Refused(refusal)) if refusal.name == "NoSession"));
+    assert!(matches!(engine.end(7, None), Err(Error::Refused(refusal)) if refusal.name == "NoSession"));
+    assert_eq!(engine.end(7, Some(&[])), Err(Error::BadArgument));
     let moved = std::thread::spawn(move || engine.state().unwrap());
     assert_eq!(moved.join().unwrap(), 3);
 }

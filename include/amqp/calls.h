@@ -88,14 +88,15 @@ static inline uint32_t amqp_u32_of(const uint8_t *at)
 typedef struct amqp_settings {
     /* The key of the engine's maps. With one that the peer cannot guess it cannot choose names or numbers that collide. */
     uint8_t key[16];
-    /* For how many events of each kind memory is taken at the start, about 352 bytes for each: attaches and detaches, flows, transfers,
-       dispositions. Take the events after each call of amqp_receive: then 64, 64, the session's incoming window and the same again are enough.
-       A flow or transfer past its room is refused `OutOfMemory`; of a disposition or detach past it amqp_missed tells. */
+    /* For how many events of each kind memory is taken at the start, 352 bytes for each: attaches and detaches, flows, transfers, dispositions.
+       Nothing is received while events wait, and one frame leaves at most one of the first three: so 1, 1, 1 are enough. It leaves a disposition
+       for each open delivery that it names: as many as may be open in one session and one direction are enough. Where more are, those past the
+       room are settled without an event, and amqp_missed counts them. Memory that no event reached stays untouched. */
     uint32_t links, flows, transfers, dispositions;
 } amqp_settings;
 
-/* Settings whose key is zero, with room for a session whose incoming window is 2048. */
-#define AMQP_SETTINGS { { 0 }, 64, 64, 2048, 2048 }
+/* Settings whose key is zero, with room for 2048 open deliveries: 722 kB, of which a page or two is touched until one frame settles many. */
+#define AMQP_SETTINGS { { 0 }, 1, 1, 1, 2048 }
 
 /* Makes an engine: amqp_new with these settings and PERF of this side's Open. */
 static inline int32_t amqp_start(amqp *place, const amqp_settings *settings, const uint8_t *open, size_t open_length)
@@ -109,8 +110,7 @@ static inline int32_t amqp_start(amqp *place, const amqp_settings *settings, con
 /* Takes received bytes, as they come after the protocol headers: frames with their sizes, in any splitting. What does not make a whole frame
    is kept. Stops after a frame that is refused (REFUSED), and after one that left events (DONE); `taken` says how many of the bytes were
    taken, in each of these cases and with NO_MEMORY: give the rest again, where memory was refused even if nothing is left, since a whole frame
-   may be kept. EVENTS_WAIT where events wait. A size below 8 or above this side's max-frame-size is refused as `BadSize`, and nothing is taken from
-   then on. */
+   may be kept. EVENTS_WAIT where events wait. A size below 8 or above this side's max-frame-size is refused as `BadSize`, and all after it. */
 static inline int32_t amqp_receive(amqp *place, const uint8_t *bytes, size_t length, size_t *taken)
 {
     uint8_t none[1] = { 0 };
@@ -131,10 +131,11 @@ static inline int32_t amqp_open(amqp *place)
     return amqp_join_and_ask(place, AMQP_OPEN, NULL, 0, NULL, 0, NULL, 0);
 }
 
-/* This side's Close is to be sent; an error (amqp_write_error), or of no bytes for none. */
+/* This side's Close is to be sent, with an error (amqp_write_error), or with none, which NULL says. An error of 0 bytes is BAD_ARGUMENT. */
 static inline int32_t amqp_close(amqp *place, const uint8_t *error, size_t error_length)
 {
-    return amqp_join_and_ask(place, AMQP_CLOSE, error, error_length, NULL, 0, NULL, 0);
+    uint8_t is_there = error ? 1 : 0;
+    return amqp_join_and_ask(place, AMQP_CLOSE, &is_there, 1, error, error ? error_length : 0, NULL, 0);
 }
 
 /* An operation on a session. For use within this header. */
@@ -151,10 +152,13 @@ static inline int32_t amqp_begin(amqp *place, uint32_t session, const uint8_t *b
     return amqp_of_session(place, AMQP_BEGIN, session, begin, length);
 }
 
-/* The session ends, with an error or (no bytes) with none; or the peer's End is answered. */
+/* The session ends, with an error, or with none, which NULL says, as in amqp_close; or the peer's End is answered. */
 static inline int32_t amqp_end(amqp *place, uint32_t session, const uint8_t *error, size_t error_length)
 {
-    return amqp_of_session(place, AMQP_END, session, error, error_length);
+    uint8_t head[5];
+    amqp_u32_at(head, session);
+    head[4] = error ? 1 : 0;
+    return amqp_join_and_ask(place, AMQP_END, head, sizeof head, error, error ? error_length : 0, NULL, 0);
 }
 
 /* The session's channel is given back for another, after the exchange of End. */
@@ -226,14 +230,19 @@ static inline int32_t amqp_flow(amqp *place, uint32_t session, const uint8_t *fl
     return amqp_of_session(place, AMQP_FLOW, session, flow, length);
 }
 
-/* A Transfer (its PERF, then the payload) of the link of an input handle is to be sent: the first of its delivery (1), or a later one (0).
+/* A Transfer (its PERF, and the payload) of a link is to be sent: the first of its delivery (1), or a later one (0). The input handle and the handle
+   in PERF are those of one link, whose attach came and which neither side has detached: else it is REFUSED (`UnattachedHandle`). PERF of 0 bytes, as
+   a writer leaves it that had too little room, is BAD_ARGUMENT: the payload is never read as PERF.
    The delivery's number is the engine's. A payload longer than amqp_payload_room is cut, which a peer's window counts as several. */
 static inline int32_t amqp_transfer(amqp *place, uint32_t session, uint32_t input_handle, int first, const uint8_t *transfer, size_t length,
                                     const uint8_t *payload, size_t payload_length)
 {
-    uint8_t head[9];
+    uint8_t head[13];
+    if (length > UINT32_MAX)
+        return AMQP_BAD_ARGUMENT;
     amqp_u32_at(amqp_u32_at(head, session), input_handle);
     head[8] = first ? 1 : 0;
+    amqp_u32_at(head + 9, (uint32_t)length);
     return amqp_join_and_ask(place, AMQP_TRANSFER, head, sizeof head, transfer, length, payload, payload_length);
 }
 

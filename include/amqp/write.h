@@ -1,6 +1,7 @@
 /* Writers of performatives with their usual fields, of errors and of a message's body. For amqp.h.
 
-   Each writes to `out`, and answers how many bytes it wrote; 0 where they would be more than `room`, and of no bytes no call makes a performative.
+   Each writes to `out`, and answers how many bytes it wrote; 0 where they would be more than `room`. Of 0 bytes no call makes a performative or an
+   error, whatever follows them: it answers AMQP_BAD_ARGUMENT.
    100 bytes are room enough beside the texts that are given. Who needs other fields writes the bytes by itself. Texts end at their 0; a null text
    is an absent field, where it may be absent. Lists are written with four-byte sizes; the engine sends each performative in its shortest spelling. */
 #ifndef AMQP_WRITE_H

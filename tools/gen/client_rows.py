@@ -13,6 +13,9 @@ HEADER_EXCHANGE, OPEN_SENT, OPENED, CLOSE_RECEIVED, CLOSE_SENT = 3, 7, 9, 10, 11
 # in the order of SessionState
 UNMAPPED, BEGIN_SENT, MAPPED, END_RECEIVED, DISCARDING = 0, 1, 3, 5, 6
 
+# what stands before the error of a Close or an End
+NO_ERROR, WITH_ERROR = "00", "01"
+
 KEY = "000102030405060708090a0b0c0d0e0f"
 OUR_OPEN = opening("client", 512, 255)
 PEER_OPEN = opening("peer", 1024, 255)
@@ -25,6 +28,11 @@ def u32(number):
 
 def error(condition, *description):
     return composite(ERROR, [symbol(condition), *map(string, description)]).hex()
+
+
+def sending(perf, payload="", session=7, given=3, is_first="01", length=None):
+    """What TRANSFER takes: its PERF has the length that stands before it, or another one is said."""
+    return u32(session) + u32(given) + is_first + u32(len(perf) // 2 if length is None else length) + perf + payload
 
 
 def record(kind, flags, session, given, taken, first, rest=""):

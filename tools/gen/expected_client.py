@@ -13,11 +13,12 @@ from pathlib import Path
 sys.path.insert(0, str(Path(__file__).resolve().parents[1]))
 
 from amqp.canonical import composite, uint
+from gen import client_transfers
 from gen.client_rows import (
     ATTACH, BAD_ARGUMENT, BEGIN, BEGIN_SENT, CLOSE, CLOSE_RECEIVED, CLOSE_SENT, DETACH, DISCARDING, DISPOSITION, DONE, END, END_RECEIVED, EVENT,
     EVENTS_WAIT, FLOW, FORGET, HEADER_EXCHANGE, KEY, LINK, LINK_ON, MAPPED, MAX_PIECE_LEN, MISSED, OPEN, OPENED, OPEN_SENT, OUR_OPEN, PAYLOAD_ROOM,
     PEER_OPEN, RECEIVE, REFUSAL, REFUSED, RELEASE, REMOTE_OPEN, SEND, SESSION_OF, SESSION_STATE, SETTLE, STATE, TOO_SMALL, TRANSFER, UNMAPPED,
-    ClientRows, error, record, u32,
+    NO_ERROR, WITH_ERROR, ClientRows, error, record, sending as sent, u32,
 )
 from gen.row import ACCEPTED, ERROR, attach, begin, closing, detach, disposition, end, flow, transfer, wire
 from shared.command import command
@@ -68,20 +69,22 @@ def opens(rows):
 def closes(rows):
     rows.row("This side closes")
     rows.opened()
-    rows.op(CLOSE)
+    rows.op(CLOSE, NO_ERROR)
     rows.sends(wire(closing()))
     rows.tells(STATE, f"{CLOSE_SENT:02x}")
-    rows.row("This side closes with an error")
+    rows.row("This side closes with an error, which is no other one, and not of no bytes")
     rows.opened()
-    rows.bad(CLOSE, "00", error("a:b") + "00", error("a:b")[:-2], composite(ERROR, []).hex(), begin())
-    rows.op(CLOSE, error("a:b"))
+    rows.bad(CLOSE, "", WITH_ERROR, "02", NO_ERROR + error("a:b"), error("a:b"), NO_ERROR + "00")
+    rows.bad(CLOSE, *(WITH_ERROR + it for it in (error("a:b") + "00", error("a:b")[:-2], composite(ERROR, []).hex(), begin())))
+    rows.sends()
+    rows.op(CLOSE, WITH_ERROR + error("a:b"))
     rows.sends(wire(closing("a:b")))
     rows.row("The peer closes, and nothing is to be told of that")
     rows.opened()
     came = wire(closing())
     rows.refused(RECEIVE, "RemoteClosed", "", came, len(came) // 2)
     rows.tells(STATE, f"{CLOSE_RECEIVED:02x}")
-    rows.op(CLOSE)
+    rows.op(CLOSE, NO_ERROR)
     rows.sends(wire(closing()))
     rows.row("The peer closes with an error, which is told with its words")
     for description in ((), ("what went wrong",)):
@@ -117,7 +120,7 @@ def splits(rows):
     rows.refused(RECEIVE, "BadSize", "amqp:connection:framing-error", wire(""), 0)
     rows.refused(RECEIVE, "BadSize", "amqp:connection:framing-error", "", 0)
     rows.row("What is asked goes on after that")
-    rows.op(CLOSE, error("amqp:connection:framing-error"))
+    rows.op(CLOSE, WITH_ERROR + error("amqp:connection:framing-error"))
     rows.sends(wire(closing("amqp:connection:framing-error")))
     rows.row("A size of 8 is the least, that of an empty frame; one of 7 comes after it, in two parts")
     rows.opened()
@@ -155,9 +158,9 @@ def sessions(rows):
     rows.op(SESSION_OF, "0002", 3, TOO_SMALL, 4)
     rows.tells(SESSION_OF, "", "0000")
     rows.bad(SESSION_OF, "", "00", "000002")
-    rows.bad(END, "", u32(7)[2:], u32(7) + "00", u32(7) + error("a:b") + "00")
-    rows.refused(END, "NoSession", "", u32(8))
-    rows.op(END, u32(7) + error("a:b"))
+    rows.bad(END, "", u32(7)[2:], u32(7), u32(7) + WITH_ERROR, u32(7) + error("a:b"), u32(7) + WITH_ERROR + error("a:b") + "00", u32(7) + NO_ERROR + "00")
+    rows.refused(END, "NoSession", "", u32(8) + NO_ERROR)
+    rows.op(END, u32(7) + WITH_ERROR + error("a:b"))
     rows.sends(wire(end("a:b")))
     rows.refused(FORGET, "IllegalState", "amqp:illegal-state", u32(7))
     rows.tells(SESSION_STATE, f"{DISCARDING:02x}", u32(7))
@@ -174,7 +177,7 @@ def sessions(rows):
     rows.begun(1)
     rows.refused(RECEIVE, "RemoteEnded", "", wire(end()), len(wire(end())) // 2)
     rows.tells(SESSION_STATE, f"{END_RECEIVED:02x}", u32(1))
-    rows.op(END, u32(1))
+    rows.op(END, u32(1) + NO_ERROR)
     rows.sends(wire(end()))
     rows.row("The peer ends a session with an error, which is told")
     rows.begun(1)
@@ -210,16 +213,15 @@ def links(rows):
 def sending(rows):
     rows.row("A delivery goes out, and what the peer says of it is told; too small an output leaves it for the next call")
     rows.linked()
-    rows.bad(TRANSFER, "", u32(7) + u32(3) + "01", u32(7) + u32(3) + "02" + transfer(None, "t"), u32(7) + u32(3) + "01" + begin())
-    rows.op(TRANSFER, u32(7) + u32(3) + "01" + transfer(None, "t") + "7071")
+    rows.op(TRANSFER, sent(transfer(None, "t"), "7071"))
     out = wire(transfer(0, "t") + "7071")
     rows.op(SEND, "", 0)
     rows.op(SEND, "", 5, DONE, 5, out[:10])
     rows.op(SEND, "", 1, DONE, 1, out[10:12])
     rows.sends(out[12:])
-    rows.refused(TRANSFER, "NoSession", "", u32(8) + u32(3) + "01" + transfer(None, "t"))
-    rows.op(TRANSFER, u32(7) + u32(3) + "01" + transfer(None, "u"))
-    rows.op(TRANSFER, u32(7) + u32(3) + "00" + transfer(None))
+    rows.refused(TRANSFER, "NoSession", "", sent(transfer(None, "t"), session=8))
+    rows.op(TRANSFER, sent(transfer(None, "u")))
+    rows.op(TRANSFER, sent(transfer(None), is_first="00"))
     rows.sends(wire(transfer(1, "u")), wire(transfer(None)))
     came = wire(disposition(0, settled=True))
     rows.receives(came)
@@ -233,7 +235,7 @@ def sending(rows):
     rows.row("A disposition without a state; one of two deliveries is two events, in the order of their numbers")
     rows.linked()
     for letter in "ab":
-        rows.op(TRANSFER, u32(7) + u32(3) + "01" + transfer(None, letter))
+        rows.op(TRANSFER, sent(transfer(None, letter)))
     rows.sends(wire(transfer(0, "a")), wire(transfer(1, "b")))
     rows.receives(wire(disposition(0, 1, True, None)))
     rows.tells(EVENT, record(4, 4 + 16, 7, 3, None, "", b"a".hex()))
@@ -253,7 +255,7 @@ def sending(rows):
     room = 1024 - 8 - len(head) // 2
     rows.tells(PAYLOAD_ROOM, u32(room), transfer(None, "t"))
     rows.op(PAYLOAD_ROOM, transfer(None, "t"), 3, TOO_SMALL, 4)
-    rows.bad(PAYLOAD_ROOM, "", begin(), transfer(None, "t")[:-2])
+    rows.bad(PAYLOAD_ROOM, "", begin(), transfer(None, "t")[:-2], transfer(None, "t") + "00")
     rows.tells(PAYLOAD_ROOM, "", long_transfer())
 
 
@@ -306,7 +308,7 @@ def receiving(rows):
     came = wire(transfer(0, "t", 3))
     rows.refused(RECEIVE, "OutOfMemory", "amqp:resource-limit-exceeded", came, len(came) // 2)
     rows.linked(room=(2, 0, 0, 0))
-    rows.op(TRANSFER, u32(7) + u32(3) + "01" + transfer(None, "t"))
+    rows.op(TRANSFER, sent(transfer(None, "t")))
     rows.sends(wire(transfer(0, "t")))
     rows.receives(wire(disposition(0, settled=True)))
     rows.tells(EVENT, "")
@@ -322,7 +324,7 @@ def limits(rows):
     rows.sends()
     rows.row("A refusal stays the last one until the next")
     rows.op(OPEN, "", 0, REFUSED)
-    rows.op(CLOSE)
+    rows.op(CLOSE, NO_ERROR)
     rows.refusal("IllegalState", "amqp:illegal-state")
     length = len("IllegalState\namqp:illegal-state\n")
     rows.op(REFUSAL, "", length - 1, TOO_SMALL, length)
@@ -330,7 +332,7 @@ def limits(rows):
 
 def main():
     rows = ClientRows()
-    for write in (made, opens, closes, splits, sessions, links, sending, receiving, limits):
+    for write in (made, opens, closes, splits, sessions, links, sending, client_transfers.parts, client_transfers.handles, receiving, limits):
         write(rows)
     rows.write(ROWS)
 

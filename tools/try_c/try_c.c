@@ -101,6 +101,9 @@ int main(int count, char **words)
     try_connection();
     try_sending();
     try_receiving();
+    try_writers();
+    try_handles();
+    try_peers();
     try_numbers();
     try_streams();
     try_texts();

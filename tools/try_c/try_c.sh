@@ -1,6 +1,7 @@
 #!/usr/bin/env bash
 # Tries the library for C: the tests tools/try_c/try_c*.c over the archive and over the shared library, also under valgrind where that is installed; the
-# headers as C++; a whole connection with each request for memory refused in turn; the wrapper for Rust, where there is a rustc; and over the
+# headers as C++; a whole connection with each request for memory refused in turn; what engines hold as events come; the wrapper for Rust in two
+# editions, where there is a rustc. What is not tried here for want of a program is named, a line each. And over the
 # shared library tools/try_c/try_c.py, tools/try_c/try_c_rows.py, and tools/try_c/try_c_captures.py with every recorded connection. The last line is 'N passed, M failed'.
 #
 #     tools/try_c/try_c.sh            builds the library first, by tools/build_c.sh
@@ -46,7 +47,7 @@ holds() {
 
 [ -n "$prefix" ] || { prefix=$folder/built && tools/build_c.sh "$prefix"; }
 include=$prefix/include library=$prefix/lib
-tests=(tools/try_c/try_c{,_bytes,_places,_operations,_links,_streams,_texts,_recorded}.c)
+tests=(tools/try_c/try_c{,_bytes,_places,_operations,_links,_writers,_handles,_peers,_streams,_texts,_recorded}.c)
 strict=(-std=c99 -Wall -Wextra -Wpedantic -Wconversion -Wshadow -Werror -I"$include" -Itools/try_c)
 
 as_cpp() {
@@ -76,9 +77,15 @@ each_refused() {
     echo "$((seen - bad)) passed, $bad failed"
 }
 
+# The tests of the wrapper for Rust, in an edition.
 wrapper() {
-    rustc --edition 2021 -O --test bindings/rust/amqp_engine.rs -L native="$library" -l static=amqp -o "$folder/wrapper" &&
+    rustc --edition "$1" -D warnings -O --test bindings/rust/amqp_engine.rs -L native="$library" -l static=amqp -o "$folder/wrapper" &&
         "$folder/wrapper" --test-threads 2
+}
+
+# Whether there is a program; where not, what is not tried without it.
+has() {
+    command -v "$1" >/dev/null || { echo "not tried, since there is no $1: $2" && false; }
 }
 
 python3 tools/try_c/try_c_recorded.py >"$folder/recorded"
@@ -87,14 +94,19 @@ holds "the headers as C++" as_cpp
 cc -g -O1 "${strict[@]}" -Wno-conversion "${tests[@]}" "$library/libamqp.a" -o "$folder/static"
 cc -g -O1 "${strict[@]}" -Wno-conversion "${tests[@]}" -L"$library" -lamqp -Wl,-rpath,"$library" -o "$folder/shared"
 cc -g -O1 "${strict[@]}" -Wno-conversion tools/try_c/try_c_{refused,bytes}.c "$library/libamqp.a" -o "$folder/refused"
+cc -g -O1 "${strict[@]}" -Wno-conversion tools/try_c/try_c_{resident,bytes}.c "$library/libamqp.a" -o "$folder/resident"
 counts "over libamqp.a" timeout 300 "$folder/static" "$folder/recorded"
 counts "over libamqp.so" timeout 300 "$folder/shared" "$folder/recorded"
 counts "each request for memory refused" each_refused
-if command -v valgrind >/dev/null; then
+counts "what engines hold" timeout 120 "$folder/resident"
+if has valgrind "all tests in C but the recordings, under valgrind"; then
     holds "under valgrind, and nothing is left" timeout 1200 valgrind -q --error-exitcode=9 --leak-check=full --errors-for-leak-kinds=all "$folder/refused"
     holds "all tests under valgrind" timeout 1200 valgrind -q --error-exitcode=9 --leak-check=full --errors-for-leak-kinds=all "$folder/static"
 fi
-if command -v rustc >/dev/null && [ -e bindings/rust/amqp_engine.rs ]; then holds "the wrapper for Rust" wrapper; fi
+if has rustc "the wrapper for Rust"; then
+    holds "the wrapper for Rust, edition 2021" wrapper 2021
+    holds "the wrapper for Rust, edition 2024" wrapper 2024
+fi
 counts "over Python" timeout 600 python3 tools/try_c/try_c.py "$library/libamqp.so"
 counts "rows of a client" timeout 60 python3 tools/try_c/try_c_rows.py "$library/libamqp.so"
 counts "what is refused of recorded connections" timeout 600 python3 tools/try_c/try_c_captures.py "$library/libamqp.so"

@@ -55,7 +55,7 @@ static void try_transfers(amqp *engine)
     length = amqp_write_transfer(transfer, sizeof transfer, 0, NULL, 0, 0, 0, 0);
     CHECK(amqp_transfer(engine, 7, 5, 0, transfer, length, (const uint8_t *)"ld", 2) == AMQP_DONE);
     CHECK(sends(engine, "[02000000 005314 c0(06 43 5201 a0(7431) 43 42 41) 776f72] [02000000 005314 c0(05 43 40 40 40 42) 6c64]"));
-    CHECK(amqp_transfer(engine, 7, 6, 1, transfer, length, NULL, 0) == AMQP_REFUSED);
+    CHECK(amqp_transfer(engine, 7, 5, 1, transfer, length, NULL, 0) == AMQP_REFUSED && refused_as(engine, "IllegalState", ""));
     CHECK(amqp_transfer(engine, 8, 5, 1, transfer, length, NULL, 0) == AMQP_REFUSED && refused_as(engine, "NoSession", ""));
 }
 

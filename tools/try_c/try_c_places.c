@@ -82,8 +82,7 @@ static void try_any_input(amqp *engine)
     for (operation = 2; operation < 30; operation++)
         CHECK(amqp_call(engine, operation, input, many, out, sizeof out, &written) == AMQP_BAD_ARGUMENT);
     for (operation = 3; operation < 16; operation++)
-        if (operation != AMQP_CLOSE)
-            CHECK(amqp_call(engine, operation, none, 0, out, sizeof out, &written) == AMQP_BAD_ARGUMENT);
+        CHECK(amqp_call(engine, operation, none, 0, out, sizeof out, &written) == AMQP_BAD_ARGUMENT);
     CHECK(amqp_call(engine, 0, none, 0, out, sizeof out, &written) == AMQP_BAD_ARGUMENT);
     CHECK(amqp_call(engine, 26, none, 0, out, sizeof out, &written) == AMQP_BAD_ARGUMENT);
     CHECK(amqp_call(engine, UINT32_MAX, none, 0, out, sizeof out, &written) == AMQP_BAD_ARGUMENT);
@@ -106,13 +105,21 @@ static void try_other_forms(void)
 {
     static const struct { uint32_t operation; const char *digits; } forms[] = {
         { AMQP_OPEN, "00" },
-        { AMQP_CLOSE, "00531745" },
-        { AMQP_CLOSE, "00531d c0(01 a3(666f6f)) 00" },
+        { AMQP_CLOSE, "01" },
+        { AMQP_CLOSE, "0000" },
+        { AMQP_CLOSE, "02" },
+        { AMQP_CLOSE, "00531d c0(01 a3(666f6f))" },
+        { AMQP_CLOSE, "01 00531745" },
+        { AMQP_CLOSE, "00 00531d c0(01 a3(666f6f))" },
+        { AMQP_CLOSE, "01 00531d c0(01 a3(666f6f)) 00" },
         { AMQP_BEGIN, "00000009 005312 c0(03 a1(6f7574) 43 41)" },
         { AMQP_BEGIN, "00000009 005311 c0(04 600000 43 520a 520a)" },
         { AMQP_BEGIN, "00000009 005311 c0(04 40 43 520a 520a) 00" },
         { AMQP_BEGIN, "000009 005311 c0(04 40 43 520a 520a)" },
-        { AMQP_END, "00000007 00531845" },
+        { AMQP_END, "00000007" },
+        { AMQP_END, "00000007 01" },
+        { AMQP_END, "00000007 01 00531845" },
+        { AMQP_END, "00000007 00531d c0(01 a3(666f6f))" },
         { AMQP_RELEASE, "0000000700" },
         { AMQP_FORGET, "000007" },
         { AMQP_LINK, "00000007 02 00 6e" },
@@ -123,8 +130,13 @@ static void try_other_forms(void)
         { AMQP_ATTACH, "00000007 005312 c0(02 a1(6f7574) 43)" },
         { AMQP_DETACH, "00000007 02 005316 c0(01 43)" },
         { AMQP_FLOW, "00000007 005313 c0(04 40 43 43 43)" },
-        { AMQP_TRANSFER, "00000007 00000005 02 005314 c0(01 43)" },
-        { AMQP_TRANSFER, "00000007 00000005 01 005315 c0(02 41 43)" },
+        { AMQP_TRANSFER, "00000007 00000005 02 00000007 005314 c0(01 43)" },
+        { AMQP_TRANSFER, "00000007 00000005 01 00000008 005315 c0(02 41 43)" },
+        { AMQP_TRANSFER, "00000007 00000005 01 005314 c0(01 43)" },
+        { AMQP_TRANSFER, "00000007 00000005 01 00000000 005314 c0(01 43)" },
+        { AMQP_TRANSFER, "00000007 00000005 01 00000006 005314 c0(01 43)" },
+        { AMQP_TRANSFER, "00000007 00000005 01 00000008 005314 c0(01 43)" },
+        { AMQP_TRANSFER, "00000007 00000005 01 ffffffff 005314 c0(01 43)" },
         { AMQP_DISPOSITION, "00000007 005314 c0(01 43)" },
         { AMQP_SETTLE, "00000007 02 00000000 00000000" },
         { AMQP_SETTLE, "00000007 01 00000000 000000" },
@@ -132,6 +144,7 @@ static void try_other_forms(void)
         { AMQP_EVENT, "00" },
         { AMQP_SESSION_OF, "000003" },
         { AMQP_PAYLOAD_ROOM, "005315 c0(02 41 43)" },
+        { AMQP_PAYLOAD_ROOM, "005314 c0(01 43) 00" },
         { AMQP_SESSION_STATE, "0000000700" },
     };
     amqp engine = begun();

@@ -20,6 +20,7 @@ from gen import expected_exchange
 
 OPERATIONS = {"open": 2, "close": 3, "begin": 4, "end": 5, "link": 8, ATTACH: 10, DETACH: 11, FLOW: 12, TRANSFER: 13, DISPOSITION: 14}
 BEGIN_PERF = composite(BEGIN, [b"\x40", uint(0), uint(5000), uint(5000)])
+NO_ERROR = b"\0"
 
 
 def u32(number):
@@ -49,30 +50,47 @@ def link(session, name, attach):
     return u32(session) + bytes([role, mode]) + name.encode()
 
 
-def sent(session, text):
+class Links:
+    """The peer's handles of links, by this side's: by the names in their attaches."""
+
+    def __init__(self):
+        self.own, self.theirs = {}, {}
+
+    def attach(self, handles, text):
+        if text[:3] == bytes([0, 0x53, ATTACH]):
+            name, handle = fields(text)[:2]
+            handles[name] = number(handle)
+
+    def input_of(self, handle):
+        return next(self.theirs[name] for name, own in reversed(self.own.items()) if own == handle)
+
+
+def sent(session, text, links):
     """The operation by which a performative goes out, and its input."""
     code, said = text[2], fields(text)
+    links.attach(links.own, text)
     head = u32(session)
     if code == DETACH:
         head += b"\x01"
     if code == TRANSFER:
         is_first = len(said) > 2 and said[2] != b"\x40"
-        head += u32(number(said[0])) + bytes([is_first])
+        head += u32(links.input_of(number(said[0]))) + bytes([is_first]) + u32(value(text, 0)[2])
     return OPERATIONS[code], head + text
 
 
-def step(line, after):
+def step(line, after, links):
     """A line of a transcript as a line of this file."""
     word, _, rest = line.partition(" ")
     if word == "recv":
+        links.attach(links.theirs, bytes.fromhex(rest)[4:])
         return "recv " + sized(bytes.fromhex(rest)).hex()
     first, _, rest = rest.partition(" ")
     if word == "send":
-        operation, given = sent(first, bytes.fromhex(rest))
+        operation, given = sent(first, bytes.fromhex(rest), links)
     elif word == "link":
         operation, given = OPERATIONS[word], link(first, rest, bytes.fromhex(after.split(" ")[2]))
     else:
-        given = {"begin": lambda: u32(first) + BEGIN_PERF, "end": lambda: u32(first)}.get(word, lambda: b"")()
+        given = {"begin": lambda: u32(first) + BEGIN_PERF, "end": lambda: u32(first) + NO_ERROR, "close": lambda: NO_ERROR}.get(word, lambda: b"")()
         operation = OPERATIONS[word]
     return f"call {operation} {given.hex() or '-'}"
 
@@ -84,11 +102,11 @@ def is_left_alone(line):
 
 
 def exchange(name, ahead):
-    made = expected_exchange.replayed(name, ahead)
+    made, links = expected_exchange.replayed(name, ahead), Links()
     lines, said = made.lines[1:], [line for line in made.out[1:] if not is_left_alone(line)]
     yield "exchange " + name
     for line, after in zip(lines, lines[1:] + [""]):
-        yield step(line, after)
+        yield step(line, after, links)
     for line in said:
         yield "out " + sized(bytes.fromhex(line[4:])).hex() if line.startswith("out ") else line
     yield "end"

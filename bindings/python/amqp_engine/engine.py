@@ -42,12 +42,15 @@ class BadArgument(ValueError):
 
 @dataclass
 class Room:
-    """For how many events of links (attaches and detaches), flows, transfers and dispositions there is room."""
+    """For how many events of links (attaches and detaches), flows, transfers and dispositions there is room.
 
-    links: int = 64
-    flows: int = 256
-    transfers: int = 2048
-    dispositions: int = 4096
+    One frame leaves at most one of the first three, and nothing more is received while events wait. A disposition leaves an event for each open delivery
+    that it names: where more are open than there is room, those past it are settled without an event, and `Engine.missed` counts them."""
+
+    links: int = 1
+    flows: int = 1
+    transfers: int = 1
+    dispositions: int = 2048
 
 
 class Engine:
@@ -107,7 +110,7 @@ class Engine:
 
     def close(self, error: Optional[Error] = None) -> None:
         """A Close is to be sent, with an error or without."""
-        self._ask(_CLOSE, b"" if error is None else error.encode())
+        self._ask(_CLOSE, b"\0" if error is None else b"\1" + error.encode())
 
     @property
     def remote_open(self) -> Optional[Open]:
@@ -132,7 +135,7 @@ class Engine:
 
     def end(self, session: int, error: Optional[Error] = None) -> None:
         """The session's End is to be sent, or the peer's is answered."""
-        self._ask(_END, _numbers(session) + (b"" if error is None else error.encode()))
+        self._ask(_END, _numbers(session) + (b"\0" if error is None else b"\1" + error.encode()))
 
     def release(self, session: int) -> None:
         """The session's channel is given back."""
@@ -176,7 +179,8 @@ class Engine:
 
     def transfer(self, session: int, input_handle: int, transfer: Transfer, payload: bytes = b"", first: bool = True) -> None:
         """A transfer is to be sent: the first of its delivery, or a later one. `input_handle` is that of the link, `transfer.handle` its output handle."""
-        self._ask(_TRANSFER, _numbers(session, input_handle) + bytes([first]) + transfer.encode() + payload)
+        perf = transfer.encode()
+        self._ask(_TRANSFER, _numbers(session, input_handle) + bytes([first]) + _numbers(len(perf)) + perf + payload)
 
     def deliver(self, session: int, input_handle: int, transfer: Transfer, payload: bytes) -> None:
         """A whole delivery is to be sent, in as many transfers as the peer's limit asks for. Each is one frame, so that both sides count as many against

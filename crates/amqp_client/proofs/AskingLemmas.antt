@@ -1,5 +1,5 @@
 -- What bytes ask for, where parts of them were read.
-use Rattle.std.proofs.Common.{◌≡◌, ℕ, List, [], Bool, Option, Some, None, Result, Ok, Err, refl, ap, sym, subst, ◌∙◌}
+use Rattle.std.proofs.Common.{◌≡◌, ℕ, List, Option, Some, None, Result, Ok, Err, refl, ap, sym, subst, ◌∙◌}
 use Rattle.std.specs.Int.{w32}
 use Rattle.amqp_values.specs.Reading.{number_at, byte_at}
 use Rattle.amqp_values.specs.declared.error.ReadError.{ReadError}
@@ -11,12 +11,11 @@ use Rattle.amqp_types.specs.Transfer.{TransferModel}
 use Rattle.amqp_types.specs.Performatives.{IsPerformative}
 use Rattle.amqp_types.specs.declared.performatives.Performative.TheVariants as its
 use Rattle.amqp_session.specs.LinkFlow.{link_part}
-use Rattle.amqp_session.specs.declared.flow.LinkFlow.{LinkFlow}
 use Rattle.amqp_engine.specs.declared.engine.input.Input.{Input}
 use Rattle.amqp_client.specs.declared.operation.Operation.{Operation}
 use Rattle.amqp_client.specs.declared.operation.Operation.TheVariants as op
 use Rattle.amqp_client.specs.Asking.{Asks, AsksBegin, AsksDetach, AsksFlow, AsksTransfer, AsksInSession, AsksOfSession, HasByte, HasNumber, IsBegun}
-use Rattle.amqp_client.specs.Reading.{IsTransfer, Reads, ReadsOne}
+use Rattle.amqp_client.specs.Reading.{HasTransfer, Reads, ReadsOne}
 
 abbrev pub pair_of : ℕ × List ℕ → Option (ℕ × List ℕ) → ℕ × List ℕ
 pair_of d None = d
@@ -68,12 +67,17 @@ pub detach_after : {R : Type 0} (n : ℕ) (bytes : List ℕ) (flag : ℕ) (rest 
 detach_after n bytes flag rest e i a =
     (a.detach, subst (IsPerformative (its.Detach a.detach)) (same_rest (byte_at bytes) flag a.flag rest a.rest e a.has_flag) a.is_detach)
 
-pub transfer_after : {R : Type 0} (n : ℕ) (bytes : List ℕ) (handle flag : ℕ) (after rest : List ℕ) → HasNumber bytes handle after → HasByte after flag rest
-    → (i : Input R) → AsksTransfer n bytes i → (x : TransferModel × List ℕ) × IsTransfer rest x
-transfer_after n bytes handle flag after rest e f i a =
+pub transfer_after : {R : Type 0} (n : ℕ) (bytes : List ℕ) (handle flag count : ℕ) (after rest parts : List ℕ) → HasNumber bytes handle after
+    → HasByte after flag rest → HasNumber rest count parts → (i : Input R) → AsksTransfer n bytes i → (x : TransferModel × List ℕ) × HasTransfer count parts x
+transfer_after n bytes handle flag count after rest parts e f h i a =
     let b : a.after ≡ after = same_rest (number_at w32 bytes) handle a.handle after a.after e a.has_handle in
     let g : HasByte after a.flag a.rest = subst (λ t. HasByte t a.flag a.rest) b a.has_flag in
-    (a.transfer, subst (λ t. IsTransfer t a.transfer) (same_rest (byte_at after) flag a.flag rest a.rest f g) a.is_transfer)
+    let d : a.rest ≡ rest = same_rest (byte_at after) flag a.flag rest a.rest f g in
+    let k : HasNumber rest a.count a.parts = subst (λ t. HasNumber t a.count a.parts) d a.has_count in (
+      a.transfer,
+      subst (λ t. HasTransfer count t a.transfer) (same_rest (number_at w32 rest) count a.count parts a.parts h k)
+          (subst (λ m. HasTransfer m a.parts a.transfer) (same_number (number_at w32 rest) count a.count parts a.parts h k) a.has_transfer),
+    )
 
 -- an operation that is none of these five is of a session
 pub plain_or_session : {R : Type 0} (o : Operation) (bytes : List ℕ) (r : Result (Input R) ReadError) → ¬ (o ≡ op.Open) → ¬ (o ≡ op.Close) → ¬ (o ≡ op.Release)

@@ -1,7 +1,7 @@
 -- What is read of bytes, by kind.
-use Rattle.std.proofs.Common.{◌≡◌, ◌<◌, ◌+◌, ℕ, List, [], ◌∷◌, ◌++◌, take, drop, length, get_or, Option, Some, None, Result, Ok, Err, refl, ap, sym, subst, ◌∙◌}
+use Rattle.std.proofs.Common.{◌≡◌, ◌<◌, ◌+◌, ◌-◌, ℕ, List, [], ◌∷◌, ◌++◌, arith, take, drop, length, get_or, Option, Some, None, Result, Ok, Err, ap, sym, subst, ◌∙◌}
 use Rattle.std.proofs.Math.Seq.{take-length, drop-length}
-use Rattle.std.proofs.lemmas.List.{append-nil, drop_more}
+use Rattle.std.proofs.lemmas.List.{append-nil, drop_more, length-append}
 use Rattle.amqp_values.specs.Reading.{ReadsFront}
 use Rattle.amqp_values.specs.declared.error.ReadError.{ReadError}
 use Rattle.amqp_values.specs.declared.error.ReadError.TheVariants.{Malformed, OutOfMemory}
@@ -9,8 +9,8 @@ use Rattle.amqp_types.specs.Transfer.{TransferModel}
 use Rattle.amqp_types.specs.Performatives.{IsPerformative}
 use Rattle.amqp_types.specs.declared.performatives.Performative.{Performative}
 use Rattle.amqp_types.specs.declared.performatives.Performative.TheVariants as its
-use Rattle.amqp_client.specs.Inner.Kinds.{whole_of, with_payload, as_open, as_begin, as_attach, as_detach, as_flow, as_disposition}
-use Rattle.amqp_client.specs.Reading.{IsTransfer, Reads, ReadsOne}
+use Rattle.amqp_client.specs.Inner.Kinds.{whole_of, with_payload, as_open, as_begin, as_attach, as_detach, as_flow, as_transfer, as_disposition}
+use Rattle.amqp_client.specs.Reading.{HasTransfer, Reads, ReadsOne}
 
 abbrev said : Performative × List ℕ → Option (Performative × List ℕ) → Performative × List ℕ
 said d None = d
@@ -39,14 +39,28 @@ pub none_read : (bytes : List ℕ) (e : ReadError) → ReadsFront IsPerformative
 none_read bytes Malformed r = λ q h. no_some {X = Performative × List ℕ} (q, []) (r.only q bytes [] h (sym (append-nil bytes)))
 none_read bytes OutOfMemory r = tt
 
--- a Transfer and its payload
-pub transfer_read : (bytes : List ℕ) (p : Performative) (rest : List ℕ) → ReadsFront IsPerformative bytes (Ok (p, rest)) → Reads (IsTransfer bytes) (with_payload p rest)
-transfer_read bytes (its.Transfer t) rest r = r.found
-transfer_read bytes p rest r = λ x h. let e : its.Transfer x.0 ≡ p = ap (λ o. (said (p, []) o).0) (r.only (its.Transfer x.0) h.0 x.1 h.1 h.2) in absurd cc
+-- ---- a Transfer of so many bytes, and its payload
 
-pub no_transfer_read : (bytes : List ℕ) (e : ReadError) → ReadsFront IsPerformative bytes (Err e) → Reads (IsTransfer bytes) (Err e)
-no_transfer_read bytes Malformed r = λ x h. no_some {X = Performative × List ℕ} (its.Transfer x.0, x.1) (r.only (its.Transfer x.0) h.0 x.1 h.1 h.2)
-no_transfer_read bytes OutOfMemory r = tt
+front_length : (bytes text rest : List ℕ) → bytes ≡ text ++ rest → length bytes - length rest ≡ length text
+front_length bytes text rest e = let l : length bytes ≡ length text + length rest = ap length e ∙ length-append text rest in omega arith
+
+pub payload_read : (count : ℕ) (bytes : List ℕ) (p : Performative) (rest : List ℕ) → ReadsFront IsPerformative bytes (Ok (p, rest))
+    → length bytes - length rest ≡ count → Reads (HasTransfer count bytes) (with_payload p rest)
+payload_read count bytes (its.Transfer t) rest r e =
+    (r.found.0, sym (front_length bytes r.found.0 rest r.found.2) ∙ e, r.found.1, r.found.2)
+payload_read count bytes p rest r e = λ x h.
+    let k : its.Transfer x.0 ≡ p = ap (λ o. (said (p, []) o).0) (r.only (its.Transfer x.0) h.0 x.1 h.2 h.3) in absurd cc
+
+-- the performative that is read has another length
+pub other_length : (count : ℕ) (bytes : List ℕ) (p : Performative) (rest : List ℕ) → ReadsFront IsPerformative bytes (Ok (p, rest))
+    → ¬ (length bytes - length rest ≡ count) → (x : TransferModel × List ℕ) → ¬ HasTransfer count bytes x
+other_length count bytes p rest r n x h =
+    let e : x.1 ≡ rest = ap (λ o. (said (p, []) o).1) (r.only (its.Transfer x.0) h.0 x.1 h.2 h.3) in
+    n (ap (λ (t : List ℕ). length bytes - length t) (sym e) ∙ front_length bytes h.0 x.1 h.3 ∙ h.1)
+
+pub no_payload_read : (count : ℕ) (bytes : List ℕ) (e : ReadError) → ReadsFront IsPerformative bytes (Err e) → Reads (HasTransfer count bytes) (Err e)
+no_payload_read count bytes Malformed r = λ x h. no_some {X = Performative × List ℕ} (its.Transfer x.0, x.1) (r.only (its.Transfer x.0) h.0 x.1 h.2 h.3)
+no_payload_read count bytes OutOfMemory r = tt
 
 -- one of a kind
 pub kind_none : {X : Type 0} (wrap : X → Performative) (bytes : List ℕ) (e : ReadError) → ReadsOne (Whole bytes) (Err e) → ReadsOne (λ x. Whole bytes (wrap x)) (Err e)
@@ -72,6 +86,10 @@ detach_read bytes p r = λ x h. let e : its.Detach x ≡ p = r.1 (its.Detach x) 
 pub flow_read : (bytes : List ℕ) (p : Performative) → ReadsOne (Whole bytes) (Ok p) → ReadsOne (λ x. Whole bytes (its.Flow x)) (as_flow p)
 flow_read bytes (its.Flow x) r = (r.0, λ y h. ap (λ p. got x (as_flow p)) (r.1 (its.Flow y) h))
 flow_read bytes p r = λ x h. let e : its.Flow x ≡ p = r.1 (its.Flow x) h in absurd cc
+
+pub transfer_read : (bytes : List ℕ) (p : Performative) → ReadsOne (Whole bytes) (Ok p) → ReadsOne (λ x. Whole bytes (its.Transfer x)) (as_transfer p)
+transfer_read bytes (its.Transfer x) r = (r.0, λ y h. ap (λ p. got x (as_transfer p)) (r.1 (its.Transfer y) h))
+transfer_read bytes p r = λ x h. let e : its.Transfer x ≡ p = r.1 (its.Transfer x) h in absurd cc
 
 pub disposition_read : (bytes : List ℕ) (p : Performative) → ReadsOne (Whole bytes) (Ok p) → ReadsOne (λ x. Whole bytes (its.Disposition x)) (as_disposition p)
 disposition_read bytes (its.Disposition x) r = (r.0, λ y h. ap (λ p. got x (as_disposition p)) (r.1 (its.Disposition y) h))

@@ -22,7 +22,7 @@ use Rattle.amqp_engine.specs.declared.engine.input.Input.{Input}
 use Rattle.amqp_engine.specs.declared.engine.input.Input.TheVariants as input
 use Rattle.amqp_client.specs.declared.operation.Operation.{Operation}
 use Rattle.amqp_client.specs.declared.operation.Operation.TheVariants as op
-use Rattle.amqp_client.specs.Reading.{flag_of, role_of, IsErrorIfAny, IsTransfer}
+use Rattle.amqp_client.specs.Reading.{flag_of, role_of, IsErrorIfAny, HasTransfer}
 
 -- ---- what stands where
 
@@ -105,13 +105,16 @@ pub record AsksTransfer {R : Type 0} (n : ℕ) (bytes : List ℕ) (i : Input R) 
   pub handle : ℕ
   pub flag : ℕ
   pub first : Bool
+  pub count : ℕ
   pub after : List ℕ
   pub rest : List ℕ
+  pub parts : List ℕ
   pub transfer : TransferModel × List ℕ
   pub has_handle : HasNumber bytes handle after
   pub has_flag : HasByte after flag rest
   pub first_is : flag_of flag ≡ Some first
-  pub is_transfer : IsTransfer rest transfer
+  pub has_count : HasNumber rest count parts
+  pub has_transfer : HasTransfer count parts transfer
   pub input_is : i ≡ input.Transfer (record { 0 = n }) (record { 0 = handle }) transfer.0 transfer.1 first
 
 abbrev pub AsksDisposition : {R : Type 0} → ℕ → List ℕ → Input R → Type 0

@@ -25,7 +25,6 @@ use Rattle.amqp_client.specs.Asked.{Answers}
 use Rattle.amqp_client.specs.Linking.{Relay, LinkModel, AsksLink, AllotsOn}
 use Rattle.amqp_client.specs.Machine.{MachineView, SendsOut, new_machine}
 use Rattle.amqp_client.specs.Operation.{IsOperation}
-use Rattle.amqp_client.specs.Reading.{IsTransfer}
 use Rattle.amqp_client.specs.Receiving.{Receives}
 use Rattle.amqp_client.specs.Record.{record_text}
 use Rattle.amqp_client.specs.Status.{status_number}
@@ -159,9 +158,9 @@ PerformsSessionState c input old s n c' new =
 
 abbrev pub PerformsPayloadRoom : ClientView → List ℕ → List ℕ → Status → ℕ → ClientView → List ℕ → Type 0
 PerformsPayloadRoom c input old s n c' new =
-    (Refuses c old s n c' new × ((x : TransferModel × List ℕ) → ¬ IsTransfer input x))
+    (Refuses c old s n c' new × ((t : TransferModel) → ¬ IsPerformative (its.Transfer t) input))
     ⊎ (((s ≡ status.NoMemory) × (n ≡ 0) × (new ≡ old) × (c' ≡ c))
-    ⊎ ((x : TransferModel × List ℕ) × IsTransfer input x × Writes (room_text c.machine.engine x.0) old s n new × (c' ≡ c)))
+    ⊎ ((t : TransferModel) × IsPerformative (its.Transfer t) input × Writes (room_text c.machine.engine t) old s n new × (c' ≡ c)))
 
 -- how an operation takes its input
 abbrev pub group_of : Operation → Group

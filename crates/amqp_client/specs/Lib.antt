@@ -3,6 +3,7 @@ pub mod Asking
 pub mod Client
 pub mod Linking
 pub mod Machine
+pub mod Matching
 pub mod Operation
 pub mod Reading
 pub mod Receiving

@@ -1,12 +1,11 @@
 -- Part: other calls; inner.
 -- What an input is made of.
-use Rattle.std.specs.Prelude.{◌≡◌, ◌++◌, [], ℕ, List, Option, Some, None, Result, Ok, Err, Bool, true, false, if◌then◌else◌, nat_eq}
+use Rattle.std.specs.Prelude.{◌≡◌, ◌∷◌, ◌++◌, [], length, ℕ, List, Option, Some, None, Result, Ok, Err, Bool, true, false, if◌then◌else◌, nat_eq}
 use Rattle.amqp_values.specs.declared.error.ReadError.{ReadError}
 use Rattle.amqp_values.specs.declared.error.ReadError.TheVariants.{Malformed, OutOfMemory}
 use Rattle.amqp_types.specs.Error.{ErrorModel, error_at}
 use Rattle.amqp_types.specs.Performatives.{IsPerformative}
 use Rattle.amqp_types.specs.Transfer.{TransferModel}
-use Rattle.amqp_types.specs.declared.performatives.Performative.{Performative}
 use Rattle.amqp_types.specs.declared.performatives.Performative.TheVariants as its
 use Rattle.amqp_types.specs.declared.definitions.ReceiverSettleMode.{ReceiverSettleMode}
 use Rattle.amqp_types.specs.declared.definitions.ReceiverSettleMode.TheVariants.{First, Second}
@@ -34,14 +33,14 @@ ReadsOne {X = X} Is (Ok x) = Is x × ((y : X) → Is y → y ≡ x)
 ReadsOne {X = X} Is (Err Malformed) = (x : X) → ¬ Is x
 ReadsOne Is (Err OutOfMemory) = Unit {0}
 
--- a Transfer, and its payload
-abbrev pub IsTransfer : List ℕ → TransferModel × List ℕ → Type 0
-IsTransfer bytes x = (text : List ℕ) × IsPerformative (its.Transfer x.0) text × (bytes ≡ text ++ x.1)
+-- a Transfer of so many bytes, and its payload, which is all that follows: so a Transfer of no bytes is none, whatever follows
+abbrev pub HasTransfer : ℕ → List ℕ → TransferModel × List ℕ → Type 0
+HasTransfer count bytes x = (text : List ℕ) × (length text ≡ count) × IsPerformative (its.Transfer x.0) text × (bytes ≡ text ++ x.1)
 
--- an error that is the whole of the bytes, or none where there are none
+-- 0, which says that there is none; or 1, and an error that is the whole of what follows: so an error of no bytes is none of the two
 abbrev pub IsErrorIfAny : List ℕ → Option ErrorModel → Type 0
-IsErrorIfAny bytes None = bytes ≡ []
-IsErrorIfAny bytes (Some e) = error_at bytes ≡ Some (e, [])
+IsErrorIfAny bytes None = bytes ≡ 0 ∷ []
+IsErrorIfAny bytes (Some e) = (text : List ℕ) × (bytes ≡ 1 ∷ text) × (error_at text ≡ Some (e, []))
 
 -- these bytes are read as an error, and nothing follows
 abbrev pub IsSomeError : List ℕ → Result (Option ErrorModel) ReadError → Type 0

@@ -28,6 +28,10 @@ nothing = record { name = []; condition = []; peer = None }
 abbrev pub bad_size : RefusedModel
 bad_size = record { name = codes "BadSize"; condition = codes "amqp:connection:framing-error"; peer = None }
 
+-- the two handles of a transfer that is requested are not those of one link
+abbrev pub unmatched : RefusedModel
+unmatched = record { name = codes "UnattachedHandle"; condition = []; peer = None }
+
 -- the condition that an End or a Close carries
 abbrev pub condition_said : Option PeerAnswer → List ℕ
 condition_said None = []

@@ -4,9 +4,11 @@ ghost use Rattle.std.specs.Prelude.{◌≡◌, [], Some};
 ghost use Rattle.amqp_client.specs.Reading.{Reads};
 ghost use Rattle.amqp_client.specs.Asked.{Answers};
 ghost use Rattle.amqp_client.specs.Asking.{Asks, AsksInSession, AsksOfSession, AsksOpen, AsksClose, AsksRelease, AsksForget, AsksSettle, HasNumber};
+ghost use Rattle.amqp_client.specs.Matching.{RunsMatched};
 ghost use Rattle.amqp_client.specs.Asking.{AsksBegin, AsksEnd, AsksAttach, AsksDetach, AsksFlow, AsksTransfer, AsksDisposition, settings_of, IsBegun, IsNumber};
 
 use crate::machine::Machine;
+use crate::matching::is_matched;
 use crate::operation::Operation;
 use crate::reading;
 use crate::status::Status;
@@ -17,7 +19,8 @@ use amqp_types::{Begin, ReadError};
 use std::alloc::Global;
 
 /// Has the machine run the input that an operation's bytes ask for. `BadArgument` exactly where they do not have the operation's form: then,
-/// and where memory for the input is refused, nothing changes.
+/// and where memory for the input is refused, nothing changes. A transfer whose two handles are not those of one link is refused by the name
+/// `UnattachedHandle`, and nothing else changes.
 pub(crate) fn ask<R: LinkRelay>(
     alloc: Global,
     machine: &mut Machine<R>,
@@ -27,10 +30,22 @@ pub(crate) fn ask<R: LinkRelay>(
     ensures { Answers R.gives operation input.now machine.old result machine.new }
 {
     match asked(alloc, operation, input) {
-        Ok(input) => machine.run(input),
+        Ok(input) => run_matched(machine, input),
         Err(ReadError::Malformed) => Status::BadArgument,
         Err(ReadError::OutOfMemory) => Status::NoMemory,
     }
+}
+
+/// Has the machine run an input, unless it is a transfer whose two handles are not those of one link.
+fn run_matched<R: LinkRelay>(machine: &mut Machine<R>, input: Input<R>) -> Status
+    ensures { RunsMatched R.gives machine.old input result machine.new }
+{
+    if is_matched(machine.engine(), &input) {
+        return machine.run(input);
+    }
+    drop(input);
+    machine.refuse_unmatched();
+    Status::Refused
 }
 
 /// The input that an operation's bytes ask for. `Malformed` exactly where the bytes do not have the operation's form, and for an operation that
@@ -239,7 +254,10 @@ fn transfer<R>(alloc: Global, session: u32, input: &[u8]) -> Result<Input<R>, Re
     let Some(first) = reading::flag(flag) else {
         return Err(ReadError::Malformed);
     };
-    match reading::transfer(alloc, rest) {
+    let Some((count, parts)) = reading::number(rest) else {
+        return Err(ReadError::Malformed);
+    };
+    match reading::transfer_and_payload(alloc, count, parts) {
         Ok((transfer, payload)) => Ok(Input::Transfer(
             SessionNo(session),
             InputHandle(handle),

@@ -336,10 +336,7 @@ impl Client {
         ensures { PerformsPayloadRoom self.now input.now output.old result.0 result.1 self.now output.new }
     {
         match reading::transfer(self.alloc, input) {
-            Ok((transfer, payload)) => {
-                drop(payload);
-                self.room_beside(transfer, output)
-            }
+            Ok(transfer) => self.room_beside(transfer, output),
             Err(ReadError::Malformed) => (Status::BadArgument, 0),
             Err(ReadError::OutOfMemory) => (Status::NoMemory, 0),
         }

@@ -4,7 +4,8 @@
 //! frame that is not whole. [`Client::call`] does one operation, which is named by its number, on the bytes of an input, and writes to the front
 //! of an output. Protocol headers (AMQP 1.0 part 2, section 2.2) are the caller's: the connection begins where both have passed.
 //!
-//! All numbers are in network order. *PERF* is a performative's own bytes: a described list, as it stands in a frame after the header.
+//! All numbers are in network order. *PERF* is a performative's own bytes: a described list, as it stands in a frame after the header. It is the
+//! whole rest of the input, or has its length before it: so no bytes are no PERF, and nothing that follows is read as one.
 //!
 //! # Operations
 //!
@@ -12,9 +13,9 @@
 //! |---|---|---|---|
 //! | 1 | `Receive` | bytes that came, in any splitting | runs whole frames, in order, and keeps the rest, up to a frame that is refused or leaves events; it counts the bytes that were taken |
 //! | 2 | `Open` | none | this side's Open is to be sent |
-//! | 3 | `Close` | none, or an error | this side's Close is to be sent |
+//! | 3 | `Close` | u8 0 for no error, or u8 1, then an error | this side's Close is to be sent |
 //! | 4 | `Begin` | u32 session, PERF of a Begin without remote-channel | a session is begun |
-//! | 5 | `End` | u32 session, then none or an error | a session is ended |
+//! | 5 | `End` | u32 session, and on as in 3 | a session is ended |
 //! | 6 | `Release` | u32 session | its channel is given back |
 //! | 7 | `Forget` | u32 session | a session that is over is let go |
 //! | 8 | `Link` | u32 session, u8 role (0 sender, 1 receiver), u8 receiver settle mode (0 first, 1 second), name | a link is allotted a handle, and waits for the peer's attach; u32 output handle |
@@ -22,7 +23,7 @@
 //! | 10 | `Attach` | u32 session, PERF | an Attach is to be sent |
 //! | 11 | `Detach` | u32 session, u8 (1 where the peer is to answer), PERF | a Detach is to be sent |
 //! | 12 | `Flow` | u32 session, PERF of a Flow with a handle | a Flow is to be sent |
-//! | 13 | `Transfer` | u32 session, u32 input handle, u8 (1 for the first of its delivery), PERF, payload | a Transfer is to be sent |
+//! | 13 | `Transfer` | u32 session, u32 input handle, u8 (1 for the first of its delivery), u32 length of PERF, PERF, payload | a Transfer is to be sent, of the live link that has both the input handle and the handle of PERF |
 //! | 14 | `Disposition` | u32 session, PERF | a Disposition is to be sent |
 //! | 15 | `Settle` | u32 session, u8 role, u32 first, u32 last | deliveries that this side settles are let go |
 //! | 16 | `Send` | none | bytes that are to be sent, as many as fit: they are taken off |
@@ -41,7 +42,9 @@
 //! A call answers a status ([`Status`]) and a number: how many bytes it wrote, or, of `Receive`, took.
 //!
 //! - 0 `Done`.
-//! - 1 `Refused`, by a name, which `Refusal` gives. A frame that does not fit the peer's limit is refused `TooLarge`. A size below 8, or above this
+//! - 1 `Refused`, by a name, which `Refusal` gives. In a session that is mapped a transfer whose two handles are not those of one live link (the
+//!   peer's attach came on the one, and no detach of either side since; the other was allotted to that link) is refused `UnattachedHandle`, and is
+//!   not run. A frame that does not fit the peer's limit is refused `TooLarge`. A size below 8, or above this
 //!   side's max-frame-size, is refused `BadSize`, and no byte is taken from then on.
 //! - 2 `NoMemory`: memory was refused, and the request or the frame was not taken; it may be asked again. Where it was taken, and what it hands
 //!   out found no room, the answer is another: that waits in the engine, and goes out with the next request or by `Send`. `Send` answers
@@ -77,7 +80,7 @@
 //! # What is proved, and what is only tested
 //!
 //! `specs/Client` says of each operation what it does. A request is one run of the engine with the one input that its bytes ask for, or its bytes
-//! ask for none; what it sends goes after what waits. The bytes that were kept and those that were taken are frames, each of which is run once, in
+//! ask for none, or for a transfer whose two handles are not those of one link (`specs/Matching`); what it sends goes after what waits. The bytes that were kept and those that were taken are frames, each of which is run once, in
 //! order, and what is kept then. What `Send` writes is a front of what waits, as much as fits, and waits no longer. A record is that of the event.
 //! An output that is too small stays as it is, and so does all else.
 //!
@@ -92,6 +95,7 @@ mod client;
 mod key;
 mod linking;
 mod machine;
+mod matching;
 mod operation;
 mod reading;
 mod receiving;

@@ -3,7 +3,7 @@
 ghost use Rattle.std.specs.Prelude.{◌≡◌, ◌<◌, ◌∷◌, [], List, length};
 ghost use Rattle.amqp_engine.specs.EngineView.{new_engine};
 ghost use Rattle.amqp_engine.specs.Legal.{Legal};
-ghost use Rattle.amqp_client.specs.Refused.{Notes, bad_size};
+ghost use Rattle.amqp_client.specs.Refused.{Notes, bad_size, unmatched};
 ghost use Rattle.amqp_client.specs.Machine.{new_machine, RunsOne, SendsOut, TakesOff, TakesFront, Pushes, status_of};
 
 use crate::refused::Refused;
@@ -92,6 +92,13 @@ impl<R: LinkRelay> Machine<R> {
         ensures { self.new ≡ record self.old { last = bad_size } }
     {
         self.last = Refused::bad_size();
+    }
+
+    /// Notes that the two handles of a transfer are not those of one link.
+    pub(crate) fn refuse_unmatched(&mut self)
+        ensures { self.new ≡ record self.old { last = unmatched } }
+    {
+        self.last = Refused::unmatched();
     }
 
     /// Runs one input, after what waits in the engine. `NoMemory` where it was not taken.

@@ -1,13 +1,13 @@
 //! What an input is made of: numbers, flags, names and performatives.
 
-ghost use Rattle.std.specs.Prelude.{◌≡◌};
+ghost use Rattle.std.specs.Prelude.{◌≡◌, ◌-◌, length, nat_eq};
 ghost use Rattle.std.specs.Int.{w32};
 ghost use Rattle.std.specs.Option.{option_map};
 ghost use Rattle.amqp_values.specs.Reading.{number_at, byte_at, ReadsFront};
 ghost use Rattle.amqp_types.specs.Performatives.{IsPerformative};
 ghost use Rattle.amqp_types.specs.declared.performatives.Performative.TheVariants as its;
-ghost use Rattle.amqp_client.specs.Reading.{flag_of, role_of, mode_of, Reads, ReadsOne, IsTransfer, IsErrorIfAny, IsSomeError};
-ghost use Rattle.amqp_client.specs.Inner.Kinds.{whole_of, with_payload, as_open, as_begin, as_attach, as_detach, as_flow, as_disposition};
+ghost use Rattle.amqp_client.specs.Reading.{flag_of, role_of, mode_of, Reads, ReadsOne, HasTransfer, IsErrorIfAny, IsSomeError};
+ghost use Rattle.amqp_client.specs.Inner.Kinds.{whole_of, with_payload, as_open, as_begin, as_attach, as_detach, as_flow, as_transfer, as_disposition};
 
 use amqp_types::{
     Attach, Begin, Detach, Disposition, Error, Flow, Open, Performative, ReadError,
@@ -235,14 +235,54 @@ fn as_disposition(performative: Performative) -> Result<Disposition, ReadError>
     }
 }
 
-/// The Transfer at the front, and its payload.
-pub(crate) fn transfer(alloc: Global, input: &[u8]) -> Result<(Transfer, Bytes), ReadError>
-    ensures { Reads (IsTransfer input.now) result }
+/// The Transfer that the bytes are.
+pub(crate) fn transfer(alloc: Global, input: &[u8]) -> Result<Transfer, ReadError>
+    ensures { ReadsOne (λ p. IsPerformative (its.Transfer p) input.now) result }
 {
-    match front(alloc, input) {
-        Ok((performative, payload)) => with_payload(performative, payload),
+    match performative(alloc, input) {
+        Ok(performative) => as_transfer(performative),
         Err(error) => Err(error),
     }
+}
+
+fn as_transfer(performative: Performative) -> Result<Transfer, ReadError>
+    ensures { result ≡ as_transfer performative }
+{
+    match performative {
+        Performative::Transfer(transfer) => Ok(transfer),
+        other => {
+            drop(other);
+            Err(ReadError::Malformed)
+        }
+    }
+}
+
+/// The Transfer that the first `count` bytes are, and the payload, which is all the others.
+pub(crate) fn transfer_and_payload(
+    alloc: Global,
+    count: u32,
+    input: &[u8],
+) -> Result<(Transfer, Bytes), ReadError>
+    ensures { Reads (HasTransfer count input.now) result }
+{
+    let len = input.len();
+    match front(alloc, input) {
+        Ok((performative, payload)) => {
+            if !has_length(count, len, &payload) {
+                drop(performative);
+                return Err(ReadError::Malformed);
+            }
+            with_payload(performative, payload)
+        }
+        Err(error) => Err(error),
+    }
+}
+
+/// Whether the performative has this length, where it and the payload after it are `len` bytes.
+fn has_length(count: u32, len: usize, payload: &Bytes) -> bool
+    ensures { result ≡ nat_eq (len - length payload.now) count }
+{
+    len.saturating_sub(payload.len()) == count as usize
 }
 
 fn with_payload(performative: Performative, payload: Bytes) -> Result<(Transfer, Bytes), ReadError>
@@ -257,20 +297,37 @@ fn with_payload(performative: Performative, payload: Bytes) -> Result<(Transfer,
     }
 }
 
-/// The error that the bytes are; none where there are none.
+/// None, which 0 says alone; or the error that follows 1.
 pub(crate) fn error(alloc: Global, input: &[u8]) -> Result<Option<Error>, ReadError>
     ensures { Reads (IsErrorIfAny input.now) result }
 {
-    if input.is_empty() {
-        return Ok(None);
+    let Some((kind, text)) = byte(input) else {
+        return Err(ReadError::Malformed);
+    };
+    let Some(is_there) = flag(kind) else {
+        return Err(ReadError::Malformed);
+    };
+    if is_there {
+        return some_error(alloc, text);
     }
-    let Ok(bytes) = Bytes::copy_from_slice(alloc, input) else {
+    if text.is_empty() {
+        Ok(None)
+    } else {
+        Err(ReadError::Malformed)
+    }
+}
+
+/// The error that the bytes are.
+fn some_error(alloc: Global, text: &[u8]) -> Result<Option<Error>, ReadError>
+    ensures { IsSomeError text.now result }
+{
+    let Ok(bytes) = Bytes::copy_from_slice(alloc, text) else {
         return Err(ReadError::OutOfMemory);
     };
     whole_error(alloc, bytes)
 }
 
-/// The error that the bytes are, of which there are some.
+/// The same, of bytes that the error may share.
 #[tactic(auto, using(crate::proofs::ReadingLemmas::whole_front, crate::proofs::ReadingLemmas::at_end, crate::proofs::ReadingLemmas::before_end))]
 fn whole_error(alloc: Global, bytes: Bytes) -> Result<Option<Error>, ReadError>
     ensures { IsSomeError bytes result }

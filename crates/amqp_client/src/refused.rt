@@ -1,7 +1,7 @@
 //! The last refusal: its name, and the condition that answers it, or the error with which the peer ended or closed.
 
 ghost use Rattle.std.specs.Prelude.{◌≡◌};
-ghost use Rattle.amqp_client.specs.Refused.{nothing, bad_size, refused_of, condition_said, peer_error};
+ghost use Rattle.amqp_client.specs.Refused.{nothing, bad_size, unmatched, refused_of, condition_said, peer_error};
 
 use amqp_connection::ConnectionStateError;
 use amqp_engine::{Refusal, StepError};
@@ -48,6 +48,17 @@ impl Refused {
         Refused {
             name: "BadSize",
             condition: "amqp:connection:framing-error",
+            peer: None,
+        }
+    }
+
+    /// The two handles of a transfer are not those of one link. It is a request, so that no frame is answered.
+    pub(crate) fn unmatched() -> Refused
+        ensures { result ≡ unmatched }
+    {
+        Refused {
+            name: "UnattachedHandle",
+            condition: "",
             peer: None,
         }
     }

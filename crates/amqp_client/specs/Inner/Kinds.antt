@@ -1,6 +1,6 @@
 -- Part: inner.
 -- The performative of a kind, where bytes were read as one.
-use Rattle.std.specs.Prelude.{◌≡◌, [], ◌∷◌, ℕ, List, Result, Ok, Err}
+use Rattle.std.specs.Prelude.{[], ◌∷◌, ℕ, List, Result, Ok, Err}
 use Rattle.amqp_values.specs.declared.error.ReadError.{ReadError}
 use Rattle.amqp_values.specs.declared.error.ReadError.TheVariants.{Malformed}
 use Rattle.amqp_types.specs.Transfer.{TransferModel}
@@ -41,6 +41,10 @@ as_detach p = Err Malformed
 abbrev pub as_flow : Performative → Result FlowModel ReadError
 as_flow (its.Flow p) = Ok p
 as_flow p = Err Malformed
+
+abbrev pub as_transfer : Performative → Result TransferModel ReadError
+as_transfer (its.Transfer p) = Ok p
+as_transfer p = Err Malformed
 
 abbrev pub as_disposition : Performative → Result DispositionModel ReadError
 as_disposition (its.Disposition p) = Ok p
