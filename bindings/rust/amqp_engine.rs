@@ -40,6 +40,7 @@ unsafe extern "C" {
 enum Operation {
     Receive = 1, Open, Close, Begin, End, Release, Forget, Link, LinkOn, Attach, Detach, Flow, Transfer, Disposition, Settle,
     Send, Event, Refusal, RemoteOpen, MaxPieceLen, PayloadRoom, Missed, SessionOf, State, SessionState,
+    RefusedCount,
 }
 
 /// Why a call did not do what was asked.
@@ -339,6 +340,11 @@ impl Engine {
     /// How long a payload goes out in one frame beside this Transfer, where it fits itself.
     pub fn payload_room(&mut self, transfer: &[u8]) -> Result<Option<u32>, Error> {
         Ok(self.number(Operation::PayloadRoom, transfer)?.map(|room| room as u32))
+    }
+
+    /// How many requests and frames the call refused whose last refusal was told.
+    pub fn refused_count(&mut self) -> Result<u64, Error> {
+        Ok(self.number(Operation::RefusedCount, &[])?.unwrap_or_default())
     }
 
     /// How many events were missed, since there was no room for them.

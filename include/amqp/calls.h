@@ -322,6 +322,14 @@ static inline int32_t amqp_payload_room(amqp *place, const uint8_t *transfer, si
     return status;
 }
 
+/* How many requests and frames were refused by the call whose last refusal amqp_refusal tells: one, or several frames that a Flow let out and that do
+   not fit the peer's limit. 0 where nothing was refused yet. */
+static inline int32_t amqp_refused_count(amqp *place, uint64_t *count)
+{
+    int is_there;
+    return amqp_ask_number(place, AMQP_REFUSED_COUNT, NULL, 0, count, &is_there);
+}
+
 /* How many events were missed, since there was no room for them. */
 static inline int32_t amqp_missed(amqp *place, uint64_t *missed)
 {

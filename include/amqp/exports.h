@@ -46,7 +46,8 @@ enum amqp_operation {
     AMQP_MISSED = 22,
     AMQP_SESSION_OF = 23,
     AMQP_STATE = 24,
-    AMQP_SESSION_STATE = 25
+    AMQP_SESSION_STATE = 25,
+    AMQP_REFUSED_COUNT = 26
 };
 
 /* The end of a link on which a side stands (AMQP 1.0 part 2, section 2.8.1). */

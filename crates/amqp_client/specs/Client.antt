@@ -133,6 +133,7 @@ PerformsEmpty g op.Refusal c old s n c' new = WritesIfGranted (refusal_text c.ma
 PerformsEmpty g op.RemoteOpen c old s n c' new = WritesIfGranted (open_text c.machine.engine.connection.remote_open) old s n new × (c' ≡ c)
 PerformsEmpty g op.MaxPieceLen c old s n c' new = Writes (to_be_bytes w32 c.machine.engine.limit) old s n new × (c' ≡ c)
 PerformsEmpty g op.Missed c old s n c' new = (missed : ℕ) × Writes (to_be_bytes w64 missed) old s n new × (c' ≡ c)
+PerformsEmpty g op.RefusedCount c old s n c' new = Writes (to_be_bytes w64 c.machine.last.count) old s n new × (c' ≡ c)
 PerformsEmpty g op.State c old s n c' new = Writes (state_number c.machine.engine.connection.state ∷ []) old s n new × (c' ≡ c)
 PerformsEmpty g o c old s n c' new = ⊥
 
@@ -177,6 +178,7 @@ group_of op.RemoteOpen = group.Bare
 group_of op.MaxPieceLen = group.Bare
 group_of op.Missed = group.Bare
 group_of op.State = group.Bare
+group_of op.RefusedCount = group.Bare
 group_of o = group.Asks
 
 abbrev pub PerformsBy : Group → Relays Relay → Operation → ClientView → List ℕ → List ℕ → Status → ℕ → ClientView → List ℕ → Type 0
@@ -205,6 +207,7 @@ only_tells op.RemoteOpen = true
 only_tells op.MaxPieceLen = true
 only_tells op.Missed = true
 only_tells op.State = true
+only_tells op.RefusedCount = true
 only_tells o = false
 
 abbrev pub unread_of : ReadError → Status

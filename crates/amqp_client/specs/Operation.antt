@@ -30,6 +30,7 @@ operation_number op.Missed = 22
 operation_number op.SessionOf = 23
 operation_number op.State = 24
 operation_number op.SessionState = 25
+operation_number op.RefusedCount = 26
 
 -- the operation of this number, or there is none
 abbrev pub IsOperation : ℕ → Option Operation → Type 0

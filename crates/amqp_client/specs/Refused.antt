@@ -1,6 +1,6 @@
 -- Part: other calls.
 -- The last refusal: its name, and the condition that the peer is told, or its own error.
-use Rattle.std.specs.Prelude.{◌≡◌, ◌∷◌, ◌++◌, [], ℕ, List, Bool, true, false, Option, Some, None, codes}
+use Rattle.std.specs.Prelude.{◌≡◌, ◌∷◌, ◌++◌, [], ℕ, List, length, Bool, true, false, Option, Some, None, codes}
 use Rattle.amqp_types.specs.Error.{ErrorModel}
 use Rattle.amqp_types.specs.declared.states.ConnectionState.{ConnectionState}
 use Rattle.amqp_session.specs.declared.error.SessionStateError.TheVariants as session
@@ -20,17 +20,19 @@ pub record RefusedModel : Type 0 where
   pub condition : List ℕ
   -- the error of a Close or an End of the peer's
   pub peer : Option ErrorModel
+  -- how many the same call refused, itself among them
+  pub count : ℕ
 
 abbrev pub nothing : RefusedModel
-nothing = record { name = []; condition = []; peer = None }
+nothing = record { name = []; condition = []; peer = None; count = 0 }
 
 -- the size of a frame is one that no frame may have (AMQP 1.0 part 2, section 2.8.16)
 abbrev pub bad_size : RefusedModel
-bad_size = record { name = codes "BadSize"; condition = codes "amqp:connection:framing-error"; peer = None }
+bad_size = record { name = codes "BadSize"; condition = codes "amqp:connection:framing-error"; peer = None; count = 1 }
 
 -- the two handles of a transfer that is requested are not those of one link
 abbrev pub unmatched : RefusedModel
-unmatched = record { name = codes "UnattachedHandle"; condition = []; peer = None }
+unmatched = record { name = codes "UnattachedHandle"; condition = []; peer = None; count = 1 }
 
 -- the condition that an End or a Close carries
 abbrev pub condition_said : Option PeerAnswer → List ℕ
@@ -46,10 +48,10 @@ peer_error e = None
 
 -- what the engine refused, in this state of the connection
 abbrev pub refused_of : Refusal → ConnectionState → RefusedModel
-refused_of (refusal.Input place e) s = record { name = name_of e; condition = condition_said (answer_of e s); peer = peer_error e }
-refused_of (refusal.Frame place f) s = record { name = codes "TooLarge"; condition = []; peer = None }
+refused_of (refusal.Input place e) s = record { name = name_of e; condition = condition_said (answer_of e s); peer = peer_error e; count = 1 }
+refused_of (refusal.Frame place f) s = record { name = codes "TooLarge"; condition = []; peer = None; count = 1 }
 
--- The last of these refusals is what is kept, if there is one; whether there is.
+-- The last of these refusals is what is kept, with their number, if there is one; whether there is.
 abbrev pub Notes : List Refusal → ConnectionState → RefusedModel → Bool → RefusedModel → Type 0
 Notes refusals s old false new = (refusals ≡ []) × (new ≡ old)
-Notes refusals s old true new = (before : List Refusal) × (last : Refusal) × (refusals ≡ before ++ last ∷ []) × (new ≡ refused_of last s)
+Notes refusals s old true new = (before : List Refusal) × (last : Refusal) × (refusals ≡ before ++ last ∷ []) × (new ≡ record (refused_of last s) { count = length refusals })

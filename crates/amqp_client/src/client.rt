@@ -275,6 +275,7 @@ impl Client {
             }
             Operation::MaxPieceLen => write(output, &engine.max_piece_len().to_be_bytes()),
             Operation::Missed => write(output, &self.events.missed().to_be_bytes()),
+            Operation::RefusedCount => write(output, &self.machine.last().count.to_be_bytes()),
             _ => write(
                 output,
                 &[telling::state_number(*engine.connection().local_state())],

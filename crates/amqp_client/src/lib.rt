@@ -36,6 +36,7 @@
 //! | 23 | `SessionOf` | u16 channel of the peer's | u32 session; nothing where the channel leads to none |
 //! | 24 | `State` | none | u8: the connection's state, in the order of `ConnectionState` |
 //! | 25 | `SessionState` | u32 session | u8: the session's state, in the order of `SessionState`; nothing where there is no such session |
+//! | 26 | `RefusedCount` | none | u64: how many were refused by the call whose last refusal 18 gives: a Flow may let out several frames that do not fit; 0 where nothing was refused |
 //!
 //! # Statuses
 //!

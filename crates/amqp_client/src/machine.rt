@@ -155,15 +155,17 @@ fn push<T: Drop>(items: &mut VecDeque<T>, item: T) -> bool
     }
 }
 
-/// Keeps what the last of these refusals says, if there is one, and empties the list. Whether there was one.
+/// Keeps what the last of these refusals says, if there is one, and how many they are, and empties the list. Whether there was one.
 fn note(refusals: &mut Vec<Refusal>, state: ConnectionState, last: &mut Refused) -> bool
     ensures noted { Notes refusals.old.items state last.old result last.new }
     ensures empty { refusals.new.items ≡ [] }
 {
+    let count = refusals.len() as u64;
     let Some(refusal) = refusals.pop() else {
         return false;
     };
     *last = Refused::of(refusal, state);
+    last.count = count;
     refusals.clear();
     true
 }

@@ -57,10 +57,12 @@ pub enum Operation {
     State,
     /// 25: a session's state.
     SessionState,
+    /// 26: how many were refused by the call whose last refusal is read.
+    RefusedCount,
 }
 
 impl Operation {
-    /// The operation of a number, 1 to 25. `None` where no operation has it.
+    /// The operation of a number, 1 to 26. `None` where no operation has it.
     pub fn of(number: u32) -> Option<Operation>
         ensures { IsOperation number result }
     {
@@ -90,6 +92,7 @@ impl Operation {
             23 => Some(Operation::SessionOf),
             24 => Some(Operation::State),
             25 => Some(Operation::SessionState),
+            26 => Some(Operation::RefusedCount),
             _ => None,
         }
     }
@@ -110,7 +113,8 @@ impl Operation {
             | Operation::RemoteOpen
             | Operation::MaxPieceLen
             | Operation::Missed
-            | Operation::State => Group::Bare,
+            | Operation::State
+            | Operation::RefusedCount => Group::Bare,
             _ => Group::Asks,
         }
     }

@@ -19,6 +19,8 @@ pub(crate) struct Refused {
     pub(crate) condition: &'static str,
     /// The error with which the peer ended, or closed.
     pub(crate) peer: Option<Error>,
+    /// How many the same call refused, this one among them.
+    pub(crate) count: u64,
 }
 
 impl Model for Refused {
@@ -26,7 +28,7 @@ impl Model for Refused {
 
     ghost Value = { RefusedModel };
 
-    ghost view = { λ r. record { name = r.name.now; condition = r.condition.now; peer = r.peer } };
+    ghost view = { λ r. record { name = r.name.now; condition = r.condition.now; peer = r.peer; count = r.count } };
 }
 
 impl Refused {
@@ -38,6 +40,7 @@ impl Refused {
             name: "",
             condition: "",
             peer: None,
+            count: 0,
         }
     }
 
@@ -49,6 +52,7 @@ impl Refused {
             name: "BadSize",
             condition: "amqp:connection:framing-error",
             peer: None,
+            count: 1,
         }
     }
 
@@ -60,6 +64,7 @@ impl Refused {
             name: "UnattachedHandle",
             condition: "",
             peer: None,
+            count: 1,
         }
     }
 
@@ -74,12 +79,14 @@ impl Refused {
                     name: "TooLarge",
                     condition: "",
                     peer: None,
+                    count: 1,
                 }
             }
             Refusal::Input { place: _, error } => Refused {
                 name: err_name(&error),
                 condition: condition_of(answer_to(&error, state)),
                 peer: peer_error(error),
+                count: 1,
             },
         }
     }
