@@ -50,6 +50,7 @@ fn a_connection_opens_and_closes() {
     assert_eq!(engine.state().unwrap(), 9);
     assert_eq!(engine.remote_open().unwrap(), b"\0\x53\x10\xc0\x0d\x03\xa1\x04peer\x40\x70\0\0\x04\0");
     assert_eq!((engine.max_piece_len().unwrap(), engine.missed().unwrap()), (1020, 0));
+    assert_eq!(engine.refused_count().unwrap(), 0);
     assert_eq!((engine.session_of(3).unwrap(), engine.session_of(4).unwrap()), (Some(7), None));
     assert_eq!(engine.close(Some(&[])), Err(Error::BadArgument));
     engine.close(None).unwrap();

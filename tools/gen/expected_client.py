@@ -17,7 +17,7 @@ from gen import client_transfers
 from gen.client_rows import (
     ATTACH, BAD_ARGUMENT, BEGIN, BEGIN_SENT, CLOSE, CLOSE_RECEIVED, CLOSE_SENT, DETACH, DISCARDING, DISPOSITION, DONE, END, END_RECEIVED, EVENT,
     EVENTS_WAIT, FLOW, FORGET, HEADER_EXCHANGE, KEY, LINK, LINK_ON, MAPPED, MAX_PIECE_LEN, MISSED, OPEN, OPENED, OPEN_SENT, OUR_OPEN, PAYLOAD_ROOM,
-    PEER_OPEN, RECEIVE, REFUSAL, REFUSED, RELEASE, REMOTE_OPEN, SEND, SESSION_OF, SESSION_STATE, SETTLE, STATE, TOO_SMALL, TRANSFER, UNMAPPED,
+    PEER_OPEN, RECEIVE, REFUSAL, REFUSED, REFUSED_COUNT, RELEASE, REMOTE_OPEN, SEND, SESSION_OF, SESSION_STATE, SETTLE, STATE, TOO_SMALL, TRANSFER, UNMAPPED,
     NO_ERROR, WITH_ERROR, ClientRows, error, record, sending as sent, u32,
 )
 from gen.row import ACCEPTED, ERROR, attach, begin, closing, detach, disposition, end, flow, transfer, wire
@@ -40,7 +40,7 @@ def made(rows):
     for number in (EVENT, REFUSAL, REMOTE_OPEN):
         rows.tells(number, "")
     rows.row("No such operation")
-    for number in (0, 25, 4294967295):
+    for number in (0, 27, 4294967295):
         rows.bad(number, "", "00")
 
 
@@ -322,6 +322,18 @@ def limits(rows):
     rows.tells(LINK, u32(0), u32(7) + "0000" + name.encode().hex())
     rows.refused(ATTACH, "TooLarge", "", u32(7) + attach(name, 0))
     rows.sends()
+    rows.row("Several that wait, and do not fit, are lost in one call, and told as many")
+    rows.linked()
+    rows.tells(REFUSED_COUNT, "00" * 8)
+    rows.receives(wire(flow(0, 0)))
+    long = composite(0x14, [uint(0), b"\x40", b"\xb0" + (1100).to_bytes(4, "big") + b"t" * 1100]).hex()
+    for _ in range(3):
+        rows.op(TRANSFER, sent(long))
+    rows.op(TRANSFER, sent(transfer(None, "t")))
+    lets = wire(flow(0, 9))
+    rows.refused(RECEIVE, "TooLarge", "", lets, len(lets) // 2)
+    rows.tells(REFUSED_COUNT, "00" * 7 + "03")
+    rows.sends(wire(transfer(3, "t")))
     rows.row("A refusal stays the last one until the next")
     rows.op(OPEN, "", 0, REFUSED)
     rows.op(CLOSE, NO_ERROR)

@@ -25,20 +25,20 @@ class LineEngine:
         self.engine = Engine(open, **how)
 
     def ask(self, line):
-        """Asks what the line says. Gives each refusal, in order; events are heard."""
+        """Asks what the line says. Gives each refusal, in order, all of one call by the last one's name; events are heard."""
         word, _, rest = line.partition(" ")
         try:
             if word == "recv":
                 of = bytes.fromhex(rest)
                 for event in self.receive((len(of) + 4).to_bytes(4, "big") + of):
                     if isinstance(event, Refusal):
-                        yield event
+                        yield from [event] * event.count
                     else:
                         self.hear(event)
             else:
                 self.request(word, rest)
         except Refusal as refusal:
-            yield refusal
+            yield from [refusal] * refusal.count
         for event in self.engine.events():
             self.hear(event)
 

@@ -108,6 +108,7 @@ if has rustc "the wrapper for Rust"; then
     holds "the wrapper for Rust, edition 2024" wrapper 2024
 fi
 counts "over Python" timeout 600 python3 tools/try_c/try_c.py "$library/libamqp.so"
+counts "hostile peers, over Python" timeout 180 python3 tools/hostile/hostile.py "$library/libamqp.so"
 counts "rows of a client" timeout 60 python3 tools/try_c/try_c_rows.py "$library/libamqp.so"
 counts "what is refused of recorded connections" timeout 600 python3 tools/try_c/try_c_captures.py "$library/libamqp.so"
 echo "$passed passed, $failed failed"

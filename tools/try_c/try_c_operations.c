@@ -21,11 +21,14 @@ static void try_open(void)
     amqp engine = made();
     uint8_t text[64];
     size_t written;
+    uint64_t count = 99;
     CHECK(state_of(&engine) == AMQP_STATE_HEADER_EXCHANGE);
     CHECK(amqp_remote_open(&engine, text, sizeof text, &written) == AMQP_DONE && written == 0);
     CHECK(amqp_refusal(&engine, text, sizeof text, &written) == AMQP_DONE && written == 0);
+    CHECK(amqp_refused_count(&engine, &count) == AMQP_DONE && count == 0);
     CHECK(amqp_open(&engine) == AMQP_DONE && state_of(&engine) == AMQP_STATE_OPEN_SENT);
     CHECK(amqp_open(&engine) == AMQP_REFUSED && refused_as(&engine, "IllegalState", "amqp:illegal-state"));
+    CHECK(amqp_refused_count(&engine, &count) == AMQP_DONE && count == 1);
     CHECK(sends(&engine, OPEN_OUT) && sends(&engine, ""));
     CHECK(hears(&engine, "[02000000 " PEERS_OPEN "]") == AMQP_DONE && state_of(&engine) == AMQP_STATE_OPENED);
     amqp_free(&engine);

@@ -25,7 +25,7 @@ sys.path.insert(0, str(Path(__file__).resolve().parents[1]))
 from shared.command import command
 
 ROWS = Path(__file__).resolve().parent / "rows"
-RECEIVE, SEND, LAST = 1, 16, 25
+RECEIVE, SEND, LAST = 1, 16, 26
 DONE = 0
 
 

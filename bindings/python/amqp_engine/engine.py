@@ -16,8 +16,8 @@ from .values import Malformed
 
 (
     _RECEIVE, _OPEN, _CLOSE, _BEGIN, _END, _RELEASE, _FORGET, _LINK, _LINK_ON, _ATTACH, _DETACH, _FLOW, _TRANSFER, _DISPOSITION, _SETTLE, _SEND, _EVENT,
-    _REFUSAL, _REMOTE_OPEN, _MAX_PIECE_LEN, _PAYLOAD_ROOM, _MISSED, _SESSION_OF, _STATE, _SESSION_STATE,
-) = range(1, 26)  # fmt: skip
+    _REFUSAL, _REMOTE_OPEN, _MAX_PIECE_LEN, _PAYLOAD_ROOM, _MISSED, _SESSION_OF, _STATE, _SESSION_STATE, _REFUSED_COUNT,
+) = range(1, 27)  # fmt: skip
 
 #: The states of a connection, in the library's order (AMQP 1.0 part 2, section 2.4.6)
 STATES = (
@@ -319,7 +319,7 @@ class Engine:
 
     def _refusal(self) -> Refusal:
         name, condition, description = (self._get(_REFUSAL).decode(errors="replace").split("\n", 2) + ["", ""])[:3]
-        return Refusal(name, condition or None, description or None)
+        return Refusal(name, condition or None, description or None, int.from_bytes(self._get(_REFUSED_COUNT), "big"))
 
     def _judge(self, status: int) -> None:
         if status == lib.DONE:

@@ -95,11 +95,13 @@ def _state_of(body: bytes) -> Described:
 class Refusal(Exception):
     """A frame or a request was refused by the engine: the refusal's name, and the condition that a peer is told, if there is one. Of `RemoteClosedWithError`
     and `RemoteEndedWithError` condition and description are those that the peer sent. `Unreadable` is this package's: the engine took a frame, and values
-    in it are none that Python has, as text that is no UTF-8."""
+    in it are none that Python has, as text that is no UTF-8. `count` is how many the call refused, this one as the last of them: a flow of the peer's may let
+    out several frames that do not fit its limit."""
 
     name: str
     condition: Optional[str] = None
     description: Optional[str] = None
+    count: int = 1
 
     def __str__(self) -> str:
         return self.name if self.condition is None else f"{self.name} ({self.condition})"
