@@ -84,7 +84,7 @@ static void try_any_input(amqp *engine)
     for (operation = 3; operation < 16; operation++)
         CHECK(amqp_call(engine, operation, none, 0, out, sizeof out, &written) == AMQP_BAD_ARGUMENT);
     CHECK(amqp_call(engine, 0, none, 0, out, sizeof out, &written) == AMQP_BAD_ARGUMENT);
-    CHECK(amqp_call(engine, 26, none, 0, out, sizeof out, &written) == AMQP_BAD_ARGUMENT);
+    CHECK(amqp_call(engine, 27, none, 0, out, sizeof out, &written) == AMQP_BAD_ARGUMENT);
     CHECK(amqp_call(engine, UINT32_MAX, none, 0, out, sizeof out, &written) == AMQP_BAD_ARGUMENT);
     free(input);
     CHECK(sends(engine, ""));
