@@ -39,8 +39,7 @@ unsafe extern "C" {
 #[repr(u32)]
 enum Operation {
     Receive = 1, Open, Close, Begin, End, Release, Forget, Link, LinkOn, Attach, Detach, Flow, Transfer, Disposition, Settle,
-    Send, Event, Refusal, RemoteOpen, MaxPieceLen, PayloadRoom, Missed, SessionOf, State, SessionState,
-    RefusedCount,
+    Send, Event, Refusal, RemoteOpen, MaxPieceLen, PayloadRoom, Missed, SessionOf, State, SessionState, RefusedCount,
 }
 
 /// Why a call did not do what was asked.
@@ -392,12 +391,8 @@ fn event_of(record: &[u8]) -> Option<Event> {
         5 => EventBody::Detached { performative: first, remote_initiated: has(8) },
         _ => return None,
     };
-    Some(Event {
-        session: u32_at(record, 4)?,
-        input_handle: has(1).then_some(u32_at(record, 8)?),
-        output_handle: has(2).then_some(u32_at(record, 12)?),
-        body,
-    })
+    let (input_handle, output_handle) = (has(1).then_some(u32_at(record, 8)?), has(2).then_some(u32_at(record, 12)?));
+    Some(Event { session: u32_at(record, 4)?, input_handle, output_handle, body })
 }
 
 #[cfg(test)]

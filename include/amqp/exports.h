@@ -1,4 +1,4 @@
-/* The exports of the library, the place in which an engine lies, statuses and operations. For amqp.h. */
+/* The exports of the library, the place in which an engine lies, statuses, operations and states. For amqp.h. */
 #ifndef AMQP_EXPORTS_H
 #define AMQP_EXPORTS_H
 
@@ -48,6 +48,35 @@ enum amqp_operation {
     AMQP_STATE = 24,
     AMQP_SESSION_STATE = 25,
     AMQP_REFUSED_COUNT = 26
+};
+
+/* The state of the connection (AMQP 1.0 part 2, section 2.4.6). */
+enum amqp_connection_state {
+    AMQP_STATE_START = 0,
+    AMQP_STATE_HEADER_RECEIVED = 1,
+    AMQP_STATE_HEADER_SENT = 2,
+    AMQP_STATE_HEADER_EXCHANGE = 3,
+    AMQP_STATE_OPEN_PIPE = 4,
+    AMQP_STATE_OPEN_CLOSE_PIPE = 5,
+    AMQP_STATE_OPEN_RECEIVED = 6,
+    AMQP_STATE_OPEN_SENT = 7,
+    AMQP_STATE_CLOSE_PIPE = 8,
+    AMQP_STATE_OPENED = 9,
+    AMQP_STATE_CLOSE_RECEIVED = 10,
+    AMQP_STATE_CLOSE_SENT = 11,
+    AMQP_STATE_DISCARDING = 12,
+    AMQP_STATE_ENDED = 13
+};
+
+/* The state of a session (section 2.5.5). */
+enum amqp_session_state_of {
+    AMQP_SESSION_UNMAPPED = 0,
+    AMQP_SESSION_BEGIN_SENT = 1,
+    AMQP_SESSION_BEGIN_RECEIVED = 2,
+    AMQP_SESSION_MAPPED = 3,
+    AMQP_SESSION_END_SENT = 4,
+    AMQP_SESSION_END_RECEIVED = 5,
+    AMQP_SESSION_DISCARDING = 6
 };
 
 /* The end of a link on which a side stands (AMQP 1.0 part 2, section 2.8.1). */
