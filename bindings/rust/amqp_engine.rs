@@ -10,8 +10,7 @@
 
 #![allow(dead_code)]
 
-use std::ffi::c_void;
-use std::fmt;
+use std::{ffi::c_void, fmt};
 
 #[repr(C)]
 struct Place {
