@@ -137,7 +137,7 @@ fn is_let_go(
     Ok(frame.is_unique())
 }
 
-/// Of many open deliveries: the 256th, the next, and one whose tag is longer than the standard has it.
+/// Of many open deliveries: the 256th, the next, and one whose tag is longer than its payload.
 fn of_many(alloc: Global) -> Result<[bool; 3], AllocError> {
     let queue = SharedQueue::with_room(alloc, ROOM)?;
     let mut session = one_link(alloc, &queue)?;
@@ -147,11 +147,11 @@ fn of_many(alloc: Global) -> Result<[bool; 3], AllocError> {
     Ok([
         is_let_go(alloc, &mut session, &queue, 255, 32, 256)?,
         is_let_go(alloc, &mut session, &queue, 256, 32, 256)?,
-        is_let_go(alloc, &mut session, &queue, 257, 33, 256)?,
+        is_let_go(alloc, &mut session, &queue, 257, 300, 256)?,
     ])
 }
 
-/// Of few: with a payload of 256 bytes, with a longer one, and with a tag that is too long beside it.
+/// Of few: with a payload of 256 bytes, with a longer one, and with a tag beside it that is longer than the standard has it.
 fn of_few(alloc: Global) -> Result<[bool; 3], AllocError> {
     let queue = SharedQueue::with_room(alloc, ROOM)?;
     let mut session = one_link(alloc, &queue)?;
@@ -166,5 +166,5 @@ fn of_few(alloc: Global) -> Result<[bool; 3], AllocError> {
 fn long_frames_and_those_of_many_are_let_go(rt: HostRuntime) {
     let alloc = rt.alloc();
     holds(&rt, of_many(alloc) == Ok([false, true, false]));
-    holds(&rt, of_few(alloc) == Ok([false, true, false]));
+    holds(&rt, of_few(alloc) == Ok([false, true, true]));
 }
