@@ -63,7 +63,7 @@ class Stream:
         self.sent = time.monotonic()
 
     async def take(self, count: int) -> bytes:
-        """So many bytes."""
+        """So many bytes. It sets no limit of time: headers and SASL, for which alone it is called, have `Waits.login` for all of them together."""
         try:
             return await self._reader.readexactly(count)
         except asyncio.IncompleteReadError:
