@@ -96,11 +96,15 @@ async def condition_after(peer, said):
 async def single_frames_end_as_they_should():
     async with Broker() as broker:
         for said, condition in FRAMES:
-            peer = await Raw.opened(broker.port)
-            assert (came := await condition_after(peer, said)) == condition, (said[:80], came, condition)
-            peer.gone()
-            assert await ping(broker.port) < PATIENCE, said[:80]
+            await ends(broker, await Raw.opened(broker.port), said, condition)
         assert await broker.closes_all()
+
+
+async def ends(broker, peer, said, condition):
+    """The peer's connection ends by this condition, and others do not wait."""
+    assert (came := await condition_after(peer, said)) == condition, (said[:80], came, condition)
+    peer.gone()
+    assert await ping(broker.port) < PATIENCE, said[:80]
 
 
 @test
@@ -112,9 +116,7 @@ async def frames_of_links_end_as_they_should():
             await credited(peer)
             peer.send(transfer(0, data(b"x"), settled=True))
             await peer.until(0x14)
-            assert (came := await condition_after(peer, said)) == condition, (said[:80], came, condition)
-            peer.gone()
-            assert await ping(broker.port) < PATIENCE, said[:80]
+            await ends(broker, peer, said, condition)
         assert await broker.closes_all()
 
 
