@@ -5,7 +5,7 @@
 
 The gate's must-fail edits are for the prover, and have to pass the compiler. These are misuses that the borrow checker
 refuses before anything is proved. An edit has the lines of a must-fail edit, and first the error. Each is tried on a copy
-of its crate, which stands on the kit's libraries alone; that the crate as it is passes is what the gate shows.
+of its crate and of those that it stands on; that the crate as it is passes is what the gate shows.
 """
 
 import shutil
@@ -25,13 +25,20 @@ def parts(edit):
     return dict(line.split(": ", 1) for line in edit.read_text().splitlines())
 
 
+def needed(name, lines):
+    """This crate and those of the repository that it stands on, by the lines of crates.txt."""
+    return {name}.union(*(needed(it, lines) for it in lines[name].split() if it in lines))
+
+
 def said(crate, file, text):
     """What a check says of a copy of the crate with this text in the file."""
+    lines = dict(line.split(":", 1) for line in (ROOT / "crates.txt").read_text().splitlines() if ":" in line and not line.startswith("#"))
     with tempfile.TemporaryDirectory() as room:
+        names = sorted(needed(crate.name, lines))
+        for name in names:
+            shutil.copytree(ROOT / "crates" / name, Path(room) / "crates" / name, ignore=shutil.ignore_patterns("out", "mutants", "must-not-compile"))
+        (Path(room) / "crates.txt").write_text("".join(f"{name}:{lines[name]}\n" for name in names))
         copy = Path(room) / "crates" / crate.name
-        shutil.copytree(crate, copy, ignore=shutil.ignore_patterns("out", "mutants", "must-not-compile"))
-        lines = (ROOT / "crates.txt").read_text().splitlines()
-        (Path(room) / "crates.txt").write_text("".join(f"{line}\n" for line in lines if line.startswith(f"{crate.name}:")))
         (copy / file).write_text(text)
         ran = subprocess.run(["rt", "check"], cwd=copy, stdout=subprocess.PIPE, stderr=subprocess.STDOUT, text=True)
         return ran.stdout

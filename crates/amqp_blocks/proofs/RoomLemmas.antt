@@ -9,7 +9,7 @@ use Rattle.std.specs.Vec.{vec_capacity}
 use Rattle.amqp_blocks.specs.Chunked.{Block, RunningLengths, items_of, ends_from, places_of, EachSpare, EachSome, IsFull, IsChunked, IsSound}
 use Rattle.amqp_blocks.proofs.LeaveLemmas.{some_at, some_set}
 use Rattle.amqp_blocks.proofs.PutLemmas.{chunked_same, items_kept, ends_kept}
-use Rattle.amqp_blocks.specs.Inner.Changes.{IsGrown}
+use Rattle.amqp_blocks.specs.Inner.Changes.{free_of, IsGrown}
 
 module _ {X : Type 0} where
   -- what comes off the end of a list
@@ -108,6 +108,30 @@ module _ {T : Type 0} where
             ]
         | inr at ↦ let same : i + a ≡ k = omega (arith, at, hi) in subst (λ n. IsFull bs n) same (up (omega (arith, same, h)))
       ]
+
+  -- ---- places that are free
+
+  step : (bs : List (Block T)) (i n : ℕ) → i < length bs → ((b : Block T) → b ≡ get_or bs i b → n ≡ min b.cap 256 - length b.items) → free_of (take (suc i) bs) ≡ free_of (take i bs) + n
+  step [] i n h f = absurd (omega arith)
+  step (d ∷ ds) zero n h f = omega (arith, f d refl)
+  step (d ∷ ds) (suc i) n h f = let r = step ds i n (omega arith) f in omega (arith, r)
+
+  -- with one ring more
+  pub free_next : (bs : List (Block T)) (i n : ℕ) → i < length bs → ((b : Block T) → b ≡ get_or bs i b → n ≡ min b.cap 256 - length b.items) → free_of (take (i + 1) bs) ≡ free_of (take i bs) + n
+  free_next bs i n h f = ap (λ k. free_of (take k bs)) (add-one i) ∙ step bs i n h f
+
+  pub free_some : (bs : List (Block T)) → EachSome bs → free_of bs + length (items_of bs) ≡ places_of bs
+  free_some [] v = omega arith
+  free_some (d ∷ ds) v =
+      let l = length-append d.items (items_of ds) in
+      let r = free_some ds v.2 in
+      omega (arith, l, r, v.1, d.small, d.ok.0)
+
+  pub free_spare : (bs : List (Block T)) → EachSpare bs → free_of bs ≡ places_of bs
+  free_spare [] v = omega arith
+  free_spare (d ∷ ds) v =
+      let r = free_spare ds v.2 in
+      omega (arith, r, ap length v.0)
 
   -- ---- rings that grow
 

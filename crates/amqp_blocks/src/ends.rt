@@ -1,10 +1,12 @@
 //! Where each block ends. All from a block on change together, and a change near the last one costs little.
 
-ghost use Rattle.std.specs.Prelude.{◌≡◌, ℕ, ◌+◌, ◌-◌, ◌%◌, ◌^◌, ◌<◌, ◌≤◌, [], ◌++◌, length, map, take, drop, slice_index, slice_set, vec_capacity, OnOk};
+ghost use Rattle.std.specs.Prelude.{◌≡◌, ℕ, ◌+◌, ◌-◌, ◌%◌, ◌^◌, ◌<◌, ◌≤◌, [], ◌++◌, length, map, take, drop, slice_index, slice_set, vec_capacity, OnOk, OnErr};
 ghost use Rattle.std.specs.List.{insert, remove};
+ghost use Rattle.amqp_memory.specs.Refusal.{RefusedWithin};
 ghost use Rattle.amqp_blocks.specs.Inner.Shifted.{more, over, plain, shifted};
 
 use crate::adding::insert_reserved;
+use amqp_memory::more_in_vector;
 use std::alloc::{AllocError, Global};
 use std::marker::Model;
 
@@ -210,8 +212,9 @@ impl Ends {
         ensures items { self.new.items ≡ self.old.items }
         ensures kept { self.old.capacity ≤ self.new.capacity }
         ensures room { OnOk result (length self.new.items + additional ≤ self.new.capacity) }
+        ensures refused { OnErr result (RefusedWithin additional) }
     {
-        self.written.reserve(additional)
+        more_in_vector(&mut self.written, additional)
     }
 
     /// A block comes before another, or after the last. It needs room for one, and asks for no memory.

@@ -14,6 +14,7 @@ mod adding;
 mod cascade;
 mod cutting;
 mod ends;
+mod free;
 mod inserting;
 mod joining;
 mod leaving;

@@ -1,13 +1,15 @@
 //! Room for items to come: places in the one ring there is, or spare rings.
 
-ghost use Rattle.std.specs.Prelude.{◌≡◌, ◌+◌, ◌-◌, ◌*◌, ◌^◌, ◌<◌, ◌≤◌, [], length, slice_index_or, vec_capacity, OnOk, min};
+ghost use Rattle.std.specs.Prelude.{◌≡◌, ◌+◌, ◌-◌, ◌*◌, ◌^◌, ◌<◌, ◌≤◌, [], length, slice_index_or, vec_capacity, OnOk, OnErr, min};
 ghost use Rattle.std.specs.VecDeque.{deque_capacity};
+ghost use Rattle.amqp_memory.specs.Refusal.{RefusedWithin};
 ghost use Rattle.amqp_blocks.specs.Chunked.{Block, items_of, EachSpare, places_of, IsSound};
 ghost use Rattle.amqp_blocks.specs.Inner.Changes.{IsGrown};
 
 use crate::ends::Ends;
 use crate::search::total;
 use crate::sequence::BLOCK;
+use amqp_memory::{more_in_queue, more_in_vector, queue_with};
 use std::alloc::{AllocError, Global};
 use std::collections::VecDeque;
 
@@ -16,8 +18,9 @@ fn grow<T>(ring: &mut VecDeque<T>, additional: usize) -> Result<(), AllocError>
     ensures items { ring.new.items ≡ ring.old.items }
     ensures places { deque_capacity ring.old ≤ deque_capacity ring.new }
     ensures ok { OnOk result (length ring.new.items + additional ≤ deque_capacity ring.new) }
+    ensures refused { OnErr result (RefusedWithin additional) }
 {
-    ring.reserve(additional)
+    more_in_queue(ring, additional)
 }
 
 /// Makes places in one of these rings. A refusal leaves the items.
@@ -29,6 +32,7 @@ pub(crate) fn grow_at<T>(
     requires at { at < length rings.old.items }
     ensures grown { IsGrown rings.old.items at rings.new.items }
     ensures ok { OnOk result ((b : Block T) → b ≡ slice_index_or rings.new.items at b → length b.items + additional ≤ b.cap) }
+    ensures refused { OnErr result (RefusedWithin additional) }
     ensures capacity { vec_capacity rings.new ≡ vec_capacity rings.old }
 {
     grow(&mut rings[at], additional)
@@ -41,6 +45,7 @@ pub(crate) fn widen<T>(spare: &mut Vec<VecDeque<T>>) -> Result<(), AllocError>
     ensures count { length spare.new.items ≡ length spare.old.items }
     ensures places { places_of spare.old.items ≤ places_of spare.new.items }
     ensures ok { OnOk result (256 * length spare.new.items ≤ places_of spare.new.items) }
+    ensures refused { OnErr result (RefusedWithin 256) }
     ensures capacity { vec_capacity spare.new ≡ vec_capacity spare.old }
 {
     for at in 0..spare.len() {
@@ -63,9 +68,10 @@ pub(crate) fn make_spares<T>(
     ensures most { length spare.new.items ≤ length spare.old.items + (count - length spare.old.items) }
     ensures places { places_of spare.old.items ≤ places_of spare.new.items }
     ensures ok { OnOk result (256 * count ≤ places_of spare.new.items) }
+    ensures refused { OnErr result (RefusedWithin 256) }
 {
     while spare.len() < count {
-        spare.push_reserved(VecDeque::with_capacity(alloc, BLOCK)?);
+        spare.push_reserved(queue_with(alloc, BLOCK)?);
     }
     Ok(())
 }
@@ -83,8 +89,9 @@ pub(crate) fn make_first<T>(
     ensures spares { EachSpare spare.new.items }
     ensures most { length spare.new.items ≤ 1 }
     ensures ok { OnOk result (places ≤ places_of spare.new.items) }
+    ensures refused { OnErr result (RefusedWithin places) }
 {
-    spare.push_reserved(VecDeque::with_capacity(alloc, places)?);
+    spare.push_reserved(queue_with(alloc, places)?);
     Ok(())
 }
 
@@ -99,10 +106,11 @@ fn make_slots<T>(
     ensures ends { (ends.new.items ≡ ends.old.items) × (ends.old.capacity ≤ ends.new.capacity) }
     ensures spare { (spare.new.items ≡ spare.old.items) × (vec_capacity spare.old ≤ vec_capacity spare.new) }
     ensures ok { OnOk result ((length blocks.new.items + count ≤ vec_capacity blocks.new) × (length ends.new.items + count ≤ ends.new.capacity) × (count ≤ vec_capacity spare.new)) }
+    ensures refused { OnErr result (RefusedWithin count) }
 {
-    blocks.reserve(count)?;
+    more_in_vector(blocks, count)?;
     ends.reserve(count)?;
-    spare.reserve(count)
+    more_in_vector(spare, count)
 }
 
 /// Makes places in the one block there is.
@@ -120,6 +128,7 @@ fn make_room_in_block<T>(
     ensures items { items_of blocks.new.items ≡ items_of blocks.old.items }
     ensures kept { places_of blocks.old.items ≤ places_of blocks.new.items }
     ensures ok { OnOk result (length (items_of blocks.new.items) + additional ≤ places_of blocks.new.items) }
+    ensures refused { OnErr result (RefusedWithin additional) }
 {
     grow_at(blocks, 0, additional)
 }
@@ -140,6 +149,7 @@ fn make_room_for_first<T>(
     ensures items { blocks.new.items ≡ blocks.old.items }
     ensures kept { places_of spare.old.items ≤ places_of spare.new.items }
     ensures ok { OnOk result (additional ≤ places_of spare.new.items) }
+    ensures refused { OnErr result (RefusedWithin additional) }
 {
     make_slots(blocks, ends, spare, 1)?;
     if spare.len() == 0 {
@@ -162,6 +172,7 @@ fn make_room_in_spares<T>(
     ensures items { blocks.new.items ≡ blocks.old.items }
     ensures kept { places_of spare.old.items ≤ places_of spare.new.items }
     ensures ok { OnOk result (256 * count ≤ places_of spare.new.items) }
+    ensures refused { OnErr result (RefusedWithin (256 + count)) }
 {
     make_slots(blocks, ends, spare, count)?;
     widen(spare)?;
@@ -183,6 +194,7 @@ pub(crate) fn make_room<T>(
     ensures items { items_of blocks.new.items ≡ items_of blocks.old.items }
     ensures kept { places_of blocks.old.items + places_of spare.old.items ≤ places_of blocks.new.items + places_of spare.new.items }
     ensures ok { OnOk result (length (items_of blocks.new.items) + additional ≤ places_of blocks.new.items + places_of spare.new.items) }
+    ensures refused { OnErr result (RefusedWithin (256 + additional)) }
 {
     let count = blocks.len();
     let rest = BLOCK - total(ends, base).min(BLOCK);

@@ -1,18 +1,19 @@
 //! The sequence.
 
-ghost use Rattle.std.specs.Prelude.{◌≡◌, ◌==◌, ◌↔◌, ◌+◌, ◌-◌, ◌*◌, ◌^◌, ◌<◌, ◌≤◌, [], ◌∷◌, ◌++◌, length, take, drop, slice_get, slice_set, slice_index_or, Some, IsSome, OnOk, option_copied};
+ghost use Rattle.std.specs.Prelude.{◌≡◌, ◌==◌, ◌↔◌, ◌+◌, ◌-◌, ◌*◌, ◌^◌, ◌<◌, ◌≤◌, [], ◌∷◌, ◌++◌, length, take, drop, slice_get, slice_set, slice_index_or, Some, IsSome, OnOk, OnErr, option_copied};
 ghost use Rattle.std.specs.List.{insert};
 ghost use Rattle.std.specs.Option.{option_to_list};
 ghost use Rattle.std.specs.Borrow.{sem};
+ghost use Rattle.amqp_memory.specs.Refusal.{RefusedWithin};
 ghost use Rattle.amqp_blocks.specs.Chunked.{Block, items_of, start_of, HasItem};
 
 use crate::cascade::end_of;
 use crate::ends::Ends;
+use crate::free::make_lacking;
 use crate::inserting::{put_before, put_last};
 use crate::leaving::pop;
 use crate::removing::remove_some;
 use crate::rings::write_at;
-use crate::room::make_room;
 use crate::search::{Place, locate_near};
 use std::alloc::{AllocError, Global};
 use std::collections::VecDeque;
@@ -158,18 +159,21 @@ impl<T> Blocks<T> {
         Some(item_of(&self.blocks, place))
     }
 
-    /// Makes room for so many items more, wherever they come. A refusal leaves all items as they were.
+    /// Makes room for so many items more, wherever they come. It fails only where memory was refused, and the room is not there without it. A
+    /// refusal leaves all items as they were.
     #[inline(always)]
     pub fn reserve(&mut self, additional: usize) -> Result<(), AllocError>
         ensures items { self.new.items ≡ self.old.items }
         ensures kept { self.old.room ≤ self.new.room }
         ensures room { OnOk result (additional ≤ self.new.room) }
+        ensures lacking { OnErr result (self.old.room < additional) }
+        ensures refused { OnErr result (RefusedWithin (256 + additional)) }
     {
         // Each spare ring has a place.
         if additional <= self.spare.len() {
             return Ok(());
         }
-        make_room(
+        make_lacking(
             &mut self.blocks,
             &mut self.ends,
             self.base,

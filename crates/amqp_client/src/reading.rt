@@ -9,6 +9,7 @@ ghost use Rattle.amqp_types.specs.declared.performatives.Performative.TheVariant
 ghost use Rattle.amqp_client.specs.Reading.{flag_of, role_of, mode_of, Reads, ReadsOne, HasTransfer, IsErrorIfAny, IsSomeError};
 ghost use Rattle.amqp_client.specs.Inner.Kinds.{whole_of, with_payload, as_open, as_begin, as_attach, as_detach, as_flow, as_transfer, as_disposition};
 
+use amqp_memory::copy_of;
 use amqp_types::{
     Attach, Begin, Detach, Disposition, Error, Flow, Open, Performative, ReadError,
     ReceiverSettleMode, Role, Transfer,
@@ -75,7 +76,7 @@ pub(crate) fn mode(byte: u8) -> Option<ReceiverSettleMode>
 fn front(alloc: Global, input: &[u8]) -> Result<(Performative, Bytes), ReadError>
     ensures { ReadsFront IsPerformative input.now result }
 {
-    let Ok(bytes) = Bytes::copy_from_slice(alloc, input) else {
+    let Ok(bytes) = copy_of(alloc, input) else {
         return Err(ReadError::OutOfMemory);
     };
     Performative::read(alloc, bytes)

@@ -6,6 +6,7 @@ use Rattle.std.specs.FinMap as map
 use Rattle.std.specs.Coded.{Coded, coded_ℕ}
 use Rattle.std.specs.Map.{lookup}
 use Rattle.std.specs.BinaryHeap.{IsHeap}
+use Rattle.amqp_memory.specs.Refusal.{SomeRefused}
 use Rattle.amqp_session.specs.declared.numbers.OutgoingChannel.{OutgoingChannel}
 use Rattle.amqp_connection.specs.declared.connection.channel_table.AllotError.{AllotError}
 use Rattle.amqp_connection.specs.declared.connection.channel_table.AllotError.TheVariants.{Full, OutOfMemory}
@@ -23,7 +24,7 @@ pub record IsLowestFree (m : ChannelTable) (channel : ℕ) : Type 0 where
 abbrev pub AllotStep : ChannelTable → ℕ → ℕ → Result OutgoingChannel AllotError → ChannelTable → Type 0
 AllotStep m max number (Ok channel) new = IsLowestFree m channel.0 × (channel.0 ≤ max) × (new ≡ map.insert m channel.0 number)
 AllotStep m max number (Err Full) new = ((d : ℕ) → d ≤ max → IsSome (map.get m d)) × (new ≡ m)
-AllotStep m max number (Err OutOfMemory) new = ((d : ℕ) × IsLowestFree m d × (d ≤ max)) × (new ≡ m)
+AllotStep m max number (Err OutOfMemory) new = ((d : ℕ) × IsLowestFree m d × (d ≤ max)) × (new ≡ m) × SomeRefused
 
 abbrev pub mark : Bool → ℕ
 mark b = cond b 1 0

@@ -2,6 +2,7 @@
 -- What contracts see of a connection, and what each of its calls does.
 use Rattle.std.specs.Prelude.{◌≡◌, ◌≤◌, ℕ, Bool, true, false, Option, Some, None, IsSome, is_some, unwrap_or, Result, Ok, Err, min}
 use Rattle.std.specs.FinMap as map
+use Rattle.amqp_memory.specs.Refusal.{SomeRefused}
 use Rattle.amqp_types.specs.declared.states.ConnectionState.{ConnectionState}
 use Rattle.amqp_types.specs.declared.states.ConnectionState.TheVariants.{Opened, CloseReceived}
 use Rattle.amqp_types.specs.declared.states.ConnectionState.TheVariants as at
@@ -68,7 +69,7 @@ abbrev pub SendOpenStep : ConnectionView → Result Frame ConnectionStateError �
 SendOpenStep v (Ok f) w =
     (s : ConnectionState) × (sends_open v.state ≡ Some s) × (f ≡ open_frame v.local_open) × (w ≡ record v { state = s })
 SendOpenStep v (Err state.IllegalState) w = (sends_open v.state ≡ None) × (w ≡ v)
-SendOpenStep v (Err state.OutOfMemory) w = IsSome (sends_open v.state) × (w ≡ v)
+SendOpenStep v (Err state.OutOfMemory) w = IsSome (sends_open v.state) × (w ≡ v) × SomeRefused
 SendOpenStep v (Err e) w = ⊥
 
 abbrev pub IncomingOpenStep : ConnectionView → OpenModel → Option ConnectionStateError → ConnectionView → Type 0
@@ -130,7 +131,7 @@ AllocateStep v number (Err (full.ConnectionStopped reason)) w =
 AllocateStep v number (Err full.ChannelMaxReached) w =
     Allots v.state × ((d : ℕ) → d ≤ v.agreed_channel_max → IsSome (map.get v.session_by_outgoing_channel d)) × (w ≡ v)
 AllocateStep v number (Err full.OutOfMemory) w =
-    Allots v.state × ((d : ℕ) × IsLowestFree v.session_by_outgoing_channel d × (d ≤ v.agreed_channel_max)) × (w ≡ v)
+    Allots v.state × ((d : ℕ) × IsLowestFree v.session_by_outgoing_channel d × (d ≤ v.agreed_channel_max)) × (w ≡ v) × SomeRefused
 
 -- the session holds the channel
 abbrev pub Holds : ConnectionView → ℕ → ℕ → Type 0
@@ -151,7 +152,7 @@ not_implemented = inner.NotImplemented None
 
 -- ---- routes: the session to which a frame on a channel of the peer's goes
 
--- the connection accepts a Begin, and makes the route
+-- The connection accepts a Begin, and makes the route. Where the channel leads to that session already, no memory is asked for.
 abbrev pub BeginRouteStep : ConnectionView → ℕ → Option ℕ → Result ℕ ConnectionInnerError → ConnectionView → Type 0
 BeginRouteStep v channel remote (Ok number) w =
     (v.state ≡ Opened) × ((c : ℕ) × (remote ≡ Some c) × (map.get v.session_by_outgoing_channel c ≡ Some number))
@@ -162,7 +163,10 @@ BeginRouteStep v channel remote (Err (inner.NotFound text)) w =
     (v.state ≡ Opened) × ((c : ℕ) × (remote ≡ Some c) × (map.get v.session_by_outgoing_channel c ≡ None)) × (text ≡ None)
     × (w ≡ v)
 BeginRouteStep v channel remote (Err inner.OutOfMemory) w =
-    (v.state ≡ Opened) × ((c : ℕ) × (remote ≡ Some c) × IsSome (map.get v.session_by_outgoing_channel c)) × (w ≡ v)
+    (v.state ≡ Opened)
+    × ((c : ℕ) × (number : ℕ) × (remote ≡ Some c) × (map.get v.session_by_outgoing_channel c ≡ Some number)
+    × ¬ (map.get v.session_by_incoming_channel channel ≡ Some number))
+    × (w ≡ v) × SomeRefused
 BeginRouteStep v channel remote (Err e) w = ⊥
 
 -- the connection accepts an End, and takes the route away

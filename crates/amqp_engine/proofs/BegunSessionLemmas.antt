@@ -1,5 +1,5 @@
 -- A session that begins: it stands at the end of the list, or its channel is free as before.
-use Rattle.std.proofs.Common.{◌≡◌, ℕ, List, [], ◌∷◌, ◌++◌, Bool, true, false, refl, ap, sym, ◌∙◌, Option, Some, None, Err, cond, is_some, nat_eq, arith}
+use Rattle.std.proofs.Common.{◌≡◌, ℕ, List, [], ◌∷◌, ◌++◌, Bool, true, false, refl, ap, sym, ◌∙◌, Option, Some, None, Err, cond, is_some, nat_eq, arith, subst}
 use Rattle.std.proofs.lemmas.Bool.Decides.{nat_tests}
 use Rattle.std.specs.Map.{lookup}
 use Rattle.std.specs.Cmp.{nat_cmp_total}
@@ -7,10 +7,19 @@ use Rattle.std.specs.Ordering.{nat_cmp, eq_by_cmp}
 use Rattle.std.specs.FinMap.{same_map, nat_cmp-IsAntisymmetric, get-insert, get-remove}
 use Rattle.std.specs.FinMap as map
 use Rattle.indexmap.specs.IndexMap.{insert_entry}
+use Rattle.amqp_memory.specs.Refusal.{SomeRefused}
+use Rattle.amqp_types.specs.declared.states.SessionState.TheVariants.{Unmapped}
 use Rattle.amqp_connection.specs.Channels.{ChannelTable}
 use Rattle.amqp_connection.specs.declared.error.AllocSessionError.{AllocSessionError}
 use Rattle.amqp_connection.specs.declared.error.AllocSessionError.TheVariants as full
 use Rattle.amqp_connection.specs.Connection.{ConnectionView, AllocateStep, DeallocateStep, given_back}
+use Rattle.amqp_session.specs.declared.error.SessionStateError.{SessionStateError}
+use Rattle.amqp_session.specs.declared.error.SessionStateError.TheVariants as unbegun
+use Rattle.amqp_session.specs.declared.stop.ConnectionStopReason.{ConnectionStopReason}
+use Rattle.amqp_session.specs.Settings.{SettingsModel}
+use Rattle.amqp_session.specs.Session.{SessionView, new_session}
+use Rattle.amqp_session.specs.States.{sends_begin}
+use Rattle.amqp_session.specs.Step.{SendBeginStep}
 use Rattle.amqp_session.proofs.FiniteMapLemmas.{same_test}
 
 pub not_some : {X : Type 0} → (o : Option X) (b : Bool) → b ≡ is_some o → b ≡ false → o ≡ None
@@ -57,3 +66,10 @@ unallocated v k n full.ConnectionNotOpened a = a.1
 unallocated v k n (full.ConnectionStopped reason) a = a.2
 unallocated v k n full.ChannelMaxReached a = a.2
 unallocated v k n full.OutOfMemory a = a.2
+
+-- a new session lacks nothing but memory for its Begin
+pub begun_short : {R : Type 0} (settings : SettingsModel) (channel : ℕ) (stop : Option ConnectionStopReason) (v w : SessionView R) (e : SessionStateError)
+    → v ≡ new_session settings channel Unmapped stop → SendBeginStep v (Err e) w → (e ≡ unbegun.OutOfMemory) × SomeRefused
+begun_short settings channel stop v w unbegun.IllegalState is s = absurd (let none = subst (λ (x : SessionView _). sends_begin x.state ≡ None) is s.0 in cc)
+begun_short settings channel stop v w unbegun.OutOfMemory is s = (refl, s.2)
+begun_short settings channel stop v w e is s = absurd s

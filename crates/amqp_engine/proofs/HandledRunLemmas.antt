@@ -274,7 +274,7 @@ flushed_all {R} g v u w inputs inputs' answers answers1 answers2 law views h non
 pub ends_wished : {R : Type 0} (u w : EngineView R) (inputs inputs' : List (Input R)) (result : Result (Unit {0}) Stopped) → NoWishes u.wishes → w.wishes ≡ u.wishes → Ends (NoneLeft inputs' w) inputs inputs' result →
     Ends (NoneLeft inputs' w × NoWishes w.wishes) inputs inputs' result
 ends_wished u w inputs inputs' (Ok x) none stays e = (e, subst NoWishes (sym stays) none)
-ends_wished u w inputs inputs' (Err x) none stays e = (e.0, λ p. e.1 p.0)
+ends_wished u w inputs inputs' (Err x) none stays e = (e.0, λ p. e.1 p.0, e.2)
 
 pub no_more : {X : Type 0} (xs : List X) → has_entries xs ≡ false → xs ≡ []
 no_more [] e = refl

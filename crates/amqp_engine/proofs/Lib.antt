@@ -27,6 +27,7 @@ pub mod OneFrameLemmas
 pub mod ViewLemmas
 pub mod OutputLemmas
 pub mod FirstFrameLemmas
+pub mod SizedLemmas
 pub mod KeptStateLemmas
 pub mod OutcomeLemmas
 pub mod RunLemmas

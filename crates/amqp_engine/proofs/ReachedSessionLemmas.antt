@@ -40,7 +40,7 @@ received_none bytes received r is h = subst (λ x. HasReceived bytes x r) (sym i
 
 has_none : (bytes : List ℕ) (r : Option StepError) → NoneReceived bytes r → HasReceived bytes None r
 has_none bytes (Some (no.Frame e)) n = n
-has_none bytes (Some no.OutOfMemory) n = tt
+has_none bytes (Some no.OutOfMemory) n = n.4
 has_none bytes r n = absurd n
 
 input_receives : {R : Type 0} (g : Relays R) (v w : EngineView R) (i : Input R) (e : Entry R) → InputStep g v i e.received e.reached e.calls e.refusal w → Receives i e

@@ -1,6 +1,7 @@
 -- The fields of a kind are read, and their frame is received; or they are not there.
 use Rattle.std.proofs.Common.{◌≡◌, ◌∙◌, ℕ, List, [], Option, Some, None, IsSome, Result, Ok, Err, refl, ap, sym, subst, inl, inr}
 use Rattle.std.specs.Prelude.{IsErrAnd}
+use Rattle.amqp_memory.specs.Refusal.{SomeRefused}
 use Rattle.amqp_values.specs.declared.error.ReadError.{ReadError}
 use Rattle.amqp_values.specs.declared.error.ReadError.TheVariants as read
 use Rattle.amqp_values.specs.Reading.{Gives}
@@ -36,7 +37,7 @@ unread_of g k r v c fields left read.Malformed result a f =
       ((refl, refl), refl),
     )
 unread_of g k r v c fields left read.OutOfMemory result a f =
-    inl (subst (λ x. NoneReceivedOf (Some k) fields x) (sym (ap refusal_of (failed result _ f))) tt, refl, ((refl, refl), refl))
+    inl (subst (λ x. NoneReceivedOf (Some k) fields x) (sym (ap refusal_of (failed result _ f))) (tt, a), refl, ((refl, refl), refl))
 
 pub unread : {R X : Type 0} (g : Relays R) {k : Kind} {V : Type 0} (r : Reads k V) (v : EngineView R) (c : ℕ) (fields left : List ℕ) (e : ReadError)
     (result : Result X StepError) → Gives {X = V} (λ x. x) (Err e) left (composite_at r.reader fields) → IsErrAnd result (λ x. x ≡ no.Frame (error_of e)) →
@@ -97,19 +98,19 @@ was_kept g r v m w c fields left p refusal a h e =
 
 -- it was read, and memory for the copy of its error was refused
 pub not_copied : {R : Type 0} (g : Relays R) {k : Kind} {V : Type 0} (r : Reads k V) (v : EngineView R) (c : ℕ) (fields left : List ℕ) (p : V) →
-    composite_at r.reader fields ≡ Some (p, left) → IsSome (named_error (r.says p left).0) → FieldsKept g v c (Some k) fields (Some no.OutOfMemory) v
-not_copied g r v c fields left p a named =
+    composite_at r.reader fields ≡ Some (p, left) → IsSome (named_error (r.says p left).0) → SomeRefused → FieldsKept g v c (Some k) fields (Some no.OutOfMemory) v
+not_copied g r v c fields left p a named short =
     let b = (r.says p left).0 in
     let rest = (r.says p left).1 in
     let is = r.is_body b fields rest (fields_found r.IsText r.reader r.law r.says fields left p b rest a refl) in
-    (None, None, [], v, inl ((b, rest, is, named), refl, ((refl, refl), refl)), refl)
+    (None, None, [], v, inl ((b, rest, is, named, short), refl, ((refl, refl), refl)), refl)
 
 -- ---- after a head
 
 none_received : (bytes left : List ℕ) (h : FrameHead) (refusal : Option StepError) → Opens bytes left (Ok h) → NoneReceivedOf h.kind left refusal → NoneReceived bytes refusal
 none_received bytes left h (Some (no.Frame e)) o n = not_decoded bytes left h e o n
 none_received bytes left h (Some no.OutOfMemory) o n =
-    (record { channel = h.channel; body = n.0 }, n.1, (o.2 (record { channel = h.channel; body = n.0 }) n.1).1 (refl, n.2), n.3)
+    (record { channel = h.channel; body = n.0 }, n.1, (o.2 (record { channel = h.channel; body = n.0 }) n.1).1 (refl, n.2), n.3, n.4)
 none_received bytes left h r o n = absurd n
 
 pub received : {R : Type 0} (g : Relays R) (v w : EngineView R) (bytes left : List ℕ) (h : FrameHead) (refusal : Option StepError)

@@ -2,6 +2,7 @@
 -- What a step of an engine does.
 use Rattle.std.specs.Prelude.{◌≡◌, ◌⊎◌, ℕ, List, [], ◌∷◌, Option, Some, None, IsSome, Result, Ok, Err}
 use Rattle.std.specs.Option.{option_map}
+use Rattle.amqp_memory.specs.Refusal.{SomeRefused}
 use Rattle.amqp_types.specs.declared.performatives.kind.Kind.{Kind}
 use Rattle.amqp_types.specs.declared.states.ConnectionState.{ConnectionState}
 use Rattle.amqp_types.specs.declared.states.ConnectionState.TheVariants.{CloseReceived}
@@ -104,13 +105,13 @@ named_error b = None
 abbrev pub NoneReceivedOf : Option Kind → List ℕ → Option StepError → Type 0
 NoneReceivedOf k fields (Some (no.Frame e)) = NoBodyOf k fields e
 NoneReceivedOf k fields (Some no.OutOfMemory) =
-    (b : FrameBody) × (rest : List ℕ) × IsBodyOf k b fields rest × IsSome (named_error b)
+    (b : FrameBody) × (rest : List ℕ) × IsBodyOf k b fields rest × IsSome (named_error b) × SomeRefused
 NoneReceivedOf k fields refusal = ⊥
 
 -- why no frame was received
 abbrev pub NoneReceived : List ℕ → Option StepError → Type 0
 NoneReceived bytes (Some (no.Frame e)) = Decodes bytes (Err e)
-NoneReceived bytes (Some no.OutOfMemory) = (f : Frame) × (rest : List ℕ) × IsFrame f bytes rest × IsSome (named_error f.body)
+NoneReceived bytes (Some no.OutOfMemory) = (f : Frame) × (rest : List ℕ) × IsFrame f bytes rest × IsSome (named_error f.body) × SomeRefused
 NoneReceived bytes refusal = ⊥
 
 -- The fields of this kind say no body that was received, or they say one.

@@ -1,6 +1,7 @@
 -- Part: the promise.
 -- The headline: what holds of every history of an engine, said of the history alone.
 use Rattle.std.specs.Prelude.{ℕ, ◌≡◌, ◌≤◌, List, [], ◌∷◌, ◌++◌, Option, Some, None, Err, flat_map}
+use Rattle.amqp_memory.specs.Refusal.{SomeRefused}
 use Rattle.amqp_types.specs.declared.states.ConnectionState.{ConnectionState}
 use Rattle.amqp_types.specs.declared.states.ConnectionState.TheVariants.{HeaderExchange, Opened}
 use Rattle.amqp_types.specs.Open.{OpenModel}
@@ -37,7 +38,7 @@ abbrev pub HasReceived : List ℕ → Option Frame → Option StepError → Type
 HasReceived bytes (Some f) refusal = (rest : List ℕ) × IsFrame f bytes rest
 HasReceived bytes None (Some (no.Frame e)) = Decodes bytes (Err e)
 HasReceived bytes None (Some no.OutputWaiting) = Unit {0}
-HasReceived bytes None (Some no.OutOfMemory) = Unit {0}
+HasReceived bytes None (Some no.OutOfMemory) = SomeRefused
 HasReceived bytes None refusal = ⊥
 
 abbrev pub Receives : {R : Type 0} → Input R → Entry R → Type 0

@@ -1,6 +1,7 @@
 -- Part: the promise; other calls; inner.
 -- What comes out for a history: each entry's answer, and after it the pieces of its frames, under the limit that holds then.
 use Rattle.std.specs.Prelude.{ℕ, ◌≡◌, List, [], ◌∷◌, ◌++◌, Option, Some, None, Result, Ok, Err}
+use Rattle.amqp_memory.specs.Refusal.{SomeRefused}
 use Rattle.amqp_frames.specs.declared.frame.Frame.{Frame}
 use Rattle.amqp_frames.specs.Piece.{PieceParts}
 use Rattle.amqp_frames.specs.Cut.{Fits, Cut, ReadBack}
@@ -58,7 +59,7 @@ NextOutput view v (Ok (Some x)) w =
     (f : Frame) × (fs : List Frame) × (v.waiting ≡ f ∷ fs) × Fits f v.limit × Cut f v.limit (view x) × ReadBack f v.limit (view x)
     × (w ≡ record v { waiting = fs })
 NextOutput view v (Err (no.TooLarge g)) w = (fs : List Frame) × (v.waiting ≡ g ∷ fs) × (¬ Fits g v.limit) × (w ≡ record v { waiting = fs })
-NextOutput view v (Err no.Memory) w = FirstFits v.limit v.waiting × (w ≡ v)
+NextOutput view v (Err no.Memory) w = FirstFits v.limit v.waiting × (w ≡ v) × SomeRefused
 
 abbrev pub NextAnswer : {R : Type 0} → EngineView R → Answer → EngineView R → Type 0
 NextAnswer v a w = (f : Frame) × (fs : List Frame) × (v.waiting ≡ f ∷ fs) × IsOut v.limit f a × (w ≡ record v { waiting = fs })

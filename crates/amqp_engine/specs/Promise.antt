@@ -1,6 +1,7 @@
 -- Part: the promise.
 -- What a run promises.
 use Rattle.std.specs.Prelude.{◌≡◌, ◌+◌, List, [], ◌∷◌, ◌++◌, length, map, All, Some, Result, Ok, Err}
+use Rattle.amqp_memory.specs.Refusal.{SomeRefused}
 use Rattle.amqp_types.specs.declared.states.ConnectionState.{ConnectionState}
 use Rattle.amqp_types.specs.Open.{OpenModel}
 use Rattle.amqp_session.specs.Relay.{Relays}
@@ -43,10 +44,10 @@ pub record Promise {R : Type 0} (g : Relays R) (wished entries : List (Entry R))
   -- the history goes on by them
   pub goes_on : GoesOn g v (wished ++ entries) v'
 
--- All is done; or the run stopped, says how many inputs it took, and something is left to do.
+-- All is done; or the run stopped since a request for memory was refused, says how many inputs it took, and something is left to do.
 abbrev pub Ends : {X : Type 0} → Type 0 → List X → List X → Result (Unit {0}) Stopped → Type 0
 Ends done inputs inputs' (Ok u) = done
-Ends done inputs inputs' (Err stopped) = (length inputs ≡ stopped.done + length inputs') × ¬ done
+Ends done inputs inputs' (Err stopped) = (length inputs ≡ stopped.done + length inputs') × ¬ done × SomeRefused
 
 -- no input is left, and no frame waits
 abbrev pub NoneLeft : {R : Type 0} → List (Input R) → EngineView R → Type 0

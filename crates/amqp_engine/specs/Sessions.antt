@@ -5,6 +5,8 @@ use Rattle.std.specs.Prelude.{◌≡◌, ◌⊎◌, ◌<◌, ◌^◌, ℕ, List,
 use Rattle.std.specs.Prelude.{true, false}
 use Rattle.std.specs.Map.{lookup, set_value}
 use Rattle.std.specs.FinMap.{get, insert}
+use Rattle.amqp_memory.specs.Refusal.{SomeRefused}
+use Rattle.amqp_numbers.specs.Ranges.{IsAlone}
 use Rattle.amqp_types.specs.declared.states.SessionState.{SessionState}
 use Rattle.amqp_types.specs.declared.states.SessionState.TheVariants as at
 use Rattle.amqp_session.specs.declared.frame.SessionFrame.{SessionFrame}
@@ -121,10 +123,10 @@ pub record Begun {R : Type 0} (g : Relays R) (v : EngineView R) (n : ℕ) (setti
     waiting = sent (calls_frames calls);
   }
 
--- a new session sends its Begin; memory may be refused
+-- a new session sends its Begin, or memory was refused
 abbrev pub BegunStep : {R : Type 0} → SessionView R → Result (SessionModel R × SessionFrame) SessionStateError → Type 0
 BegunStep new (Ok p) = SendBeginStep new (Ok p.1) p.0.view
-BegunStep new (Err e) = e ≡ unbegun.OutOfMemory
+BegunStep new (Err e) = (e ≡ unbegun.OutOfMemory) × SomeRefused
 
 -- no session is reached, and none is called
 abbrev pub Untouched : {R : Type 0} → Option ℕ → List (session.SessionCall R) → Type 0
@@ -153,7 +155,8 @@ BeginRequest g v n settings reached calls (Some (no.AllocSession e)) w =
     Nothing v reached calls w × IsFresh v n × AllocateStep v.connection n (Err e) v.connection
 BeginRequest g v n settings reached calls (Some (no.SessionState unbegun.OutOfMemory)) w =
     Nothing v reached calls w × IsFresh v n × ((c : ℕ) × (k : ConnectionView) × AllocateStep v.connection n (Ok c) k)
-BeginRequest g v n settings reached calls (Some no.OutOfMemory) w = Nothing v reached calls w × IsFresh v n
+    × SomeRefused
+BeginRequest g v n settings reached calls (Some no.OutOfMemory) w = Nothing v reached calls w × IsFresh v n × SomeRefused
 BeginRequest g v n settings reached calls (Some e) w = ⊥
 
 -- The channel of session n is given back, where it still holds it. Its route stays, and so does the session.
@@ -203,8 +206,8 @@ Over v n (Some no.SessionInUse) =
     IsIn v n (λ s. HasEnded v n s × (Holds v.connection s.outgoing_channel n ⊎ IsRouted v.connection n true))
 Over v n (Some e) = ⊥
 
--- A session that is over is let go. Memory may be refused for its number.
+-- A session that is over is let go. Memory may be refused for its number, where neither of the numbers beside it was forgotten.
 abbrev pub ForgetRequest : {R : Type 0} → EngineView R → ℕ → Option ℕ → List (session.SessionCall R) → Option StepError → EngineView R → Type 0
 ForgetRequest v n reached calls None w = Untouched reached calls × Over v n None × LetsGo v n w
-ForgetRequest v n reached calls (Some no.OutOfMemory) w = Nothing v reached calls w × Over v n None
+ForgetRequest v n reached calls (Some no.OutOfMemory) w = Nothing v reached calls w × Over v n None × IsAlone v.forgotten n × SomeRefused
 ForgetRequest v n reached calls (Some e) w = Nothing v reached calls w × Over v n (Some e)

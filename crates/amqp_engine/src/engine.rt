@@ -19,6 +19,7 @@ pub mod input;
 mod limits;
 mod output;
 mod output_queue;
+mod peer_encoder;
 mod received;
 pub mod refusal;
 mod refused;
@@ -31,7 +32,7 @@ pub(crate) mod wish;
 
 use crate::laws::law_of_histories;
 use amqp_connection::{Connection, SessionNo};
-use amqp_frames::{FrameDecoder, FrameEncoder, HeaderPool};
+use amqp_frames::{FrameDecoder, HeaderPool};
 use amqp_numbers::NumberSet;
 use amqp_session::keys::{Hints, KeyHash};
 use amqp_session::{IncomingChannel, LinkRelay, OutputHandle, Session};
@@ -41,6 +42,7 @@ use handle_state::HandleState;
 use indexmap::IndexMap;
 pub use input::Input;
 use output_queue::OutputQueue;
+use peer_encoder::PeerEncoder;
 pub use refusal::Refusal;
 use std::alloc::Global;
 use std::marker::Model;
@@ -80,7 +82,7 @@ pub struct Engine<R> {
     /// The numbers of the sessions that were forgotten.
     forgotten: NumberSet,
     decoder: FrameDecoder,
-    encoder: FrameEncoder,
+    encoder: PeerEncoder,
     heads: HeaderPool,
     waiting: OutputQueue,
     kept: HandleState,
@@ -172,7 +174,7 @@ impl<R: LinkRelay> Engine<R> {
         Engine {
             alloc,
             hash,
-            encoder: FrameEncoder::new(first_limit(&local_open)),
+            encoder: PeerEncoder::new(first_limit(&local_open)),
             heads: HeaderPool::new(alloc),
             decoder: FrameDecoder::new(),
             connection: Connection::keyed(alloc, hash, state, local_open),

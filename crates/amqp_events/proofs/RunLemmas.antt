@@ -1,6 +1,7 @@
 -- A run of a relay over a queue: its events come after what the queue held.
 use Rattle.std.proofs.Common.{◌≡◌, ◌⊎◌, inl, inr, ℕ, suc, List, [], ◌∷◌, ◌++◌, Option, Result, Ok, Err, refl, ap, sym, ◌∙◌, subst}
 use Rattle.std.proofs.lemmas.List.{append_assoc, append-nil}
+use Rattle.amqp_memory.specs.Refusal.{SomeRefused}
 use Rattle.amqp_types.specs.declared.definitions.Role.{Role}
 use Rattle.amqp_types.specs.declared.definitions.Role.TheVariants.{Sender, Receiver}
 use Rattle.amqp_types.specs.declared.definitions.DeliveryTag.{DeliveryTag}
@@ -100,6 +101,11 @@ gives_queued = record {
   detach_gives = λ old handle detach remote_initiated result new. DetachTold Pushes Misses old handle detach remote_initiated result new;
 }
 
+-- it was missed, whatever the cause
+uncaused : {A B : Type 0} → A ⊎ (B × SomeRefused) → A ⊎ B
+uncaused (inl a) = inl a
+uncaused (inr b) = inr b.0
+
 pub run_gives : (old new : Queued) (ts : List Told) → Run gives_queued old ts new → RunGives old ts new
 run_gives old new [] h = record { events = []; missed = 0; are_of = (refl, refl); queue = ap (λ (q : Queued). q.sink) h ∙ ap (λ es. record old.sink { events = es }) (sym (append-nil old.sink.events)) }
 run_gives old new (ToldAttach a result ∷ ts) (m, h, run) =
@@ -115,7 +121,7 @@ run_gives old new (ToldTransfer t payload result ∷ ts) (m, h, run) =
     let g = transfer_next old.policy.role old m new t payload result ts h r in
     record { events = g.0; missed = r.missed; are_of = g.1; queue = g.2 }
 run_gives old new (ToldDisposition role settled state tag answer ∷ ts) (m, h, run) =
-    let g = disposition_next old m new (disposed old.link role settled state tag) ts h.1.0 h.2 (run_gives m new ts run) in
+    let g = disposition_next old m new (disposed old.link role settled state tag) ts h.1.0 (uncaused h.2) (run_gives m new ts run) in
     record { events = g.events; missed = g.missed; are_of = g.are_of; queue = g.queue }
 run_gives old new (ToldDetach output d remote_initiated answer ∷ ts) (m, h, run) =
     let g = heard old m new (detached old.link output d remote_initiated) ts h.1.0 h.2 (run_gives m new ts run) in

@@ -1,6 +1,7 @@
 -- Part: other calls.
 -- What a relay does with what it is told: its event goes to its sink, and its answer is that of its policy.
 use Rattle.std.specs.Prelude.{◌≡◌, ◌⊎◌, ◌↔◌, ℕ, List, Bool, Option, Result, Ok, Err, IfOk, IsSome, IsTrue}
+use Rattle.amqp_memory.specs.Refusal.{SomeRefused}
 use Rattle.amqp_types.specs.Attach.{AttachModel}
 use Rattle.amqp_types.specs.Detach.{DetachModel}
 use Rattle.amqp_types.specs.Transfer.{TransferModel}
@@ -65,7 +66,7 @@ abbrev pub TransferToldAt : {S : Type 0} → Role → Puts S → EventRelay S �
 TransferToldAt Sender puts old t payload result new = (result ≡ Err TransferFrameToSender) × (new ≡ old)
 TransferToldAt Receiver puts old t payload result new =
     (Tells puts old (transferred old.link t payload) (outcome result) new × IfOk result (λ named. named ≡ opened_by old.policy t))
-    ⊎ (IsSome (opened_by old.policy t) × (result ≡ Err OutOfMemory) × (new ≡ old))
+    ⊎ (IsSome (opened_by old.policy t) × (result ≡ Err OutOfMemory) × (new ≡ old) × SomeRefused)
 
 abbrev pub TransferTold : {S : Type 0} → Puts S → EventRelay S → TransferModel → List ℕ → Result (Option (ℕ × DeliveryTag)) LinkRelayError
     → EventRelay S → Type 0
@@ -75,7 +76,7 @@ TransferTold puts old t payload result new = TransferToldAt old.policy.role puts
 abbrev pub DispositionTold : {S : Type 0} → Puts S → Skips S → EventRelay S → Role → Bool → Option (List ℕ) → DeliveryTag → Bool → EventRelay S → Type 0
 DispositionTold puts misses old role settled state tag answer new =
     (IsTrue answer ↔ IsEchoed old.policy.echoed role settled state) × Stays old new
-    × (Notes puts misses old.sink (disposed old.link role settled state tag) new.sink ⊎ misses old.sink new.sink)
+    × (Notes puts misses old.sink (disposed old.link role settled state tag) new.sink ⊎ (misses old.sink new.sink × SomeRefused))
 
 abbrev pub DetachTold : {S : Type 0} → Puts S → Skips S → EventRelay S → OutputHandle → DetachModel → Bool → Option DetachModel → EventRelay S → Type 0
 DetachTold puts misses old output d remote_initiated answer new =

@@ -1,6 +1,7 @@
 //! Policy: what a relay answers, by link.
 
 ghost use Rattle.std.specs.Prelude.{◌≡◌, ◌↔◌, true, false, IfOk, OnErr, IsSome, IsTrue, option_copied};
+ghost use Rattle.amqp_memory.specs.Refusal.{SomeRefused};
 ghost use Rattle.amqp_events.specs.declared.policy.Recorded.TheVariants.{OfModeSecond};
 ghost use Rattle.amqp_events.specs.declared.policy.Echoed.TheVariants.{Terminal};
 ghost use Rattle.amqp_events.specs.Policy.{is_recorded, opened_by, flow_answer, detach_answer, IsEchoed};
@@ -106,7 +107,8 @@ impl Policy {
         transfer: &Transfer,
     ) -> Result<Option<(DeliveryNumber, DeliveryTag)>, AllocError>
         ensures opened { IfOk result (λ named. named ≡ opened_by self.now transfer.now) }
-        ensures refused { OnErr result (IsSome (opened_by self.now transfer.now)) }
+        ensures opens { OnErr result (IsSome (opened_by self.now transfer.now)) }
+        ensures refused { OnErr result SomeRefused }
     {
         if !self.is_recorded(transfer) {
             return Ok(None);

@@ -1,12 +1,15 @@
 //! The queue of events, as a value.
 
-ghost use Rattle.std.specs.Prelude.{◌≡◌, [], ◌∷◌, ◌++◌, length, true, IfOk};
+ghost use Rattle.std.specs.Prelude.{◌≡◌, [], ◌∷◌, ◌++◌, length, true, IfOk, OnErr};
 ghost use Rattle.std.specs.VecDeque.{deque_capacity};
+ghost use Rattle.amqp_memory.specs.Refusal.{RefusedWithin};
 ghost use Rattle.amqp_events.specs.Event.{kind_of};
+ghost use Rattle.amqp_events.specs.Room.{total};
 ghost use Rattle.amqp_events.specs.Queue.{new_queue, has_room, Pushes, Pops, Misses};
 
 use crate::event::{Event, EventKind};
 use crate::room::Room;
+use amqp_memory::queue_with;
 use amqp_session::LinkRelayError;
 use std::alloc::{AllocError, Global};
 use std::collections::VecDeque;
@@ -46,9 +49,10 @@ impl Model for EventQueue {
 impl EventQueue {
     /// A queue of no events, with room for so many of each kind. `AllocError` where memory for them is refused.
     pub fn with_room(alloc: Global, room: Room) -> Result<EventQueue, AllocError>
-        ensures { IfOk result (λ q. q ≡ new_queue room) }
+        ensures empty { IfOk result (λ q. q ≡ new_queue room) }
+        ensures refused { OnErr result (RefusedWithin (total room)) }
     {
-        let events = VecDeque::with_capacity(alloc, room.total())?;
+        let events = queue_with(alloc, room.total())?;
         Ok(EventQueue {
             room,
             used: Room {

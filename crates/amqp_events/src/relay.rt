@@ -1,6 +1,7 @@
 //! The relay: it puts what comes for its link into a sink, and answers by its policy.
 
-ghost use Rattle.std.specs.Prelude.{◌≡◌, None, Some, IfOk, option_copied};
+ghost use Rattle.std.specs.Prelude.{◌≡◌, None, Some, IfOk, OnErr, option_copied};
+ghost use Rattle.amqp_memory.specs.Refusal.{SomeRefused};
 ghost use Rattle.amqp_events.specs.Event.{under_both, disposed};
 ghost use Rattle.amqp_events.specs.Telling.{Tells, Notes, Stays, AttachTold, FlowTold, TransferTold, DispositionTold, DetachTold};
 
@@ -111,7 +112,8 @@ fn disposition_event(
     state: Option<&Raw>,
     tag: &DeliveryTag,
 ) -> Result<Event, AllocError>
-    ensures { IfOk result (λ e. e ≡ disposed link role settled (option_copied state.entry) tag.now) }
+    ensures event { IfOk result (λ e. e ≡ disposed link role settled (option_copied state.entry) tag.now) }
+    ensures refused { OnErr result SomeRefused }
 {
     let state = match state {
         None => None,

@@ -1,12 +1,15 @@
 //! A queue that relays share with their owner.
 
-ghost use Rattle.std.specs.Prelude.{◌≡◌, IfErr};
+ghost use Rattle.std.specs.Prelude.{◌≡◌, ◌⊎◌, IfErr, OnErr};
+ghost use Rattle.amqp_memory.specs.Refusal.{RefusedWithin, SomeRefused};
+ghost use Rattle.amqp_events.specs.Room.{total};
 ghost use Rattle.amqp_session.specs.declared.error.LinkRelayError.TheVariants.{OutOfMemory};
 
 use crate::event::Event;
 use crate::queue::EventQueue;
 use crate::room::Room;
 use crate::sink::EventSink;
+use amqp_memory::{held, hold_again};
 use amqp_session::LinkRelayError;
 use std::alloc::{AllocError, Global};
 use std::cell::RefCell;
@@ -32,17 +35,22 @@ pub struct SharedQueue {
 
 impl SharedQueue {
     /// A queue of no events, as `EventQueue::with_room` makes it. `AllocError` where memory is refused.
-    pub fn with_room(alloc: Global, room: Room) -> Result<SharedQueue, AllocError> {
+    pub fn with_room(alloc: Global, room: Room) -> Result<SharedQueue, AllocError>
+        ensures refused { OnErr result (RefusedWithin (total room) ⊎ SomeRefused) }
+    {
         let queue = EventQueue::with_room(alloc, room)?;
-        Ok(SharedQueue {
-            queue: Rc::new(alloc, RefCell::new(queue))?,
-        })
+        let Ok(queue) = held(alloc, RefCell::new(queue)) else {
+            return Err(AllocError);
+        };
+        Ok(SharedQueue { queue })
     }
 
     /// Another hold on the same queue. It takes no memory. `AllocError` where there are as many holds as can be counted.
-    pub fn share(&self) -> Result<SharedQueue, AllocError> {
+    pub fn share(&self) -> Result<SharedQueue, AllocError>
+        ensures refused { OnErr result SomeRefused }
+    {
         Ok(SharedQueue {
-            queue: self.queue.clone()?,
+            queue: hold_again(&self.queue)?,
         })
     }
 

@@ -159,7 +159,7 @@ opened kinds bytes left n four h (Ok k) a = (
 )
 opened kinds bytes left n four h (Err no.DecodeError) a =
     inr (has_header bytes n h, λ j fields is. no_name kinds (drop 4 bytes) a.0 a.1 j.kind fields (subst (λ (b : List ℕ). NamesKind j.kind b fields) (same_body bytes n h j fields is) is.names))
-opened kinds bytes left n four h (Err no.OutOfMemory) a = (after_header bytes four a, has_header bytes n h)
+opened kinds bytes left n four h (Err no.OutOfMemory) a = absurd a
 opened kinds bytes left n four h (Err no.NotImplemented) a = absurd a
 opened kinds bytes left n four h (Err no.TooLarge) a = absurd a
 opened kinds bytes left n four h (Err (no.Io text)) a = absurd a
@@ -170,9 +170,9 @@ opened_from kinds bytes header after left n e d four first second n_is r a =
     opened kinds bytes left n (subst (λ (x : List ℕ). 4 ≤ length x) e four) (subst (λ (x : List ℕ). IsHeader x n) e (header_is header n four first second n_is)) r (subst (λ (x : List ℕ). Names x left r) d a)
 
 -- no descriptor of a kind, for this reason
-pub unnamed : (e : ReadError) (bytes left : List ℕ) → ¬ (bytes ≡ []) → Gives {X = Kind} {V = Kind} (λ k. k) (Err e) left (kind_at bytes) → Names bytes left (Err (error_of e))
-unnamed read.Malformed bytes left some none = (some, none)
-unnamed read.OutOfMemory bytes left some none = some
+pub unnamed : (e : ReadError) (bytes left : List ℕ) → ¬ (bytes ≡ []) → e ≡ read.Malformed → Gives {X = Kind} {V = Kind} (λ k. k) (Err e) left (kind_at bytes) → Names bytes left (Err (error_of e))
+unnamed read.Malformed bytes left some is none = (some, none)
+unnamed read.OutOfMemory bytes left some is none = absurd cc
 
 -- ---- a frame has a head
 
@@ -192,7 +192,7 @@ no_frame bytes none f rest is =
 pub not_opened : (bytes : List ℕ) (e : Error) → HasNoHead bytes e → Decodes bytes (Err e)
 not_opened bytes no.DecodeError (inl short) = inl short
 not_opened bytes no.DecodeError (inr n) = inr (n.0, no_frame bytes n.1)
-not_opened bytes no.OutOfMemory n = n
+not_opened bytes no.OutOfMemory n = absurd n
 not_opened bytes no.NotImplemented n = n
 not_opened bytes no.TooLarge n = absurd n
 not_opened bytes (no.Io text) n = absurd n
@@ -225,7 +225,7 @@ no_fields B at law = read_nothing B at (reader B at law)
 -- a frame of which the head was read and the fields were not is none
 pub not_decoded : (bytes left : List ℕ) (h : FrameHead) (e : Error) → Opens bytes left (Ok h) → NoBodyOf h.kind left e → Decodes bytes (Err e)
 not_decoded bytes left h no.DecodeError o n = inr (o.1, λ f rest is. n f.body rest ((o.2 f rest).0 is).1)
-not_decoded bytes left h no.OutOfMemory o n = (asks_after bytes h.kind o.0 n, o.1)
+not_decoded bytes left h no.OutOfMemory o n = (asks_after bytes h.kind o.0 n.0, o.1, n.1)
 not_decoded bytes left h no.NotImplemented o n = absurd n
 not_decoded bytes left h no.TooLarge o n = absurd n
 not_decoded bytes left h (no.Io text) o n = absurd n
@@ -249,7 +249,7 @@ pub body_not_read : {V : Type 0} (B : V → List (List ℕ) → Type 0) (at : Pa
     → (k : Kind) → ((b : FrameBody) (fields rest : List ℕ) → IsBodyOf (Some k) b fields rest → IsFields B says b fields rest)
     → (fields left : List ℕ) (e : ReadError) → Gives {X = V} (λ x. x) (Err e) left (composite_at at fields) → ReadsBodyOf (Some k) fields (Err (error_of e))
 body_not_read B at law says k from fields left read.Malformed a = λ b rest f. read_nothing B at law says fields a b rest (from b fields rest f)
-body_not_read B at law says k from fields left read.OutOfMemory a = tt
+body_not_read B at law says k from fields left read.OutOfMemory a = (tt, a)
 
 pub decodes : (bytes left : List ℕ) (h : FrameHead) → Opens bytes left (Ok h) → (r : Result (FrameBody × List ℕ) Error) → ReadsBodyOf h.kind left r → Decodes bytes (framed h.channel r)
 decodes bytes left h o (Ok x) b =

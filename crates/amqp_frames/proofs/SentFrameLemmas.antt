@@ -1,13 +1,16 @@
--- A frame that is whole, after what was to be sent.
-use Rattle.std.proofs.Common.{◌≡◌, ℕ, List, [], ◌∷◌, ◌++◌, refl, sym, ap, ◌∙◌, arith, inl}
+-- A frame that is whole, after what was to be sent; and how much room pieces take up there.
+use Rattle.std.proofs.Common.{◌≡◌, ℕ, ◌+◌, ◌-◌, ◌<◌, ◌^◌, ◌≤◌, ◌⊎◌, List, [], ◌∷◌, ◌++◌, length, min, refl, sym, ap, ◌∙◌, arith, inl, inr}
 use Rattle.std.proofs.lemmas.List.{append-nil}
 use Rattle.std.specs.Prelude.{Ok}
+use Rattle.amqp_memory.specs.Refusal.{SomeRefused}
 use Rattle.amqp_frames.specs.declared.frame.Frame.{Frame}
+use Rattle.amqp_frames.specs.declared.error.Error.TheVariants as no
 use Rattle.amqp_frames.specs.Frame.{header_text, text_of, payload_of}
 use Rattle.amqp_frames.specs.Piece.{PieceParts, piece_bytes}
 use Rattle.amqp_frames.specs.Cut.{IsWholePiece, Whole}
 use Rattle.amqp_frames.specs.ReadBack.{DecodesTo}
-use Rattle.amqp_frames.specs.Wire.{EncodesTo, sized}
+use Rattle.amqp_frames.specs.Wire.{EncodesTo, HasNoSize, IsNotSent, sized}
+use Rattle.amqp_frames.specs.Inner.Woven.{pieces_room}
 
 pub sent_whole : (f : Frame) (m : ℕ) (old new : List ℕ) → Whole f m → ((p : PieceParts) → IsWholePiece f p → DecodesTo f (piece_bytes p))
     → new ≡ old ++ sized ((header_text f.channel ++ text_of f.body) ++ payload_of f.body) → EncodesTo f m old (Ok tt) new
@@ -18,3 +21,17 @@ sent_whole f m old new whole decoded sent =
       (inl whole, inl (whole, (p, refl, (refl, refl))), inl (whole, (p, refl, decoded p (refl, refl)))),
       sent ∙ ap (λ (bytes : List ℕ). old ++ bytes) (sym (append-nil (sized (piece_bytes p)))),
     )
+
+-- under a limit that a max-frame-size allows every piece has a size, so nothing but a refusal answers OutOfMemory
+pub refused_under : (f : Frame) (m : ℕ) → m ≤ 2 ^ 32 - 5 → IsNotSent f m no.OutOfMemory → SomeRefused
+refused_under f m le n = go n.1
+  where
+    go : SomeRefused ⊎ HasNoSize f m → SomeRefused
+    go (inl r) = r
+    go (inr big) = absurd (omega (arith, le, big))
+
+-- where no piece is left, what was counted is all, or the greatest number
+pub counted : (most total : ℕ) (rest all : List PieceParts) → length rest ≡ 0 → total < 2 ^ 64
+    → min (total + pieces_room most rest) (2 ^ 64 - 1) ≡ min (pieces_room most all) (2 ^ 64 - 1) → total ≡ min (pieces_room most all) (2 ^ 64 - 1)
+counted most total [] all none small e = omega (arith, small, e)
+counted most total (p ∷ rest) all none small e = absurd (omega (arith, none))

@@ -2,6 +2,7 @@
 -- How a frame is cut into pieces that keep a limit (AMQP 1.0 part 2, section 2.6.14).
 use Rattle.std.specs.Prelude.{◌≡◌, ◌<◌, ◌≤◌, ◌+◌, ◌-◌, ◌⊎◌, ℕ, List, [], ◌∷◌, ◌++◌, length, map, All, nat_lt}
 use Rattle.std.specs.Prelude.{if◌then◌else◌, Option, Some, None, Result, Ok, Err}
+use Rattle.amqp_memory.specs.Refusal.{SomeRefused}
 use Rattle.amqp_values.specs.Reading.{joined}
 use Rattle.amqp_types.specs.declared.performatives.Performative.TheVariants as performative
 use Rattle.amqp_types.specs.declared.performatives.transfer.TransferFragment.TheVariants as text
@@ -110,7 +111,7 @@ ReadBack f m pieces =
 abbrev pub Encodes : {X : Type 0} → (X → List PieceParts) → Frame → ℕ → Result X Error → Type 0
 Encodes view f m (Ok x) = Fits f m × Cut f m (view x) × ReadBack f m (view x)
 Encodes view f m (Err no.TooLarge) = ¬ Fits f m
-Encodes view f m (Err no.OutOfMemory) = Fits f m
+Encodes view f m (Err no.OutOfMemory) = Fits f m × SomeRefused
 Encodes view f m (Err no.DecodeError) = ⊥
 Encodes view f m (Err no.NotImplemented) = ⊥
 Encodes view f m (Err (no.Io text)) = ⊥

@@ -2,6 +2,7 @@
 -- Frames: their grammar, and the text of one (AMQP 1.0 part 2, section 2.3).
 use Rattle.std.specs.Prelude.{◌≡◌, ◌<◌, ◌≤◌, ◌⊎◌, ℕ, List, [], ◌∷◌, ◌++◌, length, Result, Ok, Err}
 use Rattle.std.specs.Int.{w16, from_be_bytes, to_be_bytes}
+use Rattle.amqp_memory.specs.Refusal.{SomeRefused}
 use Rattle.amqp_types.specs.declared.performatives.Performative.{Performative}
 use Rattle.amqp_types.specs.declared.performatives.Performative.TheVariants as performative
 use Rattle.amqp_types.specs.Performatives.{IsPerformative, performative_text}
@@ -59,7 +60,7 @@ abbrev pub Decodes : List ℕ → Result (Frame × List ℕ) Error → Type 0
 Decodes bytes (Ok x) = IsFrame x.0 bytes x.1 × ((f : Frame) (rest : List ℕ) → IsFrame f bytes rest → ◌≡◌ {A = Frame × List ℕ} (f, rest) x)
 Decodes bytes (Err no.DecodeError) = (length bytes < 4) ⊎ (HasHeader bytes × ((f : Frame) (rest : List ℕ) → ¬ IsFrame f bytes rest))
 Decodes bytes (Err no.NotImplemented) = (4 ≤ length bytes) × ¬ HasHeader bytes
-Decodes bytes (Err no.OutOfMemory) = (4 < length bytes) × HasHeader bytes
+Decodes bytes (Err no.OutOfMemory) = (4 < length bytes) × HasHeader bytes × SomeRefused
 Decodes bytes (Err no.TooLarge) = ⊥
 Decodes bytes (Err (no.Io text)) = ⊥
 

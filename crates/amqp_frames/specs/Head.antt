@@ -2,6 +2,7 @@
 -- A frame's head, which is its header and its descriptor, and the fields after it.
 use Rattle.std.specs.Prelude.{◌≡◌, ◌<◌, ◌≤◌, ◌↔◌, ◌⊎◌, ℕ, List, [], ◌∷◌, ◌++◌, length, Option, Some, None, Result, Ok, Err}
 use Rattle.std.specs.Int.{w16, from_be_bytes}
+use Rattle.amqp_memory.specs.Refusal.{SomeRefused}
 use Rattle.amqp_values.specs.Composite.{IsComposite}
 use Rattle.amqp_types.specs.declared.performatives.kind.Kind.{Kind}
 use Rattle.amqp_types.specs.declared.performatives.kind.Kind.TheVariants as kind
@@ -55,7 +56,7 @@ MayAskForMemory (Some k) = Unit {0}
 -- why no body of this kind is read
 abbrev pub NoBodyOf : Option Kind → List ℕ → Error → Type 0
 NoBodyOf k fields no.DecodeError = (body : FrameBody) (rest : List ℕ) → ¬ IsBodyOf k body fields rest
-NoBodyOf k fields no.OutOfMemory = MayAskForMemory k
+NoBodyOf k fields no.OutOfMemory = MayAskForMemory k × SomeRefused
 NoBodyOf k fields no.NotImplemented = ⊥
 NoBodyOf k fields no.TooLarge = ⊥
 NoBodyOf k fields (no.Io text) = ⊥
@@ -79,11 +80,11 @@ pub record IsHead (h : FrameHead) (bytes left : List ℕ) : Type 0 where
   pub whole : bytes ≡ 0x02 ∷ 0x00 ∷ channel ++ body
   pub names : NamesKind h.kind body left
 
--- why no head is read
+-- why no head is read; reading one asks for no memory
 abbrev pub HasNoHead : List ℕ → Error → Type 0
 HasNoHead bytes no.DecodeError = (length bytes < 4) ⊎ (HasHeader bytes × ((h : FrameHead) (left : List ℕ) → ¬ IsHead h bytes left))
 HasNoHead bytes no.NotImplemented = (4 ≤ length bytes) × ¬ HasHeader bytes
-HasNoHead bytes no.OutOfMemory = (4 < length bytes) × HasHeader bytes
+HasNoHead bytes no.OutOfMemory = ⊥
 HasNoHead bytes no.TooLarge = ⊥
 HasNoHead bytes (no.Io text) = ⊥
 

@@ -1,6 +1,7 @@
 -- Part: the bytes; other calls; inner.
 -- Pieces: a head, and a part of a payload.
 use Rattle.std.specs.Prelude.{◌≡◌, ◌<◌, ◌^◌, ℕ, List, ◌++◌, length, Result, Ok, Err}
+use Rattle.amqp_memory.specs.Refusal.{SomeRefused}
 use Rattle.amqp_values.specs.Same.{Test, both, field, texts}
 use Rattle.amqp_frames.specs.declared.error.Error.{Error}
 use Rattle.amqp_frames.specs.declared.error.Error.TheVariants as no
@@ -33,5 +34,5 @@ pub record IsPiece (p : PieceParts) : Type 0 where
 -- the bytes of a piece, unless memory was refused
 abbrev pub JoinsBytes : PieceParts → Result (List ℕ) Error → Type 0
 JoinsBytes p (Ok bytes) = bytes ≡ piece_bytes p
-JoinsBytes p (Err no.OutOfMemory) = Unit {0}
+JoinsBytes p (Err no.OutOfMemory) = SomeRefused
 JoinsBytes p (Err e) = ⊥

@@ -2,6 +2,7 @@
 -- A delivery as transfers that are one frame each, whatever number it gets (AMQP 1.0 part 2, sections 2.5.6 and 2.6.14).
 use Rattle.std.specs.Prelude.{◌≡◌, ◌≤◌, ◌+◌, ◌⊎◌, ℕ, List, [], ◌∷◌, ◌++◌, length, map, All, Bool, true, false, Some, None, Result, Ok, Err}
 use Rattle.std.specs.Prelude.{if◌then◌else◌}
+use Rattle.amqp_memory.specs.Refusal.{SomeRefused}
 use Rattle.amqp_values.specs.Reading.{joined}
 use Rattle.amqp_types.specs.declared.performatives.transfer.TransferFragment.TheVariants as text
 use Rattle.amqp_types.specs.Transfer.{TransferModel, said_in, widest}
@@ -64,7 +65,7 @@ CanSplit t payload m = IsOnePiece m true t payload ⊎ LeavesRoom (widest t) m
 abbrev pub SplitsTo : {X : Type 0} → (X → List DeliveryPart) → TransferModel → List ℕ → ℕ → Result X Error → Type 0
 SplitsTo view t payload m (Ok x) = CanSplit t payload m × IsSplit t payload m (view x)
 SplitsTo view t payload m (Err no.TooLarge) = ¬ CanSplit t payload m
-SplitsTo view t payload m (Err no.OutOfMemory) = CanSplit t payload m
+SplitsTo view t payload m (Err no.OutOfMemory) = CanSplit t payload m × SomeRefused
 SplitsTo view t payload m (Err no.DecodeError) = ⊥
 SplitsTo view t payload m (Err no.NotImplemented) = ⊥
 SplitsTo view t payload m (Err (no.Io text)) = ⊥

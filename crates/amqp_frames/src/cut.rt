@@ -1,6 +1,7 @@
 //! The cut of a transfer that does not fit one frame (AMQP 1.0 part 2, section 2.6.14).
 
-ghost use Rattle.std.specs.Prelude.{◌≡◌, ◌≤◌, ◌<◌, ◌+◌, ◌*◌, ◌^◌, ◌++◌, IfOk, OnOk, length, vec_len, vec_capacity};
+ghost use Rattle.std.specs.Prelude.{◌≡◌, ◌≤◌, ◌<◌, ◌+◌, ◌*◌, ◌^◌, ◌++◌, IfOk, OnOk, OnErr, length, vec_len, vec_capacity};
+ghost use Rattle.amqp_memory.specs.Refusal.{SomeRefused};
 ghost use Rattle.amqp_frames.specs.Frame.{header_text};
 ghost use Rattle.amqp_frames.specs.Cut.{transfer_text, first_text, middle_text, last_text, room};
 ghost use Rattle.amqp_frames.specs.Inner.Pieces.{Adds, CutsTo, InPieces};
@@ -8,6 +9,7 @@ ghost use Rattle.amqp_frames.specs.Inner.Pieces.{Adds, CutsTo, InPieces};
 use crate::error::Error;
 use crate::head::transfer_head;
 use crate::piece::Piece;
+use amqp_memory::{front_of, frozen, shared, vector_for};
 use amqp_types::laws::transfer_is_spelled;
 use amqp_types::{Transfer, TransferFragment};
 use bytes::Bytes;
@@ -57,13 +59,14 @@ fn in_pieces(
     requires first { length (first_text transfer.now) + front + 4 < 2 ^ 32 }
     requires middle { length (middle_text transfer.now) + step + 4 < 2 ^ 32 }
     requires last { length (last_text transfer.now) + step + 4 < 2 ^ 32 }
-    ensures { IfOk result (λ v. InPieces channel transfer.now payload.now front step v.items) }
+    ensures pieces { IfOk result (λ v. InPieces channel transfer.now payload.now front step v.items) }
+    ensures refused { OnErr result SomeRefused }
 {
     let count = (payload.len() - front - 1) / step;
-    let mut pieces = Vec::with_capacity(alloc, count + 2)?;
-    let mut rest = payload.clone()?;
+    let mut pieces = vector_for(alloc, payload.as_slice(), count + 2)?;
+    let mut rest = shared(payload)?;
     let head = transfer_head(alloc, channel, transfer, TransferFragment::First)?;
-    let part = rest.split_to(front)?;
+    let part = front_of(&mut rest, front)?;
     pieces.push_reserved(Piece::own(head, part));
     put_middle(
         alloc,
@@ -95,11 +98,13 @@ fn put_middle(
     ensures added { let head = header_text channel ++ middle_text transfer.now in
         OnOk result (Adds head step pieces.old.items pieces.new.items rest.old rest.new (step * count)) }
     ensures room_left { OnOk result (vec_len pieces.new < vec_capacity pieces.new) }
+    ensures refused { OnErr result SomeRefused }
 {
     if count == 0 {
         return Ok(());
     }
-    let head = transfer_head(alloc, channel, transfer, TransferFragment::Middle)?.freeze()?;
+    let head = transfer_head(alloc, channel, transfer, TransferFragment::Middle)?;
+    let head = frozen(head)?;
     put_parts(&head, pieces, rest, step, count)
 }
 
@@ -116,10 +121,11 @@ fn put_parts(
     requires fits { length head.now + step < 2 ^ 32 }
     ensures added { OnOk result (Adds head.now step pieces.old.items pieces.new.items rest.old rest.new (step * count)) }
     ensures room_left { OnOk result (vec_len pieces.new < vec_capacity pieces.new) }
+    ensures refused { OnErr result SomeRefused }
 {
     for i in 0..count {
-        let copy = head.clone()?;
-        let part = rest.split_to(step)?;
+        let copy = shared(head)?;
+        let part = front_of(rest, step)?;
         pieces.push_reserved(Piece::shared(copy, part));
     }
     Ok(())

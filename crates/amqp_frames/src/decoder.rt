@@ -48,7 +48,8 @@ impl FrameDecoder {
     /// fields and what is after them; who then reads the fields of this kind has decoded the frame.
     ///
     /// The errors are those of [`FrameDecoder::decode`]: `DecodeError` for fewer than four bytes, and where no performative
-    /// is named; `NotImplemented` for another frame type or an extended header. After an error the bytes are of no use.
+    /// is named; `NotImplemented` for another frame type or an extended header. It takes no memory, so it never answers
+    /// `OutOfMemory`. After an error the bytes are of no use.
     #[inline(always)]
     pub fn head(&self, bytes: &mut Bytes) -> Result<FrameHead, Error>
         ensures { Opens bytes.old bytes.new result }

@@ -1,6 +1,7 @@
 //! The encoder: a frame as pieces that keep a limit.
 
-ghost use Rattle.std.specs.Prelude.{◌≡◌, ◌≤◌, ◌<◌, ◌+◌, ◌^◌, ℕ, [], ◌∷◌, IfOk, OnOk, length};
+ghost use Rattle.std.specs.Prelude.{◌≡◌, ◌≤◌, ◌<◌, ◌+◌, ◌^◌, ℕ, [], ◌∷◌, IfOk, OnOk, OnErr, length};
+ghost use Rattle.amqp_memory.specs.Refusal.{SomeRefused};
 ghost use Rattle.amqp_types.specs.Transfer.{widest};
 ghost use Rattle.amqp_frames.specs.Frame.{text_of, payload_of};
 ghost use Rattle.amqp_frames.specs.Cut.{Encodes, IsWholePiece, Whole, room_beside};
@@ -17,6 +18,7 @@ use crate::header_pool::{HeadRoom, HeaderPool, OwnRoom};
 use crate::laws::whole_is_read;
 use crate::piece::Piece;
 use crate::send_buffer::SendBuffer;
+use amqp_memory::vector_with;
 use amqp_types::{Transfer, TransferFragment};
 use std::alloc::{AllocError, Global};
 use std::marker::Model;
@@ -100,6 +102,9 @@ impl FrameEncoder {
         let room = limit - 4;
         let len = frame.body.text_len();
         if frame.body.is_within(len, room) {
+            if limit > MOST_SIZED && !frame.body.is_within(len, MOST_SIZED - 4) {
+                return Err(Error::OutOfMemory);
+            }
             whole_is_read(frame);
             out.put_frame(frame, len as usize)?;
             return Ok(());
@@ -181,9 +186,10 @@ fn whole<H: HeadRoom>(
     requires fits { length (text_of frame.now.body) + length (payload_of frame.now.body) + 4 < 2 ^ 32 }
     ensures piece { IfOk result (λ v. (p : _) × (v.items ≡ p ∷ []) × IsWholePiece frame.now p × DecodesTo frame.now (piece_bytes p)) }
     ensures room { OnOk result (CutsOrLeaves H.too_long (CutsOff H.gives H.keeps) heads.old (4 + length (text_of frame.now.body)) heads.new) }
+    ensures refused { OnErr result SomeRefused }
 {
     whole_is_read(frame);
-    let mut pieces = Vec::with_capacity(alloc, 1)?;
+    let mut pieces = vector_with(alloc, 1)?;
     let payload = frame.body.payload()?;
     let head = whole_head(alloc, heads, frame.channel, &frame.body, len)?;
     pieces.push_reserved(Piece::own(head, payload));

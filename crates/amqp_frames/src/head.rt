@@ -1,6 +1,7 @@
 //! HeaderPool of pieces: header and performative, each written into one buffer of a size known beforehand.
 
-ghost use Rattle.std.specs.Prelude.{◌≡◌, ◌≤◌, ◌<◌, ◌+◌, ◌^◌, ◌++◌, IfOk, OnOk, length};
+ghost use Rattle.std.specs.Prelude.{◌≡◌, ◌≤◌, ◌<◌, ◌+◌, ◌^◌, ◌++◌, IfOk, OnOk, OnErr, length};
+ghost use Rattle.amqp_memory.specs.Refusal.{SomeRefused};
 ghost use Rattle.amqp_types.specs.Transfer.{said_in};
 ghost use Rattle.amqp_frames.specs.Frame.{header_text, text_of};
 ghost use Rattle.amqp_frames.specs.Cut.{transfer_text};
@@ -19,6 +20,7 @@ fn header<H: HeadRoom>(heads: &mut H, channel: u16, len: usize) -> Result<BytesM
     requires short { ¬ H.too_long heads.old (4 + len) }
     ensures header { IfOk result (λ b. (b.items ≡ header_text channel) × (len ≤ b.spare)) }
     ensures room { IfOk result (λ b. H.gives heads.old (4 + len) (b.spare + 4)) }
+    ensures refused { OnErr result SomeRefused }
 {
     let mut out = heads.take(4 + len)?;
     out.extend_reserved(&[2, 0]);
@@ -40,6 +42,7 @@ pub(crate) fn whole_head<H: HeadRoom>(
     requires fits { length (text_of body.now) < 2 ^ 32 }
     ensures head { IfOk result (λ b. b.items ≡ header_text channel ++ text_of body.now) }
     ensures room { OnOk result (CutsOrLeaves H.too_long (CutsOff H.gives H.keeps) heads.old (4 + length (text_of body.now)) heads.new) }
+    ensures refused { OnErr result SomeRefused }
 {
     if heads.is_too_long(4 + len) {
         return own_head(alloc, channel, body, len);
@@ -59,7 +62,8 @@ fn own_head(
 ) -> Result<BytesMut, AllocError>
     requires text { len ≡ length (text_of body.now) }
     requires fits { length (text_of body.now) < 2 ^ 32 }
-    ensures { IfOk result (λ b. b.items ≡ header_text channel ++ text_of body.now) }
+    ensures head { IfOk result (λ b. b.items ≡ header_text channel ++ text_of body.now) }
+    ensures refused { OnErr result SomeRefused }
 {
     let mut out = header(&mut OwnRoom(alloc), channel, len)?;
     body.put_text(len, &mut out);
@@ -74,7 +78,8 @@ pub(crate) fn transfer_head(
     text: TransferFragment,
 ) -> Result<BytesMut, AllocError>
     requires { length (transfer_text (said_in text transfer.now)) < 2 ^ 32 }
-    ensures { IfOk result (λ b. b.items ≡ header_text channel ++ transfer_text (said_in text transfer.now)) }
+    ensures head { IfOk result (λ b. b.items ≡ header_text channel ++ transfer_text (said_in text transfer.now)) }
+    ensures refused { OnErr result SomeRefused }
 {
     let len = transfer.encoded_len_in(text) as usize;
     let mut out = header(&mut OwnRoom(alloc), channel, len)?;

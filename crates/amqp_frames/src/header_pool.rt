@@ -1,8 +1,10 @@
 //! Room for the heads of many frames.
 
-ghost use Rattle.std.specs.Prelude.{◌≡◌, ◌≤◌, ◌↔◌, ℕ, [], IsTrue, IfOk, OnOk};
+ghost use Rattle.std.specs.Prelude.{◌≡◌, ◌≤◌, ◌↔◌, ◌^◌, ℕ, [], IsTrue, IfOk, OnOk, OnErr};
+ghost use Rattle.amqp_memory.specs.Refusal.{SomeRefused};
 ghost use Rattle.amqp_frames.specs.HeaderPool.{GivesRoom, IsTooLong};
 
+use amqp_memory::{buffer_with, filled_of};
 use bytes::BytesMut;
 use std::alloc::{AllocError, Global};
 use std::marker::Model;
@@ -31,14 +33,17 @@ pub(crate) trait HeadRoom {
 
     /// An empty buffer with room for `len` bytes.
     fn take(&mut self, len: usize) -> Result<BytesMut, AllocError>
-        requires { ¬ too_long self.old len }
+        requires short { ¬ too_long self.old len }
+        requires few { len ≤ 2 ^ 34 }
         ensures empty { IfOk result (λ b. (b.items ≡ []) × (len ≤ b.spare)) }
-        ensures room { IfOk result (λ b. gives self.old len b.spare) };
+        ensures room { IfOk result (λ b. gives self.old len b.spare) }
+        ensures refused { OnErr result SomeRefused };
 
     /// The head that stands in the buffer.
     fn cut(&mut self, written: BytesMut) -> Result<BytesMut, AllocError>
         ensures head { IfOk result (λ b. b.items ≡ written.items) }
-        ensures room { OnOk result (keeps written.spare self.new) };
+        ensures room { OnOk result (keeps written.spare self.new) }
+        ensures refused { OnErr result SomeRefused };
 }
 
 /// Each head has a buffer of its own.
@@ -59,7 +64,7 @@ impl HeadRoom for OwnRoom {
 
     #[inline(always)]
     fn take(&mut self, len: usize) -> Result<BytesMut, AllocError> {
-        BytesMut::with_capacity(self.0, len)
+        buffer_with(self.0, len)
     }
 
     #[inline(always)]
@@ -115,7 +120,8 @@ impl HeaderPool {
     fn next_block(&mut self, used: BytesMut, len: usize) -> Result<BytesMut, AllocError>
         requires empty { used.items ≡ [] }
         requires short { len ≤ 32768 }
-        ensures { IfOk result (λ b. (b.items ≡ []) × (len ≤ b.spare) × (4096 ≤ b.spare)) }
+        ensures block { IfOk result (λ b. (b.items ≡ []) × (len ≤ b.spare) × (4096 ≤ b.spare)) }
+        ensures refused { OnErr result SomeRefused }
     {
         let size = len.max(self.next);
         self.next = (2 * self.next).min(MOST);
@@ -131,9 +137,10 @@ impl HeaderPool {
 /// A block of `size` bytes. All blocks are asked for here, so none is longer than `MOST`.
 fn new_block(alloc: Global, size: usize) -> Result<BytesMut, AllocError>
     requires { size ≤ 32768 }
-    ensures { IfOk result (λ b. (b.items ≡ []) × (size ≤ b.spare)) }
+    ensures block { IfOk result (λ b. (b.items ≡ []) × (size ≤ b.spare)) }
+    ensures refused { OnErr result SomeRefused }
 {
-    BytesMut::with_capacity(alloc, size)
+    buffer_with(alloc, size)
 }
 
 impl HeadRoom for HeaderPool {
@@ -161,7 +168,7 @@ impl HeadRoom for HeaderPool {
     #[inline(always)]
     fn cut(&mut self, written: BytesMut) -> Result<BytesMut, AllocError> {
         let mut rest = written;
-        let head = rest.split()?;
+        let head = filled_of(&mut rest)?;
         self.room = rest;
         Ok(head)
     }

@@ -1,6 +1,6 @@
 //! Frames and pieces laid into a buffer that has room for them, each after its size (AMQP 1.0 part 2, section 2.3).
 
-ghost use Rattle.std.specs.Prelude.{◌≡◌, ◌+◌, ◌≤◌, ◌<◌, ◌^◌, ◌++◌, IfSome, length};
+ghost use Rattle.std.specs.Prelude.{◌≡◌, ◌+◌, ◌≤◌, ◌<◌, ◌^◌, ◌-◌, ◌*◌, ◌++◌, min, length};
 ghost use Rattle.std.specs.Int.{w32, to_be_bytes};
 ghost use Rattle.amqp_frames.specs.Frame.{header_text, text_of, payload_of};
 ghost use Rattle.amqp_frames.specs.Piece.{piece_bytes};
@@ -44,23 +44,25 @@ pub(crate) fn put_payload(out: &mut Woven, body: &FrameBody)
     }
 }
 
-/// How many bytes of the buffer pieces take up, where payloads of up to `most` bytes are copied; `None` where no number says it.
-pub(crate) fn pieces_room(most: usize, pieces: &[Piece]) -> Option<usize>
-    ensures { IfSome result (λ n. n ≡ pieces_room most pieces.now) }
+/// How many bytes of the buffer pieces take up, where payloads of up to `most` bytes are copied; the greatest number where it is more.
+pub(crate) fn pieces_room(most: usize, pieces: &[Piece]) -> usize
+    ensures value { result ≡ min (pieces_room most pieces.now) (2 ^ 64 - 1) }
+    ensures bound { result ≤ 2 ^ 33 * length pieces.now }
 {
     let mut rest = pieces;
     let mut total: usize = 0;
     while !rest.is_empty() {
         let piece = &rest[0];
         rest = &rest[1..];
-        total = total.checked_add(piece_room(most, piece))?;
+        total = total.saturating_add(piece_room(most, piece));
     }
-    Some(total)
+    total
 }
 
 /// How many bytes of the buffer a piece takes up.
 fn piece_room(most: usize, piece: &Piece) -> usize
-    ensures { result ≡ piece_room most piece.now }
+    ensures value { result ≡ piece_room most piece.now }
+    ensures bound { result ≤ 2 ^ 33 }
 {
     let all = 4 + piece.len();
     let payload = piece.payload().len();

@@ -1,9 +1,11 @@
 //! Pieces: physical frames, ready to be sent after their four-byte size.
 
-ghost use Rattle.std.specs.Prelude.{◌≡◌, ℕ, List, ◌+◌, ◌++◌, ◌<◌, ◌^◌, length, IfOk};
+ghost use Rattle.std.specs.Prelude.{◌≡◌, ℕ, List, ◌+◌, ◌++◌, ◌<◌, ◌^◌, length, IfOk, OnErr};
+ghost use Rattle.amqp_memory.specs.Refusal.{SomeRefused};
 ghost use Rattle.amqp_frames.specs.Piece.{piece_bytes, JoinsBytes};
 
 use crate::error::Error;
+use amqp_memory::{buffer_with, frozen};
 use bytes::{Bytes, BytesMut};
 use std::alloc::{AllocError, Global};
 use std::marker::Model;
@@ -123,10 +125,11 @@ impl Piece {
 
 fn joined(alloc: Global, head: &[u8], payload: &[u8]) -> Result<Bytes, AllocError>
     requires { length head.now + length payload.now < 2 ^ 32 }
-    ensures { IfOk result (λ b. b ≡ head.now ++ payload.now) }
+    ensures bytes { IfOk result (λ b. b ≡ head.now ++ payload.now) }
+    ensures refused { OnErr result SomeRefused }
 {
-    let mut out = BytesMut::with_capacity(alloc, head.len() + payload.len())?;
+    let mut out = buffer_with(alloc, head.len() + payload.len())?;
     out.extend_reserved(head);
     out.extend_reserved(payload);
-    Ok(out.freeze()?)
+    Ok(frozen(out)?)
 }

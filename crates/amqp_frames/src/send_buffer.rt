@@ -2,6 +2,7 @@
 
 ghost use Rattle.std.specs.Prelude.{◌≡◌, ℕ, ◌+◌, ◌≤◌, ◌<◌, ◌^◌, ◌++◌, ◌==◌, [], List, OnOk, OnErr, length, drop};
 ghost use Rattle.std.specs.Int.{w32, to_be_bytes};
+ghost use Rattle.amqp_memory.specs.Refusal.{SomeRefused};
 ghost use Rattle.amqp_frames.specs.Frame.{header_text, text_of, payload_of};
 ghost use Rattle.amqp_frames.specs.Wire.{sized, wire_of};
 
@@ -92,19 +93,18 @@ impl SendBuffer {
         self.bytes.clear();
     }
 
-    /// Appends a frame in one piece, whose text has this length. Where memory is refused nothing is appended, nor where its size does not
-    /// fit four bytes.
+    /// Appends a frame in one piece, whose text has this length, and whose size fits four bytes. Where memory is refused nothing is
+    /// appended.
     #[inline(always)]
     pub(crate) fn put_frame(&mut self, frame: &Frame, len: usize) -> Result<(), AllocError>
         requires text { len ≡ length (text_of frame.now.body) }
-        requires fits { length (text_of frame.now.body) < 2 ^ 32 }
+        requires fits { 8 + length (text_of frame.now.body) + length (payload_of frame.now.body) < 2 ^ 32 }
         ensures ok { OnOk result (self.new ≡ self.old ++ sized ((header_text frame.now.channel ++ text_of frame.now.body) ++ payload_of frame.now.body)) }
         ensures err { OnErr result (self.new ≡ self.old) }
+        ensures refused { OnErr result SomeRefused }
     {
         let payload = frame.body.payload_len();
-        let Ok(size) = u32::try_from(8 + len + payload) else {
-            return Err(AllocError);
-        };
+        let size = (8 + len + payload) as u32;
         if self.most < payload {
             return self.put_sharing(frame, len, size);
         }
@@ -122,6 +122,7 @@ impl SendBuffer {
         requires some { 0 < length (payload_of frame.now.body) }
         ensures ok { OnOk result (self.new ≡ self.old ++ (to_be_bytes w32 size ++ ((header_text frame.now.channel ++ text_of frame.now.body) ++ payload_of frame.now.body))) }
         ensures err { OnErr result (self.new ≡ self.old) }
+        ensures refused { OnErr result SomeRefused }
     {
         let part = frame.body.payload()?;
         self.bytes.reserve(8 + len, 1)?;
@@ -134,11 +135,10 @@ impl SendBuffer {
     pub(crate) fn put_pieces(&mut self, pieces: Vec<Piece>) -> Result<(), AllocError>
         ensures ok { OnOk result (self.new ≡ self.old ++ wire_of pieces.items) }
         ensures err { OnErr result (self.new ≡ self.old) }
+        ensures refused { OnErr result SomeRefused }
     {
-        let Some(room) = pieces_room(self.most, pieces.as_slice()) else {
-            return Err(AllocError);
-        };
-        self.bytes.reserve(room, pieces.len())?;
+        let room = pieces_room(self.most, pieces.as_slice());
+        self.bytes.reserve_for(pieces.as_slice(), room)?;
         put_pieces(&mut self.bytes, self.most, pieces);
         Ok(())
     }

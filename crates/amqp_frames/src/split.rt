@@ -1,14 +1,16 @@
 //! A delivery as transfers that are one frame each, for who keeps the peer's window on the wire (AMQP 1.0 part 2, sections 2.5.6
 //! and 2.6.14).
 
-ghost use Rattle.std.specs.Prelude.{◌≡◌, ◌≤◌, ◌<◌, ◌+◌, ◌*◌, IfOk, OnOk, length, vec_len, vec_capacity};
+ghost use Rattle.std.specs.Prelude.{◌≡◌, ◌≤◌, ◌<◌, ◌+◌, ◌*◌, IfOk, OnOk, OnErr, length, vec_len, vec_capacity};
+ghost use Rattle.amqp_memory.specs.Refusal.{SomeRefused};
 ghost use Rattle.amqp_types.specs.Transfer.{said_in};
 ghost use Rattle.amqp_types.specs.declared.performatives.transfer.TransferFragment.TheVariants as text;
 ghost use Rattle.amqp_frames.specs.Inner.Parts.{AddsParts, TakesParts};
 ghost use Rattle.amqp_frames.specs.Split.{InOne, SplitsTo};
 
 use crate::error::Error;
-use amqp_types::{Transfer, TransferFragment};
+use amqp_memory::{front_of, shared, vector_for, vector_with};
+use amqp_types::{DeliveryTag, Raw, Transfer, TransferFragment};
 use bytes::Bytes;
 use std::alloc::{AllocError, Global};
 
@@ -68,12 +70,13 @@ fn in_one(
     transfer: &Transfer,
     payload: &Bytes,
 ) -> Result<Vec<DeliveryPart>, AllocError>
-    ensures { IfOk result (λ v. InOne transfer.now payload.now v.items) }
+    ensures one { IfOk result (λ v. InOne transfer.now payload.now v.items) }
+    ensures refused { OnErr result SomeRefused }
 {
-    let mut parts = Vec::with_capacity(alloc, 1)?;
+    let mut parts = vector_with(alloc, 1)?;
     parts.push_reserved(DeliveryPart {
         transfer: begun(transfer, transfer.more)?,
-        payload: payload.clone()?,
+        payload: shared(payload)?,
         is_first: true,
     });
     Ok(parts)
@@ -90,14 +93,15 @@ fn in_parts(
 ) -> Result<Vec<DeliveryPart>, AllocError>
     requires some { front < length payload.now }
     requires step { 0 < step }
-    ensures { IfOk result (λ v. TakesParts transfer.now payload.now front step v.items) }
+    ensures parts { IfOk result (λ v. TakesParts transfer.now payload.now front step v.items) }
+    ensures refused { OnErr result SomeRefused }
 {
     let count = (payload.len() - front - 1) / step;
-    let mut parts = Vec::with_capacity(alloc, count + 2)?;
-    let mut rest = payload.clone()?;
+    let mut parts = vector_for(alloc, payload.as_slice(), count + 2)?;
+    let mut rest = shared(payload)?;
     parts.push_reserved(DeliveryPart {
         transfer: begun(transfer, true)?,
-        payload: rest.split_to(front)?,
+        payload: front_of(&mut rest, front)?,
         is_first: true,
     });
     put_middle(transfer, &mut parts, &mut rest, step, count)?;
@@ -121,10 +125,11 @@ fn put_middle(
     requires long { step * count ≤ length rest.old }
     ensures added { OnOk result (AddsParts (said_in text.Middle transfer.now) step parts.old.items parts.new.items rest.old rest.new (step * count)) }
     ensures room_left { OnOk result (vec_len parts.new < vec_capacity parts.new) }
+    ensures refused { OnErr result SomeRefused }
 {
     for i in 0..count {
         let transfer = continued(transfer, true)?;
-        let payload = rest.split_to(step)?;
+        let payload = front_of(rest, step)?;
         parts.push_reserved(DeliveryPart {
             transfer,
             payload,
@@ -136,17 +141,18 @@ fn put_middle(
 
 /// The first transfer of the delivery, with this `more`.
 fn begun(transfer: &Transfer, more: bool) -> Result<Transfer, AllocError>
-    ensures { IfOk result (λ t. t ≡ record transfer.now { more = more }) }
+    ensures part { IfOk result (λ t. t ≡ record transfer.now { more = more }) }
+    ensures refused { OnErr result SomeRefused }
 {
     Ok(Transfer {
         handle: transfer.handle,
         delivery_id: transfer.delivery_id,
-        delivery_tag: transfer.delivery_tag.clone()?,
+        delivery_tag: tag_again(&transfer.delivery_tag)?,
         message_format: transfer.message_format,
         settled: transfer.settled,
         more,
         rcv_settle_mode: transfer.rcv_settle_mode,
-        state: transfer.state.clone()?,
+        state: state_again(&transfer.state)?,
         resume: transfer.resume,
         aborted: transfer.aborted,
         batchable: transfer.batchable,
@@ -155,7 +161,8 @@ fn begun(transfer: &Transfer, more: bool) -> Result<Transfer, AllocError>
 
 /// A later transfer of the delivery, with this `more`: it says nothing again that the first one said of the delivery.
 fn continued(transfer: &Transfer, more: bool) -> Result<Transfer, AllocError>
-    ensures { IfOk result (λ t. t ≡ record (said_in text.Middle transfer.now) { more = more }) }
+    ensures part { IfOk result (λ t. t ≡ record (said_in text.Middle transfer.now) { more = more }) }
+    ensures refused { OnErr result SomeRefused }
 {
     Ok(Transfer {
         handle: transfer.handle,
@@ -165,9 +172,31 @@ fn continued(transfer: &Transfer, more: bool) -> Result<Transfer, AllocError>
         settled: None,
         more,
         rcv_settle_mode: None,
-        state: transfer.state.clone()?,
+        state: state_again(&transfer.state)?,
         resume: transfer.resume,
         aborted: transfer.aborted,
         batchable: transfer.batchable,
     })
+}
+
+/// The same tag.
+fn tag_again(tag: &Option<DeliveryTag>) -> Result<Option<DeliveryTag>, AllocError>
+    ensures same { IfOk result (λ t. t ≡ tag.now) }
+    ensures refused { OnErr result SomeRefused }
+{
+    match tag {
+        Some(tag) => Ok(Some(tag.clone()?)),
+        None => Ok(None),
+    }
+}
+
+/// The same state.
+fn state_again(state: &Option<Raw>) -> Result<Option<Raw>, AllocError>
+    ensures same { IfOk result (λ s. s ≡ state.now) }
+    ensures refused { OnErr result SomeRefused }
+{
+    match state {
+        Some(state) => Ok(Some(state.clone()?)),
+        None => Ok(None),
+    }
 }

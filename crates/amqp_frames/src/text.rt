@@ -1,9 +1,11 @@
 //! The body of a frame as bytes: the text of its performative, and its payload.
 
-ghost use Rattle.std.specs.Prelude.{◌≡◌, ◌≤◌, ◌<◌, ◌+◌, ◌^◌, ◌++◌, ◌↔◌, IsTrue, IfOk, length};
+ghost use Rattle.std.specs.Prelude.{◌≡◌, ◌≤◌, ◌<◌, ◌+◌, ◌^◌, ◌++◌, ◌↔◌, IsTrue, IfOk, OnErr, length};
+ghost use Rattle.amqp_memory.specs.Refusal.{SomeRefused};
 ghost use Rattle.amqp_frames.specs.Frame.{text_of, payload_of};
 
 use crate::frame::FrameBody;
+use amqp_memory::shared;
 use bytes::{Bytes, BytesMut};
 use std::alloc::AllocError;
 
@@ -73,13 +75,14 @@ impl FrameBody {
     /// The payload, empty where there is none. It shares the frame's bytes.
     #[inline(always)]
     pub(crate) fn payload(&self) -> Result<Bytes, AllocError>
-        ensures { IfOk result (λ b. b ≡ payload_of self.now) }
+        ensures value { IfOk result (λ b. b ≡ payload_of self.now) }
+        ensures refused { OnErr result SomeRefused }
     {
         match self {
             FrameBody::Transfer {
                 performative: _,
                 payload,
-            } => payload.clone(),
+            } => shared(payload),
             _ => Ok(Bytes::new()),
         }
     }

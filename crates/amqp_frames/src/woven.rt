@@ -1,12 +1,15 @@
 //! Bytes that wait to be sent, in one buffer, with parts between them that are shared and not copied.
 
-ghost use Rattle.std.specs.Prelude.{◌≡◌, ℕ, ◌+◌, ◌-◌, ◌≤◌, ◌<◌, ◌^◌, ◌++◌, [], List, OnOk, length, drop, min, ◌==◌};
+ghost use Rattle.std.specs.Prelude.{◌≡◌, ℕ, ◌+◌, ◌-◌, ◌*◌, ◌≤◌, ◌<◌, ◌^◌, ◌++◌, ◌⊎◌, [], List, OnOk, OnErr, length, drop, min, ◌==◌};
 ghost use Rattle.std.specs.VecDeque.{deque_capacity, deque_len};
+ghost use Rattle.amqp_memory.specs.Refusal.{SomeRefused};
 ghost use Rattle.amqp_frames.specs.declared.woven.SharedPart.{SharedPart};
 ghost use Rattle.amqp_frames.specs.Frame.{text_of};
 ghost use Rattle.amqp_frames.specs.Inner.Woven.{TakesPart, TakesBefore};
 
 use crate::frame::FrameBody;
+use crate::piece::Piece;
+use amqp_memory::{more_in_buffer, more_in_buffer_for, more_in_queue, more_in_queue_for};
 use bytes::{Bytes, BytesMut};
 use std::alloc::{AllocError, Global};
 use std::collections::VecDeque;
@@ -57,15 +60,34 @@ impl Woven {
         }
     }
 
-    /// Makes room for so many bytes and shared parts more.
+    /// Makes room for so many bytes and shared parts more. It asks for memory only where there is none.
     #[inline(always)]
     pub(crate) fn reserve(&mut self, bytes: usize, parts: usize) -> Result<(), AllocError>
+        requires few { bytes ≤ 2 ^ 34 }
+        requires few_parts { parts ≤ 2 ^ 34 }
         ensures waits { self.new.waits ≡ self.old.waits }
         ensures bytes { OnOk result (bytes ≤ self.new.spare) }
         ensures parts { OnOk result (parts ≤ self.new.places) }
+        ensures lacking { OnErr result ((self.old.places < parts) ⊎ (self.old.spare < bytes)) }
+        ensures refused { OnErr result SomeRefused }
     {
-        self.shared.reserve(parts)?;
-        self.buffer.reserve(bytes)
+        more_in_queue(&mut self.shared, parts)?;
+        more_in_buffer(&mut self.buffer, bytes)
+    }
+
+    /// Makes room for so many bytes more, and for a shared part of each of these pieces.
+    pub(crate) fn reserve_for(&mut self, pieces: &[Piece], bytes: usize) -> Result<(), AllocError>
+        requires { bytes ≤ 2 ^ 33 * length pieces.now }
+        ensures waits { self.new.waits ≡ self.old.waits }
+        ensures bytes { OnOk result (bytes ≤ self.new.spare) }
+        ensures short { OnOk result (self.new.spare < 2 ^ 63) }
+        ensures parts { OnOk result (length pieces.now ≤ self.new.places) }
+        ensures refused { OnErr result SomeRefused }
+    {
+        more_in_queue_for(&mut self.shared, pieces, pieces.len())?;
+        more_in_buffer_for(&mut self.buffer, pieces, bytes)?;
+        is_short(&mut self.buffer);
+        Ok(())
     }
 
     /// Appends bytes, for which there is room.
@@ -162,6 +184,18 @@ impl Woven {
         self.shared.clear();
         self.placed = 0;
     }
+}
+
+/// No buffer has 2^63 bytes, those counted that are spare: not even with all of them filled. It is left as it was.
+fn is_short(buffer: &mut BytesMut)
+    ensures items { buffer.new.items ≡ buffer.old.items }
+    ensures spare { buffer.new.spare ≡ buffer.old.spare }
+    ensures short { buffer.new.spare < 2 ^ 63 }
+{
+    let len = buffer.len();
+    buffer.advance_mut(buffer.capacity() - len);
+    let _all = buffer.len();
+    buffer.truncate(len);
 }
 
 /// Takes up to `most` bytes off the front of a buffer, and says how many. Where none are left, all of its memory is room again.

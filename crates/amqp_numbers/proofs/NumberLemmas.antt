@@ -1,12 +1,12 @@
 -- The numbers that ranges hold, as a map.
-use Rattle.std.proofs.Common.{◌≡◌, ℕ, zero, suc, ◌+◌, ◌-◌, List, [], ◌∷◌, cond, Bool, true, false, ◌&&◌, ◌||◌, Some, None, nat_eq, nat_lt, nat_le, refl, ap, sym, ◌∙◌, arith}
+use Rattle.std.proofs.Common.{◌≡◌, ℕ, zero, suc, ◌+◌, ◌-◌, ◌≤◌, List, [], ◌∷◌, cond, Bool, true, false, ◌&&◌, ◌||◌, Some, None, nat_eq, nat_lt, nat_le, refl, ap, sym, ◌∙◌, arith}
 use Rattle.std.proofs.lemmas.Bool.Decides.{nat_tests}
 use Rattle.std.proofs.lemmas.Grind.{common_steps}
 use Rattle.std.specs.Ordering.{nat_cmp, eq_by_cmp}
 use Rattle.std.specs.Cmp.{nat_cmp_total}
 use Rattle.std.specs.FinMap.{get, insert, get-empty, get-insert, same_map, nat_cmp-IsAntisymmetric}
 use Rattle.amqp_numbers.specs.declared.ranges.Range.{Range}
-use Rattle.amqp_numbers.specs.Ranges.{Numbers, with_run, numbers_of, is_held}
+use Rattle.amqp_numbers.specs.Ranges.{Numbers, with_run, numbers_of, is_held, IsAlone}
 
 same_test : (q k : ℕ) → eq_by_cmp nat_cmp q k ≡ nat_eq q k
 same_test q k = grind (arith, nat_tests, common_steps)
@@ -58,3 +58,7 @@ inserted_again rs n h = inserted rs rs n (λ q. by q (nat_eq q n) refl)
     by : (q : ℕ) (b : Bool) → nat_eq q n ≡ b → is_held q rs ≡ (nat_eq q n || is_held q rs)
     by q true e = ap (λ k. is_held k rs) (same_number q n e) ∙ h ∙ sym (ap (λ b. b || is_held q rs) e)
     by q false e = sym (ap (λ b. b || is_held q rs) e)
+
+-- none of them is beside a number
+pub alone : (rs : List Range) (n : ℕ) → ((q : ℕ) → n ≤ q + 1 → q ≤ n + 1 → is_held q rs ≡ false) → IsAlone (numbers_of rs) n
+alone rs n f = λ q lo hi. get_numbers rs q ∙ ap (λ b. cond b (Some true) None) (f q lo hi)

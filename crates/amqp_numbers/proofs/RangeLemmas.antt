@@ -100,13 +100,14 @@ from_on : (q first n : ℕ) → first ≡ n + 1 → nat_le first q ≡ nat_lt n 
 from_on q first n h = grind (arith, nat_tests, common_steps)
 
 pub lower_first : (rs : List Range) (n : ℕ) → IsLower rs n 0 0 n
-lower_first rs n = record { order = omega arith; first_is = omega arith; spaced = omega arith; numbers = λ q. none_below n q (is_held q (take 0 rs)) }
+lower_first rs n = record { order = omega arith; first_is = omega arith; spaced = omega arith; alone = λ e. refl; numbers = λ q. none_below n q (is_held q (take 0 rs)) }
 
 pub lower_alone : (rs : List Range) (n i : ℕ) (a : Range) → IsSpaced 0 rs → slice_get rs i ≡ Some a → a.last + 2 ≤ n → IsLower rs n (suc i) (suc i) n
 lower_alone rs n i a s e h = record {
   order = omega arith;
   first_is = omega arith;
   spaced = let x = next_at rs 0 i a e in omega (arith, x, h);
+  alone = λ e. refl;
   numbers = λ q. none_below n q (is_held q (take (suc i) rs));
 }
 
@@ -117,11 +118,12 @@ lower_joined rs n i a s e h =
       order = omega arith;
       first_is = omega (arith, h, p.order);
       spaced = p.before;
+      alone = λ e. absurd (omega (arith, e));
       numbers = λ q. held_take rs i q a e ∙ ap (λ b. is_held q (take i rs) || (nat_le a.first q && b)) (up_to q a.last n h);
     }
 
 pub upper_last : (rs : List Range) (n rank : ℕ) → n < 2 ^ 32 → rank ≡ length rs → IsUpper rs n rank rank n
-upper_last rs n rank f h = record { order = omega arith; within = omega (arith, h); last_is = omega arith; fits = f; spaced = by rs rank h; numbers = λ q. none_above n q (is_held q (drop rank rs)) }
+upper_last rs n rank f h = record { order = omega arith; within = omega (arith, h); last_is = omega arith; fits = f; spaced = by rs rank h; alone = λ e. refl; numbers = λ q. none_above n q (is_held q (drop rank rs)) }
   where
     by : (rs : List Range) (i : ℕ) → i ≡ length rs → BeginFrom (n + 2) (drop i rs)
     by [] zero h = tt
@@ -132,7 +134,7 @@ upper_last rs n rank f h = record { order = omega arith; within = omega (arith, 
 pub upper_alone : (rs : List Range) (n i : ℕ) (a : Range) → n < 2 ^ 32 → IsSpaced 0 rs → slice_get rs i ≡ Some a → n + 2 ≤ a.first → IsUpper rs n i i n
 upper_alone rs n i a f s e h =
     let p = at rs 0 i a s e in
-    record { order = omega arith; within = omega (arith, p.within); last_is = omega arith; fits = f; spaced = by rs i e; numbers = λ q. none_above n q (is_held q (drop i rs)) }
+    record { order = omega arith; within = omega (arith, p.within); last_is = omega arith; fits = f; spaced = by rs i e; alone = λ e. refl; numbers = λ q. none_above n q (is_held q (drop i rs)) }
   where
     by : (rs : List Range) (i : ℕ) → slice_get rs i ≡ Some a → BeginFrom (n + 2) (drop i rs)
     by [] i e = absurd (cc)
@@ -148,6 +150,7 @@ upper_joined rs n i a s e h =
       last_is = omega (arith, h, p.order);
       fits = p.fits;
       spaced = begin_from (drop (suc i) rs) (a.last + 2) p.after;
+      alone = λ e. absurd (omega (arith, e));
       numbers = λ q. held_drop rs i q a e ∙ ap (λ b. (b && nat_le q a.last) || is_held q (drop (suc i) rs)) (from_on q a.first n h);
     }
 
@@ -175,3 +178,36 @@ put_held rs n rank from to r l u q =
     ∙ sorted_out (is_held q (take from rs)) (nat_le r.first q && nat_le q r.last) (nat_eq q n) (nat_le r.first q && nat_lt q n) (nat_lt n q && nat_le q r.last) (is_held q (drop to rs)) (within r.first r.last n q l.first_is u.last_is)
     ∙ ap (λ b. nat_eq q n || b) (sym (held_parts rs rank q ∙ ap (λ b. b || is_held q (drop rank rs)) (l.numbers q)
     ∙ ap (λ b. (is_held q (take from rs) || (nat_le r.first q && nat_lt q n)) || b) (u.numbers q)))
+
+-- ---- a number that no range joins
+
+low_rises : (rs : List Range) (low : ℕ) → IsSpaced low rs → low ≤ next_low low rs
+low_rises [] low s = omega arith
+low_rises (r ∷ rs) low s = let i = low_rises rs (r.last + 2) s.3 in omega (arith, i, s.0, s.1)
+
+past : (first last q : ℕ) (b : Bool) → last < q → b ≡ false → ((nat_le first q && nat_le q last) || b) ≡ false
+past first last q b h e = grind (arith, nat_tests, common_steps)
+
+ahead : (first last q : ℕ) (b : Bool) → q < first → b ≡ false → ((nat_le first q && nat_le q last) || b) ≡ false
+ahead first last q b h e = grind (arith, nat_tests, common_steps)
+
+held_past : (rs : List Range) (low q : ℕ) → IsSpaced low rs → next_low low rs ≤ q + 1 → is_held q rs ≡ false
+held_past [] low q s h = refl
+held_past (r ∷ rs) low q s h =
+    let i = low_rises rs (r.last + 2) s.3 in
+    past r.first r.last q (is_held q rs) (omega (arith, i, h)) (held_past rs (r.last + 2) q s.3 h)
+
+held_ahead : (rs : List Range) (low q : ℕ) → IsSpaced low rs → q < low → is_held q rs ≡ false
+held_ahead [] low q s h = refl
+held_ahead (r ∷ rs) low q s h = ahead r.first r.last q (is_held q rs) (omega (arith, s.0, h)) (held_ahead rs (r.last + 2) q s.3 (omega (arith, s.0, s.1, h)))
+
+pub none_beside : (rs : List Range) (n rank from first to last : ℕ) → IsSpaced 0 rs → IsLower rs n rank from first → IsUpper rs n rank to last → from ≡ to → (q : ℕ) → n ≤ q + 1 → q ≤ n + 1 → is_held q rs ≡ false
+none_beside rs n rank from first to last s l u e q lo hi =
+    let f : from ≡ rank = omega (arith, l.order, u.order, e) in
+    let t : to ≡ rank = omega (arith, l.order, u.order, e) in
+    let d = spaced_drop rs 0 to s in
+    let below : is_held q (take from rs) ≡ false = held_past (take from rs) 0 q (spaced_take rs 0 from s) (omega (arith, l.spaced, l.alone f, lo)) in
+    let above : is_held q (drop to rs) ≡ false = held_ahead (drop to rs) (last + 2) q (spaced_from (drop to rs) (last + 2) d.0 d.1 u.spaced) (omega (arith, u.alone t, hi)) in
+    held_parts rs rank q
+    ∙ ap (λ b. b || is_held q (drop rank rs)) (ap (λ k. is_held q (take k rs)) (sym f) ∙ below)
+    ∙ ap (λ k. is_held q (drop k rs)) (sym t) ∙ above

@@ -1,6 +1,6 @@
 -- Part: every call exactly; inner.
 -- A set of numbers in ranges.
-use Rattle.std.specs.Prelude.{ℕ, zero, suc, ◌+◌, ◌-◌, ◌^◌, ◌<◌, ◌≤◌, ◌≡◌, Bool, true, false, ◌&&◌, ◌||◌, nat_lt, nat_le, List, [], ◌∷◌, take, drop, length}
+use Rattle.std.specs.Prelude.{ℕ, zero, suc, ◌+◌, ◌-◌, ◌^◌, ◌<◌, ◌≤◌, ◌≡◌, Bool, true, false, None, ◌&&◌, ◌||◌, nat_lt, nat_le, List, [], ◌∷◌, take, drop, length}
 use Rattle.std.specs.Ordering.{nat_cmp}
 use Rattle.std.specs.FinMap as map
 use Rattle.amqp_numbers.specs.declared.ranges.Range.{Range}
@@ -13,6 +13,10 @@ Numbers = map.FinMap nat_cmp Bool
 abbrev pub with_run : ℕ → ℕ → Numbers → Numbers
 with_run first zero m = m
 with_run first (suc count) m = map.insert (with_run first count m) (first + count) true
+
+-- neither the number nor one right beside it is in the set
+abbrev pub IsAlone : Numbers → ℕ → Type 0
+IsAlone m n = (q : ℕ) → n ≤ q + 1 → q ≤ n + 1 → map.get m q ≡ None
 
 -- the numbers of all ranges
 abbrev pub numbers_of : List Range → Numbers
@@ -64,6 +68,7 @@ pub record IsLower (rs : List Range) (n rank from first : ℕ) : Type 0 where
   pub order : from ≤ rank
   pub first_is : first ≤ n
   pub spaced : next_low 0 (take from rs) ≤ first
+  pub alone : from ≡ rank → first ≡ n
   pub numbers : (q : ℕ) → is_held q (take rank rs) ≡ (is_held q (take from rs) || (nat_le first q && nat_lt q n))
 
 -- The ranges from a rank on hold what those from a later one on hold, and the numbers above n up to `last`. A range that ends at `last` is
@@ -74,4 +79,5 @@ pub record IsUpper (rs : List Range) (n rank to last : ℕ) : Type 0 where
   pub last_is : n ≤ last
   pub fits : last < 2 ^ 32
   pub spaced : BeginFrom (last + 2) (drop to rs)
+  pub alone : to ≡ rank → last ≡ n
   pub numbers : (q : ℕ) → is_held q (drop rank rs) ≡ ((nat_lt n q && nat_le q last) || is_held q (drop to rs))

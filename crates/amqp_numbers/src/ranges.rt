@@ -1,6 +1,7 @@
 //! Ranges of numbers, and how one comes among others.
 
 ghost use Rattle.std.specs.Prelude.{◌≡◌, ◌^◌, ◌<◌, ◌≤◌, ◌++◌, ◌∷◌, length, take, drop, OnOk, OnErr};
+ghost use Rattle.amqp_memory.specs.Refusal.{RefusedWithin};
 
 use amqp_blocks::Blocks;
 use std::alloc::AllocError;
@@ -24,6 +25,8 @@ pub(crate) fn put(
     requires few { length ranges.old.items < 2 ^ 33 }
     ensures ok { OnOk result (ranges.new.items ≡ take from ranges.old.items ++ range ∷ drop to ranges.old.items) }
     ensures err { OnErr result (ranges.new.items ≡ ranges.old.items) }
+    ensures none { OnErr result (from ≡ to) }
+    ensures refused { OnErr result (RefusedWithin 257) }
 {
     if from == to {
         ranges.reserve(1)?;

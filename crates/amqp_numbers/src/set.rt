@@ -2,6 +2,8 @@
 
 ghost use Rattle.std.specs.Prelude.{◌≡◌, true, is_some, OnOk, OnErr};
 ghost use Rattle.std.specs.FinMap as map;
+ghost use Rattle.amqp_memory.specs.Refusal.{RefusedWithin};
+ghost use Rattle.amqp_numbers.specs.Ranges.{IsAlone};
 
 use crate::joining::{lower_end, upper_end};
 use crate::ranges::{Range, put};
@@ -58,6 +60,8 @@ impl NumberSet {
     pub fn insert(&mut self, number: u32) -> Result<(), AllocError>
         ensures ok { OnOk result (self.new ≡ map.insert self.old number true) }
         ensures err { OnErr result (self.new ≡ self.old) }
+        ensures alone { OnErr result (IsAlone self.old number) }
+        ensures refused { OnErr result (RefusedWithin 257) }
     {
         let rank = rank_of(&self.ranges, number);
         if is_in_range_before(&self.ranges, rank, number) {

@@ -1,5 +1,6 @@
 -- What a flow lets out, by the state.
-use Rattle.std.proofs.Common.{◌≡◌, List, [], ◌++◌, Option, Bool, true, false, cond, append-nil, refl, ℕ, Err}
+use Rattle.std.proofs.Common.{◌≡◌, ◌<◌, List, [], ◌++◌, Option, Bool, true, false, cond, append-nil, refl, ℕ, Err, arith, ap, sym, ◌∙◌}
+use Rattle.std.proofs.Common.{length, length-take, take}
 use Rattle.std.specs.Option.{option_map}
 use Rattle.amqp_session.specs.declared.deliveries.Delivery.{Delivery}
 use Rattle.amqp_session.specs.declared.flow.LinkFlow.{LinkFlow}
@@ -7,7 +8,7 @@ use Rattle.amqp_session.specs.declared.frame.SessionFrame.{SessionFrame}
 use Rattle.amqp_session.specs.declared.frame.SessionOutgoingItem.{SessionOutgoingItem}
 use Rattle.amqp_session.specs.Items.{HandsOut, is_some_list, first_frame}
 use Rattle.amqp_session.specs.States.{is_mapped}
-use Rattle.amqp_session.specs.Sending.{SendingView, let_out, opened_by, drained}
+use Rattle.amqp_session.specs.Sending.{SendingView, ready_count, let_out, opened_by, drained}
 use Rattle.amqp_session.specs.Session.{SessionView, flow_frame}
 use Rattle.amqp_types.specs.declared.definitions.DeliveryTag.{DeliveryTag}
 use Rattle.amqp_session.specs.Deliveries.{with_record}
@@ -15,6 +16,7 @@ use Rattle.amqp_session.specs.declared.error.SessionInnerError.{SessionInnerErro
 use Rattle.amqp_session.specs.declared.error.SessionInnerError.TheVariants as Refused
 use Rattle.amqp_session.specs.Links.{attached_at}
 use Rattle.amqp_session.specs.Relay.{IsUnasked}
+use Rattle.amqp_session.proofs.SendingLemmas.{length-numbered}
 use Rattle.amqp_session.specs.Step.{FlowGoes, TransferUnasked, named_delivery, named_by}
 
 -- the session after what it lets out, where it may
@@ -60,6 +62,14 @@ pub named_is : {R : Type 0} → (v : SessionView R) (handle : ℕ) (named : Opti
     record v { deliveries = record v.deliveries { sender = rows } } ≡ named_by v handle named
 named_is v handle named rows room er e = rw (er, e) refl
 
+-- in Mapped something goes out where the window lets something out
+pub lets_some : (mapped : Bool) (channel : ℕ) (s : SendingView) → mapped ≡ true → 0 < ready_count s → ¬ (cond mapped (let_out channel s) [] ≡ [])
+lets_some mapped channel s is some none =
+    let all : let_out channel s ≡ [] = sym (ap (λ b. cond b (let_out channel s) []) is) ∙ none in
+    let numbers = length-numbered channel s.next_delivery (take s.remote_incoming_window s.held) in
+    let taken = length-take s.remote_incoming_window s.held in
+    omega (arith, numbers, taken, ap length all, some)
+
 -- no relay was asked of a transfer
 pub unasked_is : {R : Type 0} → (v : SessionView R) (handle : ℕ) (e : SessionInnerError) (w : SessionView R) → IsUnasked (attached_at handle v.links) e → w ≡ v → TransferUnasked v handle (Err e) w
 unasked_is v handle Refused.UnattachedHandle w u same = (u, same)
@@ -71,4 +81,4 @@ unasked_is v handle Refused.TransferFrameToSender w u same = absurd u
 unasked_is v handle Refused.RemoteEnded w u same = absurd u
 unasked_is v handle (Refused.RemoteEndedWithError x) w u same = absurd u
 unasked_is v handle Refused.UnknownTxnId w u same = absurd u
-unasked_is v handle Refused.OutOfMemory w u same = (u, same)
+unasked_is v handle Refused.OutOfMemory w u same = (u.0, same, u.1)

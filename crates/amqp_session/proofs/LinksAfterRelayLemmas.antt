@@ -1,6 +1,7 @@
 -- What a session's links are after the calls that ask relays.
 use Rattle.std.proofs.Common.{◌≡◌, ℕ, Option, Some, None, Result, Ok, Err, cond, refl, ap, ◌∙◌}
 use Rattle.std.specs.FinMap as map
+use Rattle.amqp_memory.specs.Refusal.{SomeRefused}
 use Rattle.amqp_types.specs.Attach.{AttachModel}
 use Rattle.amqp_session.specs.declared.link.LiveLink.{LiveLink}
 use Rattle.amqp_session.specs.declared.link.AttachedLink.{AttachedLink}
@@ -13,9 +14,9 @@ use Rattle.amqp_session.specs.Relay.{AttachGives, AttachQuestion}
 use Rattle.amqp_session.specs.Linking.{IsWaited, AttachRefused, AttachLeaves, AttachAsked, Attaches, awaits, dropped}
 use Rattle.amqp_session.proofs.FiniteMapLemmas.{remove_none}
 
-pub waited_full : {R : Type 0} → (o : Option (LiveLink R)) → IsWaited o → AttachRefused o Refused.OutOfMemory
-waited_full (Some n) h = h
-waited_full None h = absurd h
+pub waited_full : {R : Type 0} → (old : Option (AttachedLink R)) (o : Option (LiveLink R)) → IsWaited o → old ≡ None → SomeRefused → AttachRefused old o Refused.OutOfMemory
+waited_full old (Some n) h free r = (h, free, r)
+waited_full old None h free r = absurd h
 
 pub inputs_same : {R : Type 0} → (l : LinksView R) (i : Inputs R) → i ≡ l.inputs → record l { inputs = i } ≡ l
 inputs_same l i e = ap (λ x. record l { inputs = x }) e

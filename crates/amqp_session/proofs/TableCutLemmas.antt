@@ -9,7 +9,9 @@ use Rattle.std.proofs.lemmas.List.Elements.{filter-append}
 use Rattle.amqp_types.specs.Disposition.{DispositionModel}
 use Rattle.amqp_session.specs.declared.deliveries.Delivery.{Delivery}
 use Rattle.amqp_session.specs.Deliveries.{EachNumber, IsRising, IsTable, cut}
-use Rattle.amqp_session.specs.Disposing.{is_meant, in_order, meant, not_meant}
+use Rattle.amqp_session.specs.Links.{LinksView}
+use Rattle.amqp_session.specs.Relay.{DispositionGives, DispositionQuestion}
+use Rattle.amqp_session.specs.Disposing.{is_meant, in_order, meant, not_meant, AsksEach, agreed}
 use Rattle.amqp_session.specs.Inner.Walks.{turned, EachMeant, IsSplit, IsWalked}
 use Rattle.amqp_session.proofs.WalkLemmas.{turned_length}
 
@@ -149,6 +151,13 @@ meant_length d rows from n h k o s =
     let b = length-take n (turned from rows) in
     let c = turned_length from rows h in
     omega (arith, a, b, c, k)
+
+-- where a relay answered true, a record is open
+pub some_asked : {R : Type 0} → (gives : DispositionGives R) (d : DispositionModel) (rows : List Delivery) (asked : List (DispositionQuestion R)) (l new : LinksView R) →
+    AsksEach gives d (meant d rows) asked l new → 0 < length (agreed asked) → ¬ (rows ≡ [])
+some_asked gives d rows asked l new t some none =
+    let asks = subst (λ rs. AsksEach gives d (meant d rs) asked l new) none t in
+    omega (arith, ap (λ qs. length (agreed qs)) asks.0, some)
 
 pub walked : (d : DispositionModel) (rows : List Delivery) (from n turns comparisons : ℕ) → from ≤ length rows →
     n ≤ length rows → in_order d.first rows ≡ turned from rows → IsSplit d (turned from rows) n →

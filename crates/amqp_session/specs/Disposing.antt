@@ -5,6 +5,7 @@ use Rattle.std.specs.Prelude.{◌≡◌, ◌<◌, ◌≤◌, ◌+◌, ◌-◌, �
 use Rattle.std.specs.Prelude.{nat_lt, nat_le, nat_eq, List, [], ◌∷◌, ◌++◌, length, map, Option, Some, None, IsSome, Result, Ok, Err, OnOk}
 use Rattle.std.specs.Prelude.{unwrap_or, min}
 use Rattle.std.specs.List.{filter, list_any}
+use Rattle.amqp_memory.specs.Refusal.{SomeRefused}
 use Rattle.amqp_values.specs.Outcome.{IsTerminal}
 use Rattle.amqp_types.specs.Disposition.{DispositionModel}
 use Rattle.amqp_types.specs.declared.definitions.Role.{Role}
@@ -146,7 +147,8 @@ abbrev pub SaysStateAgain : {R : Type 0} → DispositionModel → List (Disposit
 SaysStateAgain d asked = IsSome d.state × (0 < length (agreed asked))
 
 -- A settled one takes the records that it means away, and never fails. An unsettled one leaves them open and is answered by the
--- echoes; memory may be refused for a forward one: before any relay is asked, or after all were, for the state of an echo alone.
+-- echoes; memory may be refused for a forward one where a delivery of its role is open: before any relay is asked, or after all were, for
+-- the state of an echo alone.
 abbrev pub TakeDispositionStep : {R : Type 0} → DispositionGives R → SessionView R → DispositionModel → List (DispositionQuestion R) →
     Result (Option (List DispositionModel)) SessionInnerError → SessionView R → Type 0
 TakeDispositionStep gives v d asked (Ok None) w =
@@ -155,6 +157,7 @@ TakeDispositionStep gives v d asked (Ok None) w =
 TakeDispositionStep gives v d asked (Ok (Some echoes)) w = (d.settled ≡ false) × HasAsked gives v d asked w × Echoes d (agreed asked) echoes
 TakeDispositionStep gives v d asked (Err Refused.OutOfMemory) w =
     (d.settled ≡ false) × (is_forward d.first d.last ≡ true) × (((asked ≡ []) × (w ≡ v)) ⊎ (SaysStateAgain d asked × HasAsked gives v d asked w))
+    × ¬ (rows_of d v ≡ []) × SomeRefused
 TakeDispositionStep gives v d asked (Err e) w = ⊥
 
 -- how much of a role's records the call may have read: a turn for each one meant and one more, and at most as many numbers as

@@ -1,8 +1,9 @@
 -- Part: every call exactly; other calls; inner.
 -- What each call of a session for its links does: output handles are allotted and released, and links are attached and detached
 -- (AMQP 1.0 part 2, sections 2.6.2 to 2.6.6).
-use Rattle.std.specs.Prelude.{◌≡◌, ◌<◌, ◌^◌, ℕ, Bool, true, false, not, if◌then◌else◌, List, Option, Some, None, is_some, Result, Ok, Err, IsSome}
+use Rattle.std.specs.Prelude.{◌≡◌, ◌<◌, ◌≤◌, ◌^◌, ℕ, Bool, true, false, not, if◌then◌else◌, List, Option, Some, None, is_some, Result, Ok, Err, IsSome}
 use Rattle.std.specs.FinMap as map
+use Rattle.amqp_memory.specs.Refusal.{SomeRefused}
 use Rattle.amqp_types.specs.Attach.{AttachModel}
 use Rattle.amqp_types.specs.Detach.{DetachModel}
 use Rattle.amqp_types.specs.declared.states.SessionState.{SessionState}
@@ -21,7 +22,7 @@ use Rattle.amqp_session.specs.declared.error.LinkRelayError.{LinkRelayError}
 use Rattle.amqp_session.specs.declared.error.SessionInnerError.{SessionInnerError}
 use Rattle.amqp_session.specs.declared.error.SessionInnerError.TheVariants as Refused
 use Rattle.amqp_session.specs.Errors.{inner_of_relay}
-use Rattle.amqp_session.specs.Links.{LinksView, Names, attached_at, put_at}
+use Rattle.amqp_session.specs.Links.{LinksView, Names, Handles, attached_at, put_at}
 use Rattle.amqp_session.specs.declared.link.AttachedLink.{AttachedLink}
 use Rattle.amqp_session.specs.Relay.{AttachGives, DetachGives, AttachQuestion, DetachQuestion, Asks, goes_on, of_detach}
 use Rattle.amqp_session.specs.States.{is_mapped}
@@ -101,29 +102,42 @@ why_unallotted s None = if has_ended s then Unallotted.SessionStopped Stopped.En
 abbrev pub MayAllot : {R : Type 0} → SessionView R → List ℕ → Type 0
 MayAllot v name = (is_mapped v.state ≡ true) × (named_at name v.links ≡ None)
 
--- the allotment is refused so: a handle may be missing, or memory, where nothing else refuses it
+-- The crate slab keeps the output handles, and leaves open which key it gives out next. So what it tells is closed to every proof but that of the
+-- one function that asks it: of a slab with just these handles, this is the next key.
+unfoldable pub WasTold : Handles → ℕ → Type 0
+WasTold handles key = Unit {0}
+
+pub record IsNext (handles : Handles) (key : ℕ) : Type 0 where
+  pub told : WasTold handles key
+
+-- no handle of four bytes is left: the next one is past them
+abbrev pub IsExhausted : Handles → Type 0
+IsExhausted handles = (key : ℕ) × (2 ^ 32 ≤ key) × IsNext handles key
+
+-- the allotment is refused so: where nothing else refuses it, no handle is left, or memory was refused
 abbrev pub AllotRefused : {R : Type 0} → SessionView R → List ℕ → AllocLinkError → Type 0
 AllotRefused v name Unallotted.SessionNotMapped =
     (is_mapped v.state ≡ false) × (why_unallotted v.state v.session_stop ≡ Unallotted.SessionNotMapped)
 AllotRefused v name (Unallotted.SessionStopped reason) =
     (is_mapped v.state ≡ false) × (why_unallotted v.state v.session_stop ≡ Unallotted.SessionStopped reason)
 AllotRefused v name Unallotted.DuplicatedLinkName = (is_mapped v.state ≡ true) × IsSome (named_at name v.links)
-AllotRefused v name Unallotted.HandlesExhausted = MayAllot v name
-AllotRefused v name Unallotted.OutOfMemory = MayAllot v name
+AllotRefused v name Unallotted.HandlesExhausted = MayAllot v name × IsExhausted v.links.handles
+AllotRefused v name Unallotted.OutOfMemory = MayAllot v name × SomeRefused
 
--- no handle of four bytes is left, or memory is refused
-abbrev pub IsFull : AllocLinkError → Type 0
-IsFull Unallotted.SessionNotMapped = ⊥
-IsFull (Unallotted.SessionStopped reason) = ⊥
-IsFull Unallotted.DuplicatedLinkName = ⊥
-IsFull Unallotted.HandlesExhausted = Unit {0}
-IsFull Unallotted.OutOfMemory = Unit {0}
+-- no handle of four bytes is left, or memory was refused
+abbrev pub IsFull : {R : Type 0} → LinksView R → AllocLinkError → Type 0
+IsFull l Unallotted.SessionNotMapped = ⊥
+IsFull l (Unallotted.SessionStopped reason) = ⊥
+IsFull l Unallotted.DuplicatedLinkName = ⊥
+IsFull l Unallotted.HandlesExhausted = IsExhausted l.handles
+IsFull l Unallotted.OutOfMemory = SomeRefused
 
--- The output handle is one that is not taken; which one is left open. The links are then as the call says.
+-- The output handle is the one that the slab told, which is not taken. The links are then as the call says.
 abbrev pub AllotStep : {R : Type 0} → SessionView R → List ℕ → (OutputHandle → LinksView R) → Result OutputHandle AllocLinkError →
     SessionView R → Type 0
 AllotStep v name gives (Ok h) w =
     MayAllot v name × (map.get v.links.handles h.0 ≡ None) × (h.0 < 2 ^ 32) × (w ≡ record v { links = gives h })
+    × IsNext v.links.handles h.0
 AllotStep v name gives (Err e) w = AllotRefused v name e × (w ≡ v)
 
 -- the relay, if any, waits under the name
@@ -183,14 +197,16 @@ pub record AttachAsked {R : Type 0} (gives : AttachGives R) (names : Names R) (a
   pub asked : WaitAsked gives old a result left
   pub put : new ≡ map.insert names a.name left
 
--- what follows where no relay is asked, for the live link of the name, if any
-abbrev pub AttachRefused : {R : Type 0} → Option (LiveLink R) → SessionInnerError → Type 0
-AttachRefused None Refused.RemoteAttachingLinkNameNotFound = Unit {0}
-AttachRefused (Some n) Refused.HandleInUse = n.waiting ≡ None
-AttachRefused (Some n) Refused.OutOfMemory = IsSome n.waiting
-AttachRefused n e = ⊥
+-- What follows where no relay is asked, for the live link of the name, if any, and what stands under the input handle, if anything: memory is
+-- asked for a handle alone under which nothing stands.
+abbrev pub AttachRefused : {R : Type 0} → Option (AttachedLink R) → Option (LiveLink R) → SessionInnerError → Type 0
+AttachRefused old None Refused.RemoteAttachingLinkNameNotFound = Unit {0}
+AttachRefused old (Some n) Refused.HandleInUse = n.waiting ≡ None
+AttachRefused old (Some n) Refused.OutOfMemory = IsSome n.waiting × (old ≡ None) × SomeRefused
+AttachRefused old n e = ⊥
 
--- what follows from the relay's answer: it is put under the input handle, or goes on to wait
+-- What follows from the relay's answer: it is put under the input handle, or goes on to wait. Where the relay says that it lacks memory, its
+-- own relation says why.
 abbrev pub AttachAnswered : {R : Type 0} → LinksView R → AttachModel → AttachQuestion R → Result (Unit {0}) LinkRelayError →
     Result (Unit {0}) SessionInnerError → LinksView R → Type 0
 AttachAnswered l a q (Ok u) (Ok r) new =
@@ -202,7 +218,7 @@ AttachAnswered l a q answer result new = ⊥
 abbrev pub Attaches : {R : Type 0} → AttachGives R → LinksView R → AttachModel → Option (AttachQuestion R) →
     Result (Unit {0}) SessionInnerError → LinksView R → Type 0
 Attaches gives l a None (Ok u) new = ⊥
-Attaches gives l a None (Err e) new = AttachRefused (named_at a.name l) e × (new ≡ l)
+Attaches gives l a None (Err e) new = AttachRefused (attached_at a.handle l) (named_at a.name l) e × (new ≡ l)
 Attaches gives l a (Some q) result new =
     (q.asked ≡ a) × (named_at a.name l ≡ Some (record { handle = q.handle; waiting = Some q.before })) × gives q.before a q.answer q.after
     × AttachAnswered l a q q.answer result new

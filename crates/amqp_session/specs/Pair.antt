@@ -3,6 +3,7 @@
 -- sections 2.5 and 2.5.6).
 use Rattle.std.specs.Prelude.{◌≡◌, ◌≤◌, ◌+◌, ◌-◌, ◌⊎◌, ℕ, true, false, List, [], ◌∷◌, ◌++◌, length}
 use Rattle.std.specs.Prelude.{Option, None, IsSome, Result, Ok, Err}
+use Rattle.amqp_memory.specs.Refusal.{SomeRefused}
 use Rattle.amqp_types.specs.Attach.{AttachModel}
 use Rattle.amqp_types.specs.Begin.{BeginModel}
 use Rattle.amqp_types.specs.Flow.{FlowModel}
@@ -77,9 +78,9 @@ Makes g v going e w going' = SessionStep g v e w × (going' ≡ going ++ call_fr
 abbrev pub Stays : {R : Type 0} → SessionView R → List SessionFrame → SessionView R → List SessionFrame → Type 0
 Stays v going w going' = (w ≡ v) × (going' ≡ going)
 
--- There is no room for what may go out, and nothing changes.
+-- Memory for what may go out was refused, and nothing changes.
 abbrev pub HasNoRoom : {R : Type 0} → Effect R
-HasNoRoom v going result w going' = (result ≡ Err Refused.OutOfMemory) × Stays v going w going'
+HasNoRoom v going result w going' = (result ≡ Err Refused.OutOfMemory) × Stays v going w going' × SomeRefused
 
 -- the pair's answer, where its session answers so
 abbrev pub answer_of : {X : Type 0} → Result X SessionInnerError → Said
@@ -106,7 +107,7 @@ BeginAt g v going result w going' =
 abbrev pub FrameAt : {R : Type 0} → Relays R → SessionCall R → Effect R
 FrameAt g e v going (Ok u) w going' = (is_mapped v.state ≡ true) × Makes g v going e w going'
 FrameAt g e v going (Err Refused.IllegalState) w going' = (is_mapped v.state ≡ false) × Stays v going w going'
-FrameAt g e v going (Err Refused.OutOfMemory) w going' = (is_mapped v.state ≡ true) × Stays v going w going'
+FrameAt g e v going (Err Refused.OutOfMemory) w going' = (is_mapped v.state ≡ true) × Stays v going w going' × SomeRefused
 FrameAt g e v going (Err x) w going' = ⊥
 
 -- a transfer is sent
@@ -179,7 +180,7 @@ TakesBody g channel (Body.Disposition d) v going result w going' = ⊥
 TakesBody g channel (Body.Detach d) v going result w going' = ⊥
 TakesBody g channel (Body.End e) v going result w going' = ⊥
 
--- The first frame comes off the way, and is gone also where the session refuses it. Where there is no room for what may go out, it
+-- The first frame comes off the way, and is gone also where the session refuses it. Where memory for what may go out was refused, it
 -- stays on the way.
 abbrev pub ArriveAt : {R : Type 0} → Relays R → SessionView R → List SessionFrame → List SessionFrame → Said →
     SessionView R → List SessionFrame → List SessionFrame → Type 0

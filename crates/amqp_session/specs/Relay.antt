@@ -1,6 +1,7 @@
 -- Part: the promise; every call exactly; inner.
 -- What a session asks the relays of its links, and how they answer.
 use Rattle.std.specs.Prelude.{◌≡◌, ℕ, Bool, List, Option, Some, None, IsSome, Result}
+use Rattle.amqp_memory.specs.Refusal.{SomeRefused}
 use Rattle.amqp_types.specs.Attach.{AttachModel}
 use Rattle.amqp_types.specs.Detach.{DetachModel}
 use Rattle.amqp_types.specs.Transfer.{TransferModel}
@@ -110,8 +111,8 @@ pub record Asked {R Q A : Type 0} (gives : Gives R Q A) (old : Option (AttachedL
   pub stands : gives handle before asked answer after
   pub put : IsPut (record { handle = handle; relay = after })
 
--- why no relay was asked: none is attached, or there is no memory
+-- why no relay was asked: none is attached, or memory was refused
 abbrev pub IsUnasked : {R : Type 0} → Option (AttachedLink R) → SessionInnerError → Type 0
 IsUnasked link Refused.UnattachedHandle = link ≡ None
-IsUnasked link Refused.OutOfMemory = IsSome link
+IsUnasked link Refused.OutOfMemory = IsSome link × SomeRefused
 IsUnasked link e = ⊥

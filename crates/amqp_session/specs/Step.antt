@@ -1,9 +1,11 @@
 -- Part: the promise; every call exactly; other calls.
 -- What each call of a session does: its answer, the frames handed out with it, the questions to relays, and the session
--- after it. The case of a refusal says that the refusals that are tested before it do not apply.
+-- after it. The case of a refusal says that the refusals that are tested before it do not apply; and where a session lacks memory, that a
+-- request for memory was refused.
 use Rattle.std.specs.Prelude.{◌≡◌, ◌<◌, ◌^◌, ◌⊎◌, ℕ, Bool, true, false, List, [], ◌∷◌, ◌++◌, Option, Some, None, Result, Ok, Err, IsSome}
 use Rattle.std.specs.Prelude.{is_some, unwrap_or}
 use Rattle.std.specs.Option.{option_map}
+use Rattle.amqp_memory.specs.Refusal.{SomeRefused}
 use Rattle.amqp_types.specs.declared.definitions.DeliveryTag.{DeliveryTag}
 use Rattle.amqp_types.specs.Error.{ErrorModel}
 use Rattle.amqp_types.specs.Begin.{BeginModel}
@@ -50,7 +52,7 @@ asked_at v input q = record v { links = put_at input (goes_on q) v.links }
 abbrev pub SendBeginStep : {R : Type 0} → SessionView R → Result SessionFrame SessionStateError → SessionView R → Type 0
 SendBeginStep v (Ok frame) w = (sends_begin v.state ≡ Some w.state) × (frame ≡ begin_frame v) × (w ≡ record v { state = w.state })
 SendBeginStep v (Err Begins.IllegalState) w = (sends_begin v.state ≡ None) × (w ≡ v)
-SendBeginStep v (Err Begins.OutOfMemory) w = IsSome (sends_begin v.state) × (w ≡ v)
+SendBeginStep v (Err Begins.OutOfMemory) w = IsSome (sends_begin v.state) × (w ≡ v) × SomeRefused
 SendBeginStep v (Err e) w = ⊥
 
 abbrev pub SendEndStep : {R : Type 0} → SessionView R → Option ErrorModel → Result SessionFrame SessionStateError → SessionView R → Type 0
@@ -108,7 +110,7 @@ SendTransferStep v h (Ok item) w =
     (is_mapped v.state ≡ true) × ¬ (IsUntagged h) × HandsOut (is_some_held v.sending.held) (lets (waits v h)) item
     × (w ≡ let_gone (waits v h))
 SendTransferStep v h (Err Refused.IllegalState) w = ((is_mapped v.state ≡ false) ⊎ IsUntagged h) × (w ≡ v)
-SendTransferStep v h (Err Refused.OutOfMemory) w = (is_mapped v.state ≡ true) × ¬ (IsUntagged h) × (w ≡ v)
+SendTransferStep v h (Err Refused.OutOfMemory) w = (is_mapped v.state ≡ true) × ¬ (IsUntagged h) × (w ≡ v) × SomeRefused
 SendTransferStep v h (Err e) w = ⊥
 
 -- ---- a Flow comes (section 2.5.6)
@@ -136,7 +138,7 @@ flow_moved v f = record v {
 abbrev pub FlowGoes : {R : Type 0} → SessionView R → Option LinkFlow → Option SessionOutgoingItem → SessionView R → Type 0
 FlowGoes v echo item w = HandsOut (is_some_list (lets v)) (first_frame (option_map (flow_frame v) echo) ++ lets v) item × (w ≡ let_gone v)
 
--- what follows from the relay's answer
+-- What follows from the relay's answer. Where the relay says that it lacks memory, its own relation says why.
 abbrev pub FlowAnswered : {R : Type 0} → SessionView R → Result (Option LinkFlow) LinkRelayError →
     Result (Option SessionOutgoingItem) SessionInnerError → SessionView R → Type 0
 FlowAnswered v (Ok echo) (Ok item) w = FlowGoes v echo item w
@@ -148,13 +150,13 @@ abbrev pub IsKnown : {R : Type 0} → SessionView R → Option ℕ → Type 0
 IsKnown v None = Unit {0}
 IsKnown v (Some h) = IsSome (attached_at h v.links)
 
--- what follows where no relay is asked
+-- What follows where no relay is asked. Memory is asked for what is let out alone.
 abbrev pub FlowUnasked : {R : Type 0} → SessionView R → Option ℕ → Result (Option SessionOutgoingItem) SessionInnerError →
     SessionView R → Type 0
 FlowUnasked v handle (Ok item) w = (handle ≡ None) × FlowGoes v None item w
 FlowUnasked v None (Err Refused.UnattachedHandle) w = ⊥
 FlowUnasked v (Some h) (Err Refused.UnattachedHandle) w = (attached_at h v.links ≡ None) × (w ≡ v)
-FlowUnasked v handle (Err Refused.OutOfMemory) w = IsKnown v handle × (w ≡ v)
+FlowUnasked v handle (Err Refused.OutOfMemory) w = IsKnown v handle × (w ≡ v) × ¬ (lets v ≡ []) × SomeRefused
 FlowUnasked v handle (Err e) w = ⊥
 
 -- what follows for a link, whose relay is asked or not
@@ -191,7 +193,8 @@ abbrev pub named_by : {R : Type 0} → SessionView R → ℕ → Option (ℕ × 
 named_by v handle named =
     record v { deliveries = record v.deliveries { sender = with_record (named_delivery handle named) v.deliveries.sender } }
 
--- what follows from the relay's answer: the number that it names is of four bytes
+-- What follows from the relay's answer: the number that it names is of four bytes. Where the relay says that it lacks memory, its own
+-- relation says why.
 abbrev pub TransferAnswered : {R : Type 0} → SessionView R → ℕ → Result (Option (ℕ × DeliveryTag)) LinkRelayError →
     Result (Option DispositionModel) SessionInnerError → SessionView R → Type 0
 TransferAnswered v handle (Ok named) (Ok reply) w =
@@ -202,7 +205,7 @@ TransferAnswered v handle answer result w = ⊥
 abbrev pub TransferUnasked : {R : Type 0} → SessionView R → ℕ → Result (Option DispositionModel) SessionInnerError → SessionView R → Type 0
 TransferUnasked v handle (Ok reply) w = ⊥
 TransferUnasked v handle (Err Refused.UnattachedHandle) w = (attached_at handle v.links ≡ None) × (w ≡ v)
-TransferUnasked v handle (Err Refused.OutOfMemory) w = IsSome (attached_at handle v.links) × (w ≡ v)
+TransferUnasked v handle (Err Refused.OutOfMemory) w = IsSome (attached_at handle v.links) × (w ≡ v) × SomeRefused
 TransferUnasked v handle (Err e) w = ⊥
 
 -- what follows once the number is counted

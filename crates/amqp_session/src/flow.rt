@@ -1,10 +1,13 @@
 //! The part of a Flow that speaks of one link (AMQP 1.0 part 2, section 2.7.4).
 
-ghost use Rattle.std.specs.Prelude.{◌≡◌};
+ghost use Rattle.std.specs.Prelude.{◌≡◌, IfOk, OnErr};
 ghost use Rattle.std.specs.Result.{result_ok};
+ghost use Rattle.amqp_memory.specs.Refusal.{SomeRefused};
 ghost use Rattle.amqp_session.specs.LinkFlow.{link_flow_of, link_part, plain_link_flow};
 
+use crate::copies;
 use amqp_types::{Fields, Flow, Handle};
+use std::alloc::AllocError;
 
 /// The fields of a Flow that a link sends or gets. The session fills in its own fields.
 ///
@@ -13,7 +16,7 @@ use amqp_types::{Fields, Flow, Handle};
 /// flow.link_credit = Some(10);
 /// let input = Input::Flow(SessionNo(0), flow);
 /// ```
-#[derive(Clone, Debug, Drop, PartialEq)]
+#[derive(Debug, Drop, PartialEq)]
 pub struct LinkFlow {
     /// The link: in a flow that this side sends its output handle, in a flow of the peer's its input handle.
     pub handle: Handle,
@@ -29,6 +32,25 @@ pub struct LinkFlow {
     pub echo: bool,
     /// Properties of the flow.
     pub properties: Option<Fields>,
+}
+
+impl Clone for LinkFlow {
+    ghost is_clone = { λ p q. q ≡ p };
+
+    fn clone(&self) -> Result<LinkFlow, AllocError>
+        ensures value { IfOk result (λ q. q ≡ self.now) }
+        ensures refused { OnErr result SomeRefused }
+    {
+        Ok(LinkFlow {
+            handle: self.handle,
+            delivery_count: self.delivery_count,
+            link_credit: self.link_credit,
+            available: self.available,
+            drain: self.drain,
+            echo: self.echo,
+            properties: copies::fields(&self.properties)?,
+        })
+    }
 }
 
 impl LinkFlow {

@@ -1,6 +1,6 @@
 //! Maps whose keys the peer chooses: how their keys are hashed, and where they were last put.
 
-ghost use Rattle.std.specs.Prelude.{◌≡◌, ◌<◌, true, Some, IfSome, is_some, option_copied, nat_eq, slice_get};
+ghost use Rattle.std.specs.Prelude.{◌≡◌, ◌<◌, true, Some, None, IfSome, is_some, option_copied, nat_eq, slice_get};
 ghost use Rattle.std.specs.Map.{lookup};
 ghost use Rattle.std.specs.FinMap.{get, insert, remove};
 ghost use Rattle.std.specs.Borrow.{sem};
@@ -122,9 +122,9 @@ pub fn get_mut<'a, K: Eq + Hash, V, S: BuildHasher, A: Allocator>(
     map.get_mut(key)
 }
 
-/// Puts a value under a key, and hands back the value that stood there. Takes no memory: room for it has to be made before.
+/// Puts a value under a key, and hands back the value that stood there. Takes no memory: room for a new key has to be made before.
 pub fn put<V>(map: &mut Numbered<V>, hints: &mut Hints, key: u32, value: V) -> Option<V>
-    requires { 0 < spare map.old }
+    requires { get (numbered map.old.entries) key ≡ None → 0 < spare map.old }
     ensures put { numbered map.new.entries ≡ insert (numbered map.old.entries) key value }
     ensures left { result ≡ get (numbered map.old.entries) key }
 {

@@ -1,6 +1,7 @@
 //! Sessions of AMQP 1.0: transfers within the peer's window, links and what they relay, and why a session stopped.
 #![tactic(auto)]
 
+mod copies;
 mod deliveries;
 mod error;
 mod flow;

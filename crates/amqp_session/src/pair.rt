@@ -195,9 +195,8 @@ impl<R: LinkRelay> SessionPair<R> {
     /// The first frame on the way to a side, if any, comes to its session; what the session hands out is on the way to the
     /// other. After an accepted transfer the session is asked for a session flow.
     ///
-    /// `Ok` where no frame is on the way: nothing changes then. `OutOfMemory` where there is no room for what may go out: nothing changes
-    /// then either, and the frame is still on the way. Else
-    /// the session's answer; a frame that it refuses is gone.
+    /// `Ok` where no frame is on the way: nothing changes then. `OutOfMemory` where memory for what may go out is refused: nothing changes
+    /// then either, and the frame is still on the way. Else the session's answer; a frame that it refuses is gone.
     pub fn arrive(&mut self, side: Side) -> Result<(), SessionInnerError>
         ensures step { ArriveStep R.gives side result self.old self.new }
         ensures holds { PairHolds self.new }

@@ -1,9 +1,12 @@
 //! What a session begins with (AMQP 1.0 part 2, section 2.7.2).
 
-ghost use Rattle.std.specs.Prelude.{◌≡◌};
+ghost use Rattle.std.specs.Prelude.{◌≡◌, IfOk, OnErr};
+ghost use Rattle.amqp_memory.specs.Refusal.{SomeRefused};
 ghost use Rattle.amqp_session.specs.Settings.{default_settings, begin_of};
 
+use crate::copies;
 use amqp_types::{Begin, Fields, Handle, Symbol, Uint};
+use std::alloc::AllocError;
 use std::marker::Model;
 
 /// The incoming and the outgoing window of a session whose settings name none: 5000 transfers.
@@ -16,7 +19,7 @@ pub const DEFAULT_WINDOW: Uint = 5000;
 /// settings.incoming_window = 100;
 /// let input = Input::Begin(SessionNo(0), settings);
 /// ```
-#[derive(Clone, Debug, Drop)]
+#[derive(Debug, Drop)]
 pub struct SessionSettings {
     /// The number of the first transfer that goes out: 0 to 4294967295.
     pub next_outgoing_id: u32,
@@ -51,6 +54,25 @@ impl Model for SessionSettings {
       desired_capabilities = option_map (λ v. v.items) s.desired_capabilities;
       properties = s.properties;
     } };
+}
+
+impl Clone for SessionSettings {
+    ghost is_clone = { λ p q. q ≡ p };
+
+    fn clone(&self) -> Result<SessionSettings, AllocError>
+        ensures value { IfOk result (λ q. q ≡ self.now) }
+        ensures refused { OnErr result SomeRefused }
+    {
+        Ok(SessionSettings {
+            next_outgoing_id: self.next_outgoing_id,
+            incoming_window: self.incoming_window,
+            outgoing_window: self.outgoing_window,
+            handle_max: self.handle_max,
+            offered_capabilities: copies::symbols(&self.offered_capabilities)?,
+            desired_capabilities: copies::symbols(&self.desired_capabilities)?,
+            properties: copies::fields(&self.properties)?,
+        })
+    }
 }
 
 impl Default for SessionSettings {

@@ -1,4 +1,5 @@
 pub mod NameLemmas
+pub mod PlaceLemmas
 pub mod ReadLemmas
 pub mod RunLemmas
 pub mod WriteLemmas

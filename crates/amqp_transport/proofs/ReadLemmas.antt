@@ -1,5 +1,6 @@
 -- Bytes that were read over the end of a list.
-use Rattle.std.proofs.Common.{◌≡◌, ◌+◌, ◌-◌, ℕ, List, [], ◌++◌, length, take, drop, ap, sym, ◌∙◌, arith}
+use Rattle.std.proofs.Common.{◌≡◌, ◌+◌, ◌-◌, ℕ, List, [], ◌++◌, length, take, drop, ap, sym, ◌∙◌, arith, Result, Ok, Err, Bool, true, false, if◌then◌else◌}
+use Rattle.std.specs.Result.{is_ok, IsOk}
 use Rattle.std.proofs.Math.Seq.{take-append_seam}
 use Rattle.std.proofs.Math.ListN.{drop_of_length-le}
 use Rattle.std.proofs.lemmas.List.{append-nil, length-append, length-drop, length-take-le, take_all}
@@ -20,3 +21,8 @@ read_over front grown pad all read rest at count len s g n l r =
     let after : post_of at (length all - at) all ≡ [] = drop_of_length-le (drop at all) (omega (arith, left)) in
     let both : len ≡ length (front ++ read) = omega (arith, l, n, r, length-append front read) in
     rw (before, after, append-nil read, both) (take-append_seam (front ++ read) rest)
+
+-- what holds where a call is Ok
+pub when_ok : {X E Y : Type 0} (r : Result X E) (a b y : Y) → IsOk r → y ≡ (if is_ok r then a else b) → y ≡ a
+when_ok (Ok x) a b y ok e = e
+when_ok (Err x) a b y ok e = absurd (let no : false ≡ true = ok in cc)

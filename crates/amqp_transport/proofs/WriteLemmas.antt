@@ -8,11 +8,11 @@ pub record Written (old new : Option (List ℕ)) (all left : List ℕ) : Type 0 
   pub all_is : all ≡ sent ++ left
   pub appended : Appends old new sent
 
-nothing : (old : Option (List ℕ)) → Appends old old []
+pub nothing : (old : Option (List ℕ)) → Appends old old []
 nothing None = tt
 nothing (Some xs) = sym (append-nil xs)
 
-both : (old mid new : Option (List ℕ)) (xs ys : List ℕ) → Appends old mid xs → Appends mid new ys → Appends old new (xs ++ ys)
+pub both : (old mid new : Option (List ℕ)) (xs ys : List ℕ) → Appends old mid xs → Appends mid new ys → Appends old new (xs ++ ys)
 both None mid new xs ys a b = tt
 both (Some s) None new xs ys a b = absurd a
 both (Some s) (Some t) None xs ys a b = absurd b

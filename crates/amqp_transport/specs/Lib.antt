@@ -1,4 +1,5 @@
 pub mod BeginSession
+pub mod Failing
 pub mod LinkNames
 pub mod Running
 pub mod Stream

@@ -1,6 +1,7 @@
 -- Part: other calls.
 -- The turn of a Begin: one that answers none is made the answer to another one (AMQP 1.0 part 2, section 2.5.1).
 use Rattle.std.specs.Prelude.{◌≡◌, ◌≤◌, ◌⊎◌, ℕ, List, length, Some, None, IsSome, Result, Ok, Err}
+use Rattle.amqp_memory.specs.Refusal.{SomeRefused}
 use Rattle.amqp_types.specs.Begin.{BeginModel}
 use Rattle.amqp_frames.specs.declared.frame.Frame.{Frame}
 use Rattle.amqp_frames.specs.declared.frame.FrameBody.{FrameBody}
@@ -37,7 +38,7 @@ ReadsBegin bytes (Err (turn.Frame e)) = Decodes bytes (Err e)
 abbrev pub EncodesWhole : Frame → ℕ → Result (List ℕ) Error → Type 0
 EncodesWhole f limit (Ok out) = DecodesTo f out × (length out ≤ limit)
 EncodesWhole f limit (Err no.TooLarge) = ¬ Fits f limit
-EncodesWhole f limit (Err no.OutOfMemory) = Unit {0}
+EncodesWhole f limit (Err no.OutOfMemory) = Fits f limit × SomeRefused
 EncodesWhole f limit (Err e) = ⊥
 
 -- The bytes are decoded as the Begin that answers the one on the channel `remote`, and have no more than the limit; or why there are none.

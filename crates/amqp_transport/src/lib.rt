@@ -20,6 +20,7 @@
 //! ```
 #![tactic(auto)]
 
+mod calls;
 pub mod laws;
 mod link_names;
 mod running;

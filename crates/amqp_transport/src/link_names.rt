@@ -1,9 +1,11 @@
 //! Names of links, told apart by role (AMQP 1.0 part 2, section 2.6.1).
 
-ghost use Rattle.std.specs.Prelude.{◌≡◌, ◌∷◌, [], IfOk, string_bytes};
+ghost use Rattle.std.specs.Prelude.{◌≡◌, ◌∷◌, [], IfOk, OnErr, string_bytes};
 ghost use Rattle.std.specs.Option.{option_map};
+ghost use Rattle.amqp_memory.specs.Refusal.{SomeRefused};
 ghost use Rattle.amqp_transport.specs.LinkNames.{mark, marked, IsPlain};
 
+use amqp_memory::{push_in_text, text_of};
 use fe2o3_amqp::Role;
 use std::alloc::{AllocError, Global};
 
@@ -25,10 +27,11 @@ fn mark(role: Role) -> &'static str
 /// let plain = plain_name(name.as_str());                             // Some((Role::Receiver, "orders"))
 /// ```
 pub fn marked_name(alloc: Global, role: Role, name: &str) -> Result<String, AllocError>
-    ensures { IfOk result (λ s. string_bytes s ≡ marked role name.now) }
+    ensures name { IfOk result (λ s. string_bytes s ≡ marked role name.now) }
+    ensures refused { OnErr result SomeRefused }
 {
-    let mut marked = String::from_str(alloc, mark(role))?;
-    marked.push_str(name)?;
+    let mut marked = text_of(alloc, mark(role))?;
+    push_in_text(&mut marked, name)?;
     Ok(marked)
 }
 

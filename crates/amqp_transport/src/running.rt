@@ -1,11 +1,13 @@
 //! Running an engine over a reader and a writer: what it is to send is written, and what it refuses is the caller's to look at.
 
-ghost use Rattle.std.specs.Prelude.{◌≡◌, ◌++◌, ◌∷◌, [], IfOk, OnOk, MatchResult};
-ghost use Rattle.amqp_engine.specs.declared.engine.input.Input.TheVariants as input;
-ghost use Rattle.amqp_transport.specs.Running.{ReceivesAll, TakesAll, counted_on, place_on};
+ghost use Rattle.std.specs.Prelude.{◌≡◌, ◌++◌, ◌∷◌, [], map, OnOk, MatchResult};
+ghost use Rattle.amqp_transport.specs.Failing.{Flushed, NoMemory};
+ghost use Rattle.amqp_transport.specs.Running.{Closes, Receives, Runs, Tries, counted_on, place_on, work};
 
+use crate::calls::flush;
 use crate::stream::{next_frame, write_out};
-use amqp_engine::laws::law_of_histories;
+use amqp_engine::laws::{law_of_histories, law_of_two_runs, law_of_views};
+use amqp_memory::push_in_queue;
 use fe2o3_amqp::definitions::Error;
 use fe2o3_amqp::{Engine, Input, LinkRelay, Refusal, SendBuffer};
 use std::alloc::Global;
@@ -33,23 +35,55 @@ pub fn run<R: LinkRelay, O: Write>(
     refusals: &mut Vec<Refusal>,
     output: &mut O,
 ) -> io::Result<()>
-    ensures { OnOk result (TakesAll R.gives engine.old inputs.old.items engine.new inputs.new.items) }
+    ensures runs { Runs R.gives (work engine.old inputs.old.items out.old refusals.old.items (O.contents output.old))
+        (work engine.new inputs.new.items out.new refusals.new.items (O.contents output.new)) result }
+    ensures flushed { OnOk result (Flushed output.new) }
 {
     law_of_histories::<R>();
+    law_of_views::<R>();
+    law_of_two_runs::<R>();
     let total = inputs.len();
-    for _ in 0..TRIES {
+    for _ in 1..TRIES {
         let taken = total.saturating_sub(inputs.len());
-        let before = refusals.len();
-        let outcome = engine.run_into(inputs, out, refusals);
-        for refusal in refusals.iter_mut().skip(before) {
-            count_on(refusal, taken);
-        }
-        write_out(out, output)?;
-        if outcome.is_ok() {
-            return output.flush();
+        if attempt(engine, inputs, out, refusals, output, taken)? {
+            return flush(output);
         }
     }
+    // prover
+    // The last try stands by itself: what it met is said of the error, which a loop could not carry so far.
+    let taken = total.saturating_sub(inputs.len());
+    if attempt(engine, inputs, out, refusals, output, taken)? {
+        return flush(output);
+    }
     Err(io::Error::from(ErrorKind::OutOfMemory))
+}
+
+/// A try: runs the inputs that are left, and writes what is to be sent. Before it `taken` inputs of the call were taken. Whether all is done.
+fn attempt<R: LinkRelay, O: Write>(
+    engine: &mut Engine<R>,
+    inputs: &mut VecDeque<Input<R>>,
+    out: &mut SendBuffer,
+    refusals: &mut Vec<Refusal>,
+    output: &mut O,
+    taken: usize,
+) -> io::Result<bool>
+    ensures { Tries R.gives taken (work engine.old inputs.old.items out.old refusals.old.items (O.contents output.old))
+        (work engine.new inputs.new.items out.new refusals.new.items (O.contents output.new)) result }
+{
+    let before = refusals.len();
+    let outcome = engine.run_into(inputs, out, refusals);
+    count_all_on(&mut refusals.as_mut_slice()[before..], taken);
+    write_out(out, output)?;
+    Ok(outcome.is_ok())
+}
+
+/// Counts the places of the refusals of a try from the first input of the call.
+fn count_all_on(refusals: &mut [Refusal], taken: usize)
+    ensures { refusals.new ≡ map (counted_on taken) refusals.old }
+{
+    for refusal in refusals.iter_mut() {
+        count_on(refusal, taken);
+    }
 }
 
 /// Counts the place of a refusal from the first input of the call: before this try, `taken` inputs were taken.
@@ -84,7 +118,10 @@ pub fn receive<R: LinkRelay, I: BufRead, O: Write>(
     input: &mut I,
     output: &mut O,
 ) -> io::Result<bool>
-    ensures { IfOk result (ReceivesAll R.gives engine.old inputs.old.items engine.new inputs.new.items) }
+    ensures receives { Receives R.gives (work engine.old inputs.old.items out.old refusals.old.items (O.contents output.old))
+        (work engine.new inputs.new.items out.new refusals.new.items (O.contents output.new))
+        (I.remaining input.old) (I.remaining input.new) result }
+    ensures flushed { OnOk result (Flushed output.new) }
 {
     let max_frame_size = engine.connection().local_open().max_frame_size;
     let Some(frame) = next_frame(alloc, input, max_frame_size)? else {
@@ -111,7 +148,9 @@ pub fn close<R: LinkRelay, O: Write>(
     output: &mut O,
     error: Option<Error>,
 ) -> io::Result<()>
-    ensures { OnOk result (TakesAll R.gives engine.old (inputs.old.items ++ input.Close error ∷ []) engine.new inputs.new.items) }
+    ensures closes { Closes R.gives (work engine.old inputs.old.items out.old refusals.old.items (O.contents output.old))
+        (work engine.new inputs.new.items out.new refusals.new.items (O.contents output.new)) error result }
+    ensures flushed { OnOk result (Flushed output.new) }
 {
     push(inputs, Input::Close(error))?;
     run(engine, inputs, out, refusals, output)
@@ -119,9 +158,9 @@ pub fn close<R: LinkRelay, O: Write>(
 
 /// Appends an item, such as an input, to the others. `OutOfMemory` where memory is refused: the item is dropped then, and the others stay.
 pub fn push<T: Drop>(items: &mut VecDeque<T>, item: T) -> io::Result<()>
-    ensures { MatchResult result (λ _. items.new.items ≡ items.old.items ++ item ∷ []) (λ _. items.new.items ≡ items.old.items) }
+    ensures { MatchResult result (λ _. items.new.items ≡ items.old.items ++ item ∷ []) (λ e. (items.new.items ≡ items.old.items) × NoMemory e) }
 {
-    match items.push_back(item) {
+    match push_in_queue(items, item) {
         Ok(()) => Ok(()),
         Err(_) => Err(io::Error::from(ErrorKind::OutOfMemory)),
     }

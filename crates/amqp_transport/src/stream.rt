@@ -1,12 +1,15 @@
 //! The stream: the protocol header, and the size before each frame (AMQP 1.0 part 2, sections 2.2 and 2.3).
 
-ghost use Rattle.std.specs.Prelude.{◌≡◌, ◌+◌, ◌<◌, ◌++◌, ℕ, List, [], length, None, IfSome, IfOk, OnOk, IsTrue};
+ghost use Rattle.std.specs.Prelude.{◌≡◌, ◌+◌, ◌<◌, ◌≤◌, ◌^◌, ◌⊎◌, ◌++◌, ℕ, List, [], length, None, IfSome, IfOk, IfErr, OnOk};
 ghost use Rattle.std.specs.Int.{w32, to_be_bytes};
 ghost use Rattle.std.specs.Io.KnownBytes.{Appends, Consumes, Keeps, IsAtEnd};
 ghost use Rattle.amqp_frames.specs.Piece.{piece_bytes};
 ghost use Rattle.amqp_frames.specs.Wire.{sized};
-ghost use Rattle.amqp_transport.specs.Stream.{header, IsSize, TakesFrame};
+ghost use Rattle.amqp_transport.specs.Failing.{ReadFailed, WriteFailed, Flushed, NoMemory};
+ghost use Rattle.amqp_transport.specs.Stream.{header, NotExchanged, IsSize, TakesFrame, NoFrame, NotSized};
 
+use crate::calls::{flush, is_at_end, read_exact, write_all};
+use amqp_memory::{bytes_of_vector, more_in_vector_exactly};
 use bytes::Bytes;
 use fe2o3_amqp::{Piece, SendBuffer};
 use std::alloc::Global;
@@ -19,12 +22,16 @@ const HEADER: [u8; 8] = *b"AMQP\x00\x01\x00\x00";
 /// one; an error of `input` or `output` is passed on. After an error the stream is of no use.
 pub fn exchange_headers<I: Read, O: Write>(input: &mut I, output: &mut O) -> io::Result<()>
     ensures sent { OnOk result (Appends (O.contents output.old) (O.contents output.new) header) }
+    ensures flushed { OnOk result (Flushed output.new) }
     ensures taken { OnOk result (Consumes (I.remaining input.old) (I.remaining input.new) header) }
+    ensures err { IfErr result (λ e. NotExchanged (input.new ≡ input.old)
+        (Flushed output.new × Appends (O.contents output.old) (O.contents output.new) header)
+        (I.remaining input.old) (I.remaining input.new) e) }
 {
-    output.write_all(&HEADER)?;
-    output.flush()?;
+    write_all(output, &HEADER)?;
+    flush(output)?;
     let mut theirs = [0; 8];
-    input.read_exact(&mut theirs)?;
+    read_exact(input, &mut theirs)?;
     if theirs == HEADER {
         Ok(())
     } else {
@@ -45,7 +52,8 @@ pub fn next_frame<I: BufRead>(
 ) -> io::Result<Option<Bytes>>
     ensures frame { IfOk result (λ r. IfSome r (λ frame.
         TakesFrame max_frame_size (I.remaining input.old) (I.remaining input.new) frame)) }
-    ensures end { IfOk result (λ r. r ≡ None → IsAtEnd (I.remaining input.old)) }
+    ensures end { IfOk result (λ r. r ≡ None → IsAtEnd (I.remaining input.old) × Keeps (I.remaining input.old) (I.remaining input.new)) }
+    ensures err { IfErr result (λ e. NoFrame max_frame_size (I.remaining input.old) (I.remaining input.new) e) }
 {
     if is_at_end(input)? {
         return Ok(None);
@@ -58,20 +66,13 @@ pub fn next_frame<I: BufRead>(
     Ok(Some(frame))
 }
 
-/// Whether the input has ended.
-fn is_at_end<I: BufRead>(input: &mut I) -> io::Result<bool>
-    ensures keeps { OnOk result (Keeps (I.remaining input.old) (I.remaining input.new)) }
-    ensures end { IfOk result (λ r. IsTrue r → IsAtEnd (I.remaining input.old)) }
-{
-    Ok(input.fill_buf()?.is_empty())
-}
-
 /// Reads the four bytes of a size.
 fn read_size<I: Read>(input: &mut I) -> io::Result<u32>
-    ensures { IfOk result (λ n. (size : List ℕ) × IsSize size n × Consumes (I.remaining input.old) (I.remaining input.new) size) }
+    ensures size { IfOk result (λ n. (size : List ℕ) × IsSize size n × Consumes (I.remaining input.old) (I.remaining input.new) size) }
+    ensures err { IfErr result (λ e. ReadFailed e) }
 {
     let mut size = [0; 4];
-    input.read_exact(&mut size)?;
+    read_exact(input, &mut size)?;
     Ok(u32::from_be_bytes(size))
 }
 
@@ -80,25 +81,29 @@ const STEP: usize = 16384;
 
 /// Reads so many bytes. Memory is taken as they come: for a step, and then for no more than have come.
 fn read_bytes<I: Read>(alloc: Global, input: &mut I, len: usize) -> io::Result<Bytes>
-    ensures { IfOk result (λ frame. (length frame ≡ len) × Consumes (I.remaining input.old) (I.remaining input.new) frame) }
+    requires { len ≤ 2 ^ 32 }
+    ensures bytes { IfOk result (λ frame. (length frame ≡ len) × Consumes (I.remaining input.old) (I.remaining input.new) frame) }
+    ensures err { IfErr result (λ e. ReadFailed e ⊎ NoMemory e) }
 {
     let mut frame = Vec::new(alloc);
     while frame.len() < len {
         let more = (len - frame.len()).min(frame.len().max(STEP));
         read_more(input, &mut frame, more)?;
     }
-    Ok(Bytes::from_vec(frame)?)
+    Ok(bytes_of_vector(frame)?)
 }
 
 /// Reads so many bytes behind those that came before.
 fn read_more<I: Read>(input: &mut I, frame: &mut Vec<u8>, count: usize) -> io::Result<()>
-    ensures { OnOk result ((more : List ℕ) × (length more ≡ count) × (frame.new.items ≡ frame.old.items ++ more)
+    requires { count ≤ 2 ^ 32 }
+    ensures bytes { OnOk result ((more : List ℕ) × (length more ≡ count) × (frame.new.items ≡ frame.old.items ++ more)
         × Consumes (I.remaining input.old) (I.remaining input.new) more) }
+    ensures err { IfErr result (λ e. ReadFailed e ⊎ NoMemory e) }
 {
     let at = frame.len();
-    frame.reserve_exact(count)?;
-    frame.resize(at + count, 0)?;
-    input.read_exact(&mut frame.as_mut_slice()[at..])?;
+    more_in_vector_exactly(frame, count)?;
+    frame.resize(at + count, 0).unwrap();
+    read_exact(input, &mut frame.as_mut_slice()[at..])?;
     Ok(())
 }
 
@@ -107,6 +112,7 @@ fn read_more<I: Read>(input: &mut I, frame: &mut Vec<u8>, count: usize) -> io::R
 pub fn write_out<O: Write>(out: &mut SendBuffer, output: &mut O) -> io::Result<()>
     ensures written { OnOk result (Appends (O.contents output.old) (O.contents output.new) out.old) }
     ensures empty { OnOk result (out.new ≡ []) }
+    ensures err { IfErr result (λ e. WriteFailed e) }
 {
     while !out.is_empty() {
         write_chunk(out, output)?;
@@ -117,12 +123,13 @@ pub fn write_out<O: Write>(out: &mut SendBuffer, output: &mut O) -> io::Result<(
 /// Writes the bytes that lie together at the front, and takes them off.
 fn write_chunk<O: Write>(out: &mut SendBuffer, output: &mut O) -> io::Result<()>
     requires { 0 < length out.old }
-    ensures { OnOk result ((chunk : List ℕ) × (0 < length chunk) × (out.old ≡ chunk ++ out.new)
+    ensures chunk { OnOk result ((chunk : List ℕ) × (0 < length chunk) × (out.old ≡ chunk ++ out.new)
         × Appends (O.contents output.old) (O.contents output.new) chunk) }
+    ensures err { IfErr result (λ e. WriteFailed e) }
 {
     let chunk = out.chunk();
     let len = chunk.len();
-    output.write_all(chunk)?;
+    write_all(output, chunk)?;
     out.advance(len);
     Ok(())
 }
@@ -130,27 +137,33 @@ fn write_chunk<O: Write>(out: &mut SendBuffer, output: &mut O) -> io::Result<()>
 /// Writes a piece after its size, which counts its own four bytes. The payload is not copied. `InvalidData` where the size does not fit four
 /// bytes: nothing is written then. An error of `output` is passed on.
 pub fn write_piece<O: Write>(piece: &Piece, output: &mut O) -> io::Result<()>
-    ensures { OnOk result (Appends (O.contents output.old) (O.contents output.new) (sized (piece_bytes piece.now))) }
+    ensures written { OnOk result (Appends (O.contents output.old) (O.contents output.new) (sized (piece_bytes piece.now))) }
+    ensures fits { OnOk result (length (piece_bytes piece.now) + 4 < 2 ^ 32) }
+    ensures err { IfErr result (λ e. NotSized (output.new ≡ output.old) (length (piece_bytes piece.now)) e) }
 {
     write_size(piece.len(), output)?;
-    output.write_all(piece.head())?;
-    output.write_all(piece.payload().as_slice())
+    write_all(output, piece.head())?;
+    write_all(output, piece.payload().as_slice())
 }
 
 /// Writes the bytes of a frame after its size, which counts its own four bytes. The errors are those of [`write_piece`].
 pub fn write_frame<O: Write>(frame: &Bytes, output: &mut O) -> io::Result<()>
-    ensures { OnOk result (Appends (O.contents output.old) (O.contents output.new) (sized frame.now)) }
+    ensures written { OnOk result (Appends (O.contents output.old) (O.contents output.new) (sized frame.now)) }
+    ensures fits { OnOk result (length frame.now + 4 < 2 ^ 32) }
+    ensures err { IfErr result (λ e. NotSized (output.new ≡ output.old) (length frame.now) e) }
 {
     write_size(frame.len(), output)?;
-    output.write_all(frame.as_slice())
+    write_all(output, frame.as_slice())
 }
 
 /// Writes the size of a frame of so many bytes. `InvalidData` where it does not fit four bytes.
 fn write_size<O: Write>(len: usize, output: &mut O) -> io::Result<()>
-    ensures { OnOk result (Appends (O.contents output.old) (O.contents output.new) (to_be_bytes w32 (len + 4))) }
+    ensures written { OnOk result (Appends (O.contents output.old) (O.contents output.new) (to_be_bytes w32 (len + 4))) }
+    ensures fits { OnOk result (len + 4 < 2 ^ 32) }
+    ensures err { IfErr result (λ e. NotSized (output.new ≡ output.old) len e) }
 {
     let Ok(size) = u32::try_from(len.saturating_add(4)) else {
         return Err(io::Error::from(ErrorKind::InvalidData));
     };
-    output.write_all(&size.to_be_bytes())
+    write_all(output, &size.to_be_bytes())
 }

@@ -15,9 +15,9 @@
 //! - **The Open.** The engine takes a received Begin in `Opened` alone, after both Opens; one that comes before is refused (`IllegalState`)
 //!   once it is handed on.
 
-ghost use Rattle.std.specs.Prelude.{◌≡◌, ◌≤◌, Ok, Err, IfOk, MatchOption};
+ghost use Rattle.std.specs.Prelude.{◌≡◌, ◌≤◌, Ok, Err, MatchOption};
 ghost use Rattle.amqp_transport.specs.Turn.{IsBegin, ReadsBegin, EncodesWhole, WritesAnswer, TurnsBegin};
-ghost use Rattle.amqp_transport.specs.BeginSession.{PutsOwn, IsOnePiece, TurnsBoth, BeginsSession};
+ghost use Rattle.amqp_transport.specs.BeginSession.{PutsOwn, GivesPiece, TurnsTwo, BeginsSession};
 ghost use Rattle.amqp_transport.specs.declared.turning.TurnError.TheVariants.{HasRemoteChannel};
 
 use bytes::Bytes;
@@ -212,7 +212,7 @@ fn turn_both(
     max_piece_len: u32,
 ) -> Result<Turned, TurnError>
     requires { 4 ≤ max_piece_len }
-    ensures { IfOk result (TurnsBoth own remote_channel theirs max_piece_len) }
+    ensures { TurnsTwo own remote_channel theirs max_piece_len result }
 {
     let (channel, ours) = match read_begin(alloc, own) {
         Ok(read) => read,
@@ -254,7 +254,7 @@ fn own_begin<R: LinkRelay>(alloc: Global, engine: &mut Engine<R>) -> Result<Byte
 
 /// The bytes of the one frame among the answers, which is a single piece.
 fn only_piece(alloc: Global, answers: &[Answer]) -> Result<Bytes, FrameError>
-    ensures { IfOk result (IsOnePiece answers.now) }
+    ensures { GivesPiece answers.now result }
 {
     match answers {
         [Answer::Out(pieces)] => match pieces.first() {

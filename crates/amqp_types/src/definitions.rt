@@ -1,6 +1,7 @@
 //! The small types of the standard's definitions (AMQP 1.0 part 2, section 2.8).
 
-ghost use Rattle.std.specs.Prelude.{◌≡◌, ◌≤◌, ◌∷◌, ℕ, List, drop, length, IfErr};
+ghost use Rattle.std.specs.Prelude.{◌≡◌, ◌≤◌, ◌∷◌, ℕ, List, drop, length, IfOk, IfErr, OnErr};
+ghost use Rattle.amqp_memory.specs.Refusal.{SomeRefused};
 ghost use Rattle.amqp_values.specs.declared.error.ReadError.TheVariants.{Malformed};
 ghost use Rattle.amqp_values.specs.Reading.{Gives};
 ghost use Rattle.amqp_values.specs.Number.{uint_at};
@@ -10,9 +11,10 @@ ghost use Rattle.amqp_types.specs.declared.definitions.SenderSettleMode.{SenderS
 ghost use Rattle.amqp_types.specs.declared.definitions.ReceiverSettleMode.{ReceiverSettleMode};
 ghost use Rattle.amqp_types.specs.Definitions.{role_at, sender_mode_at, receiver_mode_at};
 
+use amqp_memory::shared;
 use amqp_values::{Field, ReadError};
 use bytes::Bytes;
-use std::alloc::Global;
+use std::alloc::{AllocError, Global};
 
 /// A number of four bytes.
 pub type Uint = u32;
@@ -40,8 +42,19 @@ pub struct Handle(pub u32);
 /// ```
 /// let tag = DeliveryTag(Bytes::from_static(b"1"));
 /// ```
-#[derive(Clone, Debug, Drop, PartialEq, Eq)]
+#[derive(Debug, Drop, PartialEq, Eq)]
 pub struct DeliveryTag(pub Bytes);
+
+impl Clone for DeliveryTag {
+    ghost is_clone = { λ p q. q ≡ p };
+
+    fn clone(&self) -> Result<DeliveryTag, AllocError>
+        ensures value { IfOk result (λ q. q ≡ self.now) }
+        ensures refused { OnErr result SomeRefused }
+    {
+        Ok(DeliveryTag(shared(&self.0)?))
+    }
+}
 
 /// One of the two ends of a link (part 2, section 2.8.1).
 #[derive(Clone, Copy, Debug, PartialEq, Eq)]

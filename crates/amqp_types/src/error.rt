@@ -1,17 +1,18 @@
 //! Error (AMQP 1.0 part 2, section 2.8.14).
 
-ghost use Rattle.std.specs.Prelude.{◌≡◌, List, ℕ, Option};
+ghost use Rattle.std.specs.Prelude.{◌≡◌, List, ℕ, Option, IfOk, OnErr};
+ghost use Rattle.amqp_memory.specs.Refusal.{SomeRefused};
 ghost use Rattle.amqp_values.specs.Reading.{Gives};
 ghost use Rattle.amqp_types.specs.Error.{error_body_at, error_table};
 ghost use Rattle.amqp_types.specs.Error.{ErrorModel, error_at};
 
-use crate::borrowed;
+use crate::{borrowed, copies};
 use amqp_values::{
     Composite, Cons2, Field, Fields, ListWalk, ReadError, Row1, StringRef, Symbol, SymbolRef,
     Verbatim, codes, described, field_list,
 };
 use bytes::Bytes;
-use std::alloc::Global;
+use std::alloc::{AllocError, Global};
 use std::fmt::{self, Display, Formatter};
 use std::marker::Model;
 
@@ -23,7 +24,7 @@ use std::marker::Model;
 ///     let error = Error { condition, description: None, info: None };
 /// }
 /// ```
-#[derive(Clone, Debug, Drop)]
+#[derive(Debug, Drop)]
 pub struct Error {
     /// What went wrong. Mandatory.
     pub condition: Symbol,
@@ -45,6 +46,21 @@ impl Model for Error {
       description = option_map string_bytes p.description;
       info = p.info;
     } };
+}
+
+impl Clone for Error {
+    ghost is_clone = { λ p q. q ≡ p };
+
+    fn clone(&self) -> Result<Error, AllocError>
+        ensures value { IfOk result (λ q. q ≡ self.now) }
+        ensures refused { OnErr result SomeRefused }
+    {
+        Ok(Error {
+            condition: self.condition.clone()?,
+            description: copies::text(&self.description)?,
+            info: copies::fields(&self.info)?,
+        })
+    }
 }
 
 impl PartialEq for Error {

@@ -1,14 +1,16 @@
 //! The outcome of a delivery that was refused (AMQP 1.0 part 3, section 3.4.3).
 
-ghost use Rattle.std.specs.Prelude.{◌≡◌, ◌<◌, ◌^◌, IfOk, Err, length};
-ghost use Rattle.amqp_values.specs.declared.error.ReadError.TheVariants.{Malformed};
+ghost use Rattle.std.specs.Prelude.{◌≡◌, ◌<◌, ◌^◌, IfOk, IfErr, OnErr, Err, length};
+ghost use Rattle.amqp_memory.specs.Refusal.{SomeRefused};
+ghost use Rattle.amqp_values.specs.declared.error.ReadError.TheVariants.{Malformed, OutOfMemory};
 ghost use Rattle.amqp_values.specs.Raw.{IsRaw};
 ghost use Rattle.amqp_types.specs.Defaults.{rejected_text};
 
 use crate::error::Error;
 use crate::error_ref::ErrorRef;
+use amqp_memory::{buffer_with, frozen};
 use amqp_values::{Raw, ReadError, codes, described_len, field_list, put_described};
-use bytes::{Bytes, BytesMut};
+use bytes::Bytes;
 use std::alloc::{AllocError, Global};
 
 /// The outcome rejected, for this error. The other outcomes are [`Raw::accepted`], [`Raw::released`] and [`Raw::modified`].
@@ -18,6 +20,7 @@ use std::alloc::{AllocError, Global};
 pub fn rejected(alloc: Global, error: &Error) -> Result<Raw, ReadError>
     ensures text { IfOk result (λ raw. raw ≡ rejected_text error.now) }
     ensures malformed { result ≡ Err Malformed → length (rejected_text error.now) < 2 ^ 32 → IsRaw (rejected_text error.now) → ⊥ }
+    ensures refused { IfErr result (λ e. e ≡ OutOfMemory → SomeRefused) }
 {
     let fields = field_list![ErrorRef(error)];
     let len = described_len(&fields);
@@ -34,14 +37,15 @@ pub fn rejected(alloc: Global, error: &Error) -> Result<Raw, ReadError>
 fn text_of(alloc: Global, error: &Error, len: usize) -> Result<Bytes, AllocError>
     requires len_is { len ≡ length (rejected_text error.now) }
     requires fits { len < 2 ^ 32 }
-    ensures { IfOk result (λ text. text ≡ rejected_text error.now) }
+    ensures text { IfOk result (λ text. text ≡ rejected_text error.now) }
+    ensures refused { OnErr result SomeRefused }
 {
-    let mut text = BytesMut::with_capacity(alloc, len)?;
+    let mut text = buffer_with(alloc, len)?;
     put_described(
         codes::REJECTED,
         &field_list![ErrorRef(error)],
         len,
         &mut text,
     );
-    Ok(text.freeze()?)
+    Ok(frozen(text)?)
 }

@@ -1,6 +1,8 @@
 //! The nine performatives, which are the bodies of frames (AMQP 1.0 part 2, section 2.7).
 
-ghost use Rattle.std.specs.Prelude.{◌≡◌, ◌<◌, ◌≤◌, ◌^◌, ◌++◌, ◌↔◌, length, OnOk, OnErr};
+ghost use Rattle.std.specs.Prelude.{◌≡◌, ◌<◌, ◌≤◌, ◌^◌, ◌++◌, ◌↔◌, length, OnOk, OnErr, IfErr};
+ghost use Rattle.amqp_memory.specs.Refusal.{SomeRefused};
+ghost use Rattle.amqp_values.specs.declared.error.WriteError.TheVariants.{OutOfMemory};
 ghost use Rattle.amqp_values.specs.Composite.{composite_at};
 ghost use Rattle.amqp_values.specs.Reading.{Answers, Gives, ReadsFront};
 ghost use Rattle.amqp_values.specs.Writing.{IsTooLarge};
@@ -17,6 +19,7 @@ mod kind;
 mod open;
 mod transfer;
 
+use amqp_memory::more_in_buffer;
 use amqp_values::{Composite, ReadError, WriteError};
 pub use attach::Attach;
 pub use begin::Begin;
@@ -133,14 +136,15 @@ impl Performative {
         ensures written { OnOk result (out.new.items ≡ out.old.items ++ performative_text self.now) }
         ensures nothing { OnErr result (out.new.items ≡ out.old.items) }
         ensures too_large { IsTooLarge result ↔ (limit < length (performative_text self.now)) }
+        ensures refused { IfErr result (λ e. e ≡ OutOfMemory → SomeRefused) }
     {
         let len = self.encoded_len();
         if len > u128::from(limit) {
             return Err(WriteError::TooLarge);
         }
-        if out.reserve(len as usize).is_err() {
+        let Ok(()) = more_in_buffer(out, len as usize) else {
             return Err(WriteError::OutOfMemory);
-        }
+        };
         self.put(len as usize, out);
         Ok(())
     }

@@ -1,7 +1,9 @@
 -- Readers that read exactly a grammar, and what follows for the functions that answer as they do.
 use Rattle.std.proofs.Common.{◌≡◌, ℕ, Bool, true, false, cond, List, ◌∷◌, ◌++◌, Option, Some, None, refl, ap, subst, ◌∙◌, inl, inr, ◌⊎◌}
-use Rattle.std.specs.Prelude.{Result, Ok, Err, IfOk}
+use Rattle.std.specs.Prelude.{Result, Ok, Err, IfOk, IfErr}
+use Rattle.amqp_memory.specs.Refusal.{SomeRefused}
 use Rattle.amqp_values.specs.declared.error.ReadError.{ReadError}
+use Rattle.amqp_values.specs.declared.error.ReadError.TheVariants.{Malformed, OutOfMemory}
 use Rattle.amqp_values.specs.Reading.{◌>>=◌, Answers, Takes, ReadsFront}
 
 -- ---- steps of a reader
@@ -35,10 +37,17 @@ reads_found : {V : Type 0} (Is : V → List ℕ → Type 0) (at : List ℕ → O
 reads_found Is at law bytes (Ok x) a = law.found bytes x.0 x.1 a
 reads_found Is at law bytes (Err e) a = tt
 
+reads_refused : {V : Type 0} (bytes : List ℕ) (r : Result (V × List ℕ) ReadError) (read : Option (V × List ℕ))
+    → Answers {Y = V × List ℕ} (λ x. x) r read → IfErr r (λ e. e ≡ OutOfMemory → SomeRefused)
+reads_refused bytes (Ok x) read a = tt
+reads_refused bytes (Err Malformed) read a = λ e. absurd cc
+reads_refused bytes (Err OutOfMemory) read a = λ e. a
+
 -- a function that answers what such a reader gives reads exactly the grammar
 pub is_read : {V : Type 0} (Is : V → List ℕ → Type 0) (at : List ℕ → Option (V × List ℕ)) → IsFormat Is at → (bytes : List ℕ) (r : Result (V × List ℕ) ReadError)
     → Answers {Y = V × List ℕ} (λ x. x) r (at bytes) → ReadsFront Is bytes r
 is_read {V} Is at law bytes r a = record {
   found = reads_found Is at law bytes r a;
+  refused = reads_refused bytes r (at bytes) a;
   only = λ v text rest h e. subst (λ (o : Option (V × List ℕ)). Answers {Y = V × List ℕ} (λ x. x) r o) (ap at e ∙ law.again v text rest h) a;
 }

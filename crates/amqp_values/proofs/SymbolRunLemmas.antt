@@ -53,7 +53,7 @@ run_whole total n i long (b ∷ bytes) items le whole so_far = let left = run_le
 pub run_failed : {X Y : Type 0} (v : X → List ℕ) (w : Y → List (List ℕ)) (e : ReadError) (left : List ℕ) (total : Option (List (List ℕ))) (n i : ℕ) (long : Bool) (bytes : List ℕ) (items : List (List ℕ)) → i < n
     → Gives v (Err e) left (item_at long bytes) → total ≡ (run_at (n - i) long bytes >>= λ o. Some (items ++ o)) → Answers w (Err e) total
 run_failed v w Malformed left total n i long bytes items lt g so_far = run_fails total n i long bytes items lt g so_far
-run_failed v w OutOfMemory left total n i long bytes items lt g so_far = tt
+run_failed v w OutOfMemory left total n i long bytes items lt g so_far = g
 
 pub no_bytes : (bytes : List ℕ) (b : Bool) → eqb (length bytes) 0 ≡ b → is_empty bytes ≡ b
 no_bytes [] b e = e

@@ -111,7 +111,7 @@ described_is body code n bytes list left rest p (Ok x) e same l g =
     let found : fields_at body (p, rest) ≡ Some (x, left) = sym (ap (λ r. r >>= fields_at body) l) ∙ g in
     rw (e, eq-eqb n code same, l) (found ∙ ap (λ s. Some (x, s)) (fields_rest body p x rest left found))
 described_is body code n bytes list left rest p (Err Malformed) e same l g = rw (e, eq-eqb n code same) g
-described_is body code n bytes list left rest p (Err OutOfMemory) e same l g = tt
+described_is body code n bytes list left rest p (Err OutOfMemory) e same l g = g
 
 -- ---- a part by its code
 

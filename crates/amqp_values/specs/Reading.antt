@@ -1,8 +1,9 @@
 -- Part: the bytes; other calls.
 -- Reading from left to right: a value and what is left, or nothing where no front of the bytes is in the format.
-use Rattle.std.specs.Prelude.{◌≡◌, ℕ, List, [], ◌∷◌, ◌++◌, length, take, drop, IfOk, Option, Some, None, Result, Ok}
+use Rattle.std.specs.Prelude.{◌≡◌, ℕ, List, [], ◌∷◌, ◌++◌, length, take, drop, IfOk, IfErr, Option, Some, None, Result, Ok}
 use Rattle.std.specs.Prelude.{Err, Bool, true, false, nat_lt, if◌then◌else◌}
 use Rattle.std.specs.Int.{Width, w32, byte_len, from_be_bytes}
+use Rattle.amqp_memory.specs.Refusal.{SomeRefused}
 use Rattle.amqp_values.specs.declared.error.ReadError.{ReadError}
 use Rattle.amqp_values.specs.declared.error.ReadError.TheVariants.{Malformed, OutOfMemory}
 
@@ -11,17 +12,17 @@ abbrev pub ◌>>=◌ : {A B : Type 0} → Option A → (A → Option B) → Opti
 (Some x) >>= f = f x
 None >>= f = None
 
--- what a call answered, and what it left, is what reading gives, unless memory was refused
+-- what a call answered, and what it left, is what reading gives, or `OutOfMemory` where a request for memory was refused
 abbrev pub Gives : {X V S : Type 0} → (X → V) → Result X ReadError → S → Option (V × S) → Type 0
 Gives view (Ok x) left read = read ≡ Some (view x, left)
 Gives view (Err Malformed) left read = read ≡ None
-Gives view (Err OutOfMemory) left read = Unit {0}
+Gives view (Err OutOfMemory) left read = SomeRefused
 
--- what a call answered is this, unless memory was refused
+-- what a call answered is this, or `OutOfMemory` where a request for memory was refused
 abbrev pub Answers : {X Y : Type 0} → (X → Y) → Result X ReadError → Option Y → Type 0
 Answers view (Ok x) read = read ≡ Some (view x)
 Answers view (Err Malformed) read = read ≡ None
-Answers view (Err OutOfMemory) read = Unit {0}
+Answers view (Err OutOfMemory) read = SomeRefused
 
 -- the bytes are a text of this kind, and then the rest
 abbrev pub Takes : (List ℕ → Type 0) → List ℕ → List ℕ → Type 0
@@ -31,6 +32,7 @@ Takes Is bytes rest = (text : List ℕ) × Is text × (bytes ≡ text ++ rest)
 -- refused. So `Malformed` is answered exactly where no front of the bytes stands in the grammar.
 pub record ReadsFront {V : Type 0} (Is : V → List ℕ → Type 0) (bytes : List ℕ) (result : Result (V × List ℕ) ReadError) : Type 0 where
   pub found : IfOk result (λ x. Takes (Is x.0) bytes x.1)
+  pub refused : IfErr result (λ e. e ≡ OutOfMemory → SomeRefused)
   pub only : (v : V) (text rest : List ℕ) → Is v text → bytes ≡ text ++ rest → Answers {Y = V × List ℕ} (λ x. x) result (Some (v, rest))
 
 -- What is read of the bytes is a front of them in the grammar; and a front in the grammar is what is read.

@@ -10,6 +10,7 @@ use crate::codes;
 use crate::cursor::{take_byte, take_region, take_u64};
 use crate::error::ReadError;
 use crate::list_walk::ListWalk;
+use amqp_memory::part_of;
 use bytes::Bytes;
 use std::alloc::Global;
 
@@ -133,7 +134,7 @@ pub fn described<C: Composite>(
     ensures value { Gives (λ x. x) result (drop at.new text.now) (described_at code C.body_at (drop at.old text.now)) }
     ensures bound { at.new ≤ length text.now }
 {
-    let mut rest = bytes.slice(*at..text.len())?;
+    let mut rest = part_of(bytes, *at, text.len())?;
     if descriptor(&mut rest)? != code {
         return Err(ReadError::Malformed);
     }

@@ -1,6 +1,7 @@
 //! Fields: a map of any keys and values, kept as it came (AMQP 1.0 part 2, section 2.8.13, `fields`).
 
-ghost use Rattle.std.specs.Prelude.{◌≡◌};
+ghost use Rattle.std.specs.Prelude.{◌≡◌, IfOk, OnErr};
+ghost use Rattle.amqp_memory.specs.Refusal.{SomeRefused};
 ghost use Rattle.amqp_values.specs.Raw.{IsMap, MakesFields, has_map_code, map_at};
 
 use crate::codes;
@@ -8,7 +9,7 @@ use crate::error::ReadError;
 use crate::field::Field;
 use crate::raw::Raw;
 use bytes::Bytes;
-use std::alloc::Global;
+use std::alloc::{AllocError, Global};
 use std::marker::Model;
 
 /// A raw value that is a map.
@@ -17,7 +18,7 @@ use std::marker::Model;
 /// let (raw, _rest) = Raw::read(bytes)?;
 /// let properties = Fields::new(raw);       // `None` where the value is no map
 /// ```
-#[derive(Clone, Debug, Drop)]
+#[derive(Debug, Drop)]
 pub struct Fields {
     raw: Raw,
 }
@@ -31,6 +32,19 @@ impl Model for Fields {
     ghost view = { λ f. f.raw };
 
     ghost invariant = { λ f. IsMap f.raw };
+}
+
+impl Clone for Fields {
+    ghost is_clone = { λ p q. q ≡ p };
+
+    fn clone(&self) -> Result<Fields, AllocError>
+        ensures value { IfOk result (λ q. q ≡ self.now) }
+        ensures refused { OnErr result SomeRefused }
+    {
+        Ok(Fields {
+            raw: self.raw.clone()?,
+        })
+    }
 }
 
 impl PartialEq for Fields {

@@ -1,6 +1,7 @@
 //! Raw values: one whole value of any type, kept as it came (AMQP 1.0 part 1, section 1.2).
 
-ghost use Rattle.std.specs.Prelude.{◌≡◌, ◌≤◌, Some, None, take, drop, length, IfOk, IfErr};
+ghost use Rattle.std.specs.Prelude.{◌≡◌, ◌≤◌, Some, None, take, drop, length, IfOk, IfErr, OnErr};
+ghost use Rattle.amqp_memory.specs.Refusal.{SomeRefused};
 ghost use Rattle.amqp_values.specs.declared.error.ReadError.TheVariants.{Malformed};
 ghost use Rattle.amqp_values.specs.Reading.{Answers, Gives, ReadsFront};
 ghost use Rattle.amqp_values.specs.Raw.{IsRaw, MakesRaw, SpellsRaw, begins_null, is_raw_text, raw_at};
@@ -11,8 +12,9 @@ use crate::error::ReadError;
 use crate::field::Field;
 use crate::value::ValueRef;
 use crate::walk::{first, value_rest};
+use amqp_memory::{front_of, part_of, shared};
 use bytes::Bytes;
-use std::alloc::Global;
+use std::alloc::{AllocError, Global};
 use std::marker::Model;
 
 /// One whole value of any type but the bare null, of a depth of at most 64, as it was spelled.
@@ -28,7 +30,7 @@ use std::marker::Model;
 /// let is_composite = raw.view().code() == 0;
 /// let outcome = Raw::accepted();           // the outcome `accepted`, for a disposition
 /// ```
-#[derive(Clone, Debug, Drop)]
+#[derive(Debug, Drop)]
 pub struct Raw {
     bytes: Bytes,
 }
@@ -42,6 +44,19 @@ impl Model for Raw {
     ghost view = { λ r. r.bytes };
 
     ghost invariant = { λ r. IsRaw r.bytes };
+}
+
+impl Clone for Raw {
+    ghost is_clone = { λ p q. q ≡ p };
+
+    fn clone(&self) -> Result<Raw, AllocError>
+        ensures value { IfOk result (λ q. q ≡ self.now) }
+        ensures refused { OnErr result SomeRefused }
+    {
+        Ok(Raw {
+            bytes: shared(&self.bytes)?,
+        })
+    }
 }
 
 impl PartialEq for Raw {
@@ -142,7 +157,7 @@ impl Raw {
         ensures { Gives (λ v. v) result bytes.new (raw_at bytes.old) }
     {
         let len = raw_len(bytes.as_slice())?;
-        let bytes = bytes.split_to(len)?;
+        let bytes = front_of(bytes, len)?;
         Ok(Raw { bytes })
     }
 
@@ -187,7 +202,7 @@ impl Field for Raw {
         let from = *place - 1;
         let (_, rest) = text.split_at(from);
         let end = from + raw_len(rest)?;
-        let bytes = bytes.slice(from..end)?;
+        let bytes = part_of(bytes, from, end)?;
         *place = end;
         Ok(Raw { bytes })
     }

@@ -1,6 +1,7 @@
 //! Symbols: texts of ASCII bytes that name things (AMQP 1.0 part 1, section 1.6.21).
 
-ghost use Rattle.std.specs.Prelude.{◌≡◌, ◌<◌, ◌^◌, ℕ, List, IsSome, IfSome, IfOk, ◌↔◌, string_bytes, length, true};
+ghost use Rattle.std.specs.Prelude.{◌≡◌, ◌<◌, ◌^◌, ℕ, List, IsSome, IfSome, IfOk, OnErr, ◌↔◌, string_bytes, length, true};
+ghost use Rattle.amqp_memory.specs.Refusal.{SomeRefused};
 ghost use Rattle.amqp_values.specs.Reading.{Answers};
 ghost use Rattle.amqp_values.specs.Text.{symbol_at, is_ascii, IsSymbolText};
 ghost use Rattle.amqp_values.specs.Symbols.{symbol_of};
@@ -9,8 +10,9 @@ use crate::codes;
 use crate::error::ReadError;
 use crate::field::Field;
 use crate::text::variable;
+use amqp_memory::{text_again, text_of};
 use bytes::Bytes;
-use std::alloc::Global;
+use std::alloc::{AllocError, Global};
 use std::marker::Model;
 
 /// A text of bytes up to 7f, at most 4294967295 of them, which is what a symbol can spell.
@@ -19,7 +21,7 @@ use std::marker::Model;
 /// let text = String::from_str(alloc, "amqp:not-found")?;
 /// let condition = Symbol::new(text);       // `None` where a byte is above 7f
 /// ```
-#[derive(Clone, Debug, Drop)]
+#[derive(Debug, Drop)]
 pub struct Symbol(String);
 
 impl Model for Symbol {
@@ -31,6 +33,17 @@ impl Model for Symbol {
     ghost view = { λ s. string_bytes s.0 };
 
     ghost invariant = { λ s. IsSymbolText (string_bytes s.0) };
+}
+
+impl Clone for Symbol {
+    ghost is_clone = { λ p q. q ≡ p };
+
+    fn clone(&self) -> Result<Symbol, AllocError>
+        ensures value { IfOk result (λ q. q ≡ self.now) }
+        ensures refused { OnErr result SomeRefused }
+    {
+        Ok(Symbol(text_again(&self.0)?))
+    }
 }
 
 pub(crate) fn all_ascii(bytes: &[u8]) -> bool
@@ -62,7 +75,7 @@ impl Symbol {
             return Err(ReadError::Malformed);
         }
         let text = str::from_utf8(bytes).unwrap();
-        Ok(Symbol(String::from_str(alloc, text)?))
+        Ok(Symbol(text_of(alloc, text)?))
     }
 
     /// The text.

@@ -13,6 +13,7 @@ use crate::error::ReadError;
 use crate::field::Field;
 use crate::symbol::{Symbol, all_ascii};
 use crate::walk::{count, region};
+use amqp_memory::vector_with;
 use bytes::Bytes;
 use std::alloc::Global;
 
@@ -60,7 +61,7 @@ fn fill(alloc: Global, count: u32, long: bool, bytes: &[u8]) -> Result<Vec<Symbo
     ensures value { Answers (λ v. v.items) result (run_at count long bytes.now) }
     ensures exact { IfOk result (λ v. vec_capacity v ≡ vec_len v) }
 {
-    let mut items = Vec::with_capacity(alloc, count as usize)?;
+    let mut items = vector_with(alloc, count as usize)?;
     let mut at = 0;
     for _ in 0..count {
         let symbol = match item(alloc, long, bytes, &mut at) {
@@ -119,7 +120,7 @@ fn alone(alloc: Global, long: bool, text: &[u8], at: &mut usize) -> Result<Vec<S
     ensures exact { IfOk result (λ v. vec_capacity v ≡ vec_len v) }
 {
     let symbol = item(alloc, long, text, at)?;
-    let mut items = Vec::with_capacity(alloc, 1)?;
+    let mut items = vector_with(alloc, 1)?;
     items.push_reserved(symbol);
     Ok(items)
 }

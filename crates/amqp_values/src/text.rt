@@ -9,6 +9,7 @@ use crate::codes;
 use crate::cursor::take_region;
 use crate::error::ReadError;
 use crate::field::Field;
+use amqp_memory::{part_of, text_of};
 use bytes::Bytes;
 use std::alloc::Global;
 
@@ -55,7 +56,7 @@ impl Field for Bytes {
         bytes: &Bytes,
     ) -> Result<Bytes, ReadError> {
         let from = variable(code, text, place, codes::BINARY8, codes::BINARY32)?;
-        Ok(bytes.slice(from..*place)?)
+        Ok(part_of(bytes, from, *place)?)
     }
 }
 
@@ -80,7 +81,7 @@ impl Field for String {
     ) -> Result<String, ReadError> {
         let from = variable(code, text, place, codes::STRING8, codes::STRING32)?;
         match str::from_utf8(&text[from..*place]) {
-            Ok(string) => Ok(String::from_str(alloc, string)?),
+            Ok(string) => Ok(text_of(alloc, string)?),
             Err(_) => Err(ReadError::Malformed),
         }
     }

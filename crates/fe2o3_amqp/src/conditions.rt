@@ -1,8 +1,10 @@
 //! Error conditions: what a Detach, an End or a Close says went wrong (AMQP 1.0 part 2, sections 2.8.15 to 2.8.18).
 
-ghost use Rattle.std.specs.Prelude.{◌≡◌, IfOk};
+ghost use Rattle.std.specs.Prelude.{◌≡◌, IfOk, OnErr};
+ghost use Rattle.amqp_memory.specs.Refusal.{SomeRefused};
 ghost use Rattle.fe2o3_amqp.specs.Conditions.{condition_text, error_of};
 
+use amqp_memory::text_of;
 use amqp_types::{Error, Symbol};
 use std::alloc::{AllocError, Global};
 
@@ -106,9 +108,10 @@ impl ErrorCondition {
     /// The error of this condition, without description and `info`, as `Input::End` and `Input::Close` take it. `AllocError` where
     /// memory for the condition's text is refused.
     pub fn to_error(self, alloc: Global) -> Result<Error, AllocError>
-        ensures { IfOk result (λ e. e ≡ error_of self) }
+        ensures error { IfOk result (λ e. e ≡ error_of self) }
+        ensures refused { OnErr result SomeRefused }
     {
-        let text = String::from_str(alloc, self.as_str())?;
+        let text = text_of(alloc, self.as_str())?;
         Ok(Error {
             condition: Symbol::new(text).unwrap(),
             description: None,

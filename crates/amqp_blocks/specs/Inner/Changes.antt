@@ -1,10 +1,15 @@
 -- Part: inner.
 -- Changes of one block.
-use Rattle.std.specs.Prelude.{ℕ, zero, suc, ◌<◌, ◌≤◌, ◌≡◌, ◌+◌, ◌-◌, ◌⊎◌, map, List, [], ◌∷◌, ◌++◌, length, take, drop, slice_index_or, slice_set}
+use Rattle.std.specs.Prelude.{ℕ, zero, suc, ◌<◌, ◌≤◌, ◌≡◌, ◌+◌, ◌-◌, ◌⊎◌, map, List, [], ◌∷◌, ◌++◌, length, take, drop, slice_index_or, slice_set, min}
 use Rattle.std.specs.List.{remove, insert}
 use Rattle.amqp_blocks.specs.Chunked.{Block, items_of, ends_from, EachSome, places_of}
 
 module _ {T : Type 0} where
+  -- how many places of these rings are free
+  abbrev pub free_of : List (Block T) → ℕ
+  free_of [] = 0
+  free_of (b ∷ bs) = (min b.cap 256 - length b.items) + free_of bs
+
   -- one block has lost items
   pub record IsThinned (old : List (Block T)) (i at count : ℕ) (new : List (Block T)) : Type 0 where
     pub from : Block T

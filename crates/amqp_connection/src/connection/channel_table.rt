@@ -5,6 +5,7 @@ ghost use Rattle.std.specs.Ordering.{nat_cmp};
 ghost use Rattle.std.specs.FinMap as map;
 ghost use Rattle.amqp_connection.specs.Channels.{AllotStep};
 
+use amqp_memory::{more_in_heap, more_in_map};
 use amqp_session::OutgoingChannel;
 use indexmap::IndexMap;
 use std::alloc::Global;
@@ -78,9 +79,9 @@ impl ChannelTable {
                 if channel > max {
                     return Err(AllotError::Full);
                 }
-                if self.held.reserve(1).is_err() {
+                let Ok(()) = more_in_map(&mut self.held, 1) else {
                     return Err(AllotError::OutOfMemory);
-                }
+                };
                 self.free.pop().unwrap();
                 self.held.insert(channel, number).unwrap();
                 Ok(OutgoingChannel(channel))
@@ -89,13 +90,13 @@ impl ChannelTable {
                 if self.next > u32::from(max) {
                     return Err(AllotError::Full);
                 }
-                if self.held.reserve(1).is_err() {
+                let Ok(()) = more_in_map(&mut self.held, 1) else {
                     return Err(AllotError::OutOfMemory);
-                }
+                };
                 // Then no memory is needed when it is given back.
-                if self.free.reserve(self.next as usize + 1).is_err() {
+                let Ok(()) = more_in_heap(&mut self.free, self.next as usize + 1) else {
                     return Err(AllotError::OutOfMemory);
-                }
+                };
                 let channel = self.next as u16;
                 self.held.insert(channel, number).unwrap();
                 self.next += 1;

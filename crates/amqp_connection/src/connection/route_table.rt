@@ -1,10 +1,12 @@
 //! RouteTable: where frames on a channel of the peer's go.
 
-ghost use Rattle.std.specs.Prelude.{◌≡◌, OnOk, OnErr};
+ghost use Rattle.std.specs.Prelude.{◌≡◌, Some, OnOk, OnErr};
 ghost use Rattle.std.specs.FinMap as map;
+ghost use Rattle.amqp_memory.specs.Refusal.{SomeRefused};
 ghost use Rattle.amqp_connection.specs.RouteCounts.{IsLedTo};
 
 use super::route_counts;
+use amqp_memory::{more_in_map, put_full_in_map};
 use amqp_session::IncomingChannel;
 use amqp_session::keys::{self, Hints, KeyHash, Numbered};
 use indexmap::IndexMap;
@@ -71,14 +73,16 @@ impl RouteTable {
     pub(crate) fn put(&mut self, channel: IncomingChannel, number: u32) -> Result<(), AllocError>
         ensures ok { OnOk result (self.new ≡ map.insert self.old channel.0 number) }
         ensures err { OnErr result (self.new ≡ self.old) }
+        ensures elsewhere { OnErr result (¬ (map.get self.old channel.0 ≡ Some number)) }
+        ensures refused { OnErr result SomeRefused }
     {
         if self.of(channel) == Some(number) {
             return Ok(());
         }
         // Then no count needs memory once the route is put.
-        self.counts.reserve(1)?;
+        more_in_map(&mut self.counts, 1)?;
         let key = u32::from(channel.0);
-        let (index, before) = self.routes.insert_full(key, number)?;
+        let (index, before) = put_full_in_map(&mut self.routes, key, number)?;
         self.hints.note(key, index);
         route_counts::raise(&mut self.counts, &mut self.count_hints, number);
         route_counts::lower(&mut self.counts, &mut self.count_hints, before);

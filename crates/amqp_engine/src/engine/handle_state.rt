@@ -3,6 +3,7 @@
 
 ghost use Rattle.std.specs.Prelude.{◌≡◌, ◌<◌, OnOk, OnErr, IfOk, IsSome, None, true, is_some};
 ghost use Rattle.std.specs.Option.{option_map};
+ghost use Rattle.amqp_memory.specs.Refusal.{SomeRefused};
 ghost use Rattle.amqp_engine.specs.declared.engine.step_error.StepError.TheVariants as no;
 ghost use Rattle.amqp_connection.specs.Connection.{refusal_of};
 ghost use Rattle.std.specs.FinMap as map;
@@ -15,6 +16,7 @@ ghost use Rattle.indexmap.specs.IndexMap.{index_map_len};
 use super::step_error::StepError;
 use super::wish::Wish;
 use amqp_connection::{ConnectionStateError, SessionNo};
+use amqp_memory::{more_in_heap_for, more_in_map};
 use amqp_session::SessionStateError;
 use amqp_types::Error;
 use indexmap::IndexMap;
@@ -32,7 +34,8 @@ pub(crate) type EndOutcome = Result<(), SessionStateError>;
 /// A copy of the error of a Close or an End.
 pub(crate) fn copy_of(error: &Option<Error>) -> Result<Option<Error>, AllocError>
     ensures same { IfOk result (λ e. e ≡ error.now) }
-    ensures refused { OnErr result (IsSome error.now) }
+    ensures named { OnErr result (IsSome error.now) }
+    ensures refused { OnErr result SomeRefused }
 {
     match error {
         None => Ok(None),
@@ -191,9 +194,10 @@ impl HandleState {
     pub(crate) fn reserve(&mut self) -> Result<(), AllocError>
         ensures same { SameKept self.old self.new }
         ensures ok { OnOk result (0 < self.new.room) }
+        ensures refused { OnErr result SomeRefused }
     {
-        self.places.reserve(1)?;
-        self.queue.reserve(self.places.len() + 1)
+        more_in_map(&mut self.places, 1)?;
+        more_in_heap_for(&mut self.queue, &self.places, self.places.len() + 1)
     }
 
     /// Gives the session a place.

@@ -28,6 +28,6 @@ impl<R: LinkRelay> Engine<R> {
     pub fn payload_room(&self, transfer: &Transfer) -> Option<u32>
         ensures { result ≡ room_beside (widest transfer.now) self.now.limit }
     {
-        self.encoder.widest_payload_room(transfer)
+        self.encoder.payload_room(transfer)
     }
 }

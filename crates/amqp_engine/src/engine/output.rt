@@ -1,6 +1,7 @@
 //! Output: waiting frames become pieces.
 
 ghost use Rattle.std.specs.Prelude.{◌≡◌, ◌++◌, ◌<◌, [], List, true, OnOk, OnErr, vec_len, vec_capacity};
+ghost use Rattle.amqp_memory.specs.Refusal.{SomeRefused};
 ghost use Rattle.amqp_engine.specs.declared.engine.answer.Answer.{Answer};
 ghost use Rattle.amqp_engine.specs.History.{OnlyLeft};
 ghost use Rattle.amqp_engine.specs.Waits.{has_frames};
@@ -11,6 +12,7 @@ ghost use Rattle.amqp_engine.specs.Inner.Putting.{EncodesFirst, FirstUnfit, Puts
 use super::Engine;
 use super::answer::{Answer, OutputError};
 use amqp_frames::{Error, Piece};
+use amqp_memory::more_in_vector;
 use amqp_session::LinkRelay;
 use std::alloc::AllocError;
 
@@ -62,8 +64,9 @@ impl<R: LinkRelay> Engine<R> {
         ensures ok { OnOk result (PutsFirst self.old answers.old.items self.new answers.new.items) }
         ensures err { OnErr result (self.new ≡ self.old) }
         ensures err_answers { OnErr result (answers.new.items ≡ answers.old.items) }
+        ensures refused { OnErr result SomeRefused }
     {
-        answers.reserve(1)?;
+        more_in_vector(answers, 1)?;
         match self.encode_first() {
             Ok(out) => {
                 self.waiting.discard();
@@ -98,6 +101,7 @@ impl<R: LinkRelay> Engine<R> {
         ensures taken { OnlyLeft self.old self.new }
         ensures ok { OnOk result (self.new.waiting ≡ []) }
         ensures err { OnErr result (¬ (self.new.waiting ≡ [])) }
+        ensures refused { OnErr result SomeRefused }
     {
         while self.waiting.has_frames() {
             let Ok(()) = self.put_first(answers) else {

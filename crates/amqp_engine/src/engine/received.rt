@@ -10,6 +10,7 @@ ghost use Rattle.amqp_engine.specs.Engine.{ReceivedStep, FieldsStep, FieldsKept,
 ghost use Rattle.amqp_engine.specs.ByHistory.{remote_reason};
 
 use super::handle_state::{close_answer, copy_of, end_answer};
+use super::peer_encoder::PeerEncoder;
 use super::sessions::{
     attach_received, begin_received, detach_received, disposition_received, end_received,
     flow_received,
@@ -17,7 +18,6 @@ use super::sessions::{
 use super::step_error::StepError;
 use super::{Engine, refused};
 use amqp_connection::{Connection, ConnectionInnerError, ConnectionStateError};
-use amqp_frames::FrameEncoder;
 use amqp_session::{ConnectionStopReason, IncomingChannel, LinkRelay, keys};
 use amqp_types::{
     Attach, Begin, Close, ConnectionState, Detach, Disposition, End, Error, Flow, Kind, Open,
@@ -296,7 +296,7 @@ impl<R: LinkRelay> Engine<R> {
         let open = Open::read_list(self.alloc, &mut rest)?;
         let limit = limit_of(&open);
         self.connection.on_incoming_open(channel, open)?;
-        self.encoder = FrameEncoder::new(limit);
+        self.encoder = PeerEncoder::new(limit);
         Ok(())
     }
 

@@ -20,6 +20,7 @@ use super::sessions::{
 use super::step_error::StepError;
 use super::{Engine, refused};
 use amqp_connection::{ConnectionInnerError, SessionNo};
+use amqp_memory::more_in_map;
 use amqp_session::keys::KeyHash;
 use amqp_session::{
     ConnectionStopReason, InputHandle, LinkFlow, LinkRelay, OutgoingChannel, Session, SessionFrame,
@@ -346,7 +347,7 @@ impl<R: LinkRelay> Engine<R> {
             drop(settings);
             return Err(StepError::SessionInUse);
         }
-        let Ok(()) = self.sessions.reserve(1) else {
+        let Ok(()) = more_in_map(&mut self.sessions, 1) else {
             drop(settings);
             return Err(StepError::OutOfMemory);
         };

@@ -14,6 +14,7 @@ use super::answer::{Answer, Stopped};
 use super::input::Input;
 use super::step_error::StepError;
 use crate::laws::{law_of_histories, law_of_views};
+use amqp_memory::more_in_vector;
 use amqp_session::LinkRelay;
 use std::collections::VecDeque;
 
@@ -63,7 +64,7 @@ impl<R: LinkRelay> Engine<R> {
         };
         while !inputs.is_empty() {
             // The place of the answer comes first: what is taken is answered.
-            let Ok(()) = answers.reserve(1) else {
+            let Ok(()) = more_in_vector(answers, 1) else {
                 return Err(Stopped {
                     done: total - inputs.len(),
                 });

@@ -1,8 +1,10 @@
 //! Runs whose output goes to one buffer: what is to be sent is appended there, and what was refused to a list.
 
-ghost use Rattle.std.specs.Prelude.{◌≡◌, ◌++◌, ◌<◌, [], List, Option, true, OnOk, OnErr, length, vec_len, vec_capacity};
+ghost use Rattle.std.specs.Prelude.{◌≡◌, ◌++◌, ◌<◌, [], List, Option, true, IfErr, OnOk, OnErr, length, vec_len, vec_capacity};
+ghost use Rattle.amqp_memory.specs.Refusal.{SomeRefused};
 ghost use Rattle.amqp_connection.specs.Connection.{refusal_of};
 ghost use Rattle.amqp_frames.specs.Wire.{EncodesTo};
+ghost use Rattle.amqp_frames.specs.declared.error.Error.TheVariants as no;
 ghost use Rattle.amqp_frames.specs.declared.frame.Frame.{Frame};
 ghost use Rattle.amqp_engine.specs.declared.engine.answer.Answer.{Answer};
 ghost use Rattle.amqp_engine.specs.declared.engine.step_error.StepError.{StepError};
@@ -21,6 +23,7 @@ use super::refusal::Refusal;
 use super::step_error::StepError;
 use crate::laws::{law_of_histories, law_of_views};
 use amqp_frames::{Error, SendBuffer};
+use amqp_memory::more_in_vector;
 use amqp_session::LinkRelay;
 use std::alloc::AllocError;
 use std::collections::VecDeque;
@@ -62,7 +65,7 @@ impl<R: LinkRelay> Engine<R> {
         };
         while !inputs.is_empty() {
             // The room for a refusal comes first: whatever is taken can be answered.
-            let Ok(()) = refusals.reserve(1) else {
+            let Ok(()) = more_in_vector(refusals, 1) else {
                 return Err(Stopped {
                     done: total - inputs.len(),
                 });
@@ -113,6 +116,7 @@ impl<R: LinkRelay> Engine<R> {
         ensures taken { OnlyLeft self.old self.new }
         ensures ok { OnOk result (self.new.waiting ≡ []) }
         ensures err { OnErr result (¬ (self.new.waiting ≡ [])) }
+        ensures refused { OnErr result SomeRefused }
     {
         while self.waiting.has_frames() {
             let Ok(()) = self.send_first(place, out, refusals) else {
@@ -135,8 +139,9 @@ impl<R: LinkRelay> Engine<R> {
         ensures err { OnErr result (self.new ≡ self.old) }
         ensures err_out { OnErr result (out.new ≡ out.old) }
         ensures err_refusals { OnErr result (refusals.new.items ≡ refusals.old.items) }
+        ensures refused { OnErr result SomeRefused }
     {
-        refusals.reserve(1)?;
+        more_in_vector(refusals, 1)?;
         match self.encode_first_to(out) {
             Ok(()) => {
                 self.waiting.discard();
@@ -154,7 +159,8 @@ impl<R: LinkRelay> Engine<R> {
     #[inline(always)]
     fn encode_first_to(&self, out: &mut SendBuffer) -> Result<(), Error>
         requires { has_frames self.now.waiting ≡ true }
-        ensures { (f : Frame) × FirstIs f self.now.waiting × EncodesTo f self.now.limit out.old result out.new }
+        ensures sent { (f : Frame) × FirstIs f self.now.waiting × EncodesTo f self.now.limit out.old result out.new }
+        ensures refused { IfErr result (λ e. e ≡ no.OutOfMemory → SomeRefused) }
     {
         let frame = self.waiting.first().unwrap();
         self.encoder.encode_to(self.alloc, frame, out)

@@ -2,6 +2,7 @@
 
 ghost use Rattle.std.specs.Prelude.{◌≡◌, ◌<◌, [], OnOk, OnErr};
 ghost use Rattle.std.specs.Vec.{vec_len, vec_capacity};
+ghost use Rattle.amqp_memory.specs.Refusal.{SomeRefused};
 ghost use Rattle.amqp_engine.specs.Promise.{Ends, NoneLeft};
 ghost use Rattle.amqp_engine.specs.HandledRun.{NoWishes, HandledRan};
 ghost use Rattle.amqp_engine.specs.Inner.Flushing.{IsWish, Asked, Flushing};
@@ -9,6 +10,7 @@ ghost use Rattle.amqp_engine.specs.Inner.Flushing.{IsWish, Asked, Flushing};
 use super::HandledEngine;
 use crate::engine::{Answer, Input, Stopped};
 use crate::laws::{law_of_histories, law_of_views};
+use amqp_memory::more_in_vector;
 use amqp_session::LinkRelay;
 use std::alloc::AllocError;
 use std::collections::VecDeque;
@@ -43,16 +45,17 @@ impl<R: LinkRelay> HandledEngine<R> {
         ensures ok { OnOk result (NoWishes self.new.wishes) }
         ensures idle { OnOk result (self.new.waiting ≡ []) }
         ensures stopped { OnErr result (¬ ((self.new.waiting ≡ []) × NoWishes self.new.wishes)) }
+        ensures refused { OnErr result SomeRefused }
     {
         self.engine.put_out(answers)?;
         while self.engine.has_noted_end() {
             // The place of the answer comes first: what is accepted is answered.
-            answers.reserve(1)?;
+            more_in_vector(answers, 1)?;
             let (number, wish) = self.engine.take_noted_end().unwrap();
             self.ask(Input::End(number, wish.into_error()), answers)?;
         }
         if self.engine.has_noted_close() {
-            answers.reserve(1)?;
+            more_in_vector(answers, 1)?;
             let wish = self.engine.take_noted_close().unwrap();
             self.ask(Input::Close(wish.into_error()), answers)?;
         }
@@ -67,6 +70,7 @@ impl<R: LinkRelay> HandledEngine<R> {
         ensures asked { Asked R.gives self.old wish answers.old.items self.new answers.new.items }
         ensures ok { OnOk result (self.new.waiting ≡ []) }
         ensures err { OnErr result (¬ (self.new.waiting ≡ [])) }
+        ensures refused { OnErr result SomeRefused }
     {
         match self.engine.step(wish) {
             Ok(()) => {

@@ -14,12 +14,12 @@ pub record IsHeader (bytes : List ℕ) (n : ℕ) : Type 0 where
   pub channel_is : n ≡ from_be_bytes w16 channel
   pub whole : bytes ≡ 0x02 ∷ 0x00 ∷ channel ++ drop 4 bytes
 
--- no body and no kind, or the descriptor of a kind and what is after it
+-- no body and no kind, or the descriptor of a kind and what is after it; reading them asks for no memory
 abbrev pub Names : List ℕ → List ℕ → Result (Option Kind) Error → Type 0
 Names bytes left (Ok None) = (bytes ≡ []) × (left ≡ [])
 Names bytes left (Ok (Some k)) = ¬ (bytes ≡ []) × (kind_at bytes ≡ Some (k, left))
 Names bytes left (Err no.DecodeError) = ¬ (bytes ≡ []) × (kind_at bytes ≡ None)
-Names bytes left (Err no.OutOfMemory) = ¬ (bytes ≡ [])
+Names bytes left (Err no.OutOfMemory) = ⊥
 Names bytes left (Err no.NotImplemented) = ⊥
 Names bytes left (Err no.TooLarge) = ⊥
 Names bytes left (Err (no.Io text)) = ⊥

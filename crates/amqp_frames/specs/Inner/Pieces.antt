@@ -1,6 +1,7 @@
 -- Part: inner.
 -- What the steps of cutting make.
 use Rattle.std.specs.Prelude.{◌≡◌, ◌≤◌, ◌+◌, ℕ, List, [], ◌∷◌, ◌++◌, length, map, All, Result, Ok, Err}
+use Rattle.amqp_memory.specs.Refusal.{SomeRefused}
 use Rattle.amqp_values.specs.Reading.{joined}
 use Rattle.amqp_types.specs.Transfer.{TransferModel}
 use Rattle.amqp_frames.specs.declared.error.Error.{Error}
@@ -38,7 +39,7 @@ pub record InPieces (channel : ℕ) (t : TransferModel) (payload : List ℕ) (fr
 abbrev pub CutsTo : {X : Type 0} → (X → List PieceParts) → ℕ → TransferModel → List ℕ → ℕ → Result X Error → Type 0
 CutsTo view channel t payload m (Ok x) = LeavesRoom t m × IsCut channel t payload m (view x) × AreDecoded channel t payload (view x)
 CutsTo view channel t payload m (Err no.TooLarge) = ¬ LeavesRoom t m
-CutsTo view channel t payload m (Err no.OutOfMemory) = LeavesRoom t m
+CutsTo view channel t payload m (Err no.OutOfMemory) = LeavesRoom t m × SomeRefused
 CutsTo view channel t payload m (Err no.DecodeError) = ⊥
 CutsTo view channel t payload m (Err no.NotImplemented) = ⊥
 CutsTo view channel t payload m (Err (no.Io text)) = ⊥

@@ -1,4 +1,5 @@
-//! The search of a table of open deliveries. It reads numbers by the calls that count, and by no other.
+//! The search of a table of open deliveries. It reads numbers by the calls that count, but for those of both ends, which tell how many are
+//! missing.
 
 ghost use Rattle.std.specs.Prelude.{◌≡◌, ℕ, ◌+◌, ◌-◌, ◌*◌, ◌^◌, ◌<◌, ◌≤◌, length};
 ghost use Rattle.amqp_session.specs.Deliveries.{compared, number_at, IsMissing};

@@ -1,7 +1,8 @@
 //! The table of open deliveries, which counts each read of it. Search and walk stand outside this module.
 
-ghost use Rattle.std.specs.Prelude.{◌≡◌, ℕ, ◌+◌, ◌-◌, ◌*◌, ◌%◌, ◌^◌, ◌<◌, ◌≤◌, [], length, slice_get, slice_set, Some, OnOk, IsTrue, false};
+ghost use Rattle.std.specs.Prelude.{◌≡◌, ℕ, ◌+◌, ◌-◌, ◌*◌, ◌%◌, ◌^◌, ◌<◌, ◌≤◌, [], length, slice_get, slice_set, Some, OnOk, OnErr, IsTrue, false};
 ghost use Rattle.std.specs.Borrow.{sem};
+ghost use Rattle.amqp_memory.specs.Refusal.{SomeRefused};
 ghost use Rattle.amqp_session.specs.Deliveries.{IsRising, IsTable, IsMissing, compared, cut, nothing_counted, number_at, recorded};
 
 mod ranges;
@@ -15,7 +16,9 @@ use std::marker::Model;
 /// The open deliveries of one role, by rising number.
 ///
 /// Another module reads a record by [`Deliveries::delivery`] and a number by [`Deliveries::number`] or
-/// [`Deliveries::first_number`], and by no other call; each counts the read, and no call sets the count back. A record that comes at the end costs constant time.
+/// [`Deliveries::first_number`], and by no other call; each counts the read, and no call sets the count back. The numbers of the
+/// first and of the last record are also read without being counted: [`Deliveries::missing`] takes the one from the other. A record
+/// that comes at the end costs constant time.
 #[derive(Drop)]
 pub(crate) struct Deliveries {
     rows: Blocks<Delivery>,
@@ -39,7 +42,7 @@ impl Model for Deliveries {
     ghost invariant = { λ t. IsTable t.rows.items };
 }
 
-/// How many numbers are missing between the first and the last of a table.
+/// How many numbers are missing between the first and the last of a table. Both ends are read, and no count tells.
 #[inline(always)]
 fn missing(rows: &Blocks<Delivery>) -> usize
     requires table { IsTable rows.now.items }
@@ -196,7 +199,7 @@ impl Deliveries {
         self.rows.len()
     }
 
-    /// How many numbers are missing between the first and the last.
+    /// How many numbers are missing between the first and the last, both of which are read without being counted.
     #[inline(always)]
     pub(crate) fn missing(&self) -> usize
         ensures { IsMissing result self.now.rows }
@@ -256,6 +259,8 @@ impl Deliveries {
     pub(crate) fn reserve(&mut self, additional: usize) -> Result<(), AllocError>
         ensures room { OnOk result (length self.new.rows + additional ≤ self.new.capacity) }
         ensures rows { self.new ≡ record self.old { capacity = self.new.capacity } }
+        ensures wanted { OnErr result (0 < additional) }
+        ensures refused { additional ≤ 2 ^ 33 → OnErr result SomeRefused }
     {
         self.rows.reserve(additional)
     }

@@ -1,7 +1,9 @@
 //! Memory of a session's own for the tags of open deliveries: what they came in need not be kept for them.
 
-ghost use Rattle.std.specs.Prelude.{◌≡◌, ◌≤◌, [], length, IfOk, OnOk};
+ghost use Rattle.std.specs.Prelude.{◌≡◌, ◌≤◌, [], length, IfOk, OnOk, OnErr};
+ghost use Rattle.amqp_memory.specs.Refusal.{SomeRefused};
 
+use amqp_memory::{buffer_with, copy_of, frozen_front};
 use amqp_types::DeliveryTag;
 use bytes::{Bytes, BytesMut};
 use std::alloc::{AllocError, Global};
@@ -47,14 +49,15 @@ impl Tags {
 
     /// These bytes, in a block or, where they are too many for one, in a buffer of their own.
     fn copied(&mut self, bytes: &[u8]) -> Result<Bytes, AllocError>
-        ensures { IfOk result (λ b. b ≡ bytes.now) }
+        ensures copy { IfOk result (λ b. b ≡ bytes.now) }
+        ensures refused { OnErr result SomeRefused }
     {
         if bytes.len() > LONGEST {
-            return Bytes::copy_from_slice(self.alloc, bytes);
+            return copy_of(self.alloc, bytes);
         }
         self.make_room(bytes.len())?;
         self.room.extend_reserved(bytes);
-        self.room.freeze_to(bytes.len())
+        frozen_front(&mut self.room, bytes.len())
     }
 
     /// Room for so many bytes: in the latest block, where they fit or none of its tags is left, and else in another.
@@ -62,10 +65,11 @@ impl Tags {
         requires short { len ≤ 32 }
         ensures empty { OnOk result (self.new.room.items ≡ []) }
         ensures room { OnOk result (len ≤ self.new.room.spare) }
+        ensures refused { OnErr result SomeRefused }
     {
         self.room.clear();
         if !self.room.try_reclaim(len) {
-            self.room = BytesMut::with_capacity(self.alloc, BLOCK)?;
+            self.room = buffer_with(self.alloc, BLOCK)?;
         }
         Ok(())
     }

@@ -4,7 +4,7 @@ ghost use Rattle.std.specs.Prelude.{◌≡◌, IsSome, is_some, Some, None, stri
 ghost use Rattle.std.specs.FinMap as map;
 ghost use Rattle.slab.specs.Slab.{HasRoomFor};
 ghost use Rattle.amqp_session.specs.Links.{handles_of};
-ghost use Rattle.amqp_session.specs.Linking.{live_name, is_awaited};
+ghost use Rattle.amqp_session.specs.Linking.{live_name, is_awaited, IsNext};
 
 use slab::Slab;
 
@@ -15,6 +15,15 @@ pub enum HandleSlot {
     Live(String),
     /// Its last link is gone, and the peer's answer to the detach is awaited.
     Awaited,
+}
+
+/// The handle that is given out next.
+#[tactic(auto, unfolding(crate::specs::Linking::WasTold))]
+pub(super) fn next(handles: &Slab<HandleSlot>) -> usize
+    ensures value { result ≡ handles.now.vacant_key }
+    ensures told { IsNext (handles_of handles.now) result }
+{
+    handles.vacant_key()
 }
 
 /// Whether a live link has the handle.

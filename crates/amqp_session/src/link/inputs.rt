@@ -1,7 +1,11 @@
 //! The relays that are attached, by input handle.
 
-ghost use Rattle.std.specs.Prelude.{◌≡◌, Some, IsSome, nat_eq, slice_get};
+ghost use Rattle.std.specs.Prelude.{◌≡◌, ◌<◌, Some, None, IsSome, OnOk, OnErr, nat_eq, slice_get};
+ghost use Rattle.std.specs.FinMap.{get};
 ghost use Rattle.std.specs.Map.{lookup, set_value};
+ghost use Rattle.indexmap.specs.IndexMap.{spare};
+ghost use Rattle.amqp_memory.specs.Refusal.{SomeRefused};
+ghost use Rattle.amqp_session.specs.Links.{inputs_of};
 ghost use Rattle.amqp_session.specs.Relay.{of_flow, of_transfer, of_disposition, Asked};
 ghost use Rattle.amqp_session.specs.Disposing.{question_of};
 ghost use Rattle.amqp_session.specs.declared.link.AttachedLink.{AttachedLink};
@@ -10,11 +14,30 @@ use super::AttachedLink;
 use crate::deliveries::Delivery;
 use crate::error::LinkRelayError;
 use crate::flow::LinkFlow;
-use crate::keys::Numbered;
+use crate::keys::{self, Hints, Numbered};
 use crate::numbers::InputHandle;
 use crate::relay::LinkRelay;
+use amqp_memory::more_in_map;
 use amqp_types::{DeliveryNumber, DeliveryTag, Disposition, Transfer};
 use bytes::Bytes;
+use std::alloc::AllocError;
+
+/// Makes a place for a handle under which nothing stands.
+pub(super) fn make_place<R: Drop>(
+    inputs: &mut Numbered<AttachedLink<R>>,
+    hints: &Hints,
+    input: InputHandle,
+) -> Result<(), AllocError>
+    ensures entries { inputs.new.entries ≡ inputs.old.entries }
+    ensures room { OnOk result (get (inputs_of inputs.new.entries) input.0 ≡ None → 0 < spare inputs.new) }
+    ensures free { OnErr result (get (inputs_of inputs.old.entries) input.0 ≡ None) }
+    ensures refused { OnErr result SomeRefused }
+{
+    if keys::get(inputs, hints, input.0).is_some() {
+        return Ok(());
+    }
+    more_in_map(inputs, 1)
+}
 
 /// Asks the relay under a handle about a flow.
 pub(super) fn ask_flow<R: LinkRelay>(

@@ -3,16 +3,17 @@
 ghost use Rattle.std.specs.Prelude.{◌≡◌, ◌<◌, ◌^◌, Option, Some, None, IfOk, IfErr, OnOk, OnErr, if◌then◌else◌, is_some, option_map, string_bytes};
 ghost use Rattle.std.specs.FinMap as map;
 ghost use Rattle.amqp_session.specs.Links.{put_at, attached_at};
-ghost use Rattle.amqp_session.specs.Linking.{named_at, link_at, name_at, output_at, linked, IsFull, Releases, Leaves, Attaches, Detaches, awaits};
+ghost use Rattle.amqp_session.specs.Linking.{named_at, link_at, name_at, output_at, linked, IsFull, IsNext, Releases, Leaves, Attaches, Detaches, awaits};
 ghost use Rattle.amqp_session.specs.Relay.{AttachQuestion, DetachQuestion};
 
 use super::handles::{self, HandleSlot};
 use super::leaving::Leaving;
-use super::{AttachedLink, Links, LiveLink, names};
+use super::{AttachedLink, Links, LiveLink, inputs, names};
 use crate::error::{AllocLinkError, SessionInnerError};
 use crate::keys;
 use crate::numbers::{InputHandle, OutputHandle};
 use crate::relay::LinkRelay;
+use amqp_memory::{more_in_map, more_in_slab, text_again};
 use amqp_types::{Attach, Detach};
 
 impl<R: LinkRelay> Links<R> {
@@ -55,21 +56,22 @@ impl<R: LinkRelay> Links<R> {
         ensures free { IfOk result.answer (λ h. map.get self.old.handles h.0 ≡ None) }
         ensures fits { IfOk result.answer (λ h. h.0 < 2 ^ 32) }
         ensures ok { IfOk result.answer (λ h. self.new ≡ linked (string_bytes name) h waiting self.old) }
-        ensures full { IfErr result.answer (λ e. IsFull e) }
+        ensures full { IfErr result.answer (λ e. IsFull self.old e) }
+        ensures next { IfOk result.answer (λ h. IsNext self.old.handles h.0) }
         ensures err { OnErr result.answer (self.new ≡ self.old) }
         ensures left { OnErr result.answer (result.left ≡ waiting) }
         ensures none { OnOk result.answer (result.left ≡ None) }
     {
-        if self.handles.vacant_key() > u32::MAX as usize {
+        if handles::next(&self.handles) > u32::MAX as usize {
             return Leaving::of(Err(AllocLinkError::HandlesExhausted), waiting);
         }
-        let Ok(copy) = name.clone() else {
+        let Ok(copy) = text_again(&name) else {
             return Leaving::of(Err(AllocLinkError::OutOfMemory), waiting);
         };
-        let Ok(()) = self.handles.reserve(1) else {
+        let Ok(()) = more_in_slab(&mut self.handles, 1) else {
             return Leaving::of(Err(AllocLinkError::OutOfMemory), waiting);
         };
-        let Ok(()) = self.names.reserve(1) else {
+        let Ok(()) = more_in_map(&mut self.names, 1) else {
             return Leaving::of(Err(AllocLinkError::OutOfMemory), waiting);
         };
         let handle = OutputHandle(handles::take(&mut self.handles, copy) as u32);
@@ -125,24 +127,25 @@ impl<R: LinkRelay> Links<R> {
         ensures fits { IfOk result.answer (λ h. h.0 < 2 ^ 32) }
         ensures ok { IfOk result.answer (λ h. self.new ≡ put_at input.0
             (record { handle = h; relay = relay }) (linked (string_bytes name) h None self.old)) }
-        ensures full { IfErr result.answer (λ e. IsFull e) }
+        ensures full { IfErr result.answer (λ e. IsFull self.old e) }
+        ensures next { IfOk result.answer (λ h. IsNext self.old.handles h.0) }
         ensures err { OnErr result.answer (self.new ≡ self.old) }
         ensures left { OnErr result.answer (result.left ≡ Some relay) }
         ensures replaced { OnOk result.answer (result.left ≡ option_map (λ a. a.relay) (attached_at input.0 self.old)) }
     {
-        if self.handles.vacant_key() > u32::MAX as usize {
+        if handles::next(&self.handles) > u32::MAX as usize {
             return Leaving::of(Err(AllocLinkError::HandlesExhausted), Some(relay));
         }
-        let Ok(copy) = name.clone() else {
+        let Ok(copy) = text_again(&name) else {
             return Leaving::of(Err(AllocLinkError::OutOfMemory), Some(relay));
         };
-        let Ok(()) = self.handles.reserve(1) else {
+        let Ok(()) = more_in_slab(&mut self.handles, 1) else {
             return Leaving::of(Err(AllocLinkError::OutOfMemory), Some(relay));
         };
-        let Ok(()) = self.names.reserve(1) else {
+        let Ok(()) = more_in_map(&mut self.names, 1) else {
             return Leaving::of(Err(AllocLinkError::OutOfMemory), Some(relay));
         };
-        let Ok(()) = self.inputs.reserve(1) else {
+        let Ok(()) = inputs::make_place(&mut self.inputs, &self.hints, input) else {
             return Leaving::of(Err(AllocLinkError::OutOfMemory), Some(relay));
         };
         let handle = OutputHandle(handles::take(&mut self.handles, copy) as u32);
@@ -171,11 +174,11 @@ impl<R: LinkRelay> Links<R> {
             drop(attach);
             return Leaving::of(Err(error), None);
         }
-        let Ok(()) = self.inputs.reserve(1) else {
+        let input = InputHandle::from(attach.handle);
+        let Ok(()) = inputs::make_place(&mut self.inputs, &self.hints, input) else {
             drop(attach);
             return Leaving::of(Err(SessionInnerError::OutOfMemory), None);
         };
-        let input = InputHandle::from(attach.handle);
         match names::attach(&mut self.names, attach) {
             Err(error) => Leaving::of(Err(SessionInnerError::from(error)), None),
             Ok(link) => {

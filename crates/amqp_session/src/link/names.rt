@@ -1,8 +1,9 @@
 //! The live links by name.
 
-ghost use Rattle.std.specs.Prelude.{◌≡◌, ◌<◌, None, option_map, is_some, IsSome, IfNone, IfSome, string_bytes};
+ghost use Rattle.std.specs.Prelude.{◌≡◌, ◌<◌, Option, None, option_map, is_some, IsSome, IfNone, IfSome, string_bytes};
 ghost use Rattle.std.specs.FinMap as map;
 ghost use Rattle.indexmap.specs.IndexMap.{spare};
+ghost use Rattle.amqp_session.specs.declared.link.AttachedLink.{AttachedLink};
 ghost use Rattle.amqp_session.specs.Links.{names_of};
 ghost use Rattle.amqp_session.specs.Linking.{AttachAsked, WaitAsked, IsWaited, AttachRefused};
 
@@ -40,7 +41,7 @@ pub(super) fn refusal<R: Drop>(
     name: &str,
 ) -> Option<SessionInnerError>
     ensures none { IfNone result (IsWaited (map.get (names_of names.now.entries) name.now)) }
-    ensures some { IfSome result (λ e. AttachRefused (map.get (names_of names.now.entries) name.now) e) }
+    ensures some { IfSome result (λ e. (old : Option (AttachedLink R)) → AttachRefused old (map.get (names_of names.now.entries) name.now) e) }
 {
     match names.get(name) {
         None => Some(SessionInnerError::RemoteAttachingLinkNameNotFound),

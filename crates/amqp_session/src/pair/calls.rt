@@ -15,6 +15,7 @@ use crate::numbers::IncomingChannel;
 use crate::relay::LinkRelay;
 use crate::session::Session;
 use crate::session::held::RequestedTransfer;
+use amqp_memory::more_in_queue;
 use amqp_types::{Attach, Begin, Flow, Transfer};
 use bytes::Bytes;
 use std::collections::VecDeque;
@@ -33,17 +34,6 @@ fn put(going: &mut VecDeque<SessionFrame>, item: Option<SessionOutgoingItem>)
     }
 }
 
-/// Room for all that a session holds back and for one frame more; false where there is none.
-fn makes_room<R: LinkRelay>(me: &Session<R>, going: &mut VecDeque<SessionFrame>) -> bool
-    ensures items { going.new.items ≡ going.old.items }
-    ensures room { result ≡ true → deque_len going.new + (length me.now.view.sending.held + 1) ≤ deque_capacity going.new }
-{
-    let Some(room) = me.held_back().checked_add(1) else {
-        return false;
-    };
-    going.reserve(room).is_ok()
-}
-
 /// The session sends its Begin.
 pub(super) fn begin_at<R: LinkRelay>(
     me: &mut Session<R>,
@@ -54,7 +44,7 @@ pub(super) fn begin_at<R: LinkRelay>(
     if !me.can_begin() {
         return Err(SessionInnerError::IllegalState);
     }
-    let Ok(()) = going.reserve(1) else {
+    let Ok(()) = more_in_queue(going, 1) else {
         return Err(SessionInnerError::OutOfMemory);
     };
     match me.send_begin() {
@@ -79,7 +69,7 @@ pub(super) fn attach_at<R: LinkRelay>(
         drop(attach);
         return Err(SessionInnerError::IllegalState);
     }
-    let Ok(()) = going.reserve(1) else {
+    let Ok(()) = more_in_queue(going, 1) else {
         drop(attach);
         return Err(SessionInnerError::OutOfMemory);
     };
@@ -99,7 +89,7 @@ pub(super) fn flow_at<R: LinkRelay>(
     if !me.can_send() {
         return Err(SessionInnerError::IllegalState);
     }
-    let Ok(()) = going.reserve(1) else {
+    let Ok(()) = more_in_queue(going, 1) else {
         return Err(SessionInnerError::OutOfMemory);
     };
     going.push_back_reserved(me.on_outgoing_flow(flow));
@@ -122,10 +112,10 @@ pub(super) fn transfer_at<R: LinkRelay>(
         drop(requested);
         return Err(SessionInnerError::IllegalState);
     }
-    if !makes_room(me, going) {
+    let Ok(()) = me.make_room(going) else {
         drop(requested);
         return Err(SessionInnerError::OutOfMemory);
-    }
+    };
     let RequestedTransfer {
         input_handle,
         transfer,
@@ -229,9 +219,9 @@ pub(super) fn arrive_at<R: LinkRelay>(
     if coming.is_empty() {
         return Ok(());
     }
-    if !makes_room(me, going) {
+    let Ok(()) = me.make_room(going) else {
         return Err(SessionInnerError::OutOfMemory);
-    }
+    };
     let frame = coming.pop_front().unwrap();
     take(me, frame, going)
 }

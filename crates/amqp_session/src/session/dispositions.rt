@@ -3,6 +3,7 @@
 ghost use Rattle.std.specs.Prelude.{◌≡◌, ◌≤◌, ◌<◌, ◌+◌, ◌*◌, ◌^◌, ◌⊎◌, ℕ, List, [], Bool, true, false, Some, None, Result, if◌then◌else◌, length, map, take, OnOk, OnErr, IfOk, IsSome, IsTrue, ◌↔◌, vec_capacity};
 ghost use Rattle.std.specs.Option.{option_map};
 ghost use Rattle.std.specs.Result.{result_map_both};
+ghost use Rattle.amqp_memory.specs.Refusal.{SomeRefused};
 ghost use Rattle.amqp_session.specs.Deliveries.{AreCounts, nothing_read, read_more, risen, stepped, with_role};
 ghost use Rattle.amqp_session.specs.Relay.{DispositionQuestion};
 ghost use Rattle.amqp_session.specs.Inner.Walks.{IsSplit, IsWalked, range_of, turned};
@@ -17,6 +18,7 @@ use crate::error::SessionInnerError;
 use crate::frame::{SessionFrame, SessionFrameBody};
 use crate::link::Links;
 use crate::relay::LinkRelay;
+use amqp_memory::vector_with;
 use amqp_types::{Disposition, Raw, Role, is_terminal};
 use std::alloc::{AllocError, Global};
 
@@ -42,7 +44,8 @@ impl<R: LinkRelay> Session<R> {
     /// state. The caller sends them, by [`Session::on_outgoing_disposition`].
     ///
     /// `OutOfMemory` where an unsettled one over a forward range is refused memory: before any relay is asked, or after all were,
-    /// where a relay asked for an echo and its state cannot be shared. The deliveries stay open then.
+    /// where a relay asked for an echo and its state cannot be shared. The deliveries stay open then. Where none of the role is open, no
+    /// memory is asked for.
     #[inline(always)]
     pub fn on_incoming_disposition(
         &mut self,
@@ -150,6 +153,8 @@ impl<R: LinkRelay> Session<R> {
             ⊎ ((asked : List (DispositionQuestion R)) × SaysStateAgain disposition.now asked
             × AsksEach R.gives.disposition_gives disposition.now
             (meant disposition.now (rows_of disposition.now self.old.view)) asked self.old.view.links self.new.view.links)) }
+        ensures some_open { OnErr result (¬ (rows_of disposition.now self.old.view ≡ [])) }
+        ensures memory { OnErr result SomeRefused }
         ensures view { self.new.view ≡ record self.old.view { links = self.new.view.links } }
         ensures walk { (went : Bool) × (OnOk result (went ≡ true))
             × IsWalked disposition.now (rows_of disposition.now self.old.view) went self.new.last_walk }
@@ -278,12 +283,14 @@ fn ask<R: LinkRelay>(
     ensures refused { OnErr result ((links.new ≡ links.old)
         ⊎ ((asked : List (DispositionQuestion R)) × SaysStateAgain disposition.now asked
         × AsksEach R.gives.disposition_gives disposition.now (meant disposition.now rows.old.rows) asked links.old links.new)) }
+    ensures some_open { OnErr result (¬ (rows.old.rows ≡ [])) }
+    ensures memory { OnErr result SomeRefused }
     ensures rows { rows.new.rows ≡ rows.old.rows }
     ensures walk { (went : Bool) × (OnOk result (went ≡ true)) × IsWalked disposition.now rows.old.rows went walk.new }
     ensures reads { rows.new.reads ≡ risen walk.new rows.old.reads }
 {
     let most = rows.len().min(range.most_runs());
-    let mut echoes = Vec::with_capacity(alloc, most)?;
+    let mut echoes = vector_with(alloc, most)?;
     let before = rows.reads();
     let from = rows.place_of(range.first);
     ask_each(links, rows, disposition, range, from, &mut echoes);

@@ -1,7 +1,8 @@
 //! Transfers that are asked for, and that wait for the window, and the frames that they go out as.
 
-ghost use Rattle.std.specs.Prelude.{◌≡◌, ℕ, ◌+◌, ◌%◌, ◌^◌, IfOk, true, false, if◌then◌else◌};
+ghost use Rattle.std.specs.Prelude.{◌≡◌, ℕ, ◌+◌, ◌%◌, ◌^◌, IfOk, OnErr, true, false, if◌then◌else◌};
 ghost use Rattle.std.specs.Option.{option_map};
+ghost use Rattle.amqp_memory.specs.Refusal.{SomeRefused};
 ghost use Rattle.amqp_session.specs.Transfers.{frame_of, record_of, first_of, kept_tag};
 ghost use Rattle.amqp_session.specs.Step.{IsUntagged};
 
@@ -73,12 +74,16 @@ pub(crate) fn tag_to_keep(
     transfer: &Transfer,
     is_first: bool,
 ) -> Result<Option<DeliveryTag>, AllocError>
-    ensures { IfOk result (λ tag. option_map (λ t. t.0) tag ≡ kept_tag is_first transfer.now) }
+    ensures kept { IfOk result (λ tag. option_map (λ t. t.0) tag ≡ kept_tag is_first transfer.now) }
+    ensures refused { OnErr result SomeRefused }
 {
     if !is_first || transfer.settled.unwrap_or(false) {
         return Ok(None);
     }
-    transfer.delivery_tag.clone()
+    match &transfer.delivery_tag {
+        None => Ok(None),
+        Some(tag) => Ok(Some(tag.clone()?)),
+    }
 }
 
 /// The frame of a transfer, where `delivery` is the number of the next delivery: the first frame of a delivery gets it, and any
@@ -151,7 +156,8 @@ impl HeldTransfer {
     /// The transfer, ready to wait. Its payload and tag are moved or shared, never copied.
     #[inline(always)]
     pub(crate) fn new(requested: RequestedTransfer) -> Result<HeldTransfer, AllocError>
-        ensures { IfOk result (λ held. held ≡ requested) }
+        ensures held { IfOk result (λ held. held ≡ requested) }
+        ensures refused { OnErr result SomeRefused }
     {
         let tag = tag_to_keep(&requested.transfer, requested.is_first)?;
         Ok(HeldTransfer { requested, tag })

@@ -1,7 +1,8 @@
 //! What a session takes from its peer for its links (AMQP 1.0 part 2, section 2.5.6).
 
-ghost use Rattle.std.specs.Prelude.{◌≡◌, ◌≤◌, ◌<◌, ◌^◌, ◌+◌, ◌++◌, ℕ, [], true, false, Option, Some, None, Err, IsSome, IfOk, OnOk, length, vec_len, vec_capacity};
+ghost use Rattle.std.specs.Prelude.{◌≡◌, ◌≤◌, ◌<◌, ◌^◌, ◌+◌, ◌++◌, ℕ, [], true, false, Option, Some, None, Err, IsSome, IfOk, OnOk, OnErr, length, vec_len, vec_capacity};
 ghost use Rattle.std.specs.Option.{option_map};
+ghost use Rattle.amqp_memory.specs.Refusal.{SomeRefused};
 ghost use Rattle.amqp_session.specs.Items.{HandsOut, is_some_list, first_frame};
 ghost use Rattle.amqp_session.specs.Deliveries.{with_record, RecordFits};
 ghost use Rattle.amqp_session.specs.States.{is_mapped};
@@ -20,6 +21,7 @@ use crate::flow::LinkFlow;
 use crate::frame::{SessionFrame, SessionOutgoingItem};
 use crate::numbers::{InputHandle, OutgoingChannel};
 use crate::relay::LinkRelay;
+use amqp_memory::vector_with;
 use amqp_types::{DeliveryNumber, DeliveryTag, Disposition, Flow, Transfer};
 use bytes::Bytes;
 use std::alloc::{AllocError, Global};
@@ -31,19 +33,21 @@ fn reserve_for_drain(
     count: usize,
     deliveries: &mut Deliveries,
 ) -> Result<Vec<SessionFrame>, AllocError>
-    requires { count + 1 < 2 ^ 64 }
+    requires { count < 2 ^ 32 }
     ensures frames { IfOk result (λ frames. frames.items ≡ []) }
     ensures room { IfOk result (λ frames. vec_len frames + count ≤ vec_capacity frames) }
     ensures first { IfOk result (λ frames. 0 < count → vec_len frames + count + 1 ≤ vec_capacity frames) }
     ensures records { OnOk result (length deliveries.new.rows + count ≤ deliveries.new.capacity) }
     ensures rows { deliveries.new.rows ≡ deliveries.old.rows }
     ensures reads { deliveries.new.reads ≡ deliveries.old.reads }
+    ensures wanted { OnErr result (0 < count) }
+    ensures refused { OnErr result SomeRefused }
 {
     if count == 0 {
         deliveries.reserve(0)?;
         return Ok(Vec::new(alloc));
     }
-    let frames = Vec::with_capacity(alloc, count + 1)?;
+    let frames = vector_with(alloc, count + 1)?;
     deliveries.reserve(count)?;
     Ok(frames)
 }
@@ -110,9 +114,9 @@ impl<R: LinkRelay> Session<R> {
     /// The new window for transfers of this side is `incoming_window` less the transfers that went out since the flow's
     /// `next_incoming_id`, never below 0. Without a `next_incoming_id` they are counted from this side's first number.
     ///
-    /// `UnattachedHandle` where no link is attached under the handle. `OutOfMemory` where memory is refused: for what goes
-    /// out it is taken before the relay is asked. An error of the relay is passed on. Nothing goes out then, and only the
-    /// windows and numbers have moved.
+    /// `UnattachedHandle` where no link is attached under the handle. `OutOfMemory` where memory is refused: it is taken for the transfers
+    /// that are let out, before the relay is asked, and none where none is let out. An error of the relay is passed on. Nothing goes out
+    /// then, and only the windows and numbers have moved.
     pub fn on_incoming_flow(
         &mut self,
         flow: Flow,

@@ -92,8 +92,8 @@ impl<R: LinkRelay> Session<R> {
     /// accepts. An input handle that is in use goes to the new link.
     ///
     /// `RemoteAttachingLinkNameNotFound` where no live link has the name, and `HandleInUse` where no relay waits under it.
-    /// `OutOfMemory` where memory is refused: it is taken before the relay is asked. An error of the relay is passed on, and
-    /// the relay goes on to wait.
+    /// `OutOfMemory` where memory is refused: it is taken before the relay is asked, and for an input handle alone that is not in use. An error
+    /// of the relay is passed on, and the relay goes on to wait.
     pub fn on_incoming_attach(&mut self, attach: Attach) -> Result<(), SessionInnerError>
         ensures step { (asked : Option (AttachQuestion R))
             × TakeAttachStep R.gives.attach_gives self.old.view attach asked result self.new.view }

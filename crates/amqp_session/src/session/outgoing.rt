@@ -1,6 +1,8 @@
 //! What a session sends for its links, and its own flows (AMQP 1.0 part 2, section 2.5.6).
 
-ghost use Rattle.std.specs.Prelude.{◌≡◌, ◌/◌, [], true};
+ghost use Rattle.std.specs.Prelude.{◌≡◌, ◌≤◌, ◌+◌, ◌/◌, [], length, true, OnOk, OnErr};
+ghost use Rattle.std.specs.VecDeque.{deque_len, deque_capacity};
+ghost use Rattle.amqp_memory.specs.Refusal.{SomeRefused};
 ghost use Rattle.amqp_session.specs.Session.{session_flow, flow_frame};
 ghost use Rattle.amqp_session.specs.States.{is_mapped};
 ghost use Rattle.amqp_session.specs.Step.{IsUntagged, SendFlowStep, SendTransferStep, SessionFlowStep};
@@ -14,6 +16,8 @@ use crate::numbers::InputHandle;
 use crate::relay::LinkRelay;
 use amqp_types::{Flow, SessionState, Transfer};
 use bytes::Bytes;
+use std::alloc::AllocError;
+use std::collections::VecDeque;
 
 impl<R: LinkRelay> Session<R> {
     /// The frame of a link's flow, with the session's numbers and windows (section 2.7.4). Takes no memory, and changes nothing.
@@ -90,6 +94,15 @@ impl<R: LinkRelay> Session<R> {
                 &mut self.sent,
             ),
         )))
+    }
+
+    /// Makes room in a list of frames for what one call may hand out: all that wait, and one frame more.
+    pub(crate) fn make_room(&self, frames: &mut VecDeque<SessionFrame>) -> Result<(), AllocError>
+        ensures items { frames.new.items ≡ frames.old.items }
+        ensures room { OnOk result (deque_len frames.new + (length self.now.view.sending.held + 1) ≤ deque_capacity frames.new) }
+        ensures refused { OnErr result SomeRefused }
+    {
+        self.sending.make_room(frames)
     }
 
     /// Takes a transfer that does not go out alone.

@@ -1,6 +1,7 @@
 //! The answers to an unsettled disposition: one for each run of delivery numbers without gaps (AMQP 1.0 part 2, section 2.7.6).
 
 ghost use Rattle.std.specs.Prelude.{◌≡◌, ◌<◌, ◌≤◌, ◌+◌, List, None, IfOk, OnErr, IsSome, false, length, map, vec_len, vec_capacity};
+ghost use Rattle.amqp_memory.specs.Refusal.{SomeRefused};
 ghost use Rattle.amqp_session.specs.Runs.{DeliveryRange, extended, goes_on};
 ghost use Rattle.amqp_session.specs.Disposing.{echo_of};
 
@@ -54,7 +55,7 @@ pub(super) fn with_state(
     state: &Option<Raw>,
 ) -> Result<Vec<Disposition>, AllocError>
     ensures echoes { IfOk result (λ said. (runs : List DeliveryRange) → echoes.items ≡ map (echo_of None) runs → said.items ≡ map (echo_of state.now) runs) }
-    ensures refused { OnErr result (IsSome state.now × (0 < length echoes.items)) }
+    ensures refused { OnErr result (IsSome state.now × (0 < length echoes.items) × SomeRefused) }
 {
     let mut said = echoes;
     for i in 0..said.len() {
@@ -66,7 +67,7 @@ pub(super) fn with_state(
 /// Another cut of the same state: its bytes are shared.
 fn cut_of(state: &Option<Raw>) -> Result<Option<Raw>, AllocError>
     ensures cut { IfOk result (λ s. s ≡ state.now) }
-    ensures refused { OnErr result (IsSome state.now) }
+    ensures refused { OnErr result (IsSome state.now × SomeRefused) }
 {
     match state {
         None => Ok(None),

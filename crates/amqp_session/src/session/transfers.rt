@@ -3,6 +3,7 @@
 ghost use Rattle.std.specs.Prelude.{◌≡◌, ℕ, ◌+◌, ◌-◌, ◌^◌, ◌%◌, ◌<◌, ◌≤◌, ◌++◌, [], ◌∷◌, length, take, drop, vec_len, vec_capacity, unwrap_or, OnOk, OnErr, IfOk, IsTrue, false};
 ghost use Rattle.std.specs.Option.{option_map};
 ghost use Rattle.std.specs.VecDeque.{deque_len, deque_capacity};
+ghost use Rattle.amqp_memory.specs.Refusal.{SomeRefused};
 ghost use Rattle.amqp_session.specs.Transfers.{numbered, firsts, opened, kept_tag};
 ghost use Rattle.amqp_session.specs.Deliveries.{with_record};
 ghost use Rattle.amqp_session.specs.Items.{HandsOut};
@@ -13,6 +14,7 @@ use super::held::{HeldTransfer, RequestedTransfer, frame_of, next_delivery, reco
 use crate::deliveries::{Deliveries, Delivery};
 use crate::frame::{SessionFrame, SessionOutgoingItem};
 use crate::numbers::{InputHandle, OutgoingChannel};
+use amqp_memory::{more_in_queue, more_in_queue_beside, push_in_queue, vector_with};
 use amqp_types::{DeliveryTag, Transfer};
 use bytes::Bytes;
 use std::alloc::{AllocError, Global};
@@ -133,6 +135,15 @@ impl Sending {
         self.held.len()
     }
 
+    /// Makes room in a list of frames for all that wait, and for one frame more.
+    pub(crate) fn make_room(&self, frames: &mut VecDeque<SessionFrame>) -> Result<(), AllocError>
+        ensures items { frames.new.items ≡ frames.old.items }
+        ensures room { OnOk result (deque_len frames.new + (length self.now.held + 1) ≤ deque_capacity frames.new) }
+        ensures refused { OnErr result SomeRefused }
+    {
+        more_in_queue_beside(frames, &self.held, self.held.len() + 1)
+    }
+
     /// A received Begin gives the window.
     pub(crate) fn begin_window(&mut self, width: u32)
         ensures begun { self.new ≡ begun self.old width }
@@ -194,10 +205,11 @@ impl Sending {
         requires { self.old.remote_incoming_window ≡ 0 }
         ensures ok { OnOk result (self.new ≡ drained (joined self.old held)) }
         ensures err { OnErr result (self.new ≡ self.old) }
+        ensures refused { OnErr result SomeRefused }
     {
         // prover
         let (_next, _delivery) = (self.next_outgoing_id, self.next_delivery);
-        self.held.push_back(held)?;
+        push_in_queue(&mut self.held, held)?;
         Ok(())
     }
 
@@ -258,10 +270,11 @@ impl Sending {
         ensures err { OnErr result (self.new ≡ self.old) }
         ensures err_rows { OnErr result (deliveries.new.rows ≡ deliveries.old.rows) }
         ensures reads { deliveries.new.reads ≡ deliveries.old.reads }
+        ensures refused { OnErr result SomeRefused }
     {
-        self.held.reserve(1)?;
+        more_in_queue(&mut self.held, 1)?;
         let count = (self.held.len() + 1).min(self.remote_incoming_window as usize);
-        let mut frames = Vec::with_capacity(alloc, count)?;
+        let mut frames = vector_with(alloc, count)?;
         deliveries.reserve(count)?;
         self.held.push_back_reserved(held);
         self.drain(channel, &mut frames, deliveries);
@@ -286,6 +299,7 @@ impl Sending {
         ensures err { OnErr result (self.new ≡ self.old) }
         ensures err_rows { OnErr result (deliveries.new.rows ≡ deliveries.old.rows) }
         ensures reads { deliveries.new.reads ≡ deliveries.old.reads }
+        ensures refused { OnErr result SomeRefused }
     {
         let held = HeldTransfer::new(requested)?;
         if self.remote_incoming_window == 0 {

@@ -1,6 +1,7 @@
 //! Which performative a descriptor names (AMQP 1.0 part 2, section 2.7).
 
-ghost use Rattle.std.specs.Prelude.{◌≡◌};
+ghost use Rattle.std.specs.Prelude.{◌≡◌, IfErr};
+ghost use Rattle.amqp_values.specs.declared.error.ReadError.TheVariants.{Malformed};
 ghost use Rattle.amqp_values.specs.Reading.{Gives};
 ghost use Rattle.amqp_types.specs.Kinds.{kind_at, kind_of};
 
@@ -58,7 +59,8 @@ impl Kind {
     #[tactic(auto, unfolding(crate::specs::Kinds::kind_at))]
     #[inline(always)]
     pub fn read(bytes: &mut Bytes) -> Result<Kind, ReadError>
-        ensures { Gives (λ k. k) result bytes.new (kind_at bytes.old) }
+        ensures gives { Gives (λ k. k) result bytes.new (kind_at bytes.old) }
+        ensures malformed { IfErr result (λ e. e ≡ Malformed) }
     {
         let code = descriptor(bytes)?;
         match kind_of(code) {

@@ -1,12 +1,14 @@
 //! Open (AMQP 1.0 part 2, section 2.7.1).
 
-ghost use Rattle.std.specs.Prelude.{◌≡◌, ◌<◌, ◌≤◌, ◌+◌, ◌^◌, ◌++◌, length, List, ℕ, Option};
+ghost use Rattle.std.specs.Prelude.{◌≡◌, ◌<◌, ◌≤◌, ◌+◌, ◌^◌, ◌++◌, length, List, ℕ, Option, IfOk, OnErr};
+ghost use Rattle.amqp_memory.specs.Refusal.{SomeRefused};
 ghost use Rattle.amqp_values.specs.Reading.{Gives};
 ghost use Rattle.amqp_types.specs.Open.{open_body_at, open_table, open_first_same, open_last_same};
 ghost use Rattle.amqp_types.specs.declared.performatives.Performative.TheVariants as performative;
 ghost use Rattle.amqp_types.specs.Performatives.{performative_text};
 
 use crate::{borrowed, copies};
+use amqp_memory::text_again;
 use amqp_values::{
     Composite, Cons2, Cons4, Fields, ListWalk, NoMore, ReadError, StringRef, Symbol, Symbols,
     Verbatim, codes, described_len, field_list, put_described,
@@ -69,9 +71,12 @@ impl Model for Open {
 impl Clone for Open {
     ghost is_clone = { λ p q. q ≡ p };
 
-    fn clone(&self) -> Result<Open, AllocError> {
+    fn clone(&self) -> Result<Open, AllocError>
+        ensures value { IfOk result (λ q. q ≡ self.now) }
+        ensures refused { OnErr result SomeRefused }
+    {
         Ok(Open {
-            container_id: self.container_id.clone()?,
+            container_id: text_again(&self.container_id)?,
             hostname: copies::text(&self.hostname)?,
             max_frame_size: self.max_frame_size,
             channel_max: self.channel_max,
@@ -80,7 +85,7 @@ impl Clone for Open {
             incoming_locales: copies::symbols(&self.incoming_locales)?,
             offered_capabilities: copies::symbols(&self.offered_capabilities)?,
             desired_capabilities: copies::symbols(&self.desired_capabilities)?,
-            properties: self.properties.clone()?,
+            properties: copies::fields(&self.properties)?,
         })
     }
 }

@@ -1,6 +1,7 @@
 //! One line of a transcript, read or written.
 
-ghost use Rattle.std.specs.Prelude.{◌≡◌, ◌++◌, IfOk, OnOk, codes, string_bytes};
+ghost use Rattle.std.specs.Prelude.{◌≡◌, ◌++◌, IfOk, OnOk, OnErr, codes, string_bytes};
+ghost use Rattle.amqp_memory.specs.Refusal.{SomeRefused};
 ghost use Rattle.amqp_frames.specs.Piece.{piece_bytes};
 ghost use Rattle.hex.specs.Hex.{encode_lower};
 ghost use Rattle.fe2o3_amqp.specs.Transcript.{bytes_of};
@@ -9,6 +10,7 @@ use super::relay::ReplayRelay;
 use amqp_connection::SessionNo;
 use amqp_engine::Input;
 use amqp_frames::Piece;
+use amqp_memory::{bytes_of_vector, digits_of, push_in_text, spelled_by};
 use amqp_session::{InputHandle, LinkFlow, SessionSettings};
 use amqp_types::{Performative, ReadError, Role};
 use bytes::Bytes;
@@ -191,10 +193,11 @@ fn asked_of(number: SessionNo, performative: Performative, rest: Bytes) -> Asked
 /// The bytes of these hexadecimal digits, in either case; `None` where their number is odd or another character stands among
 /// them. `AllocError` where memory is refused.
 pub fn hex_bytes(alloc: Global, text: &str) -> Result<Option<Bytes>, AllocError>
-    ensures { IfOk result (λ bytes. bytes ≡ bytes_of text.now) }
+    ensures bytes { IfOk result (λ bytes. bytes ≡ bytes_of text.now) }
+    ensures refused { OnErr result SomeRefused }
 {
-    match hex::decode(alloc, text) {
-        Ok(bytes) => Ok(Some(Bytes::from_vec(bytes)?)),
+    match spelled_by(alloc, text) {
+        Ok(bytes) => Ok(Some(bytes_of_vector(bytes)?)),
         Err(FromHexError::OutOfMemory) => Err(AllocError),
         Err(_) => Ok(None),
     }
@@ -203,9 +206,10 @@ pub fn hex_bytes(alloc: Global, text: &str) -> Result<Option<Bytes>, AllocError>
 /// The line of a piece: `out`, a space and its bytes as hexadecimal digits in lower case, without a line feed.
 /// `AllocError` where memory is refused.
 pub fn out_line(alloc: Global, piece: &Piece) -> Result<String, AllocError>
-    ensures { IfOk result (λ text. string_bytes text ≡ codes "out " ++ encode_lower (piece_bytes piece.now)) }
+    ensures line { IfOk result (λ text. string_bytes text ≡ codes "out " ++ encode_lower (piece_bytes piece.now)) }
+    ensures refused { OnErr result SomeRefused }
 {
-    let mut text = String::from_str(alloc, "out ")?;
+    let mut text = amqp_memory::text_of(alloc, "out ")?;
     push_digits(alloc, &mut text, piece.head())?;
     push_digits(alloc, &mut text, piece.payload().as_slice())?;
     Ok(text)
@@ -213,8 +217,9 @@ pub fn out_line(alloc: Global, piece: &Piece) -> Result<String, AllocError>
 
 /// Appends the digits of these bytes.
 fn push_digits(alloc: Global, text: &mut String, bytes: &[u8]) -> Result<(), AllocError>
-    ensures { OnOk result (string_bytes text.new ≡ string_bytes text.old ++ encode_lower bytes.now) }
+    ensures digits { OnOk result (string_bytes text.new ≡ string_bytes text.old ++ encode_lower bytes.now) }
+    ensures refused { OnErr result SomeRefused }
 {
-    text.push_str(hex::encode(alloc, bytes)?.as_str())?;
-    Ok(())
+    let digits = digits_of(alloc, bytes)?;
+    push_in_text(text, digits.as_str())
 }

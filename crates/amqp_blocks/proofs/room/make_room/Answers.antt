@@ -1,5 +1,6 @@
 use Rattle.std.proofs.Common.{ap, arith}
 use Rattle.std.proofs.lemmas.Result.{on_ok_weaker}
+use Rattle.amqp_memory.proofs.RefusalLemmas.{on_err_within}
 use Rattle.amqp_blocks.specs.Chunked.{items_of, places_of}
 use Rattle.amqp_blocks.proofs.PlaceLemmas.{base_low, total_is}
 use Rattle.amqp_blocks.proofs.RoomLemmas.{items_fit}
@@ -19,6 +20,9 @@ returns-then-additional-rest-clause-kept g c = omega (arith, c.make_room_in_bloc
 pub returns-then-additional-rest-clause-ok : goal.returns-then-additional-rest-clause-ok
 returns-then-additional-rest-clause-ok g c = on_ok_weaker c.make_room_in_block.result (λ w. omega (arith, w)) c.make_room_in_block.ensures.ok
 
+pub returns-then-additional-rest-clause-refused : goal.returns-then-additional-rest-clause-refused
+returns-then-additional-rest-clause-refused g c = on_err_within c.make_room_in_block.result (omega arith) c.make_room_in_block.ensures.refused
+
 pub returns-then-additional-rest-2-clause-items : goal.returns-then-additional-rest-2-clause-items
 returns-then-additional-rest-2-clause-items g c = ap items_of c.make_room_for_first.ensures.items
 
@@ -33,6 +37,9 @@ returns-then-additional-rest-2-clause-ok g c =
     let fit = items_fit c.make_room_for_first.new.blocks.items e.sound.chunked.some in
     on_ok_weaker c.make_room_for_first.result (λ w. omega (arith, w, fit)) e.ok
 
+pub returns-then-additional-rest-2-clause-refused : goal.returns-then-additional-rest-2-clause-refused
+returns-then-additional-rest-2-clause-refused g c = on_err_within c.make_room_for_first.result (omega arith) c.make_room_for_first.ensures.refused
+
 pub returns : goal.returns
 returns g c =
     let e = c.make_room_in_spares.ensures in
@@ -42,4 +49,5 @@ returns g c =
       items = ap items_of e.items;
       kept = omega (arith, e.kept, ap places_of e.items);
       ok = on_ok_weaker c.make_room_in_spares.result (λ w. omega (arith, w, fit)) e.ok;
+      refused = on_err_within c.make_room_in_spares.result (omega (arith, c.requires.some)) e.refused;
     }

@@ -1,5 +1,6 @@
 use Rattle.std.proofs.Common.{◌<◌, length, ap, sym, subst, arith}
 use Rattle.std.proofs.lemmas.Result.{on_ok_weaker}
+use Rattle.amqp_memory.proofs.RefusalLemmas.{err_within}
 use Rattle.amqp_blocks.specs.Chunked.{EachSpare, places_of}
 use Rattle.amqp_blocks.proofs.PlaceLemmas.{ends_long}
 use Rattle.amqp_blocks.proofs.RoomLemmas.{slots_sound, spare_grows, first_fits, places_none, nothing}
@@ -14,6 +15,9 @@ returns-in_err-make_slots-clause-sound g c =
 
 pub returns-in_err-make_slots-clause-kept : goal.returns-in_err-make_slots-clause-kept
 returns-in_err-make_slots-clause-kept g c = omega (arith, ap places_of c.make_slots.ensures.spare.0)
+
+pub returns-in_err-make_slots-clause-refused : goal.returns-in_err-make_slots-clause-refused
+returns-in_err-make_slots-clause-refused g c = err_within c.from_residual.result (omega (arith, c.requires.some)) c.in_err-make_slots.ensures.refused
 
 pub make_first-requires-clause-none : goal.make_first-requires-clause-none
 make_first-requires-clause-none g c = nothing c.make_slots.new.spare.items (omega (arith, c.make_slots.new.spare.ok.0, c.len.ensures, c.if-len-eq0.true))
@@ -32,6 +36,7 @@ returns-then-len-eq0 g c =
       items = e.blocks.0;
       kept = omega (arith, none, ap places_of e.spare.0);
       ok = f.ok;
+      refused = f.refused;
     }
 
 pub grow_at-requires : goal.grow_at-requires
@@ -51,4 +56,5 @@ returns g c =
       items = e.blocks.0;
       kept = omega (arith, s.places, ap places_of e.spare.0);
       ok = on_ok_weaker c.grow_at.result (λ w. first_fits cs c.args.additional (omega (arith, s.count, h)) w c.requires.fits) c.grow_at.ensures.ok;
+      refused = c.grow_at.ensures.refused;
     }

@@ -27,4 +27,5 @@ returns g c =
       items = k.1;
       kept = omega (arith, more, ap places_of u.set);
       ok = on_ok_weaker c.grow_at.result (λ w. one_fits cs c.args.additional (omega (arith, count, c.requires.one)) w (omega (arith, ap length k.1, c.requires.fits))) c.grow_at.ensures.ok;
+      refused = c.grow_at.ensures.refused;
     }

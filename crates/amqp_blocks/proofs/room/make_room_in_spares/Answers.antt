@@ -1,4 +1,5 @@
 use Rattle.std.proofs.Common.{length, ap, sym, subst, arith}
+use Rattle.amqp_memory.proofs.RefusalLemmas.{err_within, on_err_within}
 use Rattle.amqp_blocks.specs.Chunked.{EachSpare, places_of}
 use Rattle.amqp_blocks.proofs.PlaceLemmas.{ends_long}
 use Rattle.amqp_blocks.proofs.RoomLemmas.{slots_sound}
@@ -14,6 +15,9 @@ returns-in_err-make_slots-clause-sound g c =
 pub returns-in_err-make_slots-clause-kept : goal.returns-in_err-make_slots-clause-kept
 returns-in_err-make_slots-clause-kept g c = omega (arith, ap places_of c.make_slots.ensures.spare.0)
 
+pub returns-in_err-make_slots-clause-refused : goal.returns-in_err-make_slots-clause-refused
+returns-in_err-make_slots-clause-refused g c = err_within c.from_residual.result (omega arith) c.in_err-make_slots.ensures.refused
+
 pub widen-requires : goal.widen-requires
 widen-requires g c = record { spares = subst EachSpare (sym c.make_slots.ensures.spare.0) c.requires.sound.spares }
 
@@ -27,6 +31,9 @@ returns-in_err-widen-clause-sound g c =
 
 pub returns-in_err-widen-clause-kept : goal.returns-in_err-widen-clause-kept
 returns-in_err-widen-clause-kept g c = omega (arith, ap places_of c.make_slots.ensures.spare.0, c.widen.ensures.places)
+
+pub returns-in_err-widen-clause-refused : goal.returns-in_err-widen-clause-refused
+returns-in_err-widen-clause-refused g c = err_within c.from_residual-in_err-widen.result (omega arith) c.in_err-widen.ensures.refused
 
 pub make_spares-requires : goal.make_spares-requires
 make_spares-requires g c = record {
@@ -50,4 +57,5 @@ returns g c =
       items = e.blocks.0;
       kept = omega (arith, m.places, w.places, ap places_of e.spare.0);
       ok = m.ok;
+      refused = on_err_within c.make_spares.result (omega arith) m.refused;
     }

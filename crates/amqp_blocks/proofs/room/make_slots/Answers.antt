@@ -3,8 +3,8 @@ use Rattle.std.proofs.lemmas.Result.{on_ok_weaker}
 use Rattle.amqp_blocks.proofs.room.make_slots.Goals as goal
 
 pub returns-clause-ok : goal.returns-clause-ok
-returns-clause-ok g c = on_ok_weaker c.reserve-3.result (λ w. (
-  omega (arith, c.in_ok-reserve.ensures.ok, c.reserve.new.self.ok.0),
-  omega (arith, c.in_ok-reserve-2.ensures.room),
+returns-clause-ok g c = on_ok_weaker c.more_in_vector-2.result (λ w. (
+  omega (arith, c.in_ok-more_in_vector.ensures.ok, c.more_in_vector.new.vector.ok.0),
+  omega (arith, c.in_ok-reserve.ensures.room),
   omega (arith, w),
-)) c.reserve-3.ensures.ok
+)) c.more_in_vector-2.ensures.ok

@@ -7,8 +7,8 @@ pub loop-alloc-preserved : goal.loop-alloc-preserved
 loop-alloc-preserved g c =
     let v = c.loop-alloc.invariant in
     let old = c.loop-alloc.spare.items in
-    let q = c.in_ok-with_capacity.field-0 in
-    let e = c.in_ok-with_capacity.ensures in
+    let q = c.in_ok-queue_with.field-0 in
+    let e = c.in_ok-queue_with.ensures in
     let p : c.push_reserved.new.self.items ≡ old ++ q ∷ [] = c.push_reserved.ensures.items in
     let long = ap length p ∙ length-append old (q ∷ []) in
     let wide = ap places_of p ∙ places_append old (q ∷ []) in

@@ -18,5 +18,5 @@ returns c =
     let big : ¬ IsOnePiece c.args.max_piece_len true t c.args.payload.now = λ h. omega (arith, h, c.if-whole-len.false, c.widest_len_in-whole.ensures.value, c.len.ensures.value, c.from-room.ensures, c.saturating_sub.ensures) in (
       inr r,
       is_split t c.args.payload.now c.args.max_piece_len (c.from-room.result - c.widest_len_in-first.result) (c.from-room.result - c.encoded_len_in-later.result) c.in_ok-parts-2.parts.items
-          r big (omega (arith, c.widest_len_in-first.ensures.value, c.from-room.ensures, c.saturating_sub.ensures)) (omega (arith, c.encoded_len_in-later.ensures.value, c.from-room.ensures, c.saturating_sub.ensures)) c.in_ok-parts-2.ensures,
+          r big (omega (arith, c.widest_len_in-first.ensures.value, c.from-room.ensures, c.saturating_sub.ensures)) (omega (arith, c.encoded_len_in-later.ensures.value, c.from-room.ensures, c.saturating_sub.ensures)) c.in_ok-parts-2.ensures.parts,
     )

@@ -1,9 +1,9 @@
-use Rattle.std.proofs.Common.{Ok, Err}
+use Rattle.std.proofs.Common.{inl, inr}
 use Rattle.amqp_transport.proofs.turning.begin_session.Goals as goal
 
 -- the engine's own Begin did not come out
 pub returns-in-Err-own_begin : goal.returns-in-Err-own_begin
-returns-in-Err-own_begin g c = (c.step.new.self, Err c.in-Err-own_begin.error, c.in_default.ensures, c.in-Err-own_begin.ensures)
+returns-in-Err-own_begin g c = (c.step.new.self, c.in_default.ensures, inl c.in-Err-own_begin.ensures)
 
 -- each part is a call's
 pub returns-in-Ok-turn_both : goal.returns-in-Ok-turn_both
@@ -20,4 +20,8 @@ returns-in-Ok-turn_both g c = record {
 
 -- one of the two could not be turned
 pub returns-in-Err-turn_both : goal.returns-in-Err-turn_both
-returns-in-Err-turn_both g c = (c.step.new.self, Ok c.in-Ok-own_begin.own, c.in_default.ensures, c.in-Ok-own_begin.ensures)
+returns-in-Err-turn_both g c = (
+  c.step.new.self,
+  c.in_default.ensures,
+  inr (c.in-Ok.read.0, c.in-Ok.read.1, c.in-Ok-own_begin.own, c.in-Ok.ensures, c.in-Ok-own_begin.ensures, c.in-Err-turn_both.ensures),
+)

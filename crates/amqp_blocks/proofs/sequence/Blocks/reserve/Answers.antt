@@ -1,5 +1,5 @@
 use Rattle.std.proofs.Common.{length, ap, sym, ◌∙◌, arith}
-use Rattle.std.proofs.lemmas.Result.{on_ok_weaker}
+use Rattle.std.proofs.lemmas.Result.{on_ok_weaker, on_err_weaker}
 use Rattle.amqp_blocks.specs.Chunked.{Sequence}
 use Rattle.amqp_blocks.proofs.RoomLemmas.{items_fit, spares_count}
 use Rattle.amqp_blocks.proofs.sequence.Blocks.reserve.Goals as goal
@@ -12,18 +12,20 @@ returns-then-additional-len-clause-room g c =
     let room = ap (λ (s : Sequence _). s.room) c.self.view_is in
     omega (arith, fit, spare, room, c.if-additional-len.true, c.len.ensures, c.self.inside.spare.ok.0)
 
-pub make_room-requires : goal.make_room-requires
-make_room-requires g c = record { sound = c.self.invariant.0; some = omega (arith, c.if-additional-len.false) }
+pub make_lacking-requires : goal.make_lacking-requires
+make_lacking-requires g c = record { sound = c.self.invariant.0; some = omega (arith, c.if-additional-len.false) }
 
 pub invariant_of-self : goal.invariant_of-self
-invariant_of-self g c = (c.make_room.ensures.sound, c.self.invariant.1 ∙ sym (ap length c.make_room.ensures.items))
+invariant_of-self g c = (c.make_lacking.ensures.sound, c.self.invariant.1 ∙ sym (ap length c.make_lacking.ensures.items))
 
 pub returns : goal.returns
 returns g c =
-    let e = c.make_room.ensures in
+    let e = c.make_lacking.ensures in
     let room = ap (λ (s : Sequence _). s.room) c.self.view_is in
     record {
       items = e.items ∙ ap (λ (s : Sequence _). s.items) c.self.view_is;
       kept = omega (arith, room, e.kept, ap length e.items);
-      room = on_ok_weaker c.make_room.result (λ w. omega (arith, w)) e.ok;
+      room = on_ok_weaker c.make_lacking.result (λ w. omega (arith, w)) e.ok;
+      lacking = on_err_weaker c.make_lacking.result (λ w. omega (arith, w, room, e.kept, ap length e.items)) e.lacking;
+      refused = e.refused;
     }

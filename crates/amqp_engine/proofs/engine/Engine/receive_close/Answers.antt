@@ -16,7 +16,7 @@ returns-in_err-close g c =
 pub returns-in_default : goal.returns-in_default
 returns-in_default g c =
     not_copied g.R.LinkRelay.gives close_fields c.args.self.now c.args.channel.0 c.args.fields c.read_list.new.bytes c.in_ok-close.close
-    c.in_ok-close.ensures (subst IsSome (ap (λ x. x.error) c.close.view_is) c.in_default.ensures.refused)
+    c.in_ok-close.ensures (subst IsSome (ap (λ x. x.error) c.close.view_is) c.in_default.ensures.named) c.in_default.ensures.refused
 
 pub close_answer-requires : goal.close_answer-requires
 close_answer-requires g c = record {

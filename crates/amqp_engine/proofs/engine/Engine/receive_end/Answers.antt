@@ -19,7 +19,7 @@ returns-in_err-end g c =
 pub returns-in_default : goal.returns-in_default
 returns-in_default g c =
     not_copied g.R.LinkRelay.gives end_fields c.args.self.now c.args.channel.0 c.args.fields c.read_list.new.bytes c.in_ok-end.end
-    c.in_ok-end.ensures (subst IsSome (ap (λ x. x.error) c.end.view_is) c.in_default.ensures.refused)
+    c.in_ok-end.ensures (subst IsSome (ap (λ x. x.error) c.end.view_is) c.in_default.ensures.named) c.in_default.ensures.refused
 
 pub returns-in_err-number : goal.returns-in_err-number
 returns-in_err-number g c =

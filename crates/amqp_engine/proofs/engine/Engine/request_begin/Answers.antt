@@ -1,5 +1,6 @@
-use Rattle.std.proofs.Common.{[], ◌∷◌, Ok, Err, Some, None, refl, ap, sym, subst, ◌∙◌, nat_eq}
+use Rattle.std.proofs.Common.{[], ◌∷◌, Ok, Err, Some, None, refl, ap, sym, subst, ◌∙◌, nat_eq, arith}
 use Rattle.indexmap.specs.IndexMap.{insert_entry}
+use Rattle.amqp_memory.proofs.RefusalLemmas.{some}
 use Rattle.amqp_types.specs.declared.states.SessionState.TheVariants.{Unmapped}
 use Rattle.amqp_session.specs.Session.{new_session}
 use Rattle.amqp_session.specs.Step.{SendBeginStep}
@@ -20,11 +21,11 @@ use Rattle.amqp_engine.proofs.engine.Engine.request_begin.Goals as goal
 
 pub returns-in-Ok-begun : goal.returns-in-Ok-begun
 returns-in-Ok-begun g c =
-    let same_room = c.reserve-2.ensures.same in
+    let same_room = c.reserve.ensures.same in
     let fresh = subst (λ b. Used c.args.self.now c.args.number.0 b) c.if-is_used.false c.is_used.ensures in
     let none = unviewed c.args.number.0 c.self.inside.sessions.entries (ap (λ v. lookup (nat_eq c.args.number.0) v.sessions) c.self.view_is ∙ fresh.0) in
     let put = rw c.unwrap.ensures at c.insert.ensures.entries in
-    let entries = put ∙ ap (λ es. insert_entry nat_eq es c.args.number.0 c.in-Ok-begun.session) c.reserve.ensures.entries ∙ appended _ c.args.number.0 c.in-Ok-begun.session none in
+    let entries = put ∙ ap (λ es. insert_entry nat_eq es c.args.number.0 c.in-Ok-begun.session) c.more_in_map.ensures.entries ∙ appended _ c.args.number.0 c.in-Ok-begun.session none in
     let a = c.in-Ok-allocate_session.ensures in
     let stop = c.connection_stop_reason-stop.ensures ∙ ap (λ (k : ConnectionView). k.stop_reason) a.3 in
     let began = subst (λ s. SendBeginStep (new_session c.args.settings c.in-Ok-allocate_session.channel.0 Unmapped s) (Ok c.in-Ok-begun.frame) c.in-Ok-begun.session.view) stop c.in-Ok-begun.ensures.begun in
@@ -55,12 +56,12 @@ returns-in-Err-begun g c =
     let fresh = subst (λ b. Used c.args.self.now c.args.number.0 b) c.if-is_used.false c.is_used.ensures in
     let a = c.in-Ok-allocate_session.ensures in
     let same = given_back_again c.self.inside.connection c.allocate_session.new.self c.deallocate_session.new.self c.in-Ok-allocate_session.channel.0 c.args.number.0 c.deallocate_session.result a.1.free a.3 c.deallocate_session.ensures in
-    let now : EngineView _ = record { connection = c.deallocate_session.new.self; sessions = views_of c.reserve.new.self.entries; walks = walks_of c.reserve.new.self.entries; forgotten = c.self.inside.forgotten; limit = c.self.inside.encoder; waiting = c.self.inside.waiting; outcomes = c.reserve-2.new.self.outcomes; wishes = c.reserve-2.new.self.wishes } in
+    let now : EngineView _ = record { connection = c.deallocate_session.new.self; sessions = views_of c.more_in_map.new.map.entries; walks = walks_of c.more_in_map.new.map.entries; forgotten = c.self.inside.forgotten; limit = c.self.inside.encoder; waiting = c.self.inside.waiting; outcomes = c.reserve.new.self.outcomes; wishes = c.reserve.new.self.wishes } in
     let before : EngineView _ = record { connection = c.self.inside.connection; sessions = views_of c.self.inside.sessions.entries; walks = walks_of c.self.inside.sessions.entries; forgotten = c.self.inside.forgotten; limit = c.self.inside.encoder; waiting = c.self.inside.waiting; outcomes = c.self.inside.kept.outcomes; wishes = c.self.inside.kept.wishes } in (
       None,
       [],
       subst (λ (v : EngineView _). BeginRequest gives v c.args.number.0 c.args.settings None [] (Some (SessionState c.in-Err-begun.error)) now) c.self.view_is
-          (subst (λ (e : SessionStateError). BeginRequest gives before c.args.number.0 c.args.settings None [] (Some (SessionState e)) now) (sym c.in-Err-begun.ensures.begun) (((refl, refl), same_keeping _ _ _ _ _ _ same c.reserve.ensures.entries c.reserve-2.ensures.same.outcomes_are c.reserve-2.ensures.same.wishes_are), subst (λ (v : EngineView _). IsFresh v c.args.number.0) (sym c.self.view_is) fresh, (c.in-Ok-allocate_session.channel.0, c.allocate_session.new.self, a))),
+          (subst (λ (e : SessionStateError). BeginRequest gives before c.args.number.0 c.args.settings None [] (Some (SessionState e)) now) (sym c.in-Err-begun.ensures.begun.0) (((refl, refl), same_keeping _ _ _ _ _ _ same c.more_in_map.ensures.entries c.reserve.ensures.same.outcomes_are c.reserve.ensures.same.wishes_are), subst (λ (v : EngineView _). IsFresh v c.args.number.0) (sym c.self.view_is) fresh, (c.in-Ok-allocate_session.channel.0, c.allocate_session.new.self, a), c.in-Err-begun.ensures.begun.1)),
     )
 
 pub returns-then-is_used : goal.returns-then-is_used
@@ -69,18 +70,18 @@ returns-then-is_used g c = (None, [], (((refl, refl), refl), subst (λ b. Used c
 pub returns-in_default : goal.returns-in_default
 returns-in_default g c =
     let none = subst (λ (v : EngineView _). IsFresh v c.args.number.0) (sym c.self.view_is) (subst (λ b. Used c.args.self.now c.args.number.0 b) c.if-is_used.false c.is_used.ensures) in
-    rw (← c.self.view_is) (None, [], (((refl, refl), same_engine _ _ _ _ _ _ _ refl c.reserve.ensures.entries refl), none))
+    rw (← c.self.view_is) (None, [], (((refl, refl), same_engine _ _ _ _ _ _ _ refl c.more_in_map.ensures.entries refl), none, some (omega arith) c.in_default.ensures.refused))
 
 pub returns-in-Err : goal.returns-in-Err
 returns-in-Err g c =
     let none = subst (λ (v : EngineView _). IsFresh v c.args.number.0) (sym c.self.view_is) (subst (λ b. Used c.args.self.now c.args.number.0 b) c.if-is_used.false c.is_used.ensures) in
     let same = unallocated c.self.inside.connection c.allocate_session.new.self c.args.number.0 c.in-Err.error c.in-Err.ensures in
     let step = subst (λ k. AllocateStep c.self.inside.connection c.args.number.0 (Err c.in-Err.error) k) same c.in-Err.ensures in
-    let now : EngineView _ = record { connection = c.allocate_session.new.self; sessions = views_of c.reserve.new.self.entries; walks = walks_of c.reserve.new.self.entries; forgotten = c.self.inside.forgotten; limit = c.self.inside.encoder; waiting = c.self.inside.waiting; outcomes = c.reserve-2.new.self.outcomes; wishes = c.reserve-2.new.self.wishes } in (
+    let now : EngineView _ = record { connection = c.allocate_session.new.self; sessions = views_of c.more_in_map.new.map.entries; walks = walks_of c.more_in_map.new.map.entries; forgotten = c.self.inside.forgotten; limit = c.self.inside.encoder; waiting = c.self.inside.waiting; outcomes = c.reserve.new.self.outcomes; wishes = c.reserve.new.self.wishes } in (
       None,
       [],
       subst (λ (v : EngineView _). BeginRequest g.R.LinkRelay.gives v c.args.number.0 c.args.settings None [] (Some (AllocSession c.in-Err.error)) now) c.self.view_is
-          (((refl, refl), same_keeping _ _ _ _ _ _ same c.reserve.ensures.entries c.reserve-2.ensures.same.outcomes_are c.reserve-2.ensures.same.wishes_are), none, step),
+          (((refl, refl), same_keeping _ _ _ _ _ _ same c.more_in_map.ensures.entries c.reserve.ensures.same.outcomes_are c.reserve.ensures.same.wishes_are), none, step),
     )
 
 pub returns-in_default-reserve : goal.returns-in_default-reserve
@@ -90,21 +91,22 @@ returns-in_default-reserve g c =
       None,
       [],
       (
-        ((refl, refl), same_keeping _ _ _ _ _ _ refl c.reserve.ensures.entries c.reserve-2.ensures.same.outcomes_are c.reserve-2.ensures.same.wishes_are),
+        ((refl, refl), same_keeping _ _ _ _ _ _ refl c.more_in_map.ensures.entries c.reserve.ensures.same.outcomes_are c.reserve.ensures.same.wishes_are),
         none,
+        c.in_default-reserve.ensures.refused,
       ),
     )
 
 pub add-requires : goal.add-requires
 add-requires g c = record {
   room = c.in-Ok-reserve.ensures.ok;
-  fresh = ap (λ m. map.get m c.args.number.0) c.reserve-2.ensures.same.places_are
+  fresh = ap (λ m. map.get m c.args.number.0) c.reserve.ensures.same.places_are
       ∙ seat_free c.self.inside.sessions.entries c.args.number.0 c.self.inside.kept.places c.self.invariant
       (unviewed c.args.number.0 c.self.inside.sessions.entries (ap (λ v. lookup (nat_eq c.args.number.0) v.sessions) c.self.view_is ∙ (subst (λ b. Used c.args.self.now c.args.number.0 b) c.if-is_used.false c.is_used.ensures).0));
 }
 
 pub invariant_of-self-in-Ok-begun : goal.invariant_of-self-in-Ok-begun
 invariant_of-self-in-Ok-begun g c =
-    seated_more c.reserve.new.self.entries c.insert.new.self.entries c.args.number.0 c.in-Ok-begun.session c.reserve-2.new.self.places c.add.new.self.places
+    seated_more c.more_in_map.new.map.entries c.insert.new.self.entries c.args.number.0 c.in-Ok-begun.session c.reserve.new.self.places c.add.new.self.places
     (rw c.unwrap.ensures at c.insert.ensures.updates).0 c.add.ensures.places
-    (subst (λ m. Seated c.reserve.new.self.entries m) (sym c.reserve-2.ensures.same.places_are) (seated_same c.self.inside.sessions.entries c.reserve.new.self.entries c.self.inside.kept.places c.reserve.ensures.entries c.self.invariant))
+    (subst (λ m. Seated c.more_in_map.new.map.entries m) (sym c.reserve.ensures.same.places_are) (seated_same c.self.inside.sessions.entries c.more_in_map.new.map.entries c.self.inside.kept.places c.more_in_map.ensures.entries c.self.invariant))

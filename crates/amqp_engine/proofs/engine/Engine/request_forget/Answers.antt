@@ -1,4 +1,6 @@
-use Rattle.std.proofs.Common.{None, [], refl, ap, sym, subst, ◌∙◌}
+use Rattle.std.proofs.Common.{None, [], refl, ap, sym, subst, ◌∙◌, arith}
+use Rattle.amqp_memory.proofs.RefusalLemmas.{some}
+use Rattle.amqp_numbers.specs.Ranges.{IsAlone}
 use Rattle.amqp_engine.specs.EngineView.{EngineView}
 use Rattle.amqp_engine.specs.Sessions.{Over}
 use Rattle.amqp_engine.proofs.SameEngineLemmas.{parts, same_keeping}
@@ -14,7 +16,7 @@ returns-in_default-insert g c = (
   None,
   [],
   c.args.self.now,
-  (refl, (((refl, refl), refl), c.in_default.ensures)),
+  (refl, (((refl, refl), refl), c.in_default.ensures, subst (λ (v : EngineView _). IsAlone v.forgotten c.args.number.0) c.self.view_is c.in_default-insert.ensures.alone, some (omega arith) c.in_default-insert.ensures.refused)),
   ap (λ p. parts p c.self.inside.kept.outcomes c.self.inside.kept.wishes c.self.inside.connection c.self.inside.sessions.entries c.self.inside.encoder c.self.inside.waiting) c.in_default-insert.ensures.err ∙ c.self.view_is,
 )
 

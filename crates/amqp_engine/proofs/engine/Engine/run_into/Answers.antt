@@ -12,15 +12,15 @@ returns-in_default-clause-ran g c =
     let s = c.send_out.ensures.said in
     Sending-RanInto g.R.LinkRelay.gives _ _ _ _ _ _ _ _ c.law_of_histories.ensures c.law_of_views.ensures (Sending-start g.R.LinkRelay.gives _ _ _ _ _ _ _ s.0 c.send_out.ensures.taken s.1 s.2)
 
-pub returns-in_default-reserve-clause-ran : goal.returns-in_default-reserve-clause-ran
-returns-in_default-reserve-clause-ran g c =
-    let same : c.reserve.new.self.items ≡ c.loop-refusals.refusals.items = c.reserve.ensures.items in
+pub returns-in_default-more_in_vector-clause-ran : goal.returns-in_default-more_in_vector-clause-ran
+returns-in_default-more_in_vector-clause-ran g c =
+    let same : c.more_in_vector.new.vector.items ≡ c.loop-refusals.refusals.items = c.more_in_vector.ensures.items in
     rw same (Sending-RanInto g.R.LinkRelay.gives _ _ _ _ _ _ _ _ c.law_of_histories.ensures c.law_of_views.ensures c.loop-refusals.invariant.0)
 
 pub loop-refusals-preserved : goal.loop-refusals-preserved
 loop-refusals-preserved g c =
     let first = c.note_first.ensures in
-    let same : c.reserve.new.self.items ≡ c.loop-refusals.refusals.items = c.reserve.ensures.items in
+    let same : c.more_in_vector.new.vector.items ≡ c.loop-refusals.refusals.items = c.more_in_vector.ensures.items in
     let noted = rw same at first.2 in
     let s = c.send_out-in-loop-refusals.ensures.said in
     let r = c.loop-refusals.invariant in
@@ -31,7 +31,7 @@ loop-refusals-preserved g c =
 pub returns-in_default-send_out-clause-ran : goal.returns-in_default-send_out-clause-ran
 returns-in_default-send_out-clause-ran g c =
     let first = c.note_first.ensures in
-    let same : c.reserve.new.self.items ≡ c.loop-refusals.refusals.items = c.reserve.ensures.items in
+    let same : c.more_in_vector.new.vector.items ≡ c.loop-refusals.refusals.items = c.more_in_vector.ensures.items in
     let noted = rw same at first.2 in
     let s = c.send_out-in-loop-refusals.ensures.said in
     let r = c.loop-refusals.invariant in
@@ -42,7 +42,7 @@ returns-in_default-send_out-clause-ran g c =
 pub returns-in_default-send_out-clause-wishes : goal.returns-in_default-send_out-clause-wishes
 returns-in_default-send_out-clause-wishes g c =
     let first = c.note_first.ensures in
-    let same : c.reserve.new.self.items ≡ c.loop-refusals.refusals.items = c.reserve.ensures.items in
+    let same : c.more_in_vector.new.vector.items ≡ c.loop-refusals.refusals.items = c.more_in_vector.ensures.items in
     let noted = rw same at first.2 in
     let s = c.send_out-in-loop-refusals.ensures.said in
     let r = c.loop-refusals.invariant in

@@ -21,14 +21,14 @@ loop-self-init g c =
       c.in_ok-put_out.ensures.ok,
     )
 
-pub returns-in_err-reserve-clause-flushed : goal.returns-in_err-reserve-clause-flushed
-returns-in_err-reserve-clause-flushed g c =
-    let same : c.reserve.new.self.items ≡ c.loop-self.answers.items = c.reserve.ensures.items in
+pub returns-in_err-more_in_vector-clause-flushed : goal.returns-in_err-more_in_vector-clause-flushed
+returns-in_err-more_in_vector-clause-flushed g c =
+    let same : c.more_in_vector.new.vector.items ≡ c.loop-self.answers.items = c.more_in_vector.ensures.items in
     rw same (ends_flushed g.R.LinkRelay.gives _ _ _ _ c.loop-self.invariant.0)
 
 pub loop-self-preserved : goal.loop-self-preserved
 loop-self-preserved g c =
-    let same : c.reserve.new.self.items ≡ c.loop-self.answers.items = c.reserve.ensures.items in
+    let same : c.more_in_vector.new.vector.items ≡ c.loop-self.answers.items = c.more_in_vector.ensures.items in
     let before = subst (λ (xs : List Answer). HearingEnds g.R.LinkRelay.gives c.args.self.now c.args.answers.now.items c.loop-self.self xs) (sym same) c.loop-self.invariant.0 in
     let takes = subst (λ w. TakesEnd w (Some c.unwrap-wish.result) c.take_noted_end.new.self.wishes) (ap (λ (x : EngineView _). x.wishes) c.self-in-loop-self.view_is) (rw c.unwrap-wish.ensures at c.take_noted_end.ensures.taken) in
     let asked = rw c.into_error.ensures at c.ask.ensures.asked in
@@ -37,7 +37,7 @@ loop-self-preserved g c =
 
 pub returns-in_err-ask-clause-flushed : goal.returns-in_err-ask-clause-flushed
 returns-in_err-ask-clause-flushed g c =
-    let same : c.reserve.new.self.items ≡ c.loop-self.answers.items = c.reserve.ensures.items in
+    let same : c.more_in_vector.new.vector.items ≡ c.loop-self.answers.items = c.more_in_vector.ensures.items in
     let before = subst (λ (xs : List Answer). HearingEnds g.R.LinkRelay.gives c.args.self.now c.args.answers.now.items c.loop-self.self xs) (sym same) c.loop-self.invariant.0 in
     let takes = subst (λ w. TakesEnd w (Some c.unwrap-wish.result) c.take_noted_end.new.self.wishes) (ap (λ (x : EngineView _). x.wishes) c.self-in-loop-self.view_is) (rw c.unwrap-wish.ensures at c.take_noted_end.ensures.taken) in
     let asked = rw c.into_error.ensures at c.ask.ensures.asked in
@@ -45,14 +45,14 @@ returns-in_err-ask-clause-flushed g c =
     ends_flushed g.R.LinkRelay.gives _ _ _ _
     (ends_more g.R.LinkRelay.gives _ _ _ _ _ _ _ (c.unwrap-wish.result.0.0, c.unwrap-wish.result.1) before c.loop-self.invariant.1 takes now asked)
 
-pub returns-in_err-reserve-2-clause-flushed : goal.returns-in_err-reserve-2-clause-flushed
-returns-in_err-reserve-2-clause-flushed g c =
-    let same : c.reserve-then-has_noted_close.new.self.items ≡ c.loop-self.answers.items = c.reserve-then-has_noted_close.ensures.items in
+pub returns-in_err-more_in_vector-2-clause-flushed : goal.returns-in_err-more_in_vector-2-clause-flushed
+returns-in_err-more_in_vector-2-clause-flushed g c =
+    let same : c.more_in_vector-then-has_noted_close.new.vector.items ≡ c.loop-self.answers.items = c.more_in_vector-then-has_noted_close.ensures.items in
     rw same (ends_flushed g.R.LinkRelay.gives _ _ _ _ c.loop-self.invariant.0)
 
 pub returns-in_err-ask-2-clause-flushed : goal.returns-in_err-ask-2-clause-flushed
 returns-in_err-ask-2-clause-flushed g c =
-    let same : c.reserve-then-has_noted_close.new.self.items ≡ c.loop-self.answers.items = c.reserve-then-has_noted_close.ensures.items in
+    let same : c.more_in_vector-then-has_noted_close.new.vector.items ≡ c.loop-self.answers.items = c.more_in_vector-then-has_noted_close.ensures.items in
     let before = subst (λ (xs : List Answer). HearingEnds g.R.LinkRelay.gives c.args.self.now c.args.answers.now.items c.loop-self.self xs) (sym same) c.loop-self.invariant.0 in
     let none = no_more _ (ap (λ (x : EngineView _). has_entries (map.entries x.wishes.ends)) (sym c.self-in-loop-self.view_is) ∙ sym c.has_noted_end.ensures ∙ c.loop-self-test.false) in
     let noted = ap (λ (x : EngineView _). x.wishes.close) (sym c.self-2.view_is) ∙ sym c.take_noted_close.ensures.value ∙ c.unwrap-wish-then-has_noted_close.ensures in
@@ -62,7 +62,7 @@ returns-in_err-ask-2-clause-flushed g c =
 
 pub returns-in_ok-ask-2-clause-flushed : goal.returns-in_ok-ask-2-clause-flushed
 returns-in_ok-ask-2-clause-flushed g c =
-    let same : c.reserve-then-has_noted_close.new.self.items ≡ c.loop-self.answers.items = c.reserve-then-has_noted_close.ensures.items in
+    let same : c.more_in_vector-then-has_noted_close.new.vector.items ≡ c.loop-self.answers.items = c.more_in_vector-then-has_noted_close.ensures.items in
     let before = subst (λ (xs : List Answer). HearingEnds g.R.LinkRelay.gives c.args.self.now c.args.answers.now.items c.loop-self.self xs) (sym same) c.loop-self.invariant.0 in
     let none = no_more _ (ap (λ (x : EngineView _). has_entries (map.entries x.wishes.ends)) (sym c.self-in-loop-self.view_is) ∙ sym c.has_noted_end.ensures ∙ c.loop-self-test.false) in
     let noted = ap (λ (x : EngineView _). x.wishes.close) (sym c.self-2.view_is) ∙ sym c.take_noted_close.ensures.value ∙ c.unwrap-wish-then-has_noted_close.ensures in

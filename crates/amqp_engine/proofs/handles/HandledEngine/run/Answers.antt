@@ -8,7 +8,7 @@ pub returns-in_default-clause-ran : goal.returns-in_default-clause-ran
 returns-in_default-clause-ran g c = flushed_short g.R.LinkRelay.gives _ _ _ _ _ c.law_of_histories.ensures c.law_of_views.ensures c.flush_requests.ensures.flushed
 
 pub returns-in_default-clause-ends : goal.returns-in_default-clause-ends
-returns-in_default-clause-ends g c = (omega arith, λ p. c.in_default.ensures.stopped (p.0.1, p.1))
+returns-in_default-clause-ends g c = (omega arith, λ p. c.in_default.ensures.stopped (p.0.1, p.1), c.in_default.ensures.refused)
 
 pub returns-clause-ran : goal.returns-clause-ran
 returns-clause-ran g c =

@@ -19,7 +19,7 @@ returns-then-is_empty c =
 pub returns-in_err-read : goal.returns-in_err-read
 returns-in_err-read c =
     let e = failed c.from_residual.result (error_of c.in_err-read.field-0.0) c.from_residual.ensures.1 in
-    let none = unnamed c.in_err-read.field-0.0 c.advance.new.self c.read.new.bytes (search rules) c.in_err-read.ensures in
+    let none = unnamed c.in_err-read.field-0.0 c.advance.new.self c.read.new.bytes (search rules) c.in_err-read.ensures.malformed c.in_err-read.ensures.gives in
     subst (λ (r : Result FrameHead Error). Opens c.args.bytes.now c.read.new.bytes r) (sym e)
     (opened_from c.kinds_are_read.ensures c.args.bytes.now c.as_slice-header.result.now c.advance.new.self c.read.new.bytes c.from_be_bytes-channel.result c.as_slice-header.ensures c.advance.ensures
     c.if-header-lt4.false c.if-header-ne2.false c.if-header-ne0.false c.from_be_bytes-channel.ensures (Err (error_of c.in_err-read.field-0.0)) none)
@@ -27,4 +27,4 @@ returns-in_err-read c =
 pub returns : goal.returns
 returns c =
     opened_from c.kinds_are_read.ensures c.args.bytes.now c.as_slice-header.result.now c.advance.new.self c.read.new.bytes c.from_be_bytes-channel.result c.as_slice-header.ensures c.advance.ensures
-    c.if-header-lt4.false c.if-header-ne2.false c.if-header-ne0.false c.from_be_bytes-channel.ensures (Ok (Some c.in_ok-read.field-0)) (search rules, c.in_ok-read.ensures)
+    c.if-header-lt4.false c.if-header-ne2.false c.if-header-ne0.false c.from_be_bytes-channel.ensures (Ok (Some c.in_ok-read.field-0)) (search rules, c.in_ok-read.ensures.gives)

@@ -1,9 +1,10 @@
 use Rattle.std.proofs.Common.{◌≡◌, List, ◌∷◌, ◌++◌, take, drop, true, Result, Ok, Err, OnOk, OnErr, ap, sym, ◌∙◌, subst, arith}
+use Rattle.std.proofs.lemmas.Result.{on_err_weaker}
 use Rattle.std.specs.FinMap.{insert}
 use Rattle.amqp_numbers.specs.declared.ranges.Range.{Range}
-use Rattle.amqp_numbers.specs.Ranges.{Numbers, numbers_of, is_held, IsSpaced}
-use Rattle.amqp_numbers.proofs.NumberLemmas.{inserted, inserted_again}
-use Rattle.amqp_numbers.proofs.RangeLemmas.{few, put_spaced, put_held}
+use Rattle.amqp_numbers.specs.Ranges.{Numbers, numbers_of, is_held, IsSpaced, IsAlone}
+use Rattle.amqp_numbers.proofs.NumberLemmas.{inserted, inserted_again, alone}
+use Rattle.amqp_numbers.proofs.RangeLemmas.{few, put_spaced, put_held, none_beside}
 use Rattle.amqp_numbers.proofs.set.NumberSet.insert.Goals as goal
 
 pub returns-then-is_in_range_before-clause-ok : goal.returns-then-is_in_range_before-clause-ok
@@ -44,3 +45,10 @@ returns-clause-ok c =
     let to = c.upper_end-to.result.0 in
     let made = inserted rs (take from rs ++ r ∷ drop to rs) n (put_held rs n c.rank_of-rank.result from to r c.lower_end-from.ensures.lower c.upper_end-to.ensures.upper) in
     where_ok c.put.result (λ e. ap numbers_of e ∙ made ∙ ap (λ (m : Numbers). insert m n true) c.self.view_is) c.put.ensures.ok
+
+pub returns-clause-alone : goal.returns-clause-alone
+returns-clause-alone c =
+    let rs = c.self.inside.ranges.items in
+    let n = c.args.number in
+    let by = none_beside rs n c.rank_of-rank.result c.lower_end-from.result.0 c.lower_end-from.result.1 c.upper_end-to.result.0 c.upper_end-to.result.1 c.self.invariant c.lower_end-from.ensures.lower c.upper_end-to.ensures.upper in
+    on_err_weaker c.put.result (λ e. subst (λ (m : Numbers). IsAlone m n) c.self.view_is (alone rs n (by e))) c.put.ensures.none

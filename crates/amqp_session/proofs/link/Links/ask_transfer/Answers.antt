@@ -1,4 +1,4 @@
-use Rattle.std.proofs.Common.{◌≡◌, IsSome, refl, ap, sym, subst, ◌∙◌, nat_eq}
+use Rattle.std.proofs.Common.{◌≡◌, IsSome, refl, ap, sym, subst, ◌∙◌, nat_eq, lit≤}
 use Rattle.amqp_types.specs.Transfer.{TransferModel}
 use Rattle.std.specs.Map.{lookup, set_value}
 use Rattle.indexmap.specs.IndexMap.{set_value_at}
@@ -20,7 +20,7 @@ pub returns-in_default-reserve-clause-unasked : goal.returns-in_default-reserve-
 returns-in_default-reserve-clause-unasked g c =
     let handle : c.transfer.inside.handle.0 ≡ c.args.transfer.handle = ap (λ (t : TransferModel). t.handle) c.transfer.view_is in
     let some = some_found _ _ _ c.index_of.ensures.found c.in-Some.is in
-    rw (← c.self.view_is, ← handle) (subst IsSome (sym (get_at c.self.inside.inputs.entries c.transfer.inside.handle.0)) some, refl)
+    rw (← c.self.view_is, ← handle) ((subst IsSome (sym (get_at c.self.inside.inputs.entries c.transfer.inside.handle.0)) some, c.in_default-reserve.ensures.refused (lit≤ tt)), refl)
 
 pub returns-clause-asked : goal.returns-clause-asked
 returns-clause-asked g c =

@@ -1,4 +1,4 @@
-use Rattle.std.proofs.Common.{◌≡◌, None, ap, subst, ◌∙◌}
+use Rattle.std.proofs.Common.{◌≡◌, None, ap, sym, subst, ◌∙◌}
 use Rattle.std.specs.FinMap as map
 use Rattle.amqp_types.specs.Attach.{AttachModel}
 use Rattle.amqp_session.specs.declared.numbers.InputHandle.{InputHandle}
@@ -8,25 +8,29 @@ use Rattle.amqp_session.specs.Linking.{AttachRefused}
 use Rattle.amqp_session.proofs.LinksAfterRelayLemmas.{waited_full, inputs_same, attaches_err, attaches_ok}
 use Rattle.amqp_session.proofs.link.Links.attach.Goals as goal
 
-pub returns-in_default-reserve-clause-step : goal.returns-in_default-reserve-clause-step
-returns-in_default-reserve-clause-step g c =
+pub returns-in_default-make_place-clause-step : goal.returns-in_default-make_place-clause-step
+returns-in_default-make_place-clause-step g c =
     let name = c.as_str.ensures.value ∙ ap (λ (a : AttachModel). a.name) c.attach.view_is in
     let names = names_of c.self.inside.names.entries in
-    let refused = subst (λ n. AttachRefused (map.get names n) Refused.OutOfMemory) name (waited_full (map.get names c.as_str.result.now) c.in_default.ensures.none) in
-    rw (c.of-in_default-reserve.ensures.answer, ← c.self.view_is) (
+    let inputs = inputs_of c.self.inside.inputs.entries in
+    let is : c.from-input.result.0 ≡ c.args.attach.handle = ap (λ (i : InputHandle). i.0) c.from-input.ensures ∙ ap (λ (a : AttachModel). a.handle) c.attach.view_is in
+    let free = ap (map.get inputs) (sym is) ∙ c.in_default-make_place.ensures.free in
+    let full = waited_full (map.get inputs c.args.attach.handle) (map.get names c.as_str.result.now) c.in_default.ensures.none free c.in_default-make_place.ensures.refused in
+    let refused = subst (λ n. AttachRefused (map.get inputs c.args.attach.handle) (map.get names n) Refused.OutOfMemory) name full in
+    rw (c.of-in_default-make_place.ensures.answer, ← c.self.view_is) (
       None,
-      (refused, inputs_same (record { names = names_of c.self.inside.names.entries; handles = handles_of c.self.inside.handles; inputs = inputs_of c.self.inside.inputs.entries }) _ (ap inputs_of c.reserve.ensures.entries)),
+      (refused, inputs_same (record { names = names_of c.self.inside.names.entries; handles = handles_of c.self.inside.handles; inputs = inputs_of c.self.inside.inputs.entries }) _ (ap inputs_of c.make_place.ensures.entries)),
     )
 
 pub returns-in-Err-clause-step : goal.returns-in-Err-clause-step
 returns-in-Err-clause-step g c =
     rw (c.of-in-Err.ensures.answer, ← c.self.view_is) (attaches_err g.R.LinkRelay.gives.attach_gives
     (record { names = names_of c.self.inside.names.entries; handles = handles_of c.self.inside.handles; inputs = inputs_of c.self.inside.inputs.entries })
-    c.args.attach _ _ c.in-Err.error c.from.result c.in-Err.ensures c.from.ensures (ap inputs_of c.reserve.ensures.entries))
+    c.args.attach _ _ c.in-Err.error c.from.result c.in-Err.ensures c.from.ensures (ap inputs_of c.make_place.ensures.entries))
 
 pub returns-in-Ok-attach-clause-step : goal.returns-in-Ok-attach-clause-step
 returns-in-Ok-attach-clause-step g c =
     let is : c.from-input.result.0 ≡ c.args.attach.handle = ap (λ (i : InputHandle). i.0) c.from-input.ensures ∙ ap (λ (a : AttachModel). a.handle) c.attach.view_is in
     rw (c.of-in-Ok-attach.ensures.answer, ← c.self.view_is) (attaches_ok g.R.LinkRelay.gives.attach_gives
     (record { names = names_of c.self.inside.names.entries; handles = handles_of c.self.inside.handles; inputs = inputs_of c.self.inside.inputs.entries })
-    c.args.attach _ _ (inputs_of c.reserve.new.self.entries) c.from-input.result.0 c.in-Ok-attach.link c.in-Ok-attach.ensures is (ap inputs_of c.reserve.ensures.entries) c.put-replaced.ensures.put)
+    c.args.attach _ _ (inputs_of c.make_place.new.inputs.entries) c.from-input.result.0 c.in-Ok-attach.link c.in-Ok-attach.ensures is (ap inputs_of c.make_place.ensures.entries) c.put-replaced.ensures.put)

@@ -7,12 +7,12 @@ use Rattle.amqp_session.proofs.FiniteMapLemmas.{text_at}
 use Rattle.amqp_session.proofs.link.names.refusal.Goals as goal
 
 pub returns-in-None-clause-some : goal.returns-in-None-clause-some
-returns-in-None-clause-some g c = subst (λ (o : Option (LiveLink _)). AttachRefused o Refused.RemoteAttachingLinkNameNotFound) (c.in-None.ensures.value ∙ sym (text_at c.args.names.now.entries c.args.name.now)) tt
+returns-in-None-clause-some g c = λ old. subst (λ (o : Option (LiveLink _)). AttachRefused old o Refused.RemoteAttachingLinkNameNotFound) (c.in-None.ensures.value ∙ sym (text_at c.args.names.now.entries c.args.name.now)) tt
 
 pub returns-then-is_waited-clause-none : goal.returns-then-is_waited-clause-none
 returns-then-is_waited-clause-none g c =
     subst (λ (o : Option (LiveLink _)). IsWaited o) (c.in-Some.ensures.value ∙ sym (text_at c.args.names.now.entries c.args.name.now)) (sym c.is_waited.ensures ∙ c.if-is_waited.true)
 
 pub returns-else-is_waited-clause-some : goal.returns-else-is_waited-clause-some
-returns-else-is_waited-clause-some g c =
-    subst (λ (o : Option (LiveLink _)). AttachRefused o Refused.HandleInUse) (c.in-Some.ensures.value ∙ sym (text_at c.args.names.now.entries c.args.name.now)) (none_there _ (sym c.is_waited.ensures ∙ c.if-is_waited.false))
+returns-else-is_waited-clause-some g c = λ old.
+    subst (λ (o : Option (LiveLink _)). AttachRefused old o Refused.HandleInUse) (c.in-Some.ensures.value ∙ sym (text_at c.args.names.now.entries c.args.name.now)) (none_there _ (sym c.is_waited.ensures ∙ c.if-is_waited.false))

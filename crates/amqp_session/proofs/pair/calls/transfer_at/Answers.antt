@@ -19,6 +19,6 @@ returns-then-is_untagged g c = inr record {
 
 pub put-requires : goal.put-requires
 put-requires g c =
-    let few = transfer_few _ _ _ _ c.in-Ok.ensures.step in
-    let room = c.if-not-makes_room.ensures.room refl in
+    let few = transfer_few _ _ _ _ c.in-Ok-on_outgoing_transfer.ensures.step in
+    let room = c.in-Ok.ensures.room in
     omega (arith, few, room)

@@ -1,11 +1,18 @@
-use Rattle.std.proofs.Common.{◌≡◌, ◌++◌, Option, Some, Ok, Err, refl, ap, ◌∙◌, subst, true}
+use Rattle.std.proofs.Common.{◌≡◌, ◌++◌, Option, Some, None, Ok, Err, refl, ap, ◌∙◌, subst, true}
 use Rattle.amqp_session.specs.declared.frame.SessionFrame.{SessionFrame}
 use Rattle.amqp_session.specs.Items.{HandsOut, is_some_list, first_frame}
 use Rattle.amqp_session.specs.States.{is_mapped}
 use Rattle.amqp_session.specs.Sending.{let_out}
 use Rattle.amqp_session.specs.Session.{SessionModel}
-use Rattle.amqp_session.proofs.FlowLemmas.{mapped_goes, parts_gone, room_taken}
+use Rattle.amqp_session.proofs.FlowLemmas.{lets_some, mapped_goes, parts_gone, room_taken}
 use Rattle.amqp_session.proofs.session.Session.flow_of_mapped.Goals as goal
+
+pub returns-in_default-clause-step : goal.returns-in_default-clause-step
+returns-in_default-clause-step g c =
+    let mapped : is_mapped c.self.inside.state ≡ true = ap (λ (o : SessionModel _). is_mapped o.view.state) c.self.view_is ∙ c.requires.mapped in
+    let attached = rw (← c.self.view_is) at c.requires.attached in
+    let some = rw c.ready.ensures.value at c.in_default.ensures.wanted in
+    rw (← c.self.view_is) (None, (attached, room_taken _ _ c.in_default.ensures.rows, lets_some (is_mapped c.self.inside.state) c.self.inside.outgoing_channel.0 c.self.inside.sending mapped some, c.in_default.ensures.refused))
 
 pub returns-in-Err-clause-step : goal.returns-in-Err-clause-step
 returns-in-Err-clause-step g c =

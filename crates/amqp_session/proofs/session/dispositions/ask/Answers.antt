@@ -10,7 +10,7 @@ use Rattle.amqp_session.proofs.ReadCountLemmas.{compared_rows, risen_by, since_i
 use Rattle.amqp_session.proofs.SortedTableLemmas.{few}
 use Rattle.amqp_session.proofs.WalkLemmas.{order_turned}
 use Rattle.amqp_session.proofs.GrowingRunLemmas.{some_number}
-use Rattle.amqp_session.proofs.TableCutLemmas.{split_meant, walked}
+use Rattle.amqp_session.proofs.TableCutLemmas.{split_meant, some_asked, walked}
 use Rattle.amqp_session.proofs.session.dispositions.ask.Goals as goal
 
 if_ok : {X E : Type 0} {P Q : X → Type 0} → (r : Result X E) → ((x : X) → P x → Q x) → IfOk r P → IfOk r Q
@@ -37,7 +37,7 @@ pub ask_each-requires-clause-room : goal.ask_each-requires-clause-room
 ask_each-requires-clause-room g c = λ settled.
     let same = compared_rows c.args.rows.now c.place_of-from.new.self c.place_of-from.ensures.cost.0 c.place_of-from.ensures.cost.1 in
     let size : c.args.range.span ≡ span c.args.disposition.now.first c.args.disposition.now.last = ap (λ (y : SerialRange). y.span) c.requires.range in
-    let room : min (length c.args.rows.now.rows) (span c.args.disposition.now.first c.args.disposition.now.last / 2 + 1) ≤ vec_capacity c.in_ok-echoes.echoes = omega (arith, size, c.len.ensures.len, c.most_runs.ensures, c.min-most.ensures, c.in_ok-echoes.ensures.capacity) in
+    let room : min (length c.args.rows.now.rows) (span c.args.disposition.now.first c.args.disposition.now.last / 2 + 1) ≤ vec_capacity c.in_ok-echoes.echoes = omega (arith, size, c.len.ensures.len, c.most_runs.ensures, c.min-most.ensures, c.in_ok-echoes.ensures.exact) in
     subst (λ (rows : List Delivery). min (length rows) (span c.args.disposition.now.first c.args.disposition.now.last / 2 + 1) ≤ vec_capacity c.in_ok-echoes.echoes) (sym same) room
 
 pub returns-clause-asked : goal.returns-clause-asked
@@ -67,6 +67,23 @@ returns-clause-refused g c =
     let len = ap length a.4 ∙ length-map a.2 (echo_of None) in
     let state = ap (λ (y : DispositionModel). y.state) c.disposition.view_is in
     on_err c.with_state.result (λ e. inr (a.0, (subst IsSome state e.0, some (omega (arith, len, e.1))), rw (are, ← same) a.1)) c.with_state.ensures.refused
+
+pub returns-clause-some_open : goal.returns-clause-some_open
+returns-clause-some_open g c =
+    let first : c.args.range.first ≡ c.args.disposition.now.first = ap (λ (y : SerialRange). y.first) c.requires.range in
+    let same = compared_rows c.args.rows.now c.place_of-from.new.self c.place_of-from.ensures.cost.0 c.place_of-from.ensures.cost.1 in
+    let order = subst (λ n. in_order n c.args.rows.now.rows ≡ turned c.place_of-from.result c.args.rows.now.rows) first
+    (order_turned c.args.range.first c.args.rows.now.rows c.place_of-from.result c.place_of-from.ensures.within c.place_of-from.ensures.below c.place_of-from.ensures.above) in
+    let split = subst (λ (rows : List Delivery). IsSplit c.args.disposition.now (turned c.place_of-from.result rows) c.ask_each.result) same c.ask_each.ensures.split in
+    let are = split_meant c.args.disposition.now c.args.rows.now.rows c.place_of-from.result c.ask_each.result order split in
+    let a = c.ask_each.ensures.asked in
+    let runs = subst (λ b. AreRuns c.args.disposition.now.first (noted b a.0) a.2) c.requires.settled a.3 in
+    let some = some_number c.args.disposition.now.first (agreed a.0) a.2 runs in
+    let len = ap length a.4 ∙ length-map a.2 (echo_of None) in
+    on_err c.with_state.result (λ e. some_asked g.R.LinkRelay.gives.disposition_gives c.args.disposition.now c.args.rows.now.rows a.0 c.args.links.now c.ask_each.new.links (rw (are, ← same) a.1) (some (omega (arith, len, e.1)))) c.with_state.ensures.refused
+
+pub returns-clause-memory : goal.returns-clause-memory
+returns-clause-memory g c = on_err c.with_state.result (λ e. e.2) c.with_state.ensures.refused
 
 pub returns-clause-rows : goal.returns-clause-rows
 returns-clause-rows g c =

@@ -11,18 +11,18 @@ pub returns-then-eq-clause-ok : goal.returns-then-eq-clause-ok
 returns-then-eq-clause-ok c = there c.args.self.now c.args.channel.0 c.args.number (sym c.of.ensures ∙ same_option _ c.args.number (sym c.eq.ensures ∙ c.if-eq.true))
 
 pub raise-requires-clause-small : goal.raise-requires-clause-small
-raise-requires-clause-small c = subst (λ es. count_at es c.args.number ≤ 65536) (sym c.reserve.ensures.entries) (count_small _ _ c.args.number c.self.invariant)
+raise-requires-clause-small c = subst (λ es. count_at es c.args.number ≤ 65536) (sym c.more_in_map.ensures.entries) (count_small _ _ c.args.number c.self.invariant)
 
 pub lower-requires : goal.lower-requires
 lower-requires c n =
     let before = c.in_ok-index.ensures.old ∙ ap (λ k. lookup (nat_eq k) c.self.inside.routes.entries) c.from-key.ensures ∙ sym (get_at c.self.inside.routes.entries c.args.channel.0) in
-    let raises = subst (λ es. Raised c.args.number es c.raise.new.counts.entries) c.reserve.ensures.entries c.raise.ensures in
+    let raises = subst (λ es. Raised c.args.number es c.raise.new.counts.entries) c.more_in_map.ensures.entries c.raise.ensures in
     omega (arith, ap (λ o. leads o n) before, has_count_still _ _ _ c.args.channel.0 c.args.number n (omega arith) c.self.invariant raises)
 
 pub invariant_of-self-2 : goal.invariant_of-self-2
 invariant_of-self-2 c =
     let before = c.in_ok-index.ensures.old ∙ ap (λ k. lookup (nat_eq k) c.self.inside.routes.entries) c.from-key.ensures ∙ sym (get_at c.self.inside.routes.entries c.args.channel.0) in
-    let raises = subst (λ es. Raised c.args.number es c.raise.new.counts.entries) c.reserve.ensures.entries c.raise.ensures in
+    let raises = subst (λ es. Raised c.args.number es c.raise.new.counts.entries) c.more_in_map.ensures.entries c.raise.ensures in
     let lowers = subst (λ o. Lowered o c.raise.new.counts.entries c.lower.new.counts.entries) before c.lower.ensures in
     let put = inserted _ _ c.from-key.result c.args.number c.in_ok-index.ensures.updates.0 ∙ ap (λ k. map.insert (numbered c.self.inside.routes.entries) k c.args.number) c.from-key.ensures in
     subst (λ m. Counted m c.lower.new.counts.entries) (sym put) (counted_put _ _ _ _ c.args.channel.0 c.args.number (omega arith) c.self.invariant raises lowers)
