@@ -25,7 +25,7 @@ use Rattle.amqp_engine.proofs.RunSoFarLemmas.{Taking, Taking-start, Taking-more,
 
 -- ---- answers, one list after another
 
-sent_of-append : (xs ys : List Answer) → sent_of (xs ++ ys) ≡ sent_of xs ++ sent_of ys
+pub sent_of-append : (xs ys : List Answer) → sent_of (xs ++ ys) ≡ sent_of xs ++ sent_of ys
 sent_of-append [] ys = refl
 sent_of-append (answer.Done ∷ xs) ys = sent_of-append xs ys
 sent_of-append (answer.Refused e ∷ xs) ys = sent_of-append xs ys
@@ -41,14 +41,14 @@ place_after before (answer.Refused e ∷ rest) = place_after (Some (next_place b
 place_after before (answer.Out pieces ∷ rest) = place_after before rest
 place_after before (answer.TooLarge f ∷ rest) = place_after before rest
 
-refusals_of-append : (before : Option ℕ) (xs ys : List Answer) → refusals_of before (xs ++ ys) ≡ refusals_of before xs ++ refusals_of (place_after before xs) ys
+pub refusals_of-append : (before : Option ℕ) (xs ys : List Answer) → refusals_of before (xs ++ ys) ≡ refusals_of before xs ++ refusals_of (place_after before xs) ys
 refusals_of-append before [] ys = refl
 refusals_of-append before (answer.Done ∷ xs) ys = refusals_of-append (Some (next_place before)) xs ys
 refusals_of-append before (answer.Refused e ∷ xs) ys = ap (λ (rs : List Refusal). refusal.Input (next_place before) e ∷ rs) (refusals_of-append (Some (next_place before)) xs ys)
 refusals_of-append before (answer.Out pieces ∷ xs) ys = refusals_of-append before xs ys
 refusals_of-append before (answer.TooLarge f ∷ xs) ys = ap (λ (rs : List Refusal). refusal.Frame before f ∷ rs) (refusals_of-append before xs ys)
 
-place_after-append : (before : Option ℕ) (xs ys : List Answer) → place_after before (xs ++ ys) ≡ place_after (place_after before xs) ys
+pub place_after-append : (before : Option ℕ) (xs ys : List Answer) → place_after before (xs ++ ys) ≡ place_after (place_after before xs) ys
 place_after-append before [] ys = refl
 place_after-append before (answer.Done ∷ xs) ys = place_after-append (Some (next_place before)) xs ys
 place_after-append before (answer.Refused e ∷ xs) ys = place_after-append (Some (next_place before)) xs ys
@@ -70,7 +70,7 @@ out_place before limit f (answer.Refused e) o rest = absurd o
 out_place before limit f (answer.Out pieces) o rest = refl
 out_place before limit f (answer.TooLarge g) o rest = refl
 
-outs_place : (before : Option ℕ) (limit : ℕ) (fs : List Frame) (outs : List Answer) → IsOuts limit fs outs → place_after before outs ≡ before
+pub outs_place : (before : Option ℕ) (limit : ℕ) (fs : List Frame) (outs : List Answer) → IsOuts limit fs outs → place_after before outs ≡ before
 outs_place before limit [] outs o = ap (place_after before) o
 outs_place before limit (f ∷ fs) outs o = ap (place_after before) o.2 ∙ out_place before limit f o.0 o.3 o.1 ∙ outs_place before limit fs o.1 o.4
 

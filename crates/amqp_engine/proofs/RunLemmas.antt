@@ -1,6 +1,6 @@
 -- Entries that were run, and then more: what is said of both. So two runs in a row are one.
-use Rattle.std.proofs.Common.{◌≡◌, ℕ, List, [], ◌∷◌, ◌++◌, refl, ap, sym, subst, ◌∙◌, append_assoc}
-use Rattle.std.proofs.lemmas.List.{append_cancel_left}
+use Rattle.std.proofs.Common.{◌≡◌, ℕ, List, [], ◌∷◌, ◌++◌, refl, ap, sym, subst, ◌∙◌, append_assoc, inl}
+use Rattle.std.proofs.lemmas.List.{append-nil, append_cancel_left}
 use Rattle.std.proofs.lemmas.List.Elements.{All-append}
 use Rattle.amqp_types.specs.declared.states.ConnectionState.{ConnectionState}
 use Rattle.amqp_types.specs.Open.{OpenModel}
@@ -20,7 +20,7 @@ use Rattle.amqp_engine.specs.Headline.{Headline}
 use Rattle.amqp_engine.specs.Views.{Stands, outcomes_from}
 use Rattle.amqp_engine.specs.Promise.{IsTaken, inputs_of}
 use Rattle.amqp_engine.specs.Ran.{Ran}
-use Rattle.amqp_engine.specs.TwoRuns.{TwoRunsAreOne}
+use Rattle.amqp_engine.specs.TwoRuns.{OnlyWished, TwoRunsAreOne, WishedRunsAreOne}
 use Rattle.amqp_engine.specs.Inner.Running.{Running}
 use Rattle.amqp_engine.proofs.OutputLemmas.{OutputTaken-more}
 
@@ -152,3 +152,47 @@ two_runs {R} gives law views wished v u w inputs left more rest answers others f
     (both_taken a.entries b.entries inputs left more rest a.promise.taken b.promise.taken)
     (subst (λ (xs : List Answer). Running gives v (wished ++ (a.entries ++ b.entries)) answers w xs) joined
     (subst (λ (es : List (Entry R)). Running gives v es answers w ((answers ++ first) ++ y.out)) (append_assoc wished a.entries b.entries) both))
+
+-- ---- a second run with wishes of its own
+
+left_wished : {R : Type 0} (u t : EngineView R) → OnlyWished u t → OutputTaken u t
+left_wished u t o = subst (λ (x : EngineView _). OutputTaken u x) (sym o) (record {
+  gone = [];
+  left = refl;
+  connection_is = refl;
+  sessions_is = refl;
+  forgotten_is = refl;
+  limit_is = refl;
+  outcomes_are = record { close = inl refl; ends = λ n. inl refl };
+})
+
+-- what a chain leads to, where wishes were noted before it
+chain_wished : {R : Type 0} (gives : Relays R) (u t w : EngineView R) (es : List (Entry R)) → OnlyWished u t → Chain gives t es w → Chain gives u es w
+chain_wished gives u t w es o c = Chain-later gives u t w es (left_wished u t o) c
+
+running_wished : {R : Type 0} (gives : Relays R) (u t w : EngineView R) (es : List (Entry R)) (answers answers' : List Answer) → OnlyWished u t →
+    Running gives t es answers w answers' → Running gives u es answers w answers'
+running_wished gives u t w es answers answers' o b = record {
+  all_taken = b.all_taken;
+  chain = chain_wished gives u t w es o b.chain;
+  limit_is = b.limit_is ∙ ap (λ (x : EngineView _). limit_after x.limit es) o;
+  outcomes_are = b.outcomes_are ∙ ap (λ (x : EngineView _). outcomes_from x.outcomes es) o;
+  out = b.out;
+  appended = b.appended;
+  said = subst (λ (x : EngineView _). OutputOf x.limit x.waiting es w.waiting b.out) o b.said;
+}
+
+pub wished_runs : {R : Type 0} (gives : Relays R) → HeadlineLaw gives → StandsLaw gives → WishedRunsAreOne gives
+wished_runs {R} gives law views wished own v u t w inputs left more rest answers others first second a o b =
+    let x = ran_running gives v u wished inputs left answers (answers ++ first) a in
+    let y = running_wished gives u t w (own ++ b.entries) others (others ++ second) o (ran_running gives t w own (left ++ more) rest others (others ++ second) b) in
+    let same : second ≡ y.out = append_cancel_left others second y.out y.appended in
+    let joined : (answers ++ first) ++ y.out ≡ answers ++ (first ++ second) =
+    append_assoc answers first y.out ∙ ap (λ (xs : List Answer). answers ++ (first ++ xs)) (sym same) in
+    let all : List (Entry R) = (wished ++ a.entries) ++ (own ++ b.entries) in
+    let both = Running-append gives v u w (wished ++ a.entries) (own ++ b.entries) answers (answers ++ first) others (others ++ second) x y in (
+      both_taken a.entries b.entries inputs left more rest a.promise.taken b.promise.taken,
+      running_ran gives v w all [] [] [] answers (answers ++ (first ++ second)) law views refl
+          (subst (λ (xs : List Answer). Running gives v (all ++ []) answers w xs) joined
+          (subst (λ (es : List (Entry R)). Running gives v es answers w ((answers ++ first) ++ y.out)) (sym (append-nil all)) both)),
+    )

@@ -8,7 +8,7 @@ ghost use Rattle.amqp_engine.specs.Entry.{Entry};
 ghost use Rattle.amqp_engine.specs.Legal.{Legal};
 ghost use Rattle.amqp_engine.specs.Headline.{Headline};
 ghost use Rattle.amqp_engine.specs.Views.{Stands};
-ghost use Rattle.amqp_engine.specs.TwoRuns.{TwoRunsAreOne};
+ghost use Rattle.amqp_engine.specs.TwoRuns.{RunsIntoAreOne, TwoRunsAreOne, WishedRunsAreOne};
 ghost use Rattle.amqp_engine.specs.OneFrame.{TransfersAreFrames};
 
 use amqp_session::{LinkRelay, laws as session};
@@ -40,6 +40,23 @@ pub fn law_of_two_runs<R: LinkRelay>()
 {
     law_of_histories::<R>();
     law_of_views::<R>();
+}
+
+/// The same of two runs of which the second has wishes of its own, as a [`HandledEngine`](crate::HandledEngine) runs them; handles may note
+/// wishes between the two. All entries of both, in order, are those of one run.
+pub fn law_of_wished_runs<R: LinkRelay>()
+    ensures { WishedRunsAreOne R.gives }
+{
+    law_of_histories::<R>();
+    law_of_views::<R>();
+}
+
+/// The same of two calls of [`Engine::run_into`](crate::Engine::run_into): what they append to the buffer, in order, and what they append to
+/// the refusals, with the places of the second counted from the first input of the first.
+pub fn law_of_runs_into<R: LinkRelay>()
+    ensures { RunsIntoAreOne R.gives }
+{
+    law_of_two_runs::<R>();
 }
 
 /// Of every run: where each transfer that was requested is one piece under some limit, whatever number its delivery gets, and no limit of
