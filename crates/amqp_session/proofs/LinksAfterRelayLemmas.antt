@@ -65,5 +65,5 @@ none_dropped l k i none gone = inputs_same l i (gone ∙ remove_none l.inputs k 
 
 -- the relay under the handle is gone
 pub one_dropped : {R : Type 0} → (l : LinksView R) (k n h : ℕ) (i : Inputs R) → k ≡ n → i ≡ map.remove l.inputs k →
-    record l { handles = cond (awaits h l) (map.remove l.handles h) l.handles; inputs = i } ≡ dropped n h l
-one_dropped l k n h i is gone = ap (λ x. record l { handles = cond (awaits h l) (map.remove l.handles h) l.handles; inputs = x }) (gone ∙ ap (λ m. map.remove l.inputs m) is)
+    record l { handles = cond (awaits h l) (map.remove l.handles h) l.handles; inputs = i; next = cond (awaits h l) h l.next } ≡ dropped n h l
+one_dropped l k n h i is gone = ap (λ x. record l { handles = cond (awaits h l) (map.remove l.handles h) l.handles; inputs = x; next = cond (awaits h l) h l.next }) (gone ∙ ap (λ m. map.remove l.inputs m) is)

@@ -7,9 +7,9 @@ use Rattle.amqp_session.specs.Links.{LinksView, Names, Handles, attached_at, inp
 use Rattle.amqp_session.specs.Relay.{Gives, Asked}
 use Rattle.amqp_session.proofs.FiniteMapLemmas.{get_at, written}
 
-module _ {R : Type 0} (names : Names R) (handles : Handles) where
+module _ {R : Type 0} (names : Names R) (handles : Handles) (next : ℕ) where
   abbrev pub with_inputs : List (ℕ × AttachedLink R) → LinksView R
-  with_inputs es = record { names = names; handles = handles; inputs = inputs_of es }
+  with_inputs es = record { names = names; handles = handles; inputs = inputs_of es; next = next }
 
   -- a relay that the links have is in the table
   pub in_table : (v : LinksView R) (es : List (ℕ × AttachedLink R)) (h : ℕ) → with_inputs es ≡ v → IsSome (attached_at h v) →
@@ -25,5 +25,5 @@ module _ {R : Type 0} (names : Names R) (handles : Handles) where
     after = a.after;
     attached = get_at old h ∙ a.attached;
     stands = a.stands;
-    put = ap (λ m. record { names = names; handles = handles; inputs = m }) (ap (λ es. from_entries es) a.put ∙ written old h _ there);
+    put = ap (λ m. record { names = names; handles = handles; inputs = m; next = next }) (ap (λ es. from_entries es) a.put ∙ written old h _ there);
   }

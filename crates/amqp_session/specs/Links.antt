@@ -29,9 +29,10 @@ pub record LinksView (R : Type 0) : Type 0 where
   pub names : Names R
   pub handles : Handles
   pub inputs : Inputs R
+  pub next : ℕ  -- the output handle that is given out next
 
 abbrev pub no_links : {R : Type 0} → LinksView R
-no_links = record { names = map.empty; handles = map.empty; inputs = map.empty }
+no_links = record { names = map.empty; handles = map.empty; inputs = map.empty; next = 0 }
 
 -- the relay under an input handle, with the output handle of its link
 abbrev pub attached_at : {R : Type 0} → ℕ → LinksView R → Option (AttachedLink R)
@@ -80,5 +81,5 @@ inputs_code code = map.code coded_ℕ (attached_code code)
 
 abbrev pub links_code : {R : Type 0} → Coded R → Coded (LinksView R)
 links_code {R} code =
-    code_by (Names R × (Handles × Inputs R)) (coded× (names_code code) (coded× handles_code (inputs_code code)))
-    (λ l. (l.names, (l.handles, l.inputs))) (λ p. record { names = p.0; handles = p.1.0; inputs = p.1.1 }) (λ _. refl)
+    code_by (Names R × (Handles × (Inputs R × ℕ))) (coded× (names_code code) (coded× handles_code (coded× (inputs_code code) coded_ℕ)))
+    (λ l. (l.names, (l.handles, (l.inputs, l.next)))) (λ p. record { names = p.0; handles = p.1.0; inputs = p.1.1.0; next = p.1.1.1 }) (λ _. refl)

@@ -59,7 +59,7 @@ impl<R> Model for Links<R> {
 
     ghost coded = { links_code R.code };
 
-    ghost view = { λ l. record { names = names_of l.names.entries; handles = handles_of l.handles; inputs = inputs_of l.inputs.entries } };
+    ghost view = { λ l. record { names = names_of l.names.entries; handles = handles_of l.handles; inputs = inputs_of l.inputs.entries; next = l.handles.vacant_key } };
 }
 
 impl<R: LinkRelay> Links<R> {

@@ -24,7 +24,7 @@ returns g c =
       (
         refl,
         record { attached = get_at c.self.inside.inputs.entries h ∙ a.attached; stands = a.stands },
-        ap (λ m. record { names = names_of c.self.inside.names.entries; handles = handles_of c.self.inside.handles; inputs = m }) (ap (λ es. from_entries es) a.put ∙ written c.self.inside.inputs.entries h _ there),
+        ap (λ m. record { names = names_of c.self.inside.names.entries; handles = handles_of c.self.inside.handles; inputs = m; next = c.self.inside.handles.vacant_key }) (ap (λ es. from_entries es) a.put ∙ written c.self.inside.inputs.entries h _ there),
       ),
       refl,
     )

@@ -39,4 +39,4 @@ returns-clause-asked g c =
       stands = c.on_incoming_transfer.ensures;
       put = at.1 _;
     } in
-    rw (← c.self.view_is) (asked (names_of c.self.inside.names.entries) (handles_of c.self.inside.handles) _ _ _ _ _ _ (some_is _ _ told.attached) told)
+    rw (← c.self.view_is) (asked (names_of c.self.inside.names.entries) (handles_of c.self.inside.handles) c.self.inside.handles.vacant_key _ _ _ _ _ _ (some_is _ _ told.attached) told)

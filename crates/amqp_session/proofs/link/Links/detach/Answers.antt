@@ -13,7 +13,7 @@ returns-in_default g c =
     let gone = c.take.ensures.removed ∙ ap (map.remove (inputs_of c.self.inside.inputs.entries)) is in
     rw (c.of.ensures.answer, c.of.ensures.left, ← c.self.view_is) (
       None,
-      (none, refl, none_dropped (record { names = names_of c.self.inside.names.entries; handles = handles_of c.self.inside.handles; inputs = inputs_of c.self.inside.inputs.entries }) c.args.detach.handle _ none gone),
+      (none, refl, none_dropped (record { names = names_of c.self.inside.names.entries; handles = handles_of c.self.inside.handles; inputs = inputs_of c.self.inside.inputs.entries; next = c.self.inside.handles.vacant_key }) c.args.detach.handle _ none gone),
       refl,
     )
 
@@ -34,7 +34,7 @@ returns g c =
         record { attached = there; stands = c.on_incoming_detach-answer.ensures },
         refl,
         c.answer-awaited.ensures.freed
-            ∙ one_dropped (record { names = names_of c.self.inside.names.entries; handles = handles_of c.self.inside.handles; inputs = inputs_of c.self.inside.inputs.entries }) c.from-input.result.0 c.args.detach.handle c.in-Some.link.handle.0 _ is c.take.ensures.removed,
+            ∙ one_dropped (record { names = names_of c.self.inside.names.entries; handles = handles_of c.self.inside.handles; inputs = inputs_of c.self.inside.inputs.entries; next = c.self.inside.handles.vacant_key }) c.from-input.result.0 c.args.detach.handle c.in-Some.link.handle.0 _ is c.take.ensures.removed,
       ),
       refl,
     )
