@@ -5,9 +5,8 @@
 
 What `OutOfMemory` rests on is a proposition that `amqp_memory` closes: the proofs of that crate's own functions open it, by an attribute, and each
 of these makes the request (crates/amqp_memory/specs/Refusal.antt). No prover keeps others from opening it, so this does: its name stands in no code,
-definition or proof of another crate. Nor does that of what a slab told as its next key stand outside the one function that asks it; and what a reader or a
-writer answered is opened where it is called alone. And evidence has no time: what an invariant, a `requires`, a value or a field of a model says would serve each later call. So none of them says it, nor a definition
-that says it.
+definition or proof of another crate. What a reader or a writer answered is opened where it is called alone. Evidence has no time: what an invariant,
+a `requires`, a value or a field of a model says would serve each later call. So none of them says it, nor a definition that says it.
 """
 
 import re
@@ -23,7 +22,7 @@ from shared.command import command
 
 ROOT = Path(__file__).resolve().parents[2]
 # What is closed, and the files that may name it.
-CLOSED = {"WasRefused": "crates/amqp_memory/", "WasTold": ("crates/amqp_session/specs/Linking.antt", "crates/amqp_session/src/link/handles.rt")}
+CLOSED = {"WasRefused": "crates/amqp_memory/"}
 # What others name and may not open, nor rename: the answers of a reader and of a writer.
 UNOPENED = {name: "crates/amqp_transport/src/calls.rt" for name in ("ReadFailed", "WriteFailed", "Flushed")}
 # The definitions that say it, of the crate that closes it.

@@ -43,6 +43,7 @@ after v e = record {
   local_open = v.local_open;
   remote_open = remote_open_by e v.remote_open;
   agreed_channel_max = channel_max_by v.local_open e v.agreed_channel_max;
+  hash = v.hash;
   session_by_outgoing_channel = held_after e v.session_by_outgoing_channel;
   session_by_incoming_channel = routes_after e v.session_by_incoming_channel;
 }
@@ -108,6 +109,10 @@ after_is v w (IncomingEnd c r) s = unrouted v w c r s
 after_is v w (OutgoingBegin c b) s = s
 after_is v w (OutgoingEnd c e) s = s
 
+-- no call changes the hash
+pub hash_stays : (v w : ConnectionView) (e : Entry) → Step v e w → w.hash ≡ v.hash
+hash_stays v w e s = ap (λ (x : ConnectionView). x.hash) (after_is v w e s)
+
 -- ---- after a history
 
 abbrev pub after_all : ConnectionView → List Entry → ConnectionView
@@ -172,8 +177,8 @@ all_routes c (e ∷ H) v = all_routes c H (after v e) ∙ ap (λ x. route_from c
 
 pub stands : (s : ConnectionState) (o : OpenModel) (H : List Entry) (v : ConnectionView) → LeadsTo s o H v → Stands s o H v
 stands s o H v l =
-    let new = new_connection s o in
-    let is : v ≡ after_all new H = chain_after H new v l in
+    let new = new_connection l.0 s o in
+    let is : v ≡ after_all new H = chain_after H new v l.1 in
     record {
       state_is = ap (λ (x : ConnectionView). x.state) is ∙ all_state H new;
       stop_reason_is = ap (λ (x : ConnectionView). x.stop_reason) is ∙ all_reason H new;

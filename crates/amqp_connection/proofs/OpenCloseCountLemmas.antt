@@ -94,7 +94,7 @@ chain_goes (e ∷ H) v w c =
 
 pub one_each : (s : ConnectionState) (o : OpenModel) (H : List Entry) (v : ConnectionView) → LeadsTo s o H v → OneEach s H
 one_each s o H v l =
-    let all : Goes (handed H) s v.state = chain_goes H (new_connection s o) v l in
+    let all : Goes (handed H) s v.state = chain_goes H (new_connection l.0 s o) v l.1 in
     record {
       one_open = λ e. omega (arith, all.open_spent, ap open_left e);
       one_close = λ e. omega (arith, all.close_spent, ap close_left e);

@@ -11,9 +11,13 @@ use Rattle.std.specs.Ordering.{nat_cmp, eq_by_cmp}
 use Rattle.std.specs.Cmp.{nat_cmp_total, eq_by_cmp_equiv}
 use Rattle.amqp_values.proofs.ReaderLemmas.{pair_is}
 use Rattle.amqp_session.proofs.FiniteMapLemmas.{same_test, get_at}
-use Rattle.amqp_connection.specs.Channels.{ChannelTable, mark}
+use Rattle.amqp_connection.specs.Channels.{ChannelTable, RoutesView, mark}
 use Rattle.amqp_connection.specs.RouteCounts.{leads, leading, count_at, NoZero, Counted, Raised, Lowered, IsLedTo}
 use Rattle.amqp_connection.proofs.LowestChannelLemmas.{tested, untested, same_number, other_number}
+
+-- routes with the same hash and the same map are the same
+pub same_routes : {v w : RoutesView} → v.hash ≡ w.hash → v.routes ≡ w.routes → v ≡ w
+same_routes {v = v} {w = w} hash routes = ap (λ x. record v { hash = x }) hash ∙ ap (λ x. record w { routes = x }) routes
 
 -- ---- how many channels lead to a session
 

@@ -7,6 +7,7 @@ use Rattle.std.specs.Coded.{Coded, coded_ℕ}
 use Rattle.std.specs.Map.{lookup}
 use Rattle.std.specs.BinaryHeap.{IsHeap}
 use Rattle.amqp_memory.specs.Refusal.{SomeRefused}
+use Rattle.amqp_session.specs.declared.keys.KeyHash.{KeyHash}
 use Rattle.amqp_session.specs.declared.numbers.OutgoingChannel.{OutgoingChannel}
 use Rattle.amqp_connection.specs.declared.connection.channel_table.AllotError.{AllotError}
 use Rattle.amqp_connection.specs.declared.connection.channel_table.AllotError.TheVariants.{Full, OutOfMemory}
@@ -16,6 +17,14 @@ ChannelTable = map.FinMap nat_cmp ℕ
 
 abbrev pub channel_table_code : Coded ChannelTable
 channel_table_code = map.code coded_ℕ coded_ℕ
+
+-- where the channels of the peer's lead, and the hash by which they are found
+pub record RoutesView : Type 0 where
+  pub hash : KeyHash
+  pub routes : ChannelTable
+
+abbrev pub no_routes : KeyHash → RoutesView
+no_routes hash = record { hash = hash; routes = map.empty }
 
 pub record IsLowestFree (m : ChannelTable) (channel : ℕ) : Type 0 where
   pub free : map.get m channel ≡ None

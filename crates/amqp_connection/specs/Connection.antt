@@ -9,6 +9,7 @@ use Rattle.amqp_types.specs.declared.states.ConnectionState.TheVariants as at
 use Rattle.amqp_types.specs.Error.{ErrorModel}
 use Rattle.amqp_types.specs.Open.{OpenModel}
 use Rattle.amqp_types.specs.Close.{CloseModel}
+use Rattle.amqp_session.specs.declared.keys.KeyHash.{KeyHash}
 use Rattle.amqp_session.specs.declared.stop.ConnectionStopReason.{ConnectionStopReason}
 use Rattle.amqp_session.specs.declared.stop.ConnectionStopReason.TheVariants.{Closed}
 use Rattle.amqp_session.specs.declared.frame.SessionFrame.{SessionFrame}
@@ -35,18 +36,21 @@ pub record ConnectionView : Type 0 where
   pub remote_open : Option OpenModel
   -- the highest channel that both sides allow; that of this side until the peer's Open is accepted
   pub agreed_channel_max : ℕ
+  -- by which the channels of the peer's are found
+  pub hash : KeyHash
   -- the session of each channel that is held
   pub session_by_outgoing_channel : ChannelTable
   -- the session of each channel on which the peer began one
   pub session_by_incoming_channel : ChannelTable
 
-abbrev pub new_connection : ConnectionState → OpenModel → ConnectionView
-new_connection s o = record {
+abbrev pub new_connection : KeyHash → ConnectionState → OpenModel → ConnectionView
+new_connection hash s o = record {
   state = s;
   stop_reason = None;
   local_open = o;
   remote_open = None;
   agreed_channel_max = o.channel_max;
+  hash = hash;
   session_by_outgoing_channel = map.empty;
   session_by_incoming_channel = map.empty;
 }

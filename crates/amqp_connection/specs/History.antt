@@ -7,6 +7,7 @@ use Rattle.amqp_types.specs.Open.{OpenModel}
 use Rattle.amqp_types.specs.Begin.{BeginModel}
 use Rattle.amqp_types.specs.End.{EndModel}
 use Rattle.amqp_types.specs.Close.{CloseModel}
+use Rattle.amqp_session.specs.declared.keys.KeyHash.{KeyHash}
 use Rattle.amqp_session.specs.declared.stop.ConnectionStopReason.{ConnectionStopReason}
 use Rattle.amqp_frames.specs.declared.frame.Frame.{Frame}
 use Rattle.amqp_connection.specs.declared.error.ConnectionStateError.{ConnectionStateError}
@@ -52,6 +53,6 @@ abbrev pub Chain : ConnectionView → List Entry → ConnectionView → Type 0
 Chain v [] w = w ≡ v
 Chain v (e ∷ es) w = (m : ConnectionView) × Step v e m × Chain m es w
 
--- a history of a connection that was new in this state and with this Open
+-- a history of a connection that was new in this state and with this Open, by whatever hash it finds the peer's channels
 abbrev pub LeadsTo : ConnectionState → OpenModel → List Entry → ConnectionView → Type 0
-LeadsTo s o H w = Chain (new_connection s o) H w
+LeadsTo s o H w = (hash : KeyHash) × Chain (new_connection hash s o) H w

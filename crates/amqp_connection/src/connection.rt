@@ -3,6 +3,7 @@
 ghost use Rattle.std.specs.Prelude.{◌≡◌};
 ghost use Rattle.std.specs.Option.{option_map};
 ghost use Rattle.amqp_session.specs.declared.stop.ConnectionStopReason.{ConnectionStopReason};
+ghost use Rattle.amqp_session.specs.declared.keys.KeyHash.TheVariants.{Fixed};
 ghost use Rattle.amqp_connection.specs.Connection.{new_connection, stopped};
 
 mod allocation;
@@ -64,12 +65,13 @@ impl Drop for Connection {
 
 impl Model for Connection {
     ghost use Rattle.std.specs.Coded.{codes};
+    ghost use Rattle.amqp_session.specs.Hashing.{hash_code};
     ghost use Rattle.amqp_connection.specs.Channels.{channel_table_code};
     ghost use Rattle.amqp_connection.specs.Connection.{ConnectionView};
 
     ghost Value = { ConnectionView };
 
-    ghost coded = { Prim.hlevel (codes, channel_table_code) };
+    ghost coded = { Prim.hlevel (codes, channel_table_code, hash_code) };
 
     ghost view = { λ c. record {
       state = c.state;
@@ -77,8 +79,9 @@ impl Model for Connection {
       local_open = c.local_open;
       remote_open = c.remote_open;
       agreed_channel_max = c.agreed_channel_max;
+      hash = c.session_by_incoming_channel.hash;
       session_by_outgoing_channel = c.session_by_outgoing_channel;
-      session_by_incoming_channel = c.session_by_incoming_channel;
+      session_by_incoming_channel = c.session_by_incoming_channel.routes;
     } };
 }
 
@@ -86,7 +89,7 @@ impl Connection {
     /// A connection in this state, which is to send this Open. No channel is held, no channel of the peer's leads to a session, and no stop
     /// reason is recorded. Takes no memory. Its routes are found by [`KeyHash::Fixed`].
     pub fn new(alloc: Global, state: ConnectionState, local_open: Open) -> Connection
-        ensures { result ≡ new_connection state local_open }
+        ensures { result ≡ new_connection Fixed state local_open }
     {
         Connection::keyed(alloc, KeyHash::Fixed, state, local_open)
     }
@@ -98,7 +101,7 @@ impl Connection {
         state: ConnectionState,
         local_open: Open,
     ) -> Connection
-        ensures { result ≡ new_connection state local_open }
+        ensures { result ≡ new_connection hash state local_open }
     {
         Connection {
             state,

@@ -14,4 +14,4 @@ chain_on g c (e ∷ H) v w is t =
     on_both c (call_frames e) (calls_frames H) (subst (λ n. OnChannel n (call_frames e)) is d.on_channel) (chain_on g c H t.0 w next t.2)
 
 pub channels_law : {R : Type 0} (g : Relays R) (m : Made) (H : List (SessionCall R)) (v : SessionView R) → LeadsTo g m H v → OnChannel m.channel (calls_frames H)
-channels_law g m H v l = chain_on g m.channel H (new_session m.settings m.channel m.state m.stop) v refl l.1
+channels_law g m H v l = chain_on g m.channel H (new_session l.0 m.settings m.channel m.state m.stop) v refl l.2

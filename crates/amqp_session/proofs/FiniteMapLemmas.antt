@@ -1,5 +1,5 @@
 -- Index maps and slabs as finite maps.
-use Rattle.std.proofs.Common.{◌≡◌, ◌≢◌, ◌<◌, ◌+◌, ℕ, suc, zero, subst, slice_index_or, string_bytes, bytes_eq, map as each, cond, List, [], ◌∷◌, Option, Some, None, IsSome, refl, ap, sym, ◌∙◌, nat_eq, Bool, true, false, arith}
+use Rattle.std.proofs.Common.{◌≡◌, ◌≢◌, ◌<◌, ◌+◌, ℕ, suc, zero, subst, slice_index_or, string_bytes, bytes_eq, map as each, cond, List, [], ◌∷◌, Option, Some, None, IsSome, OnSome, refl, ap, sym, ◌∙◌, nat_eq, Bool, true, false, arith}
 use Rattle.std.proofs.lemmas.Bool.Decides.{nat_tests}
 use Rattle.std.proofs.lemmas.Grind.{common_steps}
 use Rattle.std.proofs.lemmas.Map.{lookup-set_value}
@@ -111,6 +111,11 @@ live_at s q o e = ap live_name (place_at s q ∙ ap (option_map place_name) (sym
 
 pub awaited_at : (s : Slab HandleSlot) (q : ℕ) (o : Option HandleSlot) → o ≡ slot s q → is_awaited (get (handles_of s) q) ≡ is_awaited (option_map place_name o)
 awaited_at s q o e = ap is_awaited (place_at s q ∙ ap (option_map place_name) (sym e))
+
+-- what is answered for an awaited slot
+pub next_of_awaited : (s : Slab HandleSlot) (q next : ℕ) (o : Option HandleSlot) → o ≡ slot s q → is_awaited (get (handles_of s) q) ≡ true → OnSome o (next ≡ q) → next ≡ q
+next_of_awaited s q next None e a h = absurd (let no : false ≡ true = sym (awaited_at s q None e) ∙ a in cc)
+next_of_awaited s q next (Some p) e a h = h
 
 -- a live link's slot
 pub live_slot : (s : Slab HandleSlot) (q : ℕ) → IsSome (live_name (get (handles_of s) q)) → IsSome (slot s q)

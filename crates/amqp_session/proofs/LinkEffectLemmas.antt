@@ -206,7 +206,7 @@ module _ {R : Type 0} (g : Relays R) where
   pub links_by : (v w : SessionView R) (e : SessionCall R) → Agree v.links → SessionStep g v e w → LinksBy v.links e w.links
   links_by v w (AllocatesLink name relay (Ok h)) a s =
       subst (λ (x : SessionView R). LinksBy v.links (AllocatesLink name relay (Ok h)) x.links) (sym s.3)
-      (named v.links (linked name h relay v.links) (AllocatesLink name relay (Ok h)) (agree_linked v.links name h relay s.0.1 s.1 a)
+      (named v.links (record (linked name h relay v.links) { next = w.links.next }) (AllocatesLink name relay (Ok h)) (agree_linked v.links name h relay s.0.1 s.1 a)
       (λ q. names_linked v.links name h relay q) refl (λ k o. refl))
   links_by v w (AllocatesIncomingLink name relay input (Ok h)) a s =
       subst (λ (x : SessionView R). LinksBy v.links (AllocatesIncomingLink name relay input (Ok h)) x.links) (sym s.3) record {

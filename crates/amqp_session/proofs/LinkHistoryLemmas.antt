@@ -98,13 +98,13 @@ module _ {R : Type 0} (g : Relays R) where
 
   pub awaited_once : (m : Made) (H : List (SessionCall R)) (v : SessionView R) → LeadsTo g m H v → AwaitedOnce H
   awaited_once m H v l =
-      let new : SessionView R = new_session m.settings m.channel m.state m.stop in record {
+      let new : SessionView R = new_session l.0 m.settings m.channel m.state m.stop in record {
         allotted = λ before after d f is.
-            let r = chain-split g before (SendsDetach d true (Ok (Some f)) ∷ after) new v (subst (λ K. SessionChain g new K v) is l.1) in
+            let r = chain-split g before (SendsDetach d true (Ok (Some f)) ∷ after) new v (subst (λ K. SessionChain g new K v) is l.2) in
             must_allot d.handle before new r.0 r.2.1.1.0 (ap live_name (get-empty nat_cmp d.handle)) r.1 r.2.1.1.1;
         again = λ before between after d e f h is same.
             let rest : List (SessionCall R) = between ++ SendsDetach e true (Ok (Some h)) ∷ after in
-            let r = chain-split g before (SendsDetach d true (Ok (Some f)) ∷ rest) new v (subst (λ K. SessionChain g new K v) is l.1) in
+            let r = chain-split g before (SendsDetach d true (Ok (Some f)) ∷ rest) new v (subst (λ K. SessionChain g new K v) is l.2) in
             let q = chain-split g between (SendsDetach e true (Ok (Some h)) ∷ after) r.2.0 v r.2.2 in
             must_allot d.handle between r.2.0 q.0 q.2.1.1.0 (awaited_after r.0.links r.2.0.links d.handle r.2.1.1) q.1
             (ap (λ k. name_at k q.0.links) same ∙ q.2.1.1.1);

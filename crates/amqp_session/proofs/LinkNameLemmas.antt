@@ -8,6 +8,7 @@ use Rattle.std.specs.Cmp.Lexicographic.{slice_cmp, nat_list_cmp_total}
 use Rattle.std.specs.FinMap as map
 use Rattle.std.specs.FinMap.{get-empty, get-insert, get-remove}
 use Rattle.amqp_types.specs.Attach.{AttachModel}
+use Rattle.amqp_session.specs.declared.keys.KeyHash.{KeyHash}
 use Rattle.amqp_session.specs.declared.link.LiveLink.{LiveLink}
 use Rattle.amqp_session.specs.declared.numbers.OutputHandle.{OutputHandle}
 use Rattle.amqp_session.specs.declared.error.LinkRelayError.{LinkRelayError}
@@ -242,8 +243,8 @@ module _ {R : Type 0} where
   attach_waits gives l new a (Some q) result t = attach_answered l new a q q.answer result t.1 t.3
 
 -- no link is live in a new session
-pub agree_new : (R : Type 0) → Agree (no_links {R = R})
-agree_new R q h = (
+pub agree_new : (R : Type 0) (hash : KeyHash) → Agree (no_links {R = R} hash)
+agree_new R hash q h = (
   λ e. let x : None ≡ Some h = sym (ap handle_of (get-empty (slice_cmp nat_cmp) q)) ∙ e in absurd (cc),
   λ e. let x : None ≡ Some (Some q) = sym (get-empty nat_cmp h) ∙ e in absurd (cc),
 )

@@ -3,6 +3,7 @@ use Rattle.std.proofs.Common.{◌≡◌, ℕ, Option, Some, None, Result, Ok, Er
 use Rattle.std.specs.FinMap as map
 use Rattle.amqp_memory.specs.Refusal.{SomeRefused}
 use Rattle.amqp_types.specs.Attach.{AttachModel}
+use Rattle.amqp_session.specs.declared.keys.KeyHash.{KeyHash}
 use Rattle.amqp_session.specs.declared.link.LiveLink.{LiveLink}
 use Rattle.amqp_session.specs.declared.link.AttachedLink.{AttachedLink}
 use Rattle.amqp_session.specs.declared.error.LinkRelayError.{LinkRelayError}
@@ -21,14 +22,14 @@ waited_full old None h free r = absurd h
 pub inputs_same : {R : Type 0} → (l : LinksView R) (i : Inputs R) → i ≡ l.inputs → record l { inputs = i } ≡ l
 inputs_same l i e = ap (λ x. record l { inputs = x }) e
 
-module _ {R : Type 0} (gives : AttachGives R) (l : LinksView R) (a : AttachModel) (names : Names R) where
+module _ {R : Type 0} (gives : AttachGives R) (l : LinksView R) (a : AttachModel) (hash : KeyHash) (same_hash : hash ≡ l.hash) (names : Names R) where
   -- the relay refuses
   pub attaches_err : (i : Inputs R) (e : LinkRelayError) (x : SessionInnerError) → AttachAsked gives l.names a (Err e) names → x ≡ inner_of_relay e → i ≡ l.inputs →
-      (asked : Option (AttachQuestion R)) × Attaches gives l a asked (Err x) (record l { names = names; inputs = i })
+      (asked : Option (AttachQuestion R)) × Attaches gives l a asked (Err x) (record l { hash = hash; names = names; inputs = i })
   attaches_err i e x r is same = by r.asked.answer r.asked.stands r.asked.leaves
     where
       by : (answer : Result (Unit {0}) LinkRelayError) → gives r.asked.before a answer r.asked.after → AttachLeaves r.old.handle r.asked.after answer (Err e) r.left →
-          (asked : Option (AttachQuestion R)) × Attaches gives l a asked (Err x) (record l { names = names; inputs = i })
+          (asked : Option (AttachQuestion R)) × Attaches gives l a asked (Err x) (record l { hash = hash; names = names; inputs = i })
       by (Ok u) stands leaves = absurd leaves
       by (Err y) stands leaves = (
         Some (record { handle = r.old.handle; before = r.asked.before; asked = a; answer = Err y; after = r.asked.after }),
@@ -36,17 +37,17 @@ module _ {R : Type 0} (gives : AttachGives R) (l : LinksView R) (a : AttachModel
           refl,
           r.live ∙ ap (λ w. Some (record { handle = r.old.handle; waiting = w })) r.asked.waits,
           stands,
-          (is ∙ ap inner_of_relay leaves.0, ap (λ j. record l { names = names; inputs = j }) same ∙ ap (λ n. record l { names = n }) (r.put ∙ ap (λ n. map.insert l.names a.name n) leaves.1)),
+          (is ∙ ap inner_of_relay leaves.0, ap (λ h. record l { hash = h; names = names; inputs = i }) same_hash ∙ ap (λ j. record l { names = names; inputs = j }) same ∙ ap (λ n. record l { names = n }) (r.put ∙ ap (λ n. map.insert l.names a.name n) leaves.1)),
         ),
       )
 
   -- the relay accepts, and is put under the input handle
   pub attaches_ok : (i j : Inputs R) (k : ℕ) (link : AttachedLink R) → AttachAsked gives l.names a (Ok link) names → k ≡ a.handle → j ≡ l.inputs → i ≡ map.insert j k link →
-      (asked : Option (AttachQuestion R)) × Attaches gives l a asked (Ok tt) (record l { names = names; inputs = i })
+      (asked : Option (AttachQuestion R)) × Attaches gives l a asked (Ok tt) (record l { hash = hash; names = names; inputs = i })
   attaches_ok i j k link r is same put = by r.asked.answer r.asked.stands r.asked.leaves
     where
       by : (answer : Result (Unit {0}) LinkRelayError) → gives r.asked.before a answer r.asked.after → AttachLeaves r.old.handle r.asked.after answer (Ok link) r.left →
-          (asked : Option (AttachQuestion R)) × Attaches gives l a asked (Ok tt) (record l { names = names; inputs = i })
+          (asked : Option (AttachQuestion R)) × Attaches gives l a asked (Ok tt) (record l { hash = hash; names = names; inputs = i })
       by (Err y) stands leaves = absurd leaves
       by (Ok u) stands leaves = (
         Some (record { handle = r.old.handle; before = r.asked.before; asked = a; answer = Ok u; after = r.asked.after }),
@@ -54,7 +55,7 @@ module _ {R : Type 0} (gives : AttachGives R) (l : LinksView R) (a : AttachModel
           refl,
           r.live ∙ ap (λ w. Some (record { handle = r.old.handle; waiting = w })) r.asked.waits,
           stands,
-          ap (λ x. record l { names = names; inputs = x }) (put ∙ ap (λ x. map.insert x k link) same ∙ ap (λ n. map.insert l.inputs n link) is ∙ ap (λ y. map.insert l.inputs a.handle y) leaves.0)
+          ap (λ h. record l { hash = h; names = names; inputs = i }) same_hash ∙ ap (λ x. record l { names = names; inputs = x }) (put ∙ ap (λ x. map.insert x k link) same ∙ ap (λ n. map.insert l.inputs n link) is ∙ ap (λ y. map.insert l.inputs a.handle y) leaves.0)
               ∙ ap (λ n. record l { names = n; inputs = map.insert l.inputs a.handle (record { handle = r.old.handle; relay = r.asked.after }) }) (r.put ∙ ap (λ n. map.insert l.names a.name n) leaves.1),
         ),
       )
@@ -65,5 +66,5 @@ none_dropped l k i none gone = inputs_same l i (gone ∙ remove_none l.inputs k 
 
 -- the relay under the handle is gone
 pub one_dropped : {R : Type 0} → (l : LinksView R) (k n h : ℕ) (i : Inputs R) → k ≡ n → i ≡ map.remove l.inputs k →
-    record l { handles = cond (awaits h l) (map.remove l.handles h) l.handles; inputs = i } ≡ dropped n h l
-one_dropped l k n h i is gone = ap (λ x. record l { handles = cond (awaits h l) (map.remove l.handles h) l.handles; inputs = x }) (gone ∙ ap (λ m. map.remove l.inputs m) is)
+    record l { handles = cond (awaits h l) (map.remove l.handles h) l.handles; inputs = i; next = cond (awaits h l) h l.next } ≡ dropped n h l
+one_dropped l k n h i is gone = ap (λ x. record l { handles = cond (awaits h l) (map.remove l.handles h) l.handles; inputs = x; next = cond (awaits h l) h l.next }) (gone ∙ ap (λ m. map.remove l.inputs m) is)

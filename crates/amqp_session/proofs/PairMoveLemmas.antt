@@ -10,6 +10,7 @@ use Rattle.amqp_session.specs.declared.flow.LinkFlow.{LinkFlow}
 use Rattle.amqp_session.specs.declared.frame.SessionFrame.{SessionFrame}
 use Rattle.amqp_session.specs.declared.frame.SessionFrameBody.{SessionFrameBody}
 use Rattle.amqp_session.specs.declared.frame.SessionFrameBody.TheVariants as Body
+use Rattle.amqp_session.specs.declared.keys.KeyHash.TheVariants.{Fixed}
 use Rattle.amqp_session.specs.declared.numbers.OutputHandle.{OutputHandle}
 use Rattle.amqp_session.specs.declared.pair.Side.{Side}
 use Rattle.amqp_session.specs.declared.pair.Side.TheVariants.{A, B}
@@ -250,4 +251,4 @@ in_order g s t H p h = let k = keeps g H (new_pair s t) p h in record { to_b = k
 pub histories : {R : Type 0} (g : Relays R) (s t : SettingsModel) (H : List (PairCall R)) (p : PairView R) → FitsSettings s →
     FitsSettings t →
     PairChain g (new_pair s t) H p → AreHistories g s t H p
-histories g s t H p hs ht h = let k = keeps g H (new_pair s t) p h in ((hs.0, k.a_goes), (ht.0, k.b_goes))
+histories g s t H p hs ht h = let k = keeps g H (new_pair s t) p h in ((Fixed, hs.0, k.a_goes), (Fixed, ht.0, k.b_goes))

@@ -2,14 +2,15 @@
 use Rattle.std.proofs.Common.{◌≡◌, ℕ, List, IsSome, ap, sym, subst, ◌∙◌, nat_eq}
 use Rattle.std.specs.Map.{lookup, set_value}
 use Rattle.std.specs.FinMap.{from_entries}
+use Rattle.amqp_session.specs.declared.keys.KeyHash.{KeyHash}
 use Rattle.amqp_session.specs.declared.link.AttachedLink.{AttachedLink}
 use Rattle.amqp_session.specs.Links.{LinksView, Names, Handles, attached_at, inputs_of, put_at}
 use Rattle.amqp_session.specs.Relay.{Gives, Asked}
 use Rattle.amqp_session.proofs.FiniteMapLemmas.{get_at, written}
 
-module _ {R : Type 0} (names : Names R) (handles : Handles) where
+module _ {R : Type 0} (hash : KeyHash) (names : Names R) (handles : Handles) (next : ℕ) where
   abbrev pub with_inputs : List (ℕ × AttachedLink R) → LinksView R
-  with_inputs es = record { names = names; handles = handles; inputs = inputs_of es }
+  with_inputs es = record { hash = hash; names = names; handles = handles; inputs = inputs_of es; next = next }
 
   -- a relay that the links have is in the table
   pub in_table : (v : LinksView R) (es : List (ℕ × AttachedLink R)) (h : ℕ) → with_inputs es ≡ v → IsSome (attached_at h v) →
@@ -25,5 +26,5 @@ module _ {R : Type 0} (names : Names R) (handles : Handles) where
     after = a.after;
     attached = get_at old h ∙ a.attached;
     stands = a.stands;
-    put = ap (λ m. record { names = names; handles = handles; inputs = m }) (ap (λ es. from_entries es) a.put ∙ written old h _ there);
+    put = ap (λ m. record { hash = hash; names = names; handles = handles; inputs = m; next = next }) (ap (λ es. from_entries es) a.put ∙ written old h _ there);
   }

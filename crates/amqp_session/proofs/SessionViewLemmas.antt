@@ -9,6 +9,7 @@ use Rattle.amqp_session.specs.declared.error.SessionInnerError.{SessionInnerErro
 use Rattle.amqp_session.specs.declared.error.SessionInnerError.TheVariants as Refused
 use Rattle.amqp_session.specs.Serial.{In, remaining}
 use Rattle.amqp_session.specs.declared.deliveries.Delivery.{Delivery}
+use Rattle.amqp_session.specs.declared.keys.KeyHash.{KeyHash}
 use Rattle.amqp_session.specs.declared.session.receiving.Receiving.{Receiving}
 use Rattle.amqp_session.specs.Transfers.{RequestedTransfer, firsts, opened}
 use Rattle.amqp_session.specs.Sending.{SendingView, moved, let_out, opened_by, drained}
@@ -134,8 +135,8 @@ module _ {R : Type 0} (g : Relays R) where
   stands-chain m G (e ∷ H) v u b a c =
       subst (λ K. Stands m K u) (append_assoc G (e ∷ []) H) (stands-chain m (G ++ e ∷ []) H c.0 u (stands-more m G e v c.0 b a c.1) (links_by g v c.0 e a c.1).agree c.2)
 
-  pub stands-new : (m : Made) → m.settings.next_outgoing_id < 2 ^ 32 → Stands {R = R} m [] (new_session m.settings m.channel m.state m.stop)
-  stands-new m h = record {
+  pub stands-new : (hash : KeyHash) (m : Made) → m.settings.next_outgoing_id < 2 ^ 32 → Stands {R = R} m [] (new_session hash m.settings m.channel m.state m.stop)
+  stands-new hash m h = record {
     sending_is = record {
       next_is = omega arith;
       delivery_is = refl;
@@ -161,7 +162,7 @@ module _ {R : Type 0} (g : Relays R) where
 
   -- the law of views
   pub stands_law : (m : Made) (H : List (SessionCall R)) (v : SessionView R) → LeadsTo g m H v → Stands m H v
-  stands_law m H v l = stands-chain m [] H (new_session m.settings m.channel m.state m.stop) v (stands-new m l.0) (agree_new R) l.1
+  stands_law m H v l = stands-chain m [] H (new_session l.0 m.settings m.channel m.state m.stop) v (stands-new l.0 m l.1) (agree_new R l.0) l.2
 
   -- in every history names and output handles agree
   pub agree_chain : (H : List (SessionCall R)) (v u : SessionView R) → Agree v.links → SessionChain g v H u → Agree u.links
@@ -169,7 +170,7 @@ module _ {R : Type 0} (g : Relays R) where
   agree_chain (e ∷ H) v u a c = agree_chain H c.0 u (links_by g v c.0 e a c.1).agree c.2
 
   pub agree_law : (m : Made) (H : List (SessionCall R)) (v : SessionView R) → LeadsTo g m H v → Agree v.links
-  agree_law m H v l = agree_chain H (new_session m.settings m.channel m.state m.stop) v (agree_new R) l.1
+  agree_law m H v l = agree_chain H (new_session l.0 m.settings m.channel m.state m.stop) v (agree_new R l.0) l.2
 
   pub chain-split : (xs ys : List (SessionCall R)) (v u : SessionView R) → SessionChain g v (xs ++ ys) u → (m : SessionView R) × SessionChain g v xs m × SessionChain g m ys u
   chain-split [] ys v u c = (v, refl, c)
@@ -224,17 +225,17 @@ module _ {R : Type 0} (g : Relays R) where
         let b = stands_law m H v l in
         numbered_first m.channel 0 (length (handed H)) k (accepted H) h f asked (subst (λ (fs : List SessionFrame). slice_get fs k ≡ Some f) b.sending_is.handed_out out);
     all_answered = λ before after h result is.
-        let r = chain-split before (SendsTransfer h result ∷ after) (new_session m.settings m.channel m.state m.stop) v (subst (λ K. SessionChain g (new_session m.settings m.channel m.state m.stop) K v) is l.1) in
-        let b = stands_law m before r.0 (l.0, r.1) in
+        let r = chain-split before (SendsTransfer h result ∷ after) (new_session l.0 m.settings m.channel m.state m.stop) v (subst (λ K. SessionChain g (new_session l.0 m.settings m.channel m.state m.stop) K v) is l.2) in
+        let b = stands_law m before r.0 (l.0, l.1, r.1) in
         subst (λ s. Answers s h result) b.state_is (answers r.0 r.2.0 h result r.2.1);
     inside = λ before after e is k h.
-        let r = chain-split before (e ∷ after) (new_session m.settings m.channel m.state m.stop) v (subst (λ K. SessionChain g (new_session m.settings m.channel m.state m.stop) K v) is l.1) in
-        let b = stands_law m before r.0 (l.0, r.1) in
+        let r = chain-split before (e ∷ after) (new_session l.0 m.settings m.channel m.state m.stop) v (subst (λ K. SessionChain g (new_session l.0 m.settings m.channel m.state m.stop) K v) is l.2) in
+        let b = stands_law m before r.0 (l.0, l.1, r.1) in
         let d = does g r.0 r.2.0 e r.2.1 in
         rw (window_from-append m m.settings.next_outgoing_id (0, 0) before (e ∷ [])) (goes_inside (lets_by r.0 e) _ _ (accepted before ++ accepted_by e) (handed before) _ _ _ _ k (goes_on m r.0 r.2.0 e b.outgoing_channel_is d) (before_is m before r.0 r.2.0 e b d) h);
     waits_only = λ before after e is lets.
-        let r = chain-split before (e ∷ after) (new_session m.settings m.channel m.state m.stop) v (subst (λ K. SessionChain g (new_session m.settings m.channel m.state m.stop) K v) is l.1) in
-        let b = stands_law m before r.0 (l.0, r.1) in
+        let r = chain-split before (e ∷ after) (new_session l.0 m.settings m.channel m.state m.stop) v (subst (λ K. SessionChain g (new_session l.0 m.settings m.channel m.state m.stop) K v) is l.2) in
+        let b = stands_law m before r.0 (l.0, l.1, r.1) in
         let ends = call_waits r.0 r.2.0 e r.2.1 (subst (λ s. LetsOut s e) (sym b.state_is) lets) in
-        waits_by m (before ++ e ∷ []) r.2.0 (stands-more m before e r.0 r.2.0 b (agree_law m before r.0 (l.0, r.1)) r.2.1) ends;
+        waits_by m (before ++ e ∷ []) r.2.0 (stands-more m before e r.0 r.2.0 b (agree_law m before r.0 (l.0, l.1, r.1)) r.2.1) ends;
   }

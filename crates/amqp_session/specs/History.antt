@@ -11,6 +11,7 @@ use Rattle.amqp_types.specs.Disposition.{DispositionModel}
 use Rattle.amqp_types.specs.Detach.{DetachModel}
 use Rattle.amqp_types.specs.declared.definitions.Role.{Role}
 use Rattle.amqp_types.specs.declared.states.SessionState.{SessionState}
+use Rattle.amqp_session.specs.declared.keys.KeyHash.{KeyHash}
 use Rattle.amqp_session.specs.declared.numbers.InputHandle.{InputHandle}
 use Rattle.amqp_session.specs.declared.numbers.OutputHandle.{OutputHandle}
 use Rattle.amqp_session.specs.declared.flow.LinkFlow.{LinkFlow}
@@ -89,6 +90,7 @@ pub record Made : Type 0 where
   pub state : SessionState
   pub stop : Option ConnectionStopReason
 
--- a legal history of a session that was made so, and the view that it leads to
+-- a legal history of a session that was made so, by whatever hash its links are found, and the view that it leads to
 abbrev pub LeadsTo : {R : Type 0} → Relays R → Made → List (SessionCall R) → SessionView R → Type 0
-LeadsTo g m H w = (m.settings.next_outgoing_id < 2 ^ 32) × SessionChain g (new_session m.settings m.channel m.state m.stop) H w
+LeadsTo g m H w =
+    (hash : KeyHash) × (m.settings.next_outgoing_id < 2 ^ 32) × SessionChain g (new_session hash m.settings m.channel m.state m.stop) H w

@@ -69,16 +69,17 @@ is_awaited (Some (Some name)) = false
 abbrev pub awaits : {R : Type 0} → ℕ → LinksView R → Bool
 awaits h l = is_awaited (map.get l.handles h)
 
--- a link becomes live by a name and an output handle, and its relay, if any, waits for the peer's attach
+-- A link becomes live by a name and an output handle, and its relay, if any, waits for the peer's attach. Which handle comes after it, each
+-- call says by itself, here and where a handle stays awaited: the crate slab, which keeps the handles, leaves that open.
 abbrev pub linked : {R : Type 0} → List ℕ → OutputHandle → Option R → LinksView R → LinksView R
 linked name h waiting l = record l {
   names = map.insert l.names name (record { handle = h; waiting = waiting });
   handles = map.insert l.handles h.0 (Some name);
 }
 
--- the live link of this name is gone, and its output handle is free
+-- the live link of this name is gone, and its output handle is free, and given out next
 abbrev pub released : {R : Type 0} → List ℕ → ℕ → LinksView R → LinksView R
-released name h l = record l { names = map.remove l.names name; handles = map.remove l.handles h }
+released name h l = record l { names = map.remove l.names name; handles = map.remove l.handles h; next = h }
 
 -- the live link of this name is gone, and its output handle waits for the peer's answer
 abbrev pub left_awaited : {R : Type 0} → List ℕ → ℕ → LinksView R → LinksView R
@@ -102,17 +103,9 @@ why_unallotted s None = if has_ended s then Unallotted.SessionStopped Stopped.En
 abbrev pub MayAllot : {R : Type 0} → SessionView R → List ℕ → Type 0
 MayAllot v name = (is_mapped v.state ≡ true) × (named_at name v.links ≡ None)
 
--- The crate slab keeps the output handles, and leaves open which key it gives out next. So what it tells is closed to every proof but that of the
--- one function that asks it: of a slab with just these handles, this is the next key.
-unfoldable pub WasTold : Handles → ℕ → Type 0
-WasTold handles key = Unit {0}
-
-pub record IsNext (handles : Handles) (key : ℕ) : Type 0 where
-  pub told : WasTold handles key
-
 -- no handle of four bytes is left: the next one is past them
-abbrev pub IsExhausted : Handles → Type 0
-IsExhausted handles = (key : ℕ) × (2 ^ 32 ≤ key) × IsNext handles key
+abbrev pub IsExhausted : {R : Type 0} → LinksView R → Type 0
+IsExhausted l = 2 ^ 32 ≤ l.next
 
 -- the allotment is refused so: where nothing else refuses it, no handle is left, or memory was refused
 abbrev pub AllotRefused : {R : Type 0} → SessionView R → List ℕ → AllocLinkError → Type 0
@@ -121,7 +114,7 @@ AllotRefused v name Unallotted.SessionNotMapped =
 AllotRefused v name (Unallotted.SessionStopped reason) =
     (is_mapped v.state ≡ false) × (why_unallotted v.state v.session_stop ≡ Unallotted.SessionStopped reason)
 AllotRefused v name Unallotted.DuplicatedLinkName = (is_mapped v.state ≡ true) × IsSome (named_at name v.links)
-AllotRefused v name Unallotted.HandlesExhausted = MayAllot v name × IsExhausted v.links.handles
+AllotRefused v name Unallotted.HandlesExhausted = MayAllot v name × IsExhausted v.links
 AllotRefused v name Unallotted.OutOfMemory = MayAllot v name × SomeRefused
 
 -- no handle of four bytes is left, or memory was refused
@@ -129,15 +122,15 @@ abbrev pub IsFull : {R : Type 0} → LinksView R → AllocLinkError → Type 0
 IsFull l Unallotted.SessionNotMapped = ⊥
 IsFull l (Unallotted.SessionStopped reason) = ⊥
 IsFull l Unallotted.DuplicatedLinkName = ⊥
-IsFull l Unallotted.HandlesExhausted = IsExhausted l.handles
+IsFull l Unallotted.HandlesExhausted = IsExhausted l
 IsFull l Unallotted.OutOfMemory = SomeRefused
 
--- The output handle is the one that the slab told, which is not taken. The links are then as the call says.
+-- The output handle is the next one, which is not taken. The links are then as the call says, and another handle is the next one.
 abbrev pub AllotStep : {R : Type 0} → SessionView R → List ℕ → (OutputHandle → LinksView R) → Result OutputHandle AllocLinkError →
     SessionView R → Type 0
 AllotStep v name gives (Ok h) w =
-    MayAllot v name × (map.get v.links.handles h.0 ≡ None) × (h.0 < 2 ^ 32) × (w ≡ record v { links = gives h })
-    × IsNext v.links.handles h.0
+    MayAllot v name × (map.get v.links.handles h.0 ≡ None) × (h.0 < 2 ^ 32)
+    × (w ≡ record v { links = record (gives h) { next = w.links.next } }) × (h.0 ≡ v.links.next)
 AllotStep v name gives (Err e) w = AllotRefused v name e × (w ≡ v)
 
 -- the relay, if any, waits under the name
@@ -235,7 +228,7 @@ detach_frame v d = record { channel = v.outgoing_channel; body = Body.Detach d }
 -- A detach of this side that the peer is to answer leaves the handle of its live link awaited, and goes out for a live link alone.
 -- Any other releases the live link, if there is one, and goes out in every case.
 abbrev pub Leaves : {R : Type 0} → LinksView R → ℕ → Bool → Bool → LinksView R → Type 0
-Leaves l h true true new = (name : List ℕ) × (name_at h l ≡ Some name) × (new ≡ left_awaited name h l)
+Leaves l h true true new = (name : List ℕ) × (name_at h l ≡ Some name) × (new ≡ record (left_awaited name h l) { next = new.next })
 Leaves l h true false new = (name_at h l ≡ None) × (new ≡ l)
 Leaves l h false true new = (was : Bool) × Releases l h was new
 Leaves l h false false new = ⊥
@@ -247,9 +240,13 @@ SendDetachStep v d expects_echo (Ok (Some frame)) w =
 SendDetachStep v d expects_echo (Ok None) w = Leaves v.links d.handle expects_echo false w.links × (w ≡ record v { links = w.links })
 SendDetachStep v d expects_echo (Err e) w = ⊥
 
--- the links after a detach of the peer: the relay is gone, and an output handle whose answer was awaited is free
+-- the links after a detach of the peer: the relay is gone, and an output handle whose answer was awaited is free, and given out next
 abbrev pub dropped : {R : Type 0} → ℕ → ℕ → LinksView R → LinksView R
-dropped input h l = record l { handles = if awaits h l then map.remove l.handles h else l.handles; inputs = map.remove l.inputs input }
+dropped input h l = record l {
+  handles = if awaits h l then map.remove l.handles h else l.handles;
+  inputs = map.remove l.inputs input;
+  next = if awaits h l then h else l.next;
+}
 
 -- An input handle that is not attached is passed over. Else the relay is told whether the peer began the detach: it did where no
 -- own detach is awaited. The relay's answer is handed back.

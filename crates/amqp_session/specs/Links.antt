@@ -9,6 +9,8 @@ use Rattle.std.specs.Ordering.{nat_cmp}
 use Rattle.std.specs.Cmp.Lexicographic.{slice_cmp}
 use Rattle.std.specs.FinMap as map
 use Rattle.std.specs.Coded.{Coded, code_by, coded×, coded_ℕ, coded_list, coded_option}
+use Rattle.amqp_session.specs.declared.keys.KeyHash.{KeyHash}
+use Rattle.amqp_session.specs.Hashing.{hash_code}
 use Rattle.amqp_session.specs.declared.link.AttachedLink.{AttachedLink}
 use Rattle.amqp_session.specs.declared.link.LiveLink.{LiveLink}
 
@@ -26,12 +28,14 @@ abbrev pub Inputs : Type 0 → Type 0
 Inputs R = map.FinMap nat_cmp (AttachedLink R)
 
 pub record LinksView (R : Type 0) : Type 0 where
+  pub hash : KeyHash  -- by which names and input handles are found
   pub names : Names R
   pub handles : Handles
   pub inputs : Inputs R
+  pub next : ℕ  -- the output handle that is given out next
 
-abbrev pub no_links : {R : Type 0} → LinksView R
-no_links = record { names = map.empty; handles = map.empty; inputs = map.empty }
+abbrev pub no_links : {R : Type 0} → KeyHash → LinksView R
+no_links hash = record { hash = hash; names = map.empty; handles = map.empty; inputs = map.empty; next = 0 }
 
 -- the relay under an input handle, with the output handle of its link
 abbrev pub attached_at : {R : Type 0} → ℕ → LinksView R → Option (AttachedLink R)
@@ -80,5 +84,7 @@ inputs_code code = map.code coded_ℕ (attached_code code)
 
 abbrev pub links_code : {R : Type 0} → Coded R → Coded (LinksView R)
 links_code {R} code =
-    code_by (Names R × (Handles × Inputs R)) (coded× (names_code code) (coded× handles_code (inputs_code code)))
-    (λ l. (l.names, (l.handles, l.inputs))) (λ p. record { names = p.0; handles = p.1.0; inputs = p.1.1 }) (λ _. refl)
+    code_by (KeyHash × (Names R × (Handles × (Inputs R × ℕ))))
+    (coded× hash_code (coded× (names_code code) (coded× handles_code (coded× (inputs_code code) coded_ℕ))))
+    (λ l. (l.hash, (l.names, (l.handles, (l.inputs, l.next)))))
+    (λ p. record { hash = p.0; names = p.1.0; handles = p.1.1.0; inputs = p.1.1.1.0; next = p.1.1.1.1 }) (λ _. refl)

@@ -19,6 +19,7 @@ use Rattle.amqp_session.specs.declared.frame.SessionFrame.{SessionFrame}
 use Rattle.amqp_session.specs.declared.frame.SessionFrameBody.{SessionFrameBody}
 use Rattle.amqp_session.specs.declared.frame.SessionFrameBody.TheVariants as Body
 use Rattle.amqp_session.specs.declared.frame.SessionOutgoingItem.{SessionOutgoingItem}
+use Rattle.amqp_session.specs.declared.keys.KeyHash.TheVariants.{Fixed}
 use Rattle.amqp_session.specs.declared.numbers.OutputHandle.{OutputHandle}
 use Rattle.amqp_session.specs.declared.pair.Side.{Side}
 use Rattle.amqp_session.specs.declared.pair.Side.TheVariants.{A, B}
@@ -42,9 +43,9 @@ pub record PairView (R : Type 0) : Type 0 where
   pub to_a : List SessionFrame  -- on the way to a, the oldest first
   pub to_b : List SessionFrame  -- on the way to b
 
--- no Begin was sent, and nothing is on the way
+-- no Begin was sent, and nothing is on the way; the links are found by the key that everyone knows
 abbrev pub new_pair : {R : Type 0} → SettingsModel → SettingsModel → PairView R
-new_pair s t = record { a = new_session s 0 Unmapped None; b = new_session t 0 Unmapped None; to_a = []; to_b = [] }
+new_pair s t = record { a = new_session Fixed s 0 Unmapped None; b = new_session Fixed t 0 Unmapped None; to_a = []; to_b = [] }
 
 -- the session of a side, and the frames on the way to it
 abbrev pub session_at : {R : Type 0} → Side → PairView R → SessionView R

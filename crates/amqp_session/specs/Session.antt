@@ -6,6 +6,7 @@ use Rattle.amqp_types.specs.Flow.{FlowModel}
 use Rattle.amqp_types.specs.declared.states.SessionState.{SessionState}
 use Rattle.amqp_session.specs.declared.deliveries.WalkCount.{WalkCount}
 use Rattle.amqp_session.specs.declared.flow.LinkFlow.{LinkFlow}
+use Rattle.amqp_session.specs.declared.keys.KeyHash.{KeyHash}
 use Rattle.amqp_session.specs.declared.frame.SessionFrame.{SessionFrame}
 use Rattle.amqp_session.specs.declared.frame.SessionFrameBody.TheVariants as Body
 use Rattle.amqp_session.specs.declared.session.receiving.Receiving.{Receiving}
@@ -37,8 +38,8 @@ pub record SessionModel (R : Type 0) : Type 0 where
   pub last_walk : WalkCount
   pub reads : OpenReads
 
-abbrev pub new_session : {R : Type 0} → SettingsModel → ℕ → SessionState → Option ConnectionStopReason → SessionView R
-new_session settings channel state stop = record {
+abbrev pub new_session : {R : Type 0} → KeyHash → SettingsModel → ℕ → SessionState → Option ConnectionStopReason → SessionView R
+new_session hash settings channel state stop = record {
   state = state;
   settings = settings;
   outgoing_channel = channel;
@@ -47,7 +48,7 @@ new_session settings channel state stop = record {
   session_stop = None;
   sending = new_sending settings.next_outgoing_id;
   receiving = nothing_received;
-  links = no_links;
+  links = no_links hash;
   deliveries = record { receiver = []; sender = [] };
 }
 

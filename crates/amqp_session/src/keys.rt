@@ -5,7 +5,7 @@ ghost use Rattle.std.specs.Map.{lookup};
 ghost use Rattle.std.specs.FinMap.{get, insert, remove};
 ghost use Rattle.std.specs.Borrow.{sem};
 ghost use Rattle.std.specs.Option.{option_copied_mut};
-ghost use Rattle.indexmap.specs.IndexMap.{spare, get_by};
+ghost use Rattle.indexmap.specs.IndexMap.{spare, hasher_of, get_by};
 ghost use Rattle.amqp_session.specs.Lending.{lends_under};
 ghost use Rattle.amqp_session.specs.Hashing.{hasher_by, numbered};
 
@@ -127,6 +127,7 @@ pub fn put<V>(map: &mut Numbered<V>, hints: &mut Hints, key: u32, value: V) -> O
     requires { get (numbered map.old.entries) key ≡ None → 0 < spare map.old }
     ensures put { numbered map.new.entries ≡ insert (numbered map.old.entries) key value }
     ensures left { result ≡ get (numbered map.old.entries) key }
+    ensures hasher { hasher_of map.new ≡ hasher_of map.old }
 {
     let (index, left) = map.insert_full(key, value).unwrap();
     hints.note(key, index);
@@ -137,6 +138,7 @@ pub fn put<V>(map: &mut Numbered<V>, hints: &mut Hints, key: u32, value: V) -> O
 pub fn take<V>(map: &mut Numbered<V>, hints: &mut Hints, key: u32) -> Option<V>
     ensures value { result ≡ get (numbered map.old.entries) key }
     ensures removed { numbered map.new.entries ≡ remove (numbered map.old.entries) key }
+    ensures hasher { hasher_of map.new ≡ hasher_of map.old }
 {
     let (index, _, value) = map.swap_remove_full(&key)?;
     // The last entry has come here.

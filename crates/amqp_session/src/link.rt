@@ -53,19 +53,29 @@ pub(crate) struct Links<R> {
 }
 
 impl<R> Model for Links<R> {
+    ghost use Rattle.std.specs.Prelude.{◌≡◌};
+    ghost use Rattle.indexmap.specs.IndexMap.{hasher_of};
     ghost use Rattle.amqp_session.specs.Links.{LinksView, names_of, handles_of, inputs_of, links_code};
 
     ghost Value = { LinksView R };
 
     ghost coded = { links_code R.code };
 
-    ghost view = { λ l. record { names = names_of l.names.entries; handles = handles_of l.handles; inputs = inputs_of l.inputs.entries } };
+    ghost view = { λ l. record {
+      hash = hasher_of l.names;
+      names = names_of l.names.entries;
+      handles = handles_of l.handles;
+      inputs = inputs_of l.inputs.entries;
+      next = l.handles.vacant_key;
+    } };
+
+    ghost invariant = { λ l. hasher_of l.inputs ≡ hasher_of l.names };
 }
 
 impl<R: LinkRelay> Links<R> {
-    /// No link.
+    /// No link. Names and input handles are found by this hash.
     pub(crate) fn new(alloc: Global, hash: KeyHash) -> Self
-        ensures { result ≡ no_links }
+        ensures { result ≡ no_links hash }
     {
         Links {
             names: IndexMap::with_hasher(alloc, hash),

@@ -4,6 +4,7 @@ ghost use Rattle.std.specs.Prelude.{◌≡◌, ◌+◌, ℕ, length};
 ghost use Rattle.amqp_session.specs.States.{is_mapped};
 ghost use Rattle.amqp_session.specs.Deliveries.{nothing_counted, nothing_read};
 ghost use Rattle.amqp_session.specs.Session.{new_session};
+ghost use Rattle.amqp_session.specs.declared.keys.KeyHash.TheVariants.{Fixed};
 ghost use Rattle.amqp_session.specs.Step.{StopStep};
 
 mod begin_end;
@@ -134,7 +135,7 @@ impl<R: LinkRelay> Session<R> {
         state: SessionState,
         connection_stop: Option<ConnectionStopReason>,
     ) -> Self
-        ensures view { result.view ≡ new_session settings outgoing_channel.0 state connection_stop }
+        ensures view { result.view ≡ new_session Fixed settings outgoing_channel.0 state connection_stop }
         ensures walk { result.last_walk ≡ nothing_read }
         ensures reads { result.reads ≡ record { receiver = nothing_counted; sender = nothing_counted } }
     {
@@ -157,7 +158,7 @@ impl<R: LinkRelay> Session<R> {
         state: SessionState,
         connection_stop: Option<ConnectionStopReason>,
     ) -> Self
-        ensures view { result.view ≡ new_session settings outgoing_channel.0 state connection_stop }
+        ensures view { result.view ≡ new_session hash settings outgoing_channel.0 state connection_stop }
         ensures walk { result.last_walk ≡ nothing_read }
         ensures reads { result.reads ≡ record { receiver = nothing_counted; sender = nothing_counted } }
     {

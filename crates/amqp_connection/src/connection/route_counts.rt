@@ -1,7 +1,7 @@
 //! How many channels of the peer's lead to each session: counts that go up and down with the routes.
 
 ghost use Rattle.std.specs.Prelude.{◌≡◌, ℕ, ◌<◌, ◌≤◌};
-ghost use Rattle.indexmap.specs.IndexMap.{spare};
+ghost use Rattle.indexmap.specs.IndexMap.{spare, hasher_of};
 ghost use Rattle.amqp_connection.specs.RouteCounts.{Lowered, Raised, count_at, leads};
 
 use amqp_session::keys::{self, Hints, Numbered};
@@ -17,7 +17,8 @@ fn count_of(counts: &Numbered<u32>, hints: &Hints, number: u32) -> u32
 pub(super) fn raise(counts: &mut Numbered<u32>, hints: &mut Hints, number: u32)
     requires room { 0 < spare counts.old }
     requires small { count_at counts.old.entries number ≤ 65536 }
-    ensures { Raised number counts.old.entries counts.new.entries }
+    ensures raised { Raised number counts.old.entries counts.new.entries }
+    ensures hasher { hasher_of counts.new ≡ hasher_of counts.old }
 {
     let count = count_of(counts, hints, number);
     keys::put(counts, hints, number, count + 1);
@@ -26,7 +27,8 @@ pub(super) fn raise(counts: &mut Numbered<u32>, hints: &mut Hints, number: u32)
 /// One channel fewer leads to the session, where one is named. Takes no memory.
 pub(super) fn lower(counts: &mut Numbered<u32>, hints: &mut Hints, number: Option<u32>)
     requires { (n : ℕ) → leads number n ≤ count_at counts.old.entries n }
-    ensures { Lowered number counts.old.entries counts.new.entries }
+    ensures lowered { Lowered number counts.old.entries counts.new.entries }
+    ensures hasher { hasher_of counts.new ≡ hasher_of counts.old }
 {
     let Some(left) = number else {
         return;

@@ -3,6 +3,7 @@
 ghost use Rattle.std.specs.Prelude.{◌≡◌, Some, OnOk, OnErr};
 ghost use Rattle.std.specs.FinMap as map;
 ghost use Rattle.amqp_memory.specs.Refusal.{SomeRefused};
+ghost use Rattle.amqp_connection.specs.Channels.{no_routes};
 ghost use Rattle.amqp_connection.specs.RouteCounts.{IsLedTo};
 
 use super::route_counts;
@@ -24,25 +25,27 @@ pub(crate) struct RouteTable {
 }
 
 impl Model for RouteTable {
-    ghost use Rattle.std.specs.Prelude.{ℕ};
-    ghost use Rattle.std.specs.Ordering.{nat_cmp};
-    ghost use Rattle.std.specs.Coded.{coded_ℕ};
+    ghost use Rattle.std.specs.Prelude.{◌≡◌};
+    ghost use Rattle.std.specs.Coded.{codes};
     ghost use Rattle.std.specs.FinMap as map;
+    ghost use Rattle.indexmap.specs.IndexMap.{hasher_of};
+    ghost use Rattle.amqp_session.specs.Hashing.{hash_code};
+    ghost use Rattle.amqp_connection.specs.Channels.{RoutesView, channel_table_code};
     ghost use Rattle.amqp_connection.specs.RouteCounts.{Counted};
 
-    ghost Value = { map.FinMap nat_cmp ℕ };
+    ghost Value = { RoutesView };
 
-    ghost coded = { map.code coded_ℕ coded_ℕ };
+    ghost coded = { Prim.hlevel (codes, channel_table_code, hash_code) };
 
-    ghost view = { λ t. map.from_entries t.routes.entries };
+    ghost view = { λ t. record { hash = hasher_of t.routes; routes = map.from_entries t.routes.entries } };
 
-    ghost invariant = { λ t. Counted (map.from_entries t.routes.entries) t.counts.entries };
+    ghost invariant = { λ t. Counted (map.from_entries t.routes.entries) t.counts.entries × (hasher_of t.counts ≡ hasher_of t.routes) };
 }
 
 impl RouteTable {
-    /// No channel leads anywhere.
+    /// No channel leads anywhere. Channels are found by this hash.
     pub(crate) fn new(alloc: Global, hash: KeyHash) -> RouteTable
-        ensures { result ≡ map.empty }
+        ensures { result ≡ no_routes hash }
     {
         RouteTable {
             routes: IndexMap::with_hasher(alloc, hash),
@@ -55,7 +58,7 @@ impl RouteTable {
     /// The session to which frames on the channel go.
     #[inline(always)]
     pub(crate) fn of(&self, channel: IncomingChannel) -> Option<u32>
-        ensures { result ≡ map.get self.now channel.0 }
+        ensures { result ≡ map.get self.now.routes channel.0 }
     {
         let at = keys::index_of(&self.routes, &self.hints, u32::from(channel.0))?;
         let (_, number) = self.routes.get_index(at)?;
@@ -64,16 +67,16 @@ impl RouteTable {
 
     /// Whether some channel leads to the session.
     pub(crate) fn leads_to(&self, number: u32) -> bool
-        ensures { IsLedTo self.now number result }
+        ensures { IsLedTo self.now.routes number result }
     {
         keys::get(&self.counts, &self.count_hints, number).is_some()
     }
 
     /// From now on the channel leads to this session.
     pub(crate) fn put(&mut self, channel: IncomingChannel, number: u32) -> Result<(), AllocError>
-        ensures ok { OnOk result (self.new ≡ map.insert self.old channel.0 number) }
+        ensures ok { OnOk result (self.new ≡ record self.old { routes = map.insert self.old.routes channel.0 number }) }
         ensures err { OnErr result (self.new ≡ self.old) }
-        ensures elsewhere { OnErr result (¬ (map.get self.old channel.0 ≡ Some number)) }
+        ensures elsewhere { OnErr result (¬ (map.get self.old.routes channel.0 ≡ Some number)) }
         ensures refused { OnErr result SomeRefused }
     {
         if self.of(channel) == Some(number) {
@@ -91,8 +94,8 @@ impl RouteTable {
 
     /// From now on the channel leads nowhere. Gives the session to which it led.
     pub(crate) fn take(&mut self, channel: IncomingChannel) -> Option<u32>
-        ensures value { result ≡ map.get self.old channel.0 }
-        ensures removed { self.new ≡ map.remove self.old channel.0 }
+        ensures value { result ≡ map.get self.old.routes channel.0 }
+        ensures removed { self.new ≡ record self.old { routes = map.remove self.old.routes channel.0 } }
     {
         let number = keys::take(&mut self.routes, &mut self.hints, u32::from(channel.0));
         route_counts::lower(&mut self.counts, &mut self.count_hints, number);

@@ -1,10 +1,10 @@
 //! The output handles that are taken. The one that was freed last is given out first.
 
-ghost use Rattle.std.specs.Prelude.{◌≡◌, IsSome, is_some, Some, None, string_bytes};
+ghost use Rattle.std.specs.Prelude.{◌≡◌, true, IsSome, is_some, Some, None, string_bytes};
 ghost use Rattle.std.specs.FinMap as map;
 ghost use Rattle.slab.specs.Slab.{HasRoomFor};
 ghost use Rattle.amqp_session.specs.Links.{handles_of};
-ghost use Rattle.amqp_session.specs.Linking.{live_name, is_awaited, IsNext};
+ghost use Rattle.amqp_session.specs.Linking.{live_name, is_awaited};
 
 use slab::Slab;
 
@@ -18,10 +18,8 @@ pub enum HandleSlot {
 }
 
 /// The handle that is given out next.
-#[tactic(auto, unfolding(crate::specs::Linking::WasTold))]
 pub(super) fn next(handles: &Slab<HandleSlot>) -> usize
-    ensures value { result ≡ handles.now.vacant_key }
-    ensures told { IsNext (handles_of handles.now) result }
+    ensures { result ≡ handles.now.vacant_key }
 {
     handles.vacant_key()
 }
@@ -83,9 +81,10 @@ pub(super) fn leave(handles: &mut Slab<HandleSlot>, handle: u32) -> String
     name
 }
 
-/// A handle for which the peer's answer was awaited is free.
+/// A handle for which the peer's answer was awaited is free, and given out next.
 pub(super) fn free(handles: &mut Slab<HandleSlot>, handle: u32)
-    ensures { handles_of handles.new ≡ map.remove (handles_of handles.old) handle }
+    ensures freed { handles_of handles.new ≡ map.remove (handles_of handles.old) handle }
+    ensures next { is_awaited (map.get (handles_of handles.old) handle) ≡ true → handles.new.vacant_key ≡ handle }
 {
     handles.try_remove(handle as usize);
 }

@@ -3,7 +3,7 @@
 ghost use Rattle.std.specs.Prelude.{◌≡◌, ◌<◌, Some, None, IsSome, OnOk, OnErr, nat_eq, slice_get};
 ghost use Rattle.std.specs.FinMap.{get};
 ghost use Rattle.std.specs.Map.{lookup, set_value};
-ghost use Rattle.indexmap.specs.IndexMap.{spare};
+ghost use Rattle.indexmap.specs.IndexMap.{spare, hasher_of};
 ghost use Rattle.amqp_memory.specs.Refusal.{SomeRefused};
 ghost use Rattle.amqp_session.specs.Links.{inputs_of};
 ghost use Rattle.amqp_session.specs.Relay.{of_flow, of_transfer, of_disposition, Asked};
@@ -29,6 +29,7 @@ pub(super) fn make_place<R: Drop>(
     input: InputHandle,
 ) -> Result<(), AllocError>
     ensures entries { inputs.new.entries ≡ inputs.old.entries }
+    ensures hasher { hasher_of inputs.new ≡ hasher_of inputs.old }
     ensures room { OnOk result (get (inputs_of inputs.new.entries) input.0 ≡ None → 0 < spare inputs.new) }
     ensures free { OnErr result (get (inputs_of inputs.old.entries) input.0 ≡ None) }
     ensures refused { OnErr result SomeRefused }
@@ -46,8 +47,9 @@ pub(super) fn ask_flow<R: LinkRelay>(
     flow: LinkFlow,
 ) -> Result<Option<LinkFlow>, LinkRelayError>
     requires { IsSome (lookup (nat_eq input.0) inputs.old.entries) }
-    ensures { Asked (of_flow R.gives.flow_gives) (lookup (nat_eq input.0) inputs.old.entries) flow result
+    ensures asked { Asked (of_flow R.gives.flow_gives) (lookup (nat_eq input.0) inputs.old.entries) flow result
         (λ link. inputs.new.entries ≡ set_value (nat_eq input.0) inputs.old.entries link) }
+    ensures hasher { hasher_of inputs.new ≡ hasher_of inputs.old }
 {
     let link = inputs.get_mut(&input.0).unwrap();
     link.relay.on_incoming_flow(link.handle, flow)
@@ -81,9 +83,10 @@ pub(super) fn ask_disposition<R: LinkRelay>(
     delivery: &Delivery,
 ) -> bool
     requires { (link : AttachedLink R) × (slice_get inputs.old.entries at ≡ Some (delivery.now.input_handle.0, link)) }
-    ensures { Asked (of_disposition R.gives.disposition_gives) (lookup (nat_eq delivery.now.input_handle.0) inputs.old.entries)
+    ensures asked { Asked (of_disposition R.gives.disposition_gives) (lookup (nat_eq delivery.now.input_handle.0) inputs.old.entries)
         (question_of disposition.now delivery.now) result
         (λ link. inputs.new.entries ≡ set_value (nat_eq delivery.now.input_handle.0) inputs.old.entries link) }
+    ensures hasher { hasher_of inputs.new ≡ hasher_of inputs.old }
 {
     let link = inputs.get_index_mut(at).unwrap();
     ask(link, disposition, delivery)

@@ -3,7 +3,7 @@
 ghost use Rattle.std.specs.Prelude.{◌≡◌, ◌<◌, ◌^◌, Option, Some, None, IfOk, IfErr, OnOk, OnErr, if◌then◌else◌, is_some, option_map, string_bytes};
 ghost use Rattle.std.specs.FinMap as map;
 ghost use Rattle.amqp_session.specs.Links.{put_at, attached_at};
-ghost use Rattle.amqp_session.specs.Linking.{named_at, link_at, name_at, output_at, linked, IsFull, IsNext, Releases, Leaves, Attaches, Detaches, awaits};
+ghost use Rattle.amqp_session.specs.Linking.{named_at, link_at, name_at, output_at, linked, IsFull, Releases, Leaves, Attaches, Detaches, awaits};
 ghost use Rattle.amqp_session.specs.Relay.{AttachQuestion, DetachQuestion};
 
 use super::handles::{self, HandleSlot};
@@ -55,9 +55,9 @@ impl<R: LinkRelay> Links<R> {
         requires { named_at (string_bytes name) self.old ≡ None }
         ensures free { IfOk result.answer (λ h. map.get self.old.handles h.0 ≡ None) }
         ensures fits { IfOk result.answer (λ h. h.0 < 2 ^ 32) }
-        ensures ok { IfOk result.answer (λ h. self.new ≡ linked (string_bytes name) h waiting self.old) }
+        ensures ok { IfOk result.answer (λ h. self.new ≡ record (linked (string_bytes name) h waiting self.old) { next = self.new.next }) }
         ensures full { IfErr result.answer (λ e. IsFull self.old e) }
-        ensures next { IfOk result.answer (λ h. IsNext self.old.handles h.0) }
+        ensures next { IfOk result.answer (λ h. h.0 ≡ self.old.next) }
         ensures err { OnErr result.answer (self.new ≡ self.old) }
         ensures left { OnErr result.answer (result.left ≡ waiting) }
         ensures none { OnOk result.answer (result.left ≡ None) }
@@ -125,10 +125,10 @@ impl<R: LinkRelay> Links<R> {
         requires { named_at (string_bytes name) self.old ≡ None }
         ensures free { IfOk result.answer (λ h. map.get self.old.handles h.0 ≡ None) }
         ensures fits { IfOk result.answer (λ h. h.0 < 2 ^ 32) }
-        ensures ok { IfOk result.answer (λ h. self.new ≡ put_at input.0
-            (record { handle = h; relay = relay }) (linked (string_bytes name) h None self.old)) }
+        ensures ok { IfOk result.answer (λ h. self.new ≡ record (put_at input.0
+            (record { handle = h; relay = relay }) (linked (string_bytes name) h None self.old)) { next = self.new.next }) }
         ensures full { IfErr result.answer (λ e. IsFull self.old e) }
-        ensures next { IfOk result.answer (λ h. IsNext self.old.handles h.0) }
+        ensures next { IfOk result.answer (λ h. h.0 ≡ self.old.next) }
         ensures err { OnErr result.answer (self.new ≡ self.old) }
         ensures left { OnErr result.answer (result.left ≡ Some relay) }
         ensures replaced { OnOk result.answer (result.left ≡ option_map (λ a. a.relay) (attached_at input.0 self.old)) }
@@ -211,6 +211,7 @@ impl<R: LinkRelay> Links<R> {
         ensures freed { self.new ≡ record self.old {
           handles =
               if awaits handle.0 self.old then map.remove self.old.handles handle.0 else self.old.handles;
+          next = if awaits handle.0 self.old then handle.0 else self.old.next;
         } }
     {
         let awaited = handles::awaits(&self.handles, handle.0);

@@ -2,7 +2,7 @@
 
 ghost use Rattle.std.specs.Prelude.{◌≡◌, ◌<◌, Option, None, option_map, is_some, IsSome, IfNone, IfSome, string_bytes};
 ghost use Rattle.std.specs.FinMap as map;
-ghost use Rattle.indexmap.specs.IndexMap.{spare};
+ghost use Rattle.indexmap.specs.IndexMap.{spare, hasher_of};
 ghost use Rattle.amqp_session.specs.declared.link.AttachedLink.{AttachedLink};
 ghost use Rattle.amqp_session.specs.Links.{names_of};
 ghost use Rattle.amqp_session.specs.Linking.{AttachAsked, WaitAsked, IsWaited, AttachRefused};
@@ -63,7 +63,8 @@ pub(super) fn put<R: Drop>(
 )
     requires room { 0 < spare names.old }
     requires free { map.get (names_of names.old.entries) (string_bytes name) ≡ None }
-    ensures { names_of names.new.entries ≡ map.insert (names_of names.old.entries) (string_bytes name) link }
+    ensures put { names_of names.new.entries ≡ map.insert (names_of names.old.entries) (string_bytes name) link }
+    ensures hasher { hasher_of names.new ≡ hasher_of names.old }
 {
     names.insert(name, link).unwrap();
 }
@@ -75,6 +76,7 @@ pub(super) fn remove<R: Drop>(
 ) -> Option<LiveLink<R>>
     ensures removed { names_of names.new.entries ≡ map.remove (names_of names.old.entries) name.now }
     ensures left { result ≡ map.get (names_of names.old.entries) name.now }
+    ensures hasher { hasher_of names.new ≡ hasher_of names.old }
 {
     let left = names.swap_remove(name);
     left
@@ -107,7 +109,8 @@ pub(super) fn attach<R: LinkRelay>(
     attach: Attach,
 ) -> Result<AttachedLink<R>, LinkRelayError>
     requires { IsWaited (map.get (names_of names.old.entries) attach.name) }
-    ensures { AttachAsked R.gives.attach_gives (names_of names.old.entries) attach result (names_of names.new.entries) }
+    ensures asked { AttachAsked R.gives.attach_gives (names_of names.old.entries) attach result (names_of names.new.entries) }
+    ensures hasher { hasher_of names.new ≡ hasher_of names.old }
 {
     let link = names.get_mut(attach.name.as_str()).unwrap();
     ask(link, attach)

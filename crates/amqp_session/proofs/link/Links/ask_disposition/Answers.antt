@@ -1,5 +1,6 @@
 use Rattle.std.proofs.Common.{Some, None, refl, ap, sym, ◌∙◌}
 use Rattle.std.specs.FinMap.{from_entries}
+use Rattle.indexmap.specs.IndexMap.{hasher_of}
 use Rattle.amqp_session.specs.Links.{names_of, handles_of}
 use Rattle.amqp_session.specs.Disposing.{question_of}
 use Rattle.amqp_session.proofs.AbsenceLemmas.{none_found, some_is}
@@ -16,7 +17,7 @@ ask_disposition-requires g c = c.in-Some.ensures.there
 
 pub returns : goal.returns
 returns g c =
-    let a = c.ask_disposition.ensures in
+    let a = c.ask_disposition.ensures.asked in
     let h = c.args.delivery.now.input_handle.0 in
     let there = some_is _ _ a.attached in
     rw (← c.self.view_is) (
@@ -24,7 +25,7 @@ returns g c =
       (
         refl,
         record { attached = get_at c.self.inside.inputs.entries h ∙ a.attached; stands = a.stands },
-        ap (λ m. record { names = names_of c.self.inside.names.entries; handles = handles_of c.self.inside.handles; inputs = m }) (ap (λ es. from_entries es) a.put ∙ written c.self.inside.inputs.entries h _ there),
+        ap (λ m. record { hash = hasher_of c.self.inside.names; names = names_of c.self.inside.names.entries; handles = handles_of c.self.inside.handles; inputs = m; next = c.self.inside.handles.vacant_key }) (ap (λ es. from_entries es) a.put ∙ written c.self.inside.inputs.entries h _ there),
       ),
       refl,
     )

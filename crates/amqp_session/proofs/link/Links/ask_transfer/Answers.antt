@@ -1,7 +1,7 @@
 use Rattle.std.proofs.Common.{◌≡◌, IsSome, refl, ap, sym, subst, ◌∙◌, nat_eq, lit≤}
 use Rattle.amqp_types.specs.Transfer.{TransferModel}
 use Rattle.std.specs.Map.{lookup, set_value}
-use Rattle.indexmap.specs.IndexMap.{set_value_at}
+use Rattle.indexmap.specs.IndexMap.{set_value_at, hasher_of}
 use Rattle.amqp_session.specs.Links.{names_of, handles_of}
 use Rattle.amqp_session.specs.Relay.{Asked, of_transfer}
 use Rattle.amqp_session.proofs.AbsenceLemmas.{none_found, some_found, some_is}
@@ -39,4 +39,4 @@ returns-clause-asked g c =
       stands = c.on_incoming_transfer.ensures;
       put = at.1 _;
     } in
-    rw (← c.self.view_is) (asked (names_of c.self.inside.names.entries) (handles_of c.self.inside.handles) _ _ _ _ _ _ (some_is _ _ told.attached) told)
+    rw (← c.self.view_is) (asked (hasher_of c.self.inside.names) (names_of c.self.inside.names.entries) (handles_of c.self.inside.handles) c.self.inside.handles.vacant_key _ _ _ _ _ _ (some_is _ _ told.attached) told)

@@ -3,6 +3,7 @@ use Rattle.std.specs.FinMap as map
 use Rattle.amqp_types.specs.Attach.{AttachModel}
 use Rattle.amqp_session.specs.declared.numbers.InputHandle.{InputHandle}
 use Rattle.amqp_session.specs.declared.error.SessionInnerError.TheVariants as Refused
+use Rattle.indexmap.specs.IndexMap.{hasher_of}
 use Rattle.amqp_session.specs.Links.{names_of, handles_of, inputs_of}
 use Rattle.amqp_session.specs.Linking.{AttachRefused}
 use Rattle.amqp_session.proofs.LinksAfterRelayLemmas.{waited_full, inputs_same, attaches_err, attaches_ok}
@@ -19,18 +20,18 @@ returns-in_default-make_place-clause-step g c =
     let refused = subst (λ n. AttachRefused (map.get inputs c.args.attach.handle) (map.get names n) Refused.OutOfMemory) name full in
     rw (c.of-in_default-make_place.ensures.answer, ← c.self.view_is) (
       None,
-      (refused, inputs_same (record { names = names_of c.self.inside.names.entries; handles = handles_of c.self.inside.handles; inputs = inputs_of c.self.inside.inputs.entries }) _ (ap inputs_of c.make_place.ensures.entries)),
+      (refused, inputs_same (record { hash = hasher_of c.self.inside.names; names = names_of c.self.inside.names.entries; handles = handles_of c.self.inside.handles; inputs = inputs_of c.self.inside.inputs.entries; next = c.self.inside.handles.vacant_key }) _ (ap inputs_of c.make_place.ensures.entries)),
     )
 
 pub returns-in-Err-clause-step : goal.returns-in-Err-clause-step
 returns-in-Err-clause-step g c =
     rw (c.of-in-Err.ensures.answer, ← c.self.view_is) (attaches_err g.R.LinkRelay.gives.attach_gives
-    (record { names = names_of c.self.inside.names.entries; handles = handles_of c.self.inside.handles; inputs = inputs_of c.self.inside.inputs.entries })
-    c.args.attach _ _ c.in-Err.error c.from.result c.in-Err.ensures c.from.ensures (ap inputs_of c.make_place.ensures.entries))
+    (record { hash = hasher_of c.self.inside.names; names = names_of c.self.inside.names.entries; handles = handles_of c.self.inside.handles; inputs = inputs_of c.self.inside.inputs.entries; next = c.self.inside.handles.vacant_key })
+    c.args.attach _ c.in-Err.ensures.hasher _ _ c.in-Err.error c.from.result c.in-Err.ensures.asked c.from.ensures (ap inputs_of c.make_place.ensures.entries))
 
 pub returns-in-Ok-attach-clause-step : goal.returns-in-Ok-attach-clause-step
 returns-in-Ok-attach-clause-step g c =
     let is : c.from-input.result.0 ≡ c.args.attach.handle = ap (λ (i : InputHandle). i.0) c.from-input.ensures ∙ ap (λ (a : AttachModel). a.handle) c.attach.view_is in
     rw (c.of-in-Ok-attach.ensures.answer, ← c.self.view_is) (attaches_ok g.R.LinkRelay.gives.attach_gives
-    (record { names = names_of c.self.inside.names.entries; handles = handles_of c.self.inside.handles; inputs = inputs_of c.self.inside.inputs.entries })
-    c.args.attach _ _ (inputs_of c.make_place.new.inputs.entries) c.from-input.result.0 c.in-Ok-attach.link c.in-Ok-attach.ensures is (ap inputs_of c.make_place.ensures.entries) c.put-replaced.ensures.put)
+    (record { hash = hasher_of c.self.inside.names; names = names_of c.self.inside.names.entries; handles = handles_of c.self.inside.handles; inputs = inputs_of c.self.inside.inputs.entries; next = c.self.inside.handles.vacant_key })
+    c.args.attach _ c.in-Ok-attach.ensures.hasher _ _ (inputs_of c.make_place.new.inputs.entries) c.from-input.result.0 c.in-Ok-attach.link c.in-Ok-attach.ensures.asked is (ap inputs_of c.make_place.ensures.entries) c.put-replaced.ensures.put)

@@ -2,6 +2,7 @@ use Rattle.std.proofs.Common.{◌≡◌, Bool, Some, None, not, refl, ap, sym, �
 use Rattle.std.specs.FinMap as map
 use Rattle.amqp_types.specs.Detach.{DetachModel}
 use Rattle.amqp_session.specs.declared.numbers.InputHandle.{InputHandle}
+use Rattle.indexmap.specs.IndexMap.{hasher_of}
 use Rattle.amqp_session.specs.Links.{names_of, handles_of, inputs_of}
 use Rattle.amqp_session.proofs.LinksAfterRelayLemmas.{none_dropped, one_dropped}
 use Rattle.amqp_session.proofs.link.Links.detach.Goals as goal
@@ -13,7 +14,7 @@ returns-in_default g c =
     let gone = c.take.ensures.removed ∙ ap (map.remove (inputs_of c.self.inside.inputs.entries)) is in
     rw (c.of.ensures.answer, c.of.ensures.left, ← c.self.view_is) (
       None,
-      (none, refl, none_dropped (record { names = names_of c.self.inside.names.entries; handles = handles_of c.self.inside.handles; inputs = inputs_of c.self.inside.inputs.entries }) c.args.detach.handle _ none gone),
+      (none, refl, none_dropped (record { hash = hasher_of c.self.inside.names; names = names_of c.self.inside.names.entries; handles = handles_of c.self.inside.handles; inputs = inputs_of c.self.inside.inputs.entries; next = c.self.inside.handles.vacant_key }) c.args.detach.handle _ none gone),
       refl,
     )
 
@@ -34,7 +35,7 @@ returns g c =
         record { attached = there; stands = c.on_incoming_detach-answer.ensures },
         refl,
         c.answer-awaited.ensures.freed
-            ∙ one_dropped (record { names = names_of c.self.inside.names.entries; handles = handles_of c.self.inside.handles; inputs = inputs_of c.self.inside.inputs.entries }) c.from-input.result.0 c.args.detach.handle c.in-Some.link.handle.0 _ is c.take.ensures.removed,
+            ∙ one_dropped (record { hash = hasher_of c.self.inside.names; names = names_of c.self.inside.names.entries; handles = handles_of c.self.inside.handles; inputs = inputs_of c.self.inside.inputs.entries; next = c.self.inside.handles.vacant_key }) c.from-input.result.0 c.args.detach.handle c.in-Some.link.handle.0 _ is c.take.ensures.removed,
       ),
       refl,
     )

@@ -19,8 +19,8 @@ ask-requires g c =
     let found = sym (ap (map.get (names_of c.args.names.now.entries)) name) ∙ text_at c.args.names.now.entries c.as_str.result.now in
     subst IsWaited (found ∙ sym c.get_mut.ensures.value ∙ ap option_copied_mut c.unwrap-link.ensures) c.requires
 
-pub returns : goal.returns
-returns g c =
+pub returns-clause-asked : goal.returns-clause-asked
+returns-clause-asked g c =
     let name : c.as_str.result.now ≡ c.args.attach.name = c.as_str.ensures.value ∙ ap (λ (a : AttachModel). a.name) c.attach.view_is in
     let found = sym (ap (map.get (names_of c.args.names.now.entries)) name) ∙ text_at c.args.names.now.entries c.as_str.result.now in
     let live = found ∙ sym c.get_mut.ensures.value ∙ ap option_copied_mut c.unwrap-link.ensures in
@@ -33,3 +33,6 @@ returns g c =
       asked = c.ask.ensures;
       put = put ∙ ap (λ n. map.insert (names_of c.args.names.now.entries) n c.ask.new.link) name;
     }
+
+pub returns-clause-hasher : goal.returns-clause-hasher
+returns-clause-hasher g c = (c.get_mut.follows.holds c.ask.new.link).5
