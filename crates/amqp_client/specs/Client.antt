@@ -11,6 +11,7 @@ use Rattle.amqp_types.specs.Performatives.{IsPerformative}
 use Rattle.amqp_types.specs.declared.performatives.Performative.TheVariants as its
 use Rattle.amqp_types.specs.declared.states.ConnectionState.TheVariants.{HeaderExchange}
 use Rattle.amqp_session.specs.Relay.{Relays}
+use Rattle.amqp_session.specs.declared.keys.KeyHash.{KeyHash}
 use Rattle.amqp_session.specs.declared.numbers.OutputHandle.{OutputHandle}
 use Rattle.amqp_engine.specs.EngineView.{EngineView, new_engine, output_handle_at}
 use Rattle.amqp_engine.specs.Legal.{Legal}
@@ -41,16 +42,17 @@ pub record ClientView : Type 0 where
 
 -- ---- a new one
 
-abbrev pub new_client : OpenModel → ClientView
-new_client o = record { machine = new_machine (new_engine HeaderExchange o); kept = []; next = None }
+abbrev pub new_client : KeyHash → OpenModel → ClientView
+new_client hash o = record { machine = new_machine (new_engine hash HeaderExchange o); kept = []; next = None }
 
 -- after 32 bytes, the key and the room, stands an Open
 abbrev pub HasOpen : List ℕ → OpenModel → Type 0
 HasOpen input o = (32 ≤ length input) × IsPerformative (its.Open o) (drop 32 input)
 
--- a client with this Open, whose engine has an empty history; or memory was refused, or there is no Open
+-- a client with this Open, and by whatever hash, whose engine has an empty history; or memory was refused, or there is no Open
 abbrev pub Makes : Relays Relay → List ℕ → Result ClientView ℤ → Type 0
-Makes g input (Ok c) = (o : OpenModel) × HasOpen input o × (c ≡ new_client o) × Legal g HeaderExchange o [] c.machine.engine
+Makes g input (Ok c) =
+    (hash : KeyHash) × (o : OpenModel) × HasOpen input o × (c ≡ new_client hash o) × Legal g HeaderExchange o [] c.machine.engine
 Makes g input (Err e) =
     (e ≡ pos (status_number status.NoMemory)) ⊎ ((e ≡ pos (status_number status.BadArgument)) × ((o : OpenModel) → ¬ HasOpen input o))
 

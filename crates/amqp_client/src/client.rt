@@ -74,13 +74,14 @@ impl Drop for Client {
 impl Model for Client {
     ghost use Rattle.std.specs.Coded.{codes};
     ghost use Rattle.std.specs.FinMap as map;
+    ghost use Rattle.amqp_session.specs.Hashing.{hash_code};
     ghost use Rattle.amqp_session.specs.Links.{links_code};
     ghost use Rattle.amqp_connection.specs.Channels.{channel_table_code};
     ghost use Rattle.amqp_client.specs.Client.{ClientView};
 
     ghost Value = { ClientView };
 
-    ghost coded = { Prim.hlevel (codes, channel_table_code, links_code, map.code) };
+    ghost coded = { Prim.hlevel (codes, channel_table_code, hash_code, links_code, map.code) };
 
     ghost view = { λ c. record { machine = c.machine; kept = c.kept; next = c.next } };
 }

@@ -32,6 +32,7 @@ pub(crate) struct Machine<R> {
 impl<R> Model for Machine<R> {
     ghost use Rattle.std.specs.Coded.{codes};
     ghost use Rattle.std.specs.FinMap as map;
+    ghost use Rattle.amqp_session.specs.Hashing.{hash_code};
     ghost use Rattle.amqp_session.specs.Links.{links_code};
     ghost use Rattle.amqp_connection.specs.Channels.{channel_table_code};
     ghost use Rattle.std.specs.Prelude.{◌≡◌, []};
@@ -39,7 +40,7 @@ impl<R> Model for Machine<R> {
 
     ghost Value = { MachineView R };
 
-    ghost coded = { Prim.hlevel (codes, channel_table_code, links_code, map.code) };
+    ghost coded = { Prim.hlevel (codes, channel_table_code, hash_code, links_code, map.code) };
 
     ghost view = { λ m. record { engine = m.engine; to_send = m.out; last = m.last } };
 
@@ -54,7 +55,7 @@ impl<R: LinkRelay> Machine<R> {
         state: ConnectionState,
         local_open: Open,
     ) -> Machine<R>
-        ensures new { result ≡ new_machine (new_engine state local_open) }
+        ensures new { result ≡ new_machine (new_engine hash state local_open) }
         ensures legal { Legal R.gives state local_open [] result.engine }
     {
         Machine {

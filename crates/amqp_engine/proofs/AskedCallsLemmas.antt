@@ -71,25 +71,25 @@ some_asked before e n (Some k) is r a = λ known. subst (λ x. Is e (session_sta
 
 pub all_asked : {R : Type 0} (g : Relays R) → ViewsLaw g → (made : ConnectionState) (o : OpenModel) (H : List (Entry R)) (w : EngineView R) → LeadsTo g made o H w → AllAsked H
 all_asked g law made o H w l before after e is =
-    let r = chain_split g before (e ∷ after) (new_engine made o) w (subst (λ (es : List (Entry _)). Chain g (new_engine made o) es w) is l) in
-    by r.0 r.2.0 r.2.1 (λ n. legal g before n (new_engine made o) r.0 r.1 refl) (λ n. ap (lookup (nat_eq n)) r.2.2.sessions_is)
-    (λ n. ap (λ (x : Numbers). is_some (map.get x n)) r.2.2.forgotten_is ∙ numbers_are g n made o before r.0 r.1) (passage g r.2.0 r.2.1 e r.2.3).effect
+    let r = chain_split g before (e ∷ after) (new_engine l.0 made o) w (subst (λ (es : List (Entry _)). Chain g (new_engine l.0 made o) es w) is l.1) in
+    by r.0 r.2.0 r.2.1 (λ n. legal g before n (new_engine l.0 made o) r.0 r.1 refl) (λ n. ap (lookup (nat_eq n)) r.2.2.sessions_is)
+    (λ n. ap (λ (x : Numbers). is_some (map.get x n)) r.2.2.forgotten_is ∙ numbers_are g n made o before r.0 (l.0, r.1)) (passage g r.2.0 r.2.1 e r.2.3).effect
   where
-    by : (m u t : EngineView _) → ((n : ℕ) → Legal g n (new_connection made o) before m) → ((n : ℕ) → lookup (nat_eq n) u.sessions ≡ lookup (nat_eq n) m.sessions) → ((n : ℕ) → is_some (map.get u.forgotten n) ≡ is_forgotten n before) → Effect g u e t → Asked before e.reached e
+    by : (m u t : EngineView _) → ((n : ℕ) → Legal g n (new_connection l.0 made o) before m) → ((n : ℕ) → lookup (nat_eq n) u.sessions ≡ lookup (nat_eq n) m.sessions) → ((n : ℕ) → is_some (map.get u.forgotten n) ≡ is_forgotten n before) → Effect g u e t → Asked before e.reached e
     by m u t legal same used (inl x) = stay x.1
       where
         stay : Stays u e t ⊎ Changes g u e t → Asked before e.reached e
         stay (inl y) = none_asked before e e.reached refl y.no_calls y.none_reached
         stay (inr y) = some_asked before e y.number e.reached refl y.reached_is
-            (subst (Is e) (there_state g law y.number (new_connection made o) before m y.before (legal y.number) (sym (same y.number) ∙ y.known)) y.asked)
+            (subst (Is e) (there_state g law y.number (new_connection l.0 made o) before m y.before (legal y.number) (sym (same y.number) ∙ y.known)) y.asked)
     by m u t legal same used (inr (inr x)) = none_asked before e e.reached refl x.no_calls (inl x.unreached)
     by m u t legal same used (inr (inl x)) = some_asked before e x.number e.reached refl x.reached_is
-        (subst (Is e) (absent_state g x.number (new_connection made o) before m (legal x.number) (sym (same x.number) ∙ x.absent) (sym (used x.number) ∙ ap is_some x.unused)) x.asked)
+        (subst (Is e) (absent_state g x.number (new_connection l.0 made o) before m (legal x.number) (sym (same x.number) ∙ x.absent) (sym (used x.number) ∙ ap is_some x.unused)) x.asked)
 
 pub frames_are : {R : Type 0} (g : Relays R) (made : ConnectionState) (o : OpenModel) (H : List (Entry R)) (w : EngineView R) → LeadsTo g made o H w → FramesAre o H
 frames_are g made o H w l before after e is =
-    let r = chain_split g before (e ∷ after) (new_engine made o) w (subst (λ (es : List (Entry _)). Chain g (new_engine made o) es w) is l) in
-    let own : r.2.0.connection.local_open ≡ o = ap (λ (k : ConnectionView). k.local_open) r.2.2.connection_is ∙ open_law g before (new_engine made o) r.0 r.1 in
+    let r = chain_split g before (e ∷ after) (new_engine l.0 made o) w (subst (λ (es : List (Entry _)). Chain g (new_engine l.0 made o) es w) is l.1) in
+    let own : r.2.0.connection.local_open ≡ o = ap (λ (k : ConnectionView). k.local_open) r.2.2.connection_is ∙ open_law g before (new_engine l.0 made o) r.0 r.1 in
     (passage g r.2.0 r.2.1 e r.2.3).frames_are ∙ ap (λ x. own_frames x (event e) ++ sent (calls_frames e.calls)) own
 
 -- ---- where memory was refused before
@@ -111,7 +111,7 @@ plain_not_short (Some y) p x = absurd p
 
 pub ran_short : {R : Type 0} (g : Relays R) (made : ConnectionState) (o : OpenModel) (H : List (Entry R)) (w : EngineView R) → LeadsTo g made o H w → OutOfMemoryIsInert H
 ran_short g made o H w l before after e is short =
-    let r = chain_split g before (e ∷ after) (new_engine made o) w (subst (λ (es : List (Entry _)). Chain g (new_engine made o) es w) is l) in
+    let r = chain_split g before (e ∷ after) (new_engine l.0 made o) w (subst (λ (es : List (Entry _)). Chain g (new_engine l.0 made o) es w) is l.1) in
     by r.2.0 r.2.1 (passage g r.2.0 r.2.1 e r.2.3)
   where
     quiet : event e ≡ Quiet

@@ -3,6 +3,7 @@ use Rattle.std.proofs.Common.{◌≡◌, List, [], ◌∷◌, ◌++◌, ap, ◌�
 use Rattle.amqp_types.specs.declared.states.ConnectionState.{ConnectionState}
 use Rattle.amqp_types.specs.Open.{OpenModel}
 use Rattle.amqp_frames.specs.declared.frame.Frame.{Frame}
+use Rattle.amqp_session.specs.declared.keys.KeyHash.{KeyHash}
 use Rattle.amqp_session.specs.Relay.{Relays}
 use Rattle.amqp_engine.specs.EngineView.{EngineView, new_engine}
 use Rattle.amqp_engine.specs.Engine.{Step, Keeps}
@@ -23,7 +24,7 @@ Chain g v [] w = OutputTaken v w
 Chain g v (e ∷ es) w = (u : EngineView _) × (m : EngineView _) × OutputTaken v u × Step g u e m × Chain g m es w
 
 abbrev pub LeadsTo : {R : Type 0} → Relays R → ConnectionState → OpenModel → List (Entry R) → EngineView R → Type 0
-LeadsTo g state o H w = Chain g (new_engine state o) H w
+LeadsTo g state o H w = (hash : KeyHash) × Chain g (new_engine hash state o) H w
 
 taken : {R : Type 0} (v w : EngineView R) → whole.OutputTaken v w → OutputTaken v w
 taken v w t = record { gone = t.gone; left = t.left; connection_is = t.connection_is; sessions_is = t.sessions_is; forgotten_is = t.forgotten_is; limit_is = t.limit_is }

@@ -17,6 +17,7 @@ use Rattle.amqp_session.specs.declared.error.SessionStateError.{SessionStateErro
 use Rattle.amqp_session.specs.declared.error.SessionStateError.TheVariants as unbegun
 use Rattle.amqp_session.specs.declared.stop.ConnectionStopReason.{ConnectionStopReason}
 use Rattle.amqp_session.specs.Settings.{SettingsModel}
+use Rattle.amqp_session.specs.declared.keys.KeyHash.{KeyHash}
 use Rattle.amqp_session.specs.Session.{SessionView, new_session}
 use Rattle.amqp_session.specs.States.{sends_begin}
 use Rattle.amqp_session.specs.Step.{SendBeginStep}
@@ -68,8 +69,8 @@ unallocated v k n full.ChannelMaxReached a = a.2
 unallocated v k n full.OutOfMemory a = a.2
 
 -- a new session lacks nothing but memory for its Begin
-pub begun_short : {R : Type 0} (settings : SettingsModel) (channel : ℕ) (stop : Option ConnectionStopReason) (v w : SessionView R) (e : SessionStateError)
-    → v ≡ new_session settings channel Unmapped stop → SendBeginStep v (Err e) w → (e ≡ unbegun.OutOfMemory) × SomeRefused
-begun_short settings channel stop v w unbegun.IllegalState is s = absurd (let none = subst (λ (x : SessionView _). sends_begin x.state ≡ None) is s.0 in cc)
-begun_short settings channel stop v w unbegun.OutOfMemory is s = (refl, s.2)
-begun_short settings channel stop v w e is s = absurd s
+pub begun_short : {R : Type 0} (hash : KeyHash) (settings : SettingsModel) (channel : ℕ) (stop : Option ConnectionStopReason) (v w : SessionView R) (e : SessionStateError)
+    → v ≡ new_session hash settings channel Unmapped stop → SendBeginStep v (Err e) w → (e ≡ unbegun.OutOfMemory) × SomeRefused
+begun_short hash settings channel stop v w unbegun.IllegalState is s = absurd (let none = subst (λ (x : SessionView _). sends_begin x.state ≡ None) is s.0 in cc)
+begun_short hash settings channel stop v w unbegun.OutOfMemory is s = (refl, s.2)
+begun_short hash settings channel stop v w e is s = absurd s

@@ -10,6 +10,7 @@ use Rattle.amqp_types.specs.declared.states.ConnectionState.{ConnectionState}
 use Rattle.amqp_types.specs.Open.{OpenModel}
 use Rattle.amqp_session.specs.Settings.{SettingsModel}
 use Rattle.amqp_session.specs.Relay.{Relays}
+use Rattle.amqp_session.specs.declared.keys.KeyHash.{KeyHash}
 use Rattle.amqp_session.specs.Session.{SessionView, new_session}
 use Rattle.amqp_session.specs.History as session
 use Rattle.amqp_session.proofs.CallEffectLemmas.{Rest, does}
@@ -209,7 +210,7 @@ begun_now g v w e n settings c p is = by p.effect
           (
             x.after,
             ap (lookup (nat_eq n)) x.sessions_is ∙ at_end v.sessions n x.number x.after absent ∙ ap (λ b. cond b (Some x.after) None) here,
-            on_it_still g e.calls (new_session x.settings x.channel Unmapped v.connection.stop_reason) x.after x.chain ∙ same_channel x.number n x.channel c x.settings settings (sym x.event_is ∙ is),
+            on_it_still g e.calls (new_session v.connection.hash x.settings x.channel Unmapped v.connection.stop_reason) x.after x.chain ∙ same_channel x.number n x.channel c x.settings settings (sym x.event_is ∙ is),
           ),
         )
 
@@ -265,8 +266,8 @@ pub kept : {R : Type 0} (g : Relays R) (es : List (Entry R)) (v w : EngineView R
 kept g [] v w c k = kept_taken v w c k
 kept g (e ∷ es) v w c k = kept g es c.1 w c.4 (kept_step g c.0 c.1 e (passage g c.0 c.1 e c.3) (kept_taken v c.0 c.2 k))
 
-pub kept_new : {R : Type 0} (made : ConnectionState) (o : OpenModel) → Kept {R = R} (new_engine made o)
-kept_new made o = record {
+pub kept_new : {R : Type 0} (hash : KeyHash) (made : ConnectionState) (o : OpenModel) → Kept {R = R} (new_engine hash made o)
+kept_new hash made o = record {
   known = λ c n e. absurd (some_none (sym e ∙ get-empty nat_cmp c));
   once = λ c d n e f. absurd (some_none (sym e ∙ get-empty nat_cmp c));
   routed = λ c n e. absurd (some_none (sym e ∙ get-empty nat_cmp c));
@@ -309,10 +310,10 @@ held_law g c (e ∷ es) v w k h =
     ∙ ap (λ o. held_from c o es) (step_holds h.0 h.1 (event e) c u (moves_held h.0.connection h.1.connection (event e) p.moved) ∙ ap (λ (x : ConnectionView). held_by c (event e) (map.get x.session_by_outgoing_channel c)) h.2.connection_is)
 
 pub holds : {R : Type 0} (g : Relays R) (c : ℕ) (made : ConnectionState) (o : OpenModel) (H : List (Entry R)) (w : EngineView R) → LeadsTo g made o H w → map.get w.connection.session_by_outgoing_channel c ≡ held c H
-holds g c made o H w l = held_law g c H (new_engine made o) w (kept_new made o) l ∙ ap (λ x. held_from c x H) (get-empty nat_cmp c)
+holds g c made o H w l = held_law g c H (new_engine l.0 made o) w (kept_new l.0 made o) l.1 ∙ ap (λ x. held_from c x H) (get-empty nat_cmp c)
 
 pub once_held : {R : Type 0} (g : Relays R) (made : ConnectionState) (o : OpenModel) (H : List (Entry R)) (w : EngineView R) → LeadsTo g made o H w → HeldOnce H
-once_held g made o H w l c d n a b = (kept g H (new_engine made o) w l (kept_new made o)).once c d n (holds g c made o H w l ∙ a) (holds g d made o H w l ∙ b)
+once_held g made o H w l c d n a b = (kept g H (new_engine l.0 made o) w l.1 (kept_new l.0 made o)).once c d n (holds g c made o H w l ∙ a) (holds g d made o H w l ∙ b)
 
 -- ---- so are the routes
 
@@ -326,4 +327,4 @@ route_law g c = by_history g (λ v. map.get v.connection.session_by_incoming_cha
     (λ v w t. ap (λ (k : ConnectionView). map.get k.session_by_incoming_channel c) t.connection_is) (λ v w e p. step_routes v.connection w.connection (event e) c (moves_routes v.connection w.connection (event e) p.moved))
 
 pub routes : {R : Type 0} (g : Relays R) (c : ℕ) (made : ConnectionState) (o : OpenModel) (H : List (Entry R)) (w : EngineView R) → LeadsTo g made o H w → map.get w.connection.session_by_incoming_channel c ≡ route c H
-routes g c made o H w l = route_law g c H (new_engine made o) w l ∙ ap (λ x. route_from c x H) (get-empty nat_cmp c)
+routes g c made o H w l = route_law g c H (new_engine l.0 made o) w l.1 ∙ ap (λ x. route_from c x H) (get-empty nat_cmp c)

@@ -57,9 +57,9 @@ step_says g v w n e is late (inr s) = carries g v w n e.input e is s.2
 
 pub requests_reach : {R : Type 0} (g : Relays R) (made : ConnectionState) (o : OpenModel) (H : List (Entry R)) (w : EngineView R) → LeadsTo g made o H w → RequestsReach made H
 requests_reach g made o H w l before after e is n named late short =
-    let r = chain_split g before (e ∷ after) (new_engine made o) w (subst (λ (es : List (Entry _)). Chain g (new_engine made o) es w) is l) in
+    let r = chain_split g before (e ∷ after) (new_engine l.0 made o) w (subst (λ (es : List (Entry _)). Chain g (new_engine l.0 made o) es w) is l.1) in
     let same : lookup (nat_eq n) r.2.0.sessions ≡ lookup (nat_eq n) r.0.sessions = ap (lookup (nat_eq n)) r.2.2.sessions_is in
-    by r.0 r.2.0 (lives g made o n before r.0 (legal g before n (new_engine made o) r.0 r.1 refl)) same (step_says g r.2.0 r.2.1 n e named late r.2.3)
+    by r.0 r.2.0 (lives g l.0 made o n before r.0 (legal g before n (new_engine l.0 made o) r.0 r.1 refl)) same (step_says g r.2.0 r.2.1 n e named late r.2.3)
   where
     by : (m u : EngineView _) → Lives g made n before m → lookup (nat_eq n) u.sessions ≡ lookup (nat_eq n) m.sessions → Says u n e → ReachesNamed (live made n before) n e
     by m u (inl a) same (inl s) = absurd (some_none (sym s.0.1 ∙ same ∙ a.1))

@@ -59,11 +59,11 @@ ChannelsLaw g = (m : session.Made) (h : List (session.SessionCall _)) (v : Sessi
 
 pub on_channel : {R : Type 0} (g : Relays R) → ChannelsLaw g → (made : ConnectionState) (o : OpenModel) (H : List (Entry R)) (w : EngineView R) → LeadsTo g made o H w → OnItsChannel made H
 on_channel g law made o H w l before after e is n m b r =
-    let x = chain_split g before (e ∷ after) (new_engine made o) w (subst (λ (es : List (Entry _)). Chain g (new_engine made o) es w) is l) in
+    let x = chain_split g before (e ∷ after) (new_engine l.0 made o) w (subst (λ (es : List (Entry _)). Chain g (new_engine l.0 made o) es w) is l.1) in
     let p = passage g x.2.0 x.2.1 e x.2.3 in
-    subst (λ (fs : List Frame). AllOn m.channel fs) (sym (p.session_frames n r)) (sent_on m.channel (calls_frames e.calls) (by (legal g H n (new_engine made o) w l refl)))
+    subst (λ (fs : List Frame). AllOn m.channel fs) (sym (p.session_frames n r)) (sent_on m.channel (calls_frames e.calls) (by (legal g H n (new_engine l.0 made o) w l.1 refl)))
   where
-    by : Legal g n (new_connection made o) H w → OnChannel m.channel (calls_frames e.calls)
+    by : Legal g n (new_connection l.0 made o) H w → OnChannel m.channel (calls_frames e.calls)
     by (inl a) = absurd (some_none (sym b ∙ a.unbegun))
     by (inr p) =
         let same = same_some p.made m (begun made n H) p.begun_is b in

@@ -213,8 +213,9 @@ ViewsLaw g = (s : ConnectionState) (o : OpenModel) (H : List (Entry _)) (w : Eng
 pub are_frames : {R : Type 0} (g : Relays R) → ViewsLaw g → TransfersAreFrames g
 unfolding Legal
 are_frames g views s o H wished entries v w inputs left answers after legal p m asked le =
-    let chain = apart g (H ++ (wished ++ entries)) (new_engine s o) w (p.goes_on s o H legal).0 in
-    let short : Keeps m (H ++ (wished ++ entries)) = λ n. keeps_short g m n (H ++ (wished ++ entries)) (new_engine s o) w chain asked in
+    let goes = (p.goes_on s o H legal).0 in
+    let chain = apart g (H ++ (wished ++ entries)) (new_engine goes.0 s o) w goes.1 in
+    let short : Keeps m (H ++ (wished ++ entries)) = λ n. keeps_short g m n (H ++ (wished ++ entries)) (new_engine goes.0 s o) w chain asked in
     let head = (p.goes_on s o H legal).1 in
     let all = each_short m s o (H ++ (wished ++ entries)) head short [] (H ++ (wished ++ entries)) refl in
     let waiting = (views s o H v legal).waiting_is in

@@ -92,5 +92,5 @@ chain_spends g (e ∷ H) v w c =
 
 pub one_each : {R : Type 0} (g : Relays R) (start : ConnectionState) (o : OpenModel) (H : List (Entry R)) (w : EngineView R) → LeadsTo g start o H w → start ≡ at.HeaderExchange → (opens (handed H) ≤ 1) × (closes (handed H) ≤ 1)
 one_each g start o H w l e =
-    let all : Goes (handed H) start w.connection.state = chain_spends g H (new_engine start o) w l in
+    let all : Goes (handed H) start w.connection.state = chain_spends g H (new_engine l.0 start o) w l.1 in
     (omega (arith, all.open_spent, ap open_left e), omega (arith, all.close_spent, ap close_left e))

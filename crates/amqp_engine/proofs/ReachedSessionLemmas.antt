@@ -58,7 +58,7 @@ step_receives g v w e (inr s) = input_receives g v w e.input e s.2
 
 pub all_received : {R : Type 0} (g : Relays R) (made : ConnectionState) (o : OpenModel) (H : List (Entry R)) (w : EngineView R) → LeadsTo g made o H w → AllReceived H
 all_received g made o H w l before after e is =
-    let r = chain_split g before (e ∷ after) (new_engine made o) w (subst (λ (es : List (Entry _)). Chain g (new_engine made o) es w) is l) in
+    let r = chain_split g before (e ∷ after) (new_engine l.0 made o) w (subst (λ (es : List (Entry _)). Chain g (new_engine l.0 made o) es w) is l.1) in
     step_receives g r.2.0 r.2.1 e r.2.3
 
 same_frame : (f h : Frame) → Some f ≡ Some h → f ≡ h
@@ -118,9 +118,9 @@ passes g v w c b e s = tt
 
 pub frames_reach : {R : Type 0} (g : Relays R) (made : ConnectionState) (o : OpenModel) (H : List (Entry R)) (w : EngineView R) → LeadsTo g made o H w → FramesReach made H
 frames_reach g made o H w l before after e is f received short =
-    let r = chain_split g before (e ∷ after) (new_engine made o) w (subst (λ (es : List (Entry _)). Chain g (new_engine made o) es w) is l) in
-    let state : r.2.0.connection.state ≡ state_from made before = ap (λ (k : ConnectionView). k.state) r.2.2.connection_is ∙ state_law g before (new_engine made o) r.0 r.1 in
-    let routed : map.get r.2.0.connection.session_by_incoming_channel f.channel ≡ route f.channel before = ap (λ (k : ConnectionView). map.get k.session_by_incoming_channel f.channel) r.2.2.connection_is ∙ routes g f.channel made o before r.0 r.1 in
+    let r = chain_split g before (e ∷ after) (new_engine l.0 made o) w (subst (λ (es : List (Entry _)). Chain g (new_engine l.0 made o) es w) is l.1) in
+    let state : r.2.0.connection.state ≡ state_from made before = ap (λ (k : ConnectionView). k.state) r.2.2.connection_is ∙ state_law g before (new_engine l.0 made o) r.0 r.1 in
+    let routed : map.get r.2.0.connection.session_by_incoming_channel f.channel ≡ route f.channel before = ap (λ (k : ConnectionView). map.get k.session_by_incoming_channel f.channel) r.2.2.connection_is ∙ routes g f.channel made o before r.0 (l.0, r.1) in
     subst (λ s. Passes f.body s (route f.channel before) e) state
     (subst (λ x. Passes f.body r.2.0.connection.state x e) routed (passes g r.2.0 r.2.1 f.channel f.body e (received_frame g r.2.0 r.2.1 e f received r.2.3)))
 
@@ -140,9 +140,9 @@ found_then d n held k k' is same found = is ∙ ap (λ (y : ConnectionView). map
 
 pub routes_follow : {R : Type 0} (g : Relays R) (made : ConnectionState) (o : OpenModel) (H : List (Entry R)) (w : EngineView R) → LeadsTo g made o H w → RoutesFollow H
 routes_follow g made o H w l before after e is c b received n reached =
-    let r = chain_split g before (e ∷ after) (new_engine made o) w (subst (λ (es : List (Entry _)). Chain g (new_engine made o) es w) is l) in
+    let r = chain_split g before (e ∷ after) (new_engine l.0 made o) w (subst (λ (es : List (Entry _)). Chain g (new_engine l.0 made o) es w) is l.1) in
     let x = begin_found g r.2.0 r.2.1 c b n e.reached e.calls e.refusal reached (received_frame g r.2.0 r.2.1 e _ received r.2.3) in
-    (x.0, x.1, found_then x.0 n _ r.0.connection r.2.0.connection (sym (holds g x.0 made o before r.0 r.1)) r.2.2.connection_is x.2)
+    (x.0, x.1, found_then x.0 n _ r.0.connection r.2.0.connection (sym (holds g x.0 made o before r.0 (l.0, r.1))) r.2.2.connection_is x.2)
 
 -- ---- what a frame reaches is there
 
@@ -185,5 +185,5 @@ frame_known g v w c (body.Transfer p payload) reached calls r k s = reaches_know
 
 pub all_known : {R : Type 0} (g : Relays R) (made : ConnectionState) (o : OpenModel) (H : List (Entry R)) (w : EngineView R) → LeadsTo g made o H w → AllKnown H
 all_known g made o H w l before after e is f received =
-    let r = chain_split g before (e ∷ after) (new_engine made o) w (subst (λ (es : List (Entry _)). Chain g (new_engine made o) es w) is l) in
-    frame_known g r.2.0 r.2.1 f.channel f.body e.reached e.calls e.refusal (kept_taken r.0 r.2.0 r.2.2 (kept g before (new_engine made o) r.0 r.1 (kept_new made o))) (received_frame g r.2.0 r.2.1 e f received r.2.3)
+    let r = chain_split g before (e ∷ after) (new_engine l.0 made o) w (subst (λ (es : List (Entry _)). Chain g (new_engine l.0 made o) es w) is l.1) in
+    frame_known g r.2.0 r.2.1 f.channel f.body e.reached e.calls e.refusal (kept_taken r.0 r.2.0 r.2.2 (kept g before (new_engine l.0 made o) r.0 r.1 (kept_new l.0 made o))) (received_frame g r.2.0 r.2.1 e f received r.2.3)

@@ -8,6 +8,7 @@ use Rattle.amqp_session.specs.declared.frame.SessionFrame.{SessionFrame}
 use Rattle.amqp_session.specs.declared.error.SessionStateError.TheVariants as unbegun
 use Rattle.amqp_session.specs.Settings.{SettingsModel}
 use Rattle.amqp_session.specs.Relay.{Relays}
+use Rattle.amqp_session.specs.declared.keys.KeyHash.{KeyHash}
 use Rattle.amqp_session.specs.Session.{SessionView, new_session}
 use Rattle.amqp_session.specs.OutgoingFrames.{calls_frames}
 use Rattle.amqp_session.specs.History as session
@@ -94,18 +95,18 @@ closes g v w error received reached calls (Some e) frames idle fe u s = absurd s
 -- ---- a session comes, and gives its channel back
 
 -- the channel of a Begin that goes out
-begin_channel : {R : Type 0} (g : Relays R) (settings : SettingsModel) (channel : ℕ) (stop : Option ConnectionStopReason) (f : SessionFrame) (after : SessionView R) →
-    session.SessionChain g (new_session settings channel Unmapped stop) (session.SendsBegin (Ok f) ∷ []) after → f.channel ≡ channel
-begin_channel g settings channel stop f after c = ap (λ (x : SessionFrame). x.channel) c.1.1
+begin_channel : {R : Type 0} (g : Relays R) (hash : KeyHash) (settings : SettingsModel) (channel : ℕ) (stop : Option ConnectionStopReason) (f : SessionFrame) (after : SessionView R) →
+    session.SessionChain g (new_session hash settings channel Unmapped stop) (session.SendsBegin (Ok f) ∷ []) after → f.channel ≡ channel
+begin_channel g hash settings channel stop f after c = ap (λ (x : SessionFrame). x.channel) c.1.1
 
 pub begins : {R : Type 0} (g : Relays R) (v w : EngineView R) (k : SessionNo) (settings : SettingsModel) (received : Option Frame) (reached : Option ℕ) (calls : List (session.SessionCall R)) (r : Option StepError) (frames : List Frame) →
     v.waiting ≡ [] → frames ≡ w.waiting → BeginRequest g v k.0 settings reached calls r w → Deed g v (of (input.Begin k settings) received reached calls r frames) w
 begins g v w k settings received reached calls None frames idle fe s =
     let b : Begun g v k.0 settings calls w = s.1 in
     let shown : frames ≡ sent (calls_frames calls) = fe ∙ ap (λ (x : EngineView _). x.waiting) b.put in
-    let chain = subst (λ (cs : List (session.SessionCall _)). session.SessionChain g (new_session settings b.channel Unmapped v.connection.stop_reason) cs b.after) b.asked.1 b.steps in
+    let chain = subst (λ (cs : List (session.SessionCall _)). session.SessionChain g (new_session v.connection.hash settings b.channel Unmapped v.connection.stop_reason) cs b.after) b.asked.1 b.steps in
     let channel : channel_of frames ≡ b.channel = ap channel_of (shown ∙ ap (λ (cs : List (session.SessionCall _)). sent (calls_frames cs)) b.asked.1)
-    ∙ begin_channel g settings b.channel v.connection.stop_reason b.asked.0 b.after chain in
+    ∙ begin_channel g v.connection.hash settings b.channel v.connection.stop_reason b.asked.0 b.after chain in
     record {
       taken = none_waiting;
       moved = record {

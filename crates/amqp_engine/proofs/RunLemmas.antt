@@ -102,7 +102,7 @@ StandsLaw gives = (state : ConnectionState) (o : OpenModel) (H : List (Entry _))
 -- a legal history goes on by a chain
 pub legal_more : {R : Type 0} (gives : Relays R) (state : ConnectionState) (o : OpenModel) (H es : List (Entry R)) (v w : EngineView R) → Legal gives state o H v → Chain gives v es w → Legal gives state o (H ++ es) w
 unfolding Legal
-legal_more gives state o H es v w l c = Chain-append gives H es (new_engine state o) v w l c
+legal_more gives state o H es v w l c = (l.0, Chain-append gives H es (new_engine l.0 state o) v w l.1 c)
 
 unfoldable pub running_ran : {R : Type 0} (gives : Relays R) (v v' : EngineView R) (wished entries : List (Entry R)) (inputs inputs' : List (Input R)) (answers answers' : List Answer) → HeadlineLaw gives → StandsLaw gives →
     inputs ≡ inputs_of entries ++ inputs' → Running gives v (wished ++ entries) answers v' answers' → Ran gives wished v inputs answers v' inputs' answers'

@@ -7,6 +7,7 @@ use Rattle.amqp_frames.specs.declared.frame.Frame.{Frame}
 use Rattle.amqp_engine.specs.declared.engine.input.Input.{Input}
 use Rattle.amqp_engine.specs.declared.engine.answer.Answer.{Answer}
 use Rattle.amqp_engine.specs.declared.engine.step_error.StepError.{StepError}
+use Rattle.amqp_session.specs.declared.keys.KeyHash.{KeyHash}
 use Rattle.amqp_session.specs.Relay.{Relays}
 use Rattle.amqp_engine.specs.EngineView.{EngineView, new_engine}
 use Rattle.amqp_engine.specs.Engine.{CarriedStep, Steps}
@@ -118,7 +119,7 @@ Chain-end gives (e ∷ es) v u w c t = (c.0, c.1, c.2, c.3, c.4, c.5, Chain-end 
 
 pub legal_left : {R : Type 0} (gives : Relays R) (v w : EngineView R) → OutputTaken v w → Stays gives v w
 unfolding Legal
-legal_left gives v w t = λ state o H l. Chain-end gives H (new_engine state o) v w l t
+legal_left gives v w t = λ state o H l. (l.0, Chain-end gives H (new_engine l.0 state o) v w l.1 t)
 
 front : {R : Type 0} (v : EngineView R) (f : Frame) (fs : List Frame) → v.waiting ≡ f ∷ fs → OutputTaken v (record v { waiting = fs })
 front v f fs e = record { gone = f ∷ []; left = e; connection_is = refl; sessions_is = refl; forgotten_is = refl; limit_is = refl; outcomes_are = record { close = inl refl; ends = λ n. inl refl } }
@@ -149,9 +150,9 @@ carried gives v w i r idle c = record {
 }
 
 -- the history of a new engine
-pub legal_new : {R : Type 0} (gives : Relays R) (state : ConnectionState) (o : OpenModel) (v : EngineView R) → v ≡ new_engine state o → Legal gives state o [] v
+pub legal_new : {R : Type 0} (gives : Relays R) (hash : KeyHash) (state : ConnectionState) (o : OpenModel) (v : EngineView R) → v ≡ new_engine hash state o → Legal gives state o [] v
 unfolding Legal
-legal_new gives state o v e = subst (λ (x : EngineView _). OutputTaken (new_engine state o) x) (sym e) (OutputTaken-none (new_engine state o))
+legal_new gives hash state o v e = (hash, subst (λ (x : EngineView _). OutputTaken (new_engine hash state o) x) (sym e) (OutputTaken-none (new_engine hash state o)))
 
 pub Taking-Ran : {R : Type 0} (gives : Relays R) (v v' : EngineView R) (inputs inputs' : List (Input R)) (answers answers' : List Answer) → HeadlineLaw gives → StandsLaw gives →
     Taking gives v inputs answers v' inputs' answers' → Ran gives [] v inputs answers v' inputs' answers'

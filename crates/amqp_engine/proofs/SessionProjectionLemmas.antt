@@ -10,6 +10,7 @@ use Rattle.amqp_types.specs.declared.states.ConnectionState.{ConnectionState}
 use Rattle.amqp_types.specs.declared.states.SessionState.TheVariants.{Unmapped}
 use Rattle.amqp_session.specs.declared.stop.ConnectionStopReason.{ConnectionStopReason}
 use Rattle.amqp_session.specs.Relay.{Relays}
+use Rattle.amqp_session.specs.declared.keys.KeyHash.{KeyHash}
 use Rattle.amqp_session.specs.Session.{SessionView, new_session}
 use Rattle.amqp_session.specs.History as session
 use Rattle.amqp_connection.specs.Connection.{ConnectionView, new_connection}
@@ -126,7 +127,7 @@ numbers_law g n = by_history g (λ v. is_some (map.get v.forgotten n)) (λ e b. 
     (λ v w t. ap (λ (m : Numbers). is_some (map.get m n)) t.forgotten_is) (λ v w e p. step_number g n v w e p)
 
 pub numbers_are : {R : Type 0} (g : Relays R) (n : ℕ) (made : ConnectionState) (o : OpenModel) (H : List (Entry R)) (w : EngineView R) → LeadsTo g made o H w → is_some (map.get w.forgotten n) ≡ is_forgotten n H
-numbers_are g n made o H w l = numbers_law g n H (new_engine made o) w l ∙ ap (λ (x : Option Bool). forgotten_from n (is_some x) H) (map.get-empty nat_cmp n)
+numbers_are g n made o H w l = numbers_law g n H (new_engine l.0 made o) w l.1 ∙ ap (λ (x : Option Bool). forgotten_from n (is_some x) H) (map.get-empty nat_cmp n)
 
 -- one step, for a session that is there
 changed : {R : Type 0} (g : Relays R) (n : ℕ) (u m : EngineView R) (e : Entry R) (s : SessionView R) → Stays u e m ⊎ Changes g u e m → lookup (nat_eq n) u.sessions ≡ Some s → Goes g m n false s (calls_at n e)
@@ -307,16 +308,17 @@ legal g (e ∷ es) n v w c h =
         apart : (b : Bool) → nat_eq n s.number ≡ b → Legal g n v.connection (e ∷ es) w
         apart true z =
             let r = more s.after (there ∙ ap (λ b. cond b (Some s.after) None) z) in
-            let began : session.SessionChain g (new_session s.settings s.channel Unmapped v.connection.stop_reason) e.calls s.after =
-            subst (λ (k : ConnectionView). session.SessionChain g (new_session s.settings s.channel Unmapped k.stop_reason) e.calls s.after) c.2.connection_is s.chain in
+            let began : session.SessionChain g (new_session v.connection.hash s.settings s.channel Unmapped v.connection.stop_reason) e.calls s.after =
+            subst (λ (k : ConnectionView). session.SessionChain g (new_session k.hash s.settings s.channel Unmapped k.stop_reason) e.calls s.after) c.2.connection_is s.chain in
             inr (record {
               made = how;
               last = r.0;
               begun_is = said true z;
               unmapped = refl;
               legal = (
+                v.connection.hash,
                 s.fits,
-                subst (λ (xs : List (session.SessionCall _)). session.SessionChain g (new_session s.settings s.channel Unmapped v.connection.stop_reason) (xs ++ of_session n es) r.0) (sym (calls_there n s.number e true s.reached_is z)) (chain_append g e.calls (of_session n es) _ s.after r.0 began r.2),
+                subst (λ (xs : List (session.SessionCall _)). session.SessionChain g (new_session v.connection.hash s.settings s.channel Unmapped v.connection.stop_reason) (xs ++ of_session n es) r.0) (sym (calls_there n s.number e true s.reached_is z)) (chain_append g e.calls (of_session n es) _ s.after r.0 began r.2),
               );
               there = r.1 ∙ sym (ap (λ ev. cond (forgotten_from n (forgotten_by n ev false) es) None (Some r.0)) s.event_is);
             })
@@ -345,9 +347,9 @@ pub record Living {R : Type 0} (g : Relays R) (s : ConnectionState) (n : ℕ) (H
 abbrev pub Lives : {R : Type 0} → Relays R → ConnectionState → ℕ → List (Entry R) → EngineView R → Type 0
 Lives g s n H w = ((live s n H ≡ None) × (lookup (nat_eq n) w.sessions ≡ None)) ⊎ Living g s n H w
 
-pub lives : {R : Type 0} (g : Relays R) (s : ConnectionState) (o : OpenModel) (n : ℕ) (H : List (Entry R)) (w : EngineView R) → Legal g n (new_connection s o) H w → Lives g s n H w
-lives g s o n H w (inl a) = inl (ap (λ b. cond b None (begun s n H)) a.unforgotten ∙ a.unbegun, a.unknown)
-lives g s o n H w (inr p) = by (is_forgotten n H) refl
+pub lives : {R : Type 0} (g : Relays R) (hash : KeyHash) (s : ConnectionState) (o : OpenModel) (n : ℕ) (H : List (Entry R)) (w : EngineView R) → Legal g n (new_connection hash s o) H w → Lives g s n H w
+lives g hash s o n H w (inl a) = inl (ap (λ b. cond b None (begun s n H)) a.unforgotten ∙ a.unbegun, a.unknown)
+lives g hash s o n H w (inr p) = by (is_forgotten n H) refl
   where
     by : (b : Bool) → is_forgotten n H ≡ b → Lives g s n H w
     by true e = inl (ap (λ b. cond b None (begun s n H)) e, p.there ∙ ap (λ b. cond b None (Some p.last)) e)

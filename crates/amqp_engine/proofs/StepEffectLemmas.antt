@@ -163,7 +163,7 @@ pub record Begins {R : Type 0} (g : Relays R) (v : EngineView R) (e : Entry R) (
   pub unused : map.get v.forgotten number ≡ None
   pub fits : settings.next_outgoing_id < 2 ^ 32
   pub asked : asked_calls e.input e.received Unmapped e.calls e.refusal
-  pub chain : session.SessionChain g (new_session settings channel Unmapped v.connection.stop_reason) e.calls after
+  pub chain : session.SessionChain g (new_session v.connection.hash settings channel Unmapped v.connection.stop_reason) e.calls after
   pub sessions_is : w.sessions ≡ v.sessions ++ (number, after) ∷ []
 
 pub record Forgets {R : Type 0} (v : EngineView R) (e : Entry R) (w : EngineView R) : Type 0 where

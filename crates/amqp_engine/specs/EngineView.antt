@@ -5,6 +5,7 @@ use Rattle.std.specs.Option.{option_map}
 use Rattle.amqp_types.specs.declared.states.ConnectionState.{ConnectionState}
 use Rattle.amqp_types.specs.Open.{OpenModel}
 use Rattle.amqp_session.specs.declared.deliveries.WalkCount.{WalkCount}
+use Rattle.amqp_session.specs.declared.keys.KeyHash.{KeyHash}
 use Rattle.amqp_session.specs.Session.{SessionView, SessionModel}
 use Rattle.amqp_session.specs.declared.numbers.OutputHandle.{OutputHandle}
 use Rattle.amqp_session.specs.Linking.{named_at}
@@ -46,9 +47,9 @@ own_limit o = max (o.max_frame_size - 4) 4
 abbrev pub peer_limit : OpenModel → ℕ
 peer_limit o = max o.max_frame_size 512 - 4
 
-abbrev pub new_engine : {R : Type 0} → ConnectionState → OpenModel → EngineView R
-new_engine s o = record {
-  connection = new_connection s o;
+abbrev pub new_engine : {R : Type 0} → KeyHash → ConnectionState → OpenModel → EngineView R
+new_engine hash s o = record {
+  connection = new_connection hash s o;
   sessions = [];
   walks = [];
   forgotten = map.empty;

@@ -8,6 +8,7 @@ use Rattle.amqp_types.specs.declared.states.ConnectionState.TheVariants.{End}
 use Rattle.amqp_types.specs.declared.states.ConnectionState.{ConnectionState}
 use Rattle.amqp_types.specs.Open.{OpenModel}
 use Rattle.amqp_frames.specs.declared.frame.Frame.{Frame}
+use Rattle.amqp_session.specs.declared.keys.KeyHash.{KeyHash}
 use Rattle.amqp_session.specs.Relay.{Relays}
 use Rattle.amqp_session.specs.Session.{SessionView}
 use Rattle.amqp_engine.specs.EngineView.{EngineView, new_engine}
@@ -50,6 +51,6 @@ Chain g v [] w = OutputTaken v w
 Chain g v (e ∷ es) w = (u : EngineView _) × (m : EngineView _) × (n : EngineView _)
     × OutputTaken v u × Step g u e m × Keeps e m n × Chain g n es w
 
--- a legal history of an engine that was new in this state and with this Open
+-- a legal history of an engine that was new in this state and with this Open, by whatever hash it finds what the peer names
 abbrev pub LeadsTo : {R : Type 0} → Relays R → ConnectionState → OpenModel → List (Entry R) → EngineView R → Type 0
-LeadsTo g state o H w = Chain g (new_engine state o) H w
+LeadsTo g state o H w = (hash : KeyHash) × Chain g (new_engine hash state o) H w

@@ -103,7 +103,7 @@ Reaches g finds v asks reached calls refusal w =
 
 -- ---- a session comes, and gives its channel back
 
--- A session that was not there is made on the channel that the connection gave, and sends its Begin.
+-- A session that was not there is made on the channel that the connection gave, with the connection's hash, and sends its Begin.
 pub record Begun {R : Type 0} (g : Relays R) (v : EngineView R) (n : ℕ) (settings : SettingsModel) (calls : List (session.SessionCall R))
     (w : EngineView R) : Type 0 where
   pub channel : ℕ
@@ -115,7 +115,7 @@ pub record Begun {R : Type 0} (g : Relays R) (v : EngineView R) (n : ℕ) (setti
   pub fits : settings.next_outgoing_id < 2 ^ 32
   pub allocated : AllocateStep v.connection n (Ok channel) connection
   pub asked : by_one (λ f. session.SendsBegin (Ok f) ∷ []) unrefused at.Unmapped calls None
-  pub steps : session.SessionChain g (new_session settings channel at.Unmapped v.connection.stop_reason) calls after
+  pub steps : session.SessionChain g (new_session v.connection.hash settings channel at.Unmapped v.connection.stop_reason) calls after
   pub put : w ≡ record v {
     connection = connection;
     sessions = v.sessions ++ (n, after) ∷ [];

@@ -4,6 +4,7 @@ ghost use Rattle.std.specs.Prelude.{◌≡◌, [], Some, IfSome, is_some, nat_eq
 ghost use Rattle.std.specs.Map.{lookup};
 ghost use Rattle.std.specs.FinMap as map;
 ghost use Rattle.std.specs.Option.{option_map};
+ghost use Rattle.amqp_session.specs.declared.keys.KeyHash.TheVariants.{Fixed};
 ghost use Rattle.amqp_engine.specs.Waits.{has_frames};
 ghost use Rattle.amqp_engine.specs.EngineView.{new_engine, output_handle_at, own_limit};
 ghost use Rattle.amqp_engine.specs.Stepped.{Stepped};
@@ -116,6 +117,8 @@ impl<R: Drop> Drop for Engine<R> {
 impl<R> Model for Engine<R> {
     ghost use Rattle.std.specs.Coded.{codes};
     ghost use Rattle.std.specs.FinMap as map;
+    ghost use Rattle.std.specs.Prelude.{◌≡◌};
+    ghost use Rattle.amqp_session.specs.Hashing.{hash_code};
     ghost use Rattle.amqp_session.specs.Links.{links_code};
     ghost use Rattle.amqp_connection.specs.Channels.{channel_table_code};
     ghost use Rattle.amqp_engine.specs.EngineView.{EngineView, views_of, walks_of};
@@ -123,7 +126,7 @@ impl<R> Model for Engine<R> {
 
     ghost Value = { EngineView R };
 
-    ghost coded = { Prim.hlevel (codes, channel_table_code, links_code, map.code) };
+    ghost coded = { Prim.hlevel (codes, channel_table_code, hash_code, links_code, map.code) };
 
     ghost view = { λ e. record {
       connection = e.connection;
@@ -136,7 +139,7 @@ impl<R> Model for Engine<R> {
       wishes = e.kept.wishes;
     } };
 
-    ghost invariant = { λ e. Seated e.sessions.entries e.kept.places };
+    ghost invariant = { λ e. Seated e.sessions.entries e.kept.places × (e.connection.hash ≡ e.hash) };
 }
 
 /// The limit of a piece before the peer's Open.
@@ -155,7 +158,7 @@ impl<R: LinkRelay> Engine<R> {
     /// [`Engine::keyed`] for a peer that is not trusted.
     pub fn new(alloc: Global, state: ConnectionState, local_open: Open) -> Engine<R>
         ensures legal { Legal R.gives state local_open [] result }
-        ensures new { result ≡ new_engine state local_open }
+        ensures new { result ≡ new_engine Fixed state local_open }
     {
         Engine::keyed(alloc, KeyHash::Fixed, state, local_open)
     }
@@ -169,7 +172,7 @@ impl<R: LinkRelay> Engine<R> {
         local_open: Open,
     ) -> Engine<R>
         ensures legal { Legal R.gives state local_open [] result }
-        ensures new { result ≡ new_engine state local_open }
+        ensures new { result ≡ new_engine hash state local_open }
     {
         Engine {
             alloc,

@@ -36,13 +36,14 @@ pub struct HandledEngine<R> {
 impl<R> Model for HandledEngine<R> {
     ghost use Rattle.std.specs.Coded.{codes};
     ghost use Rattle.std.specs.FinMap as map;
+    ghost use Rattle.amqp_session.specs.Hashing.{hash_code};
     ghost use Rattle.amqp_session.specs.Links.{links_code};
     ghost use Rattle.amqp_connection.specs.Channels.{channel_table_code};
     ghost use Rattle.amqp_engine.specs.EngineView.{EngineView};
 
     ghost Value = { EngineView R };
 
-    ghost coded = { Prim.hlevel (codes, channel_table_code, links_code, map.code) };
+    ghost coded = { Prim.hlevel (codes, channel_table_code, hash_code, links_code, map.code) };
 
     ghost view = { λ h. h.engine };
 }

@@ -194,7 +194,7 @@ module _ (g : Relays Queued) where
       let one = one_call e h v c.0 link ((shown before v l).inputs_are h ∙ at) (all 0 e (omega arith)) c.1 in
       let next = record link { relay = one.after } in
       let there : input_at h (before ++ e ∷ []) ≡ Some next = input_on h before (e ∷ []) None ∙ ap (λ o. input_by h o e) at ∙ one.stands in
-      let others = hears m es (before ++ e ∷ []) c.0 w h next shown (l.0, chain_more before e _ v c.0 l.1 c.1) there (λ k d p. all (suc k) d (omega (arith, p))) c.2 in
+      let others = hears m es (before ++ e ∷ []) c.0 w h next shown (l.0, l.1, chain_more before e _ v c.0 l.2 c.1) there (λ k d p. all (suc k) d (omega (arith, p))) c.2 in
       record {
         after = others.after;
         stands = ap (λ o. input_from h o es) one.stands ∙ others.stands;

@@ -50,7 +50,7 @@ fn begun<R: LinkRelay>(
     channel: OutgoingChannel,
     stop: Option<ConnectionStopReason>,
 ) -> Result<(Session<R>, SessionFrame), SessionStateError>
-    ensures begun { BegunStep (new_session settings channel.0 Unmapped stop) result }
+    ensures begun { BegunStep (new_session hash settings channel.0 Unmapped stop) result }
     ensures fits { settings.next_outgoing_id < 2 ^ 32 }
 {
     let mut session = Session::keyed(alloc, hash, settings, channel, SessionState::Unmapped, stop);

@@ -4,7 +4,7 @@ use Rattle.amqp_session.specs.Headline as single
 use Rattle.amqp_engine.specs.EngineView.{new_engine}
 use Rattle.amqp_engine.specs.ByHistory.{of_session, begun}
 use Rattle.amqp_engine.specs.Legal.{Legal}
-use Rattle.amqp_engine.proofs.BareHistoryLemmas.{apart}
+use Rattle.amqp_engine.proofs.BareHistoryLemmas.{LeadsTo, apart}
 use Rattle.amqp_engine.proofs.BegunSessionLemmas.{some_none}
 use Rattle.amqp_engine.proofs.OpenCloseCountLemmas.{one_each}
 use Rattle.amqp_engine.proofs.ChannelHistoryLemmas.{once_held}
@@ -19,14 +19,14 @@ pub returns : goal.returns
 unfolding Legal
 returns g c = λ state o H w whole.
     let gives = g.R.LinkRelay.gives in
-    let l = apart gives H (new_engine state o) w whole in
+    let l : LeadsTo gives state o H w = (whole.0, apart gives H (new_engine whole.0 state o) w whole.1) in
     let ones = one_each gives state o H w l in
     record {
-      each = λ n m b. elim (legal gives H n (new_engine state o) w l refl) [
+      each = λ n m b. elim (legal gives H n (new_engine l.0 state o) w l.1 refl) [
         | inl a ↦ absurd (some_none (sym b ∙ a.unbegun))
         | inr p ↦ subst (λ (x : session.Made). single.Headline x (of_session n H)) (same_some p.made m (begun state n H) p.begun_is b) (c.law_of_views.ensures.headline p.made (of_session n H) p.last p.legal)
       ];
-      unknown = λ n b. elim (legal gives H n (new_engine state o) w l refl) [
+      unknown = λ n b. elim (legal gives H n (new_engine l.0 state o) w l.1 refl) [
         | inl a ↦ a.no_calls
         | inr p ↦ absurd (some_none (sym p.begun_is ∙ b))
       ];

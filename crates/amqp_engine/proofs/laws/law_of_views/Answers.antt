@@ -5,4 +5,4 @@ use Rattle.amqp_engine.proofs.laws.law_of_views.Goals as goal
 
 pub returns : goal.returns
 unfolding Legal
-returns g c = λ state o H w l. stands g.R.LinkRelay.gives c.law_of_views.ensures.stands state o H w (apart g.R.LinkRelay.gives H _ w l)
+returns g c = λ state o H w l. stands g.R.LinkRelay.gives c.law_of_views.ensures.stands state o H w (l.0, apart g.R.LinkRelay.gives H _ w l.1)

@@ -6,6 +6,6 @@ use Rattle.amqp_engine.proofs.engine.Engine.note_end.Goals as goal
 
 pub note_end-requires : goal.note_end-requires
 note_end-requires g c = record {
-  known = seat_known c.self.inside.sessions.entries c.args.number.0 c.self.inside.kept.places c.self.invariant
+  known = seat_known c.self.inside.sessions.entries c.args.number.0 c.self.inside.kept.places c.self.invariant.0
       (subst (λ (v : EngineView _). IsSome (lookup (nat_eq c.args.number.0) v.sessions)) (sym c.self.view_is) c.requires);
 }

@@ -3,6 +3,8 @@ use Rattle.std.specs.Option.{option_copied_mut}
 use Rattle.std.specs.HashMap.{HashMap}
 use Rattle.amqp_types.specs.Begin.{BeginModel}
 use Rattle.amqp_connection.specs.Connection.{BeginRouteStep}
+use Rattle.amqp_connection.specs.History.{IncomingBegin}
+use Rattle.amqp_connection.proofs.HistoryLemmas.{hash_stays}
 use Rattle.amqp_engine.specs.EngineView.{EngineView}
 use Rattle.amqp_engine.specs.Inner.Calls.{ReceivedBeginCalls}
 use Rattle.amqp_engine.proofs.KindFieldsLemmas.{begin_fields}
@@ -51,4 +53,7 @@ returns g c =
     )
 
 pub invariant_of-self-2 : goal.invariant_of-self-2
-invariant_of-self-2 g c = seated_set c.self.inside.sessions.entries _ c.in_ok-number.number.0 c.begin_received.new.session c.self.inside.kept.places (c.get_mut.follows.holds c.begin_received.new.session) c.self.invariant
+invariant_of-self-2 g c = (
+  seated_set c.self.inside.sessions.entries _ c.in_ok-number.number.0 c.begin_received.new.session c.self.inside.kept.places (c.get_mut.follows.holds c.begin_received.new.session) c.self.invariant.0,
+  hash_stays _ _ (IncomingBegin c.args.channel.0 _ (Ok c.in_ok-number.number.0)) c.in_ok-number.ensures ∙ c.self.invariant.1,
+)

@@ -40,4 +40,4 @@ returns g c =
     (c.get_mut.follows.holds c.detach_received.new.session)
 
 pub invariant_of-self-2 : goal.invariant_of-self-2
-invariant_of-self-2 g c = seated_set c.self.inside.sessions.entries _ c.in-Some.number.0 c.detach_received.new.session c.self.inside.kept.places (c.get_mut.follows.holds c.detach_received.new.session) c.self.invariant
+invariant_of-self-2 g c = (seated_set c.self.inside.sessions.entries _ c.in-Some.number.0 c.detach_received.new.session c.self.inside.kept.places (c.get_mut.follows.holds c.detach_received.new.session) c.self.invariant.0, c.self.invariant.1)

@@ -2,6 +2,8 @@ use Rattle.std.proofs.Common.{rules, [], Some, None, IsSome, Ok, Err, refl, ap, 
 use Rattle.std.specs.Option.{option_copied_mut}
 use Rattle.std.specs.HashMap.{HashMap}
 use Rattle.amqp_connection.specs.Connection.{EndRouteStep}
+use Rattle.amqp_connection.specs.History.{IncomingEnd}
+use Rattle.amqp_connection.proofs.HistoryLemmas.{hash_stays}
 use Rattle.amqp_engine.specs.EngineView.{EngineView}
 use Rattle.amqp_engine.specs.Inner.Calls.{ReceivedEndCalls}
 use Rattle.amqp_engine.proofs.KindFieldsLemmas.{end_fields}
@@ -50,7 +52,7 @@ keep_end-requires g c =
     let n = c.in_ok-number.number.0 in
     let known = viewed_some n c.self.inside.sessions.entries c.in-Some.session.now (sym c.in-Some.ensures.value) in
     record {
-      known = λ h. seat_known c.self.inside.sessions.entries n c.self.inside.kept.places c.self.invariant (subst IsSome (sym known) refl);
+      known = λ h. seat_known c.self.inside.sessions.entries n c.self.inside.kept.places c.self.invariant.0 (subst IsSome (sym known) refl);
     }
 
 pub returns : goal.returns
@@ -67,4 +69,7 @@ returns g c =
     (kept_end _ _ _ _ c.args.channel.0 n end (Some n) c.end_answer.result _ refl refl c.end_answer.ensures c.keep_end.ensures.outcomes c.keep_end.ensures.wishes)
 
 pub invariant_of-self-2 : goal.invariant_of-self-2
-invariant_of-self-2 g c = rw c.keep_end.ensures.places (seated_set c.self.inside.sessions.entries _ c.in_ok-number.number.0 c.end_received-answer.new.session c.self.inside.kept.places (c.get_mut.follows.holds c.end_received-answer.new.session) c.self.invariant)
+invariant_of-self-2 g c = (
+  rw c.keep_end.ensures.places (seated_set c.self.inside.sessions.entries _ c.in_ok-number.number.0 c.end_received-answer.new.session c.self.inside.kept.places (c.get_mut.follows.holds c.end_received-answer.new.session) c.self.invariant.0),
+  hash_stays _ _ (IncomingEnd c.args.channel.0 (Ok c.in_ok-number.number.0)) c.in_ok-number.ensures ∙ c.self.invariant.1,
+)

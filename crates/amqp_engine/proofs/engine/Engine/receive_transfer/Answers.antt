@@ -71,7 +71,7 @@ returns-in-Err-take_transfer g c =
     (c.get_mut.follows.holds c.take_transfer.new.self))
 
 pub invariant_of-self-in-Ok-take_transfer : goal.invariant_of-self-in-Ok-take_transfer
-invariant_of-self-in-Ok-take_transfer g c = seated_set c.self.inside.sessions.entries _ c.in-Some.number.0 c.maybe_outgoing_session_flow.new.self c.self.inside.kept.places (c.get_mut.follows.holds c.maybe_outgoing_session_flow.new.self) c.self.invariant
+invariant_of-self-in-Ok-take_transfer g c = (seated_set c.self.inside.sessions.entries _ c.in-Some.number.0 c.maybe_outgoing_session_flow.new.self c.self.inside.kept.places (c.get_mut.follows.holds c.maybe_outgoing_session_flow.new.self) c.self.invariant.0, c.self.invariant.1)
 
 pub invariant_of-self-in-Err-take_transfer : goal.invariant_of-self-in-Err-take_transfer
-invariant_of-self-in-Err-take_transfer g c = seated_set c.self.inside.sessions.entries _ c.in-Some.number.0 c.take_transfer.new.self c.self.inside.kept.places (c.get_mut.follows.holds c.take_transfer.new.self) c.self.invariant
+invariant_of-self-in-Err-take_transfer g c = (seated_set c.self.inside.sessions.entries _ c.in-Some.number.0 c.take_transfer.new.self c.self.inside.kept.places (c.get_mut.follows.holds c.take_transfer.new.self) c.self.invariant.0, c.self.invariant.1)

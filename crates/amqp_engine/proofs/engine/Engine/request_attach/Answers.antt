@@ -23,4 +23,4 @@ returns-in_default g c =
     let d = did_not g.R.LinkRelay.gives asks c.args.self.now _ _ _ _ n _ c.self.view_is none stays in (None, d.0, d.1, _, (refl, d.2), refl)
 
 pub invariant_of-self-2 : goal.invariant_of-self-2
-invariant_of-self-2 g c = seated_set c.self.inside.sessions.entries _ c.args.number.0 c.send_attach.new.session c.self.inside.kept.places (c.get_mut.follows.holds c.send_attach.new.session) c.self.invariant
+invariant_of-self-2 g c = (seated_set c.self.inside.sessions.entries _ c.args.number.0 c.send_attach.new.session c.self.inside.kept.places (c.get_mut.follows.holds c.send_attach.new.session) c.self.invariant.0, c.self.invariant.1)

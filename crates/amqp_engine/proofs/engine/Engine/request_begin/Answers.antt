@@ -28,7 +28,8 @@ returns-in-Ok-begun g c =
     let entries = put ∙ ap (λ es. insert_entry nat_eq es c.args.number.0 c.in-Ok-begun.session) c.more_in_map.ensures.entries ∙ appended _ c.args.number.0 c.in-Ok-begun.session none in
     let a = c.in-Ok-allocate_session.ensures in
     let stop = c.connection_stop_reason-stop.ensures ∙ ap (λ (k : ConnectionView). k.stop_reason) a.3 in
-    let began = subst (λ s. SendBeginStep (new_session c.args.settings c.in-Ok-allocate_session.channel.0 Unmapped s) (Ok c.in-Ok-begun.frame) c.in-Ok-begun.session.view) stop c.in-Ok-begun.ensures.begun in
+    let keyed = subst (λ h. SendBeginStep (new_session h c.args.settings c.in-Ok-allocate_session.channel.0 Unmapped c.connection_stop_reason-stop.result) (Ok c.in-Ok-begun.frame) c.in-Ok-begun.session.view) (sym c.self.invariant.1) c.in-Ok-begun.ensures.begun in
+    let began = subst (λ s. SendBeginStep (new_session c.self.inside.connection.hash c.args.settings c.in-Ok-allocate_session.channel.0 Unmapped s) (Ok c.in-Ok-begun.frame) c.in-Ok-begun.session.view) stop keyed in
     rw (← c.self.view_is) (
       Some c.args.number.0,
       session.SendsBegin (Ok c.in-Ok-begun.frame) ∷ [],
@@ -101,12 +102,14 @@ pub add-requires : goal.add-requires
 add-requires g c = record {
   room = c.in-Ok-reserve.ensures.ok;
   fresh = ap (λ m. map.get m c.args.number.0) c.reserve.ensures.same.places_are
-      ∙ seat_free c.self.inside.sessions.entries c.args.number.0 c.self.inside.kept.places c.self.invariant
+      ∙ seat_free c.self.inside.sessions.entries c.args.number.0 c.self.inside.kept.places c.self.invariant.0
       (unviewed c.args.number.0 c.self.inside.sessions.entries (ap (λ v. lookup (nat_eq c.args.number.0) v.sessions) c.self.view_is ∙ (subst (λ b. Used c.args.self.now c.args.number.0 b) c.if-is_used.false c.is_used.ensures).0));
 }
 
 pub invariant_of-self-in-Ok-begun : goal.invariant_of-self-in-Ok-begun
-invariant_of-self-in-Ok-begun g c =
-    seated_more c.more_in_map.new.map.entries c.insert.new.self.entries c.args.number.0 c.in-Ok-begun.session c.reserve.new.self.places c.add.new.self.places
-    (rw c.unwrap.ensures at c.insert.ensures.updates).0 c.add.ensures.places
-    (subst (λ m. Seated c.more_in_map.new.map.entries m) (sym c.reserve.ensures.same.places_are) (seated_same c.self.inside.sessions.entries c.more_in_map.new.map.entries c.self.inside.kept.places c.more_in_map.ensures.entries c.self.invariant))
+invariant_of-self-in-Ok-begun g c = (
+  seated_more c.more_in_map.new.map.entries c.insert.new.self.entries c.args.number.0 c.in-Ok-begun.session c.reserve.new.self.places c.add.new.self.places
+      (rw c.unwrap.ensures at c.insert.ensures.updates).0 c.add.ensures.places
+      (subst (λ m. Seated c.more_in_map.new.map.entries m) (sym c.reserve.ensures.same.places_are) (seated_same c.self.inside.sessions.entries c.more_in_map.new.map.entries c.self.inside.kept.places c.more_in_map.ensures.entries c.self.invariant.0)),
+  ap (λ (k : ConnectionView). k.hash) c.in-Ok-allocate_session.ensures.3 ∙ c.self.invariant.1,
+)

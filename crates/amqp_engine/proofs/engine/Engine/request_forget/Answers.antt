@@ -21,7 +21,7 @@ returns-in_default-insert g c = (
 )
 
 pub invariant_of-self-2 : goal.invariant_of-self-2
-invariant_of-self-2 g c = seated_less c.self.inside.sessions.entries c.swap_remove.new.self.entries c.args.number.0 c.self.inside.kept.places c.forget.new.self.places c.swap_remove.ensures.updates.0 c.forget.ensures.places c.self.invariant
+invariant_of-self-2 g c = (seated_less c.self.inside.sessions.entries c.swap_remove.new.self.entries c.args.number.0 c.self.inside.kept.places c.forget.new.self.places c.swap_remove.ensures.updates.0 c.forget.ensures.places c.self.invariant.0, c.self.invariant.1)
 
 pub returns : goal.returns
 returns g c =

@@ -55,7 +55,7 @@ returns-in_default g c =
     let d = did_not g.R.LinkRelay.gives asks c.args.self.now _ _ _ _ n _ c.self.view_is none stays in rw c.no_session.ensures (None, d.0, d.1, _, (refl, d.2), refl)
 
 pub invariant_of-self-in-Ok : goal.invariant_of-self-in-Ok
-invariant_of-self-in-Ok g c = seated_set c.self.inside.sessions.entries _ c.args.number.0 c.on_outgoing_transfer.new.self c.self.inside.kept.places (c.get_mut.follows.holds c.on_outgoing_transfer.new.self) c.self.invariant
+invariant_of-self-in-Ok g c = (seated_set c.self.inside.sessions.entries _ c.args.number.0 c.on_outgoing_transfer.new.self c.self.inside.kept.places (c.get_mut.follows.holds c.on_outgoing_transfer.new.self) c.self.invariant.0, c.self.invariant.1)
 
 pub invariant_of-self-in-Err : goal.invariant_of-self-in-Err
-invariant_of-self-in-Err g c = seated_set c.self.inside.sessions.entries _ c.args.number.0 c.on_outgoing_transfer.new.self c.self.inside.kept.places (c.get_mut.follows.holds c.on_outgoing_transfer.new.self) c.self.invariant
+invariant_of-self-in-Err g c = (seated_set c.self.inside.sessions.entries _ c.args.number.0 c.on_outgoing_transfer.new.self c.self.inside.kept.places (c.get_mut.follows.holds c.on_outgoing_transfer.new.self) c.self.invariant.0, c.self.invariant.1)
