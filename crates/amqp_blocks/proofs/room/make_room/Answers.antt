@@ -48,6 +48,7 @@ returns g c =
       sound = e.sound;
       items = ap items_of e.items;
       kept = omega (arith, e.kept, ap places_of e.items);
+      rings = e.rings;
       ok = on_ok_weaker c.make_room_in_spares.result (λ w. omega (arith, w, fit)) e.ok;
       refused = on_err_within c.make_room_in_spares.result (omega (arith, c.requires.some)) e.refused;
     }
