@@ -198,6 +198,7 @@ pub(crate) fn make_room<T>(
     ensures items { items_of blocks.new.items ≡ items_of blocks.old.items }
     ensures kept { places_of blocks.old.items + places_of spare.old.items ≤ places_of blocks.new.items + places_of spare.new.items }
     ensures rings { MakesSpares (additional / 256 + 1) blocks.old.items spare.old.items blocks.new.items spare.new.items }
+    ensures alone { length blocks.old.items ≡ 1 → length (items_of blocks.old.items) + additional ≤ 256 → length spare.new.items ≡ length spare.old.items }
     ensures ok { OnOk result (length (items_of blocks.new.items) + additional ≤ places_of blocks.new.items + places_of spare.new.items) }
     ensures refused { OnErr result (RefusedWithin (256 + additional)) }
 {

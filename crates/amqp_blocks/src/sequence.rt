@@ -162,7 +162,8 @@ impl<T> Blocks<T> {
 
     /// Makes room for so many items more, wherever they come. It fails only where memory was refused, and the room is not there without it. A
     /// refusal leaves all items as they were. This call alone makes spare rings, which are empty and for the blocks to come: none where there is
-    /// one for each item, and else until there is one for each 256 items, and one more. Where there is a block each takes 256 items.
+    /// one for each item, and else until there is one for each 256 items, and one more. Where there is a block each takes 256 items. One block
+    /// alone gets none beside it while 256 items are all there are to be.
     #[inline(always)]
     pub fn reserve(&mut self, additional: usize) -> Result<(), AllocError>
         ensures items { self.new.items ≡ self.old.items }
@@ -174,6 +175,7 @@ impl<T> Blocks<T> {
         ensures blocks { self.new.blocks ≡ self.old.blocks }
         ensures spare { self.old.spare ≤ self.new.spare }
         ensures most { self.new.spare ≤ max self.old.spare (additional / 256 + 1) }
+        ensures alone { self.old.blocks ≡ 1 → length self.old.items + additional ≤ 256 → self.new.spare ≡ self.old.spare }
         ensures wide { 0 < self.old.blocks → self.old.room + 256 * (self.new.spare - self.old.spare) ≤ self.new.room }
         ensures at_end { self.old.at_end ≤ self.new.at_end }
     {

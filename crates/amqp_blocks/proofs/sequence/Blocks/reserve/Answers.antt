@@ -37,6 +37,7 @@ returns g c =
       blocks = r.blocks ∙ blocks;
       spare = omega (arith, r.kept, spare);
       most = omega (arith, r.few, spare);
+      alone = λ o f. let s = e.alone (omega (arith, o, blocks)) (omega (arith, f, ap (λ (s : Sequence _). length s.items) c.self.view_is)) in omega (arith, s, spare);
       wide = λ h. omega (arith, r.wide (omega (arith, h, blocks)), room, spare, fit, ap length e.items);
       at_end = omega (arith, r.at_end, at_end);
     }
