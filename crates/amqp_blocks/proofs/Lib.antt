@@ -8,4 +8,5 @@ pub mod PassLemmas
 pub mod CutLemmas
 pub mod ReplaceLemmas
 pub mod JoinLemmas
+pub mod EndLemmas
 pub mod ShiftLemmas

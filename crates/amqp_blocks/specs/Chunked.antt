@@ -9,11 +9,14 @@ use Rattle.std.specs.declared.collections.VecDeque.{VecDeque}
 abbrev pub Block : Type 0 → Type 0
 Block T = VecDeque T Global
 
--- a list of items, how many more are taken with no request for memory, and how many blocks they are in
+-- a list of items, how many more are taken with no request for memory, how many blocks they are in, how many empty rings are kept for
+-- blocks to come, and how many more items the last block takes
 pub record Sequence (T : Type 0) : Type 0 where
   pub items : List T
   pub room : ℕ
   pub blocks : ℕ
+  pub spare : ℕ
+  pub at_end : ℕ
 
 -- where each block ends, and how many blocks have room there
 pub record RunningLengths : Type 0 where
@@ -70,6 +73,12 @@ module _ {T : Type 0} where
   -- how many more items the rings take
   abbrev pub room_of : List (Block T) → List (Block T) → ℕ
   room_of blocks spare = places_of blocks + places_of spare - length (items_of blocks)
+
+  -- how many more items the last block takes
+  abbrev pub end_room : List (Block T) → ℕ
+  end_room [] = 0
+  end_room (b ∷ []) = min b.cap 256 - length b.items
+  end_room (b ∷ c ∷ bs) = end_room (c ∷ bs)
 
   -- the block's items reach at least to this place
   abbrev pub Within : List (Block T) → ℕ → ℕ → Type 0

@@ -2,7 +2,7 @@
 
 ghost use Rattle.std.specs.Prelude.{◌≡◌, ◌+◌, ◌-◌, ◌/◌, ◌^◌, ◌<◌, ◌≤◌, length, slice_index, slice_index_or, vec_capacity, min};
 ghost use Rattle.std.specs.List.{insert};
-ghost use Rattle.amqp_blocks.specs.Chunked.{Block, items_of, start_of, places_of, IsChunked, EachSpare, Within, HasItem, HasPlace};
+ghost use Rattle.amqp_blocks.specs.Chunked.{Block, items_of, start_of, places_of, end_room, IsChunked, EachSpare, Within, HasItem, HasPlace};
 ghost use Rattle.amqp_blocks.specs.Inner.Changes.{KeepsPlaces};
 
 use crate::ends::Ends;
@@ -29,6 +29,7 @@ pub(crate) fn put_in<T>(
     ensures chunked { IsChunked base blocks.new.items ends.new.items }
     ensures items { items_of blocks.new.items ≡ insert (items_of blocks.old.items) (start_of blocks.old.items place.block + place.at) item }
     ensures places { places_of blocks.old.items ≤ places_of blocks.new.items }
+    ensures at_end { place.block + 1 ≡ length blocks.old.items → end_room blocks.old.items ≤ end_room blocks.new.items + 1 }
     ensures count { length blocks.new.items ≡ length blocks.old.items }
     ensures capacity { (vec_capacity blocks.new ≡ vec_capacity blocks.old) × (ends.new.capacity ≡ ends.old.capacity) }
 {

@@ -1,9 +1,9 @@
 //! Whether the room for items to come is there.
 
-ghost use Rattle.std.specs.Prelude.{◌≡◌, ◌+◌, ◌-◌, ◌<◌, ◌≤◌, false, length, slice_index_or, min, IsTrue, OnOk, OnErr};
+ghost use Rattle.std.specs.Prelude.{◌≡◌, ◌+◌, ◌-◌, ◌/◌, ◌<◌, ◌≤◌, false, length, slice_index_or, min, IsTrue, OnOk, OnErr};
 ghost use Rattle.amqp_memory.specs.Refusal.{RefusedWithin};
 ghost use Rattle.amqp_blocks.specs.Chunked.{Block, items_of, EachSome, EachSpare, places_of, IsSound};
-ghost use Rattle.amqp_blocks.specs.Inner.Changes.{free_of};
+ghost use Rattle.amqp_blocks.specs.Inner.Changes.{free_of, MakesSpares};
 
 use crate::ends::Ends;
 use crate::room::make_room;
@@ -61,6 +61,8 @@ pub(crate) fn make_lacking<T>(
     ensures sound { IsSound base blocks.new ends.new spare.new }
     ensures items { items_of blocks.new.items ≡ items_of blocks.old.items }
     ensures kept { places_of blocks.old.items + places_of spare.old.items ≤ places_of blocks.new.items + places_of spare.new.items }
+    ensures rings { MakesSpares (additional / 256 + 1) blocks.old.items spare.old.items blocks.new.items spare.new.items }
+    ensures alone { length blocks.old.items ≡ 1 → length (items_of blocks.old.items) + additional ≤ 256 → length spare.new.items ≡ length spare.old.items }
     ensures ok { OnOk result (length (items_of blocks.new.items) + additional ≤ places_of blocks.new.items + places_of spare.new.items) }
     ensures lacking { OnErr result (places_of blocks.new.items + places_of spare.new.items < length (items_of blocks.new.items) + additional) }
     ensures refused { OnErr result (RefusedWithin (256 + additional)) }

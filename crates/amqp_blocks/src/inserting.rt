@@ -1,9 +1,9 @@
 //! Where an item comes in, and how.
 
-ghost use Rattle.std.specs.Prelude.{◌≡◌, ◌+◌, ◌-◌, ◌^◌, ◌<◌, ◌≤◌, length};
+ghost use Rattle.std.specs.Prelude.{ℕ, ◌≡◌, ◌+◌, ◌-◌, ◌^◌, ◌<◌, ◌≤◌, length};
 ghost use Rattle.std.specs.List.{insert};
-ghost use Rattle.amqp_blocks.specs.Chunked.{Block, items_of, start_of, places_of, IsSound, Within, HasItem};
-ghost use Rattle.amqp_blocks.specs.Inner.Changes.{KeepsPlaces};
+ghost use Rattle.amqp_blocks.specs.Chunked.{Block, items_of, start_of, places_of, end_room, IsSound, Within, HasItem, HasPlace, IsFull};
+ghost use Rattle.amqp_blocks.specs.Inner.Changes.{KeepsPlaces, HoldsRank};
 
 use crate::adding::{put_alone, put_in, split};
 use crate::cascade::{cascade, end_of, has_place};
@@ -29,7 +29,7 @@ fn put_with_spare<T>(
     ensures sound { IsSound base blocks.new ends.new spare.new }
     ensures items { items_of blocks.new.items ≡ insert (items_of blocks.old.items) (start_of blocks.old.items place.block + place.at) item }
     ensures kept { KeepsPlaces blocks.old.items spare.old.items blocks.new.items spare.new.items }
-    ensures count { length blocks.new.items ≤ length blocks.old.items + 1 }
+    ensures count { length blocks.new.items ≡ length blocks.old.items + 1 }
 {
     if place.at == 0 {
         put_alone(blocks, ends, base, spare, place.block, item);
@@ -63,6 +63,10 @@ pub(crate) fn put_at<T>(
     ensures items { items_of blocks.new.items ≡ insert (items_of blocks.old.items) (start_of blocks.old.items place.block + place.at) item }
     ensures kept { KeepsPlaces blocks.old.items spare.old.items blocks.new.items spare.new.items }
     ensures count { length blocks.new.items ≤ length blocks.old.items + 1 }
+    ensures grows { length blocks.old.items ≤ length blocks.new.items }
+    ensures taken { IsFull blocks.old.items place.block → 0 < length spare.old.items → length blocks.new.items ≡ length blocks.old.items + 1 }
+    ensures begun { HasPlace blocks.old.items place.block → length blocks.new.items ≡ length blocks.old.items }
+    ensures at_end { place.block + 1 ≡ length blocks.old.items → end_room blocks.old.items ≤ end_room blocks.new.items + 1 }
 {
     if has_place(blocks, place.block) {
         put_in(blocks, ends, base, place, item);
@@ -91,6 +95,10 @@ pub(crate) fn put_last<T>(
     ensures items { items_of blocks.new.items ≡ insert (items_of blocks.old.items) (length (items_of blocks.old.items)) item }
     ensures kept { KeepsPlaces blocks.old.items spare.old.items blocks.new.items spare.new.items }
     ensures count { length blocks.new.items ≤ length blocks.old.items + 1 }
+    ensures grows { length blocks.old.items ≤ length blocks.new.items }
+    ensures taken { end_room blocks.old.items ≡ 0 → 0 < length spare.old.items → length blocks.new.items ≡ length blocks.old.items + 1 }
+    ensures begun { 0 < end_room blocks.old.items → length blocks.new.items ≡ length blocks.old.items }
+    ensures at_end { end_room blocks.old.items ≤ end_room blocks.new.items + 1 }
 {
     let count = blocks.len();
     if count == 0 {
@@ -120,6 +128,9 @@ fn put_near<T>(
     ensures items { items_of blocks.new.items ≡ insert (items_of blocks.old.items) (start_of blocks.old.items place.block + place.at) item }
     ensures kept { KeepsPlaces blocks.old.items spare.old.items blocks.new.items spare.new.items }
     ensures count { length blocks.new.items ≤ length blocks.old.items + 1 }
+    ensures grows { length blocks.old.items ≤ length blocks.new.items }
+    ensures begun { HasPlace blocks.old.items place.block → length blocks.new.items ≡ length blocks.old.items }
+    ensures before { place.at ≡ 0 → 0 < place.block → HasPlace blocks.old.items (place.block - 1) → length blocks.new.items ≡ length blocks.old.items }
 {
     if place.at == 0 && place.block > 0 {
         let end = end_of(blocks, place.block - 1);
@@ -148,6 +159,11 @@ pub(crate) fn put_before<T>(
     ensures items { items_of blocks.new.items ≡ insert (items_of blocks.old.items) rank item }
     ensures kept { KeepsPlaces blocks.old.items spare.old.items blocks.new.items spare.new.items }
     ensures count { length blocks.new.items ≤ length blocks.old.items + 1 }
+    ensures grows { length blocks.old.items ≤ length blocks.new.items }
+    ensures between { (i : ℕ) → HoldsRank blocks.old.items rank i → HasPlace blocks.old.items i → length blocks.new.items ≡ length blocks.old.items }
+    ensures taken { rank ≡ length (items_of blocks.old.items) → end_room blocks.old.items ≡ 0 → 0 < length spare.old.items → length blocks.new.items ≡ length blocks.old.items + 1 }
+    ensures begun { rank ≡ length (items_of blocks.old.items) → 0 < end_room blocks.old.items → length blocks.new.items ≡ length blocks.old.items }
+    ensures at_end { rank ≡ length (items_of blocks.old.items) → end_room blocks.old.items ≤ end_room blocks.new.items + 1 }
 {
     if rank == total(ends, base) {
         put_last(blocks, ends, base, spare, item);

@@ -1,9 +1,9 @@
 //! Two blocks of few items become one, so that blocks stay few under scattered removals.
 
-ghost use Rattle.std.specs.Prelude.{◌≡◌, ◌+◌, ◌-◌, ◌<◌, ◌≤◌, [], ◌++◌, length, slice_index_or, vec_capacity, IsTrue};
+ghost use Rattle.std.specs.Prelude.{◌≡◌, ◌+◌, ◌-◌, ◌<◌, ◌≤◌, ◌↔◌, ◌⊎◌, [], ◌++◌, length, slice_index_or, vec_capacity, IsTrue};
 ghost use Rattle.std.specs.VecDeque.{deque_capacity};
 ghost use Rattle.amqp_blocks.specs.Chunked.{Block, items_of, IsSound};
-ghost use Rattle.amqp_blocks.specs.Inner.Changes.{IsJoined};
+ghost use Rattle.amqp_blocks.specs.Inner.Changes.{IsJoined, AreFew, FewTogether, IsApart, NoneToJoin, KeepsSpares};
 
 use crate::ends::Ends;
 use crate::leaving::keep;
@@ -15,7 +15,7 @@ const FEW: usize = 64;
 
 /// Whether two rings have few items together, and the first has places for all of them.
 fn are_few<T>(lower: &VecDeque<T>, upper: &VecDeque<T>) -> bool
-    ensures { IsTrue result → (length lower.now.items + length upper.now.items ≤ 64) × (length lower.now.items + length upper.now.items ≤ deque_capacity lower.now) }
+    ensures few { IsTrue result ↔ AreFew lower.now upper.now }
 {
     lower.len() + upper.len() <= FEW.min(lower.capacity())
 }
@@ -23,7 +23,7 @@ fn are_few<T>(lower: &VecDeque<T>, upper: &VecDeque<T>) -> bool
 /// Whether a block and the next one are to be joined.
 fn is_to_join<T>(blocks: &Vec<VecDeque<T>>, block: usize) -> bool
     requires block { block + 1 < length blocks.now.items }
-    ensures few { IsTrue result → (b : Block T) (c : Block T) → b ≡ slice_index_or blocks.now.items block b → c ≡ slice_index_or blocks.now.items (block + 1) c → (length b.items + length c.items ≤ 64) × (length b.items + length c.items ≤ b.cap) }
+    ensures few { IsTrue result ↔ FewTogether blocks.now.items block }
 {
     are_few(&blocks[block], &blocks[block + 1])
 }
@@ -62,6 +62,9 @@ fn join<T>(
     ensures sound { IsSound base blocks.new ends.new spare.new }
     ensures items { items_of blocks.new.items ≡ items_of blocks.old.items }
     ensures count { length blocks.new.items ≤ length blocks.old.items }
+    ensures rings { length blocks.new.items + length spare.new.items ≤ length blocks.old.items + length spare.old.items }
+    ensures kept { KeepsSpares spare.old.items spare.new.items }
+    ensures either { ((length blocks.new.items < length blocks.old.items) × FewTogether blocks.old.items block) ⊎ ((blocks.new.items ≡ blocks.old.items) × IsApart blocks.old.items block) }
 {
     if block >= blocks.len().saturating_sub(1) {
         return;
@@ -86,6 +89,9 @@ pub(crate) fn join_near<T>(
     ensures sound { IsSound base blocks.new ends.new spare.new }
     ensures items { items_of blocks.new.items ≡ items_of blocks.old.items }
     ensures count { length blocks.new.items ≤ length blocks.old.items }
+    ensures rings { length blocks.new.items + length spare.new.items ≤ length blocks.old.items + length spare.old.items }
+    ensures kept { KeepsSpares spare.old.items spare.new.items }
+    ensures either { (length blocks.new.items < length blocks.old.items) ⊎ ((blocks.new.items ≡ blocks.old.items) × NoneToJoin blocks.old.items block) }
 {
     // A block of many is joined with neither.
     if block < blocks.len() && blocks[block].len() > FEW {

@@ -2,7 +2,7 @@
 
 ghost use Rattle.std.specs.Prelude.{◌≡◌, ◌+◌, ◌-◌, ◌^◌, ◌<◌, ◌≤◌, [], ◌∷◌, length, vec_capacity, slice_index_or};
 ghost use Rattle.amqp_blocks.specs.Chunked.{Block, items_of, start_of, ends_from, IsChunked, EachSpare, Within, without};
-ghost use Rattle.amqp_blocks.specs.Inner.Changes.{IsPopped, IsSwept, EachSomeBut};
+ghost use Rattle.amqp_blocks.specs.Inner.Changes.{IsPopped, IsSwept, EachSomeBut, KeepsSpares};
 
 use crate::ends::Ends;
 use crate::lengths::{settle, sink_or_rise};
@@ -21,6 +21,7 @@ pub(crate) fn keep<T>(spare: &mut Vec<VecDeque<T>>, ring: VecDeque<T>, least: us
     requires spares { EachSpare spare.old.items }
     ensures spares { EachSpare spare.new.items }
     ensures count { length spare.new.items ≤ length spare.old.items + 1 }
+    ensures kept { KeepsSpares spare.old.items spare.new.items }
 {
     if spare.len() < SPARES.min(spare.capacity()) && ring.capacity() >= least {
         spare.push_reserved(ring);
@@ -44,6 +45,7 @@ fn sweep<T>(
     ensures spares { EachSpare spare.new.items }
     ensures count { length blocks.new.items ≤ length blocks.old.items }
     ensures rings { length blocks.new.items + length spare.new.items ≤ length blocks.old.items + length spare.old.items }
+    ensures kept { KeepsSpares spare.old.items spare.new.items }
     ensures capacity { (vec_capacity blocks.new ≡ vec_capacity blocks.old) × (ends.new.capacity ≡ ends.old.capacity) }
 {
     if blocks[block].is_empty() {
@@ -72,6 +74,7 @@ fn tidy<T>(
     ensures spares { EachSpare spare.new.items }
     ensures count { length blocks.new.items ≤ length blocks.old.items }
     ensures rings { length blocks.new.items + length spare.new.items ≤ length blocks.old.items + length spare.old.items }
+    ensures kept { KeepsSpares spare.old.items spare.new.items }
     ensures capacity { (vec_capacity blocks.new ≡ vec_capacity blocks.old) × (ends.new.capacity ≡ ends.old.capacity) }
 {
     sweep(blocks, ends, spare, block);
@@ -96,6 +99,7 @@ pub(crate) fn leave<T: Drop>(
     ensures spares { EachSpare spare.new.items }
     ensures count { length blocks.new.items ≤ length blocks.old.items }
     ensures rings { length blocks.new.items + length spare.new.items ≤ length blocks.old.items + length spare.old.items }
+    ensures kept { KeepsSpares spare.old.items spare.new.items }
     ensures capacity { (vec_capacity blocks.new ≡ vec_capacity blocks.old) × (ends.new.capacity ≡ ends.old.capacity) }
 {
     thin(blocks, place, count);
@@ -137,6 +141,7 @@ pub(crate) fn pop<T>(
     ensures spares { EachSpare spare.new.items }
     ensures count { length blocks.new.items ≤ length blocks.old.items }
     ensures rings { length blocks.new.items + length spare.new.items ≤ length blocks.old.items + length spare.old.items }
+    ensures kept { KeepsSpares spare.old.items spare.new.items }
     ensures capacity { (vec_capacity blocks.new ≡ vec_capacity blocks.old) × (ends.new.capacity ≡ ends.old.capacity) }
 {
     let item = pop_first(blocks, 0);

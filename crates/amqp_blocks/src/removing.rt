@@ -1,7 +1,8 @@
 //! Which items leave, and how.
 
-ghost use Rattle.std.specs.Prelude.{◌≡◌, ◌+◌, ◌-◌, ◌^◌, ◌<◌, ◌≤◌, ◌++◌, length, take, drop};
+ghost use Rattle.std.specs.Prelude.{ℕ, ◌≡◌, ◌⊎◌, ◌+◌, ◌-◌, ◌^◌, ◌<◌, ◌≤◌, ◌++◌, length, take, drop};
 ghost use Rattle.amqp_blocks.specs.Chunked.{items_of, IsSound};
+ghost use Rattle.amqp_blocks.specs.Inner.Changes.{KeepsSpares, HoldsRank, NoneToJoin};
 
 use crate::cutting::cut_wide;
 use crate::ends::Ends;
@@ -26,7 +27,10 @@ fn cut_out<T: Drop>(
     requires within { to ≤ length (items_of blocks.old.items) }
     ensures sound { IsSound result.0 blocks.new ends.new spare.new }
     ensures items { items_of blocks.new.items ≡ take from (items_of blocks.old.items) ++ drop to (items_of blocks.old.items) }
+    ensures block { HoldsRank blocks.old.items from result.1 }
     ensures count { length blocks.new.items ≤ length blocks.old.items }
+    ensures rings { length blocks.new.items + length spare.new.items ≤ length blocks.old.items + length spare.old.items }
+    ensures kept { KeepsSpares spare.old.items spare.new.items }
 {
     let first = locate_near(ends, base, hint, from);
     if to - from <= blocks[first.block].len() - first.at {
@@ -55,6 +59,9 @@ pub(crate) fn remove_some<T: Drop>(
     ensures sound { IsSound result blocks.new ends.new spare.new }
     ensures items { items_of blocks.new.items ≡ take from (items_of blocks.old.items) ++ drop to (items_of blocks.old.items) }
     ensures count { length blocks.new.items ≤ length blocks.old.items }
+    ensures rings { length blocks.new.items + length spare.new.items ≤ length blocks.old.items + length spare.old.items }
+    ensures kept { KeepsSpares spare.old.items spare.new.items }
+    ensures either { (length blocks.new.items < length blocks.old.items) ⊎ ((i : ℕ) → HoldsRank blocks.old.items from i → NoneToJoin blocks.new.items i) }
 {
     let (base, block) = cut_out(blocks, ends, base, spare, hint, from, to);
     join_near(blocks, ends, base, spare, block);

@@ -1,10 +1,10 @@
 //! Room for items to come: places in the one ring there is, or spare rings.
 
-ghost use Rattle.std.specs.Prelude.{◌≡◌, ◌+◌, ◌-◌, ◌*◌, ◌^◌, ◌<◌, ◌≤◌, [], length, slice_index_or, vec_capacity, OnOk, OnErr, min};
+ghost use Rattle.std.specs.Prelude.{◌≡◌, ◌+◌, ◌-◌, ◌*◌, ◌^◌, ◌/◌, ◌<◌, ◌≤◌, [], max, length, slice_index_or, vec_capacity, OnOk, OnErr, min};
 ghost use Rattle.std.specs.VecDeque.{deque_capacity};
 ghost use Rattle.amqp_memory.specs.Refusal.{RefusedWithin};
-ghost use Rattle.amqp_blocks.specs.Chunked.{Block, items_of, EachSpare, places_of, IsSound};
-ghost use Rattle.amqp_blocks.specs.Inner.Changes.{IsGrown};
+ghost use Rattle.amqp_blocks.specs.Chunked.{Block, items_of, EachSpare, places_of, end_room, IsSound};
+ghost use Rattle.amqp_blocks.specs.Inner.Changes.{IsGrown, MakesSpares};
 
 use crate::ends::Ends;
 use crate::search::total;
@@ -65,8 +65,8 @@ pub(crate) fn make_spares<T>(
     requires wide { 256 * length spare.old.items ≤ places_of spare.old.items }
     ensures spares { EachSpare spare.new.items }
     ensures kept { length spare.old.items ≤ length spare.new.items }
-    ensures most { length spare.new.items ≤ length spare.old.items + (count - length spare.old.items) }
-    ensures places { places_of spare.old.items ≤ places_of spare.new.items }
+    ensures most { length spare.new.items ≤ max (length spare.old.items) count }
+    ensures places { places_of spare.old.items + 256 * (length spare.new.items - length spare.old.items) ≤ places_of spare.new.items }
     ensures ok { OnOk result (256 * count ≤ places_of spare.new.items) }
     ensures refused { OnErr result (RefusedWithin 256) }
 {
@@ -127,6 +127,8 @@ fn make_room_in_block<T>(
     ensures sound { IsSound base blocks.new ends.now spare.now }
     ensures items { items_of blocks.new.items ≡ items_of blocks.old.items }
     ensures kept { places_of blocks.old.items ≤ places_of blocks.new.items }
+    ensures blocks { length blocks.new.items ≡ length blocks.old.items }
+    ensures at_end { end_room blocks.old.items ≤ end_room blocks.new.items }
     ensures ok { OnOk result (length (items_of blocks.new.items) + additional ≤ places_of blocks.new.items) }
     ensures refused { OnErr result (RefusedWithin additional) }
 {
@@ -148,6 +150,7 @@ fn make_room_for_first<T>(
     ensures sound { IsSound base blocks.new ends.new spare.new }
     ensures items { blocks.new.items ≡ blocks.old.items }
     ensures kept { places_of spare.old.items ≤ places_of spare.new.items }
+    ensures rings { (length spare.old.items ≤ length spare.new.items) × (length spare.new.items ≤ max (length spare.old.items) 1) }
     ensures ok { OnOk result (additional ≤ places_of spare.new.items) }
     ensures refused { OnErr result (RefusedWithin additional) }
 {
@@ -171,6 +174,7 @@ fn make_room_in_spares<T>(
     ensures sound { IsSound base blocks.new ends.new spare.new }
     ensures items { blocks.new.items ≡ blocks.old.items }
     ensures kept { places_of spare.old.items ≤ places_of spare.new.items }
+    ensures rings { MakesSpares count blocks.old.items spare.old.items blocks.new.items spare.new.items }
     ensures ok { OnOk result (256 * count ≤ places_of spare.new.items) }
     ensures refused { OnErr result (RefusedWithin (256 + count)) }
 {
@@ -193,6 +197,8 @@ pub(crate) fn make_room<T>(
     ensures sound { IsSound base blocks.new ends.new spare.new }
     ensures items { items_of blocks.new.items ≡ items_of blocks.old.items }
     ensures kept { places_of blocks.old.items + places_of spare.old.items ≤ places_of blocks.new.items + places_of spare.new.items }
+    ensures rings { MakesSpares (additional / 256 + 1) blocks.old.items spare.old.items blocks.new.items spare.new.items }
+    ensures alone { length blocks.old.items ≡ 1 → length (items_of blocks.old.items) + additional ≤ 256 → length spare.new.items ≡ length spare.old.items }
     ensures ok { OnOk result (length (items_of blocks.new.items) + additional ≤ places_of blocks.new.items + places_of spare.new.items) }
     ensures refused { OnErr result (RefusedWithin (256 + additional)) }
 {

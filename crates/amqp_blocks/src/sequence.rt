@@ -1,6 +1,6 @@
 //! The sequence.
 
-ghost use Rattle.std.specs.Prelude.{◌≡◌, ◌==◌, ◌↔◌, ◌+◌, ◌-◌, ◌*◌, ◌^◌, ◌<◌, ◌≤◌, [], ◌∷◌, ◌++◌, length, take, drop, slice_get, slice_set, slice_index_or, Some, IsSome, OnOk, OnErr, option_copied};
+ghost use Rattle.std.specs.Prelude.{◌≡◌, ◌==◌, ◌↔◌, ◌+◌, ◌-◌, ◌*◌, ◌^◌, ◌/◌, ◌<◌, ◌≤◌, [], ◌∷◌, ◌++◌, max, length, take, drop, slice_get, slice_set, slice_index_or, Some, IsSome, OnOk, OnErr, option_copied};
 ghost use Rattle.std.specs.List.{insert};
 ghost use Rattle.std.specs.Option.{option_to_list};
 ghost use Rattle.std.specs.Borrow.{sem};
@@ -48,11 +48,11 @@ pub struct Blocks<T> {
 
 impl<T> Model for Blocks<T> {
     ghost use Rattle.std.specs.Prelude.{◌≡◌, length};
-    ghost use Rattle.amqp_blocks.specs.Chunked.{Sequence, items_of, room_of, IsSound};
+    ghost use Rattle.amqp_blocks.specs.Chunked.{Sequence, items_of, room_of, end_room, IsSound};
 
     ghost Value = { Sequence T };
 
-    ghost view = { λ s. record { items = items_of s.blocks.items; room = room_of s.blocks.items s.spare.items; blocks = length s.blocks.items } };
+    ghost view = { λ s. record { items = items_of s.blocks.items; room = room_of s.blocks.items s.spare.items; blocks = length s.blocks.items; spare = length s.spare.items; at_end = end_room s.blocks.items } };
 
     ghost invariant = { λ s. IsSound s.base s.blocks s.ends s.spare × (s.count ≡ length (items_of s.blocks.items)) };
 }
@@ -70,10 +70,11 @@ fn item_of<T>(blocks: &Vec<VecDeque<T>>, place: Place) -> &T
 impl<T> Blocks<T> {
     ghost use Rattle.amqp_blocks.specs.Lending.{LeftAlone};
 
-    /// A sequence of no items. It asks for no memory.
+    /// A sequence of no items, with no spare rings. It asks for no memory.
     pub fn new(alloc: Global) -> Blocks<T>
         ensures items { result.items ≡ [] }
         ensures room { result.room ≡ 0 }
+        ensures rings { (result.blocks ≡ 0) × (result.spare ≡ 0) × (result.at_end ≡ 0) }
     {
         Blocks {
             blocks: Vec::new(alloc),
@@ -160,7 +161,9 @@ impl<T> Blocks<T> {
     }
 
     /// Makes room for so many items more, wherever they come. It fails only where memory was refused, and the room is not there without it. A
-    /// refusal leaves all items as they were.
+    /// refusal leaves all items as they were. This call alone makes spare rings, which are empty and for the blocks to come: none where there is
+    /// one for each item, and else until there is one for each 256 items, and one more. Where there is a block each takes 256 items. One block
+    /// alone gets none beside it while 256 items are all there are to be.
     #[inline(always)]
     pub fn reserve(&mut self, additional: usize) -> Result<(), AllocError>
         ensures items { self.new.items ≡ self.old.items }
@@ -168,6 +171,13 @@ impl<T> Blocks<T> {
         ensures room { OnOk result (additional ≤ self.new.room) }
         ensures lacking { OnErr result (self.old.room < additional) }
         ensures refused { OnErr result (RefusedWithin (256 + additional)) }
+        ensures at_once { additional ≤ self.old.spare → self.new ≡ self.old }
+        ensures blocks { self.new.blocks ≡ self.old.blocks }
+        ensures spare { self.old.spare ≤ self.new.spare }
+        ensures most { self.new.spare ≤ max self.old.spare (additional / 256 + 1) }
+        ensures alone { self.old.blocks ≡ 1 → length self.old.items + additional ≤ 256 → self.new.spare ≡ self.old.spare }
+        ensures wide { 0 < self.old.blocks → self.old.room + 256 * (self.new.spare - self.old.spare) ≤ self.new.room }
+        ensures at_end { self.old.at_end ≤ self.new.at_end }
     {
         // Each spare ring has a place.
         if additional <= self.spare.len() {
@@ -182,7 +192,8 @@ impl<T> Blocks<T> {
         )
     }
 
-    /// Puts an item after the last one. It needs room for one, and asks for no memory.
+    /// Puts an item after the last one. It needs room for one, and asks for no memory. A block is begun, with a spare ring, only where the last
+    /// one takes no item more.
     #[inline(always)]
     pub fn push_back(&mut self, item: T)
         requires room { 0 < self.old.room }
@@ -190,6 +201,11 @@ impl<T> Blocks<T> {
         ensures items { self.new.items ≡ self.old.items ++ item ∷ [] }
         ensures room { self.old.room ≤ self.new.room + 1 }
         ensures blocks { self.new.blocks ≤ self.old.blocks + 1 }
+        ensures rings { self.new.blocks + self.new.spare ≡ self.old.blocks + self.old.spare }
+        ensures grows { self.old.blocks ≤ self.new.blocks }
+        ensures begun { 0 < self.old.at_end → self.new.blocks ≡ self.old.blocks }
+        ensures taken { self.old.at_end ≡ 0 → 0 < self.old.spare → self.new.blocks ≡ self.old.blocks + 1 }
+        ensures at_end { self.old.at_end ≤ self.new.at_end + 1 }
     {
         put_last(
             &mut self.blocks,
@@ -201,7 +217,8 @@ impl<T> Blocks<T> {
         self.count += 1;
     }
 
-    /// Puts an item before that of a rank, or after the last where the rank is the length. It needs room for one, and asks for no memory.
+    /// Puts an item before that of a rank, or after the last where the rank is the length. It needs room for one, and asks for no memory. After the last
+    /// it begins a block only where `push_back` does.
     pub fn insert(&mut self, rank: usize, item: T)
         requires room { 0 < self.old.room }
         requires few { length self.old.items < 2 ^ 33 }
@@ -209,6 +226,11 @@ impl<T> Blocks<T> {
         ensures items { self.new.items ≡ insert self.old.items rank item }
         ensures room { self.old.room ≤ self.new.room + 1 }
         ensures blocks { self.new.blocks ≤ self.old.blocks + 1 }
+        ensures rings { self.new.blocks + self.new.spare ≡ self.old.blocks + self.old.spare }
+        ensures grows { self.old.blocks ≤ self.new.blocks }
+        ensures begun { rank ≡ length self.old.items → 0 < self.old.at_end → self.new.blocks ≡ self.old.blocks }
+        ensures taken { rank ≡ length self.old.items → self.old.at_end ≡ 0 → 0 < self.old.spare → self.new.blocks ≡ self.old.blocks + 1 }
+        ensures at_end { rank ≡ length self.old.items → self.old.at_end ≤ self.new.at_end + 1 }
     {
         put_before(
             &mut self.blocks,
@@ -222,24 +244,28 @@ impl<T> Blocks<T> {
         self.count += 1;
     }
 
-    /// Puts an item in the place of that of a rank, which is dropped.
+    /// Puts an item in the place of that of a rank, which is dropped. The rings stay as they are.
     pub fn replace(&mut self, rank: usize, item: T)
     where
         T: Drop,
         requires within { rank < length self.old.items }
         ensures items { self.new.items ≡ slice_set self.old.items rank item }
         ensures room { self.new.room ≡ self.old.room }
+        ensures rings { (self.new.blocks ≡ self.old.blocks) × (self.new.spare ≡ self.old.spare) × (self.new.at_end ≡ self.old.at_end) }
     {
         let place = locate_near(&self.ends, self.base, self.sought, rank);
         write_at(&mut self.blocks, place, item);
     }
 
-    /// Takes the first item out, or answers `None` where there is none.
+    /// Takes the first item out, or answers `None` where there is none. The ring of a block that goes is kept as a spare one only where there
+    /// are fewer than two, and no spare one is let go.
     #[inline(always)]
     pub fn pop_front(&mut self) -> Option<T>
         ensures items { self.old.items ≡ option_to_list result ++ self.new.items }
         ensures variant { IsSome result ↔ (0 < length self.old.items) }
         ensures blocks { self.new.blocks ≤ self.old.blocks }
+        ensures rings { self.new.blocks + self.new.spare ≤ self.old.blocks + self.old.spare }
+        ensures spare { (self.old.spare ≤ self.new.spare) × (self.new.spare ≤ max self.old.spare 2) }
     {
         if self.blocks.len() == 0 {
             return None;
@@ -250,7 +276,7 @@ impl<T> Blocks<T> {
         Some(item)
     }
 
-    /// Takes the items of the ranks from `from` on and below `to` out, and drops them.
+    /// Takes the items of the ranks from `from` on and below `to` out, and drops them. Rings are kept as `pop_front` keeps them.
     pub fn remove_range(&mut self, from: usize, to: usize)
     where
         T: Drop,
@@ -258,6 +284,8 @@ impl<T> Blocks<T> {
         requires within { to ≤ length self.old.items }
         ensures items { self.new.items ≡ take from self.old.items ++ drop to self.old.items }
         ensures blocks { self.new.blocks ≤ self.old.blocks }
+        ensures rings { self.new.blocks + self.new.spare ≤ self.old.blocks + self.old.spare }
+        ensures spare { (self.old.spare ≤ self.new.spare) × (self.new.spare ≤ max self.old.spare 2) }
     {
         if from == to {
             return;

@@ -1,8 +1,8 @@
 -- Part: inner.
 -- Changes of one block.
-use Rattle.std.specs.Prelude.{ℕ, zero, suc, ◌<◌, ◌≤◌, ◌≡◌, ◌+◌, ◌-◌, ◌⊎◌, map, List, [], ◌∷◌, ◌++◌, length, take, drop, slice_index_or, slice_set, min}
+use Rattle.std.specs.Prelude.{ℕ, zero, suc, ◌<◌, ◌≤◌, ◌≡◌, ◌+◌, ◌-◌, ◌*◌, ◌⊎◌, map, max, List, [], ◌∷◌, ◌++◌, length, take, drop, slice_index_or, slice_set, min}
 use Rattle.std.specs.List.{remove, insert}
-use Rattle.amqp_blocks.specs.Chunked.{Block, items_of, ends_from, EachSome, places_of}
+use Rattle.amqp_blocks.specs.Chunked.{Block, items_of, start_of, ends_from, EachSome, HasItem, places_of, end_room}
 
 module _ {T : Type 0} where
   -- how many places of these rings are free
@@ -92,6 +92,42 @@ module _ {T : Type 0} where
   pub record KeepsPlaces (old spare new left : List (Block T)) : Type 0 where
     pub rings : length new + length left ≡ length old + length spare
     pub places : places_of old + places_of spare ≤ places_of new + places_of left
+
+  -- no spare ring is let go, and of those that come back at most two are kept
+  pub record KeepsSpares (old new : List (Block T)) : Type 0 where
+    pub kept : length old ≤ length new
+    pub most : length new ≤ max (length old) 2
+
+  -- spare rings are made up to so many, and where there is a block each is as wide as one
+  pub record MakesSpares (most : ℕ) (old spare new left : List (Block T)) : Type 0 where
+    pub blocks : length new ≡ length old
+    pub at_end : end_room old ≤ end_room new
+    pub kept : length spare ≤ length left
+    pub few : length left ≤ max (length spare) most
+    pub wide : 0 < length old → places_of old + places_of spare + 256 * (length left - length spare) ≤ places_of new + places_of left
+
+  -- two rings have few items together, and the first has places for all of them
+  abbrev pub AreFew : Block T → Block T → Type 0
+  AreFew b c = (length b.items + length c.items ≤ 64) × (length b.items + length c.items ≤ b.cap)
+
+  -- a block and the next one have few together
+  abbrev pub FewTogether : List (Block T) → ℕ → Type 0
+  FewTogether bs i = (b c : Block T) → b ≡ slice_index_or bs i b → c ≡ slice_index_or bs (i + 1) c → AreFew b c
+
+  -- the item of a rank is in this block
+  pub record HoldsRank (bs : List (Block T)) (rank i : ℕ) : Type 0 where
+    pub at : ℕ
+    pub block : i < length bs
+    pub item : HasItem bs i at
+    pub rank_is : start_of bs i + at ≡ rank
+
+  -- a block is the last, or is not to join with the next one
+  abbrev pub IsApart : List (Block T) → ℕ → Type 0
+  IsApart bs i = i + 1 < length bs → FewTogether bs i → ⊥
+
+  -- nor with the one before
+  abbrev pub NoneToJoin : List (Block T) → ℕ → Type 0
+  NoneToJoin bs i = IsApart bs i × IsApart bs (i - 1)
 
   -- an item that was to come at a rank has come in, and another one is to come at a second rank, with the same items in the end
   pub record IsPassed (old : List (Block T)) (rank : ℕ) (item : T) (new : List (Block T)) (then_rank : ℕ) (out : T) : Type 0 where

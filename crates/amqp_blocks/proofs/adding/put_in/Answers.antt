@@ -3,6 +3,7 @@ use Rattle.amqp_blocks.specs.Chunked.{places_of}
 use Rattle.amqp_blocks.proofs.PlaceLemmas.{ends_long}
 use Rattle.amqp_blocks.proofs.PutLemmas.{put_is, ends_high}
 use Rattle.amqp_blocks.proofs.RoomLemmas.{places_set}
+use Rattle.amqp_blocks.proofs.EndLemmas.{end_put}
 use Rattle.amqp_blocks.proofs.adding.put_in.Goals as goal
 
 pub put-requires-clause-place : goal.put-requires-clause-place
@@ -29,6 +30,7 @@ returns g c =
       chunked = p.0;
       items = p.1;
       places = omega (arith, grown, ap places_of u.set);
+      at_end = λ e. end_put bs c.put.new.blocks.items i c.args.place.at c.args.item e u (c.requires.within u.from u.was);
       count = ap length u.set ∙ length-set bs i u.to;
       capacity = (c.put.ensures.capacity, c.raise_from.ensures.capacity);
     }

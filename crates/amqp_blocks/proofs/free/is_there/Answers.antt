@@ -1,5 +1,4 @@
-use Rattle.std.proofs.Common.{◌≡◌, ◌-◌, length, arith}
-use Rattle.amqp_blocks.specs.Chunked.{items_of, places_of}
+use Rattle.std.proofs.Common.{arith}
 use Rattle.amqp_blocks.proofs.RoomLemmas.{free_some, free_spare}
 use Rattle.amqp_blocks.proofs.free.is_there.Goals as goal
 

@@ -5,6 +5,7 @@ use Rattle.amqp_blocks.specs.Chunked.{items_of}
 use Rattle.amqp_blocks.proofs.PlaceLemmas.{no_items_of, start_all}
 use Rattle.amqp_blocks.proofs.RoomLemmas.{places_none}
 use Rattle.amqp_blocks.proofs.PassLemmas.{end_start}
+use Rattle.amqp_blocks.proofs.EndLemmas.{has_end, end_none}
 use Rattle.amqp_blocks.proofs.inserting.put_last.Goals as goal
 
 pub put_alone-requires-clause-spare : goal.put_alone-requires-clause-spare
@@ -50,3 +51,9 @@ returns-clause-items g c =
     let same = end_start bs end.block count end.at h (omega (arith, c.end_of-end.ensures.block, c.if-count-eq0.false)) c.end_of-end.ensures.at in
     let all = start_all bs count (omega (arith, c.args.blocks.now.ok.0, c.len-count.ensures)) in
     c.put_at.ensures.items ∙ ap (λ n. insert (items_of bs) n c.args.item) (same ∙ all)
+
+pub returns-clause-begun : goal.returns-clause-begun
+returns-clause-begun g c = λ h. c.put_at.ensures.begun (has_end c.args.blocks.now.items c.end_of-end.result.block (omega (arith, c.end_of-end.ensures.block, c.args.blocks.now.ok.0, c.len-count.ensures, c.if-count-eq0.false)) h)
+
+pub returns-clause-taken : goal.returns-clause-taken
+returns-clause-taken g c = λ h. c.put_at.ensures.taken (end_none c.args.blocks.now.items c.end_of-end.result.block (omega (arith, c.end_of-end.ensures.block, c.args.blocks.now.ok.0, c.len-count.ensures, c.if-count-eq0.false)) h)

@@ -72,5 +72,6 @@ returns g c =
       spares = e.spares;
       count = omega (arith, e.count, count);
       rings = omega (arith, e.rings, count);
+      kept = e.kept;
       capacity = (e.capacity.0 ∙ c.thin.ensures.capacity, e.capacity.1 ∙ c.sink_or_rise-base.ensures.capacity);
     }

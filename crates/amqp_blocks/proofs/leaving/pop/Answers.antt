@@ -39,5 +39,6 @@ returns g c =
       spares = e.spares;
       count = omega (arith, e.count, count);
       rings = omega (arith, e.rings, count);
+      kept = e.kept;
       capacity = (e.capacity.0 ∙ c.pop_first-item.ensures.capacity, e.capacity.1);
     }

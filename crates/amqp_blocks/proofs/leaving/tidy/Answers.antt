@@ -26,5 +26,6 @@ returns g c =
       spares = c.sweep.ensures.spares;
       count = c.sweep.ensures.count;
       rings = c.sweep.ensures.rings;
+      kept = c.sweep.ensures.kept;
       capacity = (c.sweep.ensures.capacity.0, c.settle.ensures.capacity ∙ c.sweep.ensures.capacity.1);
     }

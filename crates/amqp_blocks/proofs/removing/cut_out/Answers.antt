@@ -136,3 +136,17 @@ join_near-requires g c =
 pub returns-clause-items : goal.returns-clause-items
 returns-clause-items g c =
     c.join_near.ensures.items ∙ c.cut_wide-base.ensures.items ∙ stretch c.args.from c.args.to c.args.from (c.args.to - c.args.from) (items_of c.args.blocks.now.items) refl refl (omega (arith, c.requires.order))
+
+pub returns-then-to-from-clause-block : goal.returns-then-to-from-clause-block
+returns-then-to-from-clause-block g c =
+    let e = c.locate_near-first.ensures in
+    let first = c.locate_near-first.result in
+    let l = located c.args.base c.args.blocks.now.items c.args.ends.now.items first.block first.at c.args.from c.requires.sound.chunked.stops e.block e.first e.other e.after in
+    record { at = first.at; block = l.block_is; item = l.item; rank_is = sym l.rank_is }
+
+pub returns-clause-block : goal.returns-clause-block
+returns-clause-block g c =
+    let e = c.locate_near-first.ensures in
+    let first = c.locate_near-first.result in
+    let l = located c.args.base c.args.blocks.now.items c.args.ends.now.items first.block first.at c.args.from c.requires.sound.chunked.stops e.block e.first e.other e.after in
+    record { at = first.at; block = l.block_is; item = l.item; rank_is = sym l.rank_is }

@@ -1,4 +1,4 @@
-use Rattle.std.proofs.Common.{ap, arith}
+use Rattle.std.proofs.Common.{ap, arith, inl, inr}
 use Rattle.std.proofs.lemmas.Result.{on_ok_weaker}
 use Rattle.amqp_memory.proofs.RefusalLemmas.{on_err_within}
 use Rattle.amqp_blocks.specs.Chunked.{items_of, places_of}
@@ -43,11 +43,17 @@ returns-then-additional-rest-2-clause-refused g c = on_err_within c.make_room_fo
 pub returns : goal.returns
 returns g c =
     let e = c.make_room_in_spares.ensures in
+    let n = total_is c.args.base c.total.result c.args.blocks.now.items c.args.ends.now.items c.requires.sound.chunked.stops c.total.ensures.none c.total.ensures.some in
     let fit = items_fit c.make_room_in_spares.new.blocks.items e.sound.chunked.some in
     record {
       sound = e.sound;
       items = ap items_of e.items;
       kept = omega (arith, e.kept, ap places_of e.items);
+      rings = e.rings;
+      alone = λ o f. elim c.else-count-eq1.either [
+        | inl w ↦ absurd (omega (arith, o, f, n, w.1, c.min-rest.ensures))
+        | inr w ↦ absurd (omega (arith, o, w, c.len-count.ensures, c.args.blocks.now.ok.0))
+      ];
       ok = on_ok_weaker c.make_room_in_spares.result (λ w. omega (arith, w, fit)) e.ok;
       refused = on_err_within c.make_room_in_spares.result (omega (arith, c.requires.some)) e.refused;
     }

@@ -35,6 +35,7 @@ returns-then-len-eq0 g c =
       sound = slots_sound c.args.base c.args.blocks.now c.make_slots.new.blocks c.args.ends.now c.make_slots.new.ends c.args.spare.now c.make_first.new.spare v e.blocks.0 e.ends.0 f.spares (omega (arith, f.most, ok.0, count)) (omega (arith, f.most, ok.1, ends, ap length e.ends.0));
       items = e.blocks.0;
       kept = omega (arith, none, ap places_of e.spare.0);
+      rings = (omega (arith, c.make_slots.new.spare.ok.0, c.len.ensures, c.if-len-eq0.true, ap length e.spare.0), omega (arith, f.most));
       ok = f.ok;
       refused = f.refused;
     }
@@ -55,6 +56,7 @@ returns g c =
       sound = slots_sound c.args.base c.args.blocks.now c.make_slots.new.blocks c.args.ends.now c.make_slots.new.ends c.args.spare.now c.grow_at.new.rings v e.blocks.0 e.ends.0 s.spares (omega (arith, s.count, same, v.blocks_fit, e.blocks.1)) (omega (arith, s.count, same, v.ends_fit, e.ends.1));
       items = e.blocks.0;
       kept = omega (arith, s.places, ap places_of e.spare.0);
+      rings = (omega (arith, s.count, same), omega (arith, s.count, same));
       ok = on_ok_weaker c.grow_at.result (λ w. first_fits cs c.args.additional (omega (arith, s.count, h)) w c.requires.fits) c.grow_at.ensures.ok;
       refused = c.grow_at.ensures.refused;
     }

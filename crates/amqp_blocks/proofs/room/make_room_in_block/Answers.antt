@@ -2,6 +2,7 @@ use Rattle.std.proofs.Common.{◌<◌, length, ap, ◌∙◌, arith, length-set}
 use Rattle.std.proofs.lemmas.Result.{on_ok_weaker}
 use Rattle.amqp_blocks.specs.Chunked.{places_of}
 use Rattle.amqp_blocks.proofs.RoomLemmas.{grown_chunked, one_fits, places_set}
+use Rattle.amqp_blocks.proofs.EndLemmas.{end_grown}
 use Rattle.amqp_blocks.proofs.room.make_room_in_block.Goals as goal
 
 pub grow_at-requires : goal.grow_at-requires
@@ -26,6 +27,8 @@ returns g c =
       };
       items = k.1;
       kept = omega (arith, more, ap places_of u.set);
+      blocks = count;
+      at_end = end_grown bs cs 0 (omega (arith, c.requires.one)) u;
       ok = on_ok_weaker c.grow_at.result (λ w. one_fits cs c.args.additional (omega (arith, count, c.requires.one)) w (omega (arith, ap length k.1, c.requires.fits))) c.grow_at.ensures.ok;
       refused = c.grow_at.ensures.refused;
     }

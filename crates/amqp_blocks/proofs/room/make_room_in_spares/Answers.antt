@@ -1,6 +1,6 @@
 use Rattle.std.proofs.Common.{length, ap, sym, subst, arith}
 use Rattle.amqp_memory.proofs.RefusalLemmas.{err_within, on_err_within}
-use Rattle.amqp_blocks.specs.Chunked.{EachSpare, places_of}
+use Rattle.amqp_blocks.specs.Chunked.{EachSpare, places_of, end_room}
 use Rattle.amqp_blocks.proofs.PlaceLemmas.{ends_long}
 use Rattle.amqp_blocks.proofs.RoomLemmas.{slots_sound}
 use Rattle.amqp_blocks.proofs.room.make_room_in_spares.Goals as goal
@@ -56,6 +56,13 @@ returns g c =
       sound = slots_sound c.args.base c.args.blocks.now c.make_slots.new.blocks c.args.ends.now c.make_slots.new.ends c.args.spare.now c.make_spares.new.spare v e.blocks.0 e.ends.0 m.spares (omega (arith, m.most, w.count, same, v.blocks_fit, e.blocks.1, ok.0, count)) (omega (arith, m.most, w.count, same, v.ends_fit, e.ends.1, ok.1, ends, ap length e.ends.0));
       items = e.blocks.0;
       kept = omega (arith, m.places, w.places, ap places_of e.spare.0);
+      rings = record {
+        blocks = count;
+        at_end = omega (arith, ap end_room e.blocks.0);
+        kept = omega (arith, m.kept, w.count, same);
+        few = omega (arith, m.most, w.count, same);
+        wide = λ h. omega (arith, m.places, w.places, w.count, same, ap places_of e.blocks.0, ap places_of e.spare.0);
+      };
       ok = m.ok;
       refused = on_err_within c.make_spares.result (omega arith) m.refused;
     }

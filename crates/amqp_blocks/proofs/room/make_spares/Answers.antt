@@ -16,7 +16,7 @@ loop-alloc-preserved g c =
       spares = subst EachSpare (sym p) (spares_push old q v.spares e.items (omega (arith, e.exact)));
       kept = omega (arith, long, v.kept);
       most = omega (arith, long, v.kept, c.loop-alloc-test.true, c.len.ensures, c.loop-alloc.spare.ok.0);
-      places = omega (arith, wide, v.places);
+      places = omega (arith, wide, long, e.exact, v.kept, v.places);
       wide = omega (arith, wide, long, e.exact, v.wide);
       capacity = c.push_reserved.ensures.capacity ∙ v.capacity;
     }

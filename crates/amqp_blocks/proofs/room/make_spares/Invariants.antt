@@ -1,4 +1,4 @@
-use Rattle.std.proofs.Common.{◌≡◌, ◌+◌, ◌-◌, ◌*◌, ◌≤◌, length, vec_capacity, vec_len}
+use Rattle.std.proofs.Common.{◌≡◌, ◌+◌, ◌-◌, ◌*◌, ◌≤◌, max, length, vec_capacity, vec_len}
 use Rattle.amqp_blocks.specs.Chunked.{EachSpare, places_of}
 use Rattle.amqp_blocks.proofs.room.make_spares.Given as goal
 
@@ -6,8 +6,8 @@ abbrev pub invariant-loop-alloc : goal.invariant-loop-alloc
 invariant-loop-alloc g l = record {
   spares : EachSpare l.spare.items;
   kept : length l.fn.spare.items ≤ length l.spare.items;
-  most : length l.spare.items ≤ length l.fn.spare.items + (l.count - length l.fn.spare.items);
-  places : places_of l.fn.spare.items ≤ places_of l.spare.items;
+  most : length l.spare.items ≤ max (length l.fn.spare.items) l.count;
+  places : places_of l.fn.spare.items + 256 * (length l.spare.items - length l.fn.spare.items) ≤ places_of l.spare.items;
   wide : 256 * length l.spare.items ≤ places_of l.spare.items;
   capacity : vec_capacity l.spare ≡ vec_capacity l.fn.spare;
 }

@@ -6,7 +6,7 @@ use Rattle.amqp_blocks.proofs.sequence.Blocks.remove_range.Goals as goal
 pub returns-then-from-to : goal.returns-then-from-to
 returns-then-from-to g c =
     let xs = c.args.self.now.items in
-    record { items = sym (ap (λ n. take c.args.from xs ++ drop n xs) (sym c.if-from-to.true) ∙ take-append-drop c.args.from xs); blocks = omega arith }
+    record { items = sym (ap (λ n. take c.args.from xs ++ drop n xs) (sym c.if-from-to.true) ∙ take-append-drop c.args.from xs); blocks = omega arith; rings = omega arith; spare = (omega arith, omega arith) }
 
 pub remove_some-self-inside-requires : goal.remove_some-self-inside-requires
 remove_some-self-inside-requires g c =
@@ -29,4 +29,12 @@ invariant_of-self g c =
 
 pub returns : goal.returns
 returns g c =
-    record { items = c.remove_some-self-inside.ensures.items ∙ ap (λ (s : Sequence _). take c.args.from s.items ++ drop c.args.to s.items) c.self.view_is; blocks = omega (arith, ap (λ (s : Sequence _). s.blocks) c.self.view_is, c.remove_some-self-inside.ensures.count) }
+    let e = c.remove_some-self-inside.ensures in
+    let blocks = ap (λ (s : Sequence _). s.blocks) c.self.view_is in
+    let spare = ap (λ (s : Sequence _). s.spare) c.self.view_is in
+    record {
+      items = e.items ∙ ap (λ (s : Sequence _). take c.args.from s.items ++ drop c.args.to s.items) c.self.view_is;
+      blocks = omega (arith, blocks, e.count);
+      rings = omega (arith, blocks, spare, e.rings);
+      spare = (omega (arith, spare, e.kept.kept), omega (arith, spare, e.kept.most));
+    }

@@ -2,6 +2,7 @@ use Rattle.std.proofs.Common.{◌<◌, length, ap, ◌∙◌, arith, set, length
 use Rattle.amqp_blocks.specs.Chunked.{items_of, Sequence}
 use Rattle.amqp_blocks.proofs.PlaceLemmas.{reaches, located}
 use Rattle.amqp_blocks.proofs.ReplaceLemmas.{items_replaced, replaced_chunked, places_same}
+use Rattle.amqp_blocks.proofs.EndLemmas.{end_replaced}
 use Rattle.amqp_blocks.proofs.sequence.Blocks.replace.Goals as goal
 
 pub locate_near-place-requires : goal.locate_near-place-requires
@@ -49,4 +50,9 @@ returns g c =
     record {
       items = items ∙ ap (λ (s : Sequence _). set s.items c.args.rank c.args.item) c.self.view_is;
       room = omega (arith, ap (λ (s : Sequence _). s.room) c.self.view_is, places, ap length items, length-set (items_of s.blocks.items) c.args.rank c.args.item);
+      rings = (
+        ap length u.set ∙ length-set s.blocks.items c.locate_near-place.result.block u.to ∙ ap (λ (s : Sequence _). s.blocks) c.self.view_is,
+        ap (λ (s : Sequence _). s.spare) c.self.view_is,
+        end_replaced s.blocks.items c.write_at.new.blocks.items c.locate_near-place.result.block c.locate_near-place.result.at c.args.item l.block_is u (ap length u.items ∙ length-set u.from.items c.locate_near-place.result.at c.args.item) ∙ ap (λ (s : Sequence _). s.at_end) c.self.view_is,
+      );
     }

@@ -21,6 +21,11 @@ invariant_of-self g c = (c.make_lacking.ensures.sound, c.self.invariant.1 ∙ sy
 pub returns : goal.returns
 returns g c =
     let e = c.make_lacking.ensures in
+    let r = e.rings in
+    let fit = items_fit c.self.inside.blocks.items c.self.invariant.0.chunked.some in
+    let blocks = ap (λ (s : Sequence _). s.blocks) c.self.view_is in
+    let spare = ap (λ (s : Sequence _). s.spare) c.self.view_is in
+    let at_end = ap (λ (s : Sequence _). s.at_end) c.self.view_is in
     let room = ap (λ (s : Sequence _). s.room) c.self.view_is in
     record {
       items = e.items ∙ ap (λ (s : Sequence _). s.items) c.self.view_is;
@@ -28,4 +33,11 @@ returns g c =
       room = on_ok_weaker c.make_lacking.result (λ w. omega (arith, w)) e.ok;
       lacking = on_err_weaker c.make_lacking.result (λ w. omega (arith, w, room, e.kept, ap length e.items)) e.lacking;
       refused = e.refused;
+      at_once = λ h. absurd (omega (arith, h, spare, c.if-additional-len.false, c.len.ensures, c.self.inside.spare.ok.0));
+      blocks = r.blocks ∙ blocks;
+      spare = omega (arith, r.kept, spare);
+      most = omega (arith, r.few, spare);
+      alone = λ o f. let s = e.alone (omega (arith, o, blocks)) (omega (arith, f, ap (λ (s : Sequence _). length s.items) c.self.view_is)) in omega (arith, s, spare);
+      wide = λ h. omega (arith, r.wide (omega (arith, h, blocks)), room, spare, fit, ap length e.items);
+      at_end = omega (arith, r.at_end, at_end);
     }
