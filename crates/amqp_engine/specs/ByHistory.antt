@@ -1,6 +1,6 @@
 -- Part: the promise; every call exactly; inner.
 -- What a history gives of the connection, its channels, its routes and its sessions: by its entries alone, the oldest first.
-use Rattle.std.specs.Prelude.{ℕ, List, [], ◌∷◌, ◌++◌, Option, Some, None, Bool, true, false, cond, nat_eq, unwrap_or, min, is_some, fold, flat_map}
+use Rattle.std.specs.Prelude.{ℕ, List, [], ◌∷◌, Option, Some, None, Bool, true, false, cond, nat_eq, unwrap_or, min, is_some, fold, flat_map}
 use Rattle.amqp_types.specs.declared.states.ConnectionState.{ConnectionState}
 use Rattle.amqp_types.specs.declared.states.ConnectionState.TheVariants.{CloseReceived}
 use Rattle.amqp_types.specs.declared.states.SessionState.{SessionState}

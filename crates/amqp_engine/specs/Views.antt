@@ -1,6 +1,6 @@
 -- Part: every call exactly.
 -- What contracts see of an engine is what its history gives.
-use Rattle.std.specs.Prelude.{ℕ, ◌≡◌, List, [], ◌∷◌, ◌++◌, Some, None, is_some, nat_eq, fold}
+use Rattle.std.specs.Prelude.{ℕ, ◌≡◌, List, ◌++◌, Some, None, is_some, nat_eq, fold}
 use Rattle.std.specs.Map.{lookup}
 use Rattle.std.specs.FinMap as map
 use Rattle.amqp_types.specs.declared.states.ConnectionState.{ConnectionState}
