@@ -1,9 +1,10 @@
 -- Part: other calls; inner.
 -- A run that sends into a buffer: it is a run, of whose answers the bytes are appended there, and the refusals to a list.
-use Rattle.std.specs.Prelude.{◌≡◌, ℕ, ◌+◌, List, [], ◌∷◌, ◌++◌, Option, Some, None}
+use Rattle.std.specs.Prelude.{◌≡◌, ℕ, ◌+◌, ◌≤◌, ◌⊎◌, List, [], ◌∷◌, ◌++◌, Option, Some, None, Vec, vec_len, vec_capacity}
+use Rattle.std.specs.declared.alloc.Global.{Global}
 use Rattle.amqp_session.specs.Relay.{Relays}
 use Rattle.amqp_frames.specs.declared.frame.Frame.{Frame}
-use Rattle.amqp_frames.specs.Wire.{wire_of}
+use Rattle.amqp_frames.specs.Wire.{HasRoomFor, SendBufferView, wire_of}
 use Rattle.amqp_engine.specs.declared.engine.input.Input.{Input}
 use Rattle.amqp_engine.specs.declared.engine.answer.Answer.{Answer}
 use Rattle.amqp_engine.specs.declared.engine.answer.Answer.TheVariants as answer
@@ -46,6 +47,17 @@ abbrev pub RanInto : {R : Type 0} → Relays R → EngineView R → List (Input 
 RanInto g v inputs out refusals v' inputs' out' refusals' =
     (answers : List Answer) × Ran g [] v inputs [] v' inputs' answers
     × (out' ≡ out ++ sent_of answers) × (refusals' ≡ refusals ++ refusals_of None answers)
+
+-- ---- why it stops
+
+-- a frame waits, and there is no room for the first
+abbrev pub FirstLacks : ℕ → List Frame → SendBufferView → Type 0
+FirstLacks limit [] out = ⊥
+FirstLacks limit (f ∷ fs) out = ¬ HasRoomFor f limit out
+
+-- the list of refusals is full; or a frame waits, and there is no room for the first
+abbrev pub LacksRoom : {R : Type 0} → EngineView R → SendBufferView → Vec Refusal Global → Type 0
+LacksRoom v out refusals = (vec_capacity refusals ≤ vec_len refusals) ⊎ FirstLacks v.limit v.waiting out
 
 -- ---- one frame, and one input
 

@@ -1,6 +1,6 @@
 //! The encoder: a frame as pieces that keep a limit.
 
-ghost use Rattle.std.specs.Prelude.{◌≡◌, ◌≤◌, ◌<◌, ◌+◌, ◌^◌, ℕ, [], ◌∷◌, IfOk, OnOk, OnErr, length};
+ghost use Rattle.std.specs.Prelude.{◌≡◌, ◌≤◌, ◌<◌, ◌+◌, ◌^◌, ◌⊎◌, ℕ, [], ◌∷◌, IfOk, IfErr, OnOk, OnErr, length};
 ghost use Rattle.amqp_memory.specs.Refusal.{SomeRefused};
 ghost use Rattle.amqp_types.specs.Transfer.{widest};
 ghost use Rattle.amqp_frames.specs.Frame.{text_of, payload_of};
@@ -8,7 +8,8 @@ ghost use Rattle.amqp_frames.specs.Cut.{Encodes, IsWholePiece, Whole, room_besid
 ghost use Rattle.amqp_frames.specs.HeaderPool.{CutsHead, CutsOff, CutsOrLeaves, RoomAfter};
 ghost use Rattle.amqp_frames.specs.Piece.{piece_bytes};
 ghost use Rattle.amqp_frames.specs.ReadBack.{DecodesTo};
-ghost use Rattle.amqp_frames.specs.Wire.{EncodesTo};
+ghost use Rattle.amqp_frames.specs.Wire.{EncodesTo, HasNoSize, HasRoomFor};
+ghost use Rattle.amqp_frames.specs.declared.error.Error.TheVariants as no;
 
 use crate::cut::cut;
 use crate::error::Error;
@@ -91,12 +92,16 @@ impl FrameEncoder {
     }
 
     /// Appends the frame to what is to be sent: the pieces of [`FrameEncoder::encode`] in order, each after its four-byte size. A frame
-    /// that is whole has no list of pieces, and where its payload is copied, memory is asked for only where the buffer has no room.
+    /// that is whole has no list of pieces. Where its payload is copied, and there is room for its bytes and the four of its size, it does
+    /// not fail for want of memory (`lacking`). What is appended takes no more of the room than its bytes (`room`).
     ///
     /// The errors are those of [`FrameEncoder::encode`], and of each nothing is appended: what waits is always whole frames. It answers
     /// `OutOfMemory` too where the size of a piece does not fit its four bytes, which no max-frame-size allows.
     pub fn encode_to(&self, alloc: Global, frame: &Frame, out: &mut SendBuffer) -> Result<(), Error>
-        ensures { EncodesTo frame.now self.now out.old result out.new }
+        ensures sent { EncodesTo frame.now self.now out.old.bytes result out.new.bytes }
+        ensures lacking { IfErr result (λ e. e ≡ no.OutOfMemory → HasNoSize frame.now self.now ⊎ ¬ HasRoomFor frame.now self.now out.new) }
+        ensures room { out.old.room + length out.old.bytes ≤ out.new.room + length out.new.bytes }
+        ensures copied { out.new.copied ≡ out.old.copied }
     {
         let limit = self.max_piece_len;
         let room = limit - 4;

@@ -33,7 +33,8 @@ pub(crate) fn put_head(out: &mut Woven, size: u32, frame: &Frame, len: usize)
 #[inline(always)]
 pub(crate) fn put_payload(out: &mut Woven, body: &FrameBody)
     requires { length (payload_of body.now) ≤ out.old.spare }
-    ensures { out.new.waits ≡ out.old.waits ++ payload_of body.now }
+    ensures waits { out.new.waits ≡ out.old.waits ++ payload_of body.now }
+    ensures spare { out.new.spare + length (payload_of body.now) ≡ out.old.spare }
 {
     if let FrameBody::Transfer {
         performative: _,
@@ -73,7 +74,8 @@ fn piece_room(most: usize, piece: &Piece) -> usize
 pub(crate) fn put_pieces(out: &mut Woven, most: usize, pieces: Vec<Piece>)
     requires room { pieces_room most pieces.items ≤ out.old.spare }
     requires places { length pieces.items ≤ out.old.places }
-    ensures { out.new.waits ≡ out.old.waits ++ wire_of pieces.items }
+    ensures waits { out.new.waits ≡ out.old.waits ++ wire_of pieces.items }
+    ensures spare { out.old.spare ≤ out.new.spare + pieces_room most pieces.items }
 {
     let mut rest = VecDeque::from(pieces);
     while !rest.is_empty() {

@@ -1,6 +1,6 @@
 //! Bytes that wait to be sent, in one buffer, with parts between them that are shared and not copied.
 
-ghost use Rattle.std.specs.Prelude.{◌≡◌, ℕ, ◌+◌, ◌-◌, ◌*◌, ◌≤◌, ◌<◌, ◌^◌, ◌++◌, ◌⊎◌, [], List, OnOk, OnErr, length, drop, min, ◌==◌};
+ghost use Rattle.std.specs.Prelude.{◌≡◌, ℕ, ◌+◌, ◌-◌, ◌*◌, ◌≤◌, ◌<◌, ◌^◌, ◌++◌, ◌⊎◌, ◌↔◌, IsTrue, [], List, OnOk, OnErr, length, drop, min, ◌==◌};
 ghost use Rattle.std.specs.VecDeque.{deque_capacity, deque_len};
 ghost use Rattle.amqp_memory.specs.Refusal.{SomeRefused};
 ghost use Rattle.amqp_frames.specs.declared.woven.SharedPart.{SharedPart};
@@ -60,25 +60,32 @@ impl Woven {
         }
     }
 
-    /// Makes room for so many bytes and shared parts more. It asks for memory only where there is none.
+    /// Makes room for so many bytes and shared parts more. It asks for memory only where there is none, and fails only where there is
+    /// none afterwards.
     #[inline(always)]
     pub(crate) fn reserve(&mut self, bytes: usize, parts: usize) -> Result<(), AllocError>
         requires few { bytes ≤ 2 ^ 34 }
         requires few_parts { parts ≤ 2 ^ 34 }
         ensures waits { self.new.waits ≡ self.old.waits }
+        ensures kept { self.old.spare ≤ self.new.spare }
         ensures bytes { OnOk result (bytes ≤ self.new.spare) }
         ensures parts { OnOk result (parts ≤ self.new.places) }
-        ensures lacking { OnErr result ((self.old.places < parts) ⊎ (self.old.spare < bytes)) }
+        ensures lacking { OnErr result ((self.old.places < parts) ⊎ (self.new.spare < bytes)) }
         ensures refused { OnErr result SomeRefused }
     {
         more_in_queue(&mut self.shared, parts)?;
-        more_in_buffer(&mut self.buffer, bytes)
+        match more_in_buffer(&mut self.buffer, bytes) {
+            // The kit leaves open what room a refusal leaves.
+            Err(refused) if !has_room(&self.buffer, bytes) => Err(refused),
+            _ => Ok(()),
+        }
     }
 
     /// Makes room for so many bytes more, and for a shared part of each of these pieces.
     pub(crate) fn reserve_for(&mut self, pieces: &[Piece], bytes: usize) -> Result<(), AllocError>
         requires { bytes ≤ 2 ^ 33 * length pieces.now }
         ensures waits { self.new.waits ≡ self.old.waits }
+        ensures kept { self.old.spare ≤ self.new.spare }
         ensures bytes { OnOk result (bytes ≤ self.new.spare) }
         ensures short { OnOk result (self.new.spare < 2 ^ 63) }
         ensures parts { OnOk result (length pieces.now ≤ self.new.places) }
@@ -151,7 +158,8 @@ impl Woven {
     /// Takes so many bytes off the front.
     pub(crate) fn advance(&mut self, count: usize)
         requires { count ≤ length self.old.waits }
-        ensures { self.new.waits ≡ drop count self.old.waits }
+        ensures waits { self.new.waits ≡ drop count self.old.waits }
+        ensures spare { self.old.spare ≤ self.new.spare }
     {
         let mut left = count;
         while left > 0 {
@@ -164,6 +172,7 @@ impl Woven {
         ensures taken { self.new.waits ≡ drop result self.old.waits }
         ensures within { result ≤ most }
         ensures some { 0 < most → 0 < length self.old.waits → 0 < result }
+        ensures spare { self.old.spare ≤ self.new.spare }
     {
         let Some(first) = self.shared.front() else {
             return take_bytes(&mut self.buffer, most);
@@ -178,12 +187,21 @@ impl Woven {
 
     /// Drops all bytes. The memory stays.
     pub(crate) fn clear(&mut self)
-        ensures { self.new.waits ≡ [] }
+        ensures waits { self.new.waits ≡ [] }
+        ensures spare { self.old.spare ≤ self.new.spare }
     {
         self.buffer.clear();
         self.shared.clear();
         self.placed = 0;
     }
+}
+
+/// Whether there is room for so many bytes more.
+#[inline(never)]
+fn has_room(buffer: &BytesMut, bytes: usize) -> bool
+    ensures { IsTrue result ↔ (bytes ≤ buffer.now.spare) }
+{
+    bytes <= buffer.capacity() - buffer.len()
 }
 
 /// No buffer has 2^63 bytes, those counted that are spare: not even with all of them filled. It is left as it was.
@@ -202,6 +220,7 @@ fn is_short(buffer: &mut BytesMut)
 fn take_bytes(buffer: &mut BytesMut, most: usize) -> usize
     ensures count { result ≡ min most (length buffer.old.items) }
     ensures rest { buffer.new.items ≡ drop result buffer.old.items }
+    ensures spare { buffer.old.spare ≤ buffer.new.spare }
 {
     let count = most.min(buffer.len());
     if count == buffer.len() {

@@ -1,12 +1,12 @@
 //! The encoder for the peer, whose limit is that of a max-frame-size: so the size of each piece fits its four bytes.
 
-ghost use Rattle.std.specs.Prelude.{◌≡◌, ◌≤◌, ◌-◌, ◌^◌, IfErr};
+ghost use Rattle.std.specs.Prelude.{◌≡◌, ◌≤◌, ◌+◌, ◌-◌, ◌^◌, IfErr, length};
 ghost use Rattle.amqp_memory.specs.Refusal.{SomeRefused};
 ghost use Rattle.amqp_types.specs.Transfer.{widest};
 ghost use Rattle.amqp_frames.specs.declared.error.Error.TheVariants as no;
 ghost use Rattle.amqp_frames.specs.Cut.{Encodes, room_beside};
 ghost use Rattle.amqp_frames.specs.HeaderPool.{CutsHead, RoomAfter};
-ghost use Rattle.amqp_frames.specs.Wire.{EncodesTo};
+ghost use Rattle.amqp_frames.specs.Wire.{EncodesTo, HasRoomFor};
 
 use amqp_frames::{Error, Frame, FrameEncoder, HeaderPool, Piece, SendBuffer};
 use amqp_types::Transfer;
@@ -57,14 +57,17 @@ impl PeerEncoder {
 
     /// Appends a frame, as [`FrameEncoder::encode_to`] does. It is `OutOfMemory` where memory is refused alone.
     #[inline(always)]
-    #[tactic(auto, using(crate::proofs::SizedLemmas::refused_sized))]
+    #[tactic(auto, using(crate::proofs::SizedLemmas::refused_sized, crate::proofs::SizedLemmas::lacking_sized))]
     pub(crate) fn encode_to(
         &self,
         alloc: Global,
         frame: &Frame,
         out: &mut SendBuffer,
     ) -> Result<(), Error>
-        ensures sent { EncodesTo frame.now self.now out.old result out.new }
+        ensures sent { EncodesTo frame.now self.now out.old.bytes result out.new.bytes }
+        ensures lacking { IfErr result (λ e. e ≡ no.OutOfMemory → ¬ HasRoomFor frame.now self.now out.new) }
+        ensures room { out.old.room + length out.old.bytes ≤ out.new.room + length out.new.bytes }
+        ensures copied { out.new.copied ≡ out.old.copied }
         ensures refused { IfErr result (λ e. e ≡ no.OutOfMemory → SomeRefused) }
     {
         self.encoder.encode_to(alloc, frame, out)

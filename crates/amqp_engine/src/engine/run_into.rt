@@ -1,6 +1,6 @@
 //! Runs whose output goes to one buffer: what is to be sent is appended there, and what was refused to a list.
 
-ghost use Rattle.std.specs.Prelude.{◌≡◌, ◌++◌, ◌<◌, [], List, Option, true, IfErr, OnOk, OnErr, length, vec_len, vec_capacity};
+ghost use Rattle.std.specs.Prelude.{◌≡◌, ◌++◌, ◌<◌, ◌≤◌, ◌+◌, [], List, Option, true, IfErr, OnOk, OnErr, length, vec_len, vec_capacity};
 ghost use Rattle.amqp_memory.specs.Refusal.{SomeRefused};
 ghost use Rattle.amqp_connection.specs.Connection.{refusal_of};
 ghost use Rattle.amqp_frames.specs.Wire.{EncodesTo};
@@ -14,7 +14,7 @@ ghost use Rattle.amqp_engine.specs.Output.{PutOut};
 ghost use Rattle.amqp_engine.specs.Promise.{Ends, NoneLeft};
 ghost use Rattle.amqp_engine.specs.Inner.Putting.{FirstUnfit};
 ghost use Rattle.amqp_engine.specs.Inner.Running.{StepsFirst};
-ghost use Rattle.amqp_engine.specs.RunInto.{HandsBack, RanInto, SendsFirst, Tells, refusal_at};
+ghost use Rattle.amqp_engine.specs.RunInto.{FirstLacks, HandsBack, LacksRoom, RanInto, SendsFirst, Tells, refusal_at};
 
 use super::Engine;
 use super::answer::Stopped;
@@ -43,18 +43,25 @@ fn note(refusals: &mut Vec<Refusal>, place: usize, outcome: Result<(), StepError
 impl<R: LinkRelay> Engine<R> {
     /// Runs the inputs as [`Engine::run`] does, and appends what is to be sent to `out`, each piece after its four-byte size, and what is
     /// refused to `refusals`, with its place from 0 in this run. An input that is accepted has no entry, and a frame has no list of its
-    /// own: where `out` has room, sending asks for no memory.
+    /// own.
     ///
     /// It stops where memory is refused (`Stopped`), and says how many inputs it took; the others stay in `inputs`. What stands in `out` is
     /// always whole frames. A second call goes on: nothing is sent twice, and nothing is left out.
+    ///
+    /// Where room is there, sending does not fail (`lacking`): it stops only where `refusals` is full, or where the first frame that waits
+    /// has no room in `out`. A frame that is whole, and whose payload is copied, has room where its bytes and the four of its size have; any
+    /// other frame may lack memory. What is sent takes no more of the room than its bytes (`room`).
     pub fn run_into(
         &mut self,
         inputs: &mut VecDeque<Input<R>>,
         out: &mut SendBuffer,
         refusals: &mut Vec<Refusal>,
     ) -> Result<(), Stopped>
-        ensures ran { RanInto R.gives self.old inputs.old.items out.old refusals.old.items self.new inputs.new.items out.new refusals.new.items }
+        ensures ran { RanInto R.gives self.old inputs.old.items out.old.bytes refusals.old.items self.new inputs.new.items out.new.bytes refusals.new.items }
         ensures ends { Ends (NoneLeft inputs.new.items self.new) inputs.old.items inputs.new.items result }
+        ensures lacking { OnErr result (LacksRoom self.new out.new refusals.new) }
+        ensures room { out.old.room + length out.old.bytes ≤ out.new.room + length out.new.bytes }
+        ensures copied { out.new.copied ≡ out.old.copied }
         ensures wishes { self.new.wishes ≡ self.old.wishes }
     {
         law_of_histories::<R>();
@@ -112,10 +119,13 @@ impl<R: LinkRelay> Engine<R> {
         refusals: &mut Vec<Refusal>,
     ) -> Result<(), AllocError>
         ensures said { (outs : List Answer) × PutOut self.old.limit self.old.waiting self.new.waiting outs
-            × Tells place outs out.old refusals.old.items out.new refusals.new.items }
+            × Tells place outs out.old.bytes refusals.old.items out.new.bytes refusals.new.items }
         ensures taken { OnlyLeft self.old self.new }
         ensures ok { OnOk result (self.new.waiting ≡ []) }
         ensures err { OnErr result (¬ (self.new.waiting ≡ [])) }
+        ensures lacking { OnErr result (LacksRoom self.new out.new refusals.new) }
+        ensures room { out.old.room + length out.old.bytes ≤ out.new.room + length out.new.bytes }
+        ensures copied { out.new.copied ≡ out.old.copied }
         ensures refused { OnErr result SomeRefused }
     {
         while self.waiting.has_frames() {
@@ -135,10 +145,13 @@ impl<R: LinkRelay> Engine<R> {
         refusals: &mut Vec<Refusal>,
     ) -> Result<(), AllocError>
         requires { has_frames self.old.waiting ≡ true }
-        ensures ok { OnOk result (SendsFirst place self.old out.old refusals.old.items self.new out.new refusals.new.items) }
+        ensures ok { OnOk result (SendsFirst place self.old out.old.bytes refusals.old.items self.new out.new.bytes refusals.new.items) }
         ensures err { OnErr result (self.new ≡ self.old) }
-        ensures err_out { OnErr result (out.new ≡ out.old) }
+        ensures err_out { OnErr result (out.new.bytes ≡ out.old.bytes) }
         ensures err_refusals { OnErr result (refusals.new.items ≡ refusals.old.items) }
+        ensures lacking { OnErr result (LacksRoom self.new out.new refusals.new) }
+        ensures room { out.old.room + length out.old.bytes ≤ out.new.room + length out.new.bytes }
+        ensures copied { out.new.copied ≡ out.old.copied }
         ensures refused { OnErr result SomeRefused }
     {
         more_in_vector(refusals, 1)?;
@@ -159,7 +172,10 @@ impl<R: LinkRelay> Engine<R> {
     #[inline(always)]
     fn encode_first_to(&self, out: &mut SendBuffer) -> Result<(), Error>
         requires { has_frames self.now.waiting ≡ true }
-        ensures sent { (f : Frame) × FirstIs f self.now.waiting × EncodesTo f self.now.limit out.old result out.new }
+        ensures sent { (f : Frame) × FirstIs f self.now.waiting × EncodesTo f self.now.limit out.old.bytes result out.new.bytes }
+        ensures lacking { IfErr result (λ e. e ≡ no.OutOfMemory → FirstLacks self.now.limit self.now.waiting out.new) }
+        ensures room { out.old.room + length out.old.bytes ≤ out.new.room + length out.new.bytes }
+        ensures copied { out.new.copied ≡ out.old.copied }
         ensures refused { IfErr result (λ e. e ≡ no.OutOfMemory → SomeRefused) }
     {
         let frame = self.waiting.first().unwrap();

@@ -1,4 +1,4 @@
-use Rattle.std.proofs.Common.{◌≡◌, ℕ, length, rules}
+use Rattle.std.proofs.Common.{◌≡◌, length, rules}
 use Rattle.amqp_frames.proofs.SentFrameLemmas.{counted}
 use Rattle.amqp_frames.proofs.laying.pieces_room.Goals as goal
 

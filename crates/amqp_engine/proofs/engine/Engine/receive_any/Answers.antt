@@ -1,4 +1,3 @@
-use Rattle.std.proofs.Common.{Some, refl}
 use Rattle.amqp_types.specs.declared.performatives.kind.Kind.TheVariants as kind
 use Rattle.amqp_engine.proofs.ReceivedFieldsLemmas.{fields_kept}
 use Rattle.amqp_engine.proofs.engine.Engine.receive_any.Goals as goal

@@ -1,11 +1,16 @@
-use Rattle.std.proofs.Common.{◌≡◌, ◌-◌, length, arith, rules}
+use Rattle.std.proofs.Common.{◌≡◌, ◌-◌, ◌∙◌, length, arith, rules}
 use Rattle.amqp_engine.proofs.BufferRunLemmas.{Sending-start, Sending-more, Sending-RanInto}
 use Rattle.amqp_engine.proofs.engine.Engine.run_into.Goals as goal
 
 pub loop-refusals-init : goal.loop-refusals-init
 loop-refusals-init g c =
-    let s = c.send_out.ensures.said in
-    (Sending-start g.R.LinkRelay.gives _ _ _ _ _ _ _ s.0 c.send_out.ensures.taken s.1 s.2, c.in-Ok.ensures.ok, search rules)
+    let s = c.send_out.ensures.said in (
+      Sending-start g.R.LinkRelay.gives _ _ _ _ _ _ _ s.0 c.send_out.ensures.taken s.1 s.2,
+      c.in-Ok.ensures.ok,
+      search rules,
+      c.send_out.ensures.room,
+      c.send_out.ensures.copied,
+    )
 
 pub returns-in_default-clause-ran : goal.returns-in_default-clause-ran
 returns-in_default-clause-ran g c =
@@ -25,8 +30,13 @@ loop-refusals-preserved g c =
     let s = c.send_out-in-loop-refusals.ensures.said in
     let r = c.loop-refusals.invariant in
     let at : _ ≡ length c.args.inputs.now.items - length c.loop-refusals.inputs.items = omega (arith, r.2, c.len-in-loop-refusals.ensures, c.loop-refusals.inputs.ok.0) in
-    let more = Sending-more g.R.LinkRelay.gives _ _ _ _ _ _ _ _ _ _ _ _ _ _ s.0 _ _ _ r.0 r.1 first.1.1 first.1.2 at noted c.send_out-in-loop-refusals.ensures.taken s.1 s.2 in
-    (more, c.in-Ok-send_out.ensures.ok, r.2)
+    let more = Sending-more g.R.LinkRelay.gives _ _ _ _ _ _ _ _ _ _ _ _ _ _ s.0 _ _ _ r.0 r.1 first.1.1 first.1.2 at noted c.send_out-in-loop-refusals.ensures.taken s.1 s.2 in (
+      more,
+      c.in-Ok-send_out.ensures.ok,
+      r.2,
+      omega (arith, r.3, c.send_out-in-loop-refusals.ensures.room),
+      c.send_out-in-loop-refusals.ensures.copied ∙ r.4,
+    )
 
 pub returns-in_default-send_out-clause-ran : goal.returns-in_default-send_out-clause-ran
 returns-in_default-send_out-clause-ran g c =
