@@ -42,7 +42,7 @@ impl<R> Model for Machine<R> {
 
     ghost coded = { Prim.hlevel (codes, channel_table_code, hash_code, links_code, map.code) };
 
-    ghost view = { λ m. record { engine = m.engine; to_send = m.out; last = m.last } };
+    ghost view = { λ m. record { engine = m.engine; to_send = m.out.bytes; last = m.last } };
 
     ghost invariant = { λ m. (m.inputs.items ≡ []) × (m.refusals.items ≡ []) };
 }
@@ -173,7 +173,7 @@ fn note(refusals: &mut Vec<Refusal>, state: ConnectionState, last: &mut Refused)
 
 /// Copies the bytes that wait to the output, as many as fit, and takes them off.
 fn take(out: &mut SendBuffer, output: &mut [u8]) -> usize
-    ensures { TakesOff out.old output.old result out.new output.new }
+    ensures { TakesOff out.old.bytes output.old result out.new.bytes output.new }
 {
     let mut at = 0;
     while at < output.len() && !out.is_empty() {
@@ -185,8 +185,8 @@ fn take(out: &mut SendBuffer, output: &mut [u8]) -> usize
 /// Copies bytes that lie together at the front to a place of the output, and takes them off. There is room for one.
 fn take_chunk(out: &mut SendBuffer, at: usize, output: &mut [u8]) -> usize
     requires room { at < length output.old }
-    requires some { 0 < length out.old }
-    ensures { TakesFront at out.old output.old result out.new output.new }
+    requires some { 0 < length out.old.bytes }
+    ensures { TakesFront at out.old.bytes output.old result out.new.bytes output.new }
 {
     let chunk = out.chunk();
     let count = chunk.len().min(output.len() - at);

@@ -35,8 +35,8 @@ pub fn run<R: LinkRelay, O: Write>(
     refusals: &mut Vec<Refusal>,
     output: &mut O,
 ) -> io::Result<()>
-    ensures runs { Runs R.gives (work engine.old inputs.old.items out.old refusals.old.items (O.contents output.old))
-        (work engine.new inputs.new.items out.new refusals.new.items (O.contents output.new)) result }
+    ensures runs { Runs R.gives (work engine.old inputs.old.items out.old.bytes refusals.old.items (O.contents output.old))
+        (work engine.new inputs.new.items out.new.bytes refusals.new.items (O.contents output.new)) result }
     ensures flushed { OnOk result (Flushed output.new) }
 {
     law_of_histories::<R>();
@@ -67,8 +67,8 @@ fn attempt<R: LinkRelay, O: Write>(
     output: &mut O,
     taken: usize,
 ) -> io::Result<bool>
-    ensures { Tries R.gives taken (work engine.old inputs.old.items out.old refusals.old.items (O.contents output.old))
-        (work engine.new inputs.new.items out.new refusals.new.items (O.contents output.new)) result }
+    ensures { Tries R.gives taken (work engine.old inputs.old.items out.old.bytes refusals.old.items (O.contents output.old))
+        (work engine.new inputs.new.items out.new.bytes refusals.new.items (O.contents output.new)) result }
 {
     let before = refusals.len();
     let outcome = engine.run_into(inputs, out, refusals);
@@ -118,8 +118,8 @@ pub fn receive<R: LinkRelay, I: BufRead, O: Write>(
     input: &mut I,
     output: &mut O,
 ) -> io::Result<bool>
-    ensures receives { Receives R.gives (work engine.old inputs.old.items out.old refusals.old.items (O.contents output.old))
-        (work engine.new inputs.new.items out.new refusals.new.items (O.contents output.new))
+    ensures receives { Receives R.gives (work engine.old inputs.old.items out.old.bytes refusals.old.items (O.contents output.old))
+        (work engine.new inputs.new.items out.new.bytes refusals.new.items (O.contents output.new))
         (I.remaining input.old) (I.remaining input.new) result }
     ensures flushed { OnOk result (Flushed output.new) }
 {
@@ -148,8 +148,8 @@ pub fn close<R: LinkRelay, O: Write>(
     output: &mut O,
     error: Option<Error>,
 ) -> io::Result<()>
-    ensures closes { Closes R.gives (work engine.old inputs.old.items out.old refusals.old.items (O.contents output.old))
-        (work engine.new inputs.new.items out.new refusals.new.items (O.contents output.new)) error result }
+    ensures closes { Closes R.gives (work engine.old inputs.old.items out.old.bytes refusals.old.items (O.contents output.old))
+        (work engine.new inputs.new.items out.new.bytes refusals.new.items (O.contents output.new)) error result }
     ensures flushed { OnOk result (Flushed output.new) }
 {
     push(inputs, Input::Close(error))?;

@@ -110,8 +110,8 @@ fn read_more<I: Read>(input: &mut I, frame: &mut Vec<u8>, count: usize) -> io::R
 /// Writes what waits to be sent, and takes it off: `out` is empty then. An error of `output` is passed on; after it the stream is of no use,
 /// since part of it may be written.
 pub fn write_out<O: Write>(out: &mut SendBuffer, output: &mut O) -> io::Result<()>
-    ensures written { OnOk result (Appends (O.contents output.old) (O.contents output.new) out.old) }
-    ensures empty { OnOk result (out.new ≡ []) }
+    ensures written { OnOk result (Appends (O.contents output.old) (O.contents output.new) out.old.bytes) }
+    ensures empty { OnOk result (out.new.bytes ≡ []) }
     ensures err { IfErr result (λ e. WriteFailed e) }
 {
     while !out.is_empty() {
@@ -122,8 +122,8 @@ pub fn write_out<O: Write>(out: &mut SendBuffer, output: &mut O) -> io::Result<(
 
 /// Writes the bytes that lie together at the front, and takes them off.
 fn write_chunk<O: Write>(out: &mut SendBuffer, output: &mut O) -> io::Result<()>
-    requires { 0 < length out.old }
-    ensures chunk { OnOk result ((chunk : List ℕ) × (0 < length chunk) × (out.old ≡ chunk ++ out.new)
+    requires { 0 < length out.old.bytes }
+    ensures chunk { OnOk result ((chunk : List ℕ) × (0 < length chunk) × (out.old.bytes ≡ chunk ++ out.new.bytes)
         × Appends (O.contents output.old) (O.contents output.new) chunk) }
     ensures err { IfErr result (λ e. WriteFailed e) }
 {
