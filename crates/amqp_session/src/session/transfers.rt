@@ -14,7 +14,7 @@ use super::held::{HeldTransfer, RequestedTransfer, frame_of, next_delivery, reco
 use crate::deliveries::{Deliveries, Delivery};
 use crate::frame::{SessionFrame, SessionOutgoingItem};
 use crate::numbers::{InputHandle, OutgoingChannel};
-use amqp_memory::{more_in_queue, more_in_queue_beside, push_in_queue, vector_with};
+use amqp_memory::{more_in_queue, more_in_queue_beside, vector_with};
 use amqp_types::{DeliveryTag, Transfer};
 use bytes::Bytes;
 use std::alloc::{AllocError, Global};
@@ -209,7 +209,8 @@ impl Sending {
     {
         // prover
         let (_next, _delivery) = (self.next_outgoing_id, self.next_delivery);
-        push_in_queue(&mut self.held, held)?;
+        more_in_queue(&mut self.held, 1)?;
+        self.held.push_back_reserved(held);
         Ok(())
     }
 

@@ -6,4 +6,4 @@ use Rattle.amqp_session.proofs.session.transfers.Sending.hold_back.Goals as goal
 pub returns-clause-ok : goal.returns-clause-ok
 returns-clause-ok c =
     let used_up : c.self.inside.remote_incoming_window ≡ 0 = ap (λ (v : SendingView). v.remote_incoming_window) c.self.view_is ∙ c.requires in
-    rw (← c.self.view_is, c.in_ok-push_in_queue.ensures.items) (sym (still c.self.inside.next_outgoing_id c.self.inside.remote_incoming_window c.self.inside.next_delivery _ used_up (omega arith) (omega arith)))
+    rw (← c.self.view_is, c.push_back_reserved.ensures.items, c.in_ok-more_in_queue.ensures.items) (sym (still c.self.inside.next_outgoing_id c.self.inside.remote_incoming_window c.self.inside.next_delivery _ used_up (omega arith) (omega arith)))
