@@ -4,6 +4,7 @@ use Rattle.std.specs.Prelude.{◌≡◌, ℕ, ◌+◌, ◌≤◌, ◌⊎◌, Lis
 use Rattle.std.specs.declared.alloc.Global.{Global}
 use Rattle.amqp_session.specs.Relay.{Relays}
 use Rattle.amqp_frames.specs.declared.frame.Frame.{Frame}
+use Rattle.amqp_frames.specs.Cut.{Fits}
 use Rattle.amqp_frames.specs.Wire.{HasRoomFor, SendBufferView, wire_of}
 use Rattle.amqp_engine.specs.declared.engine.input.Input.{Input}
 use Rattle.amqp_engine.specs.declared.engine.answer.Answer.{Answer}
@@ -50,12 +51,12 @@ RanInto g v inputs out refusals v' inputs' out' refusals' =
 
 -- ---- why it stops
 
--- a frame waits, and there is no room for the first
+-- the first frame that waits fits, and there is no room for it
 abbrev pub FirstLacks : ℕ → List Frame → SendBufferView → Type 0
 FirstLacks limit [] out = ⊥
-FirstLacks limit (f ∷ fs) out = ¬ HasRoomFor f limit out
+FirstLacks limit (f ∷ fs) out = Fits f limit × ¬ HasRoomFor f limit out
 
--- the list of refusals is full; or a frame waits, and there is no room for the first
+-- the list of refusals is full; or the first frame that waits fits, and there is no room for it
 abbrev pub LacksRoom : {R : Type 0} → EngineView R → SendBufferView → Vec Refusal Global → Type 0
 LacksRoom v out refusals = (vec_capacity refusals ≤ vec_len refusals) ⊎ FirstLacks v.limit v.waiting out
 

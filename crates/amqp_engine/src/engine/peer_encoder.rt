@@ -4,7 +4,7 @@ ghost use Rattle.std.specs.Prelude.{◌≡◌, ◌≤◌, ◌+◌, ◌-◌, ◌^
 ghost use Rattle.amqp_memory.specs.Refusal.{SomeRefused};
 ghost use Rattle.amqp_types.specs.Transfer.{widest};
 ghost use Rattle.amqp_frames.specs.declared.error.Error.TheVariants as no;
-ghost use Rattle.amqp_frames.specs.Cut.{Encodes, room_beside};
+ghost use Rattle.amqp_frames.specs.Cut.{Encodes, Fits, room_beside};
 ghost use Rattle.amqp_frames.specs.HeaderPool.{CutsHead, RoomAfter};
 ghost use Rattle.amqp_frames.specs.Wire.{EncodesTo, HasRoomFor};
 
@@ -65,7 +65,7 @@ impl PeerEncoder {
         out: &mut SendBuffer,
     ) -> Result<(), Error>
         ensures sent { EncodesTo frame.now self.now out.old.bytes result out.new.bytes }
-        ensures lacking { IfErr result (λ e. e ≡ no.OutOfMemory → ¬ HasRoomFor frame.now self.now out.new) }
+        ensures lacking { IfErr result (λ e. e ≡ no.OutOfMemory → Fits frame.now self.now × ¬ HasRoomFor frame.now self.now out.new) }
         ensures room { out.old.room + length out.old.bytes ≤ out.new.room + length out.new.bytes }
         ensures copied { out.new.copied ≡ out.old.copied }
         ensures refused { IfErr result (λ e. e ≡ no.OutOfMemory → SomeRefused) }

@@ -50,7 +50,7 @@ impl<R: LinkRelay> Engine<R> {
     ///
     /// Where room is there, sending does not fail (`lacking`): it stops only where `refusals` is full, or where the first frame that waits
     /// has no room in `out`. A frame that is whole, and whose payload is copied, has room where its bytes and the four of its size have; any
-    /// other frame may lack memory. What is sent takes no more of the room than its bytes (`room`).
+    /// other frame that fits may lack memory. What is sent takes no more of the room than its bytes (`room`).
     pub fn run_into(
         &mut self,
         inputs: &mut VecDeque<Input<R>>,
