@@ -32,7 +32,8 @@ use std::collections::VecDeque;
 #[inline(always)]
 fn note(refusals: &mut Vec<Refusal>, place: usize, outcome: Result<(), StepError>)
     requires { vec_len refusals.old < vec_capacity refusals.old }
-    ensures { refusals.new.items ≡ refusals.old.items ++ refusal_at place (refusal_of outcome) }
+    ensures noted { refusals.new.items ≡ refusals.old.items ++ refusal_at place (refusal_of outcome) }
+    ensures places { vec_capacity refusals.new ≡ vec_capacity refusals.old }
 {
     match outcome {
         Ok(()) => {}
@@ -50,7 +51,8 @@ impl<R: LinkRelay> Engine<R> {
     ///
     /// Where room is there, sending does not fail (`lacking`): it stops only where `refusals` is full, or where the first frame that waits
     /// has no room in `out`. A frame that is whole, and whose payload is copied, has room where its bytes and the four of its size have; any
-    /// other frame that fits may lack memory. What is sent takes no more of the room than its bytes (`room`).
+    /// other frame that fits may lack memory. What is sent takes no more of the room than its bytes (`room`), and `refusals` keeps its places
+    /// (`places`).
     pub fn run_into(
         &mut self,
         inputs: &mut VecDeque<Input<R>>,
@@ -62,6 +64,7 @@ impl<R: LinkRelay> Engine<R> {
         ensures lacking { OnErr result (LacksRoom self.new out.new refusals.new) }
         ensures room { out.old.room + length out.old.bytes ≤ out.new.room + length out.new.bytes }
         ensures copied { out.new.copied ≡ out.old.copied }
+        ensures places { vec_capacity refusals.old ≤ vec_capacity refusals.new }
         ensures wishes { self.new.wishes ≡ self.old.wishes }
     {
         law_of_histories::<R>();
@@ -99,8 +102,9 @@ impl<R: LinkRelay> Engine<R> {
         requires idle { self.old.waiting ≡ [] }
         requires some { 0 < length inputs.old.items }
         requires room { vec_len refusals.old < vec_capacity refusals.old }
-        ensures { (refusal : Option StepError) × StepsFirst R.gives self.old inputs.old.items refusal self.new inputs.new.items
+        ensures stepped { (refusal : Option StepError) × StepsFirst R.gives self.old inputs.old.items refusal self.new inputs.new.items
             × (refusals.new.items ≡ refusals.old.items ++ refusal_at place refusal) }
+        ensures places { vec_capacity refusals.new ≡ vec_capacity refusals.old }
     {
         let mut outcome = Ok(());
         match inputs.front() {
@@ -126,6 +130,7 @@ impl<R: LinkRelay> Engine<R> {
         ensures lacking { OnErr result (LacksRoom self.new out.new refusals.new) }
         ensures room { out.old.room + length out.old.bytes ≤ out.new.room + length out.new.bytes }
         ensures copied { out.new.copied ≡ out.old.copied }
+        ensures places { vec_capacity refusals.old ≤ vec_capacity refusals.new }
         ensures refused { OnErr result SomeRefused }
     {
         while self.waiting.has_frames() {
@@ -152,6 +157,7 @@ impl<R: LinkRelay> Engine<R> {
         ensures lacking { OnErr result (LacksRoom self.new out.new refusals.new) }
         ensures room { out.old.room + length out.old.bytes ≤ out.new.room + length out.new.bytes }
         ensures copied { out.new.copied ≡ out.old.copied }
+        ensures places { vec_capacity refusals.old ≤ vec_capacity refusals.new }
         ensures refused { OnErr result SomeRefused }
     {
         more_in_vector(refusals, 1)?;
@@ -188,7 +194,8 @@ impl<R: LinkRelay> Engine<R> {
     fn refuse_first(&mut self, place: Option<usize>, refusals: &mut Vec<Refusal>)
         requires unfit { FirstUnfit self.old }
         requires room { vec_len refusals.old < vec_capacity refusals.old }
-        ensures { HandsBack place self.old refusals.old.items self.new refusals.new.items }
+        ensures back { HandsBack place self.old refusals.old.items self.new refusals.new.items }
+        ensures places { vec_capacity refusals.new ≡ vec_capacity refusals.old }
     {
         let frame = self.waiting.take().unwrap();
         refusals.push_reserved(Refusal::Frame { place, frame });

@@ -10,6 +10,7 @@ loop-refusals-init g c =
       search rules,
       c.send_out.ensures.room,
       c.send_out.ensures.copied,
+      c.send_out.ensures.places,
     )
 
 pub returns-in_default-clause-ran : goal.returns-in_default-clause-ran
@@ -24,7 +25,7 @@ returns-in_default-more_in_vector-clause-ran g c =
 
 pub loop-refusals-preserved : goal.loop-refusals-preserved
 loop-refusals-preserved g c =
-    let first = c.note_first.ensures in
+    let first = c.note_first.ensures.stepped in
     let same : c.more_in_vector.new.vector.items ≡ c.loop-refusals.refusals.items = c.more_in_vector.ensures.items in
     let noted = rw same at first.2 in
     let s = c.send_out-in-loop-refusals.ensures.said in
@@ -36,11 +37,12 @@ loop-refusals-preserved g c =
       r.2,
       omega (arith, r.3, c.send_out-in-loop-refusals.ensures.room),
       c.send_out-in-loop-refusals.ensures.copied ∙ r.4,
+      omega (arith, r.5, c.more_in_vector.ensures.capacity, c.note_first.ensures.places, c.send_out-in-loop-refusals.ensures.places),
     )
 
 pub returns-in_default-send_out-clause-ran : goal.returns-in_default-send_out-clause-ran
 returns-in_default-send_out-clause-ran g c =
-    let first = c.note_first.ensures in
+    let first = c.note_first.ensures.stepped in
     let same : c.more_in_vector.new.vector.items ≡ c.loop-refusals.refusals.items = c.more_in_vector.ensures.items in
     let noted = rw same at first.2 in
     let s = c.send_out-in-loop-refusals.ensures.said in
@@ -51,7 +53,7 @@ returns-in_default-send_out-clause-ran g c =
 
 pub returns-in_default-send_out-clause-wishes : goal.returns-in_default-send_out-clause-wishes
 returns-in_default-send_out-clause-wishes g c =
-    let first = c.note_first.ensures in
+    let first = c.note_first.ensures.stepped in
     let same : c.more_in_vector.new.vector.items ≡ c.loop-refusals.refusals.items = c.more_in_vector.ensures.items in
     let noted = rw same at first.2 in
     let s = c.send_out-in-loop-refusals.ensures.said in
@@ -63,3 +65,10 @@ returns-in_default-send_out-clause-wishes g c =
 pub returns-clause-ran : goal.returns-clause-ran
 returns-clause-ran g c =
     Sending-RanInto g.R.LinkRelay.gives _ _ _ _ _ _ _ _ c.law_of_histories.ensures c.law_of_views.ensures c.loop-refusals.invariant.0
+
+pub returns-in_default-more_in_vector-clause-places : goal.returns-in_default-more_in_vector-clause-places
+returns-in_default-more_in_vector-clause-places g c = omega (arith, c.loop-refusals.invariant.5, c.more_in_vector.ensures.capacity)
+
+pub returns-in_default-send_out-clause-places : goal.returns-in_default-send_out-clause-places
+returns-in_default-send_out-clause-places g c =
+    omega (arith, c.loop-refusals.invariant.5, c.more_in_vector.ensures.capacity, c.note_first.ensures.places, c.send_out-in-loop-refusals.ensures.places)

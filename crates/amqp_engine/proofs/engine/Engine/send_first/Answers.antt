@@ -10,4 +10,4 @@ returns-in-Ok-clause-ok g c =
 pub returns-in-Err-TooLarge-clause-ok : goal.returns-in-Err-TooLarge-clause-ok
 returns-in-Err-TooLarge-clause-ok g c =
     sends_back c.args.place c.args.self.now c.refuse_first.new.self c.args.out.now.bytes c.encode_first_to.new.out.bytes c.args.refusals.now.items c.more_in_vector.new.vector.items c.refuse_first.new.refusals.items
-    c.refuse_first.ensures c.in-Err-TooLarge.ensures.sent.2.1 c.more_in_vector.ensures.items
+    c.refuse_first.ensures.back c.in-Err-TooLarge.ensures.sent.2.1 c.more_in_vector.ensures.items

@@ -9,4 +9,5 @@ loop-place-preserved g c = (
       c.send_first.new.refusals.items c.loop-place.invariant.0 c.in-Ok.ensures.ok,
   omega (arith, c.loop-place.invariant.1, c.send_first.ensures.room),
   c.send_first.ensures.copied ∙ c.loop-place.invariant.2,
+  omega (arith, c.loop-place.invariant.3, c.send_first.ensures.places),
 )
