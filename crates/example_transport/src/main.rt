@@ -9,6 +9,7 @@
 
 mod calls;
 mod chunks;
+mod handing;
 mod one_run;
 mod pieces;
 
@@ -19,6 +20,7 @@ use fe2o3_amqp::{
     ConnectionState, DEFAULT_CHANNEL_MAX, Engine, Input, KeyHash, Open, Refusal, ReplayRelay,
     SendBuffer, SessionNo, SessionSettings, err_name, hex_bytes,
 };
+use handing::Handing;
 use std::alloc::{AllocError, Global};
 use std::collections::VecDeque;
 use std::hash::RandomState;
@@ -26,6 +28,9 @@ use std::io::{self, BufRead, BufReader, BufWriter, ErrorKind, Write};
 
 /// The largest frame that this side takes.
 const MAX_FRAME_SIZE: u32 = 65536;
+
+/// The protocol header of either side.
+const HEADER: [u8; 8] = *b"AMQP\x00\x01\x00\x00";
 
 /// What an engine sent and what it refused.
 #[derive(Drop)]
@@ -257,12 +262,13 @@ fn take_each(
     Ok(())
 }
 
-/// An engine that takes the stream in chunks of a size.
+/// An engine that takes the stream in chunks of a size, and writes to what hands on only what was flushed.
 fn streamed(alloc: Global, hash: KeyHash, stream: &[u8], size: usize) -> anyhow::Result<Said> {
     let mut engine = engine(alloc, hash)?;
     let mut inputs = VecDeque::new(alloc);
     let mut told = Told::nothing(alloc);
-    let mut said = Said::nothing(alloc);
+    let mut sent = Handing::new(alloc);
+    let mut log = Vec::new(alloc);
     let mut chunks = Chunks::new(stream, size);
     let outcome = take_stream(
         alloc,
@@ -270,11 +276,16 @@ fn streamed(alloc: Global, hash: KeyHash, stream: &[u8], size: usize) -> anyhow:
         &mut inputs,
         &mut told,
         &mut chunks,
-        &mut said,
+        &mut sent,
+        &mut log,
     );
     drop(told);
     drop(inputs);
     drop(engine);
+    let said = Said {
+        sent: sent.on(),
+        log,
+    };
     match outcome {
         Ok(()) => Ok(said),
         Err(error) => Err(error),
@@ -287,18 +298,17 @@ fn take_stream(
     inputs: &mut VecDeque<Input<ReplayRelay>>,
     told: &mut Told,
     stream: &mut Chunks<'_>,
-    said: &mut Said,
+    sent: &mut Handing,
+    refused: &mut Vec<u8>,
 ) -> anyhow::Result<()> {
-    exchange_headers(stream, &mut io::sink())?;
+    exchange_headers(stream, sent)?;
+    if sent.on.as_slice() != HEADER.as_slice() {
+        writeln!(refused, "no header was handed on")?;
+    }
+    sent.on.clear();
     push_requests(inputs)?;
-    run(
-        engine,
-        inputs,
-        &mut told.out,
-        &mut told.refusals,
-        &mut said.sent,
-    )?;
-    log(&mut told.refusals, &mut said.log)?;
+    run(engine, inputs, &mut told.out, &mut told.refusals, sent)?;
+    log(&mut told.refusals, refused)?;
     for _ in 0..u64::MAX {
         if !receive(
             alloc,
@@ -307,11 +317,11 @@ fn take_stream(
             &mut told.out,
             &mut told.refusals,
             stream,
-            &mut said.sent,
+            sent,
         )? {
             return Ok(());
         }
-        log(&mut told.refusals, &mut said.log)?;
+        log(&mut told.refusals, refused)?;
     }
     Ok(())
 }
@@ -333,7 +343,7 @@ fn log<W: Write>(refusals: &mut Vec<Refusal>, log: &mut W) -> io::Result<()> {
 /// The stream of the frames: the protocol header, and each frame after its size.
 fn stream_of(alloc: Global, frames: &[Bytes]) -> anyhow::Result<Vec<u8>> {
     let mut stream = Vec::new(alloc);
-    stream.extend_from_slice(b"AMQP\x00\x01\x00\x00")?;
+    stream.extend_from_slice(HEADER.as_slice())?;
     for frame in frames.iter() {
         let size = u32::try_from(frame.len().saturating_add(4))?;
         stream.extend_from_slice(&size.to_be_bytes())?;
