@@ -107,7 +107,7 @@ MayAllot v name = (is_mapped v.state ≡ true) × (named_at name v.links ≡ Non
 abbrev pub IsExhausted : {R : Type 0} → LinksView R → Type 0
 IsExhausted l = 2 ^ 32 ≤ l.next
 
--- the allotment is refused so: where nothing else refuses it, no handle is left, or memory was refused
+-- The allotment is refused so. Where nothing else refuses it, no handle is left; and where one is, memory was refused.
 abbrev pub AllotRefused : {R : Type 0} → SessionView R → List ℕ → AllocLinkError → Type 0
 AllotRefused v name Unallotted.SessionNotMapped =
     (is_mapped v.state ≡ false) × (why_unallotted v.state v.session_stop ≡ Unallotted.SessionNotMapped)
@@ -115,15 +115,15 @@ AllotRefused v name (Unallotted.SessionStopped reason) =
     (is_mapped v.state ≡ false) × (why_unallotted v.state v.session_stop ≡ Unallotted.SessionStopped reason)
 AllotRefused v name Unallotted.DuplicatedLinkName = (is_mapped v.state ≡ true) × IsSome (named_at name v.links)
 AllotRefused v name Unallotted.HandlesExhausted = MayAllot v name × IsExhausted v.links
-AllotRefused v name Unallotted.OutOfMemory = MayAllot v name × SomeRefused
+AllotRefused v name Unallotted.OutOfMemory = MayAllot v name × (v.links.next < 2 ^ 32) × SomeRefused
 
--- no handle of four bytes is left, or memory was refused
+-- no handle of four bytes is left; or one is, and memory was refused
 abbrev pub IsFull : {R : Type 0} → LinksView R → AllocLinkError → Type 0
 IsFull l Unallotted.SessionNotMapped = ⊥
 IsFull l (Unallotted.SessionStopped reason) = ⊥
 IsFull l Unallotted.DuplicatedLinkName = ⊥
 IsFull l Unallotted.HandlesExhausted = IsExhausted l
-IsFull l Unallotted.OutOfMemory = SomeRefused
+IsFull l Unallotted.OutOfMemory = (l.next < 2 ^ 32) × SomeRefused
 
 -- The output handle is the next one, which is not taken. The links are then as the call says, and another handle is the next one.
 abbrev pub AllotStep : {R : Type 0} → SessionView R → List ℕ → (OutputHandle → LinksView R) → Result OutputHandle AllocLinkError →
