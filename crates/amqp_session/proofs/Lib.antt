@@ -23,6 +23,7 @@ pub mod CallEffectLemmas
 pub mod LaterCallLemmas
 pub mod NumberedMapLemmas
 pub mod SessionViewLemmas
+pub mod NumberLemmas
 pub mod LinkHistoryLemmas
 pub mod SessionFlowLemmas
 pub mod ChannelLemmas

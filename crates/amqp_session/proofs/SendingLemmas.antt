@@ -1,6 +1,6 @@
 -- The books of the sending half: numbers, window and what waits.
 use Rattle.std.proofs.Common.{◌≡◌, ℕ, suc, zero, ◌<◌, ◌≤◌, ◌-◌, ◌+◌, ◌%◌, ◌^◌, ◌++◌, [], ◌∷◌, List, length, take, drop, refl, ap, arith, sym, ◌∙◌, min, append_assoc, append-nil, length-append, length-take, length-drop, Bool, true, false, cond, Option, Some, None, is_some, slice_get, unwrap_or}
-use Rattle.std.proofs.lemmas.List.{take-append-le, drop-append-le, drop-drop, take_min, drop_min}
+use Rattle.std.proofs.lemmas.List.{take-append-le, take-append-drop, drop-append-le, drop-drop, take_min, drop_min}
 use Rattle.amqp_session.specs.declared.frame.SessionFrame.{SessionFrame}
 use Rattle.amqp_session.specs.declared.frame.SessionOutgoingItem.{SessionOutgoingItem}
 use Rattle.amqp_session.specs.declared.frame.SessionOutgoingItem.TheVariants.{SingleFrame, MultipleFrames}
@@ -75,6 +75,26 @@ numbered_first c n (suc m) zero (x ∷ hs) h f e g =
     let frame : frame_of c n x ≡ f = ap (λ o. unwrap_or o f) g in
     ap (λ (y : SessionFrame). is_some (carried y.body)) (sym frame) ∙ is_some_if x.is_first (n % 2 ^ 32) ∙ ap (λ (y : RequestedTransfer). y.is_first) same
 numbered_first c n (suc m) (suc k) (x ∷ hs) h f e g = numbered_first c (n + first_of x) m k hs h f e g
+
+-- ---- the number of the next delivery that is accepted
+
+pub firsts-cut : (n : ℕ) (held : List RequestedTransfer) → firsts held ≡ firsts (take n held) + firsts (drop n held)
+firsts-cut n held = ap firsts (sym (take-append-drop n held)) ∙ firsts-append (take n held) (drop n held)
+
+-- what goes out is numbered, and no longer waits: the number after all of them stays
+pub number_drained : (shown n m count : ℕ) (held left : List RequestedTransfer) → shown ≡ (n + firsts held) % 2 ^ 32
+    → m ≡ (n + firsts (take count held)) % 2 ^ 32 → left ≡ drop count held → shown ≡ (m + firsts left) % 2 ^ 32
+number_drained shown n m count held left kept next rest =
+    let cut = firsts-cut count held in
+    let same : firsts left ≡ firsts (drop count held) = ap firsts rest in
+    omega (arith, kept, next, cut, same)
+
+-- one more waits
+pub number_joined : (shown shown' n : ℕ) (h : RequestedTransfer) (held held' : List RequestedTransfer) → shown ≡ (n + firsts held) % 2 ^ 32
+    → shown' ≡ (shown + first_of h) % 2 ^ 32 → held' ≡ held ++ h ∷ [] → shown' ≡ (n + firsts held') % 2 ^ 32
+number_joined shown shown' n h held held' kept next rest =
+    let same : firsts held' ≡ firsts held + (first_of h + 0) = ap firsts rest ∙ firsts-append held (h ∷ []) in
+    omega (arith, kept, next, same)
 
 -- ---- the books of the sending half
 

@@ -21,6 +21,7 @@ pub mod Received
 pub mod Linked
 pub mod OutgoingFrames
 pub mod Headline
+pub mod Numbers
 pub mod Pair
 pub mod PairLedger
 pub mod PairOrder

@@ -1,4 +1,4 @@
--- Part: every call exactly; inner.
+-- Part: every call exactly; other calls; inner.
 -- What contracts see of the sending half of a session (AMQP 1.0 part 2, section 2.5.6).
 use Rattle.std.specs.Prelude.{ℕ, ◌+◌, ◌-◌, ◌%◌, ◌^◌, List, [], ◌∷◌, ◌++◌, length, take, drop, min}
 use Rattle.amqp_session.specs.declared.deliveries.Delivery.{Delivery}
@@ -47,3 +47,8 @@ drained v = record v {
   next_delivery = (v.next_delivery + firsts (take v.remote_incoming_window v.held)) % 2 ^ 32;
   held = drop v.remote_incoming_window v.held;
 }
+
+-- The number of the next delivery that is accepted: past those that wait, each of which keeps its own. What waits later is numbered
+-- later, so it is known before that one goes out (section 2.6.12).
+abbrev pub number_shown : SendingView → ℕ
+number_shown v = (v.next_delivery + firsts v.held) % 2 ^ 32

@@ -11,6 +11,8 @@ ghost use Rattle.amqp_session.specs.Step.{SessionFlowStep};
 ghost use Rattle.amqp_session.specs.Session.{SessionView};
 ghost use Rattle.amqp_session.specs.History.{SessionCall, Made, LeadsTo};
 ghost use Rattle.amqp_session.specs.Headline.{Headline, Stands};
+ghost use Rattle.amqp_session.specs.Numbers.{NumbersAreKnown, number_after};
+ghost use Rattle.amqp_session.specs.Sending.{number_shown};
 ghost use Rattle.amqp_session.specs.Linked.{LinksAgree, ShownAgree, AwaitedOnce};
 ghost use Rattle.amqp_session.specs.OutgoingFrames.{OnChannel, calls_frames};
 ghost use Rattle.amqp_session.specs.Settings.{SettingsModel};
@@ -40,6 +42,17 @@ pub fn law_of_views<R: LinkRelay>()
         (m : Made) (h : List (SessionCall R)) (v : SessionView R) → LeadsTo g m h v → Stands m h v }
     ensures headline { let g = R.gives in
         (m : Made) (h : List (SessionCall R)) (v : SessionView R) → LeadsTo g m h v → Headline m h }
+{}
+
+/// The number of a delivery is known as its first transfer is accepted, also while that is held back: it is how many deliveries were
+/// accepted before, modulo 2^32. The frame that goes out for the transfer, by whatever call and however much later, carries it, and the
+/// session shows it before it takes the transfer ([`Session::next_delivery_number`](crate::Session::next_delivery_number); AMQP 1.0 part
+/// 2, section 2.6.12).
+pub fn law_of_numbers<R: LinkRelay>()
+    ensures known { let g = R.gives in
+        (m : Made) (h : List (SessionCall R)) (v : SessionView R) → LeadsTo g m h v → NumbersAreKnown m h }
+    ensures shown { let g = R.gives in
+        (m : Made) (h : List (SessionCall R)) (v : SessionView R) → LeadsTo g m h v → number_shown v.sending ≡ number_after h }
 {}
 
 /// Every frame that a session hands out, of whatever kind, is on the channel that the session was made with.

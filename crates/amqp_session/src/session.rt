@@ -3,6 +3,7 @@
 ghost use Rattle.std.specs.Prelude.{◌≡◌, ◌+◌, ℕ, length};
 ghost use Rattle.amqp_session.specs.States.{is_mapped};
 ghost use Rattle.amqp_session.specs.Deliveries.{nothing_counted, nothing_read};
+ghost use Rattle.amqp_session.specs.Sending.{number_shown};
 ghost use Rattle.amqp_session.specs.Session.{new_session};
 ghost use Rattle.amqp_session.specs.declared.keys.KeyHash.TheVariants.{Fixed};
 ghost use Rattle.amqp_session.specs.Step.{StopStep};
@@ -239,6 +240,15 @@ impl<R: LinkRelay> Session<R> {
         ensures { result ≡ self.now.view.receiving.next_incoming_id }
     {
         self.receiving.next_incoming_id
+    }
+
+    /// The number that the next delivery gets whose first transfer is accepted, modulo 2^32, also where that transfer is then held back:
+    /// deliveries are numbered in the order in which they are accepted, and those that wait count (section 2.6.12). A later transfer of a
+    /// delivery, and a transfer that is refused, leave it as it is; so does going out. It takes the same time however many wait.
+    pub fn next_delivery_number(&self) -> u32
+        ensures { result ≡ number_shown self.now.view.sending }
+    {
+        self.sending.next_delivery_number()
     }
 
     /// How many transfers the peer still takes: 0 to 4294967295 (section 2.5.6).

@@ -3,7 +3,7 @@
 use crate::relays::{Choosing, Quiet};
 use crate::same::{holds, same};
 use amqp_session::laws::{
-    Compared, law_of_incoming_channels, law_of_input_handles, law_of_links,
+    Compared, law_of_incoming_channels, law_of_input_handles, law_of_links, law_of_numbers,
     law_of_outgoing_channels, law_of_output_handles, law_of_session_flows, law_of_views,
 };
 use amqp_session::{IncomingChannel, InputHandle, OutgoingChannel, OutputHandle};
@@ -16,6 +16,8 @@ fn laws_speak_of_both_relays(_rt: HostRuntime) {
     law_of_views::<Choosing>();
     law_of_links::<Quiet>();
     law_of_links::<Choosing>();
+    law_of_numbers::<Quiet>();
+    law_of_numbers::<Choosing>();
     law_of_session_flows::<Quiet>();
     law_of_session_flows::<Choosing>();
 }

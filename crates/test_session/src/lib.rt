@@ -1,5 +1,5 @@
-//! Tests of sessions that need their types, by public calls alone: kinds of relay, how often they are asked, laws, conversions, and
-//! events. The rows of the session's calls, and what these answer, are those of the program `rows_session`.
+//! Tests of sessions that need their types, by public calls alone: kinds of relay, how often they are asked, laws, conversions, the
+//! numbers of deliveries, and events. The rows of the session's calls, and what these answer, are those of the program `rows_session`.
 #![tactic(auto)]
 
 #[cfg(test)]
@@ -10,6 +10,8 @@ mod conversions;
 mod events;
 #[cfg(test)]
 mod laws;
+#[cfg(test)]
+mod numbers;
 #[cfg(test)]
 mod relay_answers;
 #[cfg(test)]

@@ -163,6 +163,14 @@ impl HeldTransfer {
         Ok(HeldTransfer { requested, tag })
     }
 
+    /// The number of the next delivery after this transfer, where `delivery` is that before it.
+    #[inline(always)]
+    pub(crate) fn number_after(&self, delivery: u32) -> u32
+        ensures { result ≡ (delivery + first_of self.now) % 2 ^ 32 }
+    {
+        next_delivery(delivery, self.requested.is_first)
+    }
+
     /// The frame, where `delivery` is the number of the next delivery: the first frame of a delivery gets it, and any other none.
     #[inline(always)]
     pub(crate) fn numbered(self, channel: OutgoingChannel, delivery: u32) -> OutgoingTransfer

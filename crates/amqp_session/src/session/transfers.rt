@@ -8,7 +8,7 @@ ghost use Rattle.amqp_session.specs.Transfers.{numbered, firsts, opened, kept_ta
 ghost use Rattle.amqp_session.specs.Deliveries.{with_record};
 ghost use Rattle.amqp_session.specs.Items.{HandsOut};
 ghost use Rattle.amqp_session.specs.Step.{is_some_held};
-ghost use Rattle.amqp_session.specs.Sending.{new_sending, joined, begun, moved, ready_count, let_out, opened_by, drained};
+ghost use Rattle.amqp_session.specs.Sending.{new_sending, joined, begun, moved, ready_count, let_out, opened_by, drained, number_shown};
 
 use super::held::{HeldTransfer, RequestedTransfer, frame_of, next_delivery, record_of};
 use crate::deliveries::{Deliveries, Delivery};
@@ -28,13 +28,17 @@ pub(crate) struct Sending {
     next_outgoing_id: u32,
     remote_incoming_window: u32,
     next_delivery: u32,
+    /// The number of the next delivery that is accepted: past those that wait. It is kept, so that nobody counts what waits.
+    next_accepted: u32,
     held: VecDeque<HeldTransfer>,
 }
 
 impl Model for Sending {
+    ghost use Rattle.std.specs.Prelude.{◌≡◌, ◌+◌, ◌%◌, ◌^◌};
     ghost use Rattle.amqp_session.specs.Items.{HandsOut};
     ghost use Rattle.amqp_session.specs.Step.{is_some_held};
     ghost use Rattle.amqp_session.specs.Sending.{SendingView};
+    ghost use Rattle.amqp_session.specs.Transfers.{firsts};
 
     ghost Value = { SendingView };
 
@@ -44,6 +48,8 @@ impl Model for Sending {
       next_delivery = s.next_delivery;
       held = s.held.items;
     } };
+
+    ghost invariant = { λ s. s.next_accepted ≡ (s.next_delivery + firsts s.held.items) % 2 ^ 32 };
 }
 
 /// How many transfers there may be room for that none waits in: a place for each of a few costs less than to ask for it again and again.
@@ -110,6 +116,7 @@ impl Sending {
             next_outgoing_id,
             remote_incoming_window: 0,
             next_delivery: 0,
+            next_accepted: 0,
             held: VecDeque::new(alloc),
         }
     }
@@ -126,6 +133,13 @@ impl Sending {
         ensures { result ≡ self.now.remote_incoming_window }
     {
         self.remote_incoming_window
+    }
+
+    /// The number that the next delivery gets whose first transfer is accepted, past those that wait.
+    pub(crate) fn next_delivery_number(&self) -> u32
+        ensures { result ≡ number_shown self.now }
+    {
+        self.next_accepted
     }
 
     /// How many transfers wait.
@@ -210,6 +224,7 @@ impl Sending {
         // prover
         let (_next, _delivery) = (self.next_outgoing_id, self.next_delivery);
         more_in_queue(&mut self.held, 1)?;
+        self.next_accepted = held.number_after(self.next_accepted);
         self.held.push_back_reserved(held);
         Ok(())
     }
@@ -251,6 +266,7 @@ impl Sending {
         let delivery = self.next_delivery;
         record_opened(deliveries, record_of(delivery, input_handle, tag));
         self.next_delivery = next_delivery(delivery, is_first);
+        self.next_accepted = self.next_delivery;
         self.next_outgoing_id = self.next_outgoing_id.wrapping_add(1);
         self.remote_incoming_window -= 1;
         frame_of(channel, delivery, transfer, payload, is_first)
@@ -277,6 +293,7 @@ impl Sending {
         let count = (self.held.len() + 1).min(self.remote_incoming_window as usize);
         let mut frames = vector_with(alloc, count)?;
         deliveries.reserve(count)?;
+        self.next_accepted = held.number_after(self.next_accepted);
         self.held.push_back_reserved(held);
         self.drain(channel, &mut frames, deliveries);
         Ok(frames)
