@@ -9,7 +9,6 @@ use Rattle.amqp_values.specs.Composite.{composite_at}
 use Rattle.amqp_types.specs.declared.performatives.kind.Kind.{Kind}
 use Rattle.amqp_types.specs.declared.performatives.kind.Kind.TheVariants as kind
 use Rattle.amqp_session.specs.Relay.{Relays}
-use Rattle.amqp_session.specs.History as session
 use Rattle.amqp_frames.specs.declared.decoder.FrameHead.{FrameHead}
 use Rattle.amqp_frames.specs.declared.frame.FrameBody.{FrameBody}
 use Rattle.amqp_frames.specs.FrameError.{error_of}
@@ -20,12 +19,10 @@ use Rattle.amqp_engine.specs.declared.engine.step_error.StepError.{StepError}
 use Rattle.amqp_engine.specs.declared.engine.step_error.StepError.TheVariants as no
 use Rattle.amqp_connection.specs.Connection.{refusal_of}
 use Rattle.amqp_engine.specs.EngineView.{EngineView}
-use Rattle.amqp_engine.specs.Engine.{ReceivedFrame, ReceivedOf, FieldsStep, FieldsKept, ReceivedStep, NoneReceivedOf, NoneReceived, named_error, kept}
+use Rattle.amqp_engine.specs.Engine.{ReceivedOf, FieldsStep, FieldsKept, ReceivedStep, NoneReceivedOf, NoneReceived, named_error, kept}
 use Rattle.amqp_engine.specs.Kept.{Outcomes, outcomes_with}
+use Rattle.amqp_engine.specs.Inner.Taken.{BodyStep, BodyKept}
 use Rattle.amqp_engine.proofs.KindFieldsLemmas.{Reads}
-
-abbrev pub SomeReceivedFrame : {R : Type 0} → Relays R → EngineView R → ℕ → FrameBody → Option StepError → EngineView R → Type 0
-SomeReceivedFrame g v c b refusal w = (reached : Option ℕ) × (calls : List (session.SessionCall _)) × ReceivedFrame g v c b reached calls refusal w
 
 unread_of : {R X : Type 0} (g : Relays R) (k : Kind) {V : Type 0} (r : Reads k V) (v : EngineView R) (c : ℕ) (fields left : List ℕ) (e : ReadError)
     (result : Result X StepError) → Gives {X = V} (λ x. x) (Err e) left (composite_at r.reader fields) → IsErrAnd result (λ x. x ≡ no.Frame (error_of e)) →
@@ -50,7 +47,7 @@ pub unread_kept : {R X : Type 0} (g : Relays R) {k : Kind} {V : Type 0} (r : Rea
 unread_kept g r v c fields left e result a f = (None, None, [], v, unread_of g _ r v c fields left e result a f, refl)
 
 pub was_read : {R : Type 0} (g : Relays R) {k : Kind} {V : Type 0} (r : Reads k V) (v w : EngineView R) (c : ℕ) (fields left : List ℕ) (p : V)
-    (refusal : Option StepError) → composite_at r.reader fields ≡ Some (p, left) → SomeReceivedFrame g v c (r.says p left).0 refusal w →
+    (refusal : Option StepError) → composite_at r.reader fields ≡ Some (p, left) → BodyStep g v c (r.says p left).0 refusal w →
     FieldsStep g v c (Some k) fields refusal w
 was_read g r v w c fields left p refusal a h =
     let b = (r.says p left).0 in
@@ -87,14 +84,13 @@ fields_kept g k u v w c fields refusal s = (s.0, s.1, s.2, w, s.3, same s.3)
         ap (λ (o : Outcomes). record w { outcomes = o }) (sym (unkept k u x.0 fields x.1 x.2 s.1 refusal w.outcomes)) ∙ ap (λ f. kept f s.1 refusal w) (sym x.3)
 
 -- it was read, received, and its outcome kept
-pub was_kept : {R : Type 0} (g : Relays R) {k : Kind} {V : Type 0} (r : Reads k V) (v m w : EngineView R) (c : ℕ) (fields left : List ℕ) (p : V)
-    (refusal : Option StepError) → composite_at r.reader fields ≡ Some (p, left) → (h : SomeReceivedFrame g v c (r.says p left).0 refusal m) →
-    w ≡ kept (Some (record { channel = c; body = (r.says p left).0 })) h.0 refusal m → FieldsKept g v c (Some k) fields refusal w
-was_kept g r v m w c fields left p refusal a h e =
+pub was_kept : {R : Type 0} (g : Relays R) {k : Kind} {V : Type 0} (r : Reads k V) (v w : EngineView R) (c : ℕ) (fields left : List ℕ) (p : V)
+    (refusal : Option StepError) → composite_at r.reader fields ≡ Some (p, left) → BodyKept g v c (r.says p left).0 refusal w → FieldsKept g v c (Some k) fields refusal w
+was_kept g r v w c fields left p refusal a h =
     let b = (r.says p left).0 in
     let rest = (r.says p left).1 in
     let is = r.is_body b fields rest (fields_found r.IsText r.reader r.law r.says fields left p b rest a refl) in
-    (Some (record { channel = c; body = b }), h.0, h.1, m, inr (b, rest, is, refl, h.2), e)
+    (Some (record { channel = c; body = b }), h.0, h.1, h.2, inr (b, rest, is, refl, h.3), h.4)
 
 -- it was read, and memory for the copy of its error was refused
 pub not_copied : {R : Type 0} (g : Relays R) {k : Kind} {V : Type 0} (r : Reads k V) (v : EngineView R) (c : ℕ) (fields left : List ℕ) (p : V) →

@@ -1,10 +1,9 @@
--- A frame whose fields were read goes along its channel's route, and what its session hands out waits where the engine keeps it.
+-- A body that was read goes along its channel's route, and what its session hands out waits where the engine keeps it.
 use Rattle.std.proofs.Common.{◌≡◌, ◌∙◌, ℕ, List, [], Option, Some, None, ap, sym, refl, nat_eq}
 use Rattle.std.specs.FinMap.{get}
 use Rattle.std.specs.Map.{lookup, set_value}
-use Rattle.amqp_values.specs.Composite.{composite_at}
-use Rattle.amqp_types.specs.declared.performatives.kind.Kind.{Kind}
 use Rattle.amqp_frames.specs.declared.frame.Frame.{Frame}
+use Rattle.amqp_frames.specs.declared.frame.FrameBody.{FrameBody}
 use Rattle.amqp_session.specs.Relay.{Relays}
 use Rattle.amqp_session.specs.Session.{SessionModel}
 use Rattle.amqp_session.specs.History as session
@@ -16,16 +15,14 @@ use Rattle.amqp_engine.specs.Kept.{Outcomes, Wishes}
 use Rattle.amqp_engine.specs.EngineView.{EngineView, views_of}
 use Rattle.amqp_engine.specs.Calls.{Calls}
 use Rattle.amqp_engine.specs.Sessions.{Answered, Reaches}
-use Rattle.amqp_engine.specs.Engine.{ReceivedFrame, FieldsStep}
-use Rattle.amqp_engine.proofs.KindFieldsLemmas.{Reads}
-use Rattle.amqp_engine.proofs.ReceivedFieldsLemmas.{was_read}
+use Rattle.amqp_engine.specs.Engine.{ReceivedFrame}
+use Rattle.amqp_engine.specs.Inner.Taken.{BodyStep}
 use Rattle.amqp_engine.proofs.SameEngineLemmas.{parts}
 use Rattle.amqp_engine.proofs.AskedSessionLemmas.{reaches, reaches_unknown, reaches_none}
 
-module _ {R V : Type 0} (g : Relays R) {k : Kind} (r : Reads k V) (asks : Calls R) (v : EngineView R) (c : ℕ) (fields left : List ℕ) (p : V)
-    (read : composite_at r.reader fields ≡ Some (p, left))
+module _ {R : Type 0} (g : Relays R) (asks : Calls R) (v : EngineView R) (c : ℕ) (b : FrameBody)
     (carry : (refusal : Option StepError) (w : EngineView R) (reached : Option ℕ) (calls : List (session.SessionCall R)) → Reaches g (RouteStep v.connection c) v asks reached calls refusal w
-    → ReceivedFrame g v c (r.says p left).0 reached calls refusal w) where
+    → ReceivedFrame g v c b reached calls refusal w) where
   -- what an engine finds that is the same
   route : (u : EngineView R) (n : Option ℕ) → u ≡ v → get u.connection.session_by_incoming_channel c ≡ n → get v.connection.session_by_incoming_channel c ≡ n
   route u n same found = sym (ap (λ (x : EngineView R). get x.connection.session_by_incoming_channel c) same) ∙ found
@@ -34,25 +31,22 @@ module _ {R V : Type 0} (g : Relays R) {k : Kind} (r : Reads k V) (asks : Calls 
   there u same = ap (λ (x : EngineView R). x.connection) same
 
   -- the channel has no route
-  pub unrouted : (u : EngineView R) → u ≡ v → get u.connection.session_by_incoming_channel c ≡ None → FieldsStep g v c (Some k) fields (Some (Connection not_found)) v
+  pub unrouted : (u : EngineView R) → u ≡ v → get u.connection.session_by_incoming_channel c ≡ None → BodyStep g v c b (Some (Connection not_found)) v
   unrouted u same none =
-      was_read g r v v c fields left p _ read
       (None, [], carry _ _ _ _ (reaches_none g (RouteStep v.connection c) asks v v v.connection not_found _ refl (route u None same none, refl, refl) refl))
 
   -- the session that it leads to is not there
   pub unknown : {gone : Numbers} {o : Outcomes} {q : Wishes} (j : ConnectionView) (es es' : List (ℕ × SessionModel R)) (limit n : ℕ) (fs : List Frame) → parts gone o q j es limit fs ≡ v
-      → get j.session_by_incoming_channel c ≡ Some n → lookup (nat_eq n) (views_of es) ≡ None → es' ≡ es → FieldsStep g v c (Some k) fields (Some NoSession) (parts gone o q j es' limit fs)
+      → get j.session_by_incoming_channel c ≡ Some n → lookup (nat_eq n) (views_of es) ≡ None → es' ≡ es → BodyStep g v c b (Some NoSession) (parts gone o q j es' limit fs)
   unknown {gone = gone} {o = o} {q = q} j es es' limit n fs same found none stays =
       let u = parts gone o q j es limit fs in
-      was_read g r v _ c fields left p _ read
       (Some n, [], carry _ _ _ _ (reaches_unknown g (RouteStep v.connection c) asks v j j es es' limit n fs same (route u (Some n) same found, there u same) none stays))
 
   -- that session took it
   pub handed : {gone : Numbers} {o : Outcomes} {q : Wishes} (j : ConnectionView) (es es' : List (ℕ × SessionModel R)) (limit n : ℕ) (fs waiting frames : List Frame)
       (before after : SessionModel R) (refusal : Option StepError) → parts gone o q j es limit fs ≡ v → get j.session_by_incoming_channel c ≡ Some n
       → lookup (nat_eq n) (views_of es) ≡ Some before.view → Answered g before.view asks refusal frames after.view → waiting ≡ frames → es' ≡ set_value (nat_eq n) es after
-      → FieldsStep g v c (Some k) fields refusal (parts gone o q j es' limit waiting)
+      → BodyStep g v c b refusal (parts gone o q j es' limit waiting)
   handed {gone = gone} {o = o} {q = q} j es es' limit n fs waiting frames before after refusal same found known a out set =
       let u = parts gone o q j es limit fs in
-      was_read g r v _ c fields left p _ read
       (Some n, a.calls, carry _ _ _ _ (reaches g (RouteStep v.connection c) asks v j j es es' limit n fs waiting frames before after refusal same (route u (Some n) same found, there u same) known a out set))

@@ -6,3 +6,4 @@ pub mod Headline
 pub mod Flushing
 pub mod Places
 pub mod Putting
+pub mod Taken

@@ -16,8 +16,10 @@ pub mod Views
 pub mod Stepped
 pub mod Ran
 pub mod RunInto
+pub mod RunFrame
 pub mod TwoRuns
 pub mod OneFrame
+pub mod Numbers
 pub mod Handles
 pub mod HandledRun
 pub mod Inner

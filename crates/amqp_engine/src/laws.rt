@@ -10,6 +10,7 @@ ghost use Rattle.amqp_engine.specs.Headline.{Headline};
 ghost use Rattle.amqp_engine.specs.Views.{Stands};
 ghost use Rattle.amqp_engine.specs.TwoRuns.{RunsIntoAreOne, TwoRunsAreOne, WishedRunsAreOne};
 ghost use Rattle.amqp_engine.specs.OneFrame.{TransfersAreFrames};
+ghost use Rattle.amqp_engine.specs.Numbers.{EngineKnows, EngineShows};
 
 use amqp_session::{LinkRelay, laws as session};
 
@@ -66,5 +67,17 @@ pub fn law_of_runs_into<R: LinkRelay>()
 pub fn law_of_transfer_frames<R: LinkRelay>()
     ensures { TransfersAreFrames R.gives }
 {
+    law_of_views::<R>();
+}
+
+/// Of each session of an engine: the number of a delivery is known as its first transfer is accepted, also while that is held back. It is how
+/// many deliveries of the session were accepted before, modulo 2^32. The frame that goes out for the transfer, by whatever input and however
+/// much later, carries it, also where the session is forgotten since. And a session that is there shows it before it takes the transfer:
+/// [`Session::next_delivery_number`](amqp_session::Session::next_delivery_number) (AMQP 1.0 part 2, section 2.6.12).
+pub fn law_of_engine_numbers<R: LinkRelay>()
+    ensures known { EngineKnows R.gives }
+    ensures shown { EngineShows R.gives }
+{
+    law_of_histories::<R>();
     law_of_views::<R>();
 }

@@ -22,6 +22,8 @@ mod given;
 #[cfg(test)]
 mod links;
 #[cfg(test)]
+mod read_once;
+#[cfg(test)]
 mod running;
 #[cfg(test)]
 mod same;

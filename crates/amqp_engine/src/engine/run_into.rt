@@ -116,7 +116,7 @@ impl<R: LinkRelay> Engine<R> {
     }
 
     /// Sends what waits. A frame that does not fit is handed back as one of this place.
-    fn send_out(
+    pub(super) fn send_out(
         &mut self,
         place: Option<usize>,
         out: &mut SendBuffer,

@@ -1,13 +1,5 @@
-use Rattle.std.proofs.Common.{sym, ap, ◌∙◌}
-use Rattle.std.specs.Option.{option_copied_mut}
-use Rattle.std.specs.HashMap.{HashMap}
-use Rattle.amqp_engine.specs.EngineView.{EngineView}
-use Rattle.amqp_engine.specs.Inner.Calls.{ReceivedAttachCalls}
 use Rattle.amqp_engine.proofs.KindFieldsLemmas.{attach_fields}
-use Rattle.amqp_engine.proofs.ReceivedFieldsLemmas.{unread}
-use Rattle.amqp_engine.proofs.RoutedFrameLemmas.{unrouted, unknown, handed}
-use Rattle.amqp_engine.proofs.RouteLemmas.{route_found, route_missing}
-use Rattle.amqp_engine.proofs.SessionListLemmas.{viewed_some, viewed_none, seated_set}
+use Rattle.amqp_engine.proofs.ReceivedFieldsLemmas.{unread, was_read}
 use Rattle.amqp_engine.proofs.engine.Engine.receive_attach.Goals as goal
 
 pub returns-in_err-attach : goal.returns-in_err-attach
@@ -15,30 +7,6 @@ returns-in_err-attach g c =
     unread g.R.LinkRelay.gives attach_fields c.args.self.now c.args.channel.0 c.args.fields c.read_list.new.bytes c.in_err-attach.field-0.0
     c.from_residual.result c.in_err-attach.ensures c.from_residual.ensures.1
 
-pub returns-in_default : goal.returns-in_default
-returns-in_default g c =
-    unrouted g.R.LinkRelay.gives attach_fields (ReceivedAttachCalls c.in_ok-attach.attach) c.args.self.now c.args.channel.0 c.args.fields c.read_list.new.bytes c.in_ok-attach.attach
-    c.in_ok-attach.ensures (λ refusal w reached calls h. h)
-    _ c.self.view_is (route_missing _ _ c.session_tx_by_incoming_channel.ensures c.in_default.is)
-
-pub returns-in_default-get_mut : goal.returns-in_default-get_mut
-returns-in_default-get_mut g c =
-    unknown g.R.LinkRelay.gives attach_fields (ReceivedAttachCalls c.in_ok-attach.attach) c.args.self.now c.args.channel.0 c.args.fields c.read_list.new.bytes c.in_ok-attach.attach
-    c.in_ok-attach.ensures (λ refusal w reached calls h. h)
-    _ _ _ _ c.in-Some.number.0 _ c.self.view_is (route_found _ _ c.in-Some.number c.session_tx_by_incoming_channel.ensures c.in-Some.is)
-    (viewed_none c.in-Some.number.0 c.self.inside.sessions.entries (sym c.get_mut.ensures.value ∙ ap option_copied_mut c.in_default-get_mut.is))
-    (ap (λ (m : HashMap _ _ _). m.entries) c.get_mut.follows.holds-at-none)
-
 pub returns : goal.returns
 returns g c =
-    handed g.R.LinkRelay.gives attach_fields (ReceivedAttachCalls c.in_ok-attach.attach) c.args.self.now c.args.channel.0 c.args.fields c.read_list.new.bytes c.in_ok-attach.attach
-    c.in_ok-attach.ensures (λ refusal w reached calls h. h)
-    _ _ _ _ c.in-Some.number.0 _ _ _ c.in-Some-get_mut.session.now c.attach_received.new.session _
-    c.self.view_is (route_found _ _ c.in-Some.number c.session_tx_by_incoming_channel.ensures c.in-Some.is)
-    (viewed_some c.in-Some.number.0 c.self.inside.sessions.entries c.in-Some-get_mut.session.now (sym c.in-Some-get_mut.ensures.value))
-    c.attach_received.ensures
-    (ap (λ (x : EngineView _). x.waiting) c.self.view_is ∙ c.requires)
-    (c.get_mut.follows.holds c.attach_received.new.session)
-
-pub invariant_of-self-2 : goal.invariant_of-self-2
-invariant_of-self-2 g c = (seated_set c.self.inside.sessions.entries _ c.in-Some.number.0 c.attach_received.new.session c.self.inside.kept.places (c.get_mut.follows.holds c.attach_received.new.session) c.self.invariant.0, c.self.invariant.1)
+    was_read g.R.LinkRelay.gives attach_fields c.args.self.now c.on_attach.new.self c.args.channel.0 c.args.fields c.read_list.new.bytes c.in_ok-attach.attach _ c.in_ok-attach.ensures c.on_attach.ensures

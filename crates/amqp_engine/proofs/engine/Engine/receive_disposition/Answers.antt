@@ -1,43 +1,13 @@
-use Rattle.std.proofs.Common.{sym, ap, ◌∙◌, refl}
-use Rattle.std.specs.Option.{option_copied_mut}
-use Rattle.std.specs.HashMap.{HashMap}
-use Rattle.amqp_engine.specs.Calls.{ReceivedDispositionCalls}
+use Rattle.std.proofs.Common.{refl}
 use Rattle.amqp_engine.proofs.KindFieldsLemmas.{disposition_fields}
-use Rattle.amqp_engine.proofs.ReceivedFieldsLemmas.{unread}
-use Rattle.amqp_engine.proofs.RoutedFrameLemmas.{unrouted, unknown, handed}
-use Rattle.amqp_engine.proofs.RouteLemmas.{route_found, route_missing}
-use Rattle.amqp_engine.proofs.SessionListLemmas.{viewed_some, viewed_none, seated_set}
+use Rattle.amqp_engine.proofs.ReceivedFieldsLemmas.{unread, was_read}
 use Rattle.amqp_engine.proofs.engine.Engine.receive_disposition.Goals as goal
 
-pub returns-in-Err : goal.returns-in-Err
-returns-in-Err g c =
-    unread g.R.LinkRelay.gives disposition_fields c.args.self.now c.args.channel.0 c.args.fields c.read_list.new.bytes c.in-Err.error
-    c.unread.new.outcome c.in-Err.ensures (rw c.unread.ensures refl)
-
-pub returns-in_default : goal.returns-in_default
-returns-in_default g c =
-    rw c.unrouted.ensures (unrouted g.R.LinkRelay.gives disposition_fields (ReceivedDispositionCalls c.in-Ok.disposition) c.args.self.now c.args.channel.0 c.args.fields c.read_list.new.bytes c.in-Ok.disposition
-    c.in-Ok.ensures (λ refusal w reached calls h. h)
-    _ c.self.view_is (route_missing _ _ c.session_tx_by_incoming_channel.ensures c.in_default.is))
-
-pub returns-in_default-get_mut : goal.returns-in_default-get_mut
-returns-in_default-get_mut g c =
-    rw c.no_session.ensures (unknown g.R.LinkRelay.gives disposition_fields (ReceivedDispositionCalls c.in-Ok.disposition) c.args.self.now c.args.channel.0 c.args.fields c.read_list.new.bytes c.in-Ok.disposition
-    c.in-Ok.ensures (λ refusal w reached calls h. h)
-    _ _ _ _ c.in-Some.number.0 _ c.self.view_is (route_found _ _ c.in-Some.number c.session_tx_by_incoming_channel.ensures c.in-Some.is)
-    (viewed_none c.in-Some.number.0 c.self.inside.sessions.entries (sym c.get_mut.ensures.value ∙ ap option_copied_mut c.in_default-get_mut.is))
-    (ap (λ (m : HashMap _ _ _). m.entries) c.get_mut.follows.holds-at-none))
+pub returns-in-Ok : goal.returns-in-Ok
+returns-in-Ok g c =
+    was_read g.R.LinkRelay.gives disposition_fields c.args.self.now c.on_disposition.new.self c.args.channel.0 c.args.fields c.read_list.new.bytes c.in-Ok.disposition _ c.in-Ok.ensures c.on_disposition.ensures
 
 pub returns : goal.returns
 returns g c =
-    handed g.R.LinkRelay.gives disposition_fields (ReceivedDispositionCalls c.in-Ok.disposition) c.args.self.now c.args.channel.0 c.args.fields c.read_list.new.bytes c.in-Ok.disposition
-    c.in-Ok.ensures (λ refusal w reached calls h. h)
-    _ _ _ _ c.in-Some.number.0 _ c.disposition_received.new.waiting _ c.in-Some-get_mut.session.now c.disposition_received.new.session _
-    c.self.view_is (route_found _ _ c.in-Some.number c.session_tx_by_incoming_channel.ensures c.in-Some.is)
-    (viewed_some c.in-Some.number.0 c.self.inside.sessions.entries c.in-Some-get_mut.session.now (sym c.in-Some-get_mut.ensures.value))
-    c.disposition_received.ensures
-    refl
-    (c.get_mut.follows.holds c.disposition_received.new.session)
-
-pub invariant_of-self-2 : goal.invariant_of-self-2
-invariant_of-self-2 g c = (seated_set c.self.inside.sessions.entries _ c.in-Some.number.0 c.disposition_received.new.session c.self.inside.kept.places (c.get_mut.follows.holds c.disposition_received.new.session) c.self.invariant.0, c.self.invariant.1)
+    unread g.R.LinkRelay.gives disposition_fields c.args.self.now c.args.channel.0 c.args.fields c.read_list.new.bytes c.in-Err.error
+    c.unread.new.outcome c.in-Err.ensures (rw c.unread.ensures refl)

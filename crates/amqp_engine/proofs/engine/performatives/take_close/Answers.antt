@@ -2,7 +2,7 @@ use Rattle.std.proofs.Common.{◌∙◌, ap}
 use Rattle.amqp_types.specs.Close.{CloseModel}
 use Rattle.amqp_engine.specs.ByHistory.{remote_reason}
 use Rattle.amqp_engine.proofs.RecordedStopLemmas.{recorded_so}
-use Rattle.amqp_engine.proofs.engine.received.take_close.Goals as goal
+use Rattle.amqp_engine.proofs.engine.performatives.take_close.Goals as goal
 
 pub returns : goal.returns
 returns c = (
