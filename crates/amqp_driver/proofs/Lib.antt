@@ -1,0 +1,6 @@
+pub mod RouteLemmas
+pub mod RunLemmas
+pub mod TakingLemmas
+pub mod CopiedLemmas
+pub mod PayloadLemmas
+pub mod LawLemmas

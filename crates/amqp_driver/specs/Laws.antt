@@ -1,0 +1,33 @@
+-- Part: other calls.
+-- What the frames of a call are: entries by which a legal history goes on, and the bytes of a payload at their place.
+use Rattle.std.specs.Prelude.{◌≡◌, ◌⊎◌, ℕ, List, ◌++◌, Option, Some, map, take, drop, length}
+use Rattle.amqp_types.specs.declared.states.ConnectionState.{ConnectionState}
+use Rattle.amqp_types.specs.Open.{OpenModel}
+use Rattle.amqp_types.specs.Transfer.{TransferModel}
+use Rattle.amqp_session.specs.Relay.{Relays}
+use Rattle.amqp_frames.specs.declared.frame.Frame.{Frame}
+use Rattle.amqp_frames.specs.declared.frame.FrameBody.TheVariants.{Transfer}
+use Rattle.amqp_engine.specs.Entry.{Entry}
+use Rattle.amqp_engine.specs.Legal.{Legal}
+use Rattle.amqp_engine.specs.Headline.{Headline}
+use Rattle.amqp_driver.specs.declared.record.Record.{Record}
+use Rattle.amqp_driver.specs.Driver.{DriverView, Runs, NotRun}
+use Rattle.amqp_driver.specs.Taking.{Answered, RunsEach}
+use Rattle.amqp_driver.specs.Told.{record_of}
+
+abbrev pub entries_of : {R : Type 0} → List (Answered R) → List (Entry R)
+entries_of answered = map (λ a. a.entry) answered
+
+-- Whatever legal history came before, it goes on by the entries of these frames, and all of it keeps the headline; also where memory was refused
+-- for the frame after them.
+abbrev pub HistoryGoesOn : {R : Type 0} → Relays R → Type 0
+HistoryGoesOn g = (limit : ℕ) (d k d' : DriverView _) (answered : List (Answered _)) → RunsEach g limit d answered k → (d' ≡ k) ⊎ NotRun g k d'
+    → (s : ConnectionState) (o : OpenModel) (H : List (Entry _)) → Legal g s o H d.engine
+    → Legal g s o (H ++ entries_of answered) d'.engine × Headline s o (H ++ entries_of answered)
+
+-- The payload of a transfer stands in the input where its record says, and has so many bytes.
+abbrev pub PayloadIsThere : {R : Type 0} → Relays R → Type 0
+PayloadIsThere g = (d d' : DriverView _) (input : List ℕ) (at size : ℕ) (e : Entry _) (r : Record) (f : Frame) (t : TransferModel) (payload : List ℕ)
+    → length (take size (drop at input)) ≡ size → Runs g d (drop 4 (take size (drop at input))) e d' → record_of d.engine at size e ≡ Some r
+    → e.received ≡ Some f → f.body ≡ Transfer t payload
+    → (length payload ≡ r.payload) × (take r.payload (drop r.payload_at input) ≡ payload)

@@ -1,0 +1,10 @@
+pub mod Driver
+pub mod Front
+pub mod Laws
+pub mod Outcome
+pub mod Plain
+pub mod Record
+pub mod Refusals
+pub mod Tag
+pub mod Taking
+pub mod Told

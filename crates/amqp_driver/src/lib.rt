@@ -1,0 +1,27 @@
+//! A driver of a connection: received bytes go in, records and bytes to send come out.
+//!
+//! [`Driver::take`] takes whole frames out of the caller's bytes, runs each once, and writes what it says as a [`Record`] of 96 bytes, by which a
+//! program, also one in another language, sees what came without reading frames itself. Payloads stay in the caller's bytes, where the records
+//! say. [`PlainRelay`] is the relay of links whose owner reads records.
+#![tactic(auto)]
+
+mod copied;
+mod driver;
+pub mod flag;
+mod front;
+pub mod kind;
+pub mod laws;
+mod outcome;
+mod plain;
+mod record;
+mod refusals;
+mod saying;
+mod status;
+mod tag;
+mod told;
+
+pub use driver::Driver;
+pub use plain::PlainRelay;
+pub use record::{NONE, Record};
+pub use refusals::refusal_number;
+pub use status::{Status, Taken};

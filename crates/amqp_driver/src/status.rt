@@ -1,0 +1,30 @@
+//! What a call took, and why it stopped.
+
+ghost use Rattle.std.specs.Prelude.{◌≡◌};
+
+/// Why a call stopped.
+#[derive(Clone, Copy, Debug, PartialEq, Eq)]
+pub enum Status {
+    /// What is left is no whole frame.
+    Done,
+    /// A whole frame is left, and there is no place for its record.
+    Full,
+    /// A size stands there that no frame may have: below 8, or above this side's max-frame-size (AMQP 1.0 part 2, sections 2.3.1 and 2.7.1).
+    BadSize,
+    /// Memory was refused, and the next frame was not taken: a later call may take it.
+    NoMemory,
+}
+
+/// What a call took.
+#[derive(Clone, Copy, Debug, PartialEq, Eq)]
+pub struct Taken {
+    /// Why it stopped.
+    pub status: Status,
+    /// How many bytes were taken: whole frames.
+    pub taken: usize,
+    /// How many records were written.
+    pub written: usize,
+    /// Where the status is `Done`: how many bytes the next frame has, those that are there and its size counted, and 4 where its size is not
+    /// whole. Else 0.
+    pub wanted: usize,
+}

@@ -1,0 +1,149 @@
+//! What is told of a frame, by what it says and by the engine's answer.
+
+ghost use Rattle.std.specs.Prelude.{◌≡◌};
+ghost use Rattle.std.specs.Option.{option_map};
+ghost use Rattle.amqp_connection.specs.Connection.{refusal_of};
+ghost use Rattle.amqp_driver.specs.Driver.{is_passed_on, told_of};
+ghost use Rattle.amqp_driver.specs.Record.{number_or, none};
+ghost use Rattle.amqp_driver.specs.Told.{is_over, is_wanted, placed, refused_kind, refused_record};
+
+use crate::kind;
+use crate::record::{NONE, Record};
+use crate::refusals::refusal_number;
+use amqp_connection::{ConnectionStateError, SessionNo};
+use amqp_engine::StepError;
+use amqp_session::{OutputHandle, SessionInnerError, SessionStateError};
+
+/// What is told of one frame.
+#[derive(Clone, Copy)]
+pub(crate) enum Told {
+    /// Memory was refused: it was not taken.
+    NoMemory,
+    /// It was taken, and says nothing.
+    Nothing,
+    /// It was taken.
+    One(Record),
+}
+
+/// What is told of a frame, by the engine's answer, by what it says, and by the session and the link that stood there for it before.
+pub(crate) fn told_of(
+    answer: Option<Result<(), StepError>>,
+    route: Option<SessionNo>,
+    link: Option<OutputHandle>,
+    silent: bool,
+    said: Record,
+) -> Told
+    ensures { result ≡ told_of answer (option_map (λ n. n.0) route) link silent said }
+{
+    match answer {
+        None => Told::NoMemory,
+        Some(Ok(())) => {
+            if silent {
+                Told::Nothing
+            } else {
+                Told::One(placed(route, link, said))
+            }
+        }
+        Some(Err(error)) => {
+            let placed = if is_passed_on(&error) {
+                placed(route, link, said)
+            } else {
+                placed(None, None, said)
+            };
+            let record = refused(&error, placed);
+            drop(error);
+            Told::One(record)
+        }
+    }
+}
+
+/// Whether the connection passed the frame on, which was refused so.
+fn is_passed_on(error: &StepError) -> bool
+    ensures { result ≡ is_passed_on error.now }
+{
+    match error {
+        StepError::Connection(_) => false,
+        _ => true,
+    }
+}
+
+/// A record of this session and this link.
+fn placed(reached: Option<SessionNo>, link: Option<OutputHandle>, said: Record) -> Record
+    ensures { result ≡ placed (option_map (λ n. n.0) reached) link said }
+{
+    Record {
+        session: session_or_none(reached),
+        output: output_or_none(link),
+        ..said
+    }
+}
+
+fn session_or_none(reached: Option<SessionNo>) -> u32
+    ensures { result ≡ number_or none (option_map (λ n. n.0) reached) }
+{
+    match reached {
+        Some(number) => number.0,
+        None => NONE,
+    }
+}
+
+fn output_or_none(link: Option<OutputHandle>) -> u32
+    ensures { result ≡ number_or none (option_map (λ h. h.0) link) }
+{
+    match link {
+        Some(handle) => handle.0,
+        None => NONE,
+    }
+}
+
+/// The record of a frame that was refused so.
+fn refused(error: &StepError, said: Record) -> Record
+    ensures { result ≡ refused_record error.now said }
+{
+    if is_over(said.kind, error) {
+        return said;
+    }
+    Record {
+        kind: refused_kind(said.kind, error),
+        refusal: refusal_number(error),
+        ..said
+    }
+}
+
+fn refused_kind(said: u8, error: &StepError) -> u8
+    ensures { result ≡ refused_kind said error.now }
+{
+    if is_wanted(said, error) {
+        kind::ATTACH_WANTED
+    } else {
+        kind::REFUSED
+    }
+}
+
+/// Whether the refusal says how the peer ended, of an End, or how it closed, of a Close: those were taken.
+fn is_over(said: u8, error: &StepError) -> bool
+    ensures { result ≡ is_over said error.now }
+{
+    match error {
+        StepError::SessionState(SessionStateError::RemoteEnded)
+        | StepError::SessionState(SessionStateError::RemoteEndedWithError(_)) => said
+            == kind::ENDED,
+        StepError::ConnectionState(ConnectionStateError::RemoteClosed)
+        | StepError::ConnectionState(ConnectionStateError::RemoteClosedWithError(_)) => {
+            said == kind::CLOSED
+        }
+        _ => false,
+    }
+}
+
+/// Whether it is the refusal of an Attach whose name no link waits for.
+fn is_wanted(said: u8, error: &StepError) -> bool
+    ensures { result ≡ is_wanted said error.now }
+{
+    match error {
+        StepError::Session(SessionInnerError::RemoteAttachingLinkNameNotFound) => {
+            said == kind::ATTACHED
+        }
+        _ => false,
+    }
+}

@@ -1,0 +1,13 @@
+//! Tests of the driver by public calls alone: a recorded connection, in parts of different sizes, and why a call stops.
+#![tactic(auto)]
+
+#[cfg(test)]
+mod given;
+#[cfg(test)]
+mod received;
+#[cfg(test)]
+mod records;
+#[cfg(test)]
+mod same;
+#[cfg(test)]
+mod stops;
