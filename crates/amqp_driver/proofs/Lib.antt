@@ -4,3 +4,5 @@ pub mod TakingLemmas
 pub mod CopiedLemmas
 pub mod PayloadLemmas
 pub mod LawLemmas
+pub mod SendingLemmas
+pub mod FlushLemmas

@@ -19,7 +19,6 @@ use Rattle.amqp_engine.specs.EngineView.{EngineView}
 use Rattle.amqp_engine.specs.Engine.{InputStep, Received, Step}
 use Rattle.amqp_engine.specs.Entry.{Entry}
 use Rattle.amqp_engine.specs.History.{Chain}
-use Rattle.amqp_engine.specs.Promise.{inputs_of}
 use Rattle.amqp_engine.specs.RunInto.{RanInto}
 use Rattle.amqp_engine.specs.RunFrame.{AnswersRead, RanFrame, ReadFrom, RunsFrame}
 use Rattle.amqp_driver.specs.declared.record.Record.{Record}
@@ -30,12 +29,6 @@ use Rattle.amqp_driver.specs.Told.{is_empty_body, is_silent, link_in, output_of,
 use Rattle.amqp_driver.proofs.RouteLemmas.{none_reached, reached_is}
 
 -- ---- the entry of a run of one frame
-
-first_input : {R : Type 0} (e : Entry R) (i : Input R) → i ∷ [] ≡ inputs_of (e ∷ []) ++ [] → e.input ≡ i
-first_input e i h = let k : i ∷ [] ≡ e.input ∷ [] = h in cc
-
-input_is : {R : Type 0} (es : List (Entry R)) (e : Entry R) (i : Input R) → i ∷ [] ≡ inputs_of es ++ [] → es ≡ e ∷ [] → e.input ≡ i
-input_is es e i h is = first_input e i (subst (λ (xs : List (Entry _)). i ∷ [] ≡ inputs_of xs ++ []) is h)
 
 -- What the engine did with the bytes, when nothing waited any more; its connection was as before.
 pub record Did {R : Type 0} (g : Relays R) (v : EngineView R) (bytes : List ℕ) (e : Entry R) : Type 0 where
@@ -49,10 +42,9 @@ did_chain : {R : Type 0} (g : Relays R) (v w : EngineView R) (bytes : List ℕ) 
 did_chain g v w bytes e i c = record { from = c.0; to = c.1; same = c.3.connection_is; step = c.4; input_is = i }
 
 pub did : {R : Type 0} (g : Relays R) (v w : EngineView R) (bytes : List ℕ) (read : Result Frame Error) (refused : Option StepError) (out out' : List ℕ)
-    (returned returned' : List Refusal) (r : RanFrame g v bytes read refused out returned w out' returned') → Did g v bytes r.entry
+    (returned returned' : List Refusal) (r : RanFrame g v bytes read refused out returned w out' returned') → Did g v bytes r.one.entry
 did g v w bytes read refused out out' returned returned' r =
-    did_chain g v w bytes r.entry (input_is r.ran.entries r.entry (kind.Received bytes) r.ran.promise.taken r.entry_is)
-    (subst (λ (es : List (Entry _)). Chain g v es w) r.entry_is r.ran.steps)
+    did_chain g v w bytes r.one.entry r.one.input_is (subst (λ (es : List (Entry _)). Chain g v es w) r.one.entry_is r.one.ran.steps)
 
 by_received : {R : Type 0} (g : Relays R) (u m : EngineView R) (bytes : List ℕ) (received : Option Frame) (reached : Option ℕ)
     (calls : List (session.SessionCall R)) (refusal : Option StepError) (f : Frame) → Received g u bytes received reached calls refusal m → received ≡ Some f
@@ -139,20 +131,23 @@ told_by_record g d d' bytes at size e (Some x) r is = (e, r, is)
 
 runs_of : {R : Type 0} (g : Relays R) (d d' : DriverView R) (bytes : List ℕ) (read : Result Frame Error) (refusal : Option StepError) (returned : List Refusal)
     → ReadFrom bytes read → (r : RanFrame g d.engine bytes read refusal d.to_send [] d'.engine d'.to_send returned) → d'.unfit ≡ counted d.unfit returned
-    → Runs g d bytes r.entry d'
+    → Runs g d bytes r.one.entry d'
 runs_of g d d' bytes read refusal returned from r u = record {
   read = read;
   decoded = from;
   returned = returned;
   ran = record {
-    answers = r.answers;
-    ran = r.ran;
-    entry = r.entry;
-    entry_is = r.entry_is;
-    refusal_is = refl;
+    one = record {
+      answers = r.one.answers;
+      ran = r.one.ran;
+      entry = r.one.entry;
+      entry_is = r.one.entry_is;
+      input_is = r.one.input_is;
+      refusal_is = refl;
+      sent = r.one.sent;
+      back = r.one.back;
+    };
     received_is = r.received_is;
-    sent = r.sent;
-    back = r.back;
   };
   entry_is = refl;
   unfit_is = u;
@@ -165,9 +160,9 @@ tells_frame g d d' f at size None (inl was, sends) bytes from = (was, inr sends)
 tells_frame g d d' f at size None (inr is, sends) bytes from = absurd cc
 tells_frame g d d' f at size (Some a) r bytes from =
     let ran : RanFrame g d.engine bytes (Ok f) (refusal_of a) d.to_send [] d'.engine d'.to_send r.0 = r.2 bytes from in
-    told_by_record g d d' bytes at size ran.entry _ (runs_of g d d' bytes (Ok f) (refusal_of a) r.0 from ran r.1)
-    (told_frame g d.engine bytes at size ran.entry f (refusal_of a)
-    (did g d.engine d'.engine bytes (Ok f) (refusal_of a) d.to_send d'.to_send [] r.0 ran) ran.refusal_is ran.received_is)
+    told_by_record g d d' bytes at size ran.one.entry _ (runs_of g d d' bytes (Ok f) (refusal_of a) r.0 from ran r.1)
+    (told_frame g d.engine bytes at size ran.one.entry f (refusal_of a)
+    (did g d.engine d'.engine bytes (Ok f) (refusal_of a) d.to_send d'.to_send [] r.0 ran) ran.one.refusal_is ran.received_is)
 
 pub tells_unread : {R : Type 0} (g : Relays R) (d d' : DriverView R) (x : Error) (at size : ℕ) (answer : Option (Result (Unit {0}) StepError))
     → RunsRead g d (Err x) answer d' → TellsRead g d (Err x) at size (told_of answer None None false (bare_record at size)) d'
@@ -179,9 +174,9 @@ tells_unread g d d' x at size None (inr is, sends) bytes from = (refused_as_read
     refused_as_read bytes y e d = absurd cc
 tells_unread g d d' x at size (Some a) r bytes from =
     let ran : RanFrame g d.engine bytes (Err x) (refusal_of a) d.to_send [] d'.engine d'.to_send r.0 = r.2 bytes from in
-    told_by_record g d d' bytes at size ran.entry _ (runs_of g d d' bytes (Err x) (refusal_of a) r.0 from ran r.1)
-    (told_unread g d.engine bytes at size ran.entry (refusal_of a)
-    (did g d.engine d'.engine bytes (Err x) (refusal_of a) d.to_send d'.to_send [] r.0 ran) ran.refusal_is ran.received_is)
+    told_by_record g d d' bytes at size ran.one.entry _ (runs_of g d d' bytes (Err x) (refusal_of a) r.0 from ran r.1)
+    (told_unread g d.engine bytes at size ran.one.entry (refusal_of a)
+    (did g d.engine d'.engine bytes (Err x) (refusal_of a) d.to_send d'.to_send [] r.0 ran) ran.one.refusal_is ran.received_is)
 
 -- of whatever bytes it was read from, it is told
 pub told_of_bytes : {R : Type 0} (g : Relays R) (d d' : DriverView R) (read : Result Frame Error) (at size : ℕ) (t : Told) (bytes : List ℕ)

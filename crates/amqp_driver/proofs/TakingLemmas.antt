@@ -59,10 +59,10 @@ pub took_none : {R : Type 0} (g : Relays R) (limit : ℕ) (d : DriverView R) (in
 took_none g limit d input old =
     record { answered = []; within = omega arith; front = refl; runs = refl; count = refl; fits = omega arith; output = refl }
 
--- a record is put at the first place behind the others
-put_next : (xs : List Record) (old : List Record) (n : ℕ) (r : Record) → n ≡ length xs → n < length old → set (xs ++ drop n old) n r ≡ (xs ++ r ∷ []) ++ drop (n + 1) old
+-- one more is put at the first place behind the others
+pub put_next : {X : Type 0} (xs old : List X) (n : ℕ) (r : X) → n ≡ length xs → n < length old → set (xs ++ drop n old) n r ≡ (xs ++ r ∷ []) ++ drop (n + 1) old
 put_next xs old n r e h =
-    ap (λ (ys : List Record). set (xs ++ ys) n r) (drop-cons old n r h)
+    ap (λ (ys : List _). set (xs ++ ys) n r) (drop-cons old n r h)
     ∙ ap (λ k. set (xs ++ get_or old n r ∷ drop (suc n) old) k r) e
     ∙ set-append_seam xs (get_or old n r) (drop (suc n) old) r
     ∙ ap (λ k. xs ++ r ∷ drop k old) (sym (add-one n))

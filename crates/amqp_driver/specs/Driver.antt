@@ -40,12 +40,16 @@ pub record Runs {R : Type 0} (g : Relays R) (d : DriverView R) (frame : List ℕ
   pub decoded : ReadFrom frame read
   pub returned : List Refusal
   pub ran : RanFrame g d.engine frame read e.refusal d.to_send [] d'.engine d'.to_send returned
-  pub entry_is : ran.entry ≡ e
+  pub entry_is : ran.one.entry ≡ e
   pub unfit_is : d'.unfit ≡ counted d.unfit returned
 
 -- some of what waited in the engine is sent, and nothing else happens
 abbrev pub SendsOnly : {R : Type 0} → Relays R → DriverView R → DriverView R → Type 0
 SendsOnly g d d' = (returned : List Refusal) × RanInto g d.engine [] d.to_send [] d'.engine [] d'.to_send returned × (d'.unfit ≡ counted d.unfit returned)
+
+-- memory was refused for what waited, and nothing else happens
+abbrev pub NotTaken : {R : Type 0} → Relays R → DriverView R → DriverView R → Type 0
+NotTaken g d d' = SomeRefused × SendsOnly g d d'
 
 -- Memory was refused, and no frame was taken.
 abbrev pub NotRun : {R : Type 0} → Relays R → DriverView R → DriverView R → Type 0

@@ -1,18 +1,23 @@
 -- Part: other calls.
 -- What the frames of a call are: entries by which a legal history goes on, and the bytes of a payload at their place.
-use Rattle.std.specs.Prelude.{◌≡◌, ◌⊎◌, ℕ, List, ◌++◌, Option, Some, map, take, drop, length}
+use Rattle.std.specs.Prelude.{◌≡◌, ◌⊎◌, ℕ, true, List, [], ◌∷◌, ◌++◌, Option, Some, None, map, take, drop, length}
 use Rattle.amqp_types.specs.declared.states.ConnectionState.{ConnectionState}
 use Rattle.amqp_types.specs.Open.{OpenModel}
 use Rattle.amqp_types.specs.Transfer.{TransferModel}
+use Rattle.amqp_session.specs.History.{Made}
+use Rattle.amqp_session.specs.Numbers.{number_after}
 use Rattle.amqp_session.specs.Relay.{Relays}
 use Rattle.amqp_frames.specs.declared.frame.Frame.{Frame}
 use Rattle.amqp_frames.specs.declared.frame.FrameBody.TheVariants.{Transfer}
 use Rattle.amqp_engine.specs.Entry.{Entry}
+use Rattle.amqp_engine.specs.ByHistory.{live, of_session}
 use Rattle.amqp_engine.specs.Legal.{Legal}
 use Rattle.amqp_engine.specs.Headline.{Headline}
 use Rattle.amqp_driver.specs.declared.record.Record.{Record}
 use Rattle.amqp_driver.specs.Driver.{DriverView, Runs, NotRun}
-use Rattle.amqp_driver.specs.Taking.{Answered, RunsEach}
+use Rattle.amqp_driver.specs.Heads.{has}
+use Rattle.amqp_driver.specs.Sending.{Handled, HandlesEach}
+use Rattle.amqp_driver.specs.Taking.{Answered, RunsEach, listed}
 use Rattle.amqp_driver.specs.Told.{record_of}
 
 abbrev pub entries_of : {R : Type 0} → List (Answered R) → List (Entry R)
@@ -31,3 +36,24 @@ PayloadIsThere g = (d d' : DriverView _) (input : List ℕ) (at size : ℕ) (e :
     → length (take size (drop at input)) ≡ size → Runs g d (drop 4 (take size (drop at input))) e d' → record_of d.engine at size e ≡ Some r
     → e.received ≡ Some f → f.body ≡ Transfer t payload
     → (length payload ≡ r.payload) × (take r.payload (drop r.payload_at input) ≡ payload)
+
+-- the entries of the heads whose transfers the engine was asked for
+abbrev pub asked_entries : {R : Type 0} → List (Handled R) → List (Entry R)
+asked_entries [] = []
+asked_entries (x ∷ rest) = listed x.entry ++ asked_entries rest
+
+-- Whatever legal history came before, it goes on by the entries of these heads, and all of it keeps the headline; also where memory was refused
+-- for the transfer after them.
+abbrev pub SendsGoOn : {R : Type 0} → Relays R → Type 0
+SendsGoOn g = (d k d' : DriverView _) (handled : List (Handled _)) → HandlesEach g d handled k → (d' ≡ k) ⊎ NotRun g k d'
+    → (s : ConnectionState) (o : OpenModel) (H : List (Entry _)) → Legal g s o H d.engine
+    → Legal g s o (H ++ asked_entries handled) d'.engine × Headline s o (H ++ asked_entries handled)
+
+-- The number that is told of an accepted first transfer, wherever it stands among those of a call, is how many deliveries of its session were
+-- accepted before, modulo 2^32: the one by which the session's history knows the delivery, and that its frame carries, also where it waits.
+abbrev pub NumbersAreTold : {R : Type 0} → Relays R → Type 0
+NumbersAreTold g = (d k : DriverView _) (before after : List (Handled _)) (x : Handled _) (e : Entry _) → HandlesEach g d (before ++ x ∷ after) k
+    → x.entry ≡ Some e → e.refusal ≡ None → has x.head.flags 1 ≡ true
+    → (s : ConnectionState) (o : OpenModel) (H : List (Entry _)) → Legal g s o H d.engine
+    → (m : Made) → live s x.head.session (H ++ asked_entries before) ≡ Some m
+    → x.sent ≡ record { number = number_after (of_session x.head.session (H ++ asked_entries before)); refusal = 0 }

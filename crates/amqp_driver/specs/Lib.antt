@@ -1,10 +1,14 @@
 pub mod Driver
 pub mod Front
+pub mod Heads
 pub mod Laws
 pub mod Outcome
 pub mod Plain
 pub mod Record
 pub mod Refusals
+pub mod Requests
+pub mod Sending
+pub mod Settling
 pub mod Tag
 pub mod Taking
 pub mod Told

@@ -46,7 +46,7 @@ pub record Took {R : Type 0} (g : Relays R) (limit : ℕ) (d : DriverView R) (in
   pub fits : written ≤ length old
   pub output : new ≡ records_of 0 answered ++ drop written old
 
--- It ends for one of four reasons, each by its cause. How many bytes are wanted is said where a part of a frame is left.
+-- It ends for one of four reasons, each by its cause; `Short` is none of them. How many bytes are wanted is said where a part of a frame is left.
 abbrev pub Takes : {R : Type 0} → Relays R → ℕ → DriverView R → List ℕ → List Record → Status → ℕ → ℕ → ℕ → DriverView R → List Record → Type 0
 Takes g limit d input old status.Done taken written wanted d' new =
     Took g limit d input taken old written d' new × IsPart limit (drop taken input) × (wanted ≡ wanted_at (drop taken input))
@@ -56,3 +56,4 @@ Takes g limit d input old status.BadSize taken written wanted d' new =
     Took g limit d input taken old written d' new × IsBad limit (drop taken input) × (wanted ≡ 0)
 Takes g limit d input old status.NoMemory taken written wanted d' new = (k : DriverView _)
     × Took g limit d input taken old written k new × IsWhole limit (drop taken input) × (written < length old) × NotRun g k d' × (wanted ≡ 0)
+Takes g limit d input old status.Short taken written wanted d' new = ⊥

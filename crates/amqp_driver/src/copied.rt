@@ -5,6 +5,7 @@ ghost use Rattle.amqp_memory.specs.Refusal.{SomeRefused};
 ghost use Rattle.amqp_driver.specs.Driver.{Mirrors};
 
 use crate::front::end_of_wholes;
+use crate::head::{TransferHead, end_of_heads};
 use amqp_memory::{copy_of, part_of};
 use bytes::Bytes;
 use std::alloc::{AllocError, Global};
@@ -55,6 +56,34 @@ impl Copied {
         drop(self);
         let upto = end_of_wholes(input, end, limit, most);
         Copied::of(alloc, input, start, upto)
+    }
+
+    /// A copy that has the bytes between these places, which are those of the first of these transfers: this one where it has them, else one of
+    /// theirs and of the others', as many as there are places for.
+    pub(crate) fn holding(
+        self,
+        alloc: Global,
+        input: &[u8],
+        start: usize,
+        end: usize,
+        heads: &[TransferHead],
+        most: usize,
+    ) -> Result<Copied, AllocError>
+        requires copy { Mirrors self input.now }
+        requires from { self.start ≤ start }
+        requires order { start ≤ end }
+        requires within { end ≤ length input.now }
+        ensures copy { IfOk result (λ c. Mirrors c input.now) }
+        ensures from { IfOk result (λ c. c.start ≤ start) }
+        ensures to { IfOk result (λ c. end ≤ c.end) }
+        ensures refused { OnErr result SomeRefused }
+    {
+        if self.end >= end {
+            return Ok(self);
+        }
+        drop(self);
+        let upto = end_of_heads(heads, start, input.len(), most);
+        Copied::of(alloc, input, start, upto.max(end))
     }
 
     /// A copy of the bytes between these places.

@@ -6,6 +6,8 @@ ghost use Rattle.amqp_engine.specs.Legal.{Legal};
 ghost use Rattle.amqp_engine.specs.Promise.{Ends, NoneLeft};
 ghost use Rattle.amqp_engine.specs.RunInto.{RanInto};
 
+mod sending;
+mod settling;
 mod taking;
 mod telling;
 

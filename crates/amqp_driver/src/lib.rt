@@ -5,10 +5,12 @@
 //! say. [`PlainRelay`] is the relay of links whose owner reads records.
 #![tactic(auto)]
 
+mod asked;
 mod copied;
 mod driver;
 pub mod flag;
 mod front;
+mod head;
 pub mod kind;
 pub mod laws;
 mod outcome;
@@ -20,8 +22,10 @@ mod status;
 mod tag;
 mod told;
 
+pub use asked::Asked;
 pub use driver::Driver;
+pub use head::{Sent, TransferHead};
 pub use plain::PlainRelay;
 pub use record::{NONE, Record};
 pub use refusals::refusal_number;
-pub use status::{Status, Taken};
+pub use status::{Posted, Status, Taken};

@@ -33,6 +33,7 @@ pub mod OutcomeLemmas
 pub mod RunLemmas
 pub mod RunSoFarLemmas
 pub mod BufferRunLemmas
+pub mod OneRunLemmas
 pub mod FrameRunLemmas
 pub mod TwoRunsLemmas
 pub mod RefusedWishLemmas

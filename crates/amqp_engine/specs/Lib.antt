@@ -16,6 +16,7 @@ pub mod Views
 pub mod Stepped
 pub mod Ran
 pub mod RunInto
+pub mod RunOne
 pub mod RunFrame
 pub mod TwoRuns
 pub mod OneFrame

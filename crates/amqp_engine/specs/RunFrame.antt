@@ -1,6 +1,6 @@
 -- Part: other calls.
 -- One received frame that was read before: it runs as the bytes do that it was read from.
-use Rattle.std.specs.Prelude.{◌≡◌, ◌⊎◌, ℕ, List, [], ◌∷◌, ◌++◌, Option, Some, None, IsSome, Result, Ok, Err}
+use Rattle.std.specs.Prelude.{◌≡◌, ◌⊎◌, ℕ, List, [], Option, Some, None, IsSome, Result, Ok, Err}
 use Rattle.amqp_memory.specs.Refusal.{SomeRefused}
 use Rattle.amqp_session.specs.Relay.{Relays}
 use Rattle.amqp_frames.specs.declared.error.Error.{Error}
@@ -9,16 +9,13 @@ use Rattle.amqp_frames.specs.declared.frame.Frame.{Frame}
 use Rattle.amqp_frames.specs.Frame.{Decodes}
 use Rattle.amqp_connection.specs.Connection.{refusal_of}
 use Rattle.amqp_engine.specs.declared.engine.input.Input.TheVariants.{Received}
-use Rattle.amqp_engine.specs.declared.engine.answer.Answer.{Answer}
 use Rattle.amqp_engine.specs.declared.engine.refusal.Refusal.{Refusal}
-use Rattle.amqp_engine.specs.declared.engine.refusal.Refusal.TheVariants as refusal
 use Rattle.amqp_engine.specs.declared.engine.step_error.StepError.{StepError}
 use Rattle.amqp_engine.specs.declared.engine.step_error.StepError.TheVariants as no
 use Rattle.amqp_engine.specs.EngineView.{EngineView}
-use Rattle.amqp_engine.specs.Entry.{Entry}
 use Rattle.amqp_engine.specs.Engine.{named_error}
-use Rattle.amqp_engine.specs.Ran.{Ran}
-use Rattle.amqp_engine.specs.RunInto.{RanInto, sent_of, refusals_of}
+use Rattle.amqp_engine.specs.RunInto.{RanInto}
+use Rattle.amqp_engine.specs.RunOne.{RanOne}
 
 -- what decoding answers for these bytes, where the rest that a frame leaves is let go
 abbrev pub ReadFrom : List ℕ → Result Frame Error → Type 0
@@ -30,25 +27,11 @@ abbrev pub frame_read : Result Frame Error → Option Frame
 frame_read (Ok f) = Some f
 frame_read (Err e) = None
 
--- those of the refusals that hand a frame back
-abbrev pub handed_back : List Refusal → List Refusal
-handed_back [] = []
-handed_back (refusal.Input place e ∷ rest) = handed_back rest
-handed_back (refusal.Frame place f ∷ rest) = refusal.Frame place f ∷ handed_back rest
-
--- It is a run of this one input: of its bytes. What was read of them is what the run received, and the answer is the run's. The bytes of
--- its answers are appended, and the frames that do not fit are handed back, each with its place: the input's is 0. Its own refusal is not
--- among them.
+-- It is a run of this one input: of its bytes. What was read of them is what the run received.
 pub record RanFrame {R : Type 0} (g : Relays R) (v : EngineView R) (bytes : List ℕ) (read : Result Frame Error) (refused : Option StepError)
     (out : List ℕ) (returned : List Refusal) (v' : EngineView R) (out' : List ℕ) (returned' : List Refusal) : Type 0 where
-  pub answers : List Answer
-  pub ran : Ran g [] v (Received bytes ∷ []) [] v' [] answers
-  pub entry : Entry R
-  pub entry_is : ran.entries ≡ entry ∷ []
-  pub refusal_is : entry.refusal ≡ refused
-  pub received_is : entry.received ≡ frame_read read
-  pub sent : out' ≡ out ++ sent_of answers
-  pub back : returned' ≡ returned ++ handed_back (refusals_of None answers)
+  pub one : RanOne g v (Received bytes) refused out returned v' out' returned'
+  pub received_is : one.entry.received ≡ frame_read read
 
 -- A frame that was taken is such a run, whatever bytes it was read from. One that was not is a run of no input: only what waited is sent.
 abbrev pub RunsFrame : {R : Type 0} → Relays R → EngineView R → Result Frame Error → Option (Result (Unit {0}) StepError) → List ℕ → List Refusal

@@ -29,6 +29,7 @@ mod requested;
 mod run;
 mod run_frame;
 mod run_into;
+mod run_one;
 mod sessions;
 pub mod step_error;
 pub(crate) mod wish;

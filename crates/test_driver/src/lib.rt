@@ -10,4 +10,6 @@ mod records;
 #[cfg(test)]
 mod same;
 #[cfg(test)]
+mod sending;
+#[cfg(test)]
 mod stops;

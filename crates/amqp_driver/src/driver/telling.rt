@@ -16,7 +16,7 @@ use amqp_session::{IncomingChannel, InputHandle, LinkRelay, OutgoingChannel, Out
 use bytes::Bytes;
 
 /// How many frames did not fit, with those that were handed back now.
-fn counted(unfit: u32, returned: &Vec<Refusal>) -> u32
+pub(super) fn counted(unfit: u32, returned: &Vec<Refusal>) -> u32
     ensures { result ≡ counted unfit returned.now.items }
 {
     match u32::try_from(returned.len()) {

@@ -1,5 +1,6 @@
 use Rattle.std.proofs.Common.{refl}
-use Rattle.amqp_engine.proofs.FrameRunLemmas.{ran_none, ran_frame, taken_step, untaken}
+use Rattle.amqp_engine.proofs.OneRunLemmas.{ran_none}
+use Rattle.amqp_engine.proofs.FrameRunLemmas.{ran_frame, taken_step, untaken}
 use Rattle.amqp_engine.proofs.engine.Engine.run_frame.Goals as goal
 
 pub returns-in_default-clause-ran : goal.returns-in_default-clause-ran

@@ -1,0 +1,268 @@
+//! Requests, and transfers that are to be sent.
+
+ghost use Rattle.std.specs.Prelude.{◌≡◌, ◌≤◌, ◌+◌, Some, IfOk, OnErr, drop, take};
+ghost use Rattle.std.specs.Option.{option_map};
+ghost use Rattle.amqp_memory.specs.Refusal.{SomeRefused};
+ghost use Rattle.amqp_types.specs.Transfer.{widest};
+ghost use Rattle.amqp_frames.specs.Cut.{room_beside};
+ghost use Rattle.amqp_driver.specs.Driver.{Mirrors};
+ghost use Rattle.amqp_driver.specs.Heads.{FindsOutput, has, has_room, number_in, refused_as, tag_in};
+ghost use Rattle.amqp_driver.specs.Requests.{Requests};
+ghost use Rattle.amqp_driver.specs.Sending.{Handles, Sends, SendsTransfer, size_of};
+ghost use Rattle.amqp_driver.specs.Told.{session_at};
+
+use super::Driver;
+use super::telling::counted;
+use crate::asked::{Asked, asked_of, has_own};
+use crate::copied::Copied;
+use crate::flag;
+use crate::head::{Sent, TransferHead, has, size_of, transfer_of};
+use crate::refusals::refusal_number;
+use crate::status::{Posted, Status};
+use amqp_connection::SessionNo;
+use amqp_engine::Input;
+use amqp_session::{InputHandle, LinkRelay, OutputHandle};
+use amqp_types::{DeliveryTag, Transfer};
+use bytes::Bytes;
+use std::alloc::AllocError;
+
+/// The refusal of a transfer whose link is not attached: that of `SessionInnerError::UnattachedHandle`.
+const UNATTACHED: u32 = 61;
+/// The refusal of a transfer whose payload does not fit one frame beside it.
+const TOO_LONG: u32 = 91;
+/// The refusal of a transfer whose tag has more than 32 bytes.
+const TAG_TOO_LONG: u32 = 92;
+
+fn posted(status: Status, taken: usize, used: usize) -> Posted
+    ensures { result ≡ record { status = status; taken = taken; used = used } }
+{
+    Posted {
+        status,
+        taken,
+        used,
+    }
+}
+
+fn refused(why: u32) -> Sent
+    ensures { result ≡ refused_as why }
+{
+    Sent {
+        number: 0,
+        refusal: why,
+    }
+}
+
+/// The tag of a transfer, if it has one, whose bytes begin at this place.
+fn tag_of(
+    head: &TransferHead,
+    copied: &Copied,
+    bytes: &[u8],
+    at: usize,
+) -> Result<Option<DeliveryTag>, AllocError>
+    requires copy { Mirrors copied.now bytes.now }
+    requires from { copied.now.start ≤ at }
+    requires to { at + size_of head.now ≤ copied.now.end }
+    ensures ok { IfOk result (λ x. option_map (λ t. t.0) x ≡ tag_in head.now (take (size_of head.now) (drop at bytes.now))) }
+    ensures refused { OnErr result SomeRefused }
+{
+    if !has(head.flags, flag::TAGGED) {
+        return Ok(None);
+    }
+    let tag = copied.part(bytes, at, at + head.tag_size as usize)?;
+    Ok(Some(DeliveryTag(tag)))
+}
+
+/// The tag and the payload of a transfer, whose bytes begin at this place.
+fn parts_of(
+    head: &TransferHead,
+    copied: &Copied,
+    bytes: &[u8],
+    at: usize,
+) -> Result<(Option<DeliveryTag>, Bytes), AllocError>
+    requires copy { Mirrors copied.now bytes.now }
+    requires from { copied.now.start ≤ at }
+    requires to { at + size_of head.now ≤ copied.now.end }
+    ensures ok { IfOk result (λ x. (option_map (λ t. t.0) x.0 ≡ tag_in head.now (take (size_of head.now) (drop at bytes.now)))
+        × (x.1 ≡ drop head.now.tag_size (take (size_of head.now) (drop at bytes.now)))) }
+    ensures refused { OnErr result SomeRefused }
+{
+    let tag = tag_of(head, copied, bytes, at)?;
+    let middle = at + head.tag_size as usize;
+    let payload = copied.part(bytes, middle, middle + head.payload as usize)?;
+    Ok((tag, payload))
+}
+
+impl<R: LinkRelay> Driver<R> {
+    /// Runs one request, or one received frame, and says what became of it. What it hands out waits in [`Driver::out`]. [`Driver::run`]
+    /// takes many.
+    ///
+    /// ```
+    /// match driver.request(Input::Begin(SessionNo(0), SessionSettings::new())) {
+    ///     Asked::Done => {}
+    ///     Asked::Refused(error) => report(error),
+    ///     Asked::TooLarge | Asked::NoMemory => {}
+    /// }
+    /// ```
+    pub fn request(&mut self, input: Input<R>) -> Asked
+        ensures { Requests R.gives self.old input result self.new }
+    {
+        let answer = self
+            .engine
+            .run_one(input, &mut self.out, &mut self.returned);
+        let own = has_own(self.returned.as_slice());
+        self.unfit = counted(self.unfit, &self.returned);
+        self.returned.clear();
+        asked_of(answer, own)
+    }
+
+    /// Sends transfers, each of one frame, in order: of each the head stands in `heads`, and its tag and its payload in `bytes`, one after the
+    /// other. What became of it goes to the next place of `sent`: of an accepted first transfer the number of its delivery, which it keeps
+    /// also where the session holds it back (AMQP 1.0 part 2, section 2.6.12); of a refused one why. A refused one changes nothing, and the
+    /// next one is taken. A payload that is longer than [`Engine::payload_room`](amqp_engine::Engine::payload_room) is sent in parts by
+    /// the caller: a head for each, `NUMBERED` the first alone, and `MORE` all but the last. What goes out waits in [`Driver::out`].
+    ///
+    /// It stops where all were taken (`Done`), where all places of `sent` are written (`Full`), where the bytes end before those of the next
+    /// transfer do (`Short`), or where memory was refused and the next transfer was not taken (`NoMemory`: some of what waited in the engine
+    /// may be sent, and nothing else has changed). What is not taken is given again.
+    ///
+    /// ```
+    /// let head = TransferHead { session: 0, link: record.input, format: 0, payload: 5, flags: flag::NUMBERED + flag::TAGGED, tag_size: 1 };
+    /// let mut sent = [Sent { number: 0, refusal: 0 }];
+    /// let posted = driver.send(&[head], b"1hello", &mut sent);
+    /// ```
+    pub fn send(&mut self, heads: &[TransferHead], bytes: &[u8], sent: &mut [Sent]) -> Posted
+        ensures { Sends R.gives self.old heads.now bytes.now sent.old result.status result.taken result.used self.new sent.new }
+    {
+        let mut copied = Copied::none();
+        let mut taken = 0;
+        let mut used = 0;
+        'heads: loop {
+            if taken == heads.len() {
+                return posted(Status::Done, taken, used);
+            }
+            if taken == sent.len() {
+                return posted(Status::Full, taken, used);
+            }
+            let head = heads[taken];
+            let size = size_of(&head);
+            if bytes.len() - used < size {
+                return posted(Status::Short, taken, used);
+            }
+            let most = sent.len() - taken;
+            copied = match copied.holding(
+                self.alloc,
+                bytes,
+                used,
+                used + size,
+                &heads[taken..],
+                most,
+            ) {
+                Ok(copied) => copied,
+                Err(_) => return posted(Status::NoMemory, taken, used),
+            };
+            let Some(told) = self.send_one(&head, &copied, bytes, used) else {
+                return posted(Status::NoMemory, taken, used);
+            };
+            sent[taken] = told;
+            taken += 1;
+            used += size;
+        }
+    }
+
+    /// Handles one transfer, whose bytes begin at this place. `None` where memory was refused and it was not taken.
+    fn send_one(
+        &mut self,
+        head: &TransferHead,
+        copied: &Copied,
+        bytes: &[u8],
+        at: usize,
+    ) -> Option<Sent>
+        requires copy { Mirrors copied.now bytes.now }
+        requires from { copied.now.start ≤ at }
+        requires to { at + size_of head.now ≤ copied.now.end }
+        ensures { Handles R.gives self.old head.now (take (size_of head.now) (drop at bytes.now)) result self.new }
+    {
+        if head.tag_size > 32 {
+            return Some(refused(TAG_TOO_LONG));
+        }
+        let Some(output) = self.output_of(head) else {
+            return Some(refused(UNATTACHED));
+        };
+        let Ok((tag, payload)) = parts_of(head, copied, bytes, at) else {
+            return None;
+        };
+        let transfer = transfer_of(head, output, tag);
+        if !self.has_room(&transfer, head.payload) {
+            drop(transfer);
+            drop(payload);
+            return Some(refused(TOO_LONG));
+        }
+        self.send_transfer(head, transfer, payload)
+    }
+
+    /// Whether so many bytes of payload fit one frame beside a transfer.
+    fn has_room(&self, transfer: &Transfer, payload: u32) -> bool
+        ensures { result ≡ has_room (room_beside (widest transfer.now) self.now.engine.limit) payload }
+    {
+        match self.engine.payload_room(transfer) {
+            Some(room) => payload <= room,
+            None => false,
+        }
+    }
+
+    /// Runs the transfer of a head, and says what became of it. `None` where memory was refused and it was not taken.
+    fn send_transfer(
+        &mut self,
+        head: &TransferHead,
+        transfer: Transfer,
+        payload: Bytes,
+    ) -> Option<Sent>
+        ensures { SendsTransfer R.gives self.old head.now transfer payload result self.new }
+    {
+        let number = self.number_of(head);
+        let input = Input::Transfer(
+            SessionNo(head.session),
+            InputHandle(head.link),
+            transfer,
+            payload,
+            has(head.flags, flag::NUMBERED),
+        );
+        match self.request(input) {
+            Asked::NoMemory => None,
+            Asked::Refused(error) => {
+                let sent = refused(refusal_number(&error));
+                drop(error);
+                Some(sent)
+            }
+            Asked::Done | Asked::TooLarge => Some(Sent { number, refusal: 0 }),
+        }
+    }
+
+    /// This side's handle of the link of a head. `None` where no such link is attached, in a session that is mapped; any handle where the
+    /// engine is to refuse the transfer.
+    fn output_of(&self, head: &TransferHead) -> Option<OutputHandle>
+        ensures { FindsOutput (session_at self.now.engine (Some head.now.session)) head.now.link result }
+    {
+        let Some(session) = self.engine.session(SessionNo(head.session)) else {
+            return Some(OutputHandle(0));
+        };
+        match session.output_handle_of(InputHandle(head.link)) {
+            Some(handle) => Some(handle),
+            None if session.can_send() => None,
+            None => Some(OutputHandle(0)),
+        }
+    }
+
+    /// The number that the delivery of a head gets, where it is the first transfer. Else 0.
+    fn number_of(&self, head: &TransferHead) -> u32
+        ensures { result ≡ number_in (session_at self.now.engine (Some head.now.session)) (has head.now.flags 1) }
+    {
+        if !has(head.flags, flag::NUMBERED) {
+            return 0;
+        }
+        match self.engine.session(SessionNo(head.session)) {
+            Some(session) => session.next_delivery_number(),
+            None => 0,
+        }
+    }
+}

@@ -1,0 +1,58 @@
+//! One input that is run alone.
+
+ghost use Rattle.std.specs.Prelude.{◌≡◌, ◌≤◌, ◌+◌, ◌⊎◌, [], length, vec_capacity};
+ghost use Rattle.amqp_memory.specs.Refusal.{SomeRefused};
+ghost use Rattle.amqp_engine.specs.RunInto.{LacksRoom};
+ghost use Rattle.amqp_engine.specs.RunOne.{RunsOne};
+
+use super::Engine;
+use super::input::Input;
+use super::refusal::Refusal;
+use super::step_error::StepError;
+use crate::laws::{law_of_histories, law_of_views};
+use amqp_frames::SendBuffer;
+use amqp_session::LinkRelay;
+
+impl<R: LinkRelay> Engine<R> {
+    /// Runs one input, as [`Engine::run_into`] runs a list of it alone, and answers what became of it.
+    ///
+    /// What waits is sent first, then what the input hands out: each piece is appended to `out` after its four-byte size. A frame that does
+    /// not fit the peer's limit is appended to `returned`, as [`Refusal::Frame`]: its place is `None` where it waited from before, else 0.
+    ///
+    /// `Some(Ok(()))` where the input is accepted. `Some(Err(_))` where it is refused, as [`Input`] says; that refusal is not appended to
+    /// `returned`. Where memory is refused for what the input hands out, that waits for the next call ([`Engine::has_output`]).
+    ///
+    /// `None` where memory is refused for what waited: the input is not taken, and is gone with what it held; nothing changed but that some
+    /// of what waited was sent. Who cannot make the input again puts it into a list, for [`Engine::run_into`].
+    ///
+    /// ```
+    /// let answer = engine.run_one(Input::Open, out, returned);
+    /// ```
+    pub fn run_one(
+        &mut self,
+        input: Input<R>,
+        out: &mut SendBuffer,
+        returned: &mut Vec<Refusal>,
+    ) -> Option<Result<(), StepError>>
+        ensures ran { RunsOne R.gives self.old input result out.old.bytes returned.old.items self.new out.new.bytes returned.new.items }
+        ensures left { (self.new.waiting ≡ []) ⊎ (LacksRoom self.new out.new returned.new × SomeRefused) }
+        ensures room { out.old.room + length out.old.bytes ≤ out.new.room + length out.new.bytes }
+        ensures copied { out.new.copied ≡ out.old.copied }
+        ensures places { vec_capacity returned.old ≤ vec_capacity returned.new }
+        ensures wishes { self.new.wishes ≡ self.old.wishes }
+    {
+        law_of_histories::<R>();
+        law_of_views::<R>();
+        match self.send_out(None, out, returned) {
+            Ok(()) => {}
+            Err(_) => {
+                drop(input);
+                return None;
+            }
+        }
+        let answer = self.dispatch(input);
+        // What is not sent now waits.
+        let _ = self.send_out(Some(0), out, returned);
+        Some(answer)
+    }
+}
