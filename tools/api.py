@@ -1,10 +1,10 @@
 #!/usr/bin/env python3
-"""Writes an API reference of the library crates, from their sources: static pages, to be opened in a browser.
+"""Writes an API reference of the library crates and of the header for C, from their sources: static pages, to be opened in a browser.
 
     tools/api.py OUT
     tools/api.py --check   writes nothing: the last line is 'N passed, M failed', a test for each file of a crate, and for each page
 
-OUT is a folder, which is made where it is missing; OUT/index.html has a box to search in. Each crate has a page with its public items: doc,
+OUT is a folder, which is made where it is missing; OUT/index.html has a box to search in, and OUT/man3 a man page of each function for C. Each crate has a page with its public items: doc,
 signature, and contract as it is written; and a page with its definitions (specs/*.antt), to which the names in contracts lead. The pages need no
 network. The last line counts them, and the links that lead nowhere; the status is 1 where there are any. A check is that each clause of a file
 was read, and that each link of a page leads somewhere.
@@ -16,12 +16,14 @@ from collections import defaultdict
 from html import escape, unescape
 from pathlib import Path
 
+from reference.header import entries, header_page, man_pages, names_to_search
 from reference.page import linked, page, prose, search
 from reference.source import libraries
 from reference.specs import Definition, modules
 from shared.command import command
 
 ROOT = Path(__file__).resolve().parent.parent
+HEADER = ROOT / "include" / "amqp1"
 WORD = re.compile(r"[^\W\d][\w']*(?:\.[^\W\d][\w']*)*")
 RUST = re.compile(r"(?<![\w'])[A-Za-z_]\w*")
 GROUPS = [("struct", "Structs"), ("enum", "Enums"), ("trait", "Traits"), ("fn", "Functions"), ("const", "Constants"), ("type", "Names of types")]
@@ -285,9 +287,9 @@ def definition(piece, file, href, taken):
 # ---- the index
 
 
-def index(names):
-    """The crates, and a box that finds items and definitions."""
-    found, made = [], ["<h1>API reference</h1>"]
+def index(names, header):
+    """The crates, the header, and a box that finds items and definitions."""
+    found, made = names_to_search(header), ["<h1>API reference</h1>"]
     for name, crate in names.crates.items():
         for item in crate.public.values():
             found.append(["::".join(item.path), item.kind, name, address(name, item), item.first_sentence()])
@@ -302,7 +304,8 @@ def index(names):
     for name, crate in names.crates.items():
         doc = crate.files[()].doc[0]
         made.append(f'<tr><td><a href="{name}.html"><code>{name}</code></a></td><td>{escape(doc)} <a class="quiet" href="{name}.specs.html">definitions</a></td></tr>')
-    made.append("</table>\n<p>A user of connections names <code>fe2o3_amqp</code> alone; each name that it hands on leads to the crate that has it.</p>")
+    made.append("</table>\n<h2>For C</h2>\n<p><a href=\"c.html\"><code>amqp1.h</code></a>: the functions, types and constants of <code>libamqp1</code>.</p>")
+    made.append("<p>A user of connections names <code>fe2o3_amqp</code> alone; each name that it hands on leads to the crate that has it.</p>")
     return page("API reference", [("index.html", "API")], "\n".join(made)), len(found)
 
 
@@ -320,11 +323,12 @@ def dead(pages):
 
 def made():
     """The crates, the pages by the names of their files, and how many names can be searched."""
-    names, pages = Names(libraries(ROOT)), {}
+    names, pages, header = Names(libraries(ROOT)), {}, entries(HEADER)
     for name, crate in names.crates.items():
         pages[f"{name}.html"] = CratePage(names, crate).html()
         pages[f"{name}.specs.html"] = specs_page(names, crate)
-    pages["index.html"], count = index(names)
+    pages["c.html"] = header_page(header)
+    pages["index.html"], count = index(names, header)
     return names.crates, pages, count
 
 
@@ -348,6 +352,10 @@ def main():
     out.mkdir(parents=True, exist_ok=True)
     for name, text in pages.items():
         out.joinpath(name).write_text(text)
+    version = re.search(r'^#define AMQP1_VERSION "(.*)"$', HEADER.with_suffix(".h").read_text(), re.M)
+    (out / "man3").mkdir(exist_ok=True)
+    for name, text in man_pages(entries(HEADER), version[1]).items():
+        out.joinpath("man3", name).write_text(text)
     lost = dead(pages)
     print("".join(f"{it}\n" for it in lost), end="")
     print(f"{out / 'index.html'}: {len(pages)} pages, {count} names, {len(lost)} links that lead nowhere")

@@ -3,7 +3,7 @@
 
     tools/bridge.py PROGRAM HOST PORT ADDRESS [--sasl USER:PASSWORD] [--messages N]
 
-PROGRAM is the program amqp_replay, or the library libamqp.so of `tools/build_c.sh`: then no program is started. This is all that a transport has to do: the protocol headers, SASL (ANONYMOUS, or PLAIN with --sasl; part 5 of the standard, section 5.3), the
+PROGRAM is the program amqp_replay, or the library libamqp1.so of `tools/build_c.sh`: then no program is started. This is all that a transport has to do: the protocol headers, SASL (ANONYMOUS, or PLAIN with --sasl; part 5 of the standard, section 5.3), the
 four bytes of size before each frame, and an empty frame where the peer's idle time-out asks for one (part 2, sections 2.2, 2.3 and 2.4.5).
 All else is the engine's: each line that the program is given, and what it answers, is a step. Prints what it did; a refusal by its name.
 Where nobody listens, the peer hangs up or the program ends, a line on standard error says so, and the status is 1.

@@ -108,9 +108,9 @@ watched() {
 [ -x "$program" ] || (cd crates/amqp_replay && rt run </dev/null >"$folder/build")
 [ -x "$server" ] || (cd crates/example_broker && rt run <stdin >"$folder/build")
 prefix=${AMQP_PREFIX:-$folder/library}
-[ -e "$prefix/lib/libamqp.a" ] || tools/build_c.sh "$prefix" >"$folder/build"
-export AMQP_LIBRARY=$prefix/lib/libamqp.so
-cc -std=c99 -O2 -I"$prefix/include" examples/c/send_receive.c "$prefix/lib/libamqp.a" -o "$folder/send_receive"
+[ -e "$prefix/lib/libamqp1.a" ] || tools/build_c.sh "$prefix" >"$folder/build"
+export AMQP_LIBRARY=$prefix/lib/libamqp1.so
+cc -std=c99 -O2 -I"$prefix/include" examples/c/amqp1_send.c "$prefix/lib/libamqp1.a" -o "$folder/send_receive"
 
 passed=0 failed=0
 tried() {

@@ -1,16 +1,22 @@
-//! AMQP 1.0's frame, connection and session layer for Rust: a safe wrapper over the library for C. One file, and no dependency.
+//! AMQP 1.0's frame, connection and session layer for Rust: a safe wrapper over the library for C. Two files, and no dependency.
 //!
 //! ```sh
 //! tools/build_c.sh PREFIX
-//! rustc --edition 2024 -O program.rs -L native=PREFIX/lib -l static=amqp    # with `mod amqp_engine;`
+//! rustc --edition 2024 -O program.rs -L native=PREFIX/lib -l static=amqp1    # with `mod amqp_engine;`
 //! ```
 //!
-//! An [`Engine`] takes bytes and requests, and gives bytes and events. It opens no socket and reads no clock. Performatives go in and come out as
-//! their bytes (AMQP 1.0 part 2, section 2.7). The library's exports are proved; this file is not. Editions 2021 and 2024, from rustc 1.82 on.
+//! An [`Engine`] takes bytes and requests, and gives bytes and records of what came. It opens no socket and reads no clock. Performatives go in as
+//! their bytes (AMQP 1.0 part 2, section 2.7), and come as places in the bytes that were given. The library's exports are proved; this file is not. Editions 2021 and 2024, from rustc 1.82 on.
 
 #![allow(dead_code)]
 
 use std::{ffi::c_void, fmt};
+
+#[path = "amqp_engine_records.rs"]
+mod records;
+
+use records::stop;
+pub use records::{NONE, Record, Sent, Stop, TransferHead, flag, kind};
 
 #[repr(C)]
 struct Place {
@@ -18,9 +24,24 @@ struct Place {
     at: *mut c_void,
 }
 
+#[repr(C)]
+#[derive(Default)]
+struct Took {
+    taken: usize,
+    written: usize,
+    wanted: usize,
+}
+
+#[repr(C)]
+#[derive(Default)]
+struct Went {
+    taken: usize,
+    used: usize,
+}
+
 unsafe extern "C" {
-    fn amqp_new(place: *mut Place, input: *const u8, input_length: usize) -> i32;
-    fn amqp_call(
+    fn amqp1_new(place: *mut Place, input: *const u8, input_length: usize) -> i32;
+    fn amqp1_call(
         place: *mut Place,
         operation: u32,
         input: *const u8,
@@ -29,7 +50,25 @@ unsafe extern "C" {
         output_length: usize,
         written: *mut usize,
     ) -> i32;
-    fn amqp_free(place: *mut Place);
+    fn amqp1_take(
+        place: *mut Place,
+        input: *const u8,
+        input_length: usize,
+        records: *mut Record,
+        records_length: usize,
+        answer: *mut Took,
+    ) -> i32;
+    fn amqp1_send(
+        place: *mut Place,
+        heads: *const TransferHead,
+        heads_length: usize,
+        bytes: *const u8,
+        bytes_length: usize,
+        sent: *mut Sent,
+        sent_length: usize,
+        answer: *mut Went,
+    ) -> i32;
+    fn amqp1_free(place: *mut Place);
 }
 
 /// What an engine is asked to do, by its number.
@@ -37,8 +76,10 @@ unsafe extern "C" {
 #[derive(Clone, Copy)]
 #[repr(u32)]
 enum Operation {
-    Receive = 1, Open, Close, Begin, End, Release, Forget, Link, LinkOn, Attach, Detach, Flow, Transfer, Disposition, Settle,
-    Send, Event, Refusal, RemoteOpen, MaxPieceLen, PayloadRoom, Missed, SessionOf, State, SessionState, RefusedCount,
+    Open = 2, Close, Begin, End, Release, Forget, Link, LinkOn, Attach, Detach, Flow, Transfer, Disposition, Settle, Output,
+    Refusal = 18, RemoteOpen, MaxPieceLen, PayloadRoom,
+    SessionOf = 23, State, SessionState,
+    Unfit = 27, RefusalText, Dispose,
 }
 
 /// Why a call did not do what was asked.
@@ -50,8 +91,6 @@ pub enum Error {
     NoMemory,
     /// The input is none of this operation's, as a performative that is another one.
     BadArgument,
-    /// Events wait: take them before more is received.
-    EventsWait,
     /// What this version of the library does not answer.
     Unknown(i32),
 }
@@ -73,30 +112,12 @@ impl fmt::Display for Error {
             Error::Refused(refusal) => write!(to, "refused: {}", refusal.name),
             Error::NoMemory => to.write_str("memory was refused"),
             Error::BadArgument => to.write_str("the input is none of this operation's"),
-            Error::EventsWait => to.write_str("events wait"),
             Error::Unknown(status) => write!(to, "unknown status {status}"),
         }
     }
 }
 
 impl std::error::Error for Error {}
-
-/// For how many events of each kind memory is taken at the start. One frame leaves at most one of the first three, so 1 is enough.
-#[derive(Clone, Copy, Debug)]
-pub struct Room {
-    /// Attaches and detaches.
-    pub links: u32,
-    pub flows: u32,
-    pub transfers: u32,
-    /// One frame may settle all deliveries that are open. Those past the room have no event; `missed` counts them.
-    pub dispositions: u32,
-}
-
-impl Default for Room {
-    fn default() -> Room {
-        Room { links: 1, flows: 1, transfers: 1, dispositions: 2048 }
-    }
-}
 
 /// The end of a link on which a side stands.
 #[derive(Clone, Copy, Debug, PartialEq, Eq)]
@@ -112,30 +133,6 @@ pub enum ReceiverSettleMode {
     Second = 1,
 }
 
-/// What came for a link.
-#[derive(Clone, Debug, PartialEq, Eq)]
-pub struct Event {
-    /// The number of the link's session.
-    pub session: u32,
-    /// The peer's handle of the link, where it is known.
-    pub input_handle: Option<u32>,
-    /// This side's handle of the link, where it is known.
-    pub output_handle: Option<u32>,
-    pub body: EventBody,
-}
-
-/// What came, by its performative; each is its bytes.
-#[derive(Clone, Debug, PartialEq, Eq)]
-pub enum EventBody {
-    Attached(Vec<u8>),
-    /// What the flow says of the link counts.
-    Flow(Vec<u8>),
-    Transfer { performative: Vec<u8>, payload: Vec<u8> },
-    /// One delivery of those that a disposition of the peer's meant.
-    Disposition { role: Role, settled: bool, state: Option<Vec<u8>>, tag: Vec<u8> },
-    Detached { performative: Vec<u8>, remote_initiated: bool },
-}
-
 /// One side of a connection.
 pub struct Engine {
     place: Place,
@@ -146,20 +143,16 @@ unsafe impl Send for Engine {}
 
 impl Drop for Engine {
     fn drop(&mut self) {
-        unsafe { amqp_free(&mut self.place) }
+        unsafe { amqp1_free(&mut self.place) }
     }
 }
 
 impl Engine {
-    /// An engine with PERF of this side's Open. The key is of the engine's maps: the peer should not be able to guess it.
-    pub fn new(key: [u8; 16], room: Room, open: &[u8]) -> Result<Engine, Error> {
-        let mut input = key.to_vec();
-        for number in [room.links, room.flows, room.transfers, room.dispositions] {
-            input.extend_from_slice(&number.to_be_bytes());
-        }
-        input.extend_from_slice(open);
+    /// An engine with PERF of this side's Open. The key is of the engine's maps: the peer should not be able to guess it. One of zeros is `BadArgument`.
+    pub fn new(key: [u8; 16], open: &[u8]) -> Result<Engine, Error> {
+        let input = [&key[..], open].concat();
         let mut engine = Engine { place: Place { full: 0, at: std::ptr::null_mut() } };
-        match unsafe { amqp_new(&mut engine.place, input.as_ptr(), input.len()) } {
+        match unsafe { amqp1_new(&mut engine.place, input.as_ptr(), input.len()) } {
             0 => Ok(engine),
             2 => Err(Error::NoMemory),
             4 => Err(Error::BadArgument),
@@ -170,7 +163,7 @@ impl Engine {
     fn call(&mut self, operation: Operation, input: &[u8], output: &mut [u8]) -> (i32, usize) {
         let mut written = 0;
         let status = unsafe {
-            amqp_call(
+            amqp1_call(
                 &mut self.place,
                 operation as u32,
                 input.as_ptr(),
@@ -203,7 +196,6 @@ impl Engine {
             1 => Err(Error::Refused(self.refusal())),
             2 => Err(Error::NoMemory),
             4 => Err(Error::BadArgument),
-            6 => Err(Error::EventsWait),
             status => Err(Error::Unknown(status)),
         }
     }
@@ -229,18 +221,43 @@ impl Engine {
         Ok((!said.is_empty()).then_some(number))
     }
 
-    /// Takes received bytes, as they come after the protocol headers, in any splitting. How many were taken, whatever the outcome: give the rest
-    /// again, and where memory was refused again even if nothing is left. It stops after a frame that left events, or that was refused.
-    pub fn receive(&mut self, bytes: &[u8]) -> (usize, Result<(), Error>) {
-        let (status, taken) = self.call(Operation::Receive, bytes, &mut []);
-        (taken, self.outcome(status))
+    /// Takes whole frames out of these bytes, runs each once, and writes a record of each. How many bytes were taken, how many records written, and why
+    /// it stopped. Give what was not taken again, with what came since.
+    pub fn take(&mut self, bytes: &[u8], records: &mut [Record]) -> Result<(usize, usize, Stop), Error> {
+        let mut took = Took::default();
+        let (given, places) = (bytes.as_ptr(), records.as_mut_ptr());
+        let status = unsafe { amqp1_take(&mut self.place, given, bytes.len(), places, records.len(), &mut took) };
+        Ok((took.taken, took.written, stop(status, took.wanted)?))
+    }
+
+    /// Sends transfers: of each the head, and its tag and payload in `bytes`. How many were taken, how many of the bytes they have, and why it stopped.
+    pub fn transfers(&mut self, heads: &[TransferHead], bytes: &[u8], sent: &mut [Sent]) -> Result<(usize, usize, Stop), Error> {
+        let mut went = Went::default();
+        let (given, places) = (heads.as_ptr(), sent.as_mut_ptr());
+        let status = unsafe { amqp1_send(&mut self.place, given, heads.len(), bytes.as_ptr(), bytes.len(), places, sent.len(), &mut went) };
+        Ok((went.taken, went.used, stop(status, 0)?))
+    }
+
+    /// The name of a refusal by its number, and the condition that answers a frame that was refused so; it may be empty.
+    pub fn refusal_text(&mut self, number: u32) -> Result<(String, String), Error> {
+        let said = self.output(Operation::RefusalText, &number.to_be_bytes())?;
+        let said = String::from_utf8_lossy(&said).into_owned();
+        let mut lines = said.split('\n').map(str::to_owned);
+        let mut line = || lines.next().unwrap_or_default();
+        Ok((line(), line()))
+    }
+
+    /// A disposition of deliveries by their numbers. The outcome is 0 for none, or 1 accepted, 3 released, 4 modified; the role is this side's.
+    pub fn dispose(&mut self, session: u32, role: Role, first: u32, last: u32, settled: bool, outcome: u8) -> Result<(), Error> {
+        let (first, last) = (first.to_be_bytes(), last.to_be_bytes());
+        self.ask(Operation::Dispose, &[&session.to_be_bytes(), &[role as u8], &first, &last, &[settled as u8, outcome]])
     }
 
     /// Puts the bytes that wait to be sent after what `out` holds. They are to be sent whatever the outcome.
     pub fn send(&mut self, out: &mut Vec<u8>) -> Result<(), Error> {
         let mut room = [0; 4096];
         loop {
-            let (status, written) = self.call(Operation::Send, &[], &mut room);
+            let (status, written) = self.call(Operation::Output, &[], &mut room);
             out.extend_from_slice(&room[..written]);
             self.outcome(status)?;
             if written == 0 {
@@ -249,11 +266,7 @@ impl Engine {
         }
     }
 
-    /// The next event, if one waits.
-    pub fn next_event(&mut self) -> Result<Option<Event>, Error> {
-        Ok(event_of(&self.output(Operation::Event, &[])?))
-    }
-
+    /// This side's Open is to be sent.
     pub fn open(&mut self) -> Result<(), Error> {
         self.ask(Operation::Open, &[])
     }
@@ -340,14 +353,9 @@ impl Engine {
         Ok(self.number(Operation::PayloadRoom, transfer)?.map(|room| room as u32))
     }
 
-    /// How many requests and frames the call refused whose last refusal was told.
-    pub fn refused_count(&mut self) -> Result<u64, Error> {
-        Ok(self.number(Operation::RefusedCount, &[])?.unwrap_or_default())
-    }
-
-    /// How many events were missed, since there was no room for them.
-    pub fn missed(&mut self) -> Result<u64, Error> {
-        Ok(self.number(Operation::Missed, &[])?.unwrap_or_default())
+    /// How many frames were longer than the peer takes, and were not sent.
+    pub fn unfit(&mut self) -> Result<u32, Error> {
+        Ok(self.number(Operation::Unfit, &[])?.unwrap_or_default() as u32)
     }
 
     /// The session to which a channel of the peer's leads.
@@ -364,34 +372,6 @@ impl Engine {
     pub fn session_state(&mut self, session: u32) -> Result<Option<u8>, Error> {
         Ok(self.number(Operation::SessionState, &session.to_be_bytes())?.map(|state| state as u8))
     }
-}
-
-fn u32_at(bytes: &[u8], at: usize) -> Option<u32> {
-    Some(u32::from_be_bytes(bytes.get(at..at + 4)?.try_into().ok()?))
-}
-
-/// An event, from its record.
-fn event_of(record: &[u8]) -> Option<Event> {
-    let (kind, flags) = (*record.first()?, *record.get(1)?);
-    let has = |bit: u8| flags & bit != 0;
-    let split = u32_at(record, 16)? as usize;
-    let rest = record.get(24..)?;
-    let (first, rest) = (rest.get(..split)?.to_vec(), rest.get(split..)?.to_vec());
-    let body = match kind {
-        1 => EventBody::Attached(first),
-        2 => EventBody::Flow(first),
-        3 => EventBody::Transfer { performative: first, payload: rest },
-        4 => EventBody::Disposition {
-            role: if has(16) { Role::Receiver } else { Role::Sender },
-            settled: has(4),
-            state: has(32).then_some(first),
-            tag: rest,
-        },
-        5 => EventBody::Detached { performative: first, remote_initiated: has(8) },
-        _ => return None,
-    };
-    let (input_handle, output_handle) = (has(1).then_some(u32_at(record, 8)?), has(2).then_some(u32_at(record, 12)?));
-    Some(Event { session: u32_at(record, 4)?, input_handle, output_handle, body })
 }
 
 #[cfg(test)]

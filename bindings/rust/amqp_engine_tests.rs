@@ -12,7 +12,7 @@ fn framed(channel: u8, performative: &[u8]) -> Vec<u8> {
 }
 
 fn made() -> Engine {
-    Engine::new([7; 16], Room::default(), OPEN).unwrap()
+    Engine::new([7; 16], OPEN).unwrap()
 }
 
 fn sent(engine: &mut Engine) -> Vec<u8> {
@@ -21,11 +21,12 @@ fn sent(engine: &mut Engine) -> Vec<u8> {
     out
 }
 
-fn hear(engine: &mut Engine, channel: u8, performative: &[u8]) -> Result<(), Error> {
-    let frame = framed(channel, performative);
-    let (taken, outcome) = engine.receive(&frame);
-    assert_eq!(taken, frame.len());
-    outcome
+/// The record of a frame, and the frame.
+fn hear(engine: &mut Engine, channel: u8, performative: &[u8]) -> (Record, Vec<u8>) {
+    let (frame, mut records) = (framed(channel, performative), [Record::default(); 2]);
+    let told = engine.take(&frame, &mut records).unwrap();
+    assert_eq!(told, (frame.len(), 1, Stop::Done { wanted: 4 }));
+    (records[0], frame)
 }
 
 /// An engine whose session 7 is mapped, with a link on which this side sends.
@@ -33,13 +34,12 @@ fn sending() -> Engine {
     let mut engine = made();
     engine.open().unwrap();
     assert_eq!(sent(&mut engine), framed(0, OPEN));
-    hear(&mut engine, 0, b"\0\x53\x10\xc0\x0d\x03\xa1\x04peer\x40\x70\0\0\x04\0").unwrap();
+    assert_eq!(hear(&mut engine, 0, b"\0\x53\x10\xc0\x0d\x03\xa1\x04peer\x40\x70\0\0\x04\0").0.kind, kind::OPENED);
     engine.begin(7, BEGIN).unwrap();
-    hear(&mut engine, 3, b"\0\x53\x11\xc0\x09\x04\x60\0\0\x43\x52\x0a\x52\x0a").unwrap();
+    assert_eq!(hear(&mut engine, 3, b"\0\x53\x11\xc0\x09\x04\x60\0\0\x43\x52\x0a\x52\x0a").0.session, 7);
     assert_eq!(engine.link(7, Role::Sender, ReceiverSettleMode::First, "out").unwrap(), 0);
-    hear(&mut engine, 3, ATTACH).unwrap();
-    let event = engine.next_event().unwrap().unwrap();
-    assert_eq!((event.session, event.input_handle, event.body), (7, Some(5), EventBody::Attached(ATTACH.to_vec())));
+    let (record, input) = hear(&mut engine, 3, ATTACH);
+    assert_eq!((record.kind, record.session, record.input, record.output, record.performative(&input)), (kind::ATTACHED, 7, 5, 0, ATTACH));
     sent(&mut engine);
     engine
 }
@@ -49,13 +49,12 @@ fn a_connection_opens_and_closes() {
     let mut engine = sending();
     assert_eq!(engine.state().unwrap(), 9);
     assert_eq!(engine.remote_open().unwrap(), b"\0\x53\x10\xc0\x0d\x03\xa1\x04peer\x40\x70\0\0\x04\0");
-    assert_eq!((engine.max_piece_len().unwrap(), engine.missed().unwrap()), (1020, 0));
-    assert_eq!(engine.refused_count().unwrap(), 0);
+    assert_eq!((engine.max_piece_len().unwrap(), engine.unfit().unwrap()), (1020, 0));
     assert_eq!((engine.session_of(3).unwrap(), engine.session_of(4).unwrap()), (Some(7), None));
     assert_eq!(engine.close(Some(&[])), Err(Error::BadArgument));
     engine.close(None).unwrap();
     assert_eq!(sent(&mut engine), framed(0, b"\0\x53\x18\x45"));
-    hear(&mut engine, 0, b"\0\x53\x18\x45").unwrap();
+    assert_eq!(hear(&mut engine, 0, b"\0\x53\x18\x45").0.kind, kind::CLOSED);
     assert_eq!(engine.state().unwrap(), 13);
 }
 
@@ -66,10 +65,9 @@ fn a_message_is_sent_and_accepted() {
     engine.transfer(7, 5, true, transfer, b"hello").unwrap();
     let text = [&b"\0\x53\x14\xc0\x08\x05\x43\x43\xa0\x01t\x43\x42"[..], b"hello"].concat();
     assert_eq!(sent(&mut engine), framed(0, &text));
-    hear(&mut engine, 3, b"\0\x53\x15\xc0\x09\x05\x41\x43\x43\x41\0\x53\x24\x45").unwrap();
-    let body = EventBody::Disposition { role: Role::Receiver, settled: true, state: Some(b"\0\x53\x24\x45".to_vec()), tag: b"t".to_vec() };
-    assert_eq!(engine.next_event().unwrap().unwrap().body, body);
-    assert_eq!(engine.next_event().unwrap(), None);
+    let (record, _) = hear(&mut engine, 3, b"\0\x53\x15\xc0\x09\x05\x41\x43\x43\x41\0\x53\x24\x45");
+    assert_eq!((record.kind, record.first, record.last, record.outcome), (kind::DISPOSITION, 0, 0, 1));
+    assert!(record.has(flag::SETTLED) && record.has(flag::RECEIVER) && record.has(flag::STATED));
 }
 
 #[test]
@@ -92,19 +90,37 @@ fn a_transfer_is_of_one_link() {
 }
 
 #[test]
-fn events_are_taken_before_more_comes() {
+fn transfers_go_by_their_heads() {
     let mut engine = sending();
-    hear(&mut engine, 3, b"\0\x53\x13\xc0\x0c\x07\x43\x52\x40\x43\x52\x0a\x52\x05\x43\x52\x0a").unwrap();
-    assert_eq!(engine.receive(&framed(3, b"\0\x53\x17\x45")), (0, Err(Error::EventsWait)));
-    let event = engine.next_event().unwrap().unwrap();
-    assert!(matches!(event.body, EventBody::Flow(_)) && event.output_handle == Some(0));
-    let ended = hear(&mut engine, 3, b"\0\x53\x17\x45").unwrap_err();
-    assert!(matches!(ended, Error::Refused(refusal) if refusal.name == "RemoteEnded"));
+    let head = TransferHead { session: 7, link: 5, format: 0, payload: 5, flags: flag::NUMBERED | flag::TAGGED, tag_size: 1 };
+    let (other, mut sent_as) = (TransferHead { link: 6, ..head }, [Sent::default(); 3]);
+    let told = engine.transfers(&[head, other, head, head], b"thelloxhellouhello", &mut sent_as).unwrap();
+    assert_eq!(told, (3, 18, Stop::Full));
+    assert_eq!(sent_as.map(|it| (it.number, it.refusal)), [(0, 0), (0, 61), (1, 0)]);
+    assert_eq!(engine.refusal_text(61).unwrap(), ("UnattachedHandle".into(), "amqp:session:unattached-handle".into()));
+    assert_eq!(engine.transfers(&[head], b"th", &mut sent_as).unwrap(), (0, 0, Stop::Short));
+    assert!(sent(&mut engine).ends_with(b"hello"));
+    engine.dispose(7, Role::Sender, 0, 1, true, 0).unwrap();
+    assert_eq!(engine.dispose(7, Role::Sender, 0, 1, true, 9), Err(Error::BadArgument));
+    assert_eq!(sent(&mut engine), framed(0, b"\0\x53\x15\xc0\x06\x04\x42\x43\x52\x01\x41"));
+}
+
+#[test]
+fn what_came_is_told_in_order_and_in_place() {
+    let mut engine = sending();
+    let (flow, end) = (framed(3, b"\0\x53\x13\xc0\x0c\x07\x43\x52\x40\x43\x52\x0a\x52\x05\x43\x52\x0a"), framed(3, b"\0\x53\x17\x45"));
+    let (input, mut records) = ([&flow[..], &end[..], &[0, 0]].concat(), [Record::default(); 1]);
+    assert_eq!(engine.take(&input, &mut records).unwrap(), (flow.len(), 1, Stop::Full));
+    assert_eq!((records[0].kind, records[0].output, records[0].credit), (kind::FLOW, 0, 10));
+    assert_eq!(engine.take(&input[flow.len()..], &mut records).unwrap(), (end.len(), 1, Stop::Done { wanted: 4 }));
+    assert_eq!((records[0].kind, records[0].refusal), (kind::ENDED, 0));
+    assert_eq!(engine.take(&[0, 0, 0, 7], &mut records).unwrap(), (0, 0, Stop::BadSize));
 }
 
 #[test]
 fn what_is_none_is_refused() {
-    assert!(matches!(Engine::new([0; 16], Room::default(), b"\0\x53\x11\x45"), Err(Error::BadArgument)));
+    assert!(matches!(Engine::new([0; 16], OPEN), Err(Error::BadArgument)));
+    assert!(matches!(Engine::new([7; 16], b"\0\x53\x11\x45"), Err(Error::BadArgument)));
     let mut engine = made();
     assert_eq!(engine.begin(7, OPEN), Err(Error::BadArgument));
     assert!(matches!(engine.end(7, None), Err(Error::Refused(refusal)) if refusal.name == "NoSession"));

@@ -18,13 +18,13 @@ sys.path.insert(0, str(Path(__file__).resolve().parents[2] / "bindings" / "pytho
 
 from amqp_engine import (
     ACCEPTED, RECEIVER, SECOND, SENDER, SETTLED, Attach, Attached, Begin, Detach, Detached, Disposed, Disposition, Error, Flow, Flowed, Open,
-    Refusal, Room, SessionEnded, Transfer, Transferred, address_of, condition_of, rejected, serve,
+    Refusal, SessionEnded, Transfer, Transferred, address_of, condition_of, rejected, serve,
 )  # fmt: skip
 from queues import MESSAGE_MOST, Queues
 
 CREDIT, WINDOW = 200, 2048
 CHANNEL_MAX, HANDLE_MAX, NAME_MOST = 31, 255, 1024
-#: How many deliveries of a session may be open in each direction: events have room for them, so that no disposition is missed
+#: How many deliveries of a session may be open in each direction
 OPEN_MOST = 1024
 #: How many bytes of messages a client may have here that are not whole, leave unread, and leave unsettled
 PARTS_MOST, UNREAD_MOST, UNSETTLED_MOST = 8 << 20, 256 << 10, 4 << 20
@@ -45,12 +45,12 @@ class Incoming:
     def __init__(self, client, event, output, queue):
         self.client, self.queue, self.second = client, queue, event.attach.rcv_settle_mode == SECOND
         self.session, self.input, self.output = event.session, event.input_handle, output
-        # of deliveries that the client is to settle, the numbers by their tags
-        self.count, self.credit, self.owed = event.attach.initial_delivery_count or 0, 0, {}
+        # the numbers of the deliveries that the client is to settle
+        self.count, self.credit, self.owed = event.attach.initial_delivery_count or 0, 0, set()
         self.begin_anew()
 
     def begin_anew(self):
-        self.body, self.number, self.tag, self.settled = bytearray(), None, None, False
+        self.body, self.number, self.settled = bytearray(), None, False
 
     def grant(self):
         if self.credit > CREDIT // 2 or self.client.links.get((self.session, self.input)) is not self:
@@ -87,7 +87,7 @@ class Incoming:
             raise Fault("amqp:invalid-field", "a delivery-tag of more than 32 bytes")
         if self.credit == 0:
             raise Fault("amqp:link:transfer-limit-exceeded", "no credit")
-        self.number, self.tag = transfer.delivery_id, transfer.delivery_tag
+        self.number = transfer.delivery_id
 
     def judge(self):
         if len(self.body) > MESSAGE_MOST:
@@ -101,18 +101,20 @@ class Incoming:
             return
         # where the receiver settles second, the client settles what this side has told, and then it is over
         if self.second:
-            self.owed[self.tag] = self.number
+            self.owed.add(self.number)
             self.client.owed[self.session] = self.client.owed.get(self.session, 0) + 1
         self.client.engine.disposition(self.session, Disposition(RECEIVER, self.number, settled=not self.second, state=state))
 
     def settle(self, event):
-        if event.settled and self.owed.pop(event.tag, None) is not None:
-            self.client.owed[self.session] -= 1
+        """What the client has settled is over."""
+        gone = event.among(self.owed) if event.settled else []
+        self.owed.difference_update(gone)
+        self.client.owed[self.session] = self.client.owed.get(self.session, 0) - len(gone)
 
     def drop(self):
         self.client.parts -= len(self.body)
         self.queue.senders.pop(self, None)
-        for number in [*self.owed.values(), *([] if self.number is None else [self.number])]:
+        for number in [*self.owed, *([] if self.number is None else [self.number])]:
             self.client.settle(self.session, RECEIVER, number)
         self.client.owed[self.session] = self.client.owed.get(self.session, 0) - len(self.owed)
 
@@ -124,7 +126,7 @@ class Outgoing:
         self.client, self.queue = client, queue
         self.session, self.input, self.output = event.session, event.input_handle, output
         self.settles = event.attach.snd_settle_mode == SETTLED
-        # messages that are not settled, with the numbers of their deliveries, by their tags
+        # messages that are not settled, by the numbers of their deliveries
         self.count, self.credit, self.open = 0, 0, {}
 
     def take_flow(self, flow):
@@ -167,23 +169,24 @@ class Outgoing:
         if self.settles:
             self.queue.forget(message)
         else:
-            self.open[tag] = number, message
+            self.open[number] = message
         return True
 
     def settle(self, event):
-        """The client's word on a message: it is gone, or comes back."""
+        """The client's word on messages: they are gone, or come back."""
         code = event.state.descriptor if event.state else None
-        if event.tag not in self.open or not (event.settled or event.state):
+        if not (event.settled or event.state):
             return
-        message = self.close(event.tag)
-        if code in RELEASED or code in MODIFIED:
-            self.queue.messages.appendleft(message)
-        else:
-            self.queue.forget(message)
+        for number in reversed(event.among(self.open)):
+            message = self.close(number)
+            if code in RELEASED or code in MODIFIED:
+                self.queue.messages.appendleft(message)
+            else:
+                self.queue.forget(message)
 
-    def close(self, tag):
+    def close(self, number):
         """A delivery is open no longer."""
-        number, message = self.open.pop(tag)
+        message = self.open.pop(number)
         self.client.open[self.session] -= 1
         self.client.unsettled -= len(message)
         self.client.settle(self.session, SENDER, number)
@@ -191,7 +194,7 @@ class Outgoing:
 
     def drop(self):
         self.leave()
-        self.queue.messages.extendleft([self.close(tag) for tag in reversed(list(self.open))])
+        self.queue.messages.extendleft([self.close(number) for number in reversed(list(self.open))])
 
 
 class Client:
@@ -202,8 +205,8 @@ class Client:
         self.links, self.parked, self.is_closing = {}, {}, False
         # bytes of messages that are not whole, and of those that are not settled
         self.parts = self.unsettled = 0
-        # by session: deliveries that the client is to settle, on each side; the number of the next one; and how many transfers had gone out when one did not
-        self.open, self.owed, self.numbers, self.held = {}, {}, {}, {}
+        # by session: deliveries that the client is to settle, on each side; and how many transfers had gone out when one did not
+        self.open, self.owed, self.held = {}, {}, {}
 
     async def serve(self):
         self.engine.open()
@@ -239,9 +242,7 @@ class Client:
     def deliver(self, link, transfer, message):
         """Has a message go out, and answers the number of its delivery."""
         before = self.connection.server.transfers(link.session)
-        self.engine.deliver(link.session, link.input, transfer, message)
-        number = self.numbers.get(link.session, 0)
-        self.numbers[link.session] = (number + 1) % 2**32
+        number = self.engine.deliver(link.session, link.input, transfer, message)
         self.open[link.session] = self.open.get(link.session, 0) + (not link.settles)
         self.unsettled += 0 if link.settles else len(message)
         self.push()
@@ -287,6 +288,8 @@ class Client:
             self.attached(event)
         elif isinstance(event, SessionEnded):
             self.ended(event.session)
+        elif isinstance(event, Disposed):
+            self.disposed(event)
         elif (link := self.links.get((event.session, event.input_handle))) is not None:
             self.take_of_link(link, event)
         elif isinstance(event, Transferred) and event.transfer.delivery_id is not None:
@@ -300,14 +303,18 @@ class Client:
             link.take_flow(event.flow)
             link.queue.hand_out()
             link.answer(event.flow)
-        elif isinstance(event, Disposed):
-            link.settle(event)
-            link.queue.hand_out()
-            if self.parked:
-                self.connection.went.set()
         elif isinstance(event, Detached):
             self.drop(link)
             self.engine.detach(event.session, Detach(link.output, closed=event.detach.closed), expects_answer=False)
+
+    def disposed(self, event):
+        """Each link of the session, and of the side that it speaks of, looks which of its deliveries are meant."""
+        kind = Outgoing if event.role == RECEIVER else Incoming
+        for link in [it for it in self.links.values() if it.session == event.session and isinstance(it, kind)]:
+            link.settle(event)
+            link.queue.hand_out()
+        if self.parked:
+            self.connection.went.set()
 
     def received(self, link, event):
         try:
@@ -341,7 +348,7 @@ class Client:
 
     def ended(self, session):
         self.drop(*(link for link in self.links.values() if link.session == session))
-        for of_session in (self.open, self.owed, self.numbers, self.held):
+        for of_session in (self.open, self.owed, self.held):
             of_session.pop(session, None)
 
     def drop(self, *links):
@@ -377,7 +384,7 @@ async def main():
         return Open("broker", max_frame_size=65536, channel_max=CHANNEL_MAX, idle_time_out=60000)
 
     begin = Begin(incoming_window=WINDOW, outgoing_window=WINDOW, handle_max=HANDLE_MAX)
-    how = {"begin": begin, "check": check if said.user else None, "room": Room(dispositions=2 * OPEN_MOST)}
+    how = {"begin": begin, "check": check if said.user else None}
     server = await serve("127.0.0.1", said.port, opened, handle, **how)
     async with server:
         print(f"listens on 127.0.0.1:{server.sockets[0].getsockname()[1]}", flush=True)

@@ -3,7 +3,7 @@
 
     examples/python/send_receive.py HOST PORT ADDRESS [--sasl USER:PASSWORD] [--messages N] [--size BYTES]
 
-The package `amqp_engine` is in `bindings/python`; AMQP_LIBRARY names `libamqp.so` (`tools/build_c.sh`).
+The package `amqp_engine` is in `bindings/python`; AMQP_LIBRARY names `libamqp1.so` (`tools/build_c.sh`).
 """
 
 import argparse
@@ -14,14 +14,13 @@ from pathlib import Path
 sys.path.insert(0, str(Path(__file__).resolve().parents[2] / "bindings" / "python"))
 
 from amqp_engine import (
-    ACCEPTED, RECEIVER, SENDER, Anonymous, Attach, Attached, Detach, Detached, Disposed, Disposition, Flow, Flowed, Missed, Open, Plain, Refusal, Room,
+    ACCEPTED, RECEIVER, SENDER, Anonymous, Attach, Attached, Detach, Detached, Disposed, Disposition, Flow, Flowed, Open, Plain, Refusal,
     Transfer, Transferred, body_of, connect, data, source, target,
 )  # fmt: skip
 
 SESSION = 0
-#: How many messages may be unsettled: events have room for the dispositions of all of them
+#: How many messages may be unsettled
 UNSETTLED_MOST = 1024
-ROOM = Room(dispositions=2 * UNSETTLED_MOST)
 
 
 class Link:
@@ -41,7 +40,7 @@ async def next_event(connection, kind, link):
             raise event
         if isinstance(event, Detached) and event.detach.error:
             sys.exit(f"the peer detached: {event.detach.error.condition}: {event.detach.error.description}")
-        if isinstance(event, kind) and link.output in (event.output_handle, link.output if event.input_handle == link.input else None):
+        if isinstance(event, kind) and (isinstance(event, Disposed) or link.input == event.input_handle):
             return event
         if isinstance(event, Attached) and event.attach.name == link.name:
             link.input = event.input_handle
@@ -54,17 +53,18 @@ async def send(connection, address, messages):
     """Sends the messages, each unsettled, and waits until the peer has settled all."""
     link = Link(connection, "sender", SENDER, address)
     await next_event(connection, Attached, link)
-    credit, sent, settled = 0, 0, 0
-    while settled < len(messages):
-        while credit and sent < min(len(messages), settled + UNSETTLED_MOST):
+    credit, sent, unsettled = 0, 0, set()
+    while sent < len(messages) or unsettled:
+        while credit and sent < len(messages) and len(unsettled) < UNSETTLED_MOST:
             transfer = Transfer(link.output, delivery_tag=sent.to_bytes(4, "big"), message_format=0, settled=False)
-            connection.engine.deliver(SESSION, link.input, transfer, data(messages[sent]))
+            unsettled.add(connection.engine.deliver(SESSION, link.input, transfer, data(messages[sent])))
             credit, sent = credit - 1, sent + 1
         event = await next_event(connection, (Flowed, Disposed), link)
         if isinstance(event, Disposed):
             if event.state not in (None, ACCEPTED):
                 sys.exit(f"the peer does not take a message: {event.state}")
-            settled += event.settled or event.state == ACCEPTED
+            if event.role == RECEIVER and (event.settled or event.state == ACCEPTED):
+                unsettled.difference_update(event.among(unsettled))
         elif event.flow.link_credit is not None:
             credit = max(0, (event.flow.delivery_count or 0) + event.flow.link_credit - sent)
     print(f"sent {sent} messages, all settled by the peer")
@@ -101,7 +101,7 @@ async def main():
     said = parser.parse_args()
     login = Plain(*said.sasl.split(":", 1)) if said.sasl else Anonymous()
     messages = [b"%08d" % at + bytes(max(0, said.size - 8)) for at in range(said.messages)]
-    async with connect(said.host, said.port, Open("send_receive", hostname=said.host, idle_time_out=60000), login=login, room=ROOM) as connection:
+    async with connect(said.host, said.port, Open("send_receive", hostname=said.host, idle_time_out=60000), login=login) as connection:
         connection.engine.open()
         await connection.session(SESSION)
         for link in (await send(connection, said.address, messages), await receive(connection, said.address, messages)):
@@ -114,5 +114,5 @@ async def main():
 if __name__ == "__main__":
     try:
         asyncio.run(main())
-    except (OSError, Refusal, Missed) as error:
+    except (OSError, Refusal) as error:
         sys.exit(f"send_receive: {error}")

@@ -32,11 +32,12 @@ def instructions(words):
     return int(counted[1])
 
 
-def of_one(words, batch, is_time):
-    """What one transfer takes."""
+def of_one(words, batch, size, is_time):
+    """What one transfer of this size takes, so many at once."""
     if is_time:
-        return 1e9 * per_unit(lambda count: seconds([*words, str(count - count % batch), str(batch)], b""), 1000000, 1000)
-    few, many = (instructions([*words, str(count), str(batch)]) for count in (FEW, MANY))
+        most = 1000000 if size < 1000 else 50000
+        return 1e9 * per_unit(lambda count: seconds([*words, str(count - count % batch), str(batch), str(size)], b""), most, 1000)
+    few, many = (instructions([*words, str(count), str(batch), str(size)]) for count in (FEW, MANY))
     return (many - few) / (MANY - FEW)
 
 
@@ -47,13 +48,13 @@ def main():
     prefix = Path(words[0])
     with tempfile.TemporaryDirectory() as folder:
         program = f"{folder}/bench_c"
-        source = [str(ROOT / "tools" / "bench" / "bench_c.c"), f"{prefix}/lib/libamqp.a"]
+        source = [str(ROOT / "tools" / "bench" / "bench_c.c"), f"{prefix}/lib/libamqp1.a"]
         subprocess.run(["cc", "-O2", f"-I{prefix}/include", *source, "-l:libqpid-proton-core.so.10", "-o", program], check=True)
         print("| | ours | qpid-proton |\n|---|---|---|")
-        for mode in ("receive", "unsettled"):
-            for batch in (1, 100):
-                row = [of_one([program, who, mode], batch, is_time) for who in ("ours", "proton")]
-                print(f"| {mode}, by {batch} | {row[0]:.0f} | {row[1]:.0f} |", flush=True)
+        for mode in ("receive", "unsettled", "settled"):
+            for batch, size in ((1, 64), (100, 64), (100, 16384)):
+                row = [of_one([program, who, mode], batch, size, is_time) for who in ("ours", "proton")]
+                print(f"| {mode}, by {batch}, of {size} bytes | {row[0]:.0f} | {row[1]:.0f} |", flush=True)
 
 
 if __name__ == "__main__":

@@ -4,8 +4,9 @@
     tools/gate/keeps_legal.py
 
 That a history stays legal whatever is called is no theorem of one function: a public function that takes such a value by `&mut`, and says nothing of
-histories, would be proved all the same. So the contract of each has to cite a definition that speaks of them: of an engine one that reaches `Legal`,
-of a session or a connection the step of that call, which its history's own step names; or, in so many words, that the value stays as it was.
+histories, would be proved all the same. So the contract of each has to cite a definition that speaks of them: of an engine, and of a driver,
+whose history is its engine's, one that reaches `Legal`; of a session or a connection the step of that call, which its history's own step names; or, in
+so many words, that the value stays as it was.
 """
 
 import re
@@ -23,11 +24,14 @@ ROOT = Path(__file__).resolve().parents[2]
 # Of each crate the types that have histories, and the definition that takes a step of one.
 HISTORIES = {
     "amqp_engine": (("Engine", "HandledEngine"), None),
+    "amqp_driver": (("Driver",), None),
     "amqp_session": (("Session",), ("amqp_session", "History", "SessionStep")),
     "amqp_connection": (("Connection",), ("amqp_connection", "History", "Step")),
 }
 LEGAL = "amqp_engine", "Legal", "Legal"
 OWNER = re.compile(r"impl(?:<.*?>)? (?:[\w:]+(?:<.*?>)? for )?(\w+)")
+# The value stays as it was, or but for a driver's bytes.
+STAYS = re.compile(r"self\.new ≡ (?:self\.old|record self\.old \{ to_send = [^}]*\}) \}")
 PUBLIC = re.compile(r"( *)pub fn (\w+)")
 
 
@@ -38,7 +42,7 @@ def heads(lines):
         owner = (OWNER.match(line) or [None, owner])[1] if line.startswith("impl") else None if line.startswith(("fn ", "pub fn ")) else owner
         is_public = PUBLIC.match(line)
         if is_public:
-            end = next(k for k in range(at, len(lines)) if lines[k] == is_public[1] + "{" or lines[k].endswith((" {", ";")) and k >= at)
+            end = next(k for k in range(at, len(lines)) if lines[k] == is_public[1] + "{" or lines[k].endswith((" {", ";", "{}")) and k >= at)
             yield owner if is_public[1] else None, is_public[2], "\n".join(lines[at : end + 1])
 
 
@@ -69,7 +73,7 @@ def silent():
             for owner, name, head in heads(lines):
                 if changes(owner, head, types):
                     count += 1
-                    if not any(speaks(of, step) for of in meant(head, *names)) and "self.new ≡ self.old }" not in head:
+                    if not any(speaks(of, step) for of in meant(head, *names)) and not STAYS.search(head):
                         found.append(f"{file.relative_to(ROOT)}: {owner}::{name}")
     return found, count
 

@@ -1,5 +1,5 @@
 #!/usr/bin/env python3
-"""Builds crates/amqp_c/out/libamqp_c.a over the libraries that `rt ci` proved and left in this checkout, for tools/build_c.sh.
+"""Builds crates/amqp1/out/libamqp1.a over the libraries that `rt ci` proved and left in this checkout, for tools/build_c.sh.
 
     tools/gate/static_library.py
 
@@ -21,7 +21,7 @@ ROOT = Path(__file__).resolve().parents[2]
 
 def main():
     rt = toolchain.rt()
-    [crate] = [it for it in rt.rtlib.crates_below(str(ROOT)) if it.name == "amqp_c"]
+    [crate] = [it for it in rt.rtlib.crates_below(str(ROOT)) if it.name == "amqp1"]
     lacking = [it.name for it in crate.below() if not Path(it.rlib, "format").exists()]
     if lacking:
         told(f"run rt ci first: it left no {', '.join(lacking)}")

@@ -26,7 +26,7 @@ from shared.command import command
 ROOT = Path(__file__).resolve().parents[2]
 PAGE = ROOT / "docs" / "WRONG_BODIES.md"
 # The library for C, on which no other crate stands.
-STATIC = "amqp_c"
+STATIC = "amqp1"
 HEAD = """# Wrong bodies that the prover has to refuse
 
 Written by `tools/gate/wrong_bodies.py --write` from the line `function:` of each edit: do not write here by hand.

@@ -5,7 +5,7 @@ import os
 import time
 
 from amqp_engine import (
-    ACCEPTED, RECEIVER, SENDER, Attach, Attached, Begin, Close, Disposed, Disposition, End, Error, Flow, Missed, Open, PeerSilent, Refusal, Room,
+    ACCEPTED, RECEIVER, SENDER, Attach, Attached, Begin, Close, Disposed, Disposition, End, Error, Flow, Open, PeerSilent, Refusal,
     SessionRefused, Transfer, Transferred, Waits, connect, data, serve, source, target,
 )  # fmt: skip
 from hostile.peers import EMPTY, HEADER, LARGE, PATIENCE, Raw, frame, holds, listens
@@ -309,32 +309,33 @@ async def many_flush_and_the_heart_beats():
 
 
 @test
-async def what_is_missed_is_told_and_ends_the_connection():
+async def a_disposition_of_many_is_one_event():
     async def script(peer):
         peer.send(OPEN, BEGIN)
         await peer.until(0x12)
         peer.send(frame(Attach("a", 0, RECEIVER, target=target("q"))), frame(Flow(0, LARGE, 0, LARGE, handle=0, delivery_count=0, link_credit=100)))
         for _ in range(100):
             await peer.until(0x14)
-        peer.send(frame(Disposition(RECEIVER, 0, 99, settled=True, state=ACCEPTED)))
-        assert await peer.ended() == Missed.CONDITION
+        for first, last in ((0, 2**32 - 1), (5, 4), (0, 99)):
+            peer.send(frame(Disposition(RECEIVER, first, last, settled=True, state=ACCEPTED)))
+        await peer.over()
 
     async def client(connection):
         await connection.session(0)
-        handle, came = connection.engine.link(0, "a", SENDER), []
+        handle, left, came = connection.engine.link(0, "a", SENDER), set(), 0
         connection.engine.attach(0, Attach("a", handle, SENDER, target=target("q"), initial_delivery_count=0))
-        try:
-            async for event in connection:
-                came.append(event)
-                if isinstance(event, Attached):
-                    for at in range(100):
-                        connection.engine.deliver(0, 0, Transfer(handle, delivery_tag=b"%d" % at, message_format=0), b"x")
-        except Missed as missed:
-            assert missed.count == 60 and sum(isinstance(it, Disposed) for it in came) == 40, (missed, len(came))
-            return
-        raise AssertionError("nobody was told")
+        async for event in connection:
+            if isinstance(event, Attached):
+                left = {connection.engine.deliver(0, 0, Transfer(handle, delivery_tag=b"%d" % at, message_format=0), b"x") for at in range(100)}
+                assert left == set(range(100)), left
+            elif isinstance(event, Disposed):
+                came += 1
+                left -= set(event.among(left))
+            if came == 3:
+                assert not left, left
+                return
 
-    await against(script, client, LONG, room=Room(dispositions=40))
+    await against(script, client, LONG)
 
 
 @test

@@ -1,4 +1,4 @@
-"""The engine of the library `libamqp.so`, driven by the lines of amqp_replay, for bridge.py and try_c_captures.py."""
+"""The engine of the library `libamqp1.so`, driven by the lines of amqp_replay, for bridge.py and try_c_captures.py."""
 
 import sys
 from pathlib import Path
@@ -39,8 +39,6 @@ class LineEngine:
                 self.request(word, rest)
         except Refusal as refusal:
             yield from [refusal] * refusal.count
-        for event in self.engine.events():
-            self.hear(event)
 
     def receive(self, data):
         """What received bytes bring."""

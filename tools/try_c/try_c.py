@@ -12,10 +12,12 @@ sys.path.insert(0, str(Path(__file__).resolve().parents[1]))
 sys.path.insert(0, str(Path(__file__).resolve().parents[2] / "bindings" / "python"))
 
 from amqp_engine import (
-    ACCEPTED, FIRST, RECEIVER, RELEASED, SECOND, SENDER, Attach, BadArgument, Begin, Closed, Detach, Detached, Disposed, Disposition, Engine,
-    Error, Flow, Flowed, Missed, Open, Refusal, Room, Server, SessionBegan, SessionEnded, Transfer, Transferred, address_of, data, source,
+    ACCEPTED, FIRST, RECEIVER, RELEASED, SECOND, SENDER, Attach, BadArgument, Begin, Closed, Delivery, Detach, Detached, Disposed, Disposition, Driver, Engine,
+    Error, Flow, Flowed, Open, Refusal, Server, SessionBegan, SessionEnded, Transfer, Transferred, address_of, data, source,
     target,
 )  # fmt: skip
+from amqp_engine.driver import FORMATTED, MORE, NUMBERED
+from amqp_engine.library import Place, load
 from shared.command import command
 from try_c.try_c_sockets import OPEN, TESTS as OVER_SOCKETS
 from try_c.try_c_values import TESTS as OF_VALUES
@@ -31,8 +33,8 @@ def test(function):
 class Pair:
     """A client's engine and a server's, and the bytes between them."""
 
-    def __init__(self, room=None):
-        self.client = Engine(OPEN, room=room)
+    def __init__(self):
+        self.client = Engine(OPEN)
         self.server = Server(Engine(Open("server", max_frame_size=512, channel_max=7)), begin=Begin(incoming_window=8))
         self.client.open()
         self.server.engine.open()
@@ -60,8 +62,8 @@ class Pair:
         return handle, event, mine, answer
 
 
-def mapped(**how):
-    pair = Pair(**how)
+def mapped():
+    pair = Pair()
     pair.client.begin(0, Begin(next_outgoing_id=0, incoming_window=8, outgoing_window=8))
     came = pair.carry()
     assert came == ([], [SessionBegan(0, None, None, Begin(None, 0, 8, 8))]), came
@@ -157,8 +159,9 @@ def deliveries_go_there_and_are_settled():
     pair.server.engine.flow(0, Flow(handle=mine, delivery_count=0, link_credit=2))
     (flow,) = pair.carry()[0]
     assert isinstance(flow, Flowed) and (flow.output_handle, flow.flow.handle, flow.flow.link_credit) == (handle, mine, 2), flow
-    for tag, message in ((b"a", b"short"), (b"b", bytes(1500))):
-        pair.client.deliver(0, answer.input_handle, Transfer(handle, delivery_tag=tag, message_format=0, settled=False), message)
+    for number, tag, message in ((0, b"a", b"short"), (1, b"b", bytes(1500))):
+        transfer = Transfer(handle, delivery_tag=tag, message_format=0, settled=False)
+        assert pair.client.deliver(0, answer.input_handle, transfer, message) == number
     came = pair.carry()[1]
     assert [type(it) for it in came] == [Transferred] * len(came) and len(came) == 5, came
     assert [(it.transfer.delivery_id, it.transfer.delivery_tag, it.transfer.more) for it in came[:2]] == [(0, b"a", None), (1, b"b", True)], came
@@ -166,7 +169,8 @@ def deliveries_go_there_and_are_settled():
     assert all(len(it.transfer.encode()) + len(it.payload) <= 504 for it in came)
     pair.server.engine.disposition(0, Disposition(RECEIVER, 0, 1, settled=True, state=ACCEPTED))
     told = pair.carry()[0]
-    assert told == [Disposed(0, answer.input_handle, handle, RECEIVER, True, ACCEPTED, tag) for tag in (b"a", b"b")], told
+    assert told == [Disposed(0, None, None, RECEIVER, True, ACCEPTED, 0, 1)], told
+    assert told[0].among([2**32 - 1, 0, 1, 2]) == [0, 1] == told[0].among({1, 0}) and told[0].among({7: b""}) == []
 
 
 @test
@@ -180,7 +184,7 @@ def a_delivery_settled_second_is_settled_by_both():
     pair.server.engine.disposition(0, Disposition(RECEIVER, 0, settled=False, state=RELEASED))
     first, second = pair.carry()
     assert [(it.settled, it.state) for it in first] == [(False, RELEASED)], first
-    assert [(it.role, it.settled, it.state, it.tag) for it in second] == [(SENDER, True, RELEASED, b"t")], second
+    assert [(it.role, it.settled, it.state, it.first, it.last) for it in second] == [(SENDER, True, RELEASED, 0, 0)], second
 
 
 @test
@@ -193,7 +197,7 @@ def what_this_side_settles_is_let_go():
     pair.carry()
     pair.client.settle(0, SENDER, 0)
     pair.server.engine.disposition(0, Disposition(RECEIVER, 0, settled=True, state=ACCEPTED))
-    assert pair.carry()[0] == []
+    assert [type(it) for it in pair.carry()[0]] == [Disposed]
 
 
 @test
@@ -223,24 +227,38 @@ def bytes_come_in_any_splitting():
 
 
 @test
-def events_past_their_room_are_refused_or_counted():
-    pair = mapped(room=Room(links=2, flows=1, transfers=1, dispositions=1))
+def transfers_go_by_their_heads_and_records_come():
+    pair = mapped()
     handle, event, mine, answer = pair.attached()
     pair.server.engine.flow(0, Flow(handle=mine, delivery_count=0, link_credit=9))
     pair.carry()
-    for tag in (b"a", b"b"):
-        pair.client.transfer(0, answer.input_handle, Transfer(handle, delivery_tag=tag, settled=False), b"x")
-    pair.carry()
-    pair.server.engine.disposition(0, Disposition(RECEIVER, 0, 1, settled=True, state=ACCEPTED))
-    told = pair.client.receive(pair.server.to_send())
-    assert next(told).tag == b"a"
-    try:
-        next(told)
-    except Missed as missed:
-        assert missed.count == pair.client.missed == 1 and pair.server.engine.missed == 0
-        assert list(pair.client.receive(b"")) == []
-        return
-    raise AssertionError("nobody was told")
+    of = Delivery(0, answer.input_handle, b"t", b"hello", flags=NUMBERED | FORMATTED)
+    later = of._replace(tag=None, payload=b"!", flags=0)
+    sent = pair.client.send([of._replace(flags=of.flags | MORE), later, of._replace(link=99), of._replace(payload=bytes(600)), of._replace(tag=bytes(33)), of])
+    assert sent == [(0, 0), (0, 0), (0, 61), (0, 91), (0, 92), (1, 0)], sent
+    assert [pair.client.refusal_of(it).name for it in (61, 91, 92)] == ["UnattachedHandle", "PayloadTooLong", "TagTooLong"]
+    assert pair.client.answer_of(61) == "end" and pair.client.refusal_of(12).condition == "amqp:decode-error"
+    came = pair.client.to_send()
+    driver = pair.server.engine
+    taken = driver.take(came + b"\x00")
+    assert (taken.taken, taken.wanted, taken.is_bad) == (len(frames(came)[0]) + 4, 0, False), taken
+    records = [Driver.take(driver, came, at).records[0] for at in places(came)[1:]]
+    whole = [taken.records[0], *records]
+    assert [came[it.payload_at : it.payload_at + it.payload] for it in whole] == [b"hello", b"!", b"hello"], whole
+    assert [(it.kind, it.first, it.tag[: it.tag_size], bool(it.flags & MORE)) for it in whole] == [(6, 0, b"t", True), (6, 0, b"", False), (6, 1, b"t", False)]
+    driver.dispose(0, RECEIVER, 0, 1, True, 1)
+    assert pair.carry()[0] == [Disposed(0, None, None, RECEIVER, True, ACCEPTED, 0, 1)]
+    assert pair.client.transfer(0, answer.input_handle, Transfer(handle, delivery_tag=b"u", settled=True), b"x") == 2
+    assert (pair.client.unfit, driver.unfit) == (0, 0)
+
+
+def places(data):
+    """Where each frame begins."""
+    found, at = [], 0
+    while at < len(data):
+        found.append(at)
+        at += int.from_bytes(data[at : at + 4], "big")
+    return found
 
 
 @test
@@ -290,7 +308,7 @@ def a_call_goes_on_after_a_refusal():
 def requests_without_their_form_are_no_requests():
     pair = mapped()
     for call in [
-        lambda: pair.client._ask(99), lambda: pair.client._ask(0), lambda: pair.client._ask(2, b"x"), lambda: pair.client._ask(4, b""),
+        lambda: pair.client._ask(99), lambda: pair.client._ask(1), lambda: pair.client._ask(17), lambda: pair.client._ask(22), lambda: pair.client._ask(26), lambda: pair.client._ask(0), lambda: pair.client._ask(2, b"x"), lambda: pair.client._ask(4, b""),
         lambda: pair.client._ask(10, b"\x00\x00\x00\x00" + Detach(0).encode()), lambda: pair.client._ask(6, bytes(5)),
         lambda: pair.client._ask(8, b"\x00\x00\x00\x00\x02\x00a"), lambda: pair.client._ask(8, b"\x00\x00\x00\x00\x00\x00\xff"),
         lambda: pair.client._ask(14, bytes(10 * 1024 * 1024)), lambda: pair.client.begin(-1), lambda: pair.client.begin(5, Begin(remote_channel=0)),
@@ -317,11 +335,13 @@ def a_freed_engine_answers():
 
 @test
 def an_open_that_is_none_makes_no_engine():
-    for given in (b"", bytes(31), bytes(32), bytes(32) + b"\x00\x53\x11\x45"):
-        engine = Engine.__new__(Engine)
-        engine._library, engine._place, engine._written = Engine(OPEN)._library, Engine(OPEN)._place.__class__(), None
-        assert engine._library.amqp_new(engine._place, given, len(given)) == 4, given
-        assert engine._place.full == 0
+    library, place = load(), Place()
+    key = b"k" * 16
+    for given in (b"", bytes(15), key, key + b"\x00\x53\x11\x45", bytes(16) + OPEN.encode()):
+        assert library.amqp1_new(place, given, len(given)) == 4, given
+        assert place.full == 0
+    assert library.amqp1_new(place, key + OPEN.encode(), 16 + len(OPEN.encode())) == 0 and place.full == 1
+    library.amqp1_free(place)
 
 
 def main():

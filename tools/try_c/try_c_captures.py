@@ -4,7 +4,7 @@ compares what it refuses with what refused_of_captures.py compares amqp_replay w
 
     tools/try_c/try_c_captures.py LIBRARY
 
-LIBRARY is libamqp.so. A recording with a frame of less than four bytes, which no stream can carry, is left out. The last line is 'N passed, M failed', a test for each connection, side and size.
+LIBRARY is libamqp1.so. A recording with a frame of less than four bytes, which no stream can carry, is left out. The last line is 'N passed, M failed', a test for each connection, side and size.
 """
 
 import os
@@ -24,7 +24,7 @@ class Replay(LineEngine):
     """An engine as amqp_replay makes one. Its links take what comes, whichever end they are."""
 
     def __init__(self, size):
-        super().__init__(Open("replay", max_frame_size=262144, channel_max=255), key=bytes(16))
+        super().__init__(Open("replay", max_frame_size=262144, channel_max=255), key=b"k" * 16)
         self.size, self.allotted, self.inputs = size, {}, {}
 
     def role_of(self, name):

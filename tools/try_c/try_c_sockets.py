@@ -49,7 +49,7 @@ async def talk(port, **how):
             if isinstance(event, Flowed):
                 for at in range(100):
                     engine.transfer(0, event.input_handle, Transfer(handle, delivery_tag=bytes([at]), settled=False), b"x" * at)
-            settled += isinstance(event, Disposed)
+            settled += len(event.among(range(100))) if isinstance(event, Disposed) else 0
             if settled == 100:
                 break
         await connection.close()

@@ -1,4 +1,4 @@
-"""AMQP 1.0 for Python, by a proved engine: frames, connection and sessions (AMQP 1.0 part 2), over the library `libamqp.so`.
+"""AMQP 1.0 for Python, by a proved engine: frames, connection and sessions (AMQP 1.0 part 2), over the library `libamqp1.so`.
 
     from amqp_engine import Engine, Open
 
@@ -11,13 +11,15 @@
 `Engine` does no input or output itself; `connect` and `serve` are a transport by `asyncio`. Protocol headers and SASL are the transport's.
 """
 
-from .engine import BadArgument, Engine, NoMemory, Room
-from .events import AnyEvent, Attached, Detached, Disposed, Event, Flowed, Missed, Refusal, Transferred
+from .driver import Delivery, Driver, Record, Taken
+from .engine import Engine
+from .events import AnyEvent, Attached, Detached, Disposed, Event, Flowed, Refusal, Transferred
 from .listening import connect, serve
 from .performatives import (
     ACCEPTED, FIRST, MIXED, RECEIVER, RELEASED, SECOND, SENDER, SETTLED, UNSETTLED, Attach, Begin, Close, Detach, Disposition, End, Error, Flow, Open,
     Transfer, address_of, body_of, data, rejected, source, target,
 )  # fmt: skip
+from .requesting import BadArgument, NoMemory
 from .sasl import Anonymous, LoginRefused, Plain
 from .serving import Closed, Server, SessionBegan, SessionEnded
 from .stream import PeerSilent, Waits

@@ -2,17 +2,11 @@
 
 from __future__ import annotations
 
-import struct
 from dataclasses import dataclass
-from typing import Any, Optional, Union
+from typing import Collection, List, Optional, Union
 
 from .performatives import Attach, Detach, Flow, Transfer
-from .values import Described, Malformed, read
-
-# kind, flags, session, input handle, output handle, length of what comes next, length of the rest
-HEAD = struct.Struct(">BBHIIIII")
-_INPUT, _OUTPUT, _SETTLED, _REMOTE, _RECEIVER, _STATE = 1, 2, 4, 8, 16, 32
-
+from .values import Described, Malformed
 
 @dataclass
 class Event:
@@ -32,7 +26,7 @@ class Attached(Event):
 
 @dataclass
 class Flowed(Event):
-    """The peer's flow, of which the link's part is told; what is the session's is 0."""
+    """The peer's flow for the link."""
 
     flow: Flow
 
@@ -47,12 +41,21 @@ class Transferred(Event):
 
 @dataclass
 class Disposed(Event):
-    """What the peer says of one open delivery. `role` is the peer's: `RECEIVER` speaks of what this side sent."""
+    """What the peer says of the deliveries from `first` to `last`, by their numbers modulo 2^32, whichever links they are of. `role` is the peer's:
+    `RECEIVER` speaks of what this side sent. There may be none of some of these numbers."""
 
     role: bool
     settled: bool
     state: Optional[Described]
-    tag: bytes
+    first: int
+    last: int
+
+    def among(self, numbers: Collection[int]) -> List[int]:
+        """Those of these numbers that it speaks of, in their order. It takes no longer where the range is wide."""
+        size = (self.last - self.first) % 2**32
+        if size < len(numbers):
+            return [it for it in ((self.first + at) % 2**32 for at in range(size + 1)) if it in numbers]
+        return sorted((it for it in numbers if (it - self.first) % 2**32 <= size), key=lambda it: (it - self.first) % 2**32)
 
 
 @dataclass
@@ -64,31 +67,6 @@ class Detached(Event):
 
 
 AnyEvent = Union[Attached, Flowed, Transferred, Disposed, Detached]
-
-
-def event_of(record: bytes) -> AnyEvent:
-    """The event of a record that the library wrote. Raises `Malformed` where the peer's values in it cannot be read: the engine looks at their sizes alone."""
-    kind, flags, _, session, given, taken, first, rest = HEAD.unpack_from(record)
-    body, tail = record[HEAD.size : HEAD.size + first], record[HEAD.size + first : HEAD.size + first + rest]
-    link = (session, given if flags & _INPUT else None, taken if flags & _OUTPUT else None)
-    if kind == 1:
-        return Attached(*link, Attach.decode(body))
-    if kind == 2:
-        return Flowed(*link, Flow.decode(body))
-    if kind == 3:
-        return Transferred(*link, Transfer.decode(body), tail)
-    if kind == 4:
-        state = _state_of(body) if flags & _STATE else None
-        return Disposed(*link, bool(flags & _RECEIVER), bool(flags & _SETTLED), state, tail)
-    return Detached(*link, Detach.decode(body), bool(flags & _REMOTE))
-
-
-def _state_of(body: bytes) -> Described:
-    """A delivery's state, which is a composite (AMQP 1.0 part 3, section 3.4)."""
-    state, _ = read(body)
-    if not isinstance(state, Described):
-        raise Malformed("a delivery's state that is no described value")
-    return state
 
 
 @dataclass
@@ -110,14 +88,3 @@ class Refusal(Exception):
 def unreadable(error: Malformed) -> Refusal:
     """What is told in the place of an event, or an Open, that cannot be read."""
     return Refusal("Unreadable", "amqp:decode-error", str(error))
-
-
-class Missed(Exception):
-    """Dispositions came for more deliveries than there was room for (`Room.dispositions`): of so many this side was not told. What it knows of the
-    connection's deliveries is wrong from then on, so the connection is to be closed."""
-
-    CONDITION = "amqp:resource-limit-exceeded"
-
-    def __init__(self, count: int) -> None:
-        super().__init__(f"{count} events were missed for want of room")
-        self.count = count

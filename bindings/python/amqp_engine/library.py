@@ -1,13 +1,15 @@
-"""The library `libamqp.so`, by `ctypes`: three functions, and where the file is looked for."""
+"""The library `libamqp1.so`, by `ctypes`: its functions, and where the file is looked for."""
 
 from __future__ import annotations
 
 import ctypes
 import os
 from pathlib import Path
-from typing import Optional
+from typing import Any, Optional
 
-DONE, REFUSED, NO_MEMORY, TOO_SMALL, BAD_ARGUMENT, NO_ENGINE, EVENTS_WAIT = range(7)
+DONE, REFUSED, NO_MEMORY, TOO_SMALL, BAD_ARGUMENT, NO_ENGINE = range(6)
+FULL, BAD_SIZE, SHORT = range(7, 10)
+_FILE = "libamqp1.so.1"
 
 
 class Slot(ctypes.Structure):
@@ -22,16 +24,38 @@ class Place(ctypes.Structure):
     _fields_ = [("full", ctypes.c_uint32), ("slot", Slot)]
 
 
+class Took(ctypes.Structure):
+    """How many bytes were taken, how many records were written, and how many bytes the next frame has."""
+
+    _fields_ = [("taken", ctypes.c_size_t), ("written", ctypes.c_size_t), ("wanted", ctypes.c_size_t)]
+
+
+class Went(ctypes.Structure):
+    """How many transfers were taken, and how many of their bytes."""
+
+    _fields_ = [("taken", ctypes.c_size_t), ("used", ctypes.c_size_t)]
+
+
+def _found(path: Optional[str]) -> ctypes.CDLL:
+    beside = Path(__file__).parent / _FILE
+    return ctypes.CDLL(path or os.environ.get("AMQP_LIBRARY") or (str(beside) if beside.exists() else _FILE))
+
+
 def load(path: Optional[str] = None) -> ctypes.CDLL:
     """The library: of this path; or of the environment's `AMQP_LIBRARY`; or beside this package; or where the system looks."""
-    beside = Path(__file__).parent / "libamqp.so"
-    name = path or os.environ.get("AMQP_LIBRARY") or (str(beside) if beside.exists() else "libamqp.so")
-    library = ctypes.CDLL(name)
-    place, size = ctypes.POINTER(Place), ctypes.c_size_t
-    library.amqp_new.argtypes = [place, ctypes.c_char_p, size]
-    library.amqp_new.restype = ctypes.c_int32
-    library.amqp_call.argtypes = [place, ctypes.c_uint32, ctypes.c_void_p, size, ctypes.c_void_p, size, ctypes.POINTER(size)]
-    library.amqp_call.restype = ctypes.c_int32
-    library.amqp_free.argtypes = [place]
-    library.amqp_free.restype = None
+    library = _found(path)
+    place, size, at = ctypes.POINTER(Place), ctypes.c_size_t, ctypes.c_void_p
+    _declare(library.amqp1_new, library.amqp1_call, library.amqp1_free)
+    library.amqp1_take.argtypes = [place, at, size, at, size, ctypes.POINTER(Took)]
+    library.amqp1_take.restype = ctypes.c_int32
+    library.amqp1_send.argtypes = [place, at, size, at, size, at, size, ctypes.POINTER(Went)]
+    library.amqp1_send.restype = ctypes.c_int32
     return library
+
+
+def _declare(new: Any, call: Any, free: Any) -> None:
+    place, size = ctypes.POINTER(Place), ctypes.c_size_t
+    new.argtypes, new.restype = [place, ctypes.c_char_p, size], ctypes.c_int32
+    call.argtypes = [place, ctypes.c_uint32, ctypes.c_void_p, size, ctypes.c_void_p, size, ctypes.POINTER(size)]
+    call.restype = ctypes.c_int32
+    free.argtypes, free.restype = [place], None

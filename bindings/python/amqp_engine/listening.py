@@ -9,8 +9,7 @@ import ssl
 from typing import Any, AsyncIterator, Awaitable, Callable, Optional
 
 from . import sasl
-from .engine import Room
-from .events import Missed, Refusal
+from .events import Refusal
 from .performatives import Begin, Open
 from .stream import Waits, within
 from .transport import Connection
@@ -28,13 +27,12 @@ async def connect(
     login: Optional[sasl.Login] = sasl.Anonymous(),
     tls: Optional[ssl.SSLContext] = None,
     key: Optional[bytes] = None,
-    room: Optional[Room] = None,
     library: Optional[str] = None,
     waits: Optional[Waits] = None,
 ) -> AsyncIterator[Connection]:
     """A connection to a peer that listens, with its headers and SASL done. `login=None` leaves SASL out."""
     reader, writer = await within((waits or Waits()).login, asyncio.open_connection(host, port, ssl=tls), "no connection")
-    connection = _made(reader, writer, open, key=key, room=room, library=library, waits=waits)
+    connection = _made(reader, writer, open, key=key, library=library, waits=waits)
     try:
         await connection.begin(login)
         yield connection
@@ -53,7 +51,7 @@ def _made(reader: asyncio.StreamReader, writer: asyncio.StreamWriter, *given: An
 
 def log(error: Exception) -> None:
     """What is told where nobody else is: a peer's fault as a line of level INFO, a fault of this side with its traceback."""
-    if isinstance(error, (ConnectionError, TimeoutError, Malformed, Refusal, Missed)):
+    if isinstance(error, (ConnectionError, TimeoutError, Malformed, Refusal)):
         _LOG.info("a connection ended: %r", error)
     else:
         _LOG.error("a connection ended", exc_info=error)

@@ -13,7 +13,7 @@ from dataclasses import dataclass, replace
 from typing import Deque, Dict, Iterator, List, Optional, Union
 
 from .engine import Engine
-from .events import AnyEvent, Attached, Detached, Event, Missed, Refusal, unreadable
+from .events import AnyEvent, Attached, Detached, Event, Refusal, unreadable
 from .performatives import FIRST, RECEIVER, SECOND, Attach, Begin
 from .values import Malformed, read
 
@@ -90,7 +90,7 @@ class Server:
         self._begin = begin or Begin()
         # received bytes, of which those before `_at` were taken, and what the last frame brought and nobody took yet
         self._rest, self._at = bytearray(), 0
-        self._ready: Deque[Union[ServerEvent, Missed]] = deque()
+        self._ready: Deque[ServerEvent] = deque()
         self._turned, self._next, self._is_broken = b"", 0, False
         # the links that the client attached: this side's handles, by session and the client's handle
         self._outputs: Dict[int, Dict[int, int]] = {}
@@ -102,7 +102,7 @@ class Server:
 
     def receive(self, data: bytes) -> Iterator[ServerEvent]:
         """Takes received bytes, in any splitting, and gives what they bring, in order. What an iterator leaves, the next one begins with. After the
-        refusal `BadSize` the stream is of no use. Raises `Missed`, as `Engine.receive` does."""
+        refusal `BadSize` the stream is of no use."""
         del self._rest[: self._at]
         self._at = 0
         if not self._is_broken:
@@ -112,17 +112,11 @@ class Server:
     def _take_all(self) -> Iterator[ServerEvent]:
         while True:
             while self._ready:
-                event = self._ready.popleft()
-                if isinstance(event, Missed):
-                    raise event
-                yield event
+                yield self._ready.popleft()
             frame = self._next_frame()
             if frame is None:
                 return
-            try:
-                self._ready.extend(self._take(frame))
-            except Missed as missed:
-                self._ready.append(missed)
+            self._ready.extend(self._take(frame))
 
     def _next_frame(self) -> Optional[bytes]:
         """The next frame, with its size, once it is whole. One of no lawful size is given to the engine at once, which refuses it, and nothing after it."""

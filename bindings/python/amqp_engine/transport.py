@@ -21,7 +21,7 @@ from typing import Any, AsyncIterator, Deque, Iterator, Optional, Union
 
 from . import sasl
 from .engine import Engine
-from .events import Missed, Refusal
+from .events import Refusal
 from .performatives import Begin, Error, Open
 from .serving import Server, ServerEvent
 from .stream import PeerSilent, Stream, Waits, within
@@ -71,7 +71,7 @@ class Connection:
         self._stream = Stream(reader, writer, self._waits)
         self._own_limit = None if not open.idle_time_out else open.idle_time_out / 1000
         # what came while a session was waited for, and what the engine gives next
-        self._kept: Deque[Union[ServerEvent, Missed]] = deque()
+        self._kept: Deque[ServerEvent] = deque()
         self._coming: Iterator[ServerEvent] = iter(())
         self._beats: Optional["asyncio.Task[None]"] = None
         # until when the peer may answer this side's Close
@@ -176,20 +176,12 @@ class Connection:
                 return self._next()
             except StopIteration:
                 pass
-            except Missed:
-                await self._close_soon(Error(Missed.CONDITION, "more dispositions than this side has room for"))
-                raise
             if not await self._pump():
                 raise StopAsyncIteration
 
     def _next(self) -> ServerEvent:
         """One at a time: what is asked in answer to an event goes out before the engine takes the next frame."""
-        if not self._kept:
-            return next(self._coming)
-        event = self._kept.popleft()
-        if isinstance(event, Missed):
-            raise event
-        return event
+        return self._kept.popleft() if self._kept else next(self._coming)
 
     async def _pump(self, until: Optional[float] = None) -> bool:
         """Sends what waits, and reads what comes next, until a time on the clock of `time.monotonic`, if there is one. False where the stream is over, or
@@ -232,10 +224,7 @@ class Connection:
 
     def _keep(self) -> None:
         """Keeps what came for the iterator."""
-        try:
-            self._kept.extend(self._coming)
-        except Missed as missed:
-            self._kept.append(missed)
+        self._kept.extend(self._coming)
 
     async def _let_go(self, number: int) -> None:
         """The peer's End, or its Close, is answered."""
@@ -314,15 +303,12 @@ class Connection:
 
     async def _passed_over(self) -> None:
         while await self._pump():
-            with contextlib.suppress(Missed):
-                for _ in self._coming:
-                    pass
+            for _ in self._coming:
+                pass
 
 
 def condition_of(error: BaseException) -> str:
     """The condition by which a peer is told of an error: of a refusal its own; of what is this side's fault, that it is (AMQP 1.0 part 2, section 2.8.15)."""
-    if isinstance(error, Missed):
-        return Missed.CONDITION
     if isinstance(error, Malformed):
         return "amqp:decode-error"
     if isinstance(error, Refusal) and error.condition:

@@ -1,0 +1,196 @@
+"""The driver: received bytes go in, records come out; requests go in, bytes to send come out. It does no input or output itself, and keeps no byte that
+was not taken. Of each frame there is a record of fixed size; what the frame says else stands in the bytes that were given, at the record's places.
+"""
+
+from __future__ import annotations
+
+import ctypes
+import os
+import struct
+from typing import Any, Dict, List, NamedTuple, Optional, Sequence, Tuple, Union
+
+from . import library as lib
+from .events import Refusal
+from .performatives import Open
+from .requesting import REMOTE_OPEN, SEND, BadArgument, NoMemory, Requests, numbers
+
+_UNFIT, _REFUSAL_TEXT, _DISPOSE = 27, 28, 29
+
+#: What a record is of
+(
+    OPENED, BEGUN, ATTACHED, ATTACH_WANTED, FLOW, TRANSFER, DISPOSITION, DETACHED, ENDED, CLOSED, REFUSED,
+) = range(1, 12)  # fmt: skip
+
+#: What a frame says besides, and what a transfer is to say; the comments of `include/amqp1/records.h` have each
+(
+    NUMBERED, SETTLED, MORE, ABORTED, OF_RECEIVER, STATED, DRAIN, ECHO, WITH_ERROR, FOR_GOOD, CREDITED, COUNTED, LINKED, FORMATTED, TAGGED, AVAILABLE,
+) = (1 << at for at in range(16))  # fmt: skip
+
+#: No session, or no link
+NONE = 0xFFFFFFFF
+#: The states of deliveries
+STATE_ACCEPTED, STATE_REJECTED, STATE_RELEASED, STATE_MODIFIED, STATE_RECEIVED, STATE_OTHER = range(1, 7)
+
+_RECORD = struct.Struct("=BBH14I2H32s")
+_HEAD = struct.Struct("=4I2H")
+_SENT = struct.Struct("=2I")
+_NONE_HERE = ctypes.c_char()
+
+
+class Record(NamedTuple):
+    """What one received frame says. `output` is this side's handle of its link, `input` the peer's; `at`, `size`, `payload_at` and `payload` are places in
+    the bytes that were given, and how many."""
+
+    kind: int
+    outcome: int
+    flags: int
+    session: int
+    output: int
+    input: int
+    first: int
+    last: int
+    format: int
+    count: int
+    credit: int
+    available: int
+    refusal: int
+    at: int
+    size: int
+    payload_at: int
+    payload: int
+    channel: int
+    tag_size: int
+    tag: bytes
+
+
+class Taken(NamedTuple):
+    """What `Driver.take` took: how many bytes; the records of their frames; how many bytes the next frame has, as far as that is known; and whether a
+    size stands there that no frame has: then the connection is to be closed, with `amqp:connection:framing-error`."""
+
+    taken: int
+    records: List[Record]
+    wanted: int
+    is_bad: bool
+
+
+class Delivery(NamedTuple):
+    """A transfer of one frame that is to be sent: on the link that has this handle of the peer's."""
+
+    session: int
+    link: int
+    tag: Optional[bytes]
+    payload: bytes
+    flags: int = NUMBERED
+    format: int = 0
+
+
+def _place_of(data: Union[bytes, bytearray], at: int) -> Tuple[int, Any]:
+    """Where these bytes lie, from a place on; and what holds them there."""
+    if isinstance(data, bytes):
+        return (ctypes.cast(ctypes.c_char_p(data), ctypes.c_void_p).value or 0) + at, data
+    if at >= len(data):
+        return ctypes.addressof(_NONE_HERE), data
+    held = ctypes.c_char.from_buffer(data, at)
+    return ctypes.addressof(held), held
+
+
+class Driver(Requests):
+    """One side of one connection, over `libamqp1.so`."""
+
+    def __init__(self, open: Open, *, key: Optional[bytes] = None, most: int = 256, library: Optional[str] = None) -> None:
+        """A driver that is to send this Open. `key`: 16 bytes that the peer cannot know, so that it cannot choose names and handles that collide; by
+        default they are random. `most`: how many records there are at once. `library`: the path of `libamqp1.so`."""
+        functions = lib.load(library)
+        super().__init__(functions.amqp1_call, functions.amqp1_free)
+        self._take, self._send = functions.amqp1_take, functions.amqp1_send
+        self._records = ctypes.create_string_buffer(most * _RECORD.size)
+        self._most, self._took, self._went = most, lib.Took(), lib.Went()
+        self._texts: Dict[int, Tuple[str, ...]] = {}
+        given = (os.urandom(16) if key is None else key) + open.encode()
+        if key is not None and len(key) != 16:
+            raise ValueError("a key has 16 bytes")
+        self._judge(functions.amqp1_new(ctypes.byref(self._place), given, len(given)))
+
+    # ---- what comes
+
+    def take(self, data: Union[bytes, bytearray], at: int = 0) -> Taken:
+        """Takes whole frames out of these bytes, from a place on, as long as there is room for their records: each runs once. Give what was not taken
+        again, with what came since. Raises `NoMemory` where memory was refused before the first frame."""
+        took = self._took
+        # what is held keeps a bytearray as long as it is
+        start, held = _place_of(data, at)
+        status = self._take(ctypes.byref(self._place), start, len(data) - at, self._records, self._most, ctypes.byref(took))
+        del held
+        if status not in (lib.FULL, lib.BAD_SIZE) and not (status == lib.NO_MEMORY and took.taken):
+            self._judge(status)
+        said = memoryview(self._records)[: took.written * _RECORD.size]
+        records = [Record._make(it) for it in _RECORD.iter_unpack(said)]
+        if at:
+            records = [it._replace(at=it.at + at, payload_at=it.payload_at + at) for it in records]
+        return Taken(took.taken, records, took.wanted, status == lib.BAD_SIZE)
+
+    def refusal_of(self, number: int) -> Refusal:
+        """Why a frame or a transfer was refused, by its number: its name, and the condition that answers the frame, if any."""
+        return Refusal(*self._text_of(number)[:2])
+
+    def answer_of(self, number: int) -> Optional[str]:
+        """How a refused frame is answered: by `end`, of its session, or by `close`, with the condition of `refusal_of`. `None`: it is not."""
+        return self._text_of(number)[2]
+
+    def _text_of(self, number: int) -> Tuple[str, Optional[str], Optional[str]]:
+        if number not in self._texts:
+            self._texts[number] = tuple(self._get(_REFUSAL_TEXT, numbers(number)).decode().split("\n"))
+        name, condition, answer = (*self._texts[number], "", "")[:3]
+        return name, condition or None, answer or None
+
+    @property
+    def remote_open(self) -> Optional[Open]:
+        """The peer's Open, once it came. Raises `Malformed` where it holds what Python has not."""
+        of = self._get(REMOTE_OPEN)
+        return Open.decode(of) if of else None
+
+    # ---- what goes
+
+    def send(self, deliveries: Sequence[Delivery]) -> List[Tuple[int, int]]:
+        """Sends transfers, in order. Of each: the number of its delivery, if it is the first one of it, and 0; or 0, and the number of its refusal. Where
+        memory is refused the list is shorter: those that are left are to be sent again."""
+        heads = b"".join(
+            _HEAD.pack(it.session, it.link, it.format, len(it.payload), it.flags | (TAGGED if it.tag is not None else 0), len(it.tag or b""))
+            for it in deliveries
+        )
+        data = b"".join(part for it in deliveries for part in (it.tag or b"", it.payload))
+        count = len(deliveries)
+        sent = ctypes.create_string_buffer(max(count, 1) * _SENT.size)
+        went = self._went
+        status = self._send(ctypes.byref(self._place), heads, count, data, len(data), sent, count, ctypes.byref(went))
+        if status != lib.NO_MEMORY or not went.taken:
+            self._judge(status)
+        told: List[Tuple[int, int]] = list(_SENT.iter_unpack(memoryview(sent)[: went.taken * _SENT.size]))
+        for it, (_, refusal) in zip(deliveries, told):
+            if it.flags & NUMBERED and not refusal:
+                self._numbered(it.session)
+        return told
+
+    def dispose(self, session: int, role: bool, first: int, last: int, settled: bool, outcome: int = 0) -> None:
+        """A disposition is to be sent, of the deliveries from `first` to `last`. `role` is this side's; the outcome is 0 for none, or accepted, released
+        or modified."""
+        self._ask(_DISPOSE, numbers(session) + bytes([role]) + numbers(first, last) + bytes([settled, outcome]))
+
+    def to_send(self) -> bytes:
+        """All bytes that wait to be sent, with their sizes; they are taken. Where memory is refused for some of them, the others come with the next call."""
+        parts = []
+        while True:
+            status, count = self._call(SEND, b"", 0)
+            parts.append(ctypes.string_at(self._buffer, count))
+            if status != lib.NO_MEMORY:
+                self._judge(status)
+            if count < len(self._buffer):
+                return b"".join(parts)
+
+    @property
+    def unfit(self) -> int:
+        """How many frames were longer than the peer takes, and were not sent."""
+        return int.from_bytes(self._get(_UNFIT), "big")
+
+
+__all__ = ["BadArgument", "Delivery", "Driver", "NoMemory", "Record", "Taken"]

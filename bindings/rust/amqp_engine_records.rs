@@ -1,0 +1,158 @@
+//! Records of received frames, and heads of transfers, as the library lays them out; and why a call took no more of them.
+
+use super::Error;
+
+/// What one received frame says: the layout is that of the library. A field of which the frame says nothing is 0; `session`, `output` and `input` are
+/// [`NONE`] then. `include/amqp1/records.h` says what each is.
+#[derive(Clone, Copy, Debug, Default, PartialEq, Eq)]
+#[repr(C)]
+pub struct Record {
+    /// One of [`kind`].
+    pub kind: u8,
+    /// The state of deliveries: 0 none, 1 accepted, 2 rejected, 3 released, 4 modified, 5 received, 6 another.
+    pub outcome: u8,
+    /// Those of [`flag`].
+    pub flags: u16,
+    pub session: u32,
+    /// This side's handle of the link.
+    pub output: u32,
+    /// The peer's handle of the link.
+    pub input: u32,
+    /// The number of the delivery; of a disposition the first one.
+    pub first: u32,
+    pub last: u32,
+    pub format: u32,
+    /// The delivery count of a flow, the initial one of an attach.
+    pub count: u32,
+    pub credit: u32,
+    pub available: u32,
+    /// Why the frame was refused, by its number ([`Engine::refusal_text`]). 0 where it was not.
+    pub refusal: u32,
+    at: u32,
+    size: u32,
+    payload_at: u32,
+    payload: u32,
+    pub channel: u16,
+    tag_size: u16,
+    tag: [u8; 32],
+}
+
+impl Record {
+    /// The bytes of the performative, in the input of the call that wrote this record.
+    pub fn performative<'a>(&self, input: &'a [u8]) -> &'a [u8] {
+        part(input, self.at, self.size)
+    }
+
+    /// The payload of a transfer, there too.
+    pub fn payload<'a>(&self, input: &'a [u8]) -> &'a [u8] {
+        part(input, self.payload_at, self.payload)
+    }
+
+    /// The tag of a transfer, where it has at most 32 bytes; a longer one stands in the performative.
+    pub fn tag(&self) -> Option<&[u8]> {
+        self.tag.get(..usize::from(self.tag_size))
+    }
+
+    /// Whether a flag is set.
+    pub fn has(&self, flag: u16) -> bool {
+        self.flags & flag != 0
+    }
+}
+
+fn part(input: &[u8], at: u32, size: u32) -> &[u8] {
+    let at = at as usize;
+    at.checked_add(size as usize).and_then(|end| input.get(at..end)).unwrap_or_default()
+}
+
+/// No session, or no link.
+pub const NONE: u32 = u32::MAX;
+
+/// What a record is of.
+pub mod kind {
+    pub const OPENED: u8 = 1;
+    pub const BEGUN: u8 = 2;
+    pub const ATTACHED: u8 = 3;
+    /// No link of this side waits for an attach of this name.
+    pub const ATTACH_WANTED: u8 = 4;
+    pub const FLOW: u8 = 5;
+    pub const TRANSFER: u8 = 6;
+    pub const DISPOSITION: u8 = 7;
+    pub const DETACHED: u8 = 8;
+    pub const ENDED: u8 = 9;
+    pub const CLOSED: u8 = 10;
+    pub const REFUSED: u8 = 11;
+}
+
+/// What a frame says besides, and what a transfer is to say.
+pub mod flag {
+    /// A transfer is the first of its delivery.
+    pub const NUMBERED: u16 = 1;
+    pub const SETTLED: u16 = 2;
+    pub const MORE: u16 = 4;
+    pub const ABORTED: u16 = 8;
+    /// The role of the peer is that of the receiver.
+    pub const RECEIVER: u16 = 16;
+    pub const STATED: u16 = 32;
+    pub const DRAIN: u16 = 64;
+    pub const ECHO: u16 = 128;
+    pub const WITH_ERROR: u16 = 256;
+    pub const FOR_GOOD: u16 = 512;
+    pub const CREDITED: u16 = 1024;
+    pub const COUNTED: u16 = 2048;
+    pub const LINKED: u16 = 4096;
+    pub const FORMATTED: u16 = 8192;
+    pub const TAGGED: u16 = 16384;
+    pub const AVAILABLE: u16 = 32768;
+}
+
+/// The head of a transfer of one frame. Its tag and its payload stand in the bytes that go with it, one after the other.
+#[derive(Clone, Copy, Debug, Default, PartialEq, Eq)]
+#[repr(C)]
+pub struct TransferHead {
+    pub session: u32,
+    /// The peer's handle of the link: `input` of the record of its attach.
+    pub link: u32,
+    /// The format of the message, where `FORMATTED` is set.
+    pub format: u32,
+    /// How many bytes the payload has.
+    pub payload: u32,
+    /// `NUMBERED` for the first transfer of a delivery, `SETTLED`, `MORE`, `ABORTED`, `FORMATTED`, `TAGGED`.
+    pub flags: u16,
+    /// How many bytes the tag has.
+    pub tag_size: u16,
+}
+
+/// What became of a transfer: the number of its delivery, of an accepted first one; or why it was refused.
+#[derive(Clone, Copy, Debug, Default, PartialEq, Eq)]
+#[repr(C)]
+pub struct Sent {
+    pub number: u32,
+    pub refusal: u32,
+}
+
+/// Why a call took no more.
+#[derive(Clone, Copy, Debug, PartialEq, Eq)]
+pub enum Stop {
+    /// What is left is no whole frame, which has so many bytes, as far as that is known; or no transfer is left.
+    Done { wanted: usize },
+    /// There is no room for what is to be said of the next one.
+    Full,
+    /// A size stands there that no frame may have: the connection is to be closed, for `amqp:connection:framing-error`.
+    BadSize,
+    /// The bytes end before those of the next transfer do.
+    Short,
+    /// Memory was refused: what is left may be given again.
+    NoMemory,
+}
+
+/// The reason of this status.
+pub(super) fn stop(status: i32, wanted: usize) -> Result<Stop, Error> {
+    match status {
+        0 => Ok(Stop::Done { wanted }),
+        2 => Ok(Stop::NoMemory),
+        7 => Ok(Stop::Full),
+        8 => Ok(Stop::BadSize),
+        9 => Ok(Stop::Short),
+        status => Err(Error::Unknown(status)),
+    }
+}

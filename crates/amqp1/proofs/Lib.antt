@@ -1,0 +1,10 @@
+pub mod AskingLemmas
+pub mod ClientLemmas
+pub mod LinkingLemmas
+pub mod NamesLemmas
+pub mod PlaceLemmas
+pub mod ReadingLemmas
+pub mod RequestLemmas
+pub mod SlotStepLemmas
+pub mod TakingLemmas
+pub mod TellingLemmas

@@ -1,0 +1,100 @@
+-- What the exports owe, from what the calls that they make give. Assumes nothing but the calls' contracts.
+use Rattle.std.proofs.Common.{◌≡◌, ◌⊎◌, refl, sym, subst, ◌∙◌, ℕ, ℤ, List, Option, None, Some, Result, Ok, inl, inr, pos, w32, of_z, to_z}
+use Rattle.std.specs.Prelude.{IsSomeAnd}
+use Rattle.amqp_session.specs.Relay.{Relays}
+use Rattle.amqp_driver.specs.declared.head.Sent.{Sent}
+use Rattle.amqp_driver.specs.declared.head.TransferHead.{TransferHead}
+use Rattle.amqp_driver.specs.declared.plain.PlainRelay.{PlainRelay}
+use Rattle.amqp_driver.specs.declared.record.Record.{Record}
+use Rattle.amqp_driver.specs.declared.status.Status.{Status as DriverStatus}
+use Rattle.amqp_driver.specs.Driver.{seen}
+use Rattle.amqp_driver.specs.Sending.{Sends}
+use Rattle.amqp_driver.specs.Taking.{Takes}
+use Rattle.amqp1.specs.declared.exports.Took.{Took}
+use Rattle.amqp1.specs.declared.exports.Went.{Went}
+use Rattle.amqp1.specs.Client.{Calls}
+use Rattle.amqp1.specs.ClientView.{ClientView}
+use Rattle.amqp1.specs.Making.{Makes}
+use Rattle.amqp1.specs.Operation.{IsOperation}
+use Rattle.amqp1.specs.Status.{status_number, taken_status}
+use Rattle.amqp1.specs.declared.operation.Operation.{Operation}
+use Rattle.amqp1.specs.declared.status.Status.{Status}
+use Rattle.amqp1.specs.declared.status.Status.TheVariants as status
+use Rattle.amqp1.specs.Place.{CallsThere, MadeThere, SendsThere, TakesThere}
+
+-- what is said of what is there is so
+pub of_some : {B : Type 0} (P : B → Type 0) (r : Option B) (x : B) → r ≡ Some x → IsSomeAnd r P → P x
+of_some P r x e h = subst (λ (s : Option _). IsSomeAnd s P) e h
+
+-- a status is what it is as a number of 32 bits
+kept_number : (s : Status) → to_z w32 (of_z w32 (pos (status_number s))) ≡ pos (status_number s)
+kept_number status.Done = refl
+kept_number status.Refused = refl
+kept_number status.NoMemory = refl
+kept_number status.TooSmall = refl
+kept_number status.BadArgument = refl
+kept_number status.NoEngine = refl
+kept_number status.Full = refl
+kept_number status.BadSize = refl
+kept_number status.Short = refl
+
+kept : (s : Status) (z : ℤ) → z ≡ pos (status_number s) → to_z w32 (of_z w32 z) ≡ z
+kept s z e = subst (λ (x : ℤ). to_z w32 (of_z w32 x) ≡ x) (sym e) (kept_number s)
+
+kept_of : (g : Relays PlainRelay) (o : Option Operation) (c : ClientView) (input old : List ℕ) (z : ℤ) (n : ℕ) (c' : ClientView) (new : List ℕ)
+    → Calls g o c input old z n c' new → to_z w32 (of_z w32 z) ≡ z
+kept_of g None c input old z n c' new h = kept status.BadArgument z h.0
+kept_of g (Some o) c input old z n c' new h = kept h.0 z h.1
+
+-- a call of a client is one of what lies in a place
+pub calls_there : (g : Relays PlainRelay) (operation : ℕ) (before after : Option ClientView) (input old : List ℕ) (z : ℤ) (n : ℕ) (new : List ℕ) (was is : ClientView)
+    → before ≡ Some was → after ≡ Some is → ((o : Option Operation) × IsOperation operation o × Calls g o was input old z n is new)
+    → CallsThere g operation before input old (to_z w32 (of_z w32 z)) n after new
+calls_there g operation before after input old z n new was is b a calls = record {
+  was = was;
+  is = is;
+  lay_there = b;
+  lies_there = a;
+  calls = subst (λ (x : ℤ). (o : Option Operation) × IsOperation operation o × Calls g o was input old x n is new)
+      (sym (kept_of g calls.0 was input old z n is new calls.2)) calls;
+}
+
+-- a client that was made lies there, or there was no memory for its box
+pub made_there : (g : Relays PlainRelay) (input : List ℕ) (z : ℤ) (full : ℕ) (held : Option ClientView) (r : Result ClientView ℤ) (c : ClientView)
+    → r ≡ Ok c → Makes g input r → ((z ≡ pos 0) × (full ≡ 1) × (held ≡ Some c)) ⊎ ((z ≡ pos 2) × (full ≡ 0))
+    → MadeThere g input (to_z w32 (of_z w32 z)) full held
+made_there g input z full held r c is makes (inl h) = subst (λ (y : ℤ). MadeThere g input y full held) (sym (kept status.Done z h.0))
+    (inl (h.0, h.1, c, h.2, subst (λ (x : Result ClientView ℤ). Makes g input x) is makes))
+made_there g input z full held r c is makes (inr h) = subst (λ (y : ℤ). MadeThere g input y full held) (sym (kept status.NoMemory z h.0))
+    (inr (h.1, inl h.0))
+
+-- a call of the driver of a client is one of what lies in a place
+pub takes_there : (g : Relays PlainRelay) (before after : Option ClientView) (input : List ℕ) (old new : List Record) (z : ℤ) (a : Took) (s : DriverStatus)
+    (was is : ClientView) → before ≡ Some was → after ≡ Some is → z ≡ pos (status_number (taken_status s))
+    → Takes g was.driver.engine.connection.local_open.max_frame_size was.driver (seen input) old s a.taken a.written a.wanted is.driver new
+    → is.last ≡ was.last → TakesThere g before input old (to_z w32 (of_z w32 z)) a after new
+takes_there g before after input old new z a s was is b f e takes last = record {
+  was = was;
+  is = is;
+  lay_there = b;
+  lies_there = f;
+  why = s;
+  status_is = kept (taken_status s) z e ∙ e;
+  takes = takes;
+  last_is = last;
+}
+
+pub sends_there : (g : Relays PlainRelay) (before after : Option ClientView) (heads : List TransferHead) (bytes : List ℕ) (old new : List Sent) (z : ℤ) (a : Went)
+    (s : DriverStatus) (was is : ClientView) → before ≡ Some was → after ≡ Some is → z ≡ pos (status_number (taken_status s))
+    → Sends g was.driver heads bytes old s a.taken a.used is.driver new
+    → is.last ≡ was.last → SendsThere g before heads bytes old (to_z w32 (of_z w32 z)) a after new
+sends_there g before after heads bytes old new z a s was is b f e sends last = record {
+  was = was;
+  is = is;
+  lay_there = b;
+  lies_there = f;
+  why = s;
+  status_is = kept (taken_status s) z e ∙ e;
+  sends = sends;
+  last_is = last;
+}

@@ -1,0 +1,4 @@
+-- What the contracts of private functions cite, and no public one does.
+pub mod Kinds
+pub mod NameTables
+pub mod Slot

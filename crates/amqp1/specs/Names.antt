@@ -1,0 +1,52 @@
+-- Part: other calls.
+-- What a refusal is called, and what answers it, by its number in a record.
+use Rattle.std.specs.Prelude.{◌≡◌, ◌∷◌, ◌++◌, ◌&&◌, ◌||◌, [], ℕ, List, Bool, false, nat_le, Option, Some, None, codes}
+use Rattle.amqp_engine.specs.declared.engine.step_error.StepError.{StepError}
+use Rattle.amqp_driver.specs.Refusals.{refusal_number}
+use Rattle.fe2o3_amqp.specs.declared.refusals.PeerAnswer.{PeerAnswer}
+use Rattle.fe2o3_amqp.specs.declared.refusals.PeerAnswer.TheVariants as by
+use Rattle.fe2o3_amqp.specs.Refusals.{step_answer}
+use Rattle.fe2o3_amqp.specs.Transcript.{name_of}
+use Rattle.amqp1.specs.Refused.{condition_said}
+
+-- the numbers of the engine's refusals
+abbrev pub is_within : ℕ → ℕ → ℕ → Bool
+is_within least most n = nat_le least n && nat_le n most
+
+abbrev pub is_engines : ℕ → Bool
+is_engines n =
+    is_within 1 4 n ||
+    is_within 11 15 n ||
+    is_within 21 25 n ||
+    is_within 31 37 n ||
+    is_within 41 44 n ||
+    is_within 51 55 n ||
+    is_within 61 70 n ||
+    is_within 81 85 n
+
+-- The name of each refusal of the engine that has the number; of the two of the driver; and no other number has one.
+pub record IsCalled (n : ℕ) (name : Option (List ℕ)) : Type 0 where
+  pub engine : (e : StepError) → refusal_number e ≡ n → name ≡ Some (name_of e)
+  pub too_long : n ≡ 91 → name ≡ Some (codes "PayloadTooLong")
+  pub tag_too_long : n ≡ 92 → name ≡ Some (codes "TagTooLong")
+  pub other : is_engines n ≡ false → ¬ (n ≡ 91) → ¬ (n ≡ 92) → name ≡ None
+
+-- What answers a received frame that was refused so, where this side's Close did not go out; nothing answers any other.
+pub record IsAnsweredBy (n : ℕ) (answer : Option PeerAnswer) : Type 0 where
+  pub engine : (e : StepError) → refusal_number e ≡ n → answer ≡ step_answer e
+  pub other : is_engines n ≡ false → answer ≡ None
+
+-- the frame that carries the condition
+abbrev pub frame_said : Option PeerAnswer → List ℕ
+frame_said None = []
+frame_said (Some (by.End condition)) = codes "end"
+frame_said (Some (by.Close condition)) = codes "close"
+
+-- the name, the condition and the frame, with a line feed between; nothing where there is no name
+abbrev pub text_of : Option (List ℕ) → Option PeerAnswer → List ℕ
+text_of None answer = []
+text_of (Some name) answer = name ++ ((10 ∷ []) ++ (condition_said answer ++ ((10 ∷ []) ++ frame_said answer)))
+
+-- what is told of this number
+abbrev pub IsRefusalText : ℕ → List ℕ → Type 0
+IsRefusalText n text = (name : Option (List ℕ)) × (answer : Option PeerAnswer) × IsCalled n name × IsAnsweredBy n answer × (text ≡ text_of name answer)

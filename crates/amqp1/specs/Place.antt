@@ -1,0 +1,70 @@
+-- Part: other calls.
+-- What the exports do to a place, by what lies there before and afterwards. Assumes nothing: these are definitions.
+use Rattle.std.specs.Prelude.{◌≡◌, ◌⊎◌, ℕ, ℤ, pos, List, Option, Some, Ok, Err}
+use Rattle.amqp_session.specs.Relay.{Relays}
+use Rattle.amqp_driver.specs.declared.head.Sent.{Sent}
+use Rattle.amqp_driver.specs.declared.head.TransferHead.{TransferHead}
+use Rattle.amqp_driver.specs.declared.plain.PlainRelay.{PlainRelay}
+use Rattle.amqp_driver.specs.declared.record.Record.{Record}
+use Rattle.amqp_driver.specs.declared.status.Status.{Status as DriverStatus}
+use Rattle.amqp_driver.specs.Driver.{seen}
+use Rattle.amqp_driver.specs.Sending.{Sends}
+use Rattle.amqp_driver.specs.Taking.{Takes}
+use Rattle.amqp1.specs.declared.exports.Took.{Took}
+use Rattle.amqp1.specs.declared.exports.Went.{Went}
+use Rattle.amqp1.specs.declared.operation.Operation.{Operation}
+use Rattle.amqp1.specs.declared.status.Status.{Status}
+use Rattle.amqp1.specs.declared.status.Status.TheVariants as status
+use Rattle.amqp1.specs.Client.{Calls}
+use Rattle.amqp1.specs.ClientView.{ClientView}
+use Rattle.amqp1.specs.Making.{Makes}
+use Rattle.amqp1.specs.Operation.{IsOperation}
+use Rattle.amqp1.specs.Status.{status_number, taken_status}
+
+-- this status, as a number of C
+abbrev pub Is : ℤ → Status → Type 0
+Is z s = z ≡ pos (status_number s)
+
+-- none is made: there is no memory, for the client or for its box, or the input does not have its form
+abbrev pub MakesNone : Relays PlainRelay → List ℕ → ℤ → Type 0
+MakesNone g input z = Is z status.NoMemory ⊎ Makes g input (Err z)
+
+-- A new client lies there, which is made of the input. Or none does: memory was refused for its box, or none is made of the input.
+abbrev pub MadeThere : Relays PlainRelay → List ℕ → ℤ → ℕ → Option ClientView → Type 0
+MadeThere g input z full held =
+    ((z ≡ pos 0) × (full ≡ 1) × (c : ClientView) × (held ≡ Some c) × Makes g input (Ok c)) ⊎ ((full ≡ 0) × MakesNone g input z)
+
+-- one call of the client that lay there, and the client that it leaves lies there
+pub record CallsThere (g : Relays PlainRelay) (operation : ℕ) (before : Option ClientView) (input old : List ℕ) (z : ℤ) (n : ℕ)
+    (after : Option ClientView) (new : List ℕ) : Type 0 where
+  pub was : ClientView
+  pub is : ClientView
+  pub lay_there : before ≡ Some was
+  pub lies_there : after ≡ Some is
+  pub calls : (o : Option Operation) × IsOperation operation o × Calls g o was input old z n is new
+
+-- The driver of the client that lay there takes whole frames, and that client lies there again. Of an input of more than 4294967295 bytes the others
+-- are not looked at.
+pub record TakesThere (g : Relays PlainRelay) (before : Option ClientView) (input : List ℕ) (old : List Record) (z : ℤ) (answer : Took)
+    (after : Option ClientView) (new : List Record) : Type 0 where
+  pub was : ClientView
+  pub is : ClientView
+  pub lay_there : before ≡ Some was
+  pub lies_there : after ≡ Some is
+  pub why : DriverStatus
+  pub status_is : Is z (taken_status why)
+  pub takes : Takes g was.driver.engine.connection.local_open.max_frame_size was.driver (seen input) old
+      why answer.taken answer.written answer.wanted is.driver new
+  pub last_is : is.last ≡ was.last
+
+-- the driver of the client that lay there sends transfers, and that client lies there again
+pub record SendsThere (g : Relays PlainRelay) (before : Option ClientView) (heads : List TransferHead) (bytes : List ℕ) (old : List Sent) (z : ℤ)
+    (answer : Went) (after : Option ClientView) (new : List Sent) : Type 0 where
+  pub was : ClientView
+  pub is : ClientView
+  pub lay_there : before ≡ Some was
+  pub lies_there : after ≡ Some is
+  pub why : DriverStatus
+  pub status_is : Is z (taken_status why)
+  pub sends : Sends g was.driver heads bytes old why answer.taken answer.used is.driver new
+  pub last_is : is.last ≡ was.last

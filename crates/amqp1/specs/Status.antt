@@ -1,0 +1,40 @@
+-- Part: other calls; inner.
+-- How a call ends, as a number.
+use Rattle.std.specs.Prelude.{ℕ, Result, Ok, Err}
+use Rattle.amqp_driver.specs.declared.asked.Asked.{Asked}
+use Rattle.amqp_driver.specs.declared.asked.Asked.TheVariants as asked
+use Rattle.amqp_driver.specs.declared.status.Status.{Status as DriverStatus}
+use Rattle.amqp_driver.specs.declared.status.Status.TheVariants as driver
+use Rattle.amqp1.specs.declared.status.Status.{Status}
+use Rattle.amqp1.specs.declared.status.Status.TheVariants as status
+
+abbrev pub status_number : Status → ℕ
+status_number status.Done = 0
+status_number status.Refused = 1
+status_number status.NoMemory = 2
+status_number status.TooSmall = 3
+status_number status.BadArgument = 4
+status_number status.NoEngine = 5
+status_number status.Full = 7
+status_number status.BadSize = 8
+status_number status.Short = 9
+
+-- of a call of the driver that takes many
+abbrev pub taken_status : DriverStatus → Status
+taken_status driver.Done = status.Done
+taken_status driver.Full = status.Full
+taken_status driver.BadSize = status.BadSize
+taken_status driver.NoMemory = status.NoMemory
+taken_status driver.Short = status.Short
+
+-- of a request
+abbrev pub status_of : Asked → Status
+status_of asked.Done = status.Done
+status_of asked.TooLarge = status.Refused
+status_of (asked.Refused e) = status.Refused
+status_of asked.NoMemory = status.NoMemory
+
+-- of what waits in the engine, where all is put out or memory was refused
+abbrev pub flushed_status : {X E : Type 0} → Result X E → Status
+flushed_status (Ok x) = status.Done
+flushed_status (Err e) = status.NoMemory

@@ -1,0 +1,142 @@
+//! Requests.
+
+ghost use Rattle.std.specs.Prelude.{◌≡◌, ◌≤◌, length};
+ghost use Rattle.amqp1.specs.declared.status.Status.TheVariants.{Done};
+ghost use Rattle.amqp1.specs.Asked.{AllotsOn, Answers, PerformsDispose, RunsMatched, RunsOne};
+ghost use Rattle.amqp1.specs.Linking.{link_said};
+ghost use Rattle.amqp1.specs.Client.{PerformsLink, ShowsHandle, handle_in};
+ghost use Rattle.amqp1.specs.Refused.{last_by};
+ghost use Rattle.amqp1.specs.Status.{status_of};
+
+use super::Client;
+use crate::linking::{self, LinkAsked};
+use crate::matching::is_matched;
+use crate::operation::Operation;
+use crate::refused::Refused;
+use crate::status::{Status, status_of};
+use crate::writing::write;
+use crate::{asking, disposing};
+use amqp_connection::SessionNo;
+use amqp_driver::{Asked, PlainRelay};
+use amqp_engine::Input;
+use amqp_session::LinkRelay;
+use amqp_types::ReadError;
+
+impl Client {
+    /// Has the engine take one request. `BadArgument` exactly where the bytes do not have the operation's form: then, and where memory for the
+    /// input is refused, nothing changes.
+    pub(super) fn ask(&mut self, operation: Operation, input: &[u8]) -> Status
+        ensures { Answers ⟦<PlainRelay as LinkRelay>⟧.gives operation input.now self.old result self.new }
+    {
+        match asking::asked(self.alloc, operation, input) {
+            Ok(input) => self.run_matched(input),
+            Err(ReadError::Malformed) => Status::BadArgument,
+            Err(ReadError::OutOfMemory) => Status::NoMemory,
+        }
+    }
+
+    /// Runs an input, unless it is a transfer whose two handles are not those of one link.
+    fn run_matched(&mut self, input: Input<PlainRelay>) -> Status
+        ensures { RunsMatched ⟦<PlainRelay as LinkRelay>⟧.gives self.old input result self.new }
+    {
+        if is_matched(self.driver.engine(), &input) {
+            return self.run(input);
+        }
+        drop(input);
+        self.last = Refused::unmatched();
+        Status::Refused
+    }
+
+    /// Runs one input.
+    fn run(&mut self, input: Input<PlainRelay>) -> Status
+        ensures { RunsOne ⟦<PlainRelay as LinkRelay>⟧.gives self.old input result self.new }
+    {
+        let asked = self.driver.request(input);
+        self.note(asked)
+    }
+
+    /// The status of a request. Its refusal is kept, if it is one.
+    fn note(&mut self, asked: Asked) -> Status
+        ensures status { result ≡ status_of asked }
+        ensures noted { self.new ≡ record self.old { last = last_by self.old.last self.old.driver.engine.connection.state asked } }
+    {
+        let status = status_of(&asked);
+        match asked {
+            Asked::TooLarge => self.last = Refused::too_large(),
+            Asked::Refused(error) => {
+                let state = *self.driver.engine().connection().local_state();
+                self.last = Refused::of(error, state);
+            }
+            Asked::Done | Asked::NoMemory => {}
+        }
+        status
+    }
+
+    /// Has the engine take a disposition by numbers.
+    pub(super) fn dispose(&mut self, input: &[u8]) -> Status
+        ensures { PerformsDispose ⟦<PlainRelay as LinkRelay>⟧.gives self.old input.now result self.new }
+    {
+        let Some(asked) = disposing::asked(input) else {
+            return Status::BadArgument;
+        };
+        let answer = self.driver.dispose(
+            SessionNo(asked.session),
+            asked.role,
+            asked.first,
+            asked.last,
+            asked.settled,
+            asked.outcome,
+        );
+        match answer {
+            Some(answer) => self.note(answer),
+            None => Status::BadArgument,
+        }
+    }
+
+    /// Has the engine allot a handle to a link, and writes the handle.
+    pub(super) fn link(
+        &mut self,
+        operation: Operation,
+        input: &[u8],
+        output: &mut [u8],
+    ) -> (Status, usize)
+        ensures { PerformsLink ⟦<PlainRelay as LinkRelay>⟧.gives operation self.old input.now output.old result.0 result.1 self.new output.new }
+    {
+        let Some(asked) = linking::asked(operation, input) else {
+            return (Status::BadArgument, 0);
+        };
+        if output.len() < 4 {
+            return (Status::TooSmall, 4);
+        }
+        match self.allot(&asked) {
+            Status::Done => self.show_handle(&asked, output),
+            status => (status, 0),
+        }
+    }
+
+    /// Allots a handle to a link.
+    fn allot(&mut self, asked: &LinkAsked<'_>) -> Status
+        ensures { AllotsOn ⟦<PlainRelay as LinkRelay>⟧.gives (link_said asked.now) self.old result self.new }
+    {
+        match linking::input_of(self.alloc, asked) {
+            Ok(input) => self.run(input),
+            Err(_) => Status::NoMemory,
+        }
+    }
+
+    /// Writes the handle of a link, for which there is room. Nothing where the engine has no link of that name.
+    fn show_handle(&self, asked: &LinkAsked<'_>, output: &mut [u8]) -> (Status, usize)
+        requires { 4 ≤ length output.old }
+        ensures done { result.0 ≡ Done }
+        ensures shown { ShowsHandle (handle_in self.now.driver.engine (link_said asked.now)) output.old result.1 output.new }
+    {
+        match self
+            .driver
+            .engine()
+            .output_handle(SessionNo(asked.session), asked.name)
+        {
+            Some(handle) => write(output, &handle.0.to_be_bytes()),
+            None => (Status::Done, 0),
+        }
+    }
+}

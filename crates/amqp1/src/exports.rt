@@ -1,0 +1,175 @@
+//! The exports.
+
+ghost use Rattle.std.specs.Prelude.{◌≡◌, ◌<◌, ◌⊎◌, Some};
+ghost use Rattle.amqp1.specs.declared.status.Status.TheVariants as status;
+ghost use Rattle.amqp1.specs.Place.{CallsThere, Is, MadeThere, SendsThere, TakesThere};
+
+use crate::client::Client;
+use crate::place::Place;
+use crate::status::Status;
+use amqp_driver::{PlainRelay, Record, Sent, TransferHead};
+use amqp_session::LinkRelay;
+use std::alloc::Global;
+
+/// 0.1.0: the major number times 65536, and the minor one times 256, and the patch.
+const VERSION: u32 = 256;
+
+/// What `amqp1_take` took: bytes, and records that it wrote; and how many bytes the next frame has, where a part of it is left.
+#[repr(C)]
+#[derive(Drop)]
+pub struct Took {
+    /// How many bytes were taken: whole frames.
+    pub taken: usize,
+    /// How many records were written.
+    pub written: usize,
+    /// Where the status is `DONE`: how many bytes the next frame has, and 4 where its size is not whole. Else 0.
+    pub wanted: usize,
+}
+
+/// What `amqp1_send` took.
+#[repr(C)]
+#[derive(Drop)]
+pub struct Went {
+    /// How many transfers were taken: so many of the heads, and so many places of `sent` were written.
+    pub taken: usize,
+    /// How many of the bytes they have.
+    pub used: usize,
+}
+
+/// The version of the library.
+#[unsafe(no_mangle)]
+pub extern "C" fn amqp1_version() -> u32
+    ensures { result ≡ 256 }
+{
+    VERSION
+}
+
+/// Makes a client in a place where nothing lies, of the input of `Client::new`. `BAD_ARGUMENT` where one lies there already.
+#[unsafe(no_mangle)]
+pub extern "C" fn amqp1_new(alloc: Global, place: &mut Place, input: &[u8]) -> i32
+    ensures taken { 0 < place.old.full → Is result status.BadArgument × (place.new ≡ place.old) }
+    ensures made { place.old.full ≡ 0 →
+        MadeThere ⟦<PlainRelay as LinkRelay>⟧.gives input.now result place.new.full place.new.slot.held }
+{
+    if place.full != 0 {
+        return Status::BadArgument.number();
+    }
+    match Client::new(alloc, input) {
+        Ok(client) => put(alloc, place, client),
+        Err(status) => status,
+    }
+}
+
+/// Puts a client into a place where nothing lies, or lets it go where there is no memory for its box.
+fn put(alloc: Global, place: &mut Place, client: Client) -> i32
+    requires { place.old.full ≡ 0 }
+    ensures { (Is result status.Done × (place.new.full ≡ 1) × (place.new.slot.held ≡ Some client))
+        ⊎ (Is result status.NoMemory × (place.new.full ≡ 0)) }
+{
+    match Box::new(alloc, client) {
+        Ok(boxed) => {
+            *place = Place::of(boxed);
+            Status::Done.number()
+        }
+        Err(failed) => {
+            drop(failed);
+            Status::NoMemory.number()
+        }
+    }
+}
+
+/// Has the client that lies in the place do one operation, by `Client::call`. `NO_ENGINE`, and nothing is written, where none lies there.
+#[unsafe(no_mangle)]
+pub extern "C" fn amqp1_call(
+    alloc: Global,
+    place: &mut Place,
+    operation: u32,
+    input: &[u8],
+    output: &mut [u8],
+    written: &mut usize,
+) -> i32
+    ensures empty { place.old.full ≡ 0 →
+        Is result status.NoEngine × (place.new.full ≡ 0) × (output.new ≡ output.old) × (written.new ≡ written.old) }
+    ensures called { 0 < place.old.full → (0 < place.new.full)
+        × CallsThere ⟦<PlainRelay as LinkRelay>⟧.gives operation place.old.slot.held input.now output.old
+        result written.new place.new.slot.held output.new }
+{
+    let old = std::mem::replace(place, Place::empty(alloc));
+    match old.into_client() {
+        None => Status::NoEngine.number(),
+        Some(mut client) => {
+            let (status, length) = client.call(operation, input, output);
+            *written = length;
+            *place = Place::of(client);
+            status
+        }
+    }
+}
+
+/// Takes whole frames out of received bytes, runs each once, in order, and writes a record of each, by `Driver::take`. What it took goes to
+/// `answer`. `NO_ENGINE`, and nothing is written, where no client lies in the place.
+#[unsafe(no_mangle)]
+pub extern "C" fn amqp1_take(
+    alloc: Global,
+    place: &mut Place,
+    input: &[u8],
+    records: &mut [Record],
+    answer: &mut Took,
+) -> i32
+    ensures empty { place.old.full ≡ 0 →
+        Is result status.NoEngine × (place.new.full ≡ 0) × (records.new ≡ records.old) × (answer.new ≡ answer.old) }
+    ensures taken { 0 < place.old.full → (0 < place.new.full)
+        × TakesThere ⟦<PlainRelay as LinkRelay>⟧.gives place.old.slot.held input.now records.old
+        result answer.new place.new.slot.held records.new }
+{
+    let old = std::mem::replace(place, Place::empty(alloc));
+    match old.into_client() {
+        None => Status::NoEngine.number(),
+        Some(mut client) => {
+            let took = client.take(input, records);
+            answer.taken = took.taken;
+            answer.written = took.written;
+            answer.wanted = took.wanted;
+            *place = Place::of(client);
+            Status::of_driver(took.status).number()
+        }
+    }
+}
+
+/// Sends transfers by their heads, and writes what became of each, by `Driver::send`. What it took goes to `answer`. `NO_ENGINE`, and nothing is
+/// written, where no client lies in the place.
+#[unsafe(no_mangle)]
+pub extern "C" fn amqp1_send(
+    alloc: Global,
+    place: &mut Place,
+    heads: &[TransferHead],
+    bytes: &[u8],
+    sent: &mut [Sent],
+    answer: &mut Went,
+) -> i32
+    ensures empty { place.old.full ≡ 0 →
+        Is result status.NoEngine × (place.new.full ≡ 0) × (sent.new ≡ sent.old) × (answer.new ≡ answer.old) }
+    ensures sent { 0 < place.old.full → (0 < place.new.full)
+        × SendsThere ⟦<PlainRelay as LinkRelay>⟧.gives place.old.slot.held heads.now bytes.now sent.old
+        result answer.new place.new.slot.held sent.new }
+{
+    let old = std::mem::replace(place, Place::empty(alloc));
+    match old.into_client() {
+        None => Status::NoEngine.number(),
+        Some(mut client) => {
+            let went = client.send(heads, bytes, sent);
+            answer.taken = went.taken;
+            answer.used = went.used;
+            *place = Place::of(client);
+            Status::of_driver(went.status).number()
+        }
+    }
+}
+
+/// Frees the client, if one lies in the place. Nothing does then.
+#[unsafe(no_mangle)]
+pub extern "C" fn amqp1_free(alloc: Global, place: &mut Place)
+    ensures { place.new.full ≡ 0 }
+{
+    *place = Place::empty(alloc);
+}

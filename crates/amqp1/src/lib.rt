@@ -1,0 +1,103 @@
+//! The library for C: an engine in a place that the caller keeps, and six functions over it.
+//!
+//! An engine is one side of a connection: an `amqp_driver::Driver`, and the last refusal of a request. It lies in a [`place::Place`], or nothing
+//! does. `amqp1_new` makes it, `amqp1_take` runs received frames and writes a record of each, `amqp1_send` sends transfers, `amqp1_call` does one
+//! operation of those below, and `amqp1_free` lets it go. `amqp1_version` is 256: 0.1.0. `include/amqp1.h` declares them. Protocol headers (AMQP
+//! 1.0 part 2, section 2.2) are the caller's: the connection begins where both have passed.
+//!
+//! Nothing is kept of what came: bytes that `amqp1_take` did not take are given again, with what came since. Records say where payloads and
+//! performatives stand in the input of that call. Relays answer by `amqp_events::Policy`, and tell nobody: an owner reads the records.
+//!
+//! All numbers in inputs and outputs of `amqp1_call` are in network order. *PERF* is a performative's own bytes: a described list, as it stands in
+//! a frame after the header. It is the whole rest of the input, or has its length before it: so no bytes are no PERF, and nothing that follows is
+//! read as one.
+//!
+//! # A new engine
+//!
+//! `amqp1_new` takes 16 bytes that the peer does not know, by which names, handles and channels are found, and PERF of this side's Open. A key of
+//! 16 zeros is refused: it was forgotten.
+//!
+//! # Operations
+//!
+//! Numbers that are absent are never used again.
+//!
+//! | | Operation | Input | What it does; what it writes |
+//! |---|---|---|---|
+//! | 2 | `Open` | none | this side's Open is to be sent |
+//! | 3 | `Close` | u8 0 for no error, or u8 1, then an error | this side's Close is to be sent |
+//! | 4 | `Begin` | u32 session, PERF of a Begin without remote-channel | a session is begun |
+//! | 5 | `End` | u32 session, and on as in 3 | a session is ended |
+//! | 6 | `Release` | u32 session | its channel is given back |
+//! | 7 | `Forget` | u32 session | a session that is over is let go |
+//! | 8 | `Link` | u32 session, u8 role (0 sender, 1 receiver), u8 receiver settle mode (0 first, 1 second), name | a link is allotted a handle, and waits for the peer's attach; u32 output handle |
+//! | 9 | `LinkOn` | u32 session, u32 input handle, and on as in 8 | the same, where the peer's attach came on that handle |
+//! | 10 | `Attach` | u32 session, PERF | an Attach is to be sent |
+//! | 11 | `Detach` | u32 session, u8 (1 where the peer is to answer), PERF | a Detach is to be sent |
+//! | 12 | `Flow` | u32 session, PERF of a Flow with a handle | a Flow is to be sent |
+//! | 13 | `Transfer` | u32 session, u32 input handle, u8 (1 for the first of its delivery), u32 length of PERF, PERF, payload | a Transfer is to be sent, of the live link that has both the input handle and the handle of PERF |
+//! | 14 | `Disposition` | u32 session, PERF | a Disposition is to be sent |
+//! | 15 | `Settle` | u32 session, u8 role, u32 first, u32 last | deliveries that this side settles are let go |
+//! | 16 | `Output` | none | bytes that are to be sent, as many as fit: they are taken off |
+//! | 18 | `Refusal` | none | the last refusal of a request: its name, a condition and a description, with a line feed between: the condition that answers a frame that is refused so, if any; or condition and description of the error with which the peer ended or closed |
+//! | 19 | `RemoteOpen` | none | PERF of the peer's Open; nothing before it |
+//! | 20 | `MaxPieceLen` | none | u32, as `Engine::max_piece_len` |
+//! | 21 | `PayloadRoom` | PERF of a Transfer | u32, as `Engine::payload_room`; nothing where the transfer itself does not fit a frame |
+//! | 23 | `SessionOf` | u16 channel of the peer's | u32 session; nothing where the channel leads to none |
+//! | 24 | `State` | none | u8: the connection's state, in the order of `ConnectionState` |
+//! | 25 | `SessionState` | u32 session | u8: the session's state, in the order of `SessionState`; nothing where there is no such session |
+//! | 27 | `Unfit` | none | u32: how many frames did not fit the peer's limit and were not sent |
+//! | 28 | `RefusalText` | u32 number of a refusal, as in a record | its name, the condition that answers a frame that is refused so, and `end` or `close` for the frame that carries it, with a line feed between; nothing where no refusal has the number |
+//! | 29 | `Dispose` | u32 session, u8 role, u32 first, u32 last, u8 settled, u8 state (0 none, 1 accepted, 3 released, 4 modified) | a Disposition of these deliveries is to be sent |
+//!
+//! # Statuses
+//!
+//! Each export but the last two answers a status. 6 is never used.
+//!
+//! - 0 `DONE`. Of `amqp1_take`: what is left is no whole frame. Of `amqp1_send`: no head is left.
+//! - 1 `REFUSED`, of a request, by a name, which `Refusal` gives. In a session that is mapped a transfer whose two handles are not those of one link
+//!   (the peer's attach came on the one, and no detach of either side since; the other was allotted to that link) is refused `UnattachedHandle`,
+//!   and is not run. Where a frame of the request does not fit the peer's limit the name is `TooLarge`: the request was accepted, and that frame
+//!   is not sent.
+//! - 2 `NO_MEMORY`: memory was refused, and the request, the frame or the transfer was not taken; it may be asked again. `Output` answers it where
+//!   some waits in the engine still; what it wrote is to be sent all the same.
+//! - 3 `TOO_SMALL`: the output is. Nothing changed, and the number that is written says how many bytes are needed.
+//! - 4 `BAD_ARGUMENT`: no such operation, or an input that does not have its form; of `amqp1_new` also where an engine lies there already. Nothing
+//!   changed.
+//! - 5 `NO_ENGINE`: nothing lies in the place. Nothing changed.
+//! - 7 `FULL`: a whole frame is left, or a head, and all places for what is to be said of it are written.
+//! - 8 `BAD_SIZE`: a size stands there that no frame may have. The owner closes, for `amqp:connection:framing-error`.
+//! - 9 `SHORT`: the bytes end before the tag and the payload of the next head do.
+//!
+//! # What is proved, and what is not
+//!
+//! For each value of the place that these functions can have made, also of one that is all zero: no function reads or writes what is not its
+//! own, none panics, each ends, the engine is freed once, and each contract holds. The walks by hand under `proofs/slot` show that a pointer to C
+//! and back owns what it owned.
+//!
+//! `specs/Place` has the contracts. `amqp1_take` and `amqp1_send` promise all that `Driver::take` and `Driver::send` do: which frames were run,
+//! each once and in order, and the record of each; which heads were handled, and what became of each. `specs/Client` says of each operation what
+//! it does. A request is one run of the engine with the one input that its bytes ask for, or its bytes ask for none, or for a transfer whose two
+//! handles are not those of one link (`specs/Matching`). What `Output` writes is a front of what waits, as much as fits, and waits no longer. The
+//! name of a number is that of each refusal that has it (`specs/Names`). An output that is too small stays as it is, and so does all else.
+//!
+//! What is not: that the caller keeps the place as `amqp1.h` says. No contract says that the key is used, nor that memory is granted: a text, and
+//! the box of a new engine, may be refused for want of memory whether or not some was asked for. The tests of `tools/try_c` see to these.
+#![tactic(auto)]
+
+mod asking;
+mod client;
+mod disposing;
+mod exports;
+mod key;
+mod linking;
+mod matching;
+mod names;
+mod operation;
+mod place;
+mod reading;
+mod refused;
+mod slot;
+mod status;
+mod taking;
+mod telling;
+mod writing;

@@ -1,0 +1,83 @@
+//! How a call ends.
+
+ghost use Rattle.std.specs.Prelude.{◌≡◌, pos};
+ghost use Rattle.amqp1.specs.Status.{flushed_status, status_number, status_of, taken_status};
+
+use amqp_driver::{Asked, Status as DriverStatus};
+use std::alloc::AllocError;
+
+/// How a call ends. The numbers of `include/amqp1.h`; 6 is never used.
+#[derive(Clone, Copy, Debug, PartialEq, Eq)]
+pub enum Status {
+    /// What was asked is done.
+    Done,
+    /// It was refused by a name, which `Operation::Refusal` gives.
+    Refused,
+    /// Memory was refused, and what was asked was not taken: it may be asked again.
+    NoMemory,
+    /// The output is too small, and nothing changed. The call answers the length that is needed.
+    TooSmall,
+    /// No such operation, or the input does not have its form. Nothing changed.
+    BadArgument,
+    /// Nothing lies in the place.
+    NoEngine,
+    /// A whole frame is left, or a transfer, and there is no place for what is to be said of it.
+    Full,
+    /// A size stands there that no frame may have.
+    BadSize,
+    /// The bytes end before those of the next transfer do.
+    Short,
+}
+
+impl Status {
+    /// The number.
+    pub fn number(self) -> i32
+        ensures { result ≡ pos (status_number self) }
+    {
+        match self {
+            Status::Done => 0,
+            Status::Refused => 1,
+            Status::NoMemory => 2,
+            Status::TooSmall => 3,
+            Status::BadArgument => 4,
+            Status::NoEngine => 5,
+            Status::Full => 7,
+            Status::BadSize => 8,
+            Status::Short => 9,
+        }
+    }
+
+    /// The status of a call of the driver that takes many.
+    pub(crate) fn of_driver(status: DriverStatus) -> Status
+        ensures { result ≡ taken_status status }
+    {
+        match status {
+            DriverStatus::Done => Status::Done,
+            DriverStatus::Full => Status::Full,
+            DriverStatus::BadSize => Status::BadSize,
+            DriverStatus::NoMemory => Status::NoMemory,
+            DriverStatus::Short => Status::Short,
+        }
+    }
+}
+
+/// The status of a request.
+pub(crate) fn status_of(asked: &Asked) -> Status
+    ensures { result ≡ status_of asked.now }
+{
+    match asked {
+        Asked::Done => Status::Done,
+        Asked::TooLarge | Asked::Refused(_) => Status::Refused,
+        Asked::NoMemory => Status::NoMemory,
+    }
+}
+
+/// The status of what waits in the engine: all of it was put out, or some waits still.
+pub(crate) fn flushed_status(flushed: Result<(), AllocError>) -> Status
+    ensures { result ≡ flushed_status flushed }
+{
+    match flushed {
+        Ok(()) => Status::Done,
+        Err(_) => Status::NoMemory,
+    }
+}

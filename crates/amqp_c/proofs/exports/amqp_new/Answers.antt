@@ -1,6 +1,0 @@
--- `amqp_new` where a client was made: it lies there, or is let go where there is no memory for its box.
-use Rattle.amqp_c.proofs.PlaceLemmas.{made_there}
-use Rattle.amqp_c.proofs.exports.amqp_new.Goals as goal
-
-pub returns-in-Ok-clause-made : goal.returns-in-Ok-clause-made
-returns-in-Ok-clause-made c = λ h. made_there _ c.args.input.now _ _ _ c.new.result c.in-Ok.client c.in-Ok.is c.new.ensures c.put.ensures

@@ -1,9 +1,0 @@
-use Rattle.amqp_types.specs.Performatives.{IsPerformative}
-use Rattle.amqp_types.specs.declared.performatives.Performative.TheVariants as its
-use Rattle.amqp_client.specs.Asking.{AsksAttach}
-use Rattle.amqp_client.proofs.AskingLemmas.{none_asked}
-use Rattle.amqp_client.proofs.asking.attach.Goals as goal
-
-pub returns-in-Err : goal.returns-in-Err
-returns-in-Err g c = none_asked (λ x. IsPerformative (its.Attach x) c.args.input.now) (AsksAttach c.args.session c.args.input.now) c.in-Err.error
-    (λ i a. (a.0, a.1)) c.in-Err.ensures

@@ -1,6 +1,0 @@
-use Rattle.std.proofs.Common.{rules}
-use Rattle.amqp_client.proofs.ClientLemmas.{no_client}
-use Rattle.amqp_client.proofs.client.Client.new.Goals as goal
-
-pub returns-in-Err : goal.returns-in-Err
-returns-in-Err c = no_client c.args.input.now c.in-Err.error _ (search rules) c.in-Err.ensures

@@ -1,2 +1,0 @@
--- What the contracts of private functions cite, and no public one does.
-pub mod Kinds

@@ -1,0 +1,212 @@
+/* An engine over a blocking socket, for amqp1_send.c: connecting, the protocol headers, SASL by ANONYMOUS (AMQP 1.0 part 2, section 2.2, and part 5,
+   section 5.3), bytes in and out, one session, and links. */
+#ifndef AMQP1_BLOCKING_H
+#define AMQP1_BLOCKING_H
+
+#include <amqp1.h>
+#include <netdb.h>
+#include <stdio.h>
+#include <sys/socket.h>
+#include <sys/time.h>
+#include <unistd.h>
+
+enum { SESSION = 0 };
+
+static int the_socket = -1;
+static amqp1 engine;
+
+/* How many of the Open, the Begin and the Attaches of the peer have come; the peer's handle of the link that was attached last; whether the peer has
+   closed. */
+static uint32_t steps, link_handle, closed;
+
+/* What the program does with another record; the frame stands in the input. */
+static void take_record(const amqp1_record *record, const uint8_t *input);
+
+static void fail(const char *what)
+{
+    fprintf(stderr, "amqp1_send: %s\n", what);
+    exit(1);
+}
+
+static void must(const char *what, int32_t status)
+{
+    if (status == AMQP1_DONE)
+        return;
+    fprintf(stderr, "%s: %s\n", what, amqp1_status_name(status));
+    exit(1);
+}
+
+static void connect_to(const char *host, const char *port)
+{
+    struct addrinfo hints, *found;
+    struct timeval patience = { 20, 0 };
+    memset(&hints, 0, sizeof hints);
+    hints.ai_socktype = SOCK_STREAM;
+    if (getaddrinfo(host, port, &hints, &found))
+        fail("no such host");
+    the_socket = socket(found->ai_family, found->ai_socktype, found->ai_protocol);
+    if (the_socket < 0 || connect(the_socket, found->ai_addr, found->ai_addrlen))
+        fail("nobody listens");
+    setsockopt(the_socket, SOL_SOCKET, SO_RCVTIMEO, &patience, sizeof patience);
+    freeaddrinfo(found);
+}
+
+static void write_all(const uint8_t *bytes, size_t length)
+{
+    while (length) {
+        ssize_t count = send(the_socket, bytes, length, MSG_NOSIGNAL);
+        if (count <= 0)
+            fail("the peer hung up");
+        bytes += count;
+        length -= (size_t)count;
+    }
+}
+
+/* Some bytes, at least one. */
+static size_t read_some(uint8_t *to, size_t room)
+{
+    ssize_t count = recv(the_socket, to, room, 0);
+    if (count <= 0)
+        fail("the peer hung up, or is silent");
+    return (size_t)count;
+}
+
+static void read_all(uint8_t *to, size_t length)
+{
+    while (length) {
+        size_t count = read_some(to, length);
+        to += count;
+        length -= count;
+    }
+}
+
+/* Both protocol headers: 3 for SASL, 0 for AMQP. */
+static void exchange_headers(uint8_t protocol)
+{
+    uint8_t mine[8] = { 'A', 'M', 'Q', 'P', 0, 1, 0, 0 }, theirs[8];
+    mine[4] = protocol;
+    write_all(mine, 8);
+    read_all(theirs, 8);
+    if (memcmp(mine, theirs, 8))
+        fail("the peer speaks another protocol");
+}
+
+/* A frame of SASL, after its header of 8 bytes. */
+static amqp1_bytes sasl_frame(uint8_t *room, size_t size)
+{
+    size_t length;
+    read_all(room, 4);
+    length = amqp1_u32_of(room);
+    if (length < 8 || length > size)
+        fail("a frame of SASL has a bad size");
+    read_all(room + 4, length - 4);
+    return amqp1_bytes_at(room + 8, length - 8);
+}
+
+/* The peer's mechanisms are passed over: where ANONYMOUS is none of them, it says so in its outcome. */
+static void login(void)
+{
+    uint8_t frame[512];
+    amqp1_text text = amqp1_text_at(frame, sizeof frame);
+    size_t list;
+    exchange_headers(3);
+    sasl_frame(frame, sizeof frame);
+    amqp1_put(&text, "\0\0\0\0\2\1\0\0", 8);
+    list = amqp1_begin_list(&text, 0x41, 1);
+    amqp1_put_symbol(&text, "ANONYMOUS");
+    amqp1_end_list(&text, list);
+    amqp1_u32_at(frame, (uint32_t)text.length);
+    write_all(frame, amqp1_written(&text, sizeof frame));
+    if (amqp1_number_field(sasl_frame(frame, sizeof frame), 0, 99) != 0)
+        fail("the peer refused the login");
+    exchange_headers(0);
+}
+
+/* Sends what waits. */
+static void give(void)
+{
+    uint8_t out[4096];
+    size_t length;
+    do {
+        must("output", amqp1_output(&engine, out, sizeof out, &length));
+        write_all(out, length);
+    } while (length);
+}
+
+static void take_any(const amqp1_record *record, const uint8_t *input)
+{
+    switch (record->kind) {
+    case AMQP1_KIND_ATTACHED: link_handle = record->input; /* fall through */
+    case AMQP1_KIND_OPENED:
+    case AMQP1_KIND_BEGUN: steps++; break;
+    case AMQP1_KIND_CLOSED: closed++; break;
+    case AMQP1_KIND_FLOW:
+    case AMQP1_KIND_TRANSFER:
+    case AMQP1_KIND_DISPOSITION: take_record(record, input); break;
+    default: fail(amqp1_kind_name(record->kind));
+    }
+}
+
+/* Reads once, and takes what is whole; the rest stays for the next time. */
+static void hear(void)
+{
+    static uint8_t in[1 << 17];
+    static size_t length;
+    amqp1_record records[64];
+    amqp1_took took;
+    size_t at = 0, n;
+    int32_t status;
+    length += read_some(in + length, sizeof in - length);
+    do {
+        status = amqp1_take(&engine, in + at, length - at, records, 64, &took);
+        for (n = 0; n < took.written; n++)
+            take_any(records + n, in + at);
+        at += took.taken;
+    } while (status == AMQP1_FULL);
+    must("what came", status);
+    memmove(in, in + at, length -= at);
+}
+
+/* Sends what waits, and takes what comes, until a condition holds. */
+#define UNTIL(holds)         \
+    while (give(), !(holds)) \
+    hear()
+
+/* Makes the engine, with a key that nobody knows, and begins the session. */
+static void meet(const char *name, const char *host)
+{
+    uint8_t key[16], text[512];
+    FILE *random = fopen("/dev/urandom", "rb");
+    if (!random || fread(key, 1, sizeof key, random) != sizeof key)
+        fail("no randomness");
+    fclose(random);
+    must("an engine", amqp1_start(&engine, key, text, amqp1_write_open(text, sizeof text, name, host, 65536, 255, 0)));
+    must("an open", amqp1_open(&engine));
+    UNTIL(steps == 1);
+    must("a begin", amqp1_begin(&engine, SESSION, text, amqp1_write_begin(text, sizeof text, 0, 2048, 2048, 255)));
+    UNTIL(steps == 2);
+}
+
+/* Attaches a link on whose end `role` this side stands. This side's handle. */
+static uint32_t attach(const char *name, enum amqp1_role role, const char *address)
+{
+    uint8_t text[512];
+    uint32_t output, wanted = steps + 1;
+    size_t length;
+    must("a link", amqp1_link(&engine, SESSION, role, AMQP1_FIRST, name, &output));
+    length = amqp1_write_attach(text, sizeof text, name, output, role, 0, AMQP1_FIRST, address, address, 0);
+    must("an attach", amqp1_attach(&engine, SESSION, text, length));
+    UNTIL(steps == wanted);
+    return output;
+}
+
+/* Closes the connection. */
+static void leave(void)
+{
+    must("a close", amqp1_close(&engine, NULL, 0));
+    UNTIL(closed);
+    amqp1_free(&engine);
+    close(the_socket);
+}
+
+#endif

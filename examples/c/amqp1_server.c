@@ -1,0 +1,301 @@
+/* A server of queues over libamqp1: epoll, any number of clients, and a queue for each address. What is sent to an address goes to who receives
+   from it.
+
+       amqp1_server PORT [CLIENTS]
+
+   It listens on the loopback, takes SASL by ANONYMOUS or none, and ends when so many clients have gone, if a number is given. Messages lie in
+   memory, without a bound, and go out settled: it shows how the library is called, and is no broker. Build it by `cc amqp1_server.c
+   amqp1_server_io.c $(pkg-config --cflags --libs amqp1)`. */
+#include "amqp1_server.h"
+
+/* ---- queues */
+
+static struct queue *queues;
+
+static void *some(size_t size)
+{
+    void *it = calloc(1, size);
+    if (!it)
+        abort();
+    return it;
+}
+
+static struct queue *queue_of(const char *name)
+{
+    struct queue *it;
+    for (it = queues; it; it = it->next)
+        if (!strcmp(it->name, name))
+            return it;
+    it = (struct queue *)some(sizeof *it);
+    snprintf(it->name, sizeof it->name, "%s", name);
+    it->last = &it->first;
+    it->next = queues;
+    return queues = it;
+}
+
+void free_queues(void)
+{
+    while (queues) {
+        struct queue *it = queues;
+        while (it->first) {
+            struct message *message = it->first;
+            it->first = message->next;
+            free(message);
+        }
+        queues = it->next;
+        free(it);
+    }
+}
+
+/* ---- links */
+
+static struct link *link_of(struct peer *p, const amqp1_record *record)
+{
+    struct link *it;
+    for (it = p->links; it; it = it->next)
+        if (it->session == record->session && it->input == record->input)
+            return it;
+    return NULL;
+}
+
+/* Lets links go: that one, or those of a session. */
+void drop_links(struct peer *p, const struct link *one, uint32_t session)
+{
+    struct link **at = &p->links;
+    while (*at) {
+        struct link *it = *at;
+        if (one ? it == one : session == AMQP1_NONE || it->session == session) {
+            *at = it->next;
+            free(it->partial);
+            free(it);
+        } else {
+            at = &it->next;
+        }
+    }
+}
+
+/* The client may send a hundred more. */
+static void grant(struct peer *p, struct link *it)
+{
+    uint8_t text[64];
+    it->credit = 100;
+    told(p, "a flow", amqp1_flow(&p->engine, it->session, text, amqp1_write_flow(text, sizeof text, it->output, &it->count, it->credit, 0, 0)));
+}
+
+/* Copies a text of a performative, as far as it fits. 0 where it does not, or has a 0. */
+static int text_of(amqp1_bytes from, char *to, size_t room)
+{
+    if (from.length >= room || memchr(from.at, 0, from.length))
+        return 0;
+    memcpy(to, from.at, from.length);
+    to[from.length] = 0;
+    return 1;
+}
+
+/* A client attaches: this side takes the other end, and answers with the same source and target. */
+static void attach(struct peer *p, const amqp1_record *record, const uint8_t *input)
+{
+    amqp1_bytes perf = amqp1_performative(input, record), terminus;
+    enum amqp1_role role = amqp1_has(record, AMQP1_FLAG_RECEIVER) ? AMQP1_SENDER : AMQP1_RECEIVER;
+    char name[NAME], address[NAME] = "";
+    uint8_t text[3 * NAME + 128];
+    size_t length;
+    struct link *it;
+    uint32_t output;
+    amqp1_field(perf, role == AMQP1_SENDER ? AMQP1_ATTACH_SOURCE : AMQP1_ATTACH_TARGET, &terminus);
+    if (!text_of(amqp1_bytes_field(terminus, AMQP1_TERMINUS_ADDRESS), address, sizeof address) ||
+        !text_of(amqp1_bytes_field(perf, AMQP1_ATTACH_NAME), name, sizeof name)) {
+        end_with(p, record->session, "amqp:not-allowed");
+        return;
+    }
+    if (told(p, "a link", amqp1_link_on(&p->engine, record->session, record->input, role, AMQP1_FIRST, name, &output)))
+        return;
+    it = (struct link *)some(sizeof *it);
+    it->session = record->session;
+    it->input = record->input;
+    it->output = output;
+    it->is_receiver = role == AMQP1_RECEIVER;
+    it->count = it->is_receiver ? record->count : 0;
+    it->queue = queue_of(address);
+    it->next = p->links;
+    p->links = it;
+    length = amqp1_write_attach(text, sizeof text, name, output, role, 1, AMQP1_FIRST, address, address, 0);
+    told(p, "an attach", amqp1_attach(&p->engine, it->session, text, length));
+    if (it->is_receiver)
+        grant(p, it);
+}
+
+/* A part of a message comes, mostly the whole. */
+static void receive(struct peer *p, struct link *it, const amqp1_record *record, const uint8_t *input)
+{
+    amqp1_bytes payload = amqp1_payload(input, record);
+    size_t old = it->partial ? it->partial->length : 0;
+    struct message *message = (struct message *)realloc(it->partial, sizeof *message + old + payload.length);
+    if (!message)
+        abort();
+    if (!it->partial) {
+        it->number = record->first;
+        it->is_settled = 0;
+    }
+    it->is_settled |= amqp1_has(record, AMQP1_FLAG_SETTLED);
+    memcpy(message->bytes + old, payload.at, payload.length);
+    message->length = old + payload.length;
+    message->next = NULL;
+    it->partial = message;
+    if (amqp1_has(record, AMQP1_FLAG_MORE) && !amqp1_has(record, AMQP1_FLAG_ABORTED))
+        return;
+    it->partial = NULL;
+    it->count++;
+    if (amqp1_has(record, AMQP1_FLAG_ABORTED)) {
+        free(message);
+    } else {
+        *it->queue->last = message;
+        it->queue->last = &message->next;
+        if (!it->is_settled)
+            told(p, "a disposition", amqp1_dispose(&p->engine, it->session, AMQP1_RECEIVER, it->number, it->number, 1, AMQP1_ACCEPTED));
+    }
+    if (--it->credit < 50)
+        grant(p, it);
+}
+
+/* A client says how much it takes: its credit counts from its own count of deliveries. */
+static void flow(struct peer *p, struct link *it, const amqp1_record *record)
+{
+    uint8_t text[64];
+    uint32_t from = amqp1_has(record, AMQP1_FLAG_COUNTED) ? record->count : 0;
+    it->credit = amqp1_has(record, AMQP1_FLAG_CREDITED) ? from + record->credit - it->count : it->credit;
+    it->credit = it->credit > UINT32_MAX / 2 ? 0 : it->credit;
+    if (!amqp1_has(record, AMQP1_FLAG_DRAIN))
+        return;
+    serve(p);
+    it->count += it->credit;
+    it->credit = 0;
+    told(p, "a flow", amqp1_flow(&p->engine, it->session, text, amqp1_write_flow(text, sizeof text, it->output, &it->count, 0, 1, 0)));
+}
+
+/* ---- deliveries that go out */
+
+/* Sends one message, in as many transfers as it needs. */
+static void send_message(struct peer *p, struct link *it, const struct message *message)
+{
+    uint8_t tag[4];
+    amqp1_head head = { 0, 0, 0, 0, AMQP1_FLAG_NUMBERED | AMQP1_FLAG_TAGGED | AMQP1_FLAG_FORMATTED | AMQP1_FLAG_SETTLED, sizeof tag };
+    size_t at = 0, length = message->length;
+    amqp1_sent sent = { 0, 0 };
+    amqp1_went went;
+    uint8_t *bytes = (uint8_t *)some(p->payload_room + sizeof tag);
+    head.session = it->session;
+    head.link = it->input;
+    amqp1_u32_at(bytes, it->count);
+    do {
+        size_t part = length - at < p->payload_room ? length - at : p->payload_room;
+        head.payload = (uint32_t)part;
+        head.flags = (uint16_t)((head.flags & ~AMQP1_FLAG_MORE) | (at + part < length ? AMQP1_FLAG_MORE : 0));
+        memcpy(bytes + head.tag_size, message->bytes + at, part);
+        if (told(p, "a transfer", amqp1_send(&p->engine, &head, 1, bytes, head.tag_size + part, &sent, 1, &went)) || sent.refusal)
+            break;
+        head.flags = AMQP1_FLAG_SETTLED;
+        head.tag_size = 0;
+        at += part;
+    } while (at < length);
+    free(bytes);
+    it->count++;
+    it->credit--;
+}
+
+/* Sends what waits in the queues of a client's links, as far as there is credit. */
+void serve(struct peer *p)
+{
+    struct link *it;
+    for (it = p->links; it; it = it->next)
+        while (!it->is_receiver && it->credit && it->queue->first && p->out_length < BACKLOG) {
+            struct message *message = it->queue->first;
+            it->queue->first = message->next;
+            if (!message->next)
+                it->queue->last = &it->queue->first;
+            send_message(p, it, message);
+            free(message);
+            collect(p);
+        }
+}
+
+/* ---- what a client says */
+
+/* How long a payload goes out in one frame to this client: less than that, beside the widest transfer of this program's. */
+static void opened(struct peer *p, const amqp1_record *record, const uint8_t *input)
+{
+    amqp1_bytes perf = amqp1_performative(input, record);
+    uint32_t length = 0;
+    told(p, "a length", amqp1_max_piece_len(&p->engine, &length));
+    p->payload_room = length < 65536 ? length - 100 : 65436;
+    p->idle = (uint32_t)amqp1_number_field(perf, AMQP1_OPEN_IDLE_TIME_OUT, 0);
+}
+
+/* A frame that was refused is answered as the standard says: by an End or a Close with the refusal's condition. */
+static void refused(struct peer *p, const amqp1_record *record, const uint8_t *input)
+{
+    char text[128];
+    size_t length = 0;
+    char *condition, *answer;
+    if (record->refusal == AMQP1_WHY_BEGIN_WANTED) {
+        begin(p, record, input);
+        return;
+    }
+    if (told(p, "a text", amqp1_refusal_text(&p->engine, record->refusal, (uint8_t *)text, sizeof text - 1, &length)))
+        return;
+    text[length] = 0;
+    condition = strchr(text, '\n') + 1;
+    answer = strchr(condition, '\n');
+    *answer++ = 0;
+    fprintf(stderr, "%d: refused: %.*s\n", p->fd, (int)(condition - text - 1), text);
+    if (!strcmp(answer, "end"))
+        end_with(p, record->session, condition);
+    else if (!strcmp(answer, "close"))
+        close_with(p, condition);
+}
+
+static void ended(struct peer *p, uint32_t session)
+{
+    uint32_t state = AMQP1_SESSION_UNMAPPED;
+    int is_there;
+    drop_links(p, NULL, session);
+    if (!amqp1_session_state(&p->engine, session, &state, &is_there) && is_there && state == AMQP1_SESSION_END_RECEIVED)
+        told(p, "an end", amqp1_end(&p->engine, session, NULL, 0));
+    told(p, "a release", amqp1_release(&p->engine, session));
+    told(p, "a session that is over", amqp1_forget(&p->engine, session));
+}
+
+static void detached(struct peer *p, const amqp1_record *record)
+{
+    uint8_t text[64];
+    size_t length;
+    struct link *it = link_of(p, record);
+    if (!it)
+        return;
+    length = amqp1_write_detach(text, sizeof text, it->output, amqp1_has(record, AMQP1_FLAG_FOR_GOOD), NULL, NULL);
+    if (record->output != AMQP1_NONE)
+        told(p, "a detach", amqp1_detach(&p->engine, it->session, 0, text, length));
+    drop_links(p, it, 0);
+}
+
+void read_record(struct peer *p, const amqp1_record *record, const uint8_t *input)
+{
+    struct link *it = amqp1_has(record, AMQP1_FLAG_LINKED) ? link_of(p, record) : NULL;
+    switch (record->kind) {
+    case AMQP1_KIND_OPENED: opened(p, record, input); break;
+    case AMQP1_KIND_ATTACH_WANTED: attach(p, record, input); break;
+    case AMQP1_KIND_FLOW:
+        if (it && !it->is_receiver)
+            flow(p, it, record);
+        break;
+    case AMQP1_KIND_TRANSFER:
+        if (it)
+            receive(p, it, record, input);
+        break;
+    case AMQP1_KIND_DETACHED: detached(p, record); break;
+    case AMQP1_KIND_ENDED: ended(p, record->session); break;
+    case AMQP1_KIND_CLOSED: close_with(p, NULL); break;
+    case AMQP1_KIND_REFUSED: refused(p, record, input); break;
+    default: break;
+    }
+}

@@ -1,0 +1,388 @@
+/* A function for each operation, made of the exports. For amqp1.h. */
+#ifndef AMQP1_CALLS_H
+#define AMQP1_CALLS_H
+
+#if defined(__cplusplus) && defined(__GNUC__)
+#pragma GCC system_header
+#endif
+
+#include "exports.h"
+#include <stdlib.h>
+#include <string.h>
+
+#ifdef __cplusplus
+extern "C" {
+#endif
+
+/* An input is put together on the stack up to this many bytes, and beyond that in memory from AMQP1_MALLOC, which is given back before the call
+   ends. Where that memory is refused the function answers AMQP1_NO_MEMORY, and the engine was not called. Who wants no such memory puts the input
+   together in a buffer of its own, and calls amqp1_call. Each of the three may be defined before this header is included. */
+#ifndef AMQP1_ON_STACK
+#define AMQP1_ON_STACK 512
+#endif
+#ifndef AMQP1_MALLOC
+#define AMQP1_MALLOC malloc
+#define AMQP1_FREE_MEMORY free
+#endif
+
+/* gcc warns of a text on a small buffer that it would be too long for the buffer where it is longer than AMQP1_ON_STACK. */
+#if defined(__GNUC__) && !defined(__clang__) && __GNUC__ >= 11
+#define AMQP1_GCC_WARNS
+#pragma GCC diagnostic push
+#pragma GCC diagnostic ignored "-Warray-bounds"
+#pragma GCC diagnostic ignored "-Wstringop-overread"
+#endif
+
+/* An operation whose input is `head`, then `body`, then `rest`. For use within this header. */
+AMQP1_FUNCTION int32_t amqp1_join_and_call(amqp1 *place, uint32_t operation, const uint8_t *head, size_t head_length, const uint8_t *body,
+                                           size_t body_length, const uint8_t *rest, size_t rest_length, uint8_t *output, size_t room,
+                                           size_t *written)
+{
+    uint8_t small[AMQP1_ON_STACK], none[1] = { 0 };
+    uint8_t *input = small;
+    size_t length = head_length + body_length;
+    int32_t status;
+    small[0] = 0;
+    if (length < head_length || length + rest_length < length)
+        return AMQP1_NO_MEMORY;
+    length += rest_length;
+    if (length > sizeof small && !(input = (uint8_t *)AMQP1_MALLOC(length)))
+        return AMQP1_NO_MEMORY;
+    if (head_length)
+        memcpy(input, head, head_length);
+    if (body_length)
+        memcpy(input + head_length, body, body_length);
+    if (rest_length)
+        memcpy(input + head_length + body_length, rest, rest_length);
+    status = operation ? amqp1_call(place, operation, input, length, room ? output : none, room, written) : amqp1_new(place, input, length);
+    if (input != small)
+        AMQP1_FREE_MEMORY(input);
+    return status;
+}
+
+#ifdef AMQP1_GCC_WARNS
+#pragma GCC diagnostic pop
+#endif
+
+/* The same where nothing is written. For use within this header. */
+AMQP1_FUNCTION int32_t amqp1_join_and_ask(amqp1 *place, uint32_t operation, const uint8_t *head, size_t head_length, const uint8_t *body,
+                                          size_t body_length, const uint8_t *rest, size_t rest_length)
+{
+    size_t written = 0;
+    return amqp1_join_and_call(place, operation, head, head_length, body, body_length, rest, rest_length, NULL, 0, &written);
+}
+
+/* Writes a number in network order; the place after it. For use within these headers. */
+AMQP1_FUNCTION uint8_t *amqp1_u32_at(uint8_t *at, uint32_t number)
+{
+    at[0] = (uint8_t)(number >> 24);
+    at[1] = (uint8_t)(number >> 16);
+    at[2] = (uint8_t)(number >> 8);
+    at[3] = (uint8_t)number;
+    return at + 4;
+}
+
+/* A number that one byte is to say: of one that it cannot say 255, which no operation takes. For use within this header. */
+AMQP1_FUNCTION uint8_t amqp1_u8_of(int number)
+{
+    return number < 0 || number > 255 ? 255 : (uint8_t)number;
+}
+
+/* Reads a number in network order. For use within these headers. */
+AMQP1_FUNCTION uint32_t amqp1_u32_of(const uint8_t *at)
+{
+    return (uint32_t)at[0] << 24 | (uint32_t)at[1] << 16 | (uint32_t)at[2] << 8 | (uint32_t)at[3];
+}
+
+/* Makes an engine: amqp1_new with 16 bytes of key, which the peer cannot guess (getrandom, /dev/urandom), and PERF of this side's Open. A key of
+   which all bytes are zero is BAD_ARGUMENT. */
+AMQP1_FUNCTION int32_t amqp1_start(amqp1 *place, const uint8_t key[16], const uint8_t *open, size_t open_length)
+{
+    return amqp1_join_and_call(place, 0, key, 16, open, open_length, NULL, 0, NULL, 0, NULL);
+}
+
+/* An operation with no input. For use within this header. */
+AMQP1_FUNCTION int32_t amqp1_ask_alone(amqp1 *place, uint32_t operation, uint8_t *output, size_t room, size_t *written)
+{
+    *written = 0;
+    return amqp1_join_and_call(place, operation, NULL, 0, NULL, 0, NULL, 0, output, room, written);
+}
+
+/* This side's Open is to be sent. */
+AMQP1_FUNCTION int32_t amqp1_open(amqp1 *place)
+{
+    return amqp1_join_and_ask(place, AMQP1_OPEN, NULL, 0, NULL, 0, NULL, 0);
+}
+
+/* This side's Close is to be sent, with an error (amqp1_write_error), or with none, which NULL says. An error of 0 bytes is BAD_ARGUMENT. */
+AMQP1_FUNCTION int32_t amqp1_close(amqp1 *place, const uint8_t *error, size_t error_length)
+{
+    uint8_t is_there = error ? 1 : 0;
+    return amqp1_join_and_ask(place, AMQP1_CLOSE, &is_there, 1, error, error ? error_length : 0, NULL, 0);
+}
+
+/* An operation on a session. For use within this header. */
+AMQP1_FUNCTION int32_t amqp1_of_session(amqp1 *place, uint32_t operation, uint32_t session, const uint8_t *body, size_t length)
+{
+    uint8_t head[4];
+    amqp1_u32_at(head, session);
+    return amqp1_join_and_ask(place, operation, head, sizeof head, body, length, NULL, 0);
+}
+
+/* A session begins, under a number of the caller's that no session of the engine had, with what PERF of a Begin says (without remote-channel). */
+AMQP1_FUNCTION int32_t amqp1_begin(amqp1 *place, uint32_t session, const uint8_t *begin, size_t length)
+{
+    return amqp1_of_session(place, AMQP1_BEGIN, session, begin, length);
+}
+
+/* The session ends, with an error, or with none, which NULL says, as in amqp1_close; or the peer's End is answered. */
+AMQP1_FUNCTION int32_t amqp1_end(amqp1 *place, uint32_t session, const uint8_t *error, size_t error_length)
+{
+    uint8_t head[5];
+    amqp1_u32_at(head, session);
+    head[4] = error ? 1 : 0;
+    return amqp1_join_and_ask(place, AMQP1_END, head, sizeof head, error, error ? error_length : 0, NULL, 0);
+}
+
+/* The session's channel is given back for another, after the exchange of End. */
+AMQP1_FUNCTION int32_t amqp1_release(amqp1 *place, uint32_t session)
+{
+    return amqp1_of_session(place, AMQP1_RELEASE, session, NULL, 0);
+}
+
+/* The session, which is over and has given its channel back, is let go with all that is kept of it. Its number stays used. */
+AMQP1_FUNCTION int32_t amqp1_forget(amqp1 *place, uint32_t session)
+{
+    return amqp1_of_session(place, AMQP1_FORGET, session, NULL, 0);
+}
+
+/* LINK or LINK_ON, with its head. For use within this header. */
+AMQP1_FUNCTION int32_t amqp1_allot(amqp1 *place, uint32_t operation, const uint8_t *head, size_t head_length, const char *name, uint32_t *handle)
+{
+    uint8_t output[4] = { 0 };
+    size_t written = 0;
+    int32_t status = amqp1_join_and_call(place, operation, head, head_length, (const uint8_t *)name, strlen(name), NULL, 0, output,
+                                        sizeof output, &written);
+    *handle = 0;
+    if (status == AMQP1_DONE && written == sizeof output)
+        *handle = amqp1_u32_of(output);
+    return status;
+}
+
+/* An output handle is allotted for a link of this name (UTF-8), on whose end `role` this side stands; the peer's attach is awaited under the
+   name, which serves one live link of a session, on either end. `mode` is the receiver settle mode: deliveries that come by AMQP1_SECOND are recorded
+   until they are settled. */
+AMQP1_FUNCTION int32_t amqp1_link(amqp1 *place, uint32_t session, enum amqp1_role role, enum amqp1_rcv_settle_mode mode, const char *name,
+                                  uint32_t *handle)
+{
+    uint8_t head[6];
+    amqp1_u32_at(head, session);
+    head[4] = amqp1_u8_of((int)role);
+    head[5] = amqp1_u8_of((int)mode);
+    return amqp1_allot(place, AMQP1_LINK, head, sizeof head, name, handle);
+}
+
+/* The same for a link whose Attach came first, on this input handle: its record is of AMQP1_KIND_ATTACH_WANTED. The link is attached with this call,
+   and amqp1_attach answers. Frames of the link that the same amqp1_take had behind the Attach were refused: a server takes what
+   amqp1_up_to_wanted gives. */
+AMQP1_FUNCTION int32_t amqp1_link_on(amqp1 *place, uint32_t session, uint32_t input_handle, enum amqp1_role role, enum amqp1_rcv_settle_mode mode,
+                                     const char *name, uint32_t *handle)
+{
+    uint8_t head[10];
+    amqp1_u32_at(amqp1_u32_at(head, session), input_handle);
+    head[8] = amqp1_u8_of((int)role);
+    head[9] = amqp1_u8_of((int)mode);
+    return amqp1_allot(place, AMQP1_LINK_ON, head, sizeof head, name, handle);
+}
+
+/* An Attach of the session (its PERF) is to be sent. Its handle is the output handle that was allotted. */
+AMQP1_FUNCTION int32_t amqp1_attach(amqp1 *place, uint32_t session, const uint8_t *attach, size_t length)
+{
+    return amqp1_of_session(place, AMQP1_ATTACH, session, attach, length);
+}
+
+/* A Detach (its PERF) is to be sent, and its output handle is given back. `awaited` is 1 where the peer is to answer it, and 0 where it answers. */
+AMQP1_FUNCTION int32_t amqp1_detach(amqp1 *place, uint32_t session, int awaited, const uint8_t *detach, size_t length)
+{
+    uint8_t head[5];
+    amqp1_u32_at(head, session);
+    head[4] = awaited ? 1 : 0;
+    return amqp1_join_and_ask(place, AMQP1_DETACH, head, sizeof head, detach, length, NULL, 0);
+}
+
+/* A Flow of a link (PERF of a Flow with a handle) is to be sent. What it says of the session is replaced by what is so. */
+AMQP1_FUNCTION int32_t amqp1_flow(amqp1 *place, uint32_t session, const uint8_t *flow, size_t length)
+{
+    return amqp1_of_session(place, AMQP1_FLOW, session, flow, length);
+}
+
+/* A Transfer (its PERF, and the payload) of a link is to be sent: the first of its delivery (1), or a later one (0). The input handle and the handle
+   in PERF are those of one link, whose attach came and which neither side has detached: else it is REFUSED (`UnattachedHandle`). PERF of 0 bytes, as
+   a writer leaves it that had too little room, is BAD_ARGUMENT: the payload is never read as PERF.
+   The delivery's number is the engine's. A payload longer than amqp1_payload_room is cut, which a peer's window counts as several. */
+AMQP1_FUNCTION int32_t amqp1_transfer(amqp1 *place, uint32_t session, uint32_t input_handle, int first, const uint8_t *transfer, size_t length,
+                                      const uint8_t *payload, size_t payload_length)
+{
+    uint8_t head[13];
+    if (length > UINT32_MAX)
+        return AMQP1_BAD_ARGUMENT;
+    amqp1_u32_at(amqp1_u32_at(head, session), input_handle);
+    head[8] = first ? 1 : 0;
+    amqp1_u32_at(head + 9, (uint32_t)length);
+    return amqp1_join_and_ask(place, AMQP1_TRANSFER, head, sizeof head, transfer, length, payload, payload_length);
+}
+
+/* A Disposition (its PERF) of the session's deliveries is to be sent. */
+AMQP1_FUNCTION int32_t amqp1_disposition(amqp1 *place, uint32_t session, const uint8_t *disposition, size_t length)
+{
+    return amqp1_of_session(place, AMQP1_DISPOSITION, session, disposition, length);
+}
+
+/* A Disposition is to be sent, by numbers and without a performative: of the deliveries from `first` to `last`, in which this side stands on the end
+   `role` (section 2.7.6); whether it settles them, and their state. That is NO_STATE, ACCEPTED, RELEASED or MODIFIED, without fields: any other one
+   is BAD_ARGUMENT, and goes by amqp1_disposition. */
+AMQP1_FUNCTION int32_t amqp1_dispose(amqp1 *place, uint32_t session, enum amqp1_role role, uint32_t first, uint32_t last, int settled,
+                                     enum amqp1_outcome outcome)
+{
+    uint8_t head[15];
+    amqp1_u32_at(head, session);
+    head[4] = amqp1_u8_of((int)role);
+    amqp1_u32_at(amqp1_u32_at(head + 5, first), last);
+    head[13] = settled ? 1 : 0;
+    head[14] = amqp1_u8_of((int)outcome);
+    return amqp1_join_and_ask(place, AMQP1_DISPOSE, head, sizeof head, NULL, 0, NULL, 0);
+}
+
+/* Open deliveries from `first` to `last` that this side settles by itself are let go: of those that it sent, or that it received, by its role.
+   Nothing goes out. */
+AMQP1_FUNCTION int32_t amqp1_settle(amqp1 *place, uint32_t session, enum amqp1_role role, uint32_t first, uint32_t last)
+{
+    uint8_t head[13];
+    amqp1_u32_at(head, session);
+    head[4] = amqp1_u8_of((int)role);
+    amqp1_u32_at(amqp1_u32_at(head + 5, first), last);
+    return amqp1_join_and_ask(place, AMQP1_SETTLE, head, sizeof head, NULL, 0, NULL, 0);
+}
+
+/* Takes off as many of the bytes that wait to be sent as fit into the output. `written` says how many, whatever the status: send them. 0 where
+   none waits. NO_MEMORY: some wait still that could not be written yet, call again. */
+AMQP1_FUNCTION int32_t amqp1_output(amqp1 *place, uint8_t *output, size_t room, size_t *written)
+{
+    return amqp1_ask_alone(place, AMQP1_OUTPUT, output, room, written);
+}
+
+/* The last refusal of an operation, as three lines: its name, the AMQP error condition that the peer is told of it, and a description; the last two
+   may be empty. Where the peer closed or ended with an error, they are that error's. `TooLarge` says that the request was accepted, and a frame of it
+   was not sent, since the peer takes no frame so long. 0 bytes where nothing was refused. What amqp1_take and amqp1_send refuse stands in records and
+   in `sent` alone. It is no string: there is no 0 at its end, and the last line ends with it. */
+AMQP1_FUNCTION int32_t amqp1_refusal(amqp1 *place, uint8_t *output, size_t room, size_t *written)
+{
+    return amqp1_ask_alone(place, AMQP1_REFUSAL, output, room, written);
+}
+
+/* The text of a refusal by its number, as a record or an amqp1_sent has it: its name, a line feed, the AMQP error condition by which the peer is
+   answered, which may be empty, a line feed, and `end` or `close`, by which of the two that is done, or nothing. It is no string: there is no 0 at
+   its end. 0 bytes where no refusal has the number. */
+AMQP1_FUNCTION int32_t amqp1_refusal_text(amqp1 *place, uint32_t refusal, uint8_t *output, size_t room, size_t *written)
+{
+    uint8_t input[4];
+    *written = 0;
+    amqp1_u32_at(input, refusal);
+    return amqp1_join_and_call(place, AMQP1_REFUSAL_TEXT, input, sizeof input, NULL, 0, NULL, 0, output, room, written);
+}
+
+/* PERF of the peer's Open; 0 bytes where none came. */
+AMQP1_FUNCTION int32_t amqp1_remote_open(amqp1 *place, uint8_t *output, size_t room, size_t *written)
+{
+    return amqp1_ask_alone(place, AMQP1_REMOTE_OPEN, output, room, written);
+}
+
+/* The operation's answer as a number in network order; 1 where there is one. For use within this header. */
+AMQP1_FUNCTION int32_t amqp1_ask_number(amqp1 *place, uint32_t operation, const uint8_t *input, size_t length, uint64_t *number, int *is_there)
+{
+    uint8_t output[8];
+    size_t written = 0, at;
+    int32_t status = amqp1_join_and_call(place, operation, input, length, NULL, 0, NULL, 0, output, sizeof output, &written);
+    *is_there = status == AMQP1_DONE && written > 0;
+    for (at = 0, *number = 0; *is_there && at < written && at < sizeof output; at++)
+        *number = *number << 8 | output[at];
+    return status;
+}
+
+/* How long a frame goes out at most, without its four bytes of size. */
+AMQP1_FUNCTION int32_t amqp1_max_piece_len(amqp1 *place, uint32_t *length)
+{
+    uint64_t number;
+    int is_there;
+    int32_t status = amqp1_ask_number(place, AMQP1_MAX_PIECE_LEN, NULL, 0, &number, &is_there);
+    *length = (uint32_t)number;
+    return status;
+}
+
+/* How long a payload goes out in one frame beside this Transfer (its PERF); `fits` is 0 where the Transfer itself does not. */
+AMQP1_FUNCTION int32_t amqp1_payload_room(amqp1 *place, const uint8_t *transfer, size_t length, uint32_t *room, int *fits)
+{
+    uint64_t number;
+    int32_t status = amqp1_ask_number(place, AMQP1_PAYLOAD_ROOM, transfer, length, &number, fits);
+    *room = (uint32_t)number;
+    return status;
+}
+
+/* How many frames that were to go out did not fit the peer's max-frame-size (section 2.7.1), and were not sent: at most 4294967295 are counted. A
+   side whose transfers are no longer than amqp1_payload_room sees none. */
+AMQP1_FUNCTION int32_t amqp1_unfit(amqp1 *place, uint32_t *count)
+{
+    uint64_t number;
+    int is_there;
+    int32_t status = amqp1_ask_number(place, AMQP1_UNFIT, NULL, 0, &number, &is_there);
+    *count = (uint32_t)number;
+    return status;
+}
+
+/* The number of the session to which a channel of the peer's leads; `leads` is 0 where none does. */
+AMQP1_FUNCTION int32_t amqp1_session_of(amqp1 *place, uint16_t channel, uint32_t *session, int *leads)
+{
+    uint64_t number;
+    uint8_t input[2];
+    int32_t status;
+    input[0] = (uint8_t)(channel >> 8);
+    input[1] = (uint8_t)channel;
+    status = amqp1_ask_number(place, AMQP1_SESSION_OF, input, sizeof input, &number, leads);
+    *session = (uint32_t)number;
+    return status;
+}
+
+/* The state of the connection, an amqp1_connection_state. */
+AMQP1_FUNCTION int32_t amqp1_state(amqp1 *place, uint32_t *state)
+{
+    uint64_t number;
+    int is_there;
+    int32_t status = amqp1_ask_number(place, AMQP1_STATE, NULL, 0, &number, &is_there);
+    *state = (uint32_t)number;
+    return status;
+}
+
+/* The state of a session, an amqp1_session_state_of; `is_there` is 0 where there is no such session. */
+AMQP1_FUNCTION int32_t amqp1_session_state(amqp1 *place, uint32_t session, uint32_t *state, int *is_there)
+{
+    uint64_t number;
+    uint8_t input[4];
+    int32_t status;
+    amqp1_u32_at(input, session);
+    status = amqp1_ask_number(place, AMQP1_SESSION_STATE, input, sizeof input, &number, is_there);
+    *state = (uint32_t)number;
+    return status;
+}
+
+/* The name of a status, as "DONE"; "unknown" of one that is not named here. */
+AMQP1_FUNCTION const char *amqp1_status_name(int32_t status)
+{
+    static const char *const names[] = { "DONE",      "REFUSED", "NO_MEMORY", "TOO_SMALL", "BAD_ARGUMENT",
+                                         "NO_ENGINE", "unknown", "FULL",      "BAD_SIZE",  "SHORT" };
+    return status >= 0 && (size_t)status < sizeof names / sizeof *names ? names[status] : "unknown";
+}
+
+#ifdef __cplusplus
+}
+#endif
+#endif

@@ -1,0 +1,124 @@
+/* The exports of the library, its operations, and the states of connections and sessions. For amqp1.h. */
+#ifndef AMQP1_EXPORTS_H
+#define AMQP1_EXPORTS_H
+
+#if defined(__cplusplus) && defined(__GNUC__)
+#pragma GCC system_header
+#endif
+
+#include "records.h"
+
+#ifdef __cplusplus
+extern "C" {
+#endif
+
+/* What amqp1_call is asked to do. Each has a function in calls.h, which says what it takes and gives. 1, 17, 22 and 26 are none. */
+enum amqp1_operation {
+    AMQP1_OPEN = 2,
+    AMQP1_CLOSE = 3,
+    AMQP1_BEGIN = 4,
+    AMQP1_END = 5,
+    AMQP1_RELEASE = 6,
+    AMQP1_FORGET = 7,
+    AMQP1_LINK = 8,
+    AMQP1_LINK_ON = 9,
+    AMQP1_ATTACH = 10,
+    AMQP1_DETACH = 11,
+    AMQP1_FLOW = 12,
+    AMQP1_TRANSFER = 13,
+    AMQP1_DISPOSITION = 14,
+    AMQP1_SETTLE = 15,
+    AMQP1_OUTPUT = 16,
+    AMQP1_REFUSAL = 18,
+    AMQP1_REMOTE_OPEN = 19,
+    AMQP1_MAX_PIECE_LEN = 20,
+    AMQP1_PAYLOAD_ROOM = 21,
+    AMQP1_SESSION_OF = 23,
+    AMQP1_STATE = 24,
+    AMQP1_SESSION_STATE = 25,
+    AMQP1_UNFIT = 27,
+    AMQP1_REFUSAL_TEXT = 28,
+    AMQP1_DISPOSE = 29
+};
+
+/* The state of the connection (AMQP 1.0 part 2, section 2.4.6). */
+enum amqp1_connection_state {
+    AMQP1_STATE_START = 0,
+    AMQP1_STATE_HEADER_RECEIVED = 1,
+    AMQP1_STATE_HEADER_SENT = 2,
+    AMQP1_STATE_HEADER_EXCHANGE = 3,
+    AMQP1_STATE_OPEN_PIPE = 4,
+    AMQP1_STATE_OPEN_CLOSE_PIPE = 5,
+    AMQP1_STATE_OPEN_RECEIVED = 6,
+    AMQP1_STATE_OPEN_SENT = 7,
+    AMQP1_STATE_CLOSE_PIPE = 8,
+    AMQP1_STATE_OPENED = 9,
+    AMQP1_STATE_CLOSE_RECEIVED = 10,
+    AMQP1_STATE_CLOSE_SENT = 11,
+    AMQP1_STATE_DISCARDING = 12,
+    AMQP1_STATE_ENDED = 13
+};
+
+/* The state of a session (section 2.5.5). */
+enum amqp1_session_state_of {
+    AMQP1_SESSION_UNMAPPED = 0,
+    AMQP1_SESSION_BEGIN_SENT = 1,
+    AMQP1_SESSION_BEGIN_RECEIVED = 2,
+    AMQP1_SESSION_MAPPED = 3,
+    AMQP1_SESSION_END_SENT = 4,
+    AMQP1_SESSION_END_RECEIVED = 5,
+    AMQP1_SESSION_DISCARDING = 6
+};
+
+/* The end of a link on which a side stands (section 2.8.1). */
+enum amqp1_role { AMQP1_SENDER = 0, AMQP1_RECEIVER = 1 };
+
+/* How the receiving end settles (section 2.8.3). */
+enum amqp1_rcv_settle_mode { AMQP1_FIRST = 0, AMQP1_SECOND = 1 };
+
+/* The exports of the library. In each no pointer may be null; an input, an output or an array of no elements is any other pointer. Lengths of
+   records, heads and places of `sent` are counts of those; all other lengths are bytes. Where nothing lies in the place the answer is
+   AMQP1_NO_ENGINE, and nothing is written. */
+
+/* Makes an engine in an empty place. The input: 16 bytes of key, then PERF of this side's Open. By the key the engine's maps find what the peer
+   names: with one that the peer cannot guess it cannot choose names or numbers that collide. DONE; else NO_MEMORY, and the place stays empty;
+   BAD_ARGUMENT where the input is another, where all bytes of the key are zero, and where an engine lies in the place already: it stays. */
+int32_t amqp1_new(amqp1 *place, const uint8_t *input, size_t input_length);
+
+/* Has the engine do one operation. `written` gets how much of the output was written, or how much is needed (TOO_SMALL). calls.h has a function for
+   each. BAD_ARGUMENT where there is no such operation, or the input is none of its. */
+int32_t amqp1_call(amqp1 *place, uint32_t operation, const uint8_t *input, size_t input_length, uint8_t *output, size_t output_length,
+                   size_t *written);
+
+/* Takes whole frames out of received bytes, as they come after the protocol headers (section 2.3), runs each once, in order, and writes a record of
+   what each says. It keeps no byte: the caller keeps what was not taken, and gives it again with what came since. A frame that was refused has a
+   record too, of AMQP1_KIND_REFUSED, and the next one is taken; an empty frame (section 2.4.5) is taken and has none. Records behind those that were
+   written stay as they were. What the frames hand out waits for amqp1_output.
+
+   DONE where what is left is no whole frame: `wanted` says how long the next one is, as far as it is known. FULL where a whole frame is left and all
+   records are written: give the rest again. BAD_SIZE at a size below 8 or above this side's max-frame-size (sections 2.3.1 and 2.7.1): close the
+   connection, for amqp:connection:framing-error. NO_MEMORY where the next frame was not taken: give the rest again. With each of them `answer` says
+   what was taken, and the records that were written are to be read. Of an input of more than 4294967295 bytes the others are not looked at. */
+int32_t amqp1_take(amqp1 *place, const uint8_t *input, size_t input_length, amqp1_record *records, size_t records_length, amqp1_took *answer);
+
+/* Sends transfers, each of one frame, in order (sections 2.6.12 and 2.7.5). In `bytes` stand the tag and the payload of each, one after the other.
+   What became of a transfer goes to the next place of `sent`: of an accepted first one the number of its delivery, which it keeps also where the
+   session holds it back until the peer's window lets it out; of a refused one why. A refused one changes nothing, and the next one is taken. The
+   session counts no link's credit: that is the caller's. A message that is longer than amqp1_payload_room goes in parts: a head for each,
+   AMQP1_FLAG_NUMBERED and AMQP1_FLAG_TAGGED on the first alone, and AMQP1_FLAG_MORE on all but the last.
+
+   DONE where all were taken. FULL where all places of `sent` are written, SHORT where the bytes end before those of the next transfer do, NO_MEMORY
+   where the next one was not taken: with each of them `answer` says how many were, and the others are given again. */
+int32_t amqp1_send(amqp1 *place, const amqp1_head *heads, size_t heads_length, const uint8_t *bytes, size_t bytes_length, amqp1_sent *sent,
+                   size_t sent_length, amqp1_went *answer);
+
+/* Frees the engine, if there is one. The place is empty then, and may be used again. */
+void amqp1_free(amqp1 *place);
+
+/* The version of the library, as AMQP1_VERSION_NUMBER is written. */
+uint32_t amqp1_version(void);
+
+#ifdef __cplusplus
+}
+#endif
+#endif

@@ -1,0 +1,233 @@
+/* Records of received frames, heads of transfers, statuses, and the place in which an engine lies. For amqp1.h. */
+#ifndef AMQP1_RECORDS_H
+#define AMQP1_RECORDS_H
+
+#if defined(__cplusplus) && defined(__GNUC__)
+#pragma GCC system_header
+#endif
+
+#include <stddef.h>
+#include <stdint.h>
+
+#if !defined(__x86_64__) && !defined(_M_X64)
+#error "libamqp1 is built for x86-64 alone"
+#endif
+
+/* The functions of these headers stand in each file that includes them. The library has them under the same names too, for a program that opens
+   it while it runs, or that is in another language: library.c makes those. */
+#ifndef AMQP1_FUNCTION
+#define AMQP1_FUNCTION static inline
+#endif
+
+/* What a call answers. A status that is not named here is one that a later version may answer: take it as AMQP1_REFUSED. */
+enum amqp1_status {
+    AMQP1_DONE = 0,         /* done */
+    AMQP1_REFUSED = 1,      /* of an operation: refused by name, which amqp1_refusal tells. The engine goes on */
+    AMQP1_NO_MEMORY = 2,    /* memory was refused. The request, the frame or the transfer was not taken: ask again */
+    AMQP1_TOO_SMALL = 3,    /* the output is too small: nothing changed, and `written` says how much is needed */
+    AMQP1_BAD_ARGUMENT = 4, /* no such operation, or an input that is none of its: nothing changed. Of amqp1_new also where an engine lies there */
+    AMQP1_NO_ENGINE = 5,    /* nothing lies in the place: nothing changed, and nothing is written */
+    AMQP1_FULL = 7,         /* of amqp1_take and amqp1_send: something is left, and all places are written. Give the rest again */
+    AMQP1_BAD_SIZE = 8,     /* of amqp1_take: a size that no frame may have. Close the connection, for amqp:connection:framing-error */
+    AMQP1_SHORT = 9         /* of amqp1_send: the bytes end before those of the next transfer do */
+};
+
+/* What a frame was. A record of a kind that is not named here is of a later version: pass over it. */
+enum amqp1_kind {
+    AMQP1_KIND_OPENED = 1,        /* an Open (AMQP 1.0 part 2, section 2.7.1) */
+    AMQP1_KIND_BEGUN = 2,         /* the Begin that answers one of this side's (section 2.7.2) */
+    AMQP1_KIND_ATTACHED = 3,      /* an Attach (section 2.7.3) */
+    AMQP1_KIND_ATTACH_WANTED = 4, /* an Attach whose name no link of this side waits for. It was refused: see amqp1_link_on */
+    AMQP1_KIND_FLOW = 5,          /* a Flow (section 2.7.4) */
+    AMQP1_KIND_TRANSFER = 6,      /* a Transfer (section 2.7.5) */
+    AMQP1_KIND_DISPOSITION = 7,   /* a Disposition (section 2.7.6) */
+    AMQP1_KIND_DETACHED = 8,      /* a Detach (section 2.7.7) */
+    AMQP1_KIND_ENDED = 9,         /* an End (section 2.7.8) */
+    AMQP1_KIND_CLOSED = 10,       /* a Close (section 2.7.9) */
+    AMQP1_KIND_REFUSED = 11       /* a frame that was refused, or bytes that are none: `refusal` says why */
+};
+
+/* What a frame says besides, in amqp1_record.flags, and what a transfer is to say, in amqp1_head.flags. */
+enum amqp1_flag {
+    AMQP1_FLAG_NUMBERED = 1,     /* a transfer gives the number of its delivery: it is the first one */
+    AMQP1_FLAG_SETTLED = 2,      /* a transfer or a disposition is settled */
+    AMQP1_FLAG_MORE = 4,         /* more transfers of the delivery follow */
+    AMQP1_FLAG_ABORTED = 8,      /* the delivery is aborted */
+    AMQP1_FLAG_RECEIVER = 16,    /* the peer's role in an attach or a disposition is that of the receiver */
+    AMQP1_FLAG_STATED = 32,      /* a transfer or a disposition has a state: `outcome` says which */
+    AMQP1_FLAG_DRAIN = 64,       /* a flow asks that the credit be used up */
+    AMQP1_FLAG_ECHO = 128,       /* a flow asks for a flow in answer */
+    AMQP1_FLAG_ERROR = 256,      /* a detach, an End or a Close names an error */
+    AMQP1_FLAG_FOR_GOOD = 512,   /* a detach closes the link for good */
+    AMQP1_FLAG_CREDITED = 1024,  /* a flow gives a credit, in `credit` */
+    AMQP1_FLAG_COUNTED = 2048,   /* a flow gives the delivery count, and an attach its initial one, in `count` */
+    AMQP1_FLAG_LINKED = 4096,    /* the frame names a link: by the handle in `input` */
+    AMQP1_FLAG_FORMATTED = 8192, /* a transfer gives the format of its message, in `format` */
+    AMQP1_FLAG_TAGGED = 16384,   /* a transfer gives the tag of its delivery, of `tag_size` bytes */
+    AMQP1_FLAG_AVAILABLE = 32768 /* a flow says how many messages are ready, in `available` */
+};
+
+/* The state of deliveries (part 3, section 3.4). */
+enum amqp1_outcome {
+    AMQP1_NO_STATE = 0,
+    AMQP1_ACCEPTED = 1,
+    AMQP1_REJECTED = 2,
+    AMQP1_RELEASED = 3,
+    AMQP1_MODIFIED = 4,
+    AMQP1_RECEIVED = 5,
+    AMQP1_OTHER_STATE = 6 /* any other one, or one that is described by a name */
+};
+
+/* Why a frame or a transfer was refused, in amqp1_record.refusal and amqp1_sent.refusal; 0 where it was not. amqp1_refusal_text has the names, and
+   the condition by which the peer is answered. No number changes its meaning; one that is not named here is of a later version. */
+enum amqp1_why {
+    AMQP1_WHY_OUTPUT_WAITING = 1,
+    AMQP1_WHY_NO_SESSION = 2,
+    AMQP1_WHY_SESSION_IN_USE = 3,
+    AMQP1_WHY_OUT_OF_MEMORY = 4,
+    /* of bytes that are no frame, and of frames that are too long to send */
+    AMQP1_WHY_FRAME_IO = 11,
+    AMQP1_WHY_FRAME_DECODE_ERROR = 12,
+    AMQP1_WHY_FRAME_NOT_IMPLEMENTED = 13,
+    AMQP1_WHY_FRAME_TOO_LARGE = 14,
+    AMQP1_WHY_FRAME_OUT_OF_MEMORY = 15,
+    /* of an Open and a Close */
+    AMQP1_WHY_CONNECTION_STATE_ILLEGAL_STATE = 21,
+    AMQP1_WHY_CONNECTION_STATE_REMOTE_CLOSED = 22,
+    AMQP1_WHY_CONNECTION_STATE_REMOTE_CLOSED_WITH_ERROR = 23,
+    AMQP1_WHY_CONNECTION_STATE_TRANSPORT_ERROR = 24,
+    AMQP1_WHY_CONNECTION_STATE_OUT_OF_MEMORY = 25,
+    /* of a frame that the connection does not pass on */
+    AMQP1_WHY_CONNECTION_TRANSPORT_ERROR = 31,
+    AMQP1_WHY_CONNECTION_ILLEGAL_STATE = 32,
+    AMQP1_WHY_CONNECTION_NOT_IMPLEMENTED = 33, /* a Begin that answers none: AMQP1_WHY_BEGIN_WANTED */
+    AMQP1_WHY_CONNECTION_NOT_FOUND = 34,
+    AMQP1_WHY_CONNECTION_REMOTE_CLOSED = 35,
+    AMQP1_WHY_CONNECTION_REMOTE_CLOSED_WITH_ERROR = 36,
+    AMQP1_WHY_CONNECTION_OUT_OF_MEMORY = 37,
+    /* of a session that is to begin */
+    AMQP1_WHY_ALLOC_SESSION_CONNECTION_NOT_OPENED = 41,
+    AMQP1_WHY_ALLOC_SESSION_CONNECTION_STOPPED = 42,
+    AMQP1_WHY_ALLOC_SESSION_CHANNEL_MAX_REACHED = 43,
+    AMQP1_WHY_ALLOC_SESSION_OUT_OF_MEMORY = 44,
+    /* of a Begin and an End */
+    AMQP1_WHY_SESSION_STATE_ILLEGAL_STATE = 51,
+    AMQP1_WHY_SESSION_STATE_CONNECTION_STOPPED = 52,
+    AMQP1_WHY_SESSION_STATE_REMOTE_ENDED = 53,
+    AMQP1_WHY_SESSION_STATE_REMOTE_ENDED_WITH_ERROR = 54,
+    AMQP1_WHY_SESSION_STATE_OUT_OF_MEMORY = 55,
+    /* of a frame of a link */
+    AMQP1_WHY_SESSION_UNATTACHED_HANDLE = 61,
+    AMQP1_WHY_SESSION_LINK_NAME_NOT_FOUND = 62, /* an Attach whose name no link waits for, of AMQP1_KIND_ATTACH_WANTED */
+    AMQP1_WHY_SESSION_HANDLE_IN_USE = 63,
+    AMQP1_WHY_SESSION_ILLEGAL_STATE = 64,
+    AMQP1_WHY_SESSION_CONNECTION_STOPPED = 65,
+    AMQP1_WHY_SESSION_TRANSFER_TO_SENDER = 66,
+    AMQP1_WHY_SESSION_REMOTE_ENDED = 67,
+    AMQP1_WHY_SESSION_REMOTE_ENDED_WITH_ERROR = 68,
+    AMQP1_WHY_SESSION_UNKNOWN_TXN_ID = 69,
+    AMQP1_WHY_SESSION_OUT_OF_MEMORY = 70,
+    /* of a link that is to be allotted a handle */
+    AMQP1_WHY_ALLOC_LINK_SESSION_NOT_MAPPED = 81,
+    AMQP1_WHY_ALLOC_LINK_SESSION_STOPPED = 82,
+    AMQP1_WHY_ALLOC_LINK_DUPLICATED_NAME = 83,
+    AMQP1_WHY_ALLOC_LINK_HANDLES_EXHAUSTED = 84,
+    AMQP1_WHY_ALLOC_LINK_OUT_OF_MEMORY = 85,
+    /* of a head in amqp1_send */
+    AMQP1_WHY_PAYLOAD_TOO_LONG = 91, /* it does not fit one frame beside the transfer */
+    AMQP1_WHY_TAG_TOO_LONG = 92      /* it has more than 32 bytes (section 2.8.7) */
+};
+#define AMQP1_WHY_BEGIN_WANTED AMQP1_WHY_CONNECTION_NOT_IMPLEMENTED
+
+/* No session, or no link, in a record. A handle of that number is told by AMQP1_FLAG_LINKED. */
+#define AMQP1_NONE 0xffffffffu
+
+/* What one received frame says: 96 bytes without padding. A field of which the frame says nothing is 0; session, output and input are AMQP1_NONE
+   then. Places are those in the input of the call that wrote the record. */
+typedef struct amqp1_record {
+    uint8_t kind;        /* an amqp1_kind */
+    uint8_t outcome;     /* an amqp1_outcome */
+    uint16_t flags;      /* those of amqp1_flag */
+    uint32_t session;    /* the session that the frame reached */
+    uint32_t output;     /* this side's handle of the link, where one is live; of an attach the one of its name. None of a detach that answers */
+    uint32_t input;      /* the peer's handle of the link */
+    uint32_t first;      /* the number of the delivery; of a disposition the first one */
+    uint32_t last;       /* the number of the delivery; of a disposition the last one */
+    uint32_t format;     /* the format of the message */
+    uint32_t count;      /* the delivery count of a flow, the initial one of an attach */
+    uint32_t credit;     /* the credit of a flow */
+    uint32_t available;  /* how many messages the sender of a flow has ready */
+    uint32_t refusal;    /* why the frame was refused, an amqp1_why; 0 where it was not. Also 0 of an End or a Close that was taken */
+    uint32_t at;         /* where the performative begins: 8 bytes behind the beginning of the frame (section 2.3.1) */
+    uint32_t size;       /* how many bytes it has: up to the payload, or up to the end of the frame */
+    uint32_t payload_at; /* where the payload begins: at the end of the frame, where there is none */
+    uint32_t payload;    /* how many bytes the payload has */
+    uint16_t channel;    /* the channel of the frame */
+    uint16_t tag_size;   /* how many bytes the tag has, and 65535 where it has more */
+    uint8_t tag[32];     /* the tag, and zeros after it; of a longer one zeros, since that stands in the performative */
+} amqp1_record;
+
+/* What amqp1_take took. */
+typedef struct amqp1_took {
+    size_t taken;   /* how many bytes: whole frames. The others are given again, with what came since */
+    size_t written; /* how many records were written */
+    size_t wanted;  /* with AMQP1_DONE: how many bytes the next frame has, those that are there counted, and 4 where its size is not whole. Else 0 */
+} amqp1_took;
+
+/* The head of one transfer (section 2.7.5), a delivery or a part of one: 20 bytes without padding. Its tag and then its payload stand in the bytes
+   that go with the heads. */
+typedef struct amqp1_head {
+    uint32_t session;  /* the session */
+    uint32_t link;     /* the link, by the peer's handle: `input` in the record of the peer's attach */
+    uint32_t format;   /* the format of the message, with AMQP1_FLAG_FORMATTED */
+    uint32_t payload;  /* how many bytes the payload has: at most amqp1_payload_room */
+    uint16_t flags;    /* of amqp1_flag: NUMBERED and TAGGED of the first transfer of a delivery; SETTLED, MORE, ABORTED, FORMATTED */
+    uint16_t tag_size; /* how many bytes stand before the payload: the tag, with AMQP1_FLAG_TAGGED, of at most 32 bytes */
+} amqp1_head;
+
+/* What became of a transfer: 8 bytes. */
+typedef struct amqp1_sent {
+    uint32_t number;  /* the number of its delivery, where it was accepted and is the first one, also while the session holds it back. Else 0 */
+    uint32_t refusal; /* why it was refused, an amqp1_why; 0 where it was accepted */
+} amqp1_sent;
+
+/* What amqp1_send took. */
+typedef struct amqp1_went {
+    size_t taken; /* how many transfers: so many heads, and so many places were written */
+    size_t used;  /* how many of the bytes those have */
+} amqp1_went;
+
+/* The place in which an engine lies, or nothing. */
+typedef struct amqp1 {
+    uint32_t full; /* 1 where an engine lies here, and 0 where none does */
+    struct {
+        void *at;
+    } slot; /* the engine */
+} amqp1;
+
+/* A place in which nothing lies. */
+#define AMQP1_EMPTY { 0, { 0 } }
+
+/* The layout is that of the library: a struct that was laid out otherwise does not compile. For use within this header. */
+#if defined(__cplusplus) && __cplusplus >= 201103L
+#define AMQP1_IS_SO(name, holds) static_assert(holds, #name)
+#elif defined(__STDC_VERSION__) && __STDC_VERSION__ >= 201112L
+#define AMQP1_IS_SO(name, holds) _Static_assert(holds, #name)
+#else
+#define AMQP1_IS_SO(name, holds) typedef char amqp1_is_so_##name[(holds) ? 1 : -1]
+#endif
+AMQP1_IS_SO(record_size, sizeof(amqp1_record) == 96);
+AMQP1_IS_SO(record_session, offsetof(amqp1_record, session) == 4);
+AMQP1_IS_SO(record_first, offsetof(amqp1_record, first) == 16);
+AMQP1_IS_SO(record_refusal, offsetof(amqp1_record, refusal) == 40);
+AMQP1_IS_SO(record_payload, offsetof(amqp1_record, payload) == 56);
+AMQP1_IS_SO(record_channel, offsetof(amqp1_record, channel) == 60);
+AMQP1_IS_SO(record_tag, offsetof(amqp1_record, tag) == 64);
+AMQP1_IS_SO(head_size, sizeof(amqp1_head) == 20);
+AMQP1_IS_SO(head_flags, offsetof(amqp1_head, flags) == 16);
+AMQP1_IS_SO(sent_size, sizeof(amqp1_sent) == 8);
+AMQP1_IS_SO(place_size, sizeof(amqp1) == 16);
+AMQP1_IS_SO(took_size, sizeof(amqp1_took) == 24);
+AMQP1_IS_SO(went_size, sizeof(amqp1_went) == 16);
+
+#endif

@@ -1,0 +1,175 @@
+/* Any bytes to libamqp1, for libFuzzer: frames in any pieces and with any room for records, requests, transfers by heads, and outputs of any
+   room. What a call says that it took and wrote has to fit what it was given. With AMQP1_FUZZ_ALONE it is a program that does the same with
+   files. See amqp1_try.sh.
+
+   The input is a row of steps: a byte that says what is done (the lowest three bits) and with what room (the others), two bytes of length, and
+   as many bytes. */
+#include <amqp1.h>
+#include <stdio.h>
+
+int LLVMFuzzerTestOneInput(const uint8_t *data, size_t size);
+
+enum { MOST = 1 << 16 };
+
+static const uint8_t key[16] = { 1 };
+static uint8_t waiting[MOST];
+static size_t waits;
+
+#define MUST(holds) ((holds) ? (void)0 : (fprintf(stderr, "line %d: %s\n", __LINE__, #holds), abort()))
+
+/* An engine as far as this: 0 made, 1 its Open sent, 2 open, 3 with the session 7, 4 with a link on which it sends (0, the peer's 5) and 5 also
+   one on which it receives (1, the peer's 6). */
+static void make(amqp1 *engine, unsigned far)
+{
+    static const uint8_t frames[] = "\0\0\0\x1a\2\0\0\0\0\x53\x10\xc0\x0d\3\xa1\4peer\x40\x70\0\0\4\0"
+                                    "\0\0\0\x16\2\0\0\3\0\x53\x11\xc0\x09\4\x60\0\0\x43\x52\x0a\x52\x0a"
+                                    "\0\0\0\x16\2\0\0\3\0\x53\x12\xc0\x09\3\xa1\3out\x52\5\x41"
+                                    "\0\0\0\x15\2\0\0\3\0\x53\x12\xc0\x08\3\xa1\2in\x52\6\x42";
+    static const char *const names[] = { "out", "in" };
+    uint8_t text[128];
+    amqp1_record records[4];
+    amqp1_took took;
+    uint32_t handle;
+    unsigned at;
+    amqp1_free(engine);
+    waits = 0;
+    MUST(amqp1_start(engine, key, text, amqp1_write_open(text, sizeof text, "me", NULL, 4096, 255, 0)) == AMQP1_DONE);
+    if (far >= 1)
+        MUST(amqp1_open(engine) == AMQP1_DONE);
+    if (far >= 2)
+        MUST(amqp1_take(engine, frames, 26, records, 4, &took) == AMQP1_DONE && records[0].kind == AMQP1_KIND_OPENED);
+    if (far >= 3)
+        MUST(amqp1_begin(engine, 7, text, amqp1_write_begin(text, sizeof text, 0, 64, 64, 255)) == AMQP1_DONE);
+    if (far >= 3)
+        MUST(amqp1_take(engine, frames + 26, 22, records, 4, &took) == AMQP1_DONE && took.taken == 22 && records[0].kind == AMQP1_KIND_BEGUN);
+    for (at = 0; at < 2 && far >= 4 + at; at++) {
+        const uint8_t *attach = frames + 48 + (at ? 22 : 0);
+        size_t length = at ? 21 : 22;
+        enum amqp1_role role = at ? AMQP1_RECEIVER : AMQP1_SENDER;
+        MUST(amqp1_link(engine, 7, role, at ? AMQP1_SECOND : AMQP1_FIRST, names[at], &handle) == AMQP1_DONE && handle == at);
+        MUST(amqp1_attach(engine, 7, text, amqp1_write_attach(text, sizeof text, names[at], at, role, 2, AMQP1_FIRST, "q", "q", 0)) == AMQP1_DONE);
+        MUST(amqp1_take(engine, attach, length, records, 4, &took) == AMQP1_DONE && took.taken == length && records[0].kind == AMQP1_KIND_ATTACHED);
+    }
+}
+
+/* Bytes come. What was not taken stays, unless nothing more can be taken. The records lie in memory of just their number. */
+static void take(amqp1 *engine, const uint8_t *bytes, size_t length, size_t room)
+{
+    amqp1_record *records = (amqp1_record *)malloc(room ? room * sizeof *records : 1);
+    amqp1_took took = { 9, 9, 9 };
+    uint8_t *input;
+    size_t n;
+    int32_t status;
+    if (waits + length > MOST)
+        waits = 0;
+    memcpy(waiting + waits, bytes, length);
+    waits += length;
+    input = (uint8_t *)malloc(waits ? waits : 1);
+    MUST(records && input);
+    memcpy(input, waiting, waits);
+    status = amqp1_take(engine, input, waits, records, room, &took);
+    MUST(status == AMQP1_DONE || status == AMQP1_FULL || status == AMQP1_BAD_SIZE);
+    MUST(took.taken <= waits && took.written <= room && (status == AMQP1_DONE ? took.wanted > waits - took.taken : !took.wanted));
+    for (n = 0; n < took.written; n++) {
+        const amqp1_record *it = records + n;
+        MUST(it->kind >= 1 && it->kind <= 11 && it->outcome <= 6 && it->at >= 8 && it->at + it->size == it->payload_at);
+        MUST(it->payload_at + it->payload <= took.taken);
+        MUST((it->refusal != 0) == (it->kind == AMQP1_KIND_REFUSED || it->kind == AMQP1_KIND_ATTACH_WANTED));
+        MUST(amqp1_u32_of(input + it->at - 8) == it->size + it->payload + 8);
+        amqp1_bytes_field(amqp1_performative(input, it), AMQP1_ATTACH_NAME);
+    }
+    memmove(waiting, waiting + took.taken, waits - took.taken);
+    waits = status == AMQP1_BAD_SIZE ? 0 : waits - took.taken;
+    free(records);
+    free(input);
+}
+
+/* A request, whose output has just this room. */
+static void call(amqp1 *engine, const uint8_t *input, size_t length, size_t room)
+{
+    uint8_t *output = (uint8_t *)malloc(room ? room : 1);
+    size_t written = 0;
+    int32_t status;
+    MUST(output);
+    if (length) {
+        status = amqp1_call(engine, input[0] % 32, input + 1, length - 1, output, room, &written);
+        MUST(status >= AMQP1_DONE && status <= AMQP1_BAD_ARGUMENT && (written <= room || status == AMQP1_TOO_SMALL));
+    }
+    free(output);
+}
+
+/* Transfers: the heads stand in the bytes first. Of every second one session and link are those that are there, and the sizes are small. */
+static void send(amqp1 *engine, const uint8_t *bytes, size_t length, unsigned room)
+{
+    amqp1_head heads[4];
+    amqp1_sent sent[4];
+    amqp1_went went = { 9, 9 };
+    size_t count = room % 4, n;
+    int32_t status;
+    if (length < count * sizeof *heads)
+        return;
+    memcpy(heads, bytes, count * sizeof *heads);
+    for (n = 0; room & 4 && n < count; n++) {
+        heads[n].session = 7;
+        heads[n].link = 5;
+        heads[n].tag_size %= 34;
+        heads[n].payload %= 2000;
+    }
+    length -= count * sizeof *heads;
+    status = amqp1_send(engine, heads, count, bytes + count * sizeof *heads, length, sent, room >> 3, &went);
+    MUST(status == AMQP1_DONE || status == AMQP1_FULL || status == AMQP1_SHORT);
+    MUST(went.taken <= count && went.taken <= room >> 3 && went.used <= length && (status != AMQP1_DONE || went.taken == count));
+    for (n = 0; n < went.taken; n++)
+        MUST(sent[n].refusal == 0 || sent[n].number == 0);
+}
+
+static void output(amqp1 *engine, size_t room)
+{
+    uint8_t *out = (uint8_t *)malloc(room ? room : 1);
+    size_t written = 9;
+    MUST(out && amqp1_output(engine, out, room, &written) == AMQP1_DONE && written <= room);
+    free(out);
+}
+
+int LLVMFuzzerTestOneInput(const uint8_t *data, size_t size)
+{
+    amqp1 engine = AMQP1_EMPTY;
+    make(&engine, 5);
+    while (size >= 3) {
+        unsigned step = data[0] % 8, room = data[0] / 8;
+        size_t length = (size_t)data[1] << 8 | data[2];
+        data += 3;
+        size -= 3;
+        length = length < size ? length : size;
+        if (step == 0)
+            make(&engine, room % 6);
+        else if (step < 4)
+            take(&engine, data, length, room % 8);
+        else if (step < 6)
+            call(&engine, data, length, room * 8);
+        else if (step == 6)
+            send(&engine, data, length, room);
+        else
+            output(&engine, room * room * 7);
+        data += length;
+        size -= length;
+    }
+    amqp1_free(&engine);
+    return 0;
+}
+
+#ifdef AMQP1_FUZZ_ALONE
+int main(int count, char **words)
+{
+    static uint8_t bytes[1 << 20];
+    int at;
+    for (at = 1; at < count; at++) {
+        FILE *file = fopen(words[at], "rb");
+        MUST(file);
+        LLVMFuzzerTestOneInput(bytes, fread(bytes, 1, sizeof bytes, file));
+        fclose(file);
+    }
+    printf("%d inputs\n", count - 1);
+    return 0;
+}
+#endif

@@ -1,0 +1,189 @@
+/* Tests of libamqp1: links on either end, flows, deliveries that come and dispositions both ways, and how links end. */
+#include "amqp1_try.h"
+
+/* The texts of names and addresses in performatives. */
+#define OUT "a1(6f7574)"
+#define IN "a1(696e)"
+#define TERMINUS "d00000000500000001 40"
+#define AT_Q "d00000000700000001 a1(71)"
+#define ACCEPTED_STATE "00532445"
+
+/* An engine with a link on which this side sends: output handle 0, input handle 5. */
+static amqp1 sending(void)
+{
+    amqp1 engine = begun();
+    uint8_t attach[128];
+    uint32_t handle = 99;
+    size_t length;
+    CHECK(amqp1_link(&engine, 7, AMQP1_SENDER, AMQP1_FIRST, "out", &handle) == AMQP1_DONE && handle == 0);
+    CHECK(amqp1_link(&engine, 7, AMQP1_SENDER, AMQP1_FIRST, "out", &handle) == AMQP1_REFUSED && refused_as(&engine, "DuplicatedLinkName", ""));
+    CHECK(amqp1_link(&engine, 8, AMQP1_SENDER, AMQP1_FIRST, "out", &handle) == AMQP1_REFUSED && refused_as(&engine, "NoSession", ""));
+    length = amqp1_write_attach(attach, sizeof attach, "out", 0, AMQP1_SENDER, 0, AMQP1_FIRST, NULL, "q", 3);
+    CHECK(amqp1_attach(&engine, 7, attach, length) == AMQP1_DONE);
+    CHECK(sends(&engine, "[02000000 005312 c0(0a " OUT " 43 42 5000 40 005328 " TERMINUS " 005329 " AT_Q " 40 40 5203)]"));
+    CHECK(hears_one(&engine, "[02000003 005312 c0(03 " OUT " 5205 41)]", AMQP1_KIND_ATTACHED));
+    CHECK(heard[0].session == 7 && heard[0].input == 5 && heard[0].output == 0 && heard[0].flags == (AMQP1_FLAG_RECEIVER | AMQP1_FLAG_LINKED));
+    CHECK(is(amqp1_bytes_field(amqp1_performative(heard_bytes, heard), AMQP1_ATTACH_NAME), "6f7574"));
+    return engine;
+}
+
+/* The peer's flow of the link: a delivery count of 3, and a credit of 10; and one of the session. */
+static void try_flows(amqp1 *engine)
+{
+    CHECK(hears_one(engine, "[02000003 005313 c0(07 43 5240 43 520a 5205 5203 520a)]", AMQP1_KIND_FLOW));
+    CHECK(heard[0].session == 7 && heard[0].input == 5 && heard[0].output == 0 && heard[0].count == 3 && heard[0].credit == 10);
+    CHECK(heard[0].flags == (AMQP1_FLAG_LINKED | AMQP1_FLAG_COUNTED | AMQP1_FLAG_CREDITED) && heard[0].available == 0);
+    CHECK(hears_one(engine, "[02000003 005313 c0(0a 43 5240 43 520a 5205 40 40 5207 41 41)]", AMQP1_KIND_FLOW));
+    CHECK(heard[0].flags == (AMQP1_FLAG_LINKED | AMQP1_FLAG_AVAILABLE | AMQP1_FLAG_DRAIN | AMQP1_FLAG_ECHO) && heard[0].available == 7);
+    CHECK(hears_one(engine, "[02000003 005313 c0(04 43 5240 43 520a)]", AMQP1_KIND_FLOW));
+    CHECK(heard[0].session == 7 && heard[0].input == AMQP1_NONE && heard[0].output == AMQP1_NONE && heard[0].flags == 0);
+}
+
+/* A message in one transfer, and one in two, by PERF. */
+static void try_transfers(amqp1 *engine)
+{
+    uint8_t transfer[64];
+    size_t length = amqp1_write_transfer(transfer, sizeof transfer, 0, "t0", 2, 0, 0, 0);
+    CHECK(amqp1_transfer(engine, 7, 5, 1, transfer, length, (const uint8_t *)"hello", 5) == AMQP1_DONE);
+    CHECK(sends(engine, "[02000000 005314 c0(05 43 43 a0(7430) 43 42) 68656c6c6f]"));
+    length = amqp1_write_transfer(transfer, sizeof transfer, 0, "t1", 2, 0, 0, 1);
+    CHECK(amqp1_transfer(engine, 7, 5, 1, transfer, length, (const uint8_t *)"wor", 3) == AMQP1_DONE);
+    length = amqp1_write_transfer(transfer, sizeof transfer, 0, NULL, 0, 0, 0, 0);
+    CHECK(amqp1_transfer(engine, 7, 5, 0, transfer, length, (const uint8_t *)"ld", 2) == AMQP1_DONE);
+    CHECK(sends(engine, "[02000000 005314 c0(06 43 5201 a0(7431) 43 42 41) 776f72] [02000000 005314 c0(05 43 40 40 40 42) 6c64]"));
+    CHECK(amqp1_transfer(engine, 7, 5, 1, transfer, length, NULL, 0) == AMQP1_REFUSED && refused_as(engine, "IllegalState", ""));
+    CHECK(amqp1_transfer(engine, 8, 5, 1, transfer, length, NULL, 0) == AMQP1_REFUSED && refused_as(engine, "NoSession", ""));
+    CHECK(amqp1_transfer(engine, 7, 4, 1, transfer, length, NULL, 0) == AMQP1_REFUSED && refused_as(engine, "UnattachedHandle", ""));
+}
+
+/* The peer accepts both deliveries, unsettled, and the engine settles them; then one of the peer's that is settled, with a state of no number. */
+static void try_dispositions(amqp1 *engine)
+{
+    CHECK(hears_one(engine, "[02000003 005315 c0(05 41 43 5201 42 " ACCEPTED_STATE ")]", AMQP1_KIND_DISPOSITION));
+    CHECK(heard[0].session == 7 && heard[0].first == 0 && heard[0].last == 1 && heard[0].outcome == AMQP1_ACCEPTED);
+    CHECK(heard[0].flags == (AMQP1_FLAG_RECEIVER | AMQP1_FLAG_STATED) && heard[0].output == AMQP1_NONE && heard[0].input == AMQP1_NONE);
+    CHECK(is(amqp1_performative(heard_bytes, heard), "005315 c0(05 41 43 5201 42 " ACCEPTED_STATE ")"));
+    CHECK(sends(engine, "[02000000 005315 c0(05 42 43 5201 41 " ACCEPTED_STATE ")]"));
+    CHECK(hears_one(engine, "[02000003 005315 c0(05 41 5209 40 41 00 a3(666f6f) 45)]", AMQP1_KIND_DISPOSITION));
+    CHECK(heard[0].first == 9 && heard[0].last == 9 && heard[0].outcome == AMQP1_OTHER_STATE && amqp1_has(heard, AMQP1_FLAG_SETTLED));
+    CHECK(amqp1_settle(engine, 7, AMQP1_SENDER, 0, 1) == AMQP1_DONE && sends(engine, ""));
+    CHECK(amqp1_settle(engine, 8, AMQP1_SENDER, 0, 1) == AMQP1_REFUSED);
+}
+
+/* This side detaches, and the peer answers: no live link has the handle then. */
+static void try_detach(amqp1 *engine)
+{
+    uint8_t detach[64];
+    size_t length = amqp1_write_detach(detach, sizeof detach, 0, 1, NULL, NULL);
+    CHECK(amqp1_detach(engine, 7, 1, detach, length) == AMQP1_DONE && sends(engine, "[02000000 005316 c0(02 43 41)]"));
+    CHECK(hears_one(engine, "[02000003 005316 c0(02 5205 41)]", AMQP1_KIND_DETACHED));
+    CHECK(heard[0].input == 5 && heard[0].output == AMQP1_NONE && heard[0].flags == (AMQP1_FLAG_LINKED | AMQP1_FLAG_FOR_GOOD));
+}
+
+/* A link on which this side receives, whose attach the peer sent first: on input handle 6. */
+static amqp1 receiving(void)
+{
+    amqp1 engine = begun();
+    uint8_t text[128];
+    uint32_t handle = 99;
+    size_t length;
+    CHECK(hears_refused(&engine, "[02000003 005312 c0(0a " IN " 5206 42 40 40 40 40 40 40 5209)]", AMQP1_WHY_SESSION_LINK_NAME_NOT_FOUND));
+    CHECK(heard[0].kind == AMQP1_KIND_ATTACH_WANTED && heard[0].session == 7 && heard[0].input == 6 && heard[0].output == AMQP1_NONE);
+    CHECK(heard[0].flags == (AMQP1_FLAG_LINKED | AMQP1_FLAG_COUNTED) && heard[0].count == 9);
+    CHECK(amqp1_link_on(&engine, 7, 6, AMQP1_RECEIVER, AMQP1_SECOND, "in", &handle) == AMQP1_DONE && handle == 0);
+    length = amqp1_write_attach(text, sizeof text, "in", handle, AMQP1_RECEIVER, 2, AMQP1_SECOND, "q", NULL, 0);
+    CHECK(amqp1_attach(&engine, 7, text, length) == AMQP1_DONE);
+    CHECK(sends(&engine, "[02000000 005312 c0(07 " IN " 43 41 40 5001 005328 " AT_Q " 005329 " TERMINUS ")]"));
+    length = amqp1_write_flow(text, sizeof text, handle, NULL, 100, 0, 0);
+    CHECK(amqp1_flow(&engine, 7, text, length) == AMQP1_DONE);
+    CHECK(sends(&engine, "[02000000 005313 c0(07 43 5240 43 5240 43 40 5264)]"));
+    return engine;
+}
+
+/* Three deliveries come, and are settled, by numbers and by PERF. */
+static void try_settling(amqp1 *engine)
+{
+    uint8_t text[64];
+    size_t length = amqp1_write_disposition(text, sizeof text, AMQP1_RECEIVER, 2, 2, 1, AMQP1_REJECTED);
+    CHECK(hears(engine, "[02000003 005314 c0(05 5206 43 a0(61) 43 42) 01] [02000003 005314 c0(05 5206 5201 a0(62) 43 42) 02]"
+                        "[02000003 005314 c0(05 5206 5202 a0(63) 43 42) 03]") == 3);
+    CHECK(amqp1_dispose(engine, 7, AMQP1_RECEIVER, 0, 1, 0, AMQP1_ACCEPTED) == AMQP1_DONE);
+    CHECK(sends(engine, "[02000000 005315 c0(05 41 43 5201 40 " ACCEPTED_STATE ")]"));
+    CHECK(amqp1_disposition(engine, 7, text, length) == AMQP1_DONE && sends(engine, "[02000000 005315 c0(05 41 5202 5202 41 00532545)]"));
+    CHECK(amqp1_dispose(engine, 7, AMQP1_RECEIVER, 0, 1, 1, AMQP1_NO_STATE) == AMQP1_DONE);
+    CHECK(sends(engine, "[02000000 005315 c0(04 41 43 5201 41)]"));
+    CHECK(amqp1_dispose(engine, 7, AMQP1_RECEIVER, 5, 5, 1, AMQP1_RELEASED) == AMQP1_DONE);
+    CHECK(sends(engine, "[02000000 005315 c0(05 41 5205 5205 41 00532645)]"));
+    CHECK(amqp1_dispose(engine, 7, AMQP1_SENDER, 5, 6, 1, AMQP1_MODIFIED) == AMQP1_DONE);
+    CHECK(sends(engine, "[02000000 005315 c0(05 42 5205 5206 41 00532745)]"));
+    CHECK(amqp1_dispose(engine, 8, AMQP1_RECEIVER, 0, 0, 1, AMQP1_ACCEPTED) == AMQP1_REFUSED && refused_as(engine, "NoSession", ""));
+    CHECK(amqp1_dispose(engine, 7, AMQP1_RECEIVER, 0, 0, 1, AMQP1_REJECTED) == AMQP1_BAD_ARGUMENT && sends(engine, ""));
+#ifndef __cplusplus
+    /* numbers that a byte cannot say are none of these, and not what is left of them in a byte */
+    CHECK(amqp1_dispose(engine, 7, AMQP1_RECEIVER, 0, 0, 1, (enum amqp1_outcome)257) == AMQP1_BAD_ARGUMENT && sends(engine, ""));
+    CHECK(amqp1_dispose(engine, 7, (enum amqp1_role)257, 0, 0, 1, AMQP1_ACCEPTED) == AMQP1_BAD_ARGUMENT && sends(engine, ""));
+#endif
+    CHECK(amqp1_settle(engine, 7, AMQP1_RECEIVER, 0, 2) == AMQP1_DONE && sends(engine, ""));
+}
+
+/* The peer detaches with an error, and this side answers. */
+static void try_detached(amqp1 *engine)
+{
+    uint8_t text[64];
+    size_t length = amqp1_write_detach(text, sizeof text, 0, 1, "foo", "bar");
+    CHECK(hears_one(engine, "[02000003 005316 c0(03 5206 41 00531d c0(01 a3(626172)))]", AMQP1_KIND_DETACHED));
+    CHECK(heard[0].session == 7 && heard[0].output == 0 && heard[0].flags == (AMQP1_FLAG_LINKED | AMQP1_FLAG_FOR_GOOD | AMQP1_FLAG_ERROR));
+    CHECK(amqp1_detach(engine, 7, 0, text, length) == AMQP1_DONE);
+    CHECK(sends(engine, "[02000000 005316 c0(03 43 41 00531d c0(02 a3(666f6f) a1(626172)))]"));
+    CHECK(hears_refused(engine, "[02000003 005314 c0(05 5206 5203 a0(63) 43 42) 03]", AMQP1_WHY_SESSION_UNATTACHED_HANDLE));
+}
+
+/* A transfer comes to the sending end. */
+static void try_to_sender(amqp1 *engine)
+{
+    CHECK(hears_refused(engine, "[02000003 005314 c0(05 5205 5203 a0(63) 43 42) 03]", AMQP1_WHY_SESSION_TRANSFER_TO_SENDER));
+    CHECK(heard[0].output == 0 && heard[0].input == 5 && heard[0].payload == 1);
+}
+
+/* Frames that the peer does not take, since they are longer than 1,024 bytes: an Attach, whose call tells it, and the answer to a disposition whose
+   state is as long. */
+static void try_too_long(void)
+{
+    static uint8_t text[2048], frame[2048];
+    char address[1200];
+    amqp1 engine = sending();
+    amqp1_record record;
+    amqp1_took took;
+    uint32_t handle = 99, unfit = 99;
+    size_t front = bytes_of("00000000 02000003 005315 d0 00000000 00000005 41 43 43 42 005327 d0 00000455 00000001 b0 0000044c", frame, 64);
+    memset(address, 'a', sizeof address - 1);
+    address[sizeof address - 1] = 0;
+    CHECK(amqp1_link(&engine, 7, AMQP1_RECEIVER, AMQP1_FIRST, "long", &handle) == AMQP1_DONE && handle == 1);
+    CHECK(amqp1_attach(&engine, 7, text, amqp1_write_attach(text, sizeof text, "long", 1, AMQP1_RECEIVER, 2, AMQP1_FIRST, address, "q", 0)) ==
+          AMQP1_REFUSED);
+    CHECK(refused_as(&engine, "TooLarge", "") && sends(&engine, "") && amqp1_unfit(&engine, &unfit) == AMQP1_DONE);
+    CHECK(amqp1_transfer(&engine, 7, 5, 1, text, amqp1_write_transfer(text, sizeof text, 0, "t", 1, 0, 0, 0), NULL, 0) == AMQP1_DONE);
+    CHECK(sends(&engine, "[02000000 005314 c0(05 43 43 a0(74) 43 42)]"));
+    amqp1_u32_at(frame, (uint32_t)(front + 1100));
+    amqp1_u32_at(frame + 12, (uint32_t)(front + 1100 - 16));
+    CHECK(amqp1_take(&engine, frame, front + 1100, &record, 1, &took) == AMQP1_DONE && took.taken == front + 1100);
+    CHECK(record.kind == AMQP1_KIND_DISPOSITION && record.outcome == AMQP1_MODIFIED && sends(&engine, ""));
+    CHECK(amqp1_unfit(&engine, &handle) == AMQP1_DONE && handle == unfit + 1);
+    amqp1_free(&engine);
+}
+
+void try_links(void)
+{
+    amqp1 engine = sending();
+    try_too_long();
+    try_flows(&engine);
+    try_transfers(&engine);
+    try_dispositions(&engine);
+    try_to_sender(&engine);
+    try_detach(&engine);
+    amqp1_free(&engine);
+    engine = receiving();
+    try_settling(&engine);
+    try_detached(&engine);
+    amqp1_free(&engine);
+}

@@ -1,0 +1,124 @@
+/* Tests of libamqp1: where the fields of records and heads stand, and the place of an engine and its life. */
+#include "amqp1_try.h"
+
+#define STANDS(type, field, at, size) CHECK(offsetof(type, field) == (at) && sizeof(((type *)0)->field) == (size))
+
+void try_records(void)
+{
+    CHECK(sizeof(amqp1_record) == 96 && sizeof(amqp1_head) == 20 && sizeof(amqp1_sent) == 8 && sizeof(amqp1) == 16);
+    STANDS(amqp1_record, kind, 0, 1);
+    STANDS(amqp1_record, outcome, 1, 1);
+    STANDS(amqp1_record, flags, 2, 2);
+    STANDS(amqp1_record, session, 4, 4);
+    STANDS(amqp1_record, output, 8, 4);
+    STANDS(amqp1_record, input, 12, 4);
+    STANDS(amqp1_record, first, 16, 4);
+    STANDS(amqp1_record, last, 20, 4);
+    STANDS(amqp1_record, format, 24, 4);
+    STANDS(amqp1_record, count, 28, 4);
+    STANDS(amqp1_record, credit, 32, 4);
+    STANDS(amqp1_record, available, 36, 4);
+    STANDS(amqp1_record, refusal, 40, 4);
+    STANDS(amqp1_record, at, 44, 4);
+    STANDS(amqp1_record, size, 48, 4);
+    STANDS(amqp1_record, payload_at, 52, 4);
+    STANDS(amqp1_record, payload, 56, 4);
+    STANDS(amqp1_record, channel, 60, 2);
+    STANDS(amqp1_record, tag_size, 62, 2);
+    STANDS(amqp1_record, tag, 64, 32);
+    STANDS(amqp1_head, session, 0, 4);
+    STANDS(amqp1_head, link, 4, 4);
+    STANDS(amqp1_head, format, 8, 4);
+    STANDS(amqp1_head, payload, 12, 4);
+    STANDS(amqp1_head, flags, 16, 2);
+    STANDS(amqp1_head, tag_size, 18, 2);
+    STANDS(amqp1_sent, number, 0, 4);
+    STANDS(amqp1_sent, refusal, 4, 4);
+    STANDS(amqp1_took, written, 8, 8);
+    STANDS(amqp1_went, used, 8, 8);
+    CHECK(amqp1_version() >> 16 == AMQP1_VERSION_MAJOR && amqp1_version() == AMQP1_VERSION_NUMBER);
+    CHECK(!strcmp(amqp1_status_name(AMQP1_SHORT), "SHORT") && !strcmp(amqp1_status_name(-1), "unknown") && !strcmp(amqp1_status_name(10), "unknown"));
+    CHECK(!strcmp(amqp1_kind_name(AMQP1_KIND_REFUSED), "Refused") && !strcmp(amqp1_kind_name(12), "unknown"));
+}
+
+/* What each export answers where nothing lies; nothing is written. */
+static void try_empty(amqp1 *place)
+{
+    uint8_t out[8] = { 9, 9, 9, 9, 9, 9, 9, 9 }, in[4] = { 0 };
+    size_t written = 77;
+    uint32_t operation;
+    amqp1_record record;
+    amqp1_took took = { 7, 7, 7 };
+    amqp1_head head = head_of(7, 5, 0, 0, 0);
+    amqp1_sent sent = { 7, 7 };
+    amqp1_went went = { 7, 7 };
+    memset(&record, 7, sizeof record);
+    for (operation = 0; operation < 40; operation++)
+        CHECK(amqp1_call(place, operation, in, sizeof in, out, sizeof out, &written) == AMQP1_NO_ENGINE);
+    CHECK(written == 77 && out[0] == 9 && out[7] == 9);
+    CHECK(amqp1_take(place, in, sizeof in, &record, 1, &took) == AMQP1_NO_ENGINE && took.taken == 7 && took.written == 7 && took.wanted == 7);
+    CHECK(record.kind == 7 && record.tag[31] == 7);
+    CHECK(amqp1_send(place, &head, 1, in, sizeof in, &sent, 1, &went) == AMQP1_NO_ENGINE && went.taken == 7 && went.used == 7 && sent.number == 7);
+    CHECK(place->full == 0);
+}
+
+static void try_made_twice(void)
+{
+    amqp1 engine = made();
+    void *at = engine.slot.at;
+    uint8_t open[64], none[1] = { 0 };
+    size_t length = amqp1_write_open(open, sizeof open, "other", NULL, 512, 1, 0);
+    CHECK(amqp1_start(&engine, key, open, length) == AMQP1_BAD_ARGUMENT);
+    CHECK(amqp1_new(&engine, none, 0) == AMQP1_BAD_ARGUMENT);
+    CHECK(engine.full == 1 && engine.slot.at == at);
+    CHECK(amqp1_open(&engine) == AMQP1_DONE && sends(&engine, OPEN_OUT));
+    amqp1_free(&engine);
+}
+
+static void try_moved(void)
+{
+    amqp1 engine = made(), moved;
+    CHECK(amqp1_open(&engine) == AMQP1_DONE);
+    memcpy(&moved, &engine, sizeof engine);
+    memset(&engine, 0, sizeof engine);
+    CHECK(sends(&moved, OPEN_OUT));
+    amqp1_free(&engine);
+    amqp1_free(&moved);
+    CHECK(moved.full == 0);
+}
+
+/* A key of zeros, and one of which a single byte is none. */
+static void try_keys(void)
+{
+    amqp1 place = AMQP1_EMPTY;
+    uint8_t zeros[16] = { 0 }, open[64];
+    size_t at, length = amqp1_write_open(open, sizeof open, "me", NULL, 512, 1, 0);
+    CHECK(amqp1_start(&place, zeros, open, length) == AMQP1_BAD_ARGUMENT && place.full == 0);
+    for (at = 0; at < 16; at++) {
+        memset(zeros, 0, sizeof zeros);
+        zeros[at] = 1;
+        CHECK(amqp1_start(&place, zeros, open, length) == AMQP1_DONE && place.full == 1);
+        amqp1_free(&place);
+    }
+}
+
+void try_places(void)
+{
+    amqp1 place = AMQP1_EMPTY;
+    int at;
+    try_empty(&place);
+    amqp1_free(&place);
+    amqp1_free(&place);
+    try_empty(&place);
+    for (at = 0; at < 100; at++) {
+        place = made();
+        CHECK(place.full == 1 && amqp1_open(&place) == AMQP1_DONE);
+        amqp1_free(&place);
+        CHECK(place.full == 0);
+        amqp1_free(&place);
+        try_empty(&place);
+    }
+    try_made_twice();
+    try_moved();
+    try_keys();
+}

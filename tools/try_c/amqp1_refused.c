@@ -1,0 +1,167 @@
+/* A whole connection by libamqp1, for amqp1_try.sh to run with each request for memory refused in turn (refuse_nth.c). What is answered
+   AMQP1_NO_MEMORY is asked again, and what is refused as OutOfMemory too, a frame of the peer's as well; so all that goes out and all that comes has
+   to be as it is when nothing is refused. It is printed; after ~ stands how often a call was asked again. */
+#include "amqp1_try.h"
+
+static amqp1 one;
+static char printed[1 << 16];
+static long again;
+
+static void print(const char *what, const uint8_t *bytes, size_t length)
+{
+    size_t at;
+    if (!length)
+        return;
+    printf("%s ", what);
+    for (at = 0; at < length; at++)
+        printf("%02x", (unsigned)bytes[at]);
+    printf("\n");
+}
+
+/* Whether memory was refused, by the number of a refusal. */
+static int is_memory(uint32_t refusal)
+{
+    return refusal == AMQP1_WHY_OUT_OF_MEMORY || refusal == AMQP1_WHY_FRAME_OUT_OF_MEMORY || refusal == AMQP1_WHY_CONNECTION_STATE_OUT_OF_MEMORY ||
+           refusal == AMQP1_WHY_CONNECTION_OUT_OF_MEMORY || refusal == AMQP1_WHY_ALLOC_SESSION_OUT_OF_MEMORY ||
+           refusal == AMQP1_WHY_SESSION_STATE_OUT_OF_MEMORY || refusal == AMQP1_WHY_SESSION_OUT_OF_MEMORY ||
+           refusal == AMQP1_WHY_ALLOC_LINK_OUT_OF_MEMORY;
+}
+
+/* Whether an operation has to be asked again. */
+static int asks_again(const char *what, int32_t status)
+{
+    uint8_t said[256];
+    size_t written = 0;
+    if (status == AMQP1_REFUSED && amqp1_refusal(&one, said, sizeof said, &written) == AMQP1_NO_MEMORY)
+        amqp1_refusal(&one, said, sizeof said, &written);
+    if (status == AMQP1_NO_MEMORY || (status == AMQP1_REFUSED && written > 11 && !memcmp(said, "OutOfMemory\n", 12))) {
+        again++;
+        return 1;
+    }
+    if (status != AMQP1_DONE)
+        printf("%s: %s\n", what, amqp1_status_name(status));
+    return 0;
+}
+
+#define ASK(call)                     \
+    while (asks_again(#call, call)) { \
+    }
+
+static void tell(void)
+{
+    uint8_t out[2048];
+    size_t written;
+    do {
+        int32_t status = amqp1_output(&one, out, sizeof out, &written);
+        again += status == AMQP1_NO_MEMORY;
+        print("out", out, written);
+        if (status == AMQP1_NO_MEMORY)
+            written = 1;
+    } while (written);
+}
+
+/* Hands over one frame, until it is taken. 0 where it was refused for want of memory: it is gone then. */
+static int hear_once(const uint8_t *frame, size_t length)
+{
+    amqp1_record record;
+    amqp1_took took;
+    int32_t status;
+    while (status = amqp1_take(&one, frame, length, &record, 1, &took), status == AMQP1_NO_MEMORY)
+        again++;
+    if (status != AMQP1_DONE || took.taken != length || took.written != 1)
+        printf("take: %s\n", amqp1_status_name(status));
+    if (is_memory(record.refusal))
+        return 0;
+    print("record", (const uint8_t *)&record, sizeof record);
+    tell();
+    return 1;
+}
+
+/* The same; a frame that is gone comes once more. */
+static void hear(const char *digits)
+{
+    uint8_t frame[256];
+    size_t length = bytes_of(digits, frame, sizeof frame);
+    while (!hear_once(frame, length))
+        again++;
+}
+
+/* Sends two deliveries, one after the other, and one that is refused. */
+static void send_three(void)
+{
+    static const uint8_t bytes[6 + 600] = { 't', '0', 1, 't', '1', 't', '2', 2 };
+    amqp1_head heads[3];
+    amqp1_sent sent;
+    amqp1_went went;
+    size_t at, from = 0;
+    heads[0] = head_of(7, 5, AMQP1_FLAG_NUMBERED | AMQP1_FLAG_TAGGED, 2, 1);
+    heads[1] = head_of(7, 9, AMQP1_FLAG_NUMBERED | AMQP1_FLAG_TAGGED, 2, 0);
+    heads[2] = head_of(7, 5, AMQP1_FLAG_NUMBERED | AMQP1_FLAG_TAGGED, 2, 599);
+    for (at = 0; at < 3;) {
+        int32_t status = amqp1_send(&one, heads + at, 1, bytes + from, sizeof bytes - from, &sent, 1, &went);
+        if (status == AMQP1_NO_MEMORY || (went.taken && is_memory(sent.refusal))) {
+            again++;
+            continue;
+        }
+        printf("%s %u %u\n", amqp1_status_name(status), (unsigned)sent.number, (unsigned)sent.refusal);
+        from += went.used;
+        at++;
+    }
+    tell();
+}
+
+static void begin(void)
+{
+    uint8_t text[1024];
+    uint32_t handle;
+    size_t length = amqp1_write_begin(text, sizeof text, 0, 64, 64, 255);
+    ASK(amqp1_begin(&one, 7, text, length));
+    hear("[02000003 005311 c0(04 600000 43 520a 520a)]");
+    ASK(amqp1_link(&one, 7, AMQP1_SENDER, AMQP1_FIRST, "out", &handle));
+    length = amqp1_write_attach(text, sizeof text, "out", handle, AMQP1_SENDER, 0, AMQP1_FIRST, NULL, "q", 3);
+    ASK(amqp1_attach(&one, 7, text, length));
+    hear("[02000003 005312 c0(03 a1(6f7574) 5205 41)]");
+    ASK(amqp1_link(&one, 7, AMQP1_RECEIVER, AMQP1_SECOND, "in", &handle));
+    length = amqp1_write_attach(text, sizeof text, "in", handle, AMQP1_RECEIVER, 0, AMQP1_SECOND, "q", NULL, 0);
+    ASK(amqp1_attach(&one, 7, text, length));
+    hear("[02000003 005312 c0(03 a1(696e) 5206 42)]");
+    tell();
+}
+
+static void go_on(void)
+{
+    uint8_t text[64];
+    size_t length = amqp1_write_flow(text, sizeof text, 1, NULL, 10, 0, 0);
+    send_three();
+    ASK(amqp1_flow(&one, 7, text, length));
+    /* no numbers go out after this, since a transfer that is refused is counted all the same */
+    hear("[02000003 005314 c0(05 5206 43 a0(61) 43 42) 010203]");
+    ASK(amqp1_dispose(&one, 7, AMQP1_RECEIVER, 0, 0, 1, AMQP1_ACCEPTED));
+    ASK(amqp1_settle(&one, 7, AMQP1_RECEIVER, 0, 0));
+    hear("[02000003 005315 c0(05 41 43 5201 42 00532445)]");
+    length = amqp1_write_detach(text, sizeof text, 0, 1, NULL, NULL);
+    ASK(amqp1_detach(&one, 7, 1, text, length));
+    tell();
+}
+
+int main(void)
+{
+    uint8_t text[64];
+    size_t length = amqp1_write_open(text, sizeof text, "me", NULL, 65536, 255, 0);
+    setvbuf(stdout, printed, _IOFBF, sizeof printed);
+    ASK(amqp1_start(&one, key, text, length));
+    ASK(amqp1_open(&one));
+    hear("[02000000 " PEERS_OPEN "]");
+    begin();
+    go_on();
+    ASK(amqp1_end(&one, 7, NULL, 0));
+    hear("[02000003 00531745]");
+    ASK(amqp1_release(&one, 7));
+    ASK(amqp1_forget(&one, 7));
+    ASK(amqp1_close(&one, NULL, 0));
+    hear("[02000000 00531845]");
+    tell();
+    amqp1_free(&one);
+    printf("~ %ld\n", again);
+    return 0;
+}

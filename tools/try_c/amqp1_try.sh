@@ -1,0 +1,145 @@
+#!/usr/bin/env bash
+# Tries libamqp1: the tests tools/try_c/amqp1_*.c as C99, C11, C17 and C++17, by gcc and by clang where that is there, over the archive and over the
+# shared library, with every recorded connection; under the sanitizers of addresses and of undefined behaviour, and under valgrind; any bytes, by
+# libFuzzer; the library opened from Python; pkg-config and CMake; and the examples with one another, and with qpid-proton. What is not tried here for
+# want of a program is named, a line each. The last line is 'N passed, M failed'.
+#
+#     tools/try_c/amqp1_try.sh PREFIX [SECONDS]    tries what build_c.sh put there; libFuzzer has so many seconds, 60 where that is left out
+set -euo pipefail
+case "${1-}" in -h | --help | "") sed -n '2,/^set/{/^set/d;s/^# \{0,1\}//;p}' "$0" && exit 0 ;; esac
+prefix=$(cd "$1" && pwd) seconds=${2:-60}
+cd "$(dirname "$0")/../.."
+folder=$(mktemp -d)
+trap 'rm -rf "$folder"' EXIT
+passed=0 failed=0
+. tools/try_c/counting.sh
+include=$prefix/include library=$prefix/lib
+tests=(tools/try_c/amqp1_{try,bytes,places,inputs,operations,takes,links,sends,writers,peers,pairs,recorded}.c)
+strict=(-Wall -Wextra -Wpedantic -Wconversion -Wshadow -Werror -I"$include" -Itools/try_c)
+sanitized=(-g -O1 -fsanitize=address,undefined -fno-sanitize-recover=undefined)
+recorded=("$folder/exchanges" "$folder/recorded")
+port=$((20000 + RANDOM % 10000))
+
+# Builds the tests by a compiler, with what comes after it, and runs them with the recordings.
+built_and_run() {
+    local compiler=$1
+    shift
+    $compiler "${strict[@]}" "$@" -o "$folder/tests" && timeout 300 "$folder/tests" "${recorded[@]}"
+}
+
+# A program with a warning for each cast of the old form, and with each standard of C++: the headers warn of nothing.
+as_cpp() {
+    printf '#include <amqp1.h>\nint main() { amqp1 place = AMQP1_EMPTY; amqp1_free(&place); return 0; }\n' >"$folder/as.cpp"
+    for standard in c++98 c++11 c++20; do
+        c++ -std=$standard "${strict[@]}" -Wold-style-cast "$folder/as.cpp" "$library/libamqp1.a" -o "$folder/as_cpp" && "$folder/as_cpp" || return 1
+    done
+}
+
+by_pkg_config() {
+    printf '#include <amqp1.h>\nint main(void) { return amqp1_version() != AMQP1_VERSION_NUMBER; }\n' >"$folder/as.c"
+    cc "$folder/as.c" $(PKG_CONFIG_PATH=$library/pkgconfig pkg-config --cflags --libs amqp1) -Wl,-rpath,"$library" -o "$folder/as_c" && "$folder/as_c"
+}
+
+by_cmake() {
+    mkdir -p "$folder/cmake" && cp "$folder/as.c" "$folder/cmake/as.c"
+    cat >"$folder/cmake/CMakeLists.txt" <<'END_OF_FILE'
+cmake_minimum_required(VERSION 3.13)
+project(as C)
+find_package(amqp1 0.1 REQUIRED)
+foreach(how amqp1 static)
+  add_executable(as_${how} as.c)
+  target_link_libraries(as_${how} amqp1::${how})
+endforeach()
+END_OF_FILE
+    cmake -S "$folder/cmake" -B "$folder/cmake/out" -DCMAKE_PREFIX_PATH="$prefix" && cmake --build "$folder/cmake/out" &&
+        "$folder/cmake/out/as_amqp1" && "$folder/cmake/out/as_static"
+}
+
+# Any bytes, from what amqp1_corpus.py writes on.
+fuzzed() {
+    clang -std=c99 "${strict[@]}" "${sanitized[@]}" -fsanitize=fuzzer tools/try_c/amqp1_fuzz.c "$library/libamqp1.a" -o "$folder/fuzz" &&
+        mkdir -p "$folder/found" &&
+        (cd "$folder" && timeout $((seconds + 60)) ./fuzz -max_total_time="$seconds" -max_len=6000 -verbosity=0 found corpus)
+}
+
+# The same inputs alone, by a program.
+replayed() {
+    cc -std=c99 "${strict[@]}" "${sanitized[@]}" -DAMQP1_FUZZ_ALONE tools/try_c/amqp1_fuzz.c "$library/libamqp1.a" -o "$folder/alone" &&
+        "$folder/alone" "$folder"/corpus/*
+}
+
+# Runs the connection of amqp1_refused.c with the N-th request for memory refused, for N = 1 and up, until a run makes fewer requests.
+each_refused() {
+    local n seen=0 bad=0
+    cc -O2 -shared -fPIC tools/gate/refuse_nth.c -o "$folder/refuse.so" -ldl
+    cc -g -O1 -std=c99 "${strict[@]}" tools/try_c/amqp1_{refused,bytes}.c "$library/libamqp1.a" -o "$folder/refused"
+    "$folder/refused" >"$folder/wanted"
+    for n in $(seq 2000); do
+        if ! REFUSE_NTH=$n REFUSE_LOG=$folder/log LD_PRELOAD=$folder/refuse.so timeout 20 "$folder/refused" >"$folder/told" ||
+            ! diff <(grep -v '^~' "$folder/wanted") <(grep -v '^~' "$folder/told"); then
+            echo "where request $n is refused"
+            bad=$((bad + 1))
+        fi
+        [ "$(tail -n 1 "$folder/log" | cut -d ' ' -f 2)" != 0 ] || break
+        seen=$n
+    done
+    echo "$((seen - bad)) passed, $bad failed"
+}
+
+# Builds the examples.
+examples() {
+    cc -std=c99 "${strict[@]}" "${sanitized[@]}" examples/c/amqp1_server.c examples/c/amqp1_server_io.c "$library/libamqp1.a" -o "$folder/server" &&
+        cc -std=c99 "${strict[@]}" "${sanitized[@]}" examples/c/amqp1_send.c "$library/libamqp1.a" -o "$folder/send"
+}
+
+# Starts a server in the background, and has a client be served by it, once it listens.
+served() {
+    local port=$1 server client wait
+    read -ra server <<<"$2"
+    read -ra client <<<"$3"
+    timeout 60 "${server[@]}" >"$folder/server.log" 2>&1 &
+    wait=$!
+    for _ in $(seq 50); do
+        ! (: <"/dev/tcp/127.0.0.1/$port") 2>"$folder/none" || break
+        sleep 0.1
+    done
+    timeout 60 "${client[@]}" && wait "$wait" && [ ! -s "$folder/server.log" ]
+}
+
+python3 tools/try_c/try_c_recorded.py >"${recorded[0]}"
+python3 tools/try_c/amqp1_recorded.py >"${recorded[1]}"
+python3 tools/try_c/amqp1_corpus.py "$folder/corpus" >"$folder/said"
+for compiler in gcc clang; do
+    if has $compiler "the tests by it"; then
+        for standard in c99 c11 c17; do
+            counts "$compiler, $standard" built_and_run $compiler -std=$standard "${tests[@]}" "$library/libamqp1.a"
+        done
+        counts "$compiler, C++17" built_and_run $compiler -x c++ -std=c++17 "${tests[@]}" -x none "$library/libamqp1.a"
+        counts "$compiler, sanitized" built_and_run $compiler -std=c99 "${sanitized[@]}" "${tests[@]}" "$library/libamqp1.a"
+    fi
+done
+counts "over libamqp1.so" built_and_run cc -std=c99 "${tests[@]}" -L"$library" -lamqp1 -Wl,-rpath,"$library"
+holds "the headers in C++ of each standard" as_cpp
+if has valgrind "all tests in C but the recordings, under valgrind"; then
+    valgrind=(valgrind -q --error-exitcode=9 --leak-check=full --errors-for-leak-kinds=all)
+    holds "under valgrind, and nothing is left" timeout 1200 "${valgrind[@]}" "$folder/tests"
+fi
+counts "each request for memory refused" each_refused
+counts "over Python" python3 tools/try_c/amqp1_library.py "$library/libamqp1.so"
+has pkg-config "the file for it" && holds "by pkg-config" by_pkg_config
+has cmake "the file for it" && holds "by CMake" by_cmake
+holds "the inputs of libFuzzer" replayed
+if has clang "libFuzzer, for $seconds seconds" && [ -e "$(clang -print-file-name=libclang_rt.fuzzer-x86_64.a)" ]; then
+    holds "any bytes, for $seconds seconds" fuzzed
+fi
+holds "the examples" examples
+holds "500 messages each way, between the examples" served $port "$folder/server $port 2" "$folder/send 127.0.0.1 $port q 500"
+proton=(/usr/bin/python3 tools/try_c/amqp1_proton.py)
+if "${proton[0]}" -c 'import proton' 2>"$folder/said"; then
+    holds "500 messages each way, of a client of qpid-proton" served $((port += 1)) "$folder/server $port 2" "${proton[*]} client $port 500"
+    holds "500 messages each way, with a server of qpid-proton" served $((port += 1)) "${proton[*]} server $port" "$folder/send 127.0.0.1 $port q 500"
+else
+    echo "not tried, since there is no python3-qpid-proton: the examples with it"
+fi
+echo "$passed passed, $failed failed"
+[ "$failed" = 0 ]
