@@ -1,4 +1,4 @@
-//! Requests for what several hold.
+//! Requests for one value: in a box, or for several to hold.
 
 ghost use Rattle.std.specs.Prelude.{◌≡◌, OnErr, IfOk, IfErr};
 ghost use Rattle.amqp_memory.specs.Refusal.{SomeRefused};
@@ -15,6 +15,17 @@ pub fn held<T>(alloc: Global, value: T) -> Result<Rc<T>, AllocFailed<T>>
     ensures refused { OnErr result SomeRefused }
 {
     Rc::new(alloc, value)
+}
+
+/// A value in a box of its own.
+#[inline(always)]
+#[tactic(auto, unfolding(crate::specs::Refusal::WasRefused))]
+pub fn boxed<T>(alloc: Global, value: T) -> Result<Box<T>, AllocFailed<T>>
+    ensures ok { IfOk result (λ b. b.value ≡ value) }
+    ensures value_returned { IfErr result (λ e. e.value ≡ value) }
+    ensures refused { OnErr result SomeRefused }
+{
+    Box::new(alloc, value)
 }
 
 /// Another hold: the request is for a count of the holds.

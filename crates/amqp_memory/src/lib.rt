@@ -11,7 +11,7 @@ mod vectors;
 
 pub use beside::{more_in_buffer_for, more_in_queue_beside, more_in_queue_for, vector_for};
 pub use digits::{digits_of, spelled_by};
-pub use holds::{held, hold_again};
+pub use holds::{boxed, held, hold_again};
 pub use maps::{
     more_in_heap, more_in_heap_for, more_in_map, more_in_slab, put_full_in_map, put_in_map,
 };
