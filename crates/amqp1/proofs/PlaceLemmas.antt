@@ -1,6 +1,7 @@
 -- What the exports owe, from what the calls that they make give. Assumes nothing but the calls' contracts.
 use Rattle.std.proofs.Common.{◌≡◌, ◌⊎◌, refl, sym, subst, ◌∙◌, ℕ, ℤ, List, Option, None, Some, Result, Ok, inl, inr, pos, w32, of_z, to_z}
 use Rattle.std.specs.Prelude.{IsSomeAnd}
+use Rattle.amqp_memory.specs.Refusal.{SomeRefused}
 use Rattle.amqp_session.specs.Relay.{Relays}
 use Rattle.amqp_driver.specs.declared.head.Sent.{Sent}
 use Rattle.amqp_driver.specs.declared.head.TransferHead.{TransferHead}
@@ -61,12 +62,12 @@ calls_there g operation before after input old z n new was is b a calls = record
 
 -- a client that was made lies there, or there was no memory for its box
 pub made_there : (g : Relays PlainRelay) (input : List ℕ) (z : ℤ) (full : ℕ) (held : Option ClientView) (r : Result ClientView ℤ) (c : ClientView)
-    → r ≡ Ok c → Makes g input r → ((z ≡ pos 0) × (full ≡ 1) × (held ≡ Some c)) ⊎ ((z ≡ pos 2) × (full ≡ 0))
+    → r ≡ Ok c → Makes g input r → ((z ≡ pos 0) × (full ≡ 1) × (held ≡ Some c)) ⊎ ((z ≡ pos 2) × (full ≡ 0) × SomeRefused)
     → MadeThere g input (to_z w32 (of_z w32 z)) full held
 made_there g input z full held r c is makes (inl h) = subst (λ (y : ℤ). MadeThere g input y full held) (sym (kept status.Done z h.0))
     (inl (h.0, h.1, c, h.2, subst (λ (x : Result ClientView ℤ). Makes g input x) is makes))
 made_there g input z full held r c is makes (inr h) = subst (λ (y : ℤ). MadeThere g input y full held) (sym (kept status.NoMemory z h.0))
-    (inr (h.1, inl h.0))
+    (inr (h.1, inl (h.0, h.2)))
 
 -- a call of the driver of a client is one of what lies in a place
 pub takes_there : (g : Relays PlainRelay) (before after : Option ClientView) (input : List ℕ) (old new : List Record) (z : ℤ) (a : Took) (s : DriverStatus)

@@ -25,14 +25,11 @@ use Rattle.amqp1.specs.Status.{status_number, taken_status}
 abbrev pub Is : ℤ → Status → Type 0
 Is z s = z ≡ pos (status_number s)
 
--- none is made: there is no memory, for the client or for its box, or the input does not have its form
-abbrev pub MakesNone : Relays PlainRelay → List ℕ → ℤ → Type 0
-MakesNone g input z = Is z status.NoMemory ⊎ Makes g input (Err z)
-
--- A new client lies there, which is made of the input. Or none does: memory was refused for its box, or none is made of the input.
+-- A new client lies there, which is made of the input. Or none does, and none is made of it: memory was refused, also for its box, or the input
+-- does not have its form.
 abbrev pub MadeThere : Relays PlainRelay → List ℕ → ℤ → ℕ → Option ClientView → Type 0
 MadeThere g input z full held =
-    ((z ≡ pos 0) × (full ≡ 1) × (c : ClientView) × (held ≡ Some c) × Makes g input (Ok c)) ⊎ ((full ≡ 0) × MakesNone g input z)
+    ((z ≡ pos 0) × (full ≡ 1) × (c : ClientView) × (held ≡ Some c) × Makes g input (Ok c)) ⊎ ((full ≡ 0) × Makes g input (Err z))
 
 -- one call of the client that lay there, and the client that it leaves lies there
 pub record CallsThere (g : Relays PlainRelay) (operation : ℕ) (before : Option ClientView) (input old : List ℕ) (z : ℤ) (n : ℕ)

@@ -1,6 +1,7 @@
 //! The exports.
 
 ghost use Rattle.std.specs.Prelude.{◌≡◌, ◌<◌, ◌⊎◌, Some};
+ghost use Rattle.amqp_memory.specs.Refusal.{SomeRefused};
 ghost use Rattle.amqp1.specs.declared.status.Status.TheVariants as status;
 ghost use Rattle.amqp1.specs.Place.{CallsThere, Is, MadeThere, SendsThere, TakesThere};
 
@@ -8,6 +9,7 @@ use crate::client::Client;
 use crate::place::Place;
 use crate::status::Status;
 use amqp_driver::{PlainRelay, Record, Sent, TransferHead};
+use amqp_memory::boxed;
 use amqp_session::LinkRelay;
 use std::alloc::Global;
 
@@ -64,9 +66,9 @@ pub extern "C" fn amqp1_new(alloc: Global, place: &mut Place, input: &[u8]) -> i
 fn put(alloc: Global, place: &mut Place, client: Client) -> i32
     requires { place.old.full ≡ 0 }
     ensures { (Is result status.Done × (place.new.full ≡ 1) × (place.new.slot.held ≡ Some client))
-        ⊎ (Is result status.NoMemory × (place.new.full ≡ 0)) }
+        ⊎ (Is result status.NoMemory × (place.new.full ≡ 0) × SomeRefused) }
 {
-    match Box::new(alloc, client) {
+    match boxed(alloc, client) {
         Ok(boxed) => {
             *place = Place::of(boxed);
             Status::Done.number()

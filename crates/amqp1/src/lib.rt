@@ -80,8 +80,8 @@
 //! handles are not those of one link (`specs/Matching`). What `Output` writes is a front of what waits, as much as fits, and waits no longer. The
 //! name of a number is that of each refusal that has it (`specs/Names`). An output that is too small stays as it is, and so does all else.
 //!
-//! What is not: that the caller keeps the place as `amqp1.h` says. No contract says that the key is used, nor that memory is granted: a text, and
-//! the box of a new engine, may be refused for want of memory whether or not some was asked for. The tests of `tools/try_c` see to these.
+//! What is not: that the caller keeps the place as `amqp1.h` says. No contract says that the key is used, nor that memory is granted. The tests of
+//! `tools/try_c` see to these.
 #![tactic(auto)]
 
 mod asking;

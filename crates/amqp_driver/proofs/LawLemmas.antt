@@ -16,7 +16,6 @@ use Rattle.amqp_engine.specs.Entry.{Entry}
 use Rattle.amqp_engine.specs.Legal.{Legal}
 use Rattle.amqp_engine.specs.Numbers.{EngineShows}
 use Rattle.amqp_engine.specs.Promise.{inputs_of}
-use Rattle.amqp_engine.specs.Ran.{Ran}
 use Rattle.amqp_driver.specs.Driver.{DriverView, NotRun, Runs, SendsOnly}
 use Rattle.amqp_driver.specs.declared.head.Sent.{Sent}
 use Rattle.amqp_driver.specs.declared.head.TransferHead.{TransferHead}

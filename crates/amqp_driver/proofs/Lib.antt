@@ -6,3 +6,4 @@ pub mod PayloadLemmas
 pub mod LawLemmas
 pub mod SendingLemmas
 pub mod FlushLemmas
+pub mod FieldLemmas

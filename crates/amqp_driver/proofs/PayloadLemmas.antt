@@ -25,7 +25,7 @@ use Rattle.amqp_driver.specs.Refusals.{refusal_number}
 nothing_after : (after : List ℕ) (a b : FrameBody) → a ≡ b → payload_of a ≡ [] → after ≡ after ++ payload_of b
 nothing_after after a b e p = sym (append-nil after) ∙ ap (λ (x : List ℕ). after ++ x) (sym p ∙ ap payload_of e)
 
-ends_by : (p : Performative) (after rest : List ℕ) (b : FrameBody) → body_of p after ≡ (b, rest) → (front : List ℕ) × (after ≡ front ++ payload_of b)
+pub ends_by : (p : Performative) (after rest : List ℕ) (b : FrameBody) → body_of p after ≡ (b, rest) → (front : List ℕ) × (after ≡ front ++ payload_of b)
 ends_by (performative.Transfer p) after rest b e = ([], ap (λ (x : FrameBody × List ℕ). payload_of x.0) e)
 ends_by (performative.Open p) after rest b e = (after, nothing_after after (body.Open p) b (ap (λ (x : FrameBody × List ℕ). x.0) e) refl)
 ends_by (performative.Begin p) after rest b e = (after, nothing_after after (body.Begin p) b (ap (λ (x : FrameBody × List ℕ). x.0) e) refl)

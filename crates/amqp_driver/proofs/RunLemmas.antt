@@ -1,6 +1,5 @@
 -- A frame that was run: what was received of its entry, and what is told of it.
-use Rattle.std.proofs.Common.{◌≡◌, ◌⊎◌, inl, inr, ℕ, List, [], ◌∷◌, ◌++◌, Bool, if◌then◌else◌, true, false, Option, Some, None, Result, Ok, Err, refl, ap, sym, subst, ◌∙◌}
-use Rattle.std.specs.Option.{option_map}
+use Rattle.std.proofs.Common.{◌≡◌, ◌⊎◌, inl, inr, ℕ, List, [], ◌∷◌, Bool, if◌then◌else◌, true, false, Option, Some, None, Result, Ok, Err, refl, ap, sym, subst, ◌∙◌}
 use Rattle.amqp_memory.specs.Refusal.{SomeRefused}
 use Rattle.amqp_session.specs.Relay.{Relays}
 use Rattle.amqp_session.specs.History as session
@@ -9,9 +8,8 @@ use Rattle.amqp_frames.specs.declared.frame.Frame.{Frame}
 use Rattle.amqp_frames.specs.declared.frame.FrameBody.{FrameBody}
 use Rattle.amqp_frames.specs.declared.error.Error.{Error}
 use Rattle.amqp_frames.specs.declared.error.Error.TheVariants as unread
-use Rattle.amqp_frames.specs.Frame.{Decodes, IsFrame}
+use Rattle.amqp_frames.specs.Frame.{Decodes}
 use Rattle.amqp_connection.specs.Connection.{ConnectionView, refusal_of}
-use Rattle.amqp_engine.specs.declared.engine.input.Input.{Input}
 use Rattle.amqp_engine.specs.declared.engine.input.Input.TheVariants as kind
 use Rattle.amqp_engine.specs.declared.engine.refusal.Refusal.{Refusal}
 use Rattle.amqp_engine.specs.declared.engine.step_error.StepError.{StepError}

@@ -1,10 +1,10 @@
 -- Requests, and transfers that are to be sent.
-use Rattle.std.proofs.Common.{◌≡◌, ◌⊎◌, ◌≤◌, ◌<◌, ◌+◌, ◌-◌, ◌||◌, inl, inr, ℕ, List, [], ◌∷◌, ◌++◌, Bool, if◌then◌else◌, true, false, is_some, nat_lt, Option, Some, None, Result, length, take, drop, get_or, set, map, refl, ap, sym, subst, ◌∙◌, append_assoc, arith}
+use Rattle.std.proofs.Common.{◌≡◌, ◌≤◌, ◌<◌, ◌+◌, ◌-◌, ◌||◌, inr, ℕ, List, [], ◌∷◌, ◌++◌, Bool, true, false, nat_lt, Option, Some, None, Result, length, take, drop, get_or, set, map, refl, ap, sym, subst, ◌∙◌, append_assoc, arith}
 use Rattle.std.proofs.lemmas.List.{append-nil, drop_more, drop-drop, length-append, length-drop, length-map, length-set, length-take-le, map-append, take_more, take-take}
 use Rattle.std.proofs.lemmas.Option.{slice_get-get_or}
 use Rattle.std.proofs.Math.ListN.{drop_of_length-le}
 use Rattle.std.proofs.Math.Seq.{take-add}
-use Rattle.std.specs.List.{slice_get, slice_range}
+use Rattle.std.specs.List.{slice_range}
 use Rattle.std.specs.Option.{option_map}
 use Rattle.bytes.proofs.Ranges.{drop-take_less}
 use Rattle.amqp_values.specs.Reading.{joined}
@@ -26,14 +26,13 @@ use Rattle.amqp_driver.specs.declared.asked.Asked.TheVariants as asked
 use Rattle.amqp_driver.specs.declared.head.TransferHead.{TransferHead}
 use Rattle.amqp_driver.specs.declared.head.Sent.{Sent}
 use Rattle.amqp_driver.specs.declared.status.Posted.{Posted}
-use Rattle.amqp_driver.specs.declared.status.Status.{Status}
 use Rattle.amqp_driver.specs.declared.status.Status.TheVariants as status
-use Rattle.amqp_driver.specs.Driver.{DriverView, NotRun, NotTaken, counted}
-use Rattle.amqp_driver.specs.Heads.{FindsOutput, has, has_room, input_of, is_unattached, number_in, output_in, refused_as, sent_by, sent_of, tag_in, transfer_in, transfer_of, unsendable}
+use Rattle.amqp_driver.specs.Driver.{DriverView, NotRun, counted}
+use Rattle.amqp_driver.specs.Heads.{FindsOutput, has, has_room, is_unattached, number_in, output_in, refused_as, sent_by, sent_of, tag_in, transfer_in, transfer_of, unsendable}
 use Rattle.amqp_driver.specs.Record.{number_or}
 use Rattle.amqp_driver.specs.Refusals.{refusal_number}
 use Rattle.amqp_driver.specs.Requests.{Requests, RunsInput, asked_by, asked_of, has_own, is_own}
-use Rattle.amqp_driver.specs.Sending.{Handled, Handles, HandlesBy, HandlesEach, IsNext, Posts, Sends, SendsTransfer, size_of}
+use Rattle.amqp_driver.specs.Sending.{Handled, Handles, HandlesBy, HandlesEach, Posts, Sends, SendsTransfer, size_of}
 use Rattle.amqp_driver.specs.Told.{session_at}
 use Rattle.amqp_driver.proofs.TakingLemmas.{put_next}
 

@@ -8,6 +8,8 @@ use Rattle.amqp_session.specs.declared.numbers.OutputHandle.{OutputHandle}
 use Rattle.amqp_frames.specs.declared.frame.Frame.{Frame}
 use Rattle.amqp_frames.specs.declared.frame.FrameBody.{FrameBody}
 use Rattle.amqp_frames.specs.declared.frame.FrameBody.TheVariants as body
+use Rattle.amqp_frames.specs.declared.decoder.FrameHead.{FrameHead}
+use Rattle.amqp_frames.specs.Head.{Opens}
 use Rattle.amqp_frames.specs.declared.error.Error.{Error}
 use Rattle.amqp_frames.specs.declared.error.Error.TheVariants as unread
 use Rattle.amqp_connection.specs.Connection.{ConnectionView, refusal_of}
@@ -66,6 +68,10 @@ Tells g d frame at size (told.One r) d' = (e : Entry _) × Runs g d frame e d' �
 -- the same of whatever bytes this was read from
 abbrev pub TellsRead : {R : Type 0} → Relays R → DriverView R → Result Frame Error → ℕ → ℕ → Told → DriverView R → Type 0
 TellsRead g d read at size t d' = (bytes : List ℕ) → ReadFrom bytes read → Tells g d bytes at size t d'
+
+-- the same of whatever bytes this head opens, whose fields these are
+abbrev pub TellsFields : {R : Type 0} → Relays R → DriverView R → FrameHead → List ℕ → ℕ → ℕ → Told → DriverView R → Type 0
+TellsFields g d head fields at size t d' = (bytes : List ℕ) → Opens bytes fields (Ok head) → Tells g d bytes at size t d'
 
 -- what was read is run, or memory was refused, now or as it was read
 abbrev pub RunsRead : {R : Type 0} → Relays R → DriverView R → Result Frame Error → Option (Result (Unit {0}) StepError) → DriverView R → Type 0

@@ -1,6 +1,6 @@
 -- Part: other calls; inner.
 -- A request: one input of the engine, and what is answered.
-use Rattle.std.specs.Prelude.{◌≡◌, ◌||◌, is_some, List, [], ◌∷◌, Bool, true, false, Option, Some, None, Result, Ok, Err, if◌then◌else◌}
+use Rattle.std.specs.Prelude.{◌≡◌, ◌||◌, is_some, List, [], ◌∷◌, Bool, false, Option, Some, None, Result, if◌then◌else◌}
 use Rattle.amqp_session.specs.Relay.{Relays}
 use Rattle.amqp_connection.specs.Connection.{refusal_of}
 use Rattle.amqp_engine.specs.declared.engine.input.Input.{Input}

@@ -1,6 +1,6 @@
 -- Part: other calls; inner.
 -- `send`: transfers by their heads and bytes, and what became of each.
-use Rattle.std.specs.Prelude.{◌≡◌, ◌≤◌, ◌<◌, ◌+◌, ◌⊎◌, ℕ, List, [], ◌∷◌, ◌++◌, Option, Some, None, length, take, drop, map, slice_get}
+use Rattle.std.specs.Prelude.{◌≡◌, ◌≤◌, ◌<◌, ◌+◌, ℕ, List, [], ◌∷◌, ◌++◌, Option, Some, None, length, take, drop, map, slice_get}
 use Rattle.amqp_values.specs.Reading.{joined}
 use Rattle.amqp_types.specs.Transfer.{TransferModel}
 use Rattle.amqp_session.specs.Relay.{Relays}

@@ -1,6 +1,6 @@
--- Part: other calls.
+-- Part: other calls; inner.
 -- The record of an entry of the history: what its frame says, which session and which link it reached, and whether it was refused.
-use Rattle.std.specs.Prelude.{◌≡◌, ℕ, Bool, true, false, ◌==◌, if◌then◌else◌, Option, Some, None, nat_eq}
+use Rattle.std.specs.Prelude.{ℕ, Bool, true, false, ◌==◌, if◌then◌else◌, Option, Some, None, nat_eq}
 use Rattle.std.specs.Map.{lookup}
 use Rattle.std.specs.Option.{option_map}
 use Rattle.amqp_session.specs.declared.error.SessionStateError.TheVariants as ended
@@ -35,6 +35,11 @@ link_of (body.Flow p) l = under p.handle l
 link_of (body.Transfer p payload) l = under (Some p.handle) l
 link_of (body.Detach p) l = under (Some p.handle) l
 link_of b l = None
+
+-- of the link under a handle of the peer's, where both are named
+abbrev pub link_at : {R : Type 0} → Option ℕ → Option (SessionView R) → Option OutputHandle
+link_at h None = None
+link_at h (Some s) = under h s.links
 
 abbrev pub link_in : {R : Type 0} → FrameBody → Option (SessionView R) → Option OutputHandle
 link_in b None = None

@@ -6,6 +6,7 @@ ghost use Rattle.amqp_engine.specs.Legal.{Legal};
 ghost use Rattle.amqp_engine.specs.Promise.{Ends, NoneLeft};
 ghost use Rattle.amqp_engine.specs.RunInto.{RanInto};
 
+mod by_fields;
 mod sending;
 mod settling;
 mod taking;

@@ -63,6 +63,7 @@ pub struct Record {
 
 impl Record {
     /// A record of nothing: of no kind, and all else as where a frame says nothing. It fills places that records are written to.
+    #[inline(always)]
     pub fn empty() -> Record
         ensures { result ≡ empty_record }
     {
@@ -92,6 +93,7 @@ impl Record {
 }
 
 /// What is known of any bytes of a frame: where they stand. The frame begins at this place and has so many bytes.
+#[inline(always)]
 pub(crate) fn bare(at: u32, size: u32) -> Record
     requires least { 8 ≤ size }
     requires fits { at + size < 2 ^ 32 }

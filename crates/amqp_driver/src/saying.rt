@@ -2,7 +2,7 @@
 
 ghost use Rattle.std.specs.Prelude.{◌≡◌, ◌≤◌, ◌<◌, ◌+◌, ◌^◌, length, option_map};
 ghost use Rattle.amqp_frames.specs.Frame.{payload_of};
-ghost use Rattle.amqp_driver.specs.Record.{bit, body_record, frame_record, number_or};
+ghost use Rattle.amqp_driver.specs.Record.{bare_record, bit, body_record, frame_record, number_or};
 ghost use Rattle.amqp_driver.specs.Record.{attach_record, detach_record, disposition_record, error_flag, flow_record, none, transfer_record};
 ghost use Rattle.amqp_driver.specs.Record.{disposition_flags, flow_flags, transfer_flags};
 
@@ -13,6 +13,50 @@ use crate::{flag, kind};
 use amqp_frames::{Frame, FrameBody};
 use amqp_types::{Attach, Detach, Disposition, Error, Flow, Handle, Role, Transfer};
 
+/// What a Transfer on this channel says, in a frame that begins at this place and has so many bytes; its payload is the last ones of them. The
+/// session and this side's handle are left out.
+#[inline(always)]
+pub(crate) fn of_transfer(channel: u16, at: u32, size: u32, p: &Transfer, payload: u32) -> Record
+    requires fits { at + size < 2 ^ 32 }
+    requires inside { 8 + payload ≤ size }
+    ensures { result ≡ transfer_record (record (bare_record at size) { channel = channel }) p.now payload }
+{
+    transfer(on(channel, at, size), p, payload)
+}
+
+/// The same of a Flow.
+#[inline(always)]
+pub(crate) fn of_flow(channel: u16, at: u32, size: u32, p: &Flow) -> Record
+    requires least { 8 ≤ size }
+    requires fits { at + size < 2 ^ 32 }
+    ensures { result ≡ flow_record (record (bare_record at size) { channel = channel }) p.now }
+{
+    flow(on(channel, at, size), p)
+}
+
+/// The same of a Disposition.
+#[inline(always)]
+pub(crate) fn of_disposition(channel: u16, at: u32, size: u32, p: &Disposition) -> Record
+    requires least { 8 ≤ size }
+    requires fits { at + size < 2 ^ 32 }
+    ensures { result ≡ disposition_record (record (bare_record at size) { channel = channel }) p.now }
+{
+    disposition(on(channel, at, size), p)
+}
+
+/// What is known of a frame on this channel by where it stands.
+#[inline(always)]
+fn on(channel: u16, at: u32, size: u32) -> Record
+    requires least { 8 ≤ size }
+    requires fits { at + size < 2 ^ 32 }
+    ensures { result ≡ record (bare_record at size) { channel = channel } }
+{
+    Record {
+        channel,
+        ..bare(at, size)
+    }
+}
+
 /// What a frame says that begins at this place and has so many bytes, but for the session and this side's handle.
 pub(crate) fn of_frame(at: u32, size: u32, frame: &Frame) -> Record
     requires least { 8 ≤ size }
@@ -20,11 +64,7 @@ pub(crate) fn of_frame(at: u32, size: u32, frame: &Frame) -> Record
     requires inside { 8 + length (payload_of frame.now.body) ≤ size }
     ensures { result ≡ frame_record at size frame.now }
 {
-    let bare = Record {
-        channel: frame.channel,
-        ..bare(at, size)
-    };
-    of_body(bare, &frame.body)
+    of_body(on(frame.channel, at, size), &frame.body)
 }
 
 fn of_body(bare: Record, body: &FrameBody) -> Record
@@ -69,6 +109,7 @@ fn attach(bare: Record, p: &Attach) -> Record
     }
 }
 
+#[inline(always)]
 fn flow(bare: Record, p: &Flow) -> Record
     ensures { result ≡ flow_record bare p.now }
 {
@@ -95,6 +136,7 @@ fn flow_flags(p: &Flow) -> u16
 }
 
 /// The payload has so many bytes: the last ones of the frame.
+#[inline(always)]
 fn transfer(bare: Record, p: &Transfer, payload: u32) -> Record
     requires inside { payload ≤ bare.size }
     requires behind { payload ≤ bare.payload_at }
@@ -118,6 +160,7 @@ fn transfer(bare: Record, p: &Transfer, payload: u32) -> Record
     }
 }
 
+#[inline(always)]
 fn transfer_flags(p: &Transfer) -> u16
     ensures { result ≡ transfer_flags p.now }
 {
@@ -131,6 +174,7 @@ fn transfer_flags(p: &Transfer) -> u16
         + bit(p.delivery_tag.is_some(), flag::TAGGED)
 }
 
+#[inline(always)]
 fn disposition(bare: Record, p: &Disposition) -> Record
     ensures { result ≡ disposition_record bare p.now }
 {
@@ -191,6 +235,7 @@ fn handle_or_none(handle: Option<Handle>) -> u32
 }
 
 /// A flag, where it is set.
+#[inline(always)]
 fn bit(is_set: bool, flag: u16) -> u16
     ensures value { result ≡ bit is_set flag }
     ensures bound { result ≤ flag }

@@ -26,6 +26,7 @@ pub(crate) enum Told {
 }
 
 /// What is told of a frame, by the engine's answer, by what it says, and by the session and the link that stood there for it before.
+#[inline(always)]
 pub(crate) fn told_of(
     answer: Option<Result<(), StepError>>,
     route: Option<SessionNo>,
@@ -68,6 +69,7 @@ fn is_passed_on(error: &StepError) -> bool
 }
 
 /// A record of this session and this link.
+#[inline(always)]
 fn placed(reached: Option<SessionNo>, link: Option<OutputHandle>, said: Record) -> Record
     ensures { result ≡ placed (option_map (λ n. n.0) reached) link said }
 {
@@ -97,6 +99,7 @@ fn output_or_none(link: Option<OutputHandle>) -> u32
 }
 
 /// The record of a frame that was refused so.
+#[inline(never)]
 fn refused(error: &StepError, said: Record) -> Record
     ensures { result ≡ refused_record error.now said }
 {

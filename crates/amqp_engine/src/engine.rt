@@ -30,6 +30,7 @@ mod run;
 mod run_frame;
 mod run_into;
 mod run_one;
+mod run_received;
 mod sessions;
 pub mod step_error;
 pub(crate) mod wish;

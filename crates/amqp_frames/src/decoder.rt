@@ -105,6 +105,40 @@ impl FrameDecoder {
             Err(error) => refused(error),
         }
     }
+
+    /// The frame of a head, whose fields stand in these bytes: those that [`FrameDecoder::head`] left. And the rest that it leaves unread. Both calls
+    /// together answer what [`FrameDecoder::decode`] answers: this one is for who tells the kinds apart first, and reads the fields of some where
+    /// they are used.
+    ///
+    /// `DecodeError` where no fields of the head's kind stand there; `OutOfMemory` where memory is refused, which an empty frame never asks for.
+    ///
+    /// ```
+    /// let head = FrameDecoder::new().head(&mut bytes)?;
+    /// let (frame, rest) = FrameDecoder::new().fields(alloc, head, bytes)?;
+    /// ```
+    #[inline(never)]
+    pub fn fields(
+        &self,
+        alloc: Global,
+        head: FrameHead,
+        bytes: Bytes,
+    ) -> Result<(Frame, Bytes), Error>
+        ensures { ReadsFrameOf head.channel head.kind bytes result }
+    {
+        let channel = head.channel;
+        match head.kind {
+            None => read_empty(channel, bytes),
+            Some(Kind::Open) => read_open(alloc, channel, bytes),
+            Some(Kind::Begin) => read_begin(alloc, channel, bytes),
+            Some(Kind::Attach) => read_attach(alloc, channel, bytes),
+            Some(Kind::Flow) => read_flow(alloc, channel, bytes),
+            Some(Kind::Transfer) => read_transfer(alloc, channel, bytes),
+            Some(Kind::Disposition) => read_disposition(alloc, channel, bytes),
+            Some(Kind::Detach) => read_detach(alloc, channel, bytes),
+            Some(Kind::End) => read_end(alloc, channel, bytes),
+            Some(Kind::Close) => read_close(alloc, channel, bytes),
+        }
+    }
 }
 
 /// The channel and the kind of a head.

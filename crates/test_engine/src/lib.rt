@@ -8,6 +8,8 @@ mod alike;
 #[cfg(test)]
 mod asking;
 #[cfg(test)]
+mod by_fields;
+#[cfg(test)]
 mod closing;
 #[cfg(test)]
 mod driving;

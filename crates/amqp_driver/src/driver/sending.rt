@@ -5,6 +5,7 @@ ghost use Rattle.std.specs.Option.{option_map};
 ghost use Rattle.amqp_memory.specs.Refusal.{SomeRefused};
 ghost use Rattle.amqp_types.specs.Transfer.{widest};
 ghost use Rattle.amqp_frames.specs.Cut.{room_beside};
+ghost use Rattle.amqp_engine.specs.declared.engine.input.Input.TheVariants as given;
 ghost use Rattle.amqp_driver.specs.Driver.{Mirrors};
 ghost use Rattle.amqp_driver.specs.Heads.{FindsOutput, has, has_room, number_in, refused_as, tag_in};
 ghost use Rattle.amqp_driver.specs.Requests.{Requests};
@@ -220,14 +221,7 @@ impl<R: LinkRelay> Driver<R> {
         ensures { SendsTransfer R.gives self.old head.now transfer payload result self.new }
     {
         let number = self.number_of(head);
-        let input = Input::Transfer(
-            SessionNo(head.session),
-            InputHandle(head.link),
-            transfer,
-            payload,
-            has(head.flags, flag::NUMBERED),
-        );
-        match self.request(input) {
+        match self.ask_transfer(head, transfer, payload) {
             Asked::NoMemory => None,
             Asked::Refused(error) => {
                 let sent = refused(refusal_number(&error));
@@ -236,6 +230,26 @@ impl<R: LinkRelay> Driver<R> {
             }
             Asked::Done | Asked::TooLarge => Some(Sent { number, refusal: 0 }),
         }
+    }
+
+    /// Requests the transfer of a head, as [`Driver::request`] does.
+    #[inline(always)]
+    fn ask_transfer(&mut self, head: &TransferHead, transfer: Transfer, payload: Bytes) -> Asked
+        ensures { Requests R.gives self.old (given.Transfer (record { 0 = head.now.session }) (record { 0 = head.now.link }) transfer payload (has head.now.flags 1)) result self.new }
+    {
+        let answer = self.engine.run_transfer(
+            SessionNo(head.session),
+            InputHandle(head.link),
+            transfer,
+            payload,
+            has(head.flags, flag::NUMBERED),
+            &mut self.out,
+            &mut self.returned,
+        );
+        let own = has_own(self.returned.as_slice());
+        self.unfit = counted(self.unfit, &self.returned);
+        self.returned.clear();
+        asked_of(answer, own)
     }
 
     /// This side's handle of the link of a head. `None` where no such link is attached, in a session that is mapped; any handle where the

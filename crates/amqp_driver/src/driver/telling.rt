@@ -3,7 +3,7 @@
 ghost use Rattle.std.specs.Prelude.{◌≡◌, ◌≤◌, ◌<◌, ◌+◌, ◌^◌, length, Ok, Err};
 ghost use Rattle.std.specs.Option.{option_map};
 ghost use Rattle.amqp_frames.specs.Frame.{payload_of};
-ghost use Rattle.amqp_driver.specs.Driver.{RunsRead, Tells, TellsRead, counted, route_by};
+ghost use Rattle.amqp_driver.specs.Driver.{RunsRead, Tells, TellsFields, TellsRead, counted, route_by};
 ghost use Rattle.amqp_driver.specs.Told.{is_empty_body, link_in, session_at};
 
 use super::Driver;
@@ -11,8 +11,9 @@ use crate::told::{Told, told_of};
 use crate::{record, saying};
 use amqp_connection::SessionNo;
 use amqp_engine::{Refusal, StepError};
-use amqp_frames::{Error, Frame, FrameBody, FrameDecoder};
+use amqp_frames::{Error, Frame, FrameBody, FrameDecoder, FrameHead};
 use amqp_session::{IncomingChannel, InputHandle, LinkRelay, OutgoingChannel, OutputHandle};
+use amqp_types::Kind;
 use bytes::Bytes;
 
 /// How many frames did not fit, with those that were handed back now.
@@ -34,7 +35,27 @@ impl<R: LinkRelay> Driver<R> {
         requires fits { at + size < 2 ^ 32 }
         ensures { Tells R.gives self.old bytes at size result self.new }
     {
-        match FrameDecoder::new().decode(self.alloc, bytes) {
+        let mut fields = bytes;
+        let head = match FrameDecoder::new().head(&mut fields) {
+            Ok(head) => head,
+            Err(error) => return self.tell_unread(error, at, size),
+        };
+        match head.kind {
+            Some(Kind::Transfer) => self.tell_transfer(head.channel, fields, at, size),
+            Some(Kind::Disposition) => self.tell_disposition(head.channel, fields, at, size),
+            Some(Kind::Flow) => self.tell_flow(head.channel, fields, at, size),
+            _ => self.tell_fields(head, fields, at, size),
+        }
+    }
+
+    /// Runs the frame of this head whose fields these are, and tells what it says.
+    #[inline(never)]
+    fn tell_fields(&mut self, head: FrameHead, fields: Bytes, at: u32, size: u32) -> Told
+        requires within { 8 + length fields ≤ size }
+        requires fits { at + size < 2 ^ 32 }
+        ensures { TellsFields R.gives self.old head fields at size result self.new }
+    {
+        match FrameDecoder::new().fields(self.alloc, head, fields) {
             Ok((frame, rest)) => {
                 drop(rest);
                 self.tell_frame(frame, at, size)
@@ -58,7 +79,8 @@ impl<R: LinkRelay> Driver<R> {
     }
 
     /// Runs what could not be read, and tells why.
-    fn tell_unread(&mut self, error: Error, at: u32, size: u32) -> Told
+    #[inline(never)]
+    pub(super) fn tell_unread(&mut self, error: Error, at: u32, size: u32) -> Told
         requires least { 8 ≤ size }
         requires fits { at + size < 2 ^ 32 }
         ensures { TellsRead R.gives self.old (Err error) at size result self.new }

@@ -4,14 +4,18 @@ ghost use Rattle.std.specs.Prelude.{◌≡◌, ◌≤◌, ◌+◌, ◌⊎◌, []
 ghost use Rattle.amqp_memory.specs.Refusal.{SomeRefused};
 ghost use Rattle.amqp_engine.specs.RunInto.{LacksRoom};
 ghost use Rattle.amqp_engine.specs.RunOne.{RunsOne};
+ghost use Rattle.amqp_engine.specs.declared.engine.input.Input.TheVariants as given;
 
 use super::Engine;
 use super::input::Input;
 use super::refusal::Refusal;
 use super::step_error::StepError;
 use crate::laws::{law_of_histories, law_of_views};
+use amqp_connection::SessionNo;
 use amqp_frames::SendBuffer;
-use amqp_session::LinkRelay;
+use amqp_session::{InputHandle, LinkRelay};
+use amqp_types::Transfer;
+use bytes::Bytes;
 
 impl<R: LinkRelay> Engine<R> {
     /// Runs one input, as [`Engine::run_into`] runs a list of it alone, and answers what became of it.
@@ -54,5 +58,43 @@ impl<R: LinkRelay> Engine<R> {
         // What is not sent now waits.
         let _ = self.send_out(Some(0), out, returned);
         Some(answer)
+    }
+
+    /// Runs one transfer that is to be sent, as [`Engine::run_one`] runs [`Input::Transfer`] of it: of the session, by the link that is attached
+    /// under the peer's handle, and the first one of its delivery or a later one.
+    ///
+    /// ```
+    /// let answer = engine.run_transfer(session, input, transfer, payload, true, out, returned);
+    /// ```
+    pub fn run_transfer(
+        &mut self,
+        session: SessionNo,
+        input: InputHandle,
+        transfer: Transfer,
+        payload: Bytes,
+        is_first: bool,
+        out: &mut SendBuffer,
+        returned: &mut Vec<Refusal>,
+    ) -> Option<Result<(), StepError>>
+        ensures ran { RunsOne R.gives self.old (given.Transfer session input transfer payload is_first) result
+            out.old.bytes returned.old.items self.new out.new.bytes returned.new.items }
+        ensures left { (self.new.waiting ≡ []) ⊎ (LacksRoom self.new out.new returned.new × SomeRefused) }
+        ensures room { out.old.room + length out.old.bytes ≤ out.new.room + length out.new.bytes }
+        ensures copied { out.new.copied ≡ out.old.copied }
+        ensures places { vec_capacity returned.old ≤ vec_capacity returned.new }
+        ensures wishes { self.new.wishes ≡ self.old.wishes }
+    {
+        law_of_histories::<R>();
+        law_of_views::<R>();
+        let Ok(()) = self.send_out(None, out, returned) else {
+            drop(transfer);
+            drop(payload);
+            return None;
+        };
+        let mut outcome = Ok(());
+        self.request_transfer(session, input, transfer, payload, is_first, &mut outcome);
+        // What is not sent now waits.
+        let _ = self.send_out(Some(0), out, returned);
+        Some(outcome)
     }
 }

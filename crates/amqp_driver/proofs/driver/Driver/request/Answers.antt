@@ -1,4 +1,4 @@
-use Rattle.std.proofs.Common.{subst, ap, sym, ◌∙◌}
+use Rattle.std.proofs.Common.{subst, ap, ◌∙◌}
 use Rattle.amqp_driver.specs.Requests.{Requests, has_own}
 use Rattle.amqp_driver.proofs.SendingLemmas.{requests}
 use Rattle.amqp_driver.proofs.driver.Driver.request.Goals as goal

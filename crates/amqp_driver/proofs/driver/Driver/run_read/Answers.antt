@@ -1,5 +1,4 @@
-use Rattle.std.proofs.Common.{subst, List, rules, ◌≡◌}
-use Rattle.amqp_engine.specs.declared.engine.refusal.Refusal.{Refusal}
+use Rattle.std.proofs.Common.{subst}
 use Rattle.amqp_driver.specs.Driver.{RunsRead}
 use Rattle.amqp_driver.proofs.RunLemmas.{runs_read}
 use Rattle.amqp_driver.proofs.driver.Driver.run_read.Goals as goal

@@ -1,4 +1,4 @@
-use Rattle.std.proofs.Common.{◌≡◌, ◌≤◌, ◌<◌, ◌+◌, ◌-◌, ℕ, inl, refl, sym, subst, length, get_or, set, arith}
+use Rattle.std.proofs.Common.{◌≤◌, ◌<◌, ◌+◌, ℕ, inl, refl, sym, subst, length, get_or, set, arith}
 use Rattle.amqp_driver.specs.declared.head.TransferHead.{TransferHead}
 use Rattle.amqp_driver.specs.declared.status.Status.TheVariants as status
 use Rattle.amqp_driver.specs.Sending.{Posts, size_of}

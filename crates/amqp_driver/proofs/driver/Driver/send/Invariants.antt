@@ -1,4 +1,4 @@
-use Rattle.std.proofs.Common.{◌-◌, ◌≤◌, ◌≡◌, length}
+use Rattle.std.proofs.Common.{◌-◌, ◌≤◌, length}
 use Rattle.amqp_driver.specs.Driver.{Mirrors}
 use Rattle.amqp_driver.specs.Sending.{Posts}
 use Rattle.amqp_driver.proofs.driver.Driver.send.Given as goal

@@ -1,4 +1,4 @@
-use Rattle.std.proofs.Common.{◌≡◌, ◌≤◌, ◌<◌, ◌+◌, inl, refl, length, slice_set, arith}
+use Rattle.std.proofs.Common.{◌≤◌, inl, refl, slice_set, arith}
 use Rattle.amqp_driver.specs.declared.status.Status.TheVariants as status
 use Rattle.amqp_driver.proofs.TakingLemmas.{not_run, room_left, says, told_nothing, told_one}
 use Rattle.amqp_driver.proofs.driver.Driver.take_within.Goals as goal

@@ -1,8 +1,6 @@
-use Rattle.std.proofs.Common.{ap, sym, subst, ◌∙◌, Ok, ℕ, Bool, Option}
-use Rattle.amqp_session.specs.declared.numbers.OutputHandle.{OutputHandle}
-use Rattle.amqp_driver.specs.declared.record.Record.{Record}
+use Rattle.std.proofs.Common.{sym, subst, ◌∙◌, Ok}
 use Rattle.amqp_driver.specs.declared.told.Told.{Told}
-use Rattle.amqp_driver.specs.Driver.{TellsRead, told_of}
+use Rattle.amqp_driver.specs.Driver.{TellsRead}
 use Rattle.amqp_driver.proofs.RunLemmas.{told_same, tells_frame}
 use Rattle.amqp_driver.proofs.driver.Driver.tell_frame.Goals as goal
 
