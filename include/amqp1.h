@@ -9,7 +9,8 @@
        amqp1_record records[64];
        amqp1_took took;
        uint8_t open[256], out[4096];
-       size_t length = amqp1_write_open(open, sizeof open, "me", NULL, 65536, 255, 0), waits;
+       size_t length, waits;
+       if (amqp1_write_open(open, sizeof open, &length, "me", NULL, 65536, 255, 0) != AMQP1_DONE) ..
        if (amqp1_start(&engine, key, open, length) != AMQP1_DONE) ..          -- 16 bytes from a source of randomness
        amqp1_open(&engine);
        while (amqp1_output(&engine, out, sizeof out, &waits) == AMQP1_DONE && waits) ..write the bytes to the socket..
@@ -18,8 +19,8 @@
 
    The folder amqp1/ has records and heads, the exports, the calls that are made of them, writers of performatives, and readers of fields. Numbers in
    records and heads are in the order of the host; numbers in inputs and outputs of amqp1_call are in network order. PERF stands for the bytes of one
-   performative (AMQP 1.0 part 2, section 2.7): its descriptor and its list, as in a frame after the header. Of no bytes there is no PERF: where a
-   writer answered 0, each call answers AMQP1_BAD_ARGUMENT.
+   performative (AMQP 1.0 part 2, section 2.7): its descriptor and its list, as in a frame after the header. Of no bytes
+   there is no PERF: each call answers AMQP1_BAD_ARGUMENT.
 
    What the caller owes:
    - The place is all zero before the first call (AMQP1_EMPTY), and from then on only these calls write it.

@@ -108,15 +108,16 @@ static void login(void)
 {
     uint8_t frame[512];
     amqp1_text text = amqp1_text_at(frame, sizeof frame);
-    size_t list;
+    size_t list, length;
     exchange_headers(3);
     sasl_frame(frame, sizeof frame);
     amqp1_put(&text, "\0\0\0\0\2\1\0\0", 8);
     list = amqp1_begin_list(&text, 0x41, 1);
     amqp1_put_symbol(&text, "ANONYMOUS");
     amqp1_end_list(&text, list);
-    amqp1_u32_at(frame, (uint32_t)text.length);
-    write_all(frame, amqp1_written(&text, sizeof frame));
+    must("a frame of SASL", amqp1_written(&text, &length));
+    amqp1_u32_at(frame, (uint32_t)length);
+    write_all(frame, length);
     if (amqp1_number_field(sasl_frame(frame, sizeof frame), 0, 99) != 0)
         fail("the peer refused the login");
     exchange_headers(0);
@@ -176,14 +177,17 @@ static void hear(void)
 static void meet(const char *name, const char *host)
 {
     uint8_t key[16], text[512];
+    size_t length;
     FILE *random = fopen("/dev/urandom", "rb");
     if (!random || fread(key, 1, sizeof key, random) != sizeof key)
         fail("no randomness");
     fclose(random);
-    must("an engine", amqp1_start(&engine, key, text, amqp1_write_open(text, sizeof text, name, host, 65536, 255, 0)));
+    must("an open's text", amqp1_write_open(text, sizeof text, &length, name, host, 65536, 255, 0));
+    must("an engine", amqp1_start(&engine, key, text, length));
     must("an open", amqp1_open(&engine));
     UNTIL(steps == 1);
-    must("a begin", amqp1_begin(&engine, SESSION, text, amqp1_write_begin(text, sizeof text, 0, 2048, 2048, 255)));
+    must("a begin's text", amqp1_write_begin(text, sizeof text, &length, 0, 2048, 2048, 255));
+    must("a begin", amqp1_begin(&engine, SESSION, text, length));
     UNTIL(steps == 2);
 }
 
@@ -194,7 +198,8 @@ static uint32_t attach(const char *name, enum amqp1_role role, const char *addre
     uint32_t output, wanted = steps + 1;
     size_t length;
     must("a link", amqp1_link(&engine, SESSION, role, AMQP1_FIRST, name, &output));
-    length = amqp1_write_attach(text, sizeof text, name, output, role, 0, AMQP1_FIRST, address, address, 0);
+    must("an attach's text",
+         amqp1_write_attach(text, sizeof text, &length, name, output, role, 0, AMQP1_FIRST, address, address, 0));
     must("an attach", amqp1_attach(&engine, SESSION, text, length));
     UNTIL(steps == wanted);
     return output;

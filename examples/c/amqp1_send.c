@@ -32,11 +32,12 @@ static void send_some(uint32_t count)
     amqp1_head head = { SESSION, 0, 0, 0, AMQP1_FLAG_NUMBERED | AMQP1_FLAG_TAGGED | AMQP1_FLAG_FORMATTED, 4 };
     amqp1_went went;
     char text[32];
-    size_t used = 0, n = 0;
+    size_t used = 0, n = 0, payload;
     for (head.link = link_handle; n < 100 && sent < count && sent < credit; n++, sent++, used += 4 + head.payload) {
         int length = snprintf(text, sizeof text, "message %u", (unsigned)sent);
         amqp1_u32_at(bytes + used, sent);
-        head.payload = (uint32_t)amqp1_write_data(bytes + used + 4, 60, text, (size_t)length);
+        must("a text", amqp1_write_data(bytes + used + 4, 60, &payload, text, (size_t)length));
+        head.payload = (uint32_t)payload;
         heads[n] = head;
     }
     must("a send", amqp1_send(&engine, heads, n, bytes, used, became, 100, &went));
@@ -48,6 +49,7 @@ int main(int words_count, char **words)
 {
     uint8_t text[64];
     uint32_t count = words_count > 4 ? (uint32_t)atoi(words[4]) : 5, output;
+    size_t length;
     if (words_count < 4)
         fail("usage: amqp1_send HOST PORT ADDRESS [COUNT]");
     connect_to(words[1], words[2]);
@@ -58,7 +60,8 @@ int main(int words_count, char **words)
         hear();
     printf("sent %u messages, all settled by the peer\n", (unsigned)sent);
     output = attach("from", AMQP1_RECEIVER, words[3]);
-    must("a flow", amqp1_flow(&engine, SESSION, text, amqp1_write_flow(text, sizeof text, output, NULL, count, 0, 0)));
+    must("a flow's text", amqp1_write_flow(text, sizeof text, &length, output, NULL, count, 0, 0));
+    must("a flow", amqp1_flow(&engine, SESSION, text, length));
     UNTIL(received == count);
     printf("received %u messages\n", (unsigned)received);
     leave();

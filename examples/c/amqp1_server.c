@@ -74,12 +74,21 @@ void drop_links(struct peer *p, const struct link *one, uint32_t session)
     }
 }
 
+/* Tells the client a link's count and credit; `drain` says that the credit was used up, as the client asked. */
+static void tell_flow(struct peer *p, const struct link *it, int drain)
+{
+    uint8_t text[64];
+    size_t length;
+    if (!told(p, "a flow's text",
+              amqp1_write_flow(text, sizeof text, &length, it->output, &it->count, it->credit, drain, 0)))
+        told(p, "a flow", amqp1_flow(&p->engine, it->session, text, length));
+}
+
 /* The client may send a hundred more. */
 static void grant(struct peer *p, struct link *it)
 {
-    uint8_t text[64];
     it->credit = 100;
-    told(p, "a flow", amqp1_flow(&p->engine, it->session, text, amqp1_write_flow(text, sizeof text, it->output, &it->count, it->credit, 0, 0)));
+    tell_flow(p, it, 0);
 }
 
 /* Copies a text of a performative, as far as it fits. 0 where it does not, or has a 0. */
@@ -119,8 +128,9 @@ static void attach(struct peer *p, const amqp1_record *record, const uint8_t *in
     it->queue = queue_of(address);
     it->next = p->links;
     p->links = it;
-    length = amqp1_write_attach(text, sizeof text, name, output, role, 1, AMQP1_FIRST, address, address, 0);
-    told(p, "an attach", amqp1_attach(&p->engine, it->session, text, length));
+    if (!told(p, "an attach's text",
+              amqp1_write_attach(text, sizeof text, &length, name, output, role, 1, AMQP1_FIRST, address, address, 0)))
+        told(p, "an attach", amqp1_attach(&p->engine, it->session, text, length));
     if (it->is_receiver)
         grant(p, it);
 }
@@ -161,7 +171,6 @@ static void receive(struct peer *p, struct link *it, const amqp1_record *record,
 /* A client says how much it takes: its credit counts from its own count of deliveries. */
 static void flow(struct peer *p, struct link *it, const amqp1_record *record)
 {
-    uint8_t text[64];
     uint32_t from = amqp1_has(record, AMQP1_FLAG_COUNTED) ? record->count : 0;
     it->credit = amqp1_has(record, AMQP1_FLAG_CREDITED) ? from + record->credit - it->count : it->credit;
     it->credit = it->credit > UINT32_MAX / 2 ? 0 : it->credit;
@@ -170,7 +179,7 @@ static void flow(struct peer *p, struct link *it, const amqp1_record *record)
     serve(p);
     it->count += it->credit;
     it->credit = 0;
-    told(p, "a flow", amqp1_flow(&p->engine, it->session, text, amqp1_write_flow(text, sizeof text, it->output, &it->count, 0, 1, 0)));
+    tell_flow(p, it, 1);
 }
 
 /* ---- deliveries that go out */
@@ -272,8 +281,9 @@ static void detached(struct peer *p, const amqp1_record *record)
     struct link *it = link_of(p, record);
     if (!it)
         return;
-    length = amqp1_write_detach(text, sizeof text, it->output, amqp1_has(record, AMQP1_FLAG_FOR_GOOD), NULL, NULL);
-    if (record->output != AMQP1_NONE)
+    if (record->output != AMQP1_NONE &&
+        !told(p, "a detach's text", amqp1_write_detach(text, sizeof text, &length, it->output,
+                                                       amqp1_has(record, AMQP1_FLAG_FOR_GOOD), NULL, NULL)))
         told(p, "a detach", amqp1_detach(&p->engine, it->session, 0, text, length));
     drop_links(p, it, 0);
 }

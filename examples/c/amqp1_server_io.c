@@ -64,7 +64,8 @@ void begin(struct peer *p, const amqp1_record *record, const uint8_t *input)
     amqp1_took took;
     size_t length;
     collect(p);
-    if (told(p, "a begin", amqp1_begin(&p->engine, session, text, amqp1_write_begin(text, sizeof text, 0, 2048, 2048, 255))) ||
+    if (told(p, "a begin's text", amqp1_write_begin(text, sizeof text, &length, 0, 2048, 2048, 255)) ||
+        told(p, "a begin", amqp1_begin(&p->engine, session, text, length)) ||
         told(p, "output", amqp1_output(&p->engine, own, sizeof own, &length))) {
         close_with(p, "amqp:resource-limit-exceeded");
         return;
@@ -79,17 +80,21 @@ void end_with(struct peer *p, uint32_t session, const char *condition)
 {
     uint8_t text[256];
     uint32_t state = AMQP1_SESSION_UNMAPPED;
+    size_t length;
     int is_there;
     drop_links(p, NULL, session);
     if (amqp1_session_state(&p->engine, session, &state, &is_there) != AMQP1_DONE || state != AMQP1_SESSION_MAPPED)
         return;
-    told(p, "an end", amqp1_end(&p->engine, session, text, amqp1_write_error(text, sizeof text, condition, NULL)));
+    if (!told(p, "an error", amqp1_write_error(text, sizeof text, &length, condition, NULL)))
+        told(p, "an end", amqp1_end(&p->engine, session, text, length));
 }
 
 void close_with(struct peer *p, const char *condition)
 {
     uint8_t text[256];
-    size_t length = condition ? amqp1_write_error(text, sizeof text, condition, NULL) : 0;
+    size_t length = 0;
+    if (condition && told(p, "an error", amqp1_write_error(text, sizeof text, &length, condition, NULL)))
+        condition = NULL;
     told(p, "a close", amqp1_close(&p->engine, condition ? text : NULL, length));
     p->is_over = 1;
 }
@@ -100,7 +105,7 @@ static void put_sasl(struct peer *p, unsigned descriptor, const char *mechanism)
 {
     uint8_t frame[64];
     amqp1_text text = amqp1_text_at(frame, sizeof frame);
-    size_t list;
+    size_t list, length;
     amqp1_put(&text, "\0\0\0\0\2\1\0\0", 8);
     list = amqp1_begin_list(&text, descriptor, 1);
     if (mechanism)
@@ -108,15 +113,20 @@ static void put_sasl(struct peer *p, unsigned descriptor, const char *mechanism)
     else
         amqp1_put_ubyte(&text, 0);
     amqp1_end_list(&text, list);
-    amqp1_u32_at(frame, (uint32_t)text.length);
-    put_out(p, frame, text.length);
+    if (told(p, "a frame of SASL", amqp1_written(&text, &length)))
+        return;
+    amqp1_u32_at(frame, (uint32_t)length);
+    put_out(p, frame, length);
 }
 
 static void start(struct peer *p)
 {
     uint8_t key[16], text[64];
+    size_t length;
     if (getrandom(key, sizeof key, 0) != sizeof key ||
-        told(p, "an engine", amqp1_start(&p->engine, key, text, amqp1_write_open(text, sizeof text, "amqp1_server", NULL, 65536, 255, 0))))
+        told(p, "an open's text",
+             amqp1_write_open(text, sizeof text, &length, "amqp1_server", NULL, 65536, 255, 0)) ||
+        told(p, "an engine", amqp1_start(&p->engine, key, text, length)))
         abort();
     told(p, "an open", amqp1_open(&p->engine));
     p->phase = FRAMES;

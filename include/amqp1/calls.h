@@ -217,8 +217,8 @@ AMQP1_FUNCTION int32_t amqp1_flow(amqp1 *place, uint32_t session, const uint8_t 
 }
 
 /* A Transfer (its PERF, and the payload) of a link is to be sent: the first of its delivery (1), or a later one (0). The input handle and the handle
-   in PERF are those of one link, whose attach came and which neither side has detached: else it is REFUSED (`UnattachedHandle`). PERF of 0 bytes, as
-   a writer leaves it that had too little room, is BAD_ARGUMENT: the payload is never read as PERF.
+   in PERF are those of one link, whose attach came and which neither side has detached: else it is REFUSED
+   (`UnattachedHandle`). PERF of 0 bytes is BAD_ARGUMENT: the payload is never read as PERF.
    The delivery's number is the engine's. A payload longer than amqp1_payload_room is cut, which a peer's window counts as several. */
 AMQP1_FUNCTION int32_t amqp1_transfer(amqp1 *place, uint32_t session, uint32_t input_handle, int first, const uint8_t *transfer, size_t length,
                                       const uint8_t *payload, size_t payload_length)

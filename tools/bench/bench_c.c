@@ -44,10 +44,12 @@ static void frame(const uint8_t *text, size_t length, const uint8_t *rest, size_
 static void peer_says(int receives, int settles, long count, long batch)
 {
     uint8_t text[512], tag[4];
+    size_t written;
     long i;
     peer = peer_at = peer_end = malloc((size_t)count * (receives ? length + 96 : 64) + 4096);
     MUST(peer);
-    frame(text, amqp1_write_open(text, sizeof text, "peer", NULL, 1 << 20, 255, 0), NULL, 0);
+    MUST(amqp1_write_open(text, sizeof text, &written, "peer", NULL, 1 << 20, 255, 0) == AMQP1_DONE);
+    frame(text, written, NULL, 0);
     {
         /* the Begin answers that of channel 0 */
         amqp1_text it = amqp1_text_at(text, sizeof text);
@@ -57,9 +59,12 @@ static void peer_says(int receives, int settles, long count, long batch)
         amqp1_put_uint(&it, WINDOW);
         amqp1_put_uint(&it, WINDOW);
         amqp1_end_list(&it, at);
-        frame(text, amqp1_written(&it, sizeof text), NULL, 0);
+        MUST(amqp1_written(&it, &written) == AMQP1_DONE);
+        frame(text, written, NULL, 0);
     }
-    frame(text, amqp1_write_attach(text, sizeof text, "link", 0, receives ? AMQP1_SENDER : AMQP1_RECEIVER, 2, AMQP1_FIRST, NULL, NULL, 0), NULL, 0);
+    MUST(amqp1_write_attach(text, sizeof text, &written, "link", 0, receives ? AMQP1_SENDER : AMQP1_RECEIVER, 2,
+                            AMQP1_FIRST, NULL, NULL, 0) == AMQP1_DONE);
+    frame(text, written, NULL, 0);
     if (!receives) {
         /* credit for all, in a window for all */
         static const uint32_t says[7] = { 0, WINDOW, 0, WINDOW, 0, 0, 1 << 30 };
@@ -68,7 +73,8 @@ static void peer_says(int receives, int settles, long count, long batch)
         for (field = 0; field < 7; field++)
             amqp1_put_uint(&it, says[field]);
         amqp1_end_list(&it, at);
-        frame(text, amqp1_written(&it, sizeof text), NULL, 0);
+        MUST(amqp1_written(&it, &written) == AMQP1_DONE);
+        frame(text, written, NULL, 0);
     }
     for (i = 0; i < count; i++) {
         if (receives) {
@@ -81,9 +87,12 @@ static void peer_says(int receives, int settles, long count, long batch)
             amqp1_put_uint(&it, 0);
             amqp1_put_boolean(&it, 0);
             amqp1_end_list(&it, at);
-            frame(text, amqp1_written(&it, sizeof text), message, length);
+            MUST(amqp1_written(&it, &written) == AMQP1_DONE);
+            frame(text, written, message, length);
         } else if (settles && (i + 1) % batch == 0) {
-            frame(text, amqp1_write_disposition(text, sizeof text, AMQP1_RECEIVER, (uint32_t)(i + 1 - batch), (uint32_t)i, 1, AMQP1_ACCEPTED), NULL, 0);
+            MUST(amqp1_write_disposition(text, sizeof text, &written, AMQP1_RECEIVER, (uint32_t)(i + 1 - batch),
+                                         (uint32_t)i, 1, AMQP1_ACCEPTED) == AMQP1_DONE);
+            frame(text, written, NULL, 0);
         }
     }
 }
@@ -161,19 +170,23 @@ static void ours(int receives, int settled, long count, long batch)
 {
     uint8_t text[512], key[16] = { 1 };
     uint32_t zero = 0;
+    size_t written;
     long i;
-    MUST(amqp1_start(&engine, key, text, amqp1_write_open(text, sizeof text, "bench", NULL, 1 << 20, 255, 0)) == AMQP1_DONE);
+    MUST(amqp1_write_open(text, sizeof text, &written, "bench", NULL, 1 << 20, 255, 0) == AMQP1_DONE);
+    MUST(amqp1_start(&engine, key, text, written) == AMQP1_DONE);
     MUST(amqp1_open(&engine) == AMQP1_DONE);
     ours_in(1);
-    MUST(amqp1_begin(&engine, 0, text, amqp1_write_begin(text, sizeof text, 0, WINDOW, WINDOW, 255)) == AMQP1_DONE);
+    MUST(amqp1_write_begin(text, sizeof text, &written, 0, WINDOW, WINDOW, 255) == AMQP1_DONE);
+    MUST(amqp1_begin(&engine, 0, text, written) == AMQP1_DONE);
     ours_in(1);
     MUST(amqp1_link(&engine, 0, receives ? AMQP1_RECEIVER : AMQP1_SENDER, AMQP1_FIRST, "link", &handle) == AMQP1_DONE);
-    MUST(amqp1_attach(&engine, 0, text,
-                      amqp1_write_attach(text, sizeof text, "link", handle, receives ? AMQP1_RECEIVER : AMQP1_SENDER, 2, AMQP1_FIRST, NULL, NULL, 0)) ==
-         AMQP1_DONE);
+    MUST(amqp1_write_attach(text, sizeof text, &written, "link", handle, receives ? AMQP1_RECEIVER : AMQP1_SENDER, 2,
+                            AMQP1_FIRST, NULL, NULL, 0) == AMQP1_DONE);
+    MUST(amqp1_attach(&engine, 0, text, written) == AMQP1_DONE);
     ours_in(1);
+    MUST(amqp1_write_flow(text, sizeof text, &written, handle, &zero, 1 << 30, 0, 0) == AMQP1_DONE);
     if (receives)
-        MUST(amqp1_flow(&engine, 0, text, amqp1_write_flow(text, sizeof text, handle, &zero, 1 << 30, 0, 0)) == AMQP1_DONE);
+        MUST(amqp1_flow(&engine, 0, text, written) == AMQP1_DONE);
     else
         ours_in(1);
     ours_out();
@@ -300,7 +313,7 @@ int main(int argc, char **argv)
     size = argc > 5 ? (size_t)atol(argv[5]) : size;
     MUST(batch <= BATCH && size <= MOST);
     memset(payload, 'x', sizeof payload);
-    length = amqp1_write_data(message, sizeof message, payload, size);
+    MUST(amqp1_write_data(message, sizeof message, &length, payload, size) == AMQP1_DONE);
     peer_says(receives, !settled, count, batch);
     (!strcmp(argv[1], "ours") ? ours : proton)(receives, settled, count, batch);
     printf("done=%ld of %ld, %llu bytes out\n", done, count, went);

@@ -30,16 +30,19 @@ static void make(amqp1 *engine, unsigned far)
     amqp1_record records[4];
     amqp1_took took;
     uint32_t handle;
+    size_t written;
     unsigned at;
     amqp1_free(engine);
     waits = 0;
-    MUST(amqp1_start(engine, key, text, amqp1_write_open(text, sizeof text, "me", NULL, 4096, 255, 0)) == AMQP1_DONE);
+    MUST(amqp1_write_open(text, sizeof text, &written, "me", NULL, 4096, 255, 0) == AMQP1_DONE);
+    MUST(amqp1_start(engine, key, text, written) == AMQP1_DONE);
     if (far >= 1)
         MUST(amqp1_open(engine) == AMQP1_DONE);
     if (far >= 2)
         MUST(amqp1_take(engine, frames, 26, records, 4, &took) == AMQP1_DONE && records[0].kind == AMQP1_KIND_OPENED);
+    MUST(amqp1_write_begin(text, sizeof text, &written, 0, 64, 64, 255) == AMQP1_DONE);
     if (far >= 3)
-        MUST(amqp1_begin(engine, 7, text, amqp1_write_begin(text, sizeof text, 0, 64, 64, 255)) == AMQP1_DONE);
+        MUST(amqp1_begin(engine, 7, text, written) == AMQP1_DONE);
     if (far >= 3)
         MUST(amqp1_take(engine, frames + 26, 22, records, 4, &took) == AMQP1_DONE && took.taken == 22 && records[0].kind == AMQP1_KIND_BEGUN);
     for (at = 0; at < 2 && far >= 4 + at; at++) {
@@ -47,7 +50,9 @@ static void make(amqp1 *engine, unsigned far)
         size_t length = at ? 21 : 22;
         enum amqp1_role role = at ? AMQP1_RECEIVER : AMQP1_SENDER;
         MUST(amqp1_link(engine, 7, role, at ? AMQP1_SECOND : AMQP1_FIRST, names[at], &handle) == AMQP1_DONE && handle == at);
-        MUST(amqp1_attach(engine, 7, text, amqp1_write_attach(text, sizeof text, names[at], at, role, 2, AMQP1_FIRST, "q", "q", 0)) == AMQP1_DONE);
+        MUST(amqp1_write_attach(text, sizeof text, &written, names[at], at, role, 2, AMQP1_FIRST, "q", "q", 0) ==
+             AMQP1_DONE);
+        MUST(amqp1_attach(engine, 7, text, written) == AMQP1_DONE);
         MUST(amqp1_take(engine, attach, length, records, 4, &took) == AMQP1_DONE && took.taken == length && records[0].kind == AMQP1_KIND_ATTACHED);
     }
 }

@@ -41,11 +41,11 @@ def exported(library):
 def tests(path):
     library, place, took = ctypes.CDLL(path), Place(), Took()
     text, records, count = ctypes.create_string_buffer(256), ctypes.create_string_buffer(96 * 2), ctypes.c_size_t()
-    library.amqp1_write_open.restype = ctypes.c_size_t
     library.amqp1_status_name.restype = ctypes.c_char_p
     yield "exports", exported(path) == declared()
-    length = library.amqp1_write_open(text, ctypes.c_size_t(256), b"me", None, 65536, 255, 0)
-    yield "start", library.amqp1_start(ctypes.byref(place), bytes(range(16)), text, ctypes.c_size_t(length)) == 0 and place.full == 1
+    status = library.amqp1_write_open(text, ctypes.c_size_t(256), ctypes.byref(count), b"me", None, 65536, 255, 0)
+    yield "write", status == 0 and count.value == 25
+    yield "start", library.amqp1_start(ctypes.byref(place), bytes(range(16)), text, count) == 0 and place.full == 1
     yield "open", library.amqp1_open(ctypes.byref(place)) == 0
     status = library.amqp1_output(ctypes.byref(place), text, ctypes.c_size_t(256), ctypes.byref(count))
     yield "output", status == 0 and text.raw[: count.value] == SENT

@@ -18,7 +18,8 @@ static amqp1 sending(void)
     CHECK(amqp1_link(&engine, 7, AMQP1_SENDER, AMQP1_FIRST, "out", &handle) == AMQP1_DONE && handle == 0);
     CHECK(amqp1_link(&engine, 7, AMQP1_SENDER, AMQP1_FIRST, "out", &handle) == AMQP1_REFUSED && refused_as(&engine, "DuplicatedLinkName", ""));
     CHECK(amqp1_link(&engine, 8, AMQP1_SENDER, AMQP1_FIRST, "out", &handle) == AMQP1_REFUSED && refused_as(&engine, "NoSession", ""));
-    length = amqp1_write_attach(attach, sizeof attach, "out", 0, AMQP1_SENDER, 0, AMQP1_FIRST, NULL, "q", 3);
+    CHECK(amqp1_write_attach(attach, sizeof attach, &length, "out", 0, AMQP1_SENDER, 0, AMQP1_FIRST, NULL, "q", 3) ==
+          AMQP1_DONE);
     CHECK(amqp1_attach(&engine, 7, attach, length) == AMQP1_DONE);
     CHECK(sends(&engine, "[02000000 005312 c0(0a " OUT " 43 42 5000 40 005328 " TERMINUS " 005329 " AT_Q " 40 40 5203)]"));
     CHECK(hears_one(&engine, "[02000003 005312 c0(03 " OUT " 5205 41)]", AMQP1_KIND_ATTACHED));
@@ -43,12 +44,13 @@ static void try_flows(amqp1 *engine)
 static void try_transfers(amqp1 *engine)
 {
     uint8_t transfer[64];
-    size_t length = amqp1_write_transfer(transfer, sizeof transfer, 0, "t0", 2, 0, 0, 0);
+    size_t length;
+    CHECK(amqp1_write_transfer(transfer, sizeof transfer, &length, 0, "t0", 2, 0, 0, 0) == AMQP1_DONE);
     CHECK(amqp1_transfer(engine, 7, 5, 1, transfer, length, (const uint8_t *)"hello", 5) == AMQP1_DONE);
     CHECK(sends(engine, "[02000000 005314 c0(05 43 43 a0(7430) 43 42) 68656c6c6f]"));
-    length = amqp1_write_transfer(transfer, sizeof transfer, 0, "t1", 2, 0, 0, 1);
+    CHECK(amqp1_write_transfer(transfer, sizeof transfer, &length, 0, "t1", 2, 0, 0, 1) == AMQP1_DONE);
     CHECK(amqp1_transfer(engine, 7, 5, 1, transfer, length, (const uint8_t *)"wor", 3) == AMQP1_DONE);
-    length = amqp1_write_transfer(transfer, sizeof transfer, 0, NULL, 0, 0, 0, 0);
+    CHECK(amqp1_write_transfer(transfer, sizeof transfer, &length, 0, NULL, 0, 0, 0, 0) == AMQP1_DONE);
     CHECK(amqp1_transfer(engine, 7, 5, 0, transfer, length, (const uint8_t *)"ld", 2) == AMQP1_DONE);
     CHECK(sends(engine, "[02000000 005314 c0(06 43 5201 a0(7431) 43 42 41) 776f72] [02000000 005314 c0(05 43 40 40 40 42) 6c64]"));
     CHECK(amqp1_transfer(engine, 7, 5, 1, transfer, length, NULL, 0) == AMQP1_REFUSED && refused_as(engine, "IllegalState", ""));
@@ -74,7 +76,8 @@ static void try_dispositions(amqp1 *engine)
 static void try_detach(amqp1 *engine)
 {
     uint8_t detach[64];
-    size_t length = amqp1_write_detach(detach, sizeof detach, 0, 1, NULL, NULL);
+    size_t length;
+    CHECK(amqp1_write_detach(detach, sizeof detach, &length, 0, 1, NULL, NULL) == AMQP1_DONE);
     CHECK(amqp1_detach(engine, 7, 1, detach, length) == AMQP1_DONE && sends(engine, "[02000000 005316 c0(02 43 41)]"));
     CHECK(hears_one(engine, "[02000003 005316 c0(02 5205 41)]", AMQP1_KIND_DETACHED));
     CHECK(heard[0].input == 5 && heard[0].output == AMQP1_NONE && heard[0].flags == (AMQP1_FLAG_LINKED | AMQP1_FLAG_FOR_GOOD));
@@ -91,10 +94,11 @@ static amqp1 receiving(void)
     CHECK(heard[0].kind == AMQP1_KIND_ATTACH_WANTED && heard[0].session == 7 && heard[0].input == 6 && heard[0].output == AMQP1_NONE);
     CHECK(heard[0].flags == (AMQP1_FLAG_LINKED | AMQP1_FLAG_COUNTED) && heard[0].count == 9);
     CHECK(amqp1_link_on(&engine, 7, 6, AMQP1_RECEIVER, AMQP1_SECOND, "in", &handle) == AMQP1_DONE && handle == 0);
-    length = amqp1_write_attach(text, sizeof text, "in", handle, AMQP1_RECEIVER, 2, AMQP1_SECOND, "q", NULL, 0);
+    CHECK(amqp1_write_attach(text, sizeof text, &length, "in", handle, AMQP1_RECEIVER, 2, AMQP1_SECOND, "q", NULL, 0) ==
+          AMQP1_DONE);
     CHECK(amqp1_attach(&engine, 7, text, length) == AMQP1_DONE);
     CHECK(sends(&engine, "[02000000 005312 c0(07 " IN " 43 41 40 5001 005328 " AT_Q " 005329 " TERMINUS ")]"));
-    length = amqp1_write_flow(text, sizeof text, handle, NULL, 100, 0, 0);
+    CHECK(amqp1_write_flow(text, sizeof text, &length, handle, NULL, 100, 0, 0) == AMQP1_DONE);
     CHECK(amqp1_flow(&engine, 7, text, length) == AMQP1_DONE);
     CHECK(sends(&engine, "[02000000 005313 c0(07 43 5240 43 5240 43 40 5264)]"));
     return engine;
@@ -104,7 +108,8 @@ static amqp1 receiving(void)
 static void try_settling(amqp1 *engine)
 {
     uint8_t text[64];
-    size_t length = amqp1_write_disposition(text, sizeof text, AMQP1_RECEIVER, 2, 2, 1, AMQP1_REJECTED);
+    size_t length;
+    CHECK(amqp1_write_disposition(text, sizeof text, &length, AMQP1_RECEIVER, 2, 2, 1, AMQP1_REJECTED) == AMQP1_DONE);
     CHECK(hears(engine, "[02000003 005314 c0(05 5206 43 a0(61) 43 42) 01] [02000003 005314 c0(05 5206 5201 a0(62) 43 42) 02]"
                         "[02000003 005314 c0(05 5206 5202 a0(63) 43 42) 03]") == 3);
     CHECK(amqp1_dispose(engine, 7, AMQP1_RECEIVER, 0, 1, 0, AMQP1_ACCEPTED) == AMQP1_DONE);
@@ -130,7 +135,8 @@ static void try_settling(amqp1 *engine)
 static void try_detached(amqp1 *engine)
 {
     uint8_t text[64];
-    size_t length = amqp1_write_detach(text, sizeof text, 0, 1, "foo", "bar");
+    size_t length;
+    CHECK(amqp1_write_detach(text, sizeof text, &length, 0, 1, "foo", "bar") == AMQP1_DONE);
     CHECK(hears_one(engine, "[02000003 005316 c0(03 5206 41 00531d c0(01 a3(626172)))]", AMQP1_KIND_DETACHED));
     CHECK(heard[0].session == 7 && heard[0].output == 0 && heard[0].flags == (AMQP1_FLAG_LINKED | AMQP1_FLAG_FOR_GOOD | AMQP1_FLAG_ERROR));
     CHECK(amqp1_detach(engine, 7, 0, text, length) == AMQP1_DONE);
@@ -155,14 +161,17 @@ static void try_too_long(void)
     amqp1_record record;
     amqp1_took took;
     uint32_t handle = 99, unfit = 99;
+    size_t length;
     size_t front = bytes_of("00000000 02000003 005315 d0 00000000 00000005 41 43 43 42 005327 d0 00000455 00000001 b0 0000044c", frame, 64);
     memset(address, 'a', sizeof address - 1);
     address[sizeof address - 1] = 0;
     CHECK(amqp1_link(&engine, 7, AMQP1_RECEIVER, AMQP1_FIRST, "long", &handle) == AMQP1_DONE && handle == 1);
-    CHECK(amqp1_attach(&engine, 7, text, amqp1_write_attach(text, sizeof text, "long", 1, AMQP1_RECEIVER, 2, AMQP1_FIRST, address, "q", 0)) ==
-          AMQP1_REFUSED);
+    CHECK(amqp1_write_attach(text, sizeof text, &length, "long", 1, AMQP1_RECEIVER, 2, AMQP1_FIRST, address, "q", 0) ==
+          AMQP1_DONE);
+    CHECK(amqp1_attach(&engine, 7, text, length) == AMQP1_REFUSED);
     CHECK(refused_as(&engine, "TooLarge", "") && sends(&engine, "") && amqp1_unfit(&engine, &unfit) == AMQP1_DONE);
-    CHECK(amqp1_transfer(&engine, 7, 5, 1, text, amqp1_write_transfer(text, sizeof text, 0, "t", 1, 0, 0, 0), NULL, 0) == AMQP1_DONE);
+    CHECK(amqp1_write_transfer(text, sizeof text, &length, 0, "t", 1, 0, 0, 0) == AMQP1_DONE);
+    CHECK(amqp1_transfer(&engine, 7, 5, 1, text, length, NULL, 0) == AMQP1_DONE);
     CHECK(sends(&engine, "[02000000 005314 c0(05 43 43 a0(74) 43 42)]"));
     amqp1_u32_at(frame, (uint32_t)(front + 1100));
     amqp1_u32_at(frame + 12, (uint32_t)(front + 1100 - 16));

@@ -22,7 +22,8 @@ static void try_open(void)
 static void try_end(amqp1 *engine)
 {
     uint8_t text[64];
-    size_t length = amqp1_write_error(text, sizeof text, "amqp:internal-error", "why");
+    size_t length;
+    CHECK(amqp1_write_error(text, sizeof text, &length, "amqp:internal-error", "why") == AMQP1_DONE);
     CHECK(session_state_of(engine, 7) == AMQP1_SESSION_MAPPED && session_state_of(engine, 8) == 99);
     CHECK(amqp1_forget(engine, 7) == AMQP1_REFUSED);
     CHECK(amqp1_end(engine, 7, text, length) == AMQP1_DONE && session_state_of(engine, 7) == AMQP1_SESSION_DISCARDING);
@@ -33,7 +34,7 @@ static void try_end(amqp1 *engine)
     CHECK(amqp1_release(engine, 7) == AMQP1_DONE && amqp1_forget(engine, 7) == AMQP1_DONE);
     CHECK(session_state_of(engine, 7) == 99);
     CHECK(amqp1_release(engine, 7) == AMQP1_REFUSED && refused_as(engine, "NoSession", ""));
-    length = amqp1_write_begin(text, sizeof text, 0, 64, 64, 255);
+    CHECK(amqp1_write_begin(text, sizeof text, &length, 0, 64, 64, 255) == AMQP1_DONE);
     CHECK(amqp1_begin(engine, 7, text, length) == AMQP1_REFUSED && refused_as(engine, "SessionInUse", ""));
 }
 
@@ -109,7 +110,8 @@ void try_numbers(void)
     uint8_t transfer[64];
     uint32_t number = 99;
     int is_there = 9;
-    size_t length = amqp1_write_transfer(transfer, sizeof transfer, 0, "t", 1, 0, 0, 0);
+    size_t length;
+    CHECK(amqp1_write_transfer(transfer, sizeof transfer, &length, 0, "t", 1, 0, 0, 0) == AMQP1_DONE);
     CHECK(amqp1_session_of(&engine, 3, &number, &is_there) == AMQP1_DONE && is_there && number == 7);
     CHECK(amqp1_session_of(&engine, 4, &number, &is_there) == AMQP1_DONE && !is_there);
     CHECK(amqp1_max_piece_len(&engine, &number) == AMQP1_DONE && number == 1020);

@@ -46,11 +46,14 @@ static void pass(side *from, side *to)
 static void start(side *it, int is_server, int settles)
 {
     uint8_t open[64];
+    size_t length;
     amqp1_free(&it->engine);
     memset(it, 0, sizeof *it);
     it->is_server = is_server;
     it->settles = settles;
-    CHECK(amqp1_start(&it->engine, key, open, amqp1_write_open(open, sizeof open, is_server ? "server" : "client", NULL, 1024, 9, 0)) == AMQP1_DONE);
+    CHECK(amqp1_write_open(open, sizeof open, &length, is_server ? "server" : "client", NULL, 1024, 9, 0) ==
+          AMQP1_DONE);
+    CHECK(amqp1_start(&it->engine, key, open, length) == AMQP1_DONE);
     CHECK(amqp1_open(&it->engine) == AMQP1_DONE);
 }
 
@@ -62,7 +65,8 @@ static void serve_begin(const amqp1_record *record, const uint8_t *input)
     amqp1_took took;
     amqp1_record begun;
     pass(&server, &client);
-    CHECK(amqp1_begin(&server.engine, 0, text, amqp1_write_begin(text, sizeof text, 0, WINDOW, WINDOW, 9)) == AMQP1_DONE);
+    CHECK(amqp1_write_begin(text, sizeof text, &length, 0, WINDOW, WINDOW, 9) == AMQP1_DONE);
+    CHECK(amqp1_begin(&server.engine, 0, text, length) == AMQP1_DONE);
     CHECK(amqp1_output(&server.engine, out, sizeof out, &written) == AMQP1_DONE);
     length = amqp1_turn_begin(turned, sizeof turned, amqp1_bytes_at(out, written), record->channel);
     put(&client, turned, length);
@@ -74,11 +78,13 @@ static void serve_begin(const amqp1_record *record, const uint8_t *input)
 static void attach(side *it, const char *name, enum amqp1_role role, uint32_t handle)
 {
     uint8_t text[128];
-    size_t length = amqp1_write_attach(text, sizeof text, name, handle, role, 2, AMQP1_FIRST, name, name, 0);
+    size_t length;
+    CHECK(amqp1_write_attach(text, sizeof text, &length, name, handle, role, 2, AMQP1_FIRST, name, name, 0) ==
+          AMQP1_DONE);
     CHECK(amqp1_attach(&it->engine, 0, text, length) == AMQP1_DONE);
     if (role == AMQP1_RECEIVER) {
         it->from_output = handle;
-        length = amqp1_write_flow(text, sizeof text, handle, NULL, DELIVERIES, 0, 0);
+        CHECK(amqp1_write_flow(text, sizeof text, &length, handle, NULL, DELIVERIES, 0, 0) == AMQP1_DONE);
         CHECK(amqp1_flow(&it->engine, 0, text, length) == AMQP1_DONE);
     }
 }
@@ -187,9 +193,11 @@ static void meet(void)
 {
     uint8_t text[64];
     uint32_t handle;
+    size_t length;
     exchange();
     CHECK(client.opened == 1 && server.opened == 1);
-    CHECK(amqp1_begin(&client.engine, 0, text, amqp1_write_begin(text, sizeof text, 0, WINDOW, WINDOW, 9)) == AMQP1_DONE);
+    CHECK(amqp1_write_begin(text, sizeof text, &length, 0, WINDOW, WINDOW, 9) == AMQP1_DONE);
+    CHECK(amqp1_begin(&client.engine, 0, text, length) == AMQP1_DONE);
     exchange();
     CHECK(client.opened == 2);
     CHECK(amqp1_link(&client.engine, 0, AMQP1_SENDER, AMQP1_FIRST, "up", &handle) == AMQP1_DONE);

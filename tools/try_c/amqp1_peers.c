@@ -15,7 +15,8 @@ static void try_begin(amqp1 *engine)
     CHECK(heard[0].channel == 5 && heard[0].session == AMQP1_NONE && sends(engine, ""));
     peers = amqp1_bytes_at(begin, bytes_of(BEGIN_OF_PEER, begin, sizeof begin));
     CHECK(heard[0].at == 8 && amqp1_frame_code(peers) == AMQP1_BEGIN_CODE);
-    CHECK(amqp1_begin(engine, 0, text, amqp1_write_begin(text, sizeof text, 0, 2048, 2048, 255)) == AMQP1_DONE);
+    CHECK(amqp1_write_begin(text, sizeof text, &length, 0, 2048, 2048, 255) == AMQP1_DONE);
+    CHECK(amqp1_begin(engine, 0, text, length) == AMQP1_DONE);
     CHECK(amqp1_output(engine, out, sizeof out, &written) == AMQP1_DONE);
     CHECK(are(out, written, "[02000000 005311 c0(05 40 43 7000000800 7000000800 52ff)]"));
     length = amqp1_turn_begin(turned, sizeof turned, amqp1_bytes_at(out, written), heard[0].channel);

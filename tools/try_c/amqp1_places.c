@@ -67,7 +67,8 @@ static void try_made_twice(void)
     amqp1 engine = made();
     void *at = engine.slot.at;
     uint8_t open[64], none[1] = { 0 };
-    size_t length = amqp1_write_open(open, sizeof open, "other", NULL, 512, 1, 0);
+    size_t length;
+    CHECK(amqp1_write_open(open, sizeof open, &length, "other", NULL, 512, 1, 0) == AMQP1_DONE);
     CHECK(amqp1_start(&engine, key, open, length) == AMQP1_BAD_ARGUMENT);
     CHECK(amqp1_new(&engine, none, 0) == AMQP1_BAD_ARGUMENT);
     CHECK(engine.full == 1 && engine.slot.at == at);
@@ -92,7 +93,8 @@ static void try_keys(void)
 {
     amqp1 place = AMQP1_EMPTY;
     uint8_t zeros[16] = { 0 }, open[64];
-    size_t at, length = amqp1_write_open(open, sizeof open, "me", NULL, 512, 1, 0);
+    size_t at, length;
+    CHECK(amqp1_write_open(open, sizeof open, &length, "me", NULL, 512, 1, 0) == AMQP1_DONE);
     CHECK(amqp1_start(&place, zeros, open, length) == AMQP1_BAD_ARGUMENT && place.full == 0);
     for (at = 0; at < 16; at++) {
         memset(zeros, 0, sizeof zeros);

@@ -140,7 +140,8 @@ static void answer(const amqp1_record *record)
     }
     if (record->kind != AMQP1_KIND_DETACHED || record->output == AMQP1_NONE)
         return;
-    length = amqp1_write_detach(detach, sizeof detach, record->output, amqp1_has(record, AMQP1_FLAG_FOR_GOOD), NULL, NULL);
+    EACH(amqp1_write_detach(detach, sizeof detach, &length, record->output, amqp1_has(record, AMQP1_FLAG_FOR_GOOD),
+                            NULL, NULL) == AMQP1_DONE);
     EACH(amqp1_detach(&engine, record->session, 0, detach, length) == AMQP1_DONE);
    
 }
@@ -223,7 +224,8 @@ static void transfer(unsigned place, const char *said)
 static void begin(void)
 {
     uint8_t open[64];
-    size_t length = amqp1_write_open(open, sizeof open, "replay", NULL, 262144, 255, 0);
+    size_t length;
+    CHECK(amqp1_write_open(open, sizeof open, &length, "replay", NULL, 262144, 255, 0) == AMQP1_DONE);
     CHECK(amqp1_start(&engine, key, open, length) == AMQP1_DONE);
     sent.length = wanted_sent.length = told.length = wanted_told.length = waiting.length = 0;
     frame_count = link_count = heard_before = 0;

@@ -55,10 +55,13 @@ static void begin(amqp1 *engine)
     const uint8_t some[16] = { 7 };
     uint8_t text[128];
     uint32_t handle;
-    must(amqp1_start(engine, some, text, amqp1_write_open(text, sizeof text, "me", NULL, 65536, 255, 0)) == AMQP1_DONE, "no engine");
+    size_t length;
+    must(amqp1_write_open(text, sizeof text, &length, "me", NULL, 65536, 255, 0) == AMQP1_DONE, "no room");
+    must(amqp1_start(engine, some, text, length) == AMQP1_DONE, "no engine");
     must(amqp1_open(engine) == AMQP1_DONE, "no open");
     hear_digits(engine, "[02000000 " PEERS_OPEN "]", AMQP1_KIND_OPENED);
-    must(amqp1_begin(engine, 7, text, amqp1_write_begin(text, sizeof text, 0, 2000000000, 2048, 255)) == AMQP1_DONE, "no begin");
+    must(amqp1_write_begin(text, sizeof text, &length, 0, 2000000000, 2048, 255) == AMQP1_DONE, "no room");
+    must(amqp1_begin(engine, 7, text, length) == AMQP1_DONE, "no begin");
     hear_digits(engine, "[02000003 005311 c0(04 600000 43 7077777777 7077777777)]", AMQP1_KIND_BEGUN);
     must(amqp1_link(engine, 7, AMQP1_RECEIVER, AMQP1_FIRST, "in", &handle) == AMQP1_DONE && handle == 0, "no link");
     hear_digits(engine, "[02000003 005312 c0(03 a1(696e) 5205 42)]", AMQP1_KIND_ATTACHED);

@@ -148,10 +148,11 @@ static void try_longest(amqp1 *engine)
     static uint8_t bytes[2048], transfer[64], out[2048];
     uint32_t room = 0;
     int fits = 0;
-    size_t written = 0, length = amqp1_write_transfer(transfer, sizeof transfer, 0, "t", 1, 0, 0, 0);
+    size_t written = 0, length;
     amqp1_head head;
     amqp1_sent sent = { 7, 7 };
     amqp1_went went;
+    CHECK(amqp1_write_transfer(transfer, sizeof transfer, &length, 0, "t", 1, 0, 0, 0) == AMQP1_DONE);
     CHECK(amqp1_payload_room(engine, transfer, length, &room, &fits) == AMQP1_DONE && fits && room == 999);
     head = head_of(7, 5, FIRST_OF | AMQP1_FLAG_FORMATTED, 1, room + 1);
     CHECK(amqp1_send(engine, &head, 1, bytes, room + 2, &sent, 1, &went) == AMQP1_DONE && went.taken == 1 && went.used == room + 2);

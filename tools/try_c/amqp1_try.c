@@ -19,7 +19,8 @@ amqp1 made(void)
 {
     amqp1 engine = AMQP1_EMPTY;
     uint8_t open[64];
-    size_t length = amqp1_write_open(open, sizeof open, "me", NULL, 65536, 255, 0);
+    size_t length;
+    CHECK(amqp1_write_open(open, sizeof open, &length, "me", NULL, 65536, 255, 0) == AMQP1_DONE);
     CHECK(amqp1_start(&engine, key, open, length) == AMQP1_DONE);
     return engine;
 }
@@ -73,7 +74,8 @@ amqp1 begun(void)
 {
     amqp1 engine = opened();
     uint8_t begin[64];
-    size_t length = amqp1_write_begin(begin, sizeof begin, 0, 64, 64, 255);
+    size_t length;
+    CHECK(amqp1_write_begin(begin, sizeof begin, &length, 0, 64, 64, 255) == AMQP1_DONE);
     CHECK(amqp1_begin(&engine, 7, begin, length) == AMQP1_DONE);
     CHECK(sends(&engine, "[02000000 005311 c0(05 40 43 5240 5240 52ff)]"));
     CHECK(hears_one(&engine, "[02000003 005311 c0(04 600000 43 520a 520a)]", AMQP1_KIND_BEGUN) && heard[0].session == 7 && heard[0].channel == 3);
@@ -97,9 +99,10 @@ uint32_t attaches(amqp1 *engine, const char *name, enum amqp1_role role, enum am
 {
     uint8_t text[256], out[256];
     uint32_t handle = 99;
-    size_t written;
+    size_t length, written;
     CHECK(amqp1_link(engine, 7, role, mode, name, &handle) == AMQP1_DONE);
-    CHECK(amqp1_attach(engine, 7, text, amqp1_write_attach(text, sizeof text, name, handle, role, 2, mode, "q", "q", 0)) == AMQP1_DONE);
+    CHECK(amqp1_write_attach(text, sizeof text, &length, name, handle, role, 2, mode, "q", "q", 0) == AMQP1_DONE);
+    CHECK(amqp1_attach(engine, 7, text, length) == AMQP1_DONE);
     CHECK(amqp1_output(engine, out, sizeof out, &written) == AMQP1_DONE && written > 0);
     return handle;
 }

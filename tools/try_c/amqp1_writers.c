@@ -1,14 +1,187 @@
-/* Tests of amqp1/write.h and amqp1/read.h: what is written into too little room, of which no call makes anything, and bytes that are no value. */
+/* Tests of amqp1/write.h and amqp1/read.h: what each writer writes, into any room, and what it cannot write; that no
+   call makes anything of no bytes; and bytes that are no value. */
 #include "amqp1_try.h"
+
+/* ---- what each writer answers */
+
+#define OUT out, room, written
+#define WRITER(name, call)                                          \
+    static int32_t name(uint8_t *out, size_t room, size_t *written) \
+    {                                                               \
+        return call;                                                \
+    }
+#define TEN(x) x x x x x x x x x x
+#define THREE_HUNDRED(x) TEN(TEN(x x x))
+
+static const uint32_t nine = 9;
+
+/* What four bytes of size can say. No compiler is to know it: it would warn of so long a text. */
+static volatile size_t most = UINT32_MAX;
+
+WRITER(write_error, amqp1_write_error(OUT, "foo", "bar"))
+WRITER(write_error_alone, amqp1_write_error(OUT, "foo", NULL))
+WRITER(write_open_plain, amqp1_write_open(OUT, "me", NULL, 65536, 255, 0))
+WRITER(write_open_whole, amqp1_write_open(OUT, "me", "host", 512, 1, 30000))
+WRITER(write_open_long, amqp1_write_open(OUT, THREE_HUNDRED("n"), NULL, 512, 1, 0))
+WRITER(write_begin, amqp1_write_begin(OUT, 1, 64, 65, 255))
+WRITER(write_attach_sender, amqp1_write_attach(OUT, "name", 3, AMQP1_SENDER, 1, AMQP1_SECOND, "from", "to", 9))
+WRITER(write_attach_receiver, amqp1_write_attach(OUT, "in", 70000, AMQP1_RECEIVER, 2, AMQP1_FIRST, NULL, NULL, 9))
+WRITER(write_flow, amqp1_write_flow(OUT, 3, &nine, 100, 1, 0))
+WRITER(write_flow_uncounted, amqp1_write_flow(OUT, 3, NULL, 100, 0, 1))
+WRITER(write_transfer, amqp1_write_transfer(OUT, 3, "tag", 3, 7, 1, 0))
+WRITER(write_transfer_later, amqp1_write_transfer(OUT, 3, NULL, 0, 7, 0, 1))
+WRITER(write_no_state, amqp1_write_disposition(OUT, AMQP1_RECEIVER, 2, 3, 0, AMQP1_NO_STATE))
+WRITER(write_accepted, amqp1_write_disposition(OUT, AMQP1_SENDER, 2, 3, 1, AMQP1_ACCEPTED))
+WRITER(write_rejected, amqp1_write_disposition(OUT, AMQP1_RECEIVER, 2, 3, 0, AMQP1_REJECTED))
+WRITER(write_released, amqp1_write_disposition(OUT, AMQP1_SENDER, 2, 3, 1, AMQP1_RELEASED))
+WRITER(write_modified, amqp1_write_disposition(OUT, AMQP1_RECEIVER, 2, 3, 0, AMQP1_MODIFIED))
+WRITER(write_detach, amqp1_write_detach(OUT, 3, 1, NULL, NULL))
+WRITER(write_detach_error, amqp1_write_detach(OUT, 3, 0, "foo", "bar"))
+WRITER(write_detach_condition, amqp1_write_detach(OUT, 3, 0, "foo", NULL))
+WRITER(write_data, amqp1_write_data(OUT, "hello", 5))
+WRITER(write_data_empty, amqp1_write_data(OUT, "", 0))
+WRITER(write_data_long, amqp1_write_data(OUT, THREE_HUNDRED("n"), 300))
+
+#define FOO_BAR "00531d d0 0000000e 00000002 a3(666f6f) a1(626172)"
+#define FOO "00531d d0 0000000a 00000002 a3(666f6f) 40"
+
+/* Each writer, and what it writes. */
+static const struct row {
+    int32_t (*write)(uint8_t *out, size_t room, size_t *written);
+    const char *wanted;
+} rows[] = {
+    { write_error, FOO_BAR },
+    { write_error_alone, FOO },
+    { write_open_plain, "005310 d0 00000011 00000004 a1(6d65) 40 7000010000 6000ff" },
+    { write_open_whole, "005310 d0 0000001b 00000005 a1(6d65) a1(686f7374) 7000000200 600001 7000007530" },
+    { write_open_long, "005310 d0 0000013e 00000004 b1 0000012c" THREE_HUNDRED("6e") "40 7000000200 600001" },
+    { write_begin, "005311 d0 00000019 00000005 40 7000000001 7000000040 7000000041 70000000ff" },
+    { write_attach_sender, "005312 d0 0000003d 0000000a a1(6e616d65) 7000000003 42 5001 5001"
+                           "005328 d0 0000000a 00000001 a1(66726f6d) 005329 d0 00000008 00000001 a1(746f)"
+                           "40 40 7000000009" },
+    { write_attach_receiver, "005312 d0 0000002c 00000007 a1(696e) 7000011170 41 5002 5000"
+                             "005328 d0 00000005 00000001 40 005329 d0 00000005 00000001 40" },
+    { write_flow, "005313 d0 00000026 0000000a 40 7000000000 7000000000 7000000000 7000000003"
+                  "7000000009 7000000064 40 41 42" },
+    { write_flow_uncounted, "005313 d0 00000022 0000000a 40 7000000000 7000000000 7000000000 7000000003"
+                            "40 7000000064 40 42 41" },
+    { write_transfer, "005314 d0 00000016 00000006 7000000003 40 a0(746167) 7000000007 41 42" },
+    { write_transfer_later, "005314 d0 0000000e 00000006 7000000003 40 40 40 42 41" },
+    { write_no_state, "005315 d0 00000011 00000005 41 7000000002 7000000003 42 40" },
+    { write_accepted, "005315 d0 00000014 00000005 42 7000000002 7000000003 41 00532445" },
+    { write_rejected, "005315 d0 00000014 00000005 41 7000000002 7000000003 42 00532545" },
+    { write_released, "005315 d0 00000014 00000005 42 7000000002 7000000003 41 00532645" },
+    { write_modified, "005315 d0 00000014 00000005 41 7000000002 7000000003 42 00532745" },
+    { write_detach, "005316 d0 0000000a 00000002 7000000003 41" },
+    { write_detach_error, "005316 d0 00000020 00000003 7000000003 42" FOO_BAR },
+    { write_detach_condition, "005316 d0 0000001c 00000003 7000000003 42" FOO },
+    { write_data, "005375 a0(68656c6c6f)" },
+    { write_data_empty, "005375 a000" },
+    { write_data_long, "005375 b0 0000012c" THREE_HUNDRED("6e") },
+};
+
+static uint8_t out_bytes[512];
+
+/* What a writer answers of this room is this, and no byte past the room is touched. */
+static int answers(const struct row *row, size_t room, int32_t status, size_t wanted)
+{
+    size_t at, written = 77;
+    int is_so;
+    memset(out_bytes, 0xee, sizeof out_bytes);
+    is_so = row->write(out_bytes, room, &written) == status && written == wanted;
+    for (at = room; at < sizeof out_bytes; at++)
+        is_so = is_so && out_bytes[at] == 0xee;
+    if (!is_so)
+        printf("  %s, in a room of %u\n", row->wanted, (unsigned)room);
+    return is_so;
+}
+
+/* Each writer: its bytes, where they fit; and of each smaller room how many are needed. */
+static void try_rows(void)
+{
+    uint8_t wanted[512];
+    size_t n, room, length;
+    for (n = 0; n < sizeof rows / sizeof *rows; n++) {
+        length = bytes_of(rows[n].wanted, wanted, sizeof wanted);
+        CHECK(answers(&rows[n], sizeof out_bytes, AMQP1_DONE, length) && are(out_bytes, length, rows[n].wanted));
+        CHECK(answers(&rows[n], length, AMQP1_DONE, length) && !memcmp(out_bytes, wanted, length));
+        for (room = 0; room < length; room++)
+            CHECK(answers(&rows[n], room, AMQP1_TOO_SMALL, length));
+    }
+}
+
+/* What cannot be written in any room. */
+WRITER(write_error_none, amqp1_write_error(OUT, NULL, "bar"))
+WRITER(write_open_none, amqp1_write_open(OUT, NULL, "host", 512, 1, 0))
+WRITER(write_attach_none, amqp1_write_attach(OUT, NULL, 3, AMQP1_SENDER, 1, AMQP1_FIRST, "from", "to", 9))
+WRITER(write_attach_mode, amqp1_write_attach(OUT, "name", 3, AMQP1_SENDER, 3, AMQP1_FIRST, "from", "to", 9))
+WRITER(write_attach_mode_257, amqp1_write_attach(OUT, "name", 3, AMQP1_SENDER, 257, AMQP1_FIRST, "from", "to", 9))
+WRITER(write_received, amqp1_write_disposition(OUT, AMQP1_RECEIVER, 2, 3, 1, AMQP1_RECEIVED))
+WRITER(write_other_state, amqp1_write_disposition(OUT, AMQP1_RECEIVER, 2, 3, 1, AMQP1_OTHER_STATE))
+WRITER(write_detach_none, amqp1_write_detach(OUT, 3, 1, NULL, "bar"))
+WRITER(write_transfer_past, amqp1_write_transfer(OUT, 3, "tag", most + 1, 7, 1, 0))
+WRITER(write_transfer_past_list, amqp1_write_transfer(OUT, 3, "tag", most, 7, 1, 0))
+WRITER(write_data_past, amqp1_write_data(OUT, "hello", most + 1))
+WRITER(write_data_most, amqp1_write_data(OUT, "hello", SIZE_MAX))
+#ifndef __cplusplus
+/* numbers that are none of these, and not what is left of them in a byte */
+WRITER(write_attach_role, amqp1_write_attach(OUT, "name", 3, (enum amqp1_role)2, 1, AMQP1_FIRST, "from", "to", 9))
+WRITER(write_attach_rcv, amqp1_write_attach(OUT, "n", 3, AMQP1_SENDER, 1, (enum amqp1_rcv_settle_mode)257, "f", "t", 9))
+WRITER(write_role_257, amqp1_write_disposition(OUT, (enum amqp1_role)257, 2, 3, 1, AMQP1_ACCEPTED))
+WRITER(write_state_257, amqp1_write_disposition(OUT, AMQP1_RECEIVER, 2, 3, 1, (enum amqp1_outcome)257))
+#endif
+
+static const struct row bad_rows[] = {
+    { write_error_none, "an error without a condition" },
+    { write_open_none, "an Open without a name" },
+    { write_attach_none, "an Attach without a name" },
+    { write_attach_mode, "a mode that is none" },
+    { write_attach_mode_257, "a mode past a byte" },
+    { write_received, "the state RECEIVED" },
+    { write_other_state, "another state" },
+    { write_detach_none, "a description without a condition" },
+    { write_transfer_past, "a tag past four bytes of size" },
+    { write_transfer_past_list, "a tag beside which the list is past them" },
+    { write_data_past, "data past four bytes of size" },
+    { write_data_most, "data of the largest size" },
+#ifndef __cplusplus
+    { write_attach_role, "a role that is none" },
+    { write_attach_rcv, "a receiver's mode that is none" },
+    { write_role_257, "a role past a byte" },
+    { write_state_257, "a state past a byte" },
+#endif
+};
+
+static void try_bad_rows(void)
+{
+    size_t n, room;
+    for (n = 0; n < sizeof bad_rows / sizeof *bad_rows; n++)
+        for (room = 0; room <= sizeof out_bytes; room += room < 80 ? 1 : 144)
+            CHECK(answers(&bad_rows[n], room, AMQP1_BAD_ARGUMENT, 0));
+}
+
+/* As long as four bytes of size can say: it is told how much room is needed. */
+static void try_longest(void)
+{
+    uint8_t *out = out_bytes;
+    size_t written = 0;
+    CHECK(amqp1_write_data(out, 64, &written, "hello", most) == AMQP1_TOO_SMALL && written == 3 + 5 + most);
+    /* beside the tag's bytes the list has its count (4), the handle (5), null, the tag's code and size (5), the format
+       (5), and two booleans: 22 */
+    CHECK(amqp1_write_transfer(out, 64, &written, 3, "tag", most - 22, 7, 1, 0) == AMQP1_TOO_SMALL);
+    CHECK(written == 4 + 4 + most);
+    CHECK(amqp1_write_transfer(out, 64, &written, 3, "tag", most - 21, 7, 1, 0) == AMQP1_BAD_ARGUMENT && written == 0);
+}
+
+/* ---- what calls make of it, and what is read back */
 
 /* A payload that is a whole Transfer of the peer's making, with its own tag. */
 static void try_payload(amqp1 *engine)
 {
-    uint8_t small[16], evil[128];
-    size_t length = amqp1_write_transfer(evil, sizeof evil, 0, "EVIL", 4, 0, 1, 0), rest;
-    size_t none = amqp1_write_transfer(small, sizeof small, 0, "a tag that has no room", 22, 0, 0, 0);
-    CHECK(none == 0);
-    CHECK(amqp1_transfer(engine, 7, 5, 1, small, none, evil, length) == AMQP1_BAD_ARGUMENT && sends(engine, ""));
+    uint8_t small[16] = { 0 }, evil[128];
+    size_t length, rest;
+    CHECK(amqp1_write_transfer(evil, sizeof evil, &length, 0, "EVIL", 4, 0, 1, 0) == AMQP1_DONE);
+    CHECK(amqp1_transfer(engine, 7, 5, 1, small, 0, evil, length) == AMQP1_BAD_ARGUMENT && sends(engine, ""));
     CHECK(amqp1_transfer(engine, 7, 5, 1, NULL, 0, evil, length) == AMQP1_BAD_ARGUMENT && sends(engine, ""));
     /* wherever it is cut, it is not one Transfer and a payload */
     for (rest = 0; rest < length; rest++)
@@ -19,10 +192,10 @@ static void try_payload(amqp1 *engine)
     CHECK(sends(engine, "[02000000 005314 c0(05 43 43 a0(4556494c) 43 41) 0102]"));
 }
 
-/* The other performatives, and errors: one that did not fit is not none; NULL says that there is none. */
+/* The other performatives, and errors: no bytes are not none; NULL says that there is none. */
 static void try_performatives(amqp1 *engine)
 {
-    uint8_t none[1] = { 0 }, small[8];
+    uint8_t none[1] = { 0 };
     uint32_t room = 9;
     int fits = 9;
     CHECK(amqp1_begin(engine, 9, none, 0) == AMQP1_BAD_ARGUMENT);
@@ -31,24 +204,10 @@ static void try_performatives(amqp1 *engine)
     CHECK(amqp1_flow(engine, 7, none, 0) == AMQP1_BAD_ARGUMENT);
     CHECK(amqp1_disposition(engine, 7, none, 0) == AMQP1_BAD_ARGUMENT);
     CHECK(amqp1_payload_room(engine, none, 0, &room, &fits) == AMQP1_BAD_ARGUMENT && !fits);
-    CHECK(amqp1_write_disposition(small, sizeof small, AMQP1_RECEIVER, 0, 0, 1, AMQP1_RECEIVED) == 0);
-    CHECK(amqp1_write_error(small, sizeof small, "amqp:internal-error", "why") == 0);
-    CHECK(amqp1_end(engine, 7, small, 0) == AMQP1_BAD_ARGUMENT && amqp1_close(engine, small, 0) == AMQP1_BAD_ARGUMENT && sends(engine, ""));
+    CHECK(amqp1_end(engine, 7, none, 0) == AMQP1_BAD_ARGUMENT && amqp1_close(engine, none, 0) == AMQP1_BAD_ARGUMENT);
+    CHECK(sends(engine, ""));
     CHECK(amqp1_end(engine, 7, NULL, 0) == AMQP1_DONE && amqp1_close(engine, NULL, 0) == AMQP1_DONE);
     CHECK(sends(engine, "[02000000 00531745] [02000000 00531845]"));
-}
-
-/* With less room than the text needs it is told that nothing was written, and no byte past the room is touched. */
-static void try_room(void)
-{
-    uint8_t whole[128], part[128];
-    size_t room, length = amqp1_write_attach(whole, sizeof whole, "name", 3, AMQP1_SENDER, 1, AMQP1_SECOND, "from", "to", 9);
-    CHECK(length > 0);
-    for (room = 0; room <= length; room++) {
-        memset(part, 0xee, sizeof part);
-        CHECK(amqp1_write_attach(part, room, "name", 3, AMQP1_SENDER, 1, AMQP1_SECOND, "from", "to", 9) == (room < length ? 0 : length));
-        CHECK(part[room] == 0xee && (room < length || !memcmp(part, whole, length)));
-    }
 }
 
 /* What is written is read back. */
@@ -60,7 +219,8 @@ static void try_back(void)
     size_t length;
     memset(name, 'n', 300);
     name[300] = 0;
-    length = amqp1_write_attach(text, sizeof text, name, 70000, AMQP1_RECEIVER, 2, AMQP1_SECOND, NULL, "q", 0);
+    CHECK(amqp1_write_attach(text, sizeof text, &length, name, 70000, AMQP1_RECEIVER, 2, AMQP1_SECOND, NULL, "q", 0) ==
+          AMQP1_DONE);
     attach = amqp1_bytes_at(text, length);
     CHECK(length > 300 && amqp1_value_length(attach) == length);
     CHECK(amqp1_bytes_field(attach, AMQP1_ATTACH_NAME).length == 300);
@@ -73,11 +233,12 @@ static void try_back(void)
 static void try_message(void)
 {
     uint8_t text[64];
-    size_t cut, length = amqp1_write_data(text, sizeof text, "hello", 5);
-    amqp1_bytes data;
-    CHECK(amqp1_read_data(amqp1_bytes_at(text, length), &data) && data.length == 5 && !memcmp(data.at, "hello", 5));
+    size_t cut, length;
+    amqp1_bytes found;
+    CHECK(amqp1_write_data(text, sizeof text, &length, "hello", 5) == AMQP1_DONE);
+    CHECK(amqp1_read_data(amqp1_bytes_at(text, length), &found) && found.length == 5 && !memcmp(found.at, "hello", 5));
     for (cut = 0; cut < length; cut++)
-        CHECK(!amqp1_read_data(amqp1_bytes_at(text, cut), &data));
+        CHECK(!amqp1_read_data(amqp1_bytes_at(text, cut), &found));
 }
 
 /* A Begin is turned: its fields after the remote-channel stay, whatever its spelling. */
@@ -158,7 +319,9 @@ void try_writers(void)
     try_performatives(&engine);
     amqp1_free(&engine);
     CHECK(amqp1_start(&place, key, none, 0) == AMQP1_BAD_ARGUMENT && place.full == 0);
-    try_room();
+    try_rows();
+    try_bad_rows();
+    try_longest();
     try_back();
     try_message();
     try_turn();
