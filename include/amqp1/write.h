@@ -19,6 +19,14 @@
 
 #include "read.h"
 
+/* What a writer answers is to be looked at: but for AMQP1_DONE its bytes are of no use, and they may be more than there
+   is room for. Who does not look is warned by gcc and clang. */
+#if defined(__GNUC__)
+#define AMQP1_CHECKED __attribute__((warn_unused_result))
+#else
+#define AMQP1_CHECKED
+#endif
+
 #ifdef __cplusplus
 extern "C" {
 #endif
@@ -140,7 +148,7 @@ AMQP1_FUNCTION void amqp1_end_list(amqp1_text *text, size_t at)
 }
 
 /* What became of the text: the status and `written`, as a writer answers them. */
-AMQP1_FUNCTION int32_t amqp1_written(const amqp1_text *text, size_t *written)
+AMQP1_FUNCTION AMQP1_CHECKED int32_t amqp1_written(const amqp1_text *text, size_t *written)
 {
     *written = text->is_bad ? 0 : text->length;
     if (text->is_bad)
@@ -168,8 +176,8 @@ AMQP1_FUNCTION void amqp1_put_error(amqp1_text *text, const char *condition, con
 
 /* An error: its condition, as "amqp:internal-error", and what it says to people, or NULL (AMQP 1.0 part 2, section
    2.8.14). DONE or TOO_SMALL; BAD_ARGUMENT without a condition. */
-AMQP1_FUNCTION int32_t amqp1_write_error(uint8_t *out, size_t room, size_t *written, const char *condition,
-                                         const char *description)
+AMQP1_FUNCTION AMQP1_CHECKED int32_t amqp1_write_error(uint8_t *out, size_t room, size_t *written,
+                                                       const char *condition, const char *description)
 {
     amqp1_text text = amqp1_text_at(out, room);
     amqp1_put_error(&text, condition, description);
@@ -179,9 +187,10 @@ AMQP1_FUNCTION int32_t amqp1_write_error(uint8_t *out, size_t room, size_t *writ
 /* An Open: `hostname` may be NULL. Frames of up to `max_frame_size` bytes, sizes included, are taken (at least 512),
    and channels up to `channel_max`. `idle_time_out` is in milliseconds, 0 for none: the transport has to keep it. DONE
    or TOO_SMALL; BAD_ARGUMENT where `container_id` is NULL. */
-AMQP1_FUNCTION int32_t amqp1_write_open(uint8_t *out, size_t room, size_t *written, const char *container_id,
-                                        const char *hostname, uint32_t max_frame_size, uint16_t channel_max,
-                                        uint32_t idle_time_out)
+AMQP1_FUNCTION AMQP1_CHECKED int32_t amqp1_write_open(uint8_t *out, size_t room, size_t *written,
+                                                      const char *container_id, const char *hostname,
+                                                      uint32_t max_frame_size, uint16_t channel_max,
+                                                      uint32_t idle_time_out)
 {
     amqp1_text text = amqp1_text_at(out, room);
     size_t list = amqp1_begin_list(&text, 0x10, idle_time_out ? 5 : 4);
@@ -198,8 +207,9 @@ AMQP1_FUNCTION int32_t amqp1_write_open(uint8_t *out, size_t room, size_t *writt
 
 /* A Begin: the number of the first transfer that goes out, how many transfers may come before the engine grants more,
    how many this side sends before it waits, and the highest handle that the peer may use. DONE or TOO_SMALL. */
-AMQP1_FUNCTION int32_t amqp1_write_begin(uint8_t *out, size_t room, size_t *written, uint32_t next_outgoing_id,
-                                         uint32_t incoming_window, uint32_t outgoing_window, uint32_t handle_max)
+AMQP1_FUNCTION AMQP1_CHECKED int32_t amqp1_write_begin(uint8_t *out, size_t room, size_t *written,
+                                                       uint32_t next_outgoing_id, uint32_t incoming_window,
+                                                       uint32_t outgoing_window, uint32_t handle_max)
 {
     amqp1_text text = amqp1_text_at(out, room);
     size_t list = amqp1_begin_list(&text, 0x11, 5);
@@ -224,10 +234,10 @@ AMQP1_FUNCTION void amqp1_put_terminus(amqp1_text *text, unsigned descriptor, co
    unsettled, 1 settled, 2 mixed), and the addresses of source and target, each NULL for a terminus without one.
    `initial_delivery_count` is a sender's. DONE or TOO_SMALL; BAD_ARGUMENT where the name is NULL, and of a role or a
    mode that is none. */
-AMQP1_FUNCTION int32_t amqp1_write_attach(uint8_t *out, size_t room, size_t *written, const char *name, uint32_t handle,
-                                          enum amqp1_role role, unsigned snd_settle_mode,
-                                          enum amqp1_rcv_settle_mode rcv_settle_mode, const char *source,
-                                          const char *target, uint32_t initial_delivery_count)
+AMQP1_FUNCTION AMQP1_CHECKED int32_t amqp1_write_attach(uint8_t *out, size_t room, size_t *written, const char *name,
+                                                        uint32_t handle, enum amqp1_role role, unsigned snd_settle_mode,
+                                                        enum amqp1_rcv_settle_mode rcv_settle_mode, const char *source,
+                                                        const char *target, uint32_t initial_delivery_count)
 {
     amqp1_text text = amqp1_text_at(out, room);
     size_t list = amqp1_begin_list(&text, 0x12, role == AMQP1_SENDER ? 10 : 7);
@@ -252,8 +262,9 @@ AMQP1_FUNCTION int32_t amqp1_write_attach(uint8_t *out, size_t room, size_t *wri
 /* A Flow of a link on an output handle: its delivery count (NULL where a receiver does not know it yet), its credit,
    whether the sender is to use it up (`drain`), and whether a flow is wanted in answer (`echo`). The numbers of the
    session are the engine's. DONE or TOO_SMALL. */
-AMQP1_FUNCTION int32_t amqp1_write_flow(uint8_t *out, size_t room, size_t *written, uint32_t handle,
-                                        const uint32_t *delivery_count, uint32_t link_credit, int drain, int echo)
+AMQP1_FUNCTION AMQP1_CHECKED int32_t amqp1_write_flow(uint8_t *out, size_t room, size_t *written, uint32_t handle,
+                                                      const uint32_t *delivery_count, uint32_t link_credit, int drain,
+                                                      int echo)
 {
     amqp1_text text = amqp1_text_at(out, room);
     size_t list = amqp1_begin_list(&text, 0x13, 10);
@@ -277,9 +288,9 @@ AMQP1_FUNCTION int32_t amqp1_write_flow(uint8_t *out, size_t room, size_t *writt
 /* A Transfer on an output handle: the delivery's tag of up to 32 bytes (NULL in a later transfer of a delivery), its
    message format, whether it is settled, and whether more transfers of the delivery follow. DONE or TOO_SMALL;
    BAD_ARGUMENT of a tag that four bytes of size cannot say. */
-AMQP1_FUNCTION int32_t amqp1_write_transfer(uint8_t *out, size_t room, size_t *written, uint32_t handle,
-                                            const void *tag, size_t tag_length, uint32_t message_format, int settled,
-                                            int more)
+AMQP1_FUNCTION AMQP1_CHECKED int32_t amqp1_write_transfer(uint8_t *out, size_t room, size_t *written, uint32_t handle,
+                                                          const void *tag, size_t tag_length, uint32_t message_format,
+                                                          int settled, int more)
 {
     amqp1_text text = amqp1_text_at(out, room);
     size_t list = amqp1_begin_list(&text, 0x14, 6);
@@ -311,8 +322,9 @@ AMQP1_FUNCTION void amqp1_put_outcome(amqp1_text *text, enum amqp1_outcome outco
 /* A Disposition of the deliveries from `first` to `last`, in which this side stands on the end `role`: whether it
    settles them, and their state: NO_STATE, ACCEPTED, REJECTED, RELEASED or MODIFIED, without fields. DONE or TOO_SMALL;
    BAD_ARGUMENT of any other state, and of a role that is none. */
-AMQP1_FUNCTION int32_t amqp1_write_disposition(uint8_t *out, size_t room, size_t *written, enum amqp1_role role,
-                                               uint32_t first, uint32_t last, int settled, enum amqp1_outcome outcome)
+AMQP1_FUNCTION AMQP1_CHECKED int32_t amqp1_write_disposition(uint8_t *out, size_t room, size_t *written,
+                                                             enum amqp1_role role, uint32_t first, uint32_t last,
+                                                             int settled, enum amqp1_outcome outcome)
 {
     amqp1_text text = amqp1_text_at(out, room);
     size_t list = amqp1_begin_list(&text, 0x15, 5);
@@ -331,8 +343,8 @@ AMQP1_FUNCTION int32_t amqp1_write_disposition(uint8_t *out, size_t room, size_t
 
 /* A Detach on an output handle: whether the link is closed, and why, as a condition and a description, or NULL. DONE or
    TOO_SMALL; BAD_ARGUMENT of a description without a condition. */
-AMQP1_FUNCTION int32_t amqp1_write_detach(uint8_t *out, size_t room, size_t *written, uint32_t handle, int closed,
-                                          const char *condition, const char *description)
+AMQP1_FUNCTION AMQP1_CHECKED int32_t amqp1_write_detach(uint8_t *out, size_t room, size_t *written, uint32_t handle,
+                                                        int closed, const char *condition, const char *description)
 {
     amqp1_text text = amqp1_text_at(out, room);
     size_t list = amqp1_begin_list(&text, 0x16, condition ? 3 : 2);
@@ -347,7 +359,8 @@ AMQP1_FUNCTION int32_t amqp1_write_detach(uint8_t *out, size_t room, size_t *wri
 
 /* A message whose body is these bytes: one data section (AMQP 1.0 part 3, section 3.2.6). DONE or TOO_SMALL;
    BAD_ARGUMENT of more bytes than four bytes of size can say. */
-AMQP1_FUNCTION int32_t amqp1_write_data(uint8_t *out, size_t room, size_t *written, const void *bytes, size_t length)
+AMQP1_FUNCTION AMQP1_CHECKED int32_t amqp1_write_data(uint8_t *out, size_t room, size_t *written, const void *bytes,
+                                                      size_t length)
 {
     amqp1_text text = amqp1_text_at(out, room);
     amqp1_put_byte(&text, 0x00);

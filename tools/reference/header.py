@@ -46,7 +46,7 @@ def declaration(text, it, kind):
     """The whole of a type; of a function its head."""
     head = it["text"]
     if kind == "function":
-        return re.sub(r"\n\s*", " ", re.sub(r"^AMQP1_FUNCTION ", "", head).rstrip(" {;\n")) + ";"
+        return re.sub(r"\n\s*", " ", re.sub(r"^AMQP1_FUNCTION (AMQP1_CHECKED )?", "", head).rstrip(" {;\n")) + ";"
     if kind == "constant" or not head.endswith("{"):
         return head
     return text[it.start("text") : text.index(";", text.index("}", it.end())) + 1]

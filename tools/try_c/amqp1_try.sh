@@ -111,7 +111,7 @@ python3 tools/try_c/amqp1_recorded.py >"${recorded[1]}"
 python3 tools/try_c/amqp1_corpus.py "$folder/corpus" >"$folder/said"
 for compiler in gcc clang; do
     if has $compiler "the tests by it"; then
-        for standard in c99 c11 c17; do
+        for standard in c99 c11 c17 c2x; do
             counts "$compiler, $standard" built_and_run $compiler -std=$standard "${tests[@]}" "$library/libamqp1.a"
         done
         counts "$compiler, C++17" built_and_run $compiler -x c++ -std=c++17 "${tests[@]}" -x none "$library/libamqp1.a"
