@@ -33,16 +33,21 @@ extern "C" {
 #pragma GCC diagnostic ignored "-Wstringop-overread"
 #endif
 
-/* An operation whose input is `head`, then `body`, then `rest`. For use within this header. */
+/* An operation whose input is `head`, then `body`, then `rest`. Of what is NULL there is nothing, whatever its length says.
+   For use within this header. */
 AMQP1_FUNCTION int32_t amqp1_join_and_call(amqp1 *place, uint32_t operation, const uint8_t *head, size_t head_length, const uint8_t *body,
                                            size_t body_length, const uint8_t *rest, size_t rest_length, uint8_t *output, size_t room,
                                            size_t *written)
 {
     uint8_t small[AMQP1_ON_STACK], none[1] = { 0 };
     uint8_t *input = small;
-    size_t length = head_length + body_length;
+    size_t length;
     int32_t status;
     small[0] = 0;
+    head_length = head ? head_length : 0;
+    body_length = body ? body_length : 0;
+    rest_length = rest ? rest_length : 0;
+    length = head_length + body_length;
     if (length < head_length || length + rest_length < length)
         return AMQP1_NO_MEMORY;
     length += rest_length;

@@ -155,6 +155,7 @@ static void try_no_room(void)
     try_room_of(&engine, AMQP1_STATE, "", 1);
     try_room_of(&engine, AMQP1_SESSION_STATE, "00000007", 1);
     try_room_of(&engine, AMQP1_UNFIT, "", 4);
+    CHECK(amqp1_begin(&engine, 7, NULL, 5) == AMQP1_BAD_ARGUMENT);
     CHECK(amqp1_begin(&engine, 7, NULL, 0) == AMQP1_BAD_ARGUMENT && amqp1_release(&engine, 9) == AMQP1_REFUSED);
     CHECK(amqp1_refusal(&engine, out, 0, &written) == AMQP1_TOO_SMALL && written > strlen("NoSession") && written < sizeof out);
     try_room_of(&engine, AMQP1_REFUSAL, "", written);

@@ -115,6 +115,7 @@ for compiler in gcc clang; do
             counts "$compiler, $standard" built_and_run $compiler -std=$standard "${tests[@]}" "$library/libamqp1.a"
         done
         counts "$compiler, C++17" built_and_run $compiler -x c++ -std=c++17 "${tests[@]}" -x none "$library/libamqp1.a"
+        counts "$compiler, optimized" built_and_run $compiler -std=c99 -O2 "${tests[@]}" "$library/libamqp1.a"
         counts "$compiler, sanitized" built_and_run $compiler -std=c99 "${sanitized[@]}" "${tests[@]}" "$library/libamqp1.a"
     fi
 done
