@@ -67,12 +67,10 @@ pub detach_after : {R : Type 0} (n : ℕ) (bytes : List ℕ) (flag : ℕ) (rest 
 detach_after n bytes flag rest e i a =
     (a.detach, subst (IsPerformative (its.Detach a.detach)) (same_rest (byte_at bytes) flag a.flag rest a.rest e a.has_flag) a.is_detach)
 
-pub transfer_after : {R : Type 0} (n : ℕ) (bytes : List ℕ) (handle flag count : ℕ) (after rest parts : List ℕ) → HasNumber bytes handle after
-    → HasByte after flag rest → HasNumber rest count parts → (i : Input R) → AsksTransfer n bytes i → (x : TransferModel × List ℕ) × HasTransfer count parts x
-transfer_after n bytes handle flag count after rest parts e f h i a =
-    let b : a.after ≡ after = same_rest (number_at w32 bytes) handle a.handle after a.after e a.has_handle in
-    let g : HasByte after a.flag a.rest = subst (λ t. HasByte t a.flag a.rest) b a.has_flag in
-    let d : a.rest ≡ rest = same_rest (byte_at after) flag a.flag rest a.rest f g in
+pub transfer_after : {R : Type 0} (n : ℕ) (bytes : List ℕ) (flag count : ℕ) (rest parts : List ℕ) → HasByte bytes flag rest
+    → HasNumber rest count parts → (i : Input R) → AsksTransfer n bytes i → (x : TransferModel × List ℕ) × HasTransfer count parts x
+transfer_after n bytes flag count rest parts f h i a =
+    let d : a.rest ≡ rest = same_rest (byte_at bytes) flag a.flag rest a.rest f a.has_flag in
     let k : HasNumber rest a.count a.parts = subst (λ t. HasNumber t a.count a.parts) d a.has_count in (
       a.transfer,
       subst (λ t. HasTransfer count t a.transfer) (same_rest (number_at w32 rest) count a.count parts a.parts h k)

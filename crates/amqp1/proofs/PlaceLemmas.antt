@@ -8,6 +8,8 @@ use Rattle.amqp_driver.specs.declared.head.TransferHead.{TransferHead}
 use Rattle.amqp_driver.specs.declared.plain.PlainRelay.{PlainRelay}
 use Rattle.amqp_driver.specs.declared.record.Record.{Record}
 use Rattle.amqp_driver.specs.declared.status.Status.{Status as DriverStatus}
+use Rattle.amqp_driver.specs.declared.cut.Cut.{Cut}
+use Rattle.amqp_driver.specs.Cutting.{cut_of}
 use Rattle.amqp_driver.specs.Driver.{seen}
 use Rattle.amqp_driver.specs.Sending.{Sends}
 use Rattle.amqp_driver.specs.Taking.{Takes}
@@ -21,7 +23,7 @@ use Rattle.amqp1.specs.Status.{status_number, taken_status}
 use Rattle.amqp1.specs.declared.operation.Operation.{Operation}
 use Rattle.amqp1.specs.declared.status.Status.{Status}
 use Rattle.amqp1.specs.declared.status.Status.TheVariants as status
-use Rattle.amqp1.specs.Place.{CallsThere, MadeThere, SendsThere, TakesThere}
+use Rattle.amqp1.specs.Place.{CallsThere, CutsThere, MadeThere, SendsThere, TakesThere}
 
 -- what is said of what is there is so
 pub of_some : {B : Type 0} (P : B → Type 0) (r : Option B) (x : B) → r ≡ Some x → IsSomeAnd r P → P x
@@ -98,4 +100,25 @@ sends_there g before after heads bytes old new z a s was is b f e sends last = r
   status_is = kept (taken_status s) z e ∙ e;
   sends = sends;
   last_is = last;
+}
+
+-- a head was cut by the driver of a client that lies in a place again
+pub cuts_there : (before after : Option ClientView) (head : TransferHead) (bytes : List ℕ) (old new : Cut) (z : ℤ) (was : ClientView)
+    → before ≡ Some was → after ≡ Some was → z ≡ pos (status_number status.Done) → new ≡ cut_of was.driver.engine.limit head bytes
+    → CutsThere before head bytes old (to_z w32 (of_z w32 z)) new after
+cuts_there before after head bytes old new z was b f e is = record {
+  was = was;
+  lay_there = b;
+  lies_there = f;
+  cuts = inl (kept status.Done z e ∙ e, is);
+}
+
+pub cuts_none : (before after : Option ClientView) (head : TransferHead) (bytes : List ℕ) (old new : Cut) (z : ℤ) (was : ClientView)
+    → before ≡ Some was → after ≡ Some was → z ≡ pos (status_number status.NoMemory) → new ≡ old → SomeRefused
+    → CutsThere before head bytes old (to_z w32 (of_z w32 z)) new after
+cuts_none before after head bytes old new z was b f e is r = record {
+  was = was;
+  lay_there = b;
+  lies_there = f;
+  cuts = inr (kept status.NoMemory z e ∙ e, is, r);
 }

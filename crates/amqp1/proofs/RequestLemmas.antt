@@ -1,9 +1,8 @@
 -- What becomes of one request.
-use Rattle.std.proofs.Common.{◌≡◌, ◌∷◌, ℕ, List, [], Bool, Option, Some, None, Result, Ok, Err, OnOk, OnErr, ap, refl, sym, subst, ◌∙◌}
+use Rattle.std.proofs.Common.{◌≡◌, ◌∷◌, ℕ, List, [], Option, Some, None, Result, Ok, Err, OnOk, OnErr, ap, refl, sym, subst, ◌∙◌}
 use Rattle.std.specs.Int.{w32}
 use Rattle.amqp_memory.specs.Refusal.{SomeRefused}
 use Rattle.amqp_values.specs.Reading.{number_at, byte_at}
-use Rattle.amqp_types.specs.declared.definitions.Role.{Role}
 use Rattle.amqp_session.specs.Relay.{Relays}
 use Rattle.amqp_frames.specs.declared.frame.Frame.{Frame}
 use Rattle.amqp_engine.specs.declared.engine.input.Input.{Input}
@@ -22,7 +21,7 @@ use Rattle.amqp1.specs.Disposing.{AsksDispose, HasDispose}
 use Rattle.amqp1.specs.Refused.{last_by}
 use Rattle.amqp1.specs.Client.{OutputStatus}
 use Rattle.amqp1.specs.Status.{flushed_status, status_of}
-use Rattle.amqp1.proofs.AskingLemmas.{same_number, same_rest}
+use Rattle.amqp1.proofs.AskingLemmas.{same_rest}
 
 -- a driver ran the input, and the answer was kept
 pub runs_one : (g : Relays PlainRelay) (c : ClientView) (i : Input PlainRelay) (a : Asked) (d : DriverView PlainRelay) (s : Status) (c' : ClientView)

@@ -14,8 +14,8 @@ use Rattle.amqp1.specs.Asking.{Asks}
 use Rattle.amqp1.specs.ClientView.{ClientView}
 use Rattle.amqp1.specs.Disposing.{AsksDispose}
 use Rattle.amqp1.specs.Linking.{Allots, LinkModel}
-use Rattle.amqp1.specs.Matching.{is_matched}
-use Rattle.amqp1.specs.Refused.{last_by, unmatched}
+use Rattle.amqp1.specs.Finding.{found, is_unlinked}
+use Rattle.amqp1.specs.Refused.{last_by, unattached}
 use Rattle.amqp1.specs.Status.{status_of}
 
 -- The driver runs this one input, once; the status says what became of it, and a refusal is kept.
@@ -27,21 +27,22 @@ RunsOne g c i s c' = (a : Asked) × Requests g c.driver i a c'.driver × (s ≡ 
 abbrev pub NoneGranted : ClientView → Status → ClientView → Type 0
 NoneGranted c s c' = (s ≡ status.NoMemory) × (c' ≡ c) × SomeRefused
 
--- The input is run; or its two handles are not those of one link, and it is refused by name: nothing else changes.
-abbrev pub RunsMatched : Relays PlainRelay → ClientView → Input PlainRelay → Status → ClientView → Type 0
-RunsMatched g c i s c' =
-    ((is_matched c.driver.engine i ≡ true) × RunsOne g c i s c')
-    ⊎ ((is_matched c.driver.engine i ≡ false) × (s ≡ status.Refused) × (c' ≡ record c { last = unmatched }))
+-- The input is run, with the peer's handle where it is a transfer; or the transfer's link is not attached, and it is refused by name: nothing
+-- else changes.
+abbrev pub RunsFound : Relays PlainRelay → ClientView → Input PlainRelay → Status → ClientView → Type 0
+RunsFound g c i s c' =
+    ((is_unlinked c.driver.engine i ≡ false) × RunsOne g c (found c.driver.engine i) s c')
+    ⊎ ((is_unlinked c.driver.engine i ≡ true) × (s ≡ status.Refused) × (c' ≡ record c { last = unattached }))
 
 -- the bytes do not have the operation's form
 abbrev pub AsksNothing : Operation → List ℕ → ClientView → Status → ClientView → Type 0
 AsksNothing o input c s c' = (s ≡ status.BadArgument) × (c' ≡ c) × ((i : Input PlainRelay) → ¬ Asks o input i)
 
--- the bytes ask for this one input, and it is run, or is refused for its two handles
+-- the bytes ask for this one input, and it is run, or is refused for its link
 abbrev pub AnswersSome : Relays PlainRelay → Operation → List ℕ → ClientView → Status → ClientView → Type 0
-AnswersSome g o input c s c' = (i : Input PlainRelay) × Asks o input i × RunsMatched g c i s c'
+AnswersSome g o input c s c' = (i : Input PlainRelay) × Asks o input i × RunsFound g c i s c'
 
--- The bytes do not have the operation's form; or memory was refused for what they ask for; or that is run, or refused for its two handles.
+-- The bytes do not have the operation's form; or memory was refused for what they ask for; or that is run, or refused for its link.
 abbrev pub Answers : Relays PlainRelay → Operation → List ℕ → ClientView → Status → ClientView → Type 0
 Answers g o input c s c' = AsksNothing o input c s c' ⊎ (NoneGranted c s c' ⊎ AnswersSome g o input c s c')
 

@@ -101,21 +101,19 @@ abbrev pub AsksFlow : {R : Type 0} → ℕ → List ℕ → Input R → Type 0
 AsksFlow n rest i = (f : FlowModel) × (part : LinkFlow) × IsPerformative (its.Flow f) rest × (link_part f ≡ Some part)
     × (i ≡ input.Flow (record { 0 = n }) part)
 
+-- the peer's handle is no part of the bytes: it is found by the link's
 pub record AsksTransfer {R : Type 0} (n : ℕ) (bytes : List ℕ) (i : Input R) : Type 0 where
-  pub handle : ℕ
   pub flag : ℕ
   pub first : Bool
   pub count : ℕ
-  pub after : List ℕ
   pub rest : List ℕ
   pub parts : List ℕ
   pub transfer : TransferModel × List ℕ
-  pub has_handle : HasNumber bytes handle after
-  pub has_flag : HasByte after flag rest
+  pub has_flag : HasByte bytes flag rest
   pub first_is : flag_of flag ≡ Some first
   pub has_count : HasNumber rest count parts
   pub has_transfer : HasTransfer count parts transfer
-  pub input_is : i ≡ input.Transfer (record { 0 = n }) (record { 0 = handle }) transfer.0 transfer.1 first
+  pub input_is : i ≡ input.Transfer (record { 0 = n }) (record { 0 = 0 }) transfer.0 transfer.1 first
 
 abbrev pub AsksDisposition : {R : Type 0} → ℕ → List ℕ → Input R → Type 0
 AsksDisposition n rest i = (d : DispositionModel) × IsPerformative (its.Disposition d) rest × (i ≡ input.Disposition (record { 0 = n }) d)

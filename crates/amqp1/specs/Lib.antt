@@ -5,7 +5,7 @@ pub mod ClientView
 pub mod Disposing
 pub mod Linking
 pub mod Making
-pub mod Matching
+pub mod Finding
 pub mod Names
 pub mod Operation
 pub mod Place

@@ -1,6 +1,6 @@
 -- Part: other calls; inner.
 -- Links: what allots a handle to one.
-use Rattle.std.specs.Prelude.{◌≡◌, ◌⊎◌, ℕ, List, Option, Some, None, false, string_bytes}
+use Rattle.std.specs.Prelude.{◌≡◌, ℕ, List, Option, Some, None, false, string_bytes}
 use Rattle.std.specs.Str.{IsUtf8}
 use Rattle.amqp_types.specs.declared.definitions.ReceiverSettleMode.{ReceiverSettleMode}
 use Rattle.amqp_types.specs.declared.definitions.Role.{Role}

@@ -1,12 +1,15 @@
 -- Part: other calls.
 -- What the exports do to a place, by what lies there before and afterwards. Assumes nothing: these are definitions.
 use Rattle.std.specs.Prelude.{◌≡◌, ◌⊎◌, ℕ, ℤ, pos, List, Option, Some, Ok, Err}
+use Rattle.amqp_memory.specs.Refusal.{SomeRefused}
 use Rattle.amqp_session.specs.Relay.{Relays}
+use Rattle.amqp_driver.specs.declared.cut.Cut.{Cut}
 use Rattle.amqp_driver.specs.declared.head.Sent.{Sent}
 use Rattle.amqp_driver.specs.declared.head.TransferHead.{TransferHead}
 use Rattle.amqp_driver.specs.declared.plain.PlainRelay.{PlainRelay}
 use Rattle.amqp_driver.specs.declared.record.Record.{Record}
 use Rattle.amqp_driver.specs.declared.status.Status.{Status as DriverStatus}
+use Rattle.amqp_driver.specs.Cutting.{cut_of}
 use Rattle.amqp_driver.specs.Driver.{seen}
 use Rattle.amqp_driver.specs.Sending.{Sends}
 use Rattle.amqp_driver.specs.Taking.{Takes}
@@ -53,6 +56,14 @@ pub record TakesThere (g : Relays PlainRelay) (before : Option ClientView) (inpu
   pub takes : Takes g was.driver.engine.connection.local_open.max_frame_size was.driver (seen input) old
       why answer.taken answer.written answer.wanted is.driver new
   pub last_is : is.last ≡ was.last
+
+-- A head is cut by the limit of the peer of the client that lay there, and that client lies there again. Or memory was refused.
+pub record CutsThere (before : Option ClientView) (head : TransferHead) (bytes : List ℕ) (old : Cut) (z : ℤ) (new : Cut)
+    (after : Option ClientView) : Type 0 where
+  pub was : ClientView
+  pub lay_there : before ≡ Some was
+  pub lies_there : after ≡ Some was
+  pub cuts : (Is z status.Done × (new ≡ cut_of was.driver.engine.limit head bytes)) ⊎ (Is z status.NoMemory × (new ≡ old) × SomeRefused)
 
 -- the driver of the client that lay there sends transfers, and that client lies there again
 pub record SendsThere (g : Relays PlainRelay) (before : Option ClientView) (heads : List TransferHead) (bytes : List ℕ) (old : List Sent) (z : ℤ)

@@ -1,6 +1,6 @@
 -- Part: other calls.
 -- The last refusal of a request: its name, and the condition that answers a frame that is refused so, or the peer's own error.
-use Rattle.std.specs.Prelude.{◌≡◌, [], ℕ, List, Option, Some, None, codes}
+use Rattle.std.specs.Prelude.{[], ℕ, List, Option, Some, None, codes}
 use Rattle.amqp_types.specs.Error.{ErrorModel}
 use Rattle.amqp_types.specs.declared.states.ConnectionState.{ConnectionState}
 use Rattle.amqp_session.specs.declared.error.SessionStateError.TheVariants as session
@@ -28,9 +28,9 @@ nothing = record { name = []; condition = []; peer = None }
 abbrev pub too_large : RefusedModel
 too_large = record { name = codes "TooLarge"; condition = []; peer = None }
 
--- the two handles of a transfer that is requested are not those of one link
-abbrev pub unmatched : RefusedModel
-unmatched = record { name = codes "UnattachedHandle"; condition = []; peer = None }
+-- the link of a transfer that is requested is not attached by the peer
+abbrev pub unattached : RefusedModel
+unattached = record { name = codes "UnattachedHandle"; condition = []; peer = None }
 
 -- the condition that an End or a Close carries
 abbrev pub condition_said : Option PeerAnswer → List ℕ

@@ -2,7 +2,7 @@
 -- What a client tells of itself.
 use Rattle.std.specs.Prelude.{◌≡◌, ◌⊎◌, ◌≤◌, ◌^◌, ◌∷◌, ◌++◌, [], ℕ, List, length, Option, Some, None, nat_eq}
 use Rattle.std.specs.FinMap as map
-use Rattle.std.specs.Int.{w16, w32, to_be_bytes, from_be_bytes}
+use Rattle.std.specs.Int.{w32, to_be_bytes}
 use Rattle.std.specs.Map.{lookup}
 use Rattle.amqp_memory.specs.Refusal.{RefusedWithin}
 use Rattle.amqp_types.specs.Error.{ErrorModel}

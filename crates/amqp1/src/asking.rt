@@ -214,10 +214,7 @@ fn flow<R>(alloc: Global, session: u32, input: &[u8]) -> Result<Input<R>, ReadEr
 fn transfer<R>(alloc: Global, session: u32, input: &[u8]) -> Result<Input<R>, ReadError>
     ensures { Reads (AsksTransfer session input.now) result }
 {
-    let Some((handle, after)) = reading::number(input) else {
-        return Err(ReadError::Malformed);
-    };
-    let Some((flag, rest)) = reading::byte(after) else {
+    let Some((flag, rest)) = reading::byte(input) else {
         return Err(ReadError::Malformed);
     };
     let Some(first) = reading::flag(flag) else {
@@ -229,7 +226,7 @@ fn transfer<R>(alloc: Global, session: u32, input: &[u8]) -> Result<Input<R>, Re
     match reading::transfer_and_payload(alloc, count, parts) {
         Ok((transfer, payload)) => Ok(Input::Transfer(
             SessionNo(session),
-            InputHandle(handle),
+            InputHandle(0),
             transfer,
             payload,
             first,

@@ -1,8 +1,10 @@
 //! A client: one side of a connection.
 
-ghost use Rattle.std.specs.Prelude.{◌≡◌, ◌≤◌, Ok, Option, drop, length};
+ghost use Rattle.std.specs.Prelude.{◌≡◌, ◌≤◌, IfOk, Ok, OnErr, Option, drop, length};
+ghost use Rattle.amqp_memory.specs.Refusal.{SomeRefused};
 ghost use Rattle.amqp_types.specs.Performatives.{IsPerformative};
 ghost use Rattle.amqp_types.specs.declared.performatives.Performative.TheVariants as its;
+ghost use Rattle.amqp_driver.specs.Cutting.{cut_of};
 ghost use Rattle.amqp_driver.specs.Driver.{seen};
 ghost use Rattle.amqp_driver.specs.Sending.{Sends};
 ghost use Rattle.amqp_driver.specs.Taking.{Takes};
@@ -21,11 +23,11 @@ use crate::operation::{Group, Operation};
 use crate::reading;
 use crate::refused::Refused;
 use crate::status::Status;
-use amqp_driver::{Driver, PlainRelay, Posted, Record, Sent, Taken, TransferHead};
+use amqp_driver::{Cut, Driver, PlainRelay, Posted, Record, Sent, Taken, TransferHead};
 use amqp_session::LinkRelay;
 use amqp_types::{ConnectionState, Open, ReadError};
 use bytes::BytesMut;
-use std::alloc::Global;
+use std::alloc::{AllocError, Global};
 use std::marker::Model;
 
 /// The bytes of a new client's key, which stand before its Open.
@@ -149,6 +151,14 @@ impl Client {
         ensures last { self.new.last ≡ self.old.last }
     {
         self.driver.send(heads, bytes, sent)
+    }
+
+    /// Cuts a head whose payload is longer than a frame, by [`Driver::cut`].
+    pub fn cut(&self, head: &TransferHead, bytes: &[u8]) -> Result<Cut, AllocError>
+        ensures ok { IfOk result (λ c. c ≡ cut_of self.now.driver.engine.limit head.now bytes.now) }
+        ensures refused { OnErr result SomeRefused }
+    {
+        self.driver.cut(head, bytes)
     }
 
     /// Does the operation of this number, as [`Client::perform`] does, and answers the status by its number. 4 (`BadArgument`) and 0 where no

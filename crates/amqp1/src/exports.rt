@@ -3,12 +3,12 @@
 ghost use Rattle.std.specs.Prelude.{◌≡◌, ◌<◌, ◌⊎◌, Some};
 ghost use Rattle.amqp_memory.specs.Refusal.{SomeRefused};
 ghost use Rattle.amqp1.specs.declared.status.Status.TheVariants as status;
-ghost use Rattle.amqp1.specs.Place.{CallsThere, Is, MadeThere, SendsThere, TakesThere};
+ghost use Rattle.amqp1.specs.Place.{CallsThere, CutsThere, Is, MadeThere, SendsThere, TakesThere};
 
 use crate::client::Client;
 use crate::place::Place;
 use crate::status::Status;
-use amqp_driver::{PlainRelay, Record, Sent, TransferHead};
+use amqp_driver::{Cut, PlainRelay, Record, Sent, TransferHead};
 use amqp_memory::boxed;
 use amqp_session::LinkRelay;
 use std::alloc::Global;
@@ -164,6 +164,36 @@ pub extern "C" fn amqp1_send(
             answer.used = went.used;
             *place = Place::of(client);
             Status::of_driver(went.status).number()
+        }
+    }
+}
+
+/// Cuts a head whose payload is longer than a frame, by `Driver::cut`: what comes of it goes to `answer`. `NO_MEMORY`, and nothing is written, where
+/// memory was refused for a copy of the tag. `NO_ENGINE`, and nothing is written, where no client lies in the place.
+#[unsafe(no_mangle)]
+pub extern "C" fn amqp1_cut(
+    alloc: Global,
+    place: &mut Place,
+    head: &TransferHead,
+    bytes: &[u8],
+    answer: &mut Cut,
+) -> i32
+    ensures empty { place.old.full ≡ 0 →
+        Is result status.NoEngine × (place.new.full ≡ 0) × (answer.new ≡ answer.old) }
+    ensures cut { 0 < place.old.full → (0 < place.new.full)
+        × CutsThere place.old.slot.held head.now bytes.now answer.old result answer.new place.new.slot.held }
+{
+    let old = std::mem::replace(place, Place::empty(alloc));
+    match old.into_client() {
+        None => Status::NoEngine.number(),
+        Some(client) => {
+            let cut = client.cut(head, bytes);
+            *place = Place::of(client);
+            let Ok(cut) = cut else {
+                return Status::NoMemory.number();
+            };
+            *answer = cut;
+            Status::Done.number()
         }
     }
 }

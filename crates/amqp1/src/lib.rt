@@ -1,4 +1,4 @@
-//! The library for C: an engine in a place that the caller keeps, and six functions over it.
+//! The library for C: an engine in a place that the caller keeps, and seven functions over it.
 //!
 //! An engine is one side of a connection: an `amqp_driver::Driver`, and the last refusal of a request. It lies in a [`place::Place`], or nothing
 //! does. `amqp1_new` makes it, `amqp1_take` runs received frames and writes a record of each, `amqp1_send` sends transfers, `amqp1_call` does one
@@ -34,7 +34,7 @@
 //! | 10 | `Attach` | u32 session, PERF | an Attach is to be sent |
 //! | 11 | `Detach` | u32 session, u8 (1 where the peer is to answer), PERF | a Detach is to be sent |
 //! | 12 | `Flow` | u32 session, PERF of a Flow with a handle | a Flow is to be sent |
-//! | 13 | `Transfer` | u32 session, u32 input handle, u8 (1 for the first of its delivery), u32 length of PERF, PERF, payload | a Transfer is to be sent, of the live link that has both the input handle and the handle of PERF |
+//! | 13 | `Transfer` | u32 session, u8 (1 for the first of its delivery), u32 length of PERF, PERF, payload | a Transfer is to be sent, of the link that has the handle of PERF |
 //! | 14 | `Disposition` | u32 session, PERF | a Disposition is to be sent |
 //! | 15 | `Settle` | u32 session, u8 role, u32 first, u32 last | deliveries that this side settles are let go |
 //! | 16 | `Output` | none | bytes that are to be sent, as many as fit: they are taken off |
@@ -54,9 +54,9 @@
 //! Each export but the last two answers a status. 6 is never used.
 //!
 //! - 0 `DONE`. Of `amqp1_take`: what is left is no whole frame. Of `amqp1_send`: no head is left.
-//! - 1 `REFUSED`, of a request, by a name, which `Refusal` gives. In a session that is mapped a transfer whose two handles are not those of one link
-//!   (the peer's attach came on the one, and no detach of either side since; the other was allotted to that link) is refused `UnattachedHandle`,
-//!   and is not run. Where a frame of the request does not fit the peer's limit the name is `TooLarge`: the request was accepted, and that frame
+//! - 1 `REFUSED`, of a request, by a name, which `Refusal` gives. In a session that is mapped a transfer whose link is not attached (the
+//!   peer's attach came for no live link that has the handle, or a detach of either side since) is refused `UnattachedHandle`, and is not
+//!   run. Where a frame of the request does not fit the peer's limit the name is `TooLarge`: the request was accepted, and that frame
 //!   is not sent.
 //! - 2 `NO_MEMORY`: memory was refused, and the request, the frame or the transfer was not taken; it may be asked again. `Output` answers it where
 //!   some waits in the engine still; what it wrote is to be sent all the same.
@@ -76,8 +76,8 @@
 //!
 //! `specs/Place` has the contracts. `amqp1_take` and `amqp1_send` promise all that `Driver::take` and `Driver::send` do: which frames were run,
 //! each once and in order, and the record of each; which heads were handled, and what became of each. `specs/Client` says of each operation what
-//! it does. A request is one run of the engine with the one input that its bytes ask for, or its bytes ask for none, or for a transfer whose two
-//! handles are not those of one link (`specs/Matching`). What `Output` writes is a front of what waits, as much as fits, and waits no longer. The
+//! it does. A request is one run of the engine with the one input that its bytes ask for, or its bytes ask for none, or for a transfer whose
+//! link is not attached (`specs/Finding`). What `Output` writes is a front of what waits, as much as fits, and waits no longer. The
 //! name of a number is that of each refusal that has it (`specs/Names`). An output that is too small stays as it is, and so does all else.
 //!
 //! What is not: that the caller keeps the place as `amqp1.h` says. No contract says that the key is used, nor that memory is granted. The tests of
@@ -88,9 +88,9 @@ mod asking;
 mod client;
 mod disposing;
 mod exports;
+mod finding;
 mod key;
 mod linking;
-mod matching;
 mod names;
 mod operation;
 mod place;

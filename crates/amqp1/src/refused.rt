@@ -1,7 +1,7 @@
 //! The last refusal: its name, and the condition that answers it, or the error with which the peer ended or closed.
 
 ghost use Rattle.std.specs.Prelude.{◌≡◌};
-ghost use Rattle.amqp1.specs.Refused.{nothing, too_large, unmatched, refused_of, condition_said, peer_error};
+ghost use Rattle.amqp1.specs.Refused.{nothing, too_large, unattached, refused_of, condition_said, peer_error};
 
 use amqp_connection::ConnectionStateError;
 use amqp_engine::StepError;
@@ -52,9 +52,9 @@ impl Refused {
         }
     }
 
-    /// The two handles of a transfer are not those of one link.
-    pub(crate) fn unmatched() -> Refused
-        ensures { result ≡ unmatched }
+    /// The link of a transfer is not attached by the peer.
+    pub(crate) fn unattached() -> Refused
+        ensures { result ≡ unattached }
     {
         Refused {
             name: "UnattachedHandle",

@@ -7,3 +7,4 @@ pub mod LawLemmas
 pub mod SendingLemmas
 pub mod FlushLemmas
 pub mod FieldLemmas
+pub mod CuttingLemmas

@@ -5,7 +5,6 @@ use Rattle.std.proofs.lemmas.Option.{slice_get-get_or}
 use Rattle.std.proofs.Math.ListN.{drop_of_length-le}
 use Rattle.std.proofs.Math.Seq.{take-add}
 use Rattle.std.specs.List.{slice_range}
-use Rattle.std.specs.Option.{option_map}
 use Rattle.bytes.proofs.Ranges.{drop-take_less}
 use Rattle.amqp_values.specs.Reading.{joined}
 use Rattle.amqp_types.specs.Transfer.{TransferModel, widest}
@@ -20,7 +19,7 @@ use Rattle.amqp_engine.specs.EngineView.{EngineView}
 use Rattle.amqp_engine.specs.Entry.{Entry}
 use Rattle.amqp_engine.specs.RunInto.{RanInto}
 use Rattle.amqp_engine.specs.RunOne.{RanOne, RunsOne}
-use Rattle.amqp_session.specs.declared.numbers.OutputHandle.{OutputHandle}
+use Rattle.amqp_session.specs.declared.numbers.InputHandle.{InputHandle}
 use Rattle.amqp_driver.specs.declared.asked.Asked.{Asked}
 use Rattle.amqp_driver.specs.declared.asked.Asked.TheVariants as asked
 use Rattle.amqp_driver.specs.declared.head.TransferHead.{TransferHead}
@@ -28,8 +27,7 @@ use Rattle.amqp_driver.specs.declared.head.Sent.{Sent}
 use Rattle.amqp_driver.specs.declared.status.Posted.{Posted}
 use Rattle.amqp_driver.specs.declared.status.Status.TheVariants as status
 use Rattle.amqp_driver.specs.Driver.{DriverView, NotRun, counted}
-use Rattle.amqp_driver.specs.Heads.{FindsOutput, has, has_room, is_unattached, number_in, output_in, refused_as, sent_by, sent_of, tag_in, transfer_in, transfer_of, unsendable}
-use Rattle.amqp_driver.specs.Record.{number_or}
+use Rattle.amqp_driver.specs.Heads.{FindsInput, handle_in, has, has_room, input_of, is_unattached, number_in, refused_as, sent_by, sent_of, tag_in, transfer_in, transfer_of, unsendable}
 use Rattle.amqp_driver.specs.Refusals.{refusal_number}
 use Rattle.amqp_driver.specs.Requests.{Requests, RunsInput, asked_by, asked_of, has_own, is_own}
 use Rattle.amqp_driver.specs.Sending.{Handled, Handles, HandlesBy, HandlesEach, Posts, Sends, SendsTransfer, size_of}
@@ -127,40 +125,43 @@ payload_part xs at tag payload = sym (drop-take_less (drop at xs) tag (tag + pay
 
 -- ---- the run of a transfer
 
-module _ {R : Type 0} (g : Relays R) (d d' : DriverView R) (h : TransferHead) (t : TransferModel) (payload : List ℕ) where
-  pub sends_none : Requests g d (input.Transfer (record { 0 = h.session }) (record { 0 = h.link }) t payload (has h.flags 1)) asked.NoMemory d' → NotRun g d d'
+module _ {R : Type 0} (g : Relays R) (d d' : DriverView R) (h : TransferHead) (i : InputHandle) (t : TransferModel) (payload : List ℕ) where
+  pub sends_none : Requests g d (input.Transfer (record { 0 = h.session }) i t payload (has h.flags 1)) asked.NoMemory d' → NotRun g d d'
   sends_none r = (r.0, inr r.1)
 
   pub sends_refused : (x : StepError) (n : ℕ)
-      → Requests g d (input.Transfer (record { 0 = h.session }) (record { 0 = h.link }) t payload (has h.flags 1)) (asked.Refused x) d'
-      → n ≡ refusal_number x → SendsTransfer g d h t payload (Some (refused_as n)) d'
+      → Requests g d (input.Transfer (record { 0 = h.session }) i t payload (has h.flags 1)) (asked.Refused x) d'
+      → n ≡ refusal_number x → SendsTransfer g d h i t payload (Some (refused_as n)) d'
   sends_refused x n r e =
       let is : r.0.refusal ≡ Some x = refused_means r.0.refusal (has_own r.1) x r.3 in
       (r.0, r.1, r.2, ap refused_as e ∙ sym (ap (λ (y : Option StepError). sent_of d.engine h y) is))
 
   sends_some : (e : Entry R) (returned : List Refusal) (n : ℕ)
-      → RunsInput g d (input.Transfer (record { 0 = h.session }) (record { 0 = h.link }) t payload (has h.flags 1)) e returned d'
+      → RunsInput g d (input.Transfer (record { 0 = h.session }) i t payload (has h.flags 1)) e returned d'
       → e.refusal ≡ None → n ≡ number_in (session_at d.engine (Some h.session)) (has h.flags 1)
-      → SendsTransfer g d h t payload (Some (record { number = n; refusal = 0 })) d'
+      → SendsTransfer g d h i t payload (Some (record { number = n; refusal = 0 })) d'
   sends_some e returned n r is k =
       (e, returned, r, ap (λ (m : ℕ). sent_by None m) k ∙ sym (ap (λ (y : Option StepError). sent_of d.engine h y) is))
 
-  pub sends_done : (n : ℕ) → Requests g d (input.Transfer (record { 0 = h.session }) (record { 0 = h.link }) t payload (has h.flags 1)) asked.Done d'
-      → n ≡ number_in (session_at d.engine (Some h.session)) (has h.flags 1) → SendsTransfer g d h t payload (Some (record { number = n; refusal = 0 })) d'
+  pub sends_done : (n : ℕ) → Requests g d (input.Transfer (record { 0 = h.session }) i t payload (has h.flags 1)) asked.Done d'
+      → n ≡ number_in (session_at d.engine (Some h.session)) (has h.flags 1) → SendsTransfer g d h i t payload (Some (record { number = n; refusal = 0 })) d'
   sends_done n r k = sends_some r.0 r.1 n r.2 (done_means r.0.refusal (has_own r.1) r.3) k
 
-  pub sends_large : (n : ℕ) → Requests g d (input.Transfer (record { 0 = h.session }) (record { 0 = h.link }) t payload (has h.flags 1)) asked.TooLarge d'
-      → n ≡ number_in (session_at d.engine (Some h.session)) (has h.flags 1) → SendsTransfer g d h t payload (Some (record { number = n; refusal = 0 })) d'
+  pub sends_large : (n : ℕ) → Requests g d (input.Transfer (record { 0 = h.session }) i t payload (has h.flags 1)) asked.TooLarge d'
+      → n ≡ number_in (session_at d.engine (Some h.session)) (has h.flags 1) → SendsTransfer g d h i t payload (Some (record { number = n; refusal = 0 })) d'
   sends_large n r k = sends_some r.0 r.1 n r.2 (large_means r.0.refusal (has_own r.1) r.3) k
 
 -- ---- one head
 
 -- the transfer that is run is the one that the head says
-pub transfer_is : {R : Type 0} (v : EngineView R) (h : TransferHead) (bytes : List ℕ) (o : OutputHandle) (tag : Option (List ℕ)) (t : TransferModel)
-    → FindsOutput (session_at v (Some h.session)) h.link (Some o) → tag ≡ tag_in h bytes → t ≡ transfer_of h o.0 tag → t ≡ transfer_in v h bytes
-transfer_is v h bytes o tag t f e is =
-    is ∙ ap (λ (n : ℕ). transfer_of h n tag) f.1
-    ∙ ap (λ (x : Option (List ℕ)). transfer_of h (number_or 0 (option_map (λ o. o.0) (output_in (session_at v (Some h.session)) h.link))) x) e
+pub transfer_is : (h : TransferHead) (bytes : List ℕ) (tag : Option (List ℕ)) (t : TransferModel) → tag ≡ tag_in h bytes → t ≡ transfer_of h tag
+    → t ≡ transfer_in h bytes
+transfer_is h bytes tag t e is = is ∙ ap (λ (x : Option (List ℕ)). transfer_of h x) e
+
+-- so is the handle under which it is run
+handle_is : {R : Type 0} (v : EngineView R) (h : TransferHead) (i : InputHandle) → FindsInput (session_at v (Some h.session)) h.link (Some i)
+    → i ≡ handle_in v h.session h.link
+handle_is v h i f = ap (λ (n : ℕ). let x : InputHandle = record { 0 = n } in x) f.1
 
 long_tag : {R : Type 0} (v : EngineView R) (h : TransferHead) (bytes : List ℕ) → nat_lt 32 h.tag_size ≡ true → unsendable v h bytes ≡ Some 92
 long_tag v h bytes e = rw e refl
@@ -171,44 +172,47 @@ unattached v h bytes e f = rw (e, f) refl
 
 too_long : {R : Type 0} (v : EngineView R) (h : TransferHead) (bytes : List ℕ) → nat_lt 32 h.tag_size ≡ false
     → is_unattached (session_at v (Some h.session)) h.link ≡ false
-    → has_room (room_beside (widest (transfer_in v h bytes)) v.limit) h.payload ≡ false → unsendable v h bytes ≡ Some 91
+    → has_room (room_beside (widest (transfer_in h bytes)) v.limit) h.payload ≡ false → unsendable v h bytes ≡ Some 91
 too_long v h bytes e f r = rw (e, f, r) refl
 
 sendable : {R : Type 0} (v : EngineView R) (h : TransferHead) (bytes : List ℕ) → nat_lt 32 h.tag_size ≡ false
     → is_unattached (session_at v (Some h.session)) h.link ≡ false
-    → has_room (room_beside (widest (transfer_in v h bytes)) v.limit) h.payload ≡ true → unsendable v h bytes ≡ None
+    → has_room (room_beside (widest (transfer_in h bytes)) v.limit) h.payload ≡ true → unsendable v h bytes ≡ None
 sendable v h bytes e f r = rw (e, f, r) refl
 
 module _ {R : Type 0} (g : Relays R) (d : DriverView R) (h : TransferHead) (bytes : List ℕ) where
   pub handles_long : 32 < h.tag_size → Handles g d h bytes (Some (refused_as 92)) d
   handles_long l = (None, (92, long_tag d.engine h bytes (let k : nat_lt 32 h.tag_size ≡ true = grind arith in k), refl, refl))
 
-  pub handles_unattached : h.tag_size ≤ 32 → FindsOutput (session_at d.engine (Some h.session)) h.link None → Handles g d h bytes (Some (refused_as 61)) d
+  pub handles_unattached : h.tag_size ≤ 32 → FindsInput (session_at d.engine (Some h.session)) h.link None → Handles g d h bytes (Some (refused_as 61)) d
   handles_unattached l f = (None, (61, unattached d.engine h bytes (let k : nat_lt 32 h.tag_size ≡ false = grind arith in k) f, refl, refl))
 
-  module _ (o : OutputHandle) (tag : Option (List ℕ)) (t : TransferModel) (l : h.tag_size ≤ 32)
-      (f : FindsOutput (session_at d.engine (Some h.session)) h.link (Some o)) (e : tag ≡ tag_in h bytes) (is : t ≡ transfer_of h o.0 tag) where
+  module _ (i : InputHandle) (tag : Option (List ℕ)) (t : TransferModel) (l : h.tag_size ≤ 32)
+      (f : FindsInput (session_at d.engine (Some h.session)) h.link (Some i)) (e : tag ≡ tag_in h bytes) (is : t ≡ transfer_of h tag) where
     room_is : (b : Bool) → b ≡ has_room (room_beside (widest t) d.engine.limit) h.payload
-        → has_room (room_beside (widest (transfer_in d.engine h bytes)) d.engine.limit) h.payload ≡ b
-    room_is b r = sym (r ∙ ap (λ (x : TransferModel). has_room (room_beside (widest x) d.engine.limit) h.payload) (transfer_is d.engine h bytes o tag t f e is))
+        → has_room (room_beside (widest (transfer_in h bytes)) d.engine.limit) h.payload ≡ b
+    room_is b r = sym (r ∙ ap (λ (x : TransferModel). has_room (room_beside (widest x) d.engine.limit) h.payload) (transfer_is h bytes tag t e is))
 
     pub handles_large : false ≡ has_room (room_beside (widest t) d.engine.limit) h.payload → Handles g d h bytes (Some (refused_as 91)) d
     handles_large r =
         (None, (91, too_long d.engine h bytes (let k : nat_lt 32 h.tag_size ≡ false = grind arith in k) f.0 (room_is false r), refl, refl))
 
+    -- the input that is run, by its parts
+    run_of : (e : Entry R) (returned : List Refusal) (d' : DriverView R) (payload : List ℕ) → payload ≡ drop h.tag_size bytes
+        → RunsInput g d (input.Transfer (record { 0 = h.session }) i t payload (has h.flags 1)) e returned d'
+        → RunsInput g d (input_of d.engine h bytes) e returned d'
+    run_of x returned d' payload p r =
+        subst (λ (y : List ℕ). RunsInput g d (input.Transfer (record { 0 = h.session }) (handle_in d.engine h.session h.link) (transfer_in h bytes) y (has h.flags 1)) x returned d') p
+        (subst (λ (y : TransferModel). RunsInput g d (input.Transfer (record { 0 = h.session }) (handle_in d.engine h.session h.link) y payload (has h.flags 1)) x returned d')
+        (transfer_is h bytes tag t e is)
+        (subst (λ (y : InputHandle). RunsInput g d (input.Transfer (record { 0 = h.session }) y t payload (has h.flags 1)) x returned d') (handle_is d.engine h i f) r))
+
     pub handles_sent : (d' : DriverView R) (payload : List ℕ) (sent : Option Sent) → true ≡ has_room (room_beside (widest t) d.engine.limit) h.payload
-        → payload ≡ drop h.tag_size bytes → SendsTransfer g d h t payload sent d' → Handles g d h bytes sent d'
+        → payload ≡ drop h.tag_size bytes → SendsTransfer g d h i t payload sent d' → Handles g d h bytes sent d'
     handles_sent d' payload None r p s = s
     handles_sent d' payload (Some sent) r p s = (
       Some s.0,
-      (
-        s.1,
-        sendable d.engine h bytes (let k : nat_lt 32 h.tag_size ≡ false = grind arith in k) f.0 (room_is true r),
-        subst (λ (x : List ℕ). RunsInput g d (input.Transfer (record { 0 = h.session }) (record { 0 = h.link }) (transfer_in d.engine h bytes) x (has h.flags 1)) s.0 s.1 d') p
-            (subst (λ (x : TransferModel). RunsInput g d (input.Transfer (record { 0 = h.session }) (record { 0 = h.link }) x payload (has h.flags 1)) s.0 s.1 d')
-            (transfer_is d.engine h bytes o tag t f e is) s.2),
-        s.3,
-      ),
+      (s.1, sendable d.engine h bytes (let k : nat_lt 32 h.tag_size ≡ false = grind arith in k) f.0 (room_is true r), run_of s.0 s.1 d' payload p s.2, s.3),
     )
 
 -- ---- the heads

@@ -1,3 +1,4 @@
+pub mod Cutting
 pub mod Driver
 pub mod Front
 pub mod Heads

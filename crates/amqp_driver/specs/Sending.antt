@@ -4,6 +4,7 @@ use Rattle.std.specs.Prelude.{◌≡◌, ◌≤◌, ◌<◌, ◌+◌, ℕ, List,
 use Rattle.amqp_values.specs.Reading.{joined}
 use Rattle.amqp_types.specs.Transfer.{TransferModel}
 use Rattle.amqp_session.specs.Relay.{Relays}
+use Rattle.amqp_session.specs.declared.numbers.InputHandle.{InputHandle}
 use Rattle.amqp_engine.specs.declared.engine.input.Input.TheVariants as input
 use Rattle.amqp_engine.specs.declared.engine.refusal.Refusal.{Refusal}
 use Rattle.amqp_engine.specs.Entry.{Entry}
@@ -76,9 +77,11 @@ abbrev pub Handles : {R : Type 0} → Relays R → DriverView R → TransferHead
 Handles g d h bytes None d' = NotRun g d d'
 Handles g d h bytes (Some sent) d' = (e : Option (Entry _)) × HandlesBy g d h bytes e sent d'
 
--- this transfer of a head is run, and what is told is said by its entry; or memory was refused, and it is not taken
-abbrev pub SendsTransfer : {R : Type 0} → Relays R → DriverView R → TransferHead → TransferModel → List ℕ → Option Sent → DriverView R → Type 0
-SendsTransfer g d h t payload None d' = NotRun g d d'
-SendsTransfer g d h t payload (Some sent) d' = (e : Entry _) × (returned : List Refusal)
-    × RunsInput g d (input.Transfer (record { 0 = h.session }) (record { 0 = h.link }) t payload (has h.flags 1)) e returned d'
+-- this transfer of a head is run, under this handle of the peer's, and what is told is said by its entry; or memory was refused, and it is
+-- not taken
+abbrev pub SendsTransfer : {R : Type 0} → Relays R → DriverView R → TransferHead → InputHandle → TransferModel → List ℕ → Option Sent → DriverView R
+    → Type 0
+SendsTransfer g d h i t payload None d' = NotRun g d d'
+SendsTransfer g d h i t payload (Some sent) d' = (e : Entry _) × (returned : List Refusal)
+    × RunsInput g d (input.Transfer (record { 0 = h.session }) i t payload (has h.flags 1)) e returned d'
     × (sent ≡ sent_of d.engine h e.refusal)

@@ -7,6 +7,7 @@ ghost use Rattle.amqp_engine.specs.Promise.{Ends, NoneLeft};
 ghost use Rattle.amqp_engine.specs.RunInto.{RanInto};
 
 mod by_fields;
+mod cutting;
 mod sending;
 mod settling;
 mod taking;

@@ -6,7 +6,6 @@ ghost use Rattle.amqp_driver.specs.Heads.{has, settled_of, transfer_of};
 ghost use Rattle.amqp_driver.specs.Sending.{size_of};
 
 use crate::flag;
-use amqp_session::OutputHandle;
 use amqp_types::{DeliveryTag, Handle, Transfer};
 
 /// The head of one transfer (AMQP 1.0 part 2, section 2.7.5): a delivery, or a part of one. Its tag and its payload stand in the bytes that go with
@@ -19,11 +18,11 @@ use amqp_types::{DeliveryTag, Handle, Transfer};
 pub struct TransferHead {
     /// The session.
     pub session: u32,
-    /// The link, by the peer's handle: `input` in the record of the peer's attach. This side's handle is found by it.
+    /// The link, by this side's handle, as every request names it: `output` in the records of its frames. The peer's handle is found by it.
     pub link: u32,
     /// The format of the message, where [`FORMATTED`](crate::flag::FORMATTED) is set.
     pub format: u32,
-    /// How many bytes the payload has. Beside the transfer it is to fit one frame: [`Engine::payload_room`](amqp_engine::Engine::payload_room).
+    /// How many bytes the payload has. Beside the transfer it is to fit one frame: [`Driver::cut`](crate::Driver::cut) cuts a longer one.
     pub payload: u32,
     /// Those of [`flag`](crate::flag): `NUMBERED` where the transfer is the first one of its delivery, `SETTLED`, `MORE` where more transfers
     /// of the delivery follow, `ABORTED`, `FORMATTED`, and `TAGGED` where it has a tag, as each first one has. Others are passed over.
@@ -42,6 +41,13 @@ pub struct Sent {
     /// frame beside the transfer, and 92 where the tag has more than 32 bytes. 0 where it was accepted.
     pub refusal: u32,
 }
+
+/// The refusal of a transfer whose link is not attached: that of `SessionInnerError::UnattachedHandle`.
+pub(crate) const UNATTACHED: u32 = 61;
+/// The refusal of a transfer whose payload does not fit one frame beside it.
+pub(crate) const TOO_LONG: u32 = 91;
+/// The refusal of a transfer whose tag has more than 32 bytes.
+pub(crate) const TAG_TOO_LONG: u32 = 92;
 
 /// Whether a flag is set. A flag is a power of two.
 pub(crate) fn has(flags: u16, flag: u16) -> bool
@@ -63,17 +69,13 @@ fn settled_of(flags: u16) -> Option<bool>
     }
 }
 
-/// The transfer of a head, with this side's handle of the link, and with its tag, if it has one.
-pub(crate) fn transfer_of(
-    head: &TransferHead,
-    output: OutputHandle,
-    tag: Option<DeliveryTag>,
-) -> Transfer
-    ensures { result ≡ transfer_of head.now output.0 (option_map (λ t. t.0) tag) }
+/// The transfer of a head, with its tag, if it has one.
+pub(crate) fn transfer_of(head: &TransferHead, tag: Option<DeliveryTag>) -> Transfer
+    ensures { result ≡ transfer_of head.now (option_map (λ t. t.0) tag) }
 {
     let flags = head.flags;
     Transfer {
-        handle: Handle(output.0),
+        handle: Handle(head.link),
         delivery_id: None,
         delivery_tag: tag,
         message_format: if has(flags, flag::FORMATTED) {

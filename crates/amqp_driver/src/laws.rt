@@ -1,5 +1,8 @@
 //! Laws: what holds of every call, as contracts of functions that do nothing.
 
+ghost use Rattle.std.specs.Prelude.{List, ℕ};
+ghost use Rattle.amqp_driver.specs.Cutting.{CutsWell};
+ghost use Rattle.amqp_driver.specs.declared.head.TransferHead.{TransferHead};
 ghost use Rattle.amqp_driver.specs.Laws.{HistoryGoesOn, NumbersAreTold, PayloadIsThere, SendsGoOn};
 
 use amqp_engine::laws::{law_of_engine_numbers, law_of_histories};
@@ -29,3 +32,9 @@ pub fn law_of_sends<R: LinkRelay>()
     law_of_histories::<R>();
     law_of_engine_numbers::<R>();
 }
+
+/// A part that [`Driver::cut`](crate::Driver::cut) makes fits one frame, so that [`Driver::send`](crate::Driver::send) takes it under the same
+/// limit; and both parts have the payload between them (AMQP 1.0 part 2, section 2.6.14).
+pub fn law_of_cuts()
+    ensures { (limit : ℕ) (h : TransferHead) (bytes : List ℕ) → CutsWell limit h bytes }
+{}

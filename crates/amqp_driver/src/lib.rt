@@ -7,6 +7,7 @@
 
 mod asked;
 mod copied;
+mod cut;
 mod driver;
 pub mod flag;
 mod front;
@@ -23,6 +24,7 @@ mod tag;
 mod told;
 
 pub use asked::Asked;
+pub use cut::Cut;
 pub use driver::Driver;
 pub use head::{Sent, TransferHead};
 pub use plain::PlainRelay;

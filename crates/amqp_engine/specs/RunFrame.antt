@@ -2,10 +2,14 @@
 -- One received frame that was read before: it runs as the bytes do that it was read from.
 use Rattle.std.specs.Prelude.{◌≡◌, ◌⊎◌, ℕ, List, [], Option, Some, None, IsSome, Result, Ok, Err}
 use Rattle.amqp_memory.specs.Refusal.{SomeRefused}
-use Rattle.amqp_session.specs.Relay.{Relays}
+use Rattle.amqp_session.specs.Relay.{Relays, TransferGives}
+use Rattle.amqp_session.specs.Step.{RelayLacks}
+use Rattle.amqp_types.specs.Transfer.{TransferModel}
 use Rattle.amqp_frames.specs.declared.error.Error.{Error}
 use Rattle.amqp_frames.specs.declared.error.Error.TheVariants as unread
 use Rattle.amqp_frames.specs.declared.frame.Frame.{Frame}
+use Rattle.amqp_frames.specs.declared.frame.FrameBody.{FrameBody}
+use Rattle.amqp_frames.specs.declared.frame.FrameBody.TheVariants as body
 use Rattle.amqp_frames.specs.Frame.{Decodes}
 use Rattle.amqp_connection.specs.Connection.{refusal_of}
 use Rattle.amqp_engine.specs.declared.engine.input.Input.TheVariants.{Received}
@@ -40,10 +44,21 @@ RunsFrame g v read None out returned v' out' returned' = RanInto g v [] out retu
 RunsFrame g v read (Some answer) out returned v' out' returned' =
     (bytes : List ℕ) → ReadFrom bytes read → RanFrame g v bytes read (refusal_of answer) out returned v' out' returned'
 
--- memory was refused as the frame was read, or now, for the copy of the error that a Close or an End names
+-- for these frames memory is asked before anything is done: for the record of a transfer's delivery, and for the copy of the error that a
+-- Close or an End names
+abbrev pub IsTried : FrameBody → Type 0
+IsTried (body.Transfer t payload) = Unit {0}
+IsTried b = IsSome (named_error b)
+
+-- memory was refused as the frame was read, or now
 abbrev pub LacksMemory : Result Frame Error → Type 0
-LacksMemory (Ok f) = IsSome (named_error f.body) × SomeRefused
+LacksMemory (Ok f) = IsTried f.body × SomeRefused
 LacksMemory (Err e) = e ≡ unread.OutOfMemory
+
+-- where a transfer's session lacks memory, its link's relay said so
+abbrev pub OfRelay : {R : Type 0} → TransferGives R → TransferModel → List ℕ → Option StepError → Type 0
+OfRelay gives t payload (Some (no.Session e)) = RelayLacks gives t payload (Err e)
+OfRelay gives t payload refusal = Unit {0}
 
 -- When a frame is not taken: what waited is not all sent, or memory was refused for the frame itself. Where it was read, any other answer
 -- may come, which the run says; where it was not, the answer says why, and memory is no reason.

@@ -9,6 +9,7 @@ use Rattle.amqp_session.specs.Relay.{Relays, AttachQuestion, DispositionQuestion
 use Rattle.amqp_session.specs.Session.{SessionView}
 use Rattle.amqp_session.specs.History.{SessionCall, Made, LeadsTo, AllocatesIncomingLink, TakesAttach, TakesFlow, TakesTransfer, TakesDisposition, TakesDetach}
 use Rattle.amqp_session.specs.Linked.{live_at, input_at, speaks_of}
+use Rattle.amqp_session.specs.Linking.{WaitsFor}
 use Rattle.amqp_events.specs.Runs.{Told, ToldAttach, ToldFlow, ToldTransfer, ToldDisposition, ToldDetach, Queued, RunGives}
 
 -- ---- what the relay under an input handle is told
@@ -59,7 +60,7 @@ Hears g = (m : Made) (w : SessionView Queued) (before es : List (SessionCall Que
 abbrev pub HearsAttach : Relays Queued → Type 0
 HearsAttach g = (m : Made) (w : SessionView Queued) (before after : List (SessionCall Queued)) (a : AttachModel) (q : AttachQuestion Queued)
     (result : Result (Unit {0}) SessionInnerError) → LeadsTo g m (before ++ TakesAttach a (Some q) result ∷ after) w
-    → (live_at a.name before ≡ Some (record { handle = q.handle; waiting = Some q.before }))
+    → WaitsFor (live_at a.name before) q.handle q.before
     × RunGives q.before (ToldAttach a q.answer ∷ []) q.after
 
 -- the one that stands under the handle is told the peer's detach

@@ -3,6 +3,7 @@ use Rattle.std.proofs.Common.{◌≡◌, ◌⊎◌, inl, inr, ℕ, ◌+◌, List
 use Rattle.std.specs.Option.{option_map}
 use Rattle.amqp_types.specs.Flow.{FlowModel}
 use Rattle.amqp_types.specs.declared.states.SessionState.{SessionState}
+use Rattle.amqp_session.specs.declared.link.LiveLink.{LiveLink}
 use Rattle.amqp_session.specs.declared.deliveries.Delivery.{Delivery}
 use Rattle.amqp_session.specs.declared.flow.LinkFlow.{LinkFlow}
 use Rattle.amqp_session.specs.declared.frame.SessionFrame.{SessionFrame}
@@ -287,16 +288,16 @@ module _ {R : Type 0} (g : Relays R) where
     handles_are = places;
   }
 
-  attached_keeps : (l new : LinksView R) (a : AttachModel) (q : AttachQuestion R) (answer : _) (result : _) → AttachAnswered l a q answer result new → new.handles ≡ l.handles
-  attached_keeps l new a q (Ok u) (Ok r) t = ap (λ (x : LinksView _). x.handles) t
-  attached_keeps l new a q (Err e) (Err x) t = ap (λ (y : LinksView _). y.handles) t.1
-  attached_keeps l new a q (Ok u) (Err x) t = absurd t
-  attached_keeps l new a q (Err e) (Ok r) t = absurd t
+  attached_keeps : (l new : LinksView R) (a : AttachModel) (n : LiveLink R) (q : AttachQuestion R) (answer : _) (result : _) → AttachAnswered l a n q answer result new → new.handles ≡ l.handles
+  attached_keeps l new a n q (Ok u) (Ok r) t = ap (λ (x : LinksView _). x.handles) t
+  attached_keeps l new a n q (Err e) (Err x) t = ap (λ (y : LinksView _). y.handles) t.1
+  attached_keeps l new a n q (Ok u) (Err x) t = absurd t
+  attached_keeps l new a n q (Err e) (Ok r) t = absurd t
 
   pub attach_keeps : (l new : LinksView R) (a : AttachModel) (asked : Option (AttachQuestion R)) (result : _) → Attaches g.attach_gives l a asked result new → new.handles ≡ l.handles
   attach_keeps l new a None (Ok u) t = absurd t
   attach_keeps l new a None (Err e) t = ap (λ (x : LinksView _). x.handles) t.1
-  attach_keeps l new a (Some q) result t = attached_keeps l new a q q.answer result t.3
+  attach_keeps l new a (Some q) result t = attached_keeps l new a t.1.link q q.answer result t.3
 
   -- relays that are asked of dispositions alone change
   asks_keep : (gives : DispositionGives R) (d : DispositionModel) (rows : List Delivery) (asked : List (DispositionQuestion R)) (l new : LinksView R) →

@@ -42,20 +42,20 @@ module _ {R : Type 0} (g : Relays R) where
       by false t = refl
 
   -- after an attach
-  attach_puts : (l new : LinksView R) (a : AttachModel) (q : AttachQuestion R) (answer : Result (Unit {0}) LinkRelayError)
-      (result : Result (Unit {0}) SessionInnerError) → AttachAnswered l a q answer result new →
+  attach_puts : (l new : LinksView R) (a : AttachModel) (n : LiveLink R) (q : AttachQuestion R) (answer : Result (Unit {0}) LinkRelayError)
+      (result : Result (Unit {0}) SessionInnerError) → AttachAnswered l a n q answer result new →
       (h : ℕ) → map.get new.inputs h ≡ input_by h (map.get l.inputs h) (TakesAttach a (Some q) result)
-  attach_puts l new a q (Ok u) (Ok r) t h = ap (λ (x : LinksView R). map.get x.inputs h) t ∙ at_insert l.inputs a.handle h (goes_on q)
-  attach_puts l new a q (Err e) (Err x) t h = ap (λ (y : LinksView R). map.get y.inputs h) t.1
-  attach_puts l new a q (Ok u) (Err x) t h = absurd t
-  attach_puts l new a q (Err e) (Ok r) t h = absurd t
+  attach_puts l new a n q (Ok u) (Ok r) t h = ap (λ (x : LinksView R). map.get x.inputs h) t ∙ at_insert l.inputs a.handle h (goes_on q)
+  attach_puts l new a n q (Err e) (Err x) t h = ap (λ (y : LinksView R). map.get y.inputs h) t.1
+  attach_puts l new a n q (Ok u) (Err x) t h = absurd t
+  attach_puts l new a n q (Err e) (Ok r) t h = absurd t
 
   attach_inputs : (l new : LinksView R) (a : AttachModel) (asked : Option (AttachQuestion R))
       (result : Result (Unit {0}) SessionInnerError) → Attaches g.attach_gives l a asked result new →
       (h : ℕ) → map.get new.inputs h ≡ input_by h (map.get l.inputs h) (TakesAttach a asked result)
   attach_inputs l new a None (Ok u) t h = absurd t
   attach_inputs l new a None (Err e) t h = ap (λ (x : LinksView R). map.get x.inputs h) t.1
-  attach_inputs l new a (Some q) result t h = attach_puts l new a q q.answer result t.3 h
+  attach_inputs l new a (Some q) result t h = attach_puts l new a t.1.link q q.answer result t.3 h
 
   attach_agrees : (l new : LinksView R) (a : AttachModel) (asked : Option (AttachQuestion R))
       (result : Result (Unit {0}) SessionInnerError) → Agree l →
@@ -206,13 +206,13 @@ module _ {R : Type 0} (g : Relays R) where
   pub links_by : (v w : SessionView R) (e : SessionCall R) → Agree v.links → SessionStep g v e w → LinksBy v.links e w.links
   links_by v w (AllocatesLink name relay (Ok h)) a s =
       subst (λ (x : SessionView R). LinksBy v.links (AllocatesLink name relay (Ok h)) x.links) (sym s.3)
-      (named v.links (record (linked name h relay v.links) { next = w.links.next }) (AllocatesLink name relay (Ok h)) (agree_linked v.links name h relay s.0.1 s.1 a)
-      (λ q. names_linked v.links name h relay q) refl (λ k o. refl))
+      (named v.links (record (linked name h relay None v.links) { next = w.links.next }) (AllocatesLink name relay (Ok h)) (agree_linked v.links name h relay None s.0.1 s.1 a)
+      (λ q. names_linked v.links name h relay None q) refl (λ k o. refl))
   links_by v w (AllocatesIncomingLink name relay input (Ok h)) a s =
       subst (λ (x : SessionView R). LinksBy v.links (AllocatesIncomingLink name relay input (Ok h)) x.links) (sym s.3) record {
-        names_are = λ q. names_linked v.links name h None q;
+        names_are = λ q. names_linked v.links name h None (Some input) q;
         inputs_are = λ k. at_insert v.links.inputs input.0 k (record { handle = h; relay = relay });
-        agree = agree_linked v.links name h None s.0.1 s.1 a;
+        agree = agree_linked v.links name h None (Some input) s.0.1 s.1 a;
       }
   links_by v w (DeallocatesLink handle was) a s =
       named v.links w.links _ (agree_release v.links w.links handle.0 was a s.0)

@@ -1,20 +1,24 @@
 -- The laws of links: names and output handles agree, and a detach is awaited once for each allotment.
-use Rattle.std.proofs.Common.{◌≡◌, ◌↔◌, ℕ, List, [], ◌∷◌, ◌++◌, Option, Some, None, Ok, Bool, true, false, cond, nat_eq, arith, refl, ap, sym, subst, ◌∙◌}
+use Rattle.std.proofs.Common.{◌≡◌, ◌↔◌, ℕ, List, [], ◌∷◌, ◌++◌, Option, Some, None, Ok, Bool, true, false, cond, is_some, nat_eq, arith, refl, ap, sym, subst, ◌∙◌}
 use Rattle.std.proofs.lemmas.Bool.Decides.{nat_tests}
 use Rattle.std.proofs.lemmas.Grind.{common_steps}
 use Rattle.std.specs.Ordering.{nat_cmp}
 use Rattle.std.specs.FinMap as map
 use Rattle.std.specs.FinMap.{get-empty}
-use Rattle.amqp_session.specs.Links.{LinksView}
+use Rattle.amqp_session.specs.Links.{LinksView, attached_at}
+use Rattle.amqp_session.specs.declared.link.AttachedLink.{AttachedLink}
+use Rattle.amqp_session.specs.declared.link.LiveLink.{LiveLink}
+use Rattle.amqp_session.specs.declared.numbers.InputHandle.{InputHandle}
+use Rattle.amqp_session.specs.declared.numbers.OutputHandle.{OutputHandle}
 use Rattle.amqp_session.specs.Relay.{Relays}
 use Rattle.amqp_session.specs.Session.{SessionView, new_session}
 use Rattle.amqp_session.specs.History.{SessionCall, AllocatesLink, AllocatesIncomingLink, DeallocatesLink, TakesDetach, SendsDetach, Made, SessionChain, LeadsTo}
 use Rattle.amqp_session.specs.Received.{has_kind}
-use Rattle.amqp_session.specs.Linking.{live_name, name_at, Leaves}
-use Rattle.amqp_session.specs.Linked.{HandleUse, taken_by, without_live, left_by_detach, handle_of, OneToOne, LinksAgree, ShownAgree, allots, AwaitedOnce}
+use Rattle.amqp_session.specs.Linking.{live_name, name_at, named_so, link_at, live_output, output_at, is_link, while_under, live_input, Leaves}
+use Rattle.amqp_session.specs.Linked.{HandleUse, taken_by, without_live, left_by_detach, handle_of, OneToOne, HandlesMeet, LinksAgree, ShownAgree, allots, AwaitedOnce}
 use Rattle.amqp_session.proofs.CallEffectLemmas.{does}
 use Rattle.amqp_session.proofs.OutputHandleLemmas.{at_insert, not_live_stays, not_live_left}
-use Rattle.amqp_session.proofs.LinkNameLemmas.{one, one_live, live_answered}
+use Rattle.amqp_session.proofs.LinkNameLemmas.{one, one_live, taken_live, live_answered, same_number}
 use Rattle.amqp_session.proofs.SessionViewLemmas.{stands_law, agree_law, chain-split}
 
 -- ---- names and output handles
@@ -56,6 +60,37 @@ first_is_not kind e H h = by (kind e) refl h
     by true t x = absurd (cc)
     by false t x = (t, x)
 
+-- ---- the input handle of a live link
+
+module _ {R : Type 0} (l : LinksView R) (a : (name : List ℕ) (h : ℕ) → handle_of (map.get l.names name) ≡ Some h ↔ map.get l.handles h ≡ Some (Some name)) where
+  meet_at : (h : ℕ) (name : List ℕ) (o : OutputHandle) (input i : InputHandle) (x : Option (AttachedLink R)) → name_at h l ≡ Some name → o.0 ≡ h
+      → attached_at i.0 l ≡ x → cond (is_link o x) (Some i) None ≡ Some input → output_at input.0 l ≡ Some (record { 0 = h })
+  meet_at h name o input i None n e at t = absurd (let no : None ≡ Some input = t in cc)
+  meet_at h name o input i (Some y) n e at t = by (nat_eq y.handle.0 o.0) refl t
+    where
+      by : (b : Bool) → nat_eq y.handle.0 o.0 ≡ b → cond b (Some i) None ≡ Some input → output_at input.0 l ≡ Some (record { 0 = h })
+      by false s t = absurd (let no : None ≡ Some input = t in cc)
+      by true s t =
+          let same : i ≡ input = one t in
+          let there : attached_at input.0 l ≡ Some y = ap (λ (k : InputHandle). attached_at k.0 l) (sym same) ∙ at in
+          let is : y.handle.0 ≡ h = same_number y.handle.0 o.0 s ∙ e in
+          ap (λ z. live_output z l) there
+          ∙ ap (λ m. cond (is_some (name_at m l)) (Some (let k : OutputHandle = record { 0 = m } in k)) None) is
+          ∙ ap (λ z. cond (is_some z) (Some (let k : OutputHandle = record { 0 = h } in k)) None) n
+
+  meet_by : (h : ℕ) (name : List ℕ) (input : InputHandle) (n : LiveLink R) (i : Option InputHandle) → name_at h l ≡ Some name → n.handle.0 ≡ h
+      → n.input ≡ i → while_under n.handle i l ≡ Some input → output_at input.0 l ≡ Some (record { 0 = h })
+  meet_by h name input n None t e is k = absurd (let no : None ≡ Some input = k in cc)
+  meet_by h name input n (Some i) t e is k = meet_at h name n.handle input i (attached_at i.0 l) t e refl k
+
+  meet : (h : ℕ) (input : InputHandle) (name : Option (List ℕ)) (n : Option (LiveLink R)) → name_at h l ≡ name → named_so name l ≡ n
+      → live_input n l ≡ Some input → output_at input.0 l ≡ Some (record { 0 = h })
+  meet h input None n t e k = absurd (let no : None ≡ Some input = ap (λ z. live_input z l) e ∙ k in cc)
+  meet h input (Some name) None t e k = absurd (let no : None ≡ Some input = k in cc)
+  meet h input (Some name) (Some n) t e k =
+      let on : Some n.handle.0 ≡ Some h = sym (ap handle_of e) ∙ (a name h).1 (taken_live (map.get l.handles h) name t) in
+      meet_by h name input n n.input t (one on) refl k
+
 module _ {R : Type 0} (g : Relays R) where
   not_live_chain : (k : ℕ) (H : List (SessionCall R)) (v w : SessionView R) → has_kind (allots k) H ≡ false → name_at k v.links ≡ None →
       SessionChain g v H w →
@@ -95,6 +130,9 @@ module _ {R : Type 0} (g : Relays R) where
 
   pub shown_agree : (m : Made) (H : List (SessionCall R)) (v : SessionView R) → LeadsTo g m H v → ShownAgree v.links
   shown_agree m H v l = one_to_one _ _ (agree_law g m H v l)
+
+  pub handles_meet : (m : Made) (H : List (SessionCall R)) (v : SessionView R) → LeadsTo g m H v → HandlesMeet v.links
+  handles_meet m H v l h input e = meet v.links (agree_law g m H v l) h input (name_at h v.links) (link_at h v.links) refl refl e
 
   pub awaited_once : (m : Made) (H : List (SessionCall R)) (v : SessionView R) → LeadsTo g m H v → AwaitedOnce H
   awaited_once m H v l =

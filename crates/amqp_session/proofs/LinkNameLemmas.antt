@@ -11,13 +11,14 @@ use Rattle.amqp_types.specs.Attach.{AttachModel}
 use Rattle.amqp_session.specs.declared.keys.KeyHash.{KeyHash}
 use Rattle.amqp_session.specs.declared.link.LiveLink.{LiveLink}
 use Rattle.amqp_session.specs.declared.numbers.OutputHandle.{OutputHandle}
+use Rattle.amqp_session.specs.declared.numbers.InputHandle.{InputHandle}
 use Rattle.amqp_session.specs.declared.error.LinkRelayError.{LinkRelayError}
 use Rattle.amqp_session.specs.declared.error.SessionInnerError.{SessionInnerError}
 use Rattle.amqp_session.specs.History.{TakesAttach}
 use Rattle.amqp_session.specs.Links.{LinksView, no_links}
 use Rattle.amqp_session.specs.Relay.{AttachGives, AttachQuestion}
 use Rattle.amqp_session.specs.Linking.{live_name, name_at, linked, released, left_awaited, Releases, Leaves, AttachAnswered, Attaches, dropped}
-use Rattle.amqp_session.specs.Linked.{HandleUse, answered, unless_on, where_waits, handle_of, live_by}
+use Rattle.amqp_session.specs.Linked.{HandleUse, answered, unless_on, where_waits, where_attached, handle_of, live_by}
 use Rattle.amqp_session.proofs.FiniteMapLemmas.{same_text}
 use Rattle.amqp_session.proofs.OutputHandleLemmas.{at_insert, at_remove, taken_drop}
 
@@ -69,21 +70,21 @@ module _ {R : Type 0} where
   abbrev pub Agree : LinksView R → Type 0
   Agree l = (name : List ℕ) (h : ℕ) → handle_of (map.get l.names name) ≡ Some h ↔ map.get l.handles h ≡ Some (Some name)
 
-  agree_put : (l : LinksView R) (n : List ℕ) (k : OutputHandle) (w : Option R) → map.get l.names n ≡ None → map.get l.handles k.0 ≡ None →
-      Agree l → (q : List ℕ) (h : ℕ) (b c : Bool) → bytes_eq q n ≡ b → nat_eq h k.0 ≡ c →
-      handle_of (cond b (Some (record { handle = k; waiting = w })) (map.get l.names q)) ≡ Some h ↔
+  agree_put : (l : LinksView R) (n : List ℕ) (k : OutputHandle) (w : Option R) (i : Option InputHandle) → map.get l.names n ≡ None →
+      map.get l.handles k.0 ≡ None → Agree l → (q : List ℕ) (h : ℕ) (b c : Bool) → bytes_eq q n ≡ b → nat_eq h k.0 ≡ c →
+      handle_of (cond b (Some (record { handle = k; waiting = w; input = i })) (map.get l.names q)) ≡ Some h ↔
       cond c (Some (Some n)) (map.get l.handles h) ≡ Some (Some q)
-  agree_put l n k w none free a q h true true s t =
+  agree_put l n k w i none free a q h true true s t =
       (λ _. ap (λ y. Some (Some y)) (sym (same_name q n s)), λ _. ap Some (sym (same_number h k.0 t)))
-  agree_put l n k w none free a q h true false s t = (
+  agree_put l n k w i none free a q h true false s t = (
     λ e. absurd (other_number h k.0 t (sym (one e))),
     λ e. let x : None ≡ Some h = sym (ap handle_of (ap (map.get l.names) (same_name q n s) ∙ none)) ∙ (a q h).1 e in absurd (cc),
   )
-  agree_put l n k w none free a q h false true s t = (
+  agree_put l n k w i none free a q h false true s t = (
     λ e. let x : None ≡ Some (Some q) = sym free ∙ ap (map.get l.handles) (sym (same_number h k.0 t)) ∙ (a q h).0 e in absurd (cc),
     λ e. absurd (other_name q n s (sym (one_live n q e))),
   )
-  agree_put l n k w none free a q h false false s t = a q h
+  agree_put l n k w i none free a q h false false s t = a q h
 
   agree_gone : (l : LinksView R) (n : List ℕ) (k : ℕ) (y : HandleUse) → live_name y ≡ None → map.get l.handles k ≡ Some (Some n) → Agree l →
       (q : List ℕ) (h : ℕ) (b c : Bool) → bytes_eq q n ≡ b → nat_eq h k ≡ c →
@@ -103,11 +104,11 @@ module _ {R : Type 0} where
   )
   agree_gone l n k y dead was a q h false false s t = a q h
 
-  pub agree_linked : (l : LinksView R) (n : List ℕ) (k : OutputHandle) (w : Option R) → map.get l.names n ≡ None →
-      map.get l.handles k.0 ≡ None → Agree l → Agree (linked n k w l)
-  agree_linked l n k w none free a q h =
-      rw (text_insert l.names n q (record { handle = k; waiting = w }), at_insert l.handles k.0 h (Some n))
-      (agree_put l n k w none free a q h (bytes_eq q n) (nat_eq h k.0) refl refl)
+  pub agree_linked : (l : LinksView R) (n : List ℕ) (k : OutputHandle) (w : Option R) (i : Option InputHandle) → map.get l.names n ≡ None →
+      map.get l.handles k.0 ≡ None → Agree l → Agree (linked n k w i l)
+  agree_linked l n k w i none free a q h =
+      rw (text_insert l.names n q (record { handle = k; waiting = w; input = i }), at_insert l.handles k.0 h (Some n))
+      (agree_put l n k w i none free a q h (bytes_eq q n) (nat_eq h k.0) refl refl)
 
   agree_released : (l : LinksView R) (n : List ℕ) (k : ℕ) → map.get l.handles k ≡ Some (Some n) → Agree l → Agree (released n k l)
   agree_released l n k was a q h =
@@ -182,29 +183,33 @@ module _ {R : Type 0} where
   names_leave l new h false true a r q = names_release l new h r.0 a r.1 q
   names_leave l new h false false a r q = absurd r
 
-  pub names_linked : (l : LinksView R) (n : List ℕ) (k : OutputHandle) (w : Option R) (q : List ℕ) →
-      map.get (linked n k w l).names q ≡ cond (bytes_eq q n) (Some (record { handle = k; waiting = w })) (map.get l.names q)
-  names_linked l n k w q = text_insert l.names n q (record { handle = k; waiting = w })
+  pub names_linked : (l : LinksView R) (n : List ℕ) (k : OutputHandle) (w : Option R) (i : Option InputHandle) (q : List ℕ) →
+      map.get (linked n k w i l).names q ≡ cond (bytes_eq q n) (Some (record { handle = k; waiting = w; input = i })) (map.get l.names q)
+  names_linked l n k w i q = text_insert l.names n q (record { handle = k; waiting = w; input = i })
 
   -- ---- the peer's attach
 
-  -- the link of the name, where another relay waits or none
-  names_waits : (l : LinksView R) (n q : List ℕ) (k : OutputHandle) (was w : Option R) →
-      map.get l.names n ≡ Some (record { handle = k; waiting = was }) →
-      map.get (map.insert l.names n (record { handle = k; waiting = w })) q ≡ cond (bytes_eq q n) (where_waits w (map.get l.names q))
-      (map.get l.names q)
-  names_waits l n q k was w is = text_insert l.names n q (record { handle = k; waiting = w }) ∙ by (bytes_eq q n) refl
+  -- the link of the name, which goes on so
+  names_go : (l : LinksView R) (n q : List ℕ) (was now : LiveLink R) (goes : Option (LiveLink R) → Option (LiveLink R)) →
+      map.get l.names n ≡ Some was → goes (Some was) ≡ Some now →
+      map.get (map.insert l.names n now) q ≡ cond (bytes_eq q n) (goes (map.get l.names q)) (map.get l.names q)
+  names_go l n q was now goes is so = text_insert l.names n q now ∙ by (bytes_eq q n) refl
     where
-      by : (b : Bool) → bytes_eq q n ≡ b →
-          cond b (Some (record { handle = k; waiting = w })) (map.get l.names q) ≡ cond b (where_waits w (map.get l.names q))
-          (map.get l.names q)
-      by true t = sym (ap (where_waits w) (ap (map.get l.names) (same_name q n t) ∙ is))
+      by : (b : Bool) → bytes_eq q n ≡ b → cond b (Some now) (map.get l.names q) ≡ cond b (goes (map.get l.names q)) (map.get l.names q)
+      by true t = sym (ap goes (ap (map.get l.names) (same_name q n t) ∙ is) ∙ so)
       by false t = refl
 
-  same_handle : (b : Bool) (w : Option R) (o : Option (LiveLink R)) → handle_of (cond b (where_waits w o) o) ≡ handle_of o
-  same_handle false w o = refl
-  same_handle true w None = refl
-  same_handle true w (Some n) = refl
+  same_handle : (b : Bool) (x o : Option (LiveLink R)) → handle_of x ≡ handle_of o → handle_of (cond b x o) ≡ handle_of o
+  same_handle false x o e = refl
+  same_handle true x o e = e
+
+  waits_on : (relay : R) (o : Option (LiveLink R)) → handle_of (where_waits relay o) ≡ handle_of o
+  waits_on relay None = refl
+  waits_on relay (Some n) = refl
+
+  attached_on : (input : ℕ) (o : Option (LiveLink R)) → handle_of (where_attached input o) ≡ handle_of o
+  attached_on input None = refl
+  attached_on input (Some n) = refl
 
   -- what an attach does to names: this, and handles stay
   pub record Waits (l : LinksView R) (a : AttachModel) (asked : Option (AttachQuestion R)) (result : Result (Unit {0}) SessionInnerError)
@@ -212,24 +217,25 @@ module _ {R : Type 0} where
     pub names_are : (q : List ℕ) → map.get new.names q ≡ live_by q (map.get l.names q) (TakesAttach a asked result)
     pub same : (q : List ℕ) → handle_of (map.get new.names q) ≡ handle_of (map.get l.names q)
 
-  attach_answered : (l new : LinksView R) (a : AttachModel) (q : AttachQuestion R) (answer : Result (Unit {0}) LinkRelayError)
-      (result : Result (Unit {0}) SessionInnerError) →
-      map.get l.names a.name ≡ Some (record { handle = q.handle; waiting = Some q.before }) → AttachAnswered l a q answer result new →
+  attach_answered : (l new : LinksView R) (a : AttachModel) (n : LiveLink R) (q : AttachQuestion R) (answer : Result (Unit {0}) LinkRelayError)
+      (result : Result (Unit {0}) SessionInnerError) → map.get l.names a.name ≡ Some n → AttachAnswered l a n q answer result new →
       Waits l a (Some q) result new
-  attach_answered l new a q (Ok u) (Ok r) is t =
-      let names : (n : List ℕ) → map.get new.names n ≡ live_by n (map.get l.names n) (TakesAttach a (Some q) (Ok r)) =
-      λ n. ap (λ (x : LinksView R). map.get x.names n) t ∙ names_waits l a.name n q.handle (Some q.before) None is in
-      record { names_are = names; same = λ n. ap handle_of (names n) ∙ same_handle (bytes_eq n a.name) None (map.get l.names n) }
-  attach_answered l new a q (Err e) (Err x) is t =
-      let names : (n : List ℕ) → map.get new.names n ≡ live_by n (map.get l.names n) (TakesAttach a (Some q) (Err x)) =
-      λ n. ap (λ (y : LinksView R). map.get y.names n) t.1 ∙ names_waits l a.name n q.handle (Some q.before) (Some q.after) is in
+  attach_answered l new a n q (Ok u) (Ok r) is t =
+      let names : (m : List ℕ) → map.get new.names m ≡ live_by m (map.get l.names m) (TakesAttach a (Some q) (Ok r)) =
+      λ m. ap (λ (x : LinksView R). map.get x.names m) t ∙ names_go l a.name m n _ (where_attached a.handle) is refl in
       record {
         names_are = names;
-        same = λ n. ap handle_of (names n)
-            ∙ same_handle (bytes_eq n a.name) (Some q.after) (map.get l.names n);
+        same = λ m. ap handle_of (names m) ∙ same_handle (bytes_eq m a.name) _ (map.get l.names m) (attached_on a.handle (map.get l.names m));
       }
-  attach_answered l new a q (Ok u) (Err x) is t = absurd t
-  attach_answered l new a q (Err e) (Ok r) is t = absurd t
+  attach_answered l new a n q (Err e) (Err x) is t =
+      let names : (m : List ℕ) → map.get new.names m ≡ live_by m (map.get l.names m) (TakesAttach a (Some q) (Err x)) =
+      λ m. ap (λ (y : LinksView R). map.get y.names m) t.1 ∙ names_go l a.name m n _ (where_waits q.after) is refl in
+      record {
+        names_are = names;
+        same = λ m. ap handle_of (names m) ∙ same_handle (bytes_eq m a.name) _ (map.get l.names m) (waits_on q.after (map.get l.names m));
+      }
+  attach_answered l new a n q (Ok u) (Err x) is t = absurd t
+  attach_answered l new a n q (Err e) (Ok r) is t = absurd t
 
   pub attach_waits : (gives : AttachGives R) (l new : LinksView R) (a : AttachModel) (asked : Option (AttachQuestion R))
       (result : Result (Unit {0}) SessionInnerError) → Attaches gives l a asked result new → Waits l a asked result new
@@ -240,7 +246,7 @@ module _ {R : Type 0} where
         same = λ q. ap
             (λ (x : LinksView R). handle_of (map.get x.names q)) t.1;
       }
-  attach_waits gives l new a (Some q) result t = attach_answered l new a q q.answer result t.1 t.3
+  attach_waits gives l new a (Some q) result t = attach_answered l new a t.1.link q q.answer result t.1.is t.3
 
 -- no link is live in a new session
 pub agree_new : (R : Type 0) (hash : KeyHash) → Agree (no_links {R = R} hash)

@@ -6,13 +6,14 @@ use Rattle.amqp_types.specs.Attach.{AttachModel}
 use Rattle.amqp_session.specs.declared.keys.KeyHash.{KeyHash}
 use Rattle.amqp_session.specs.declared.link.LiveLink.{LiveLink}
 use Rattle.amqp_session.specs.declared.link.AttachedLink.{AttachedLink}
+use Rattle.amqp_session.specs.declared.numbers.InputHandle.{InputHandle}
 use Rattle.amqp_session.specs.declared.error.LinkRelayError.{LinkRelayError}
 use Rattle.amqp_session.specs.declared.error.SessionInnerError.{SessionInnerError}
 use Rattle.amqp_session.specs.declared.error.SessionInnerError.TheVariants as Refused
 use Rattle.amqp_session.specs.Errors.{inner_of_relay}
 use Rattle.amqp_session.specs.Links.{LinksView, Names, Inputs}
 use Rattle.amqp_session.specs.Relay.{AttachGives, AttachQuestion}
-use Rattle.amqp_session.specs.Linking.{IsWaited, AttachRefused, AttachLeaves, AttachAsked, Attaches, awaits, dropped}
+use Rattle.amqp_session.specs.Linking.{IsWaited, AttachRefused, AttachLeaves, AttachAsked, Attaches, attached_under, awaits, dropped}
 use Rattle.amqp_session.proofs.FiniteMapLemmas.{remove_none}
 
 pub waited_full : {R : Type 0} → (old : Option (AttachedLink R)) (o : Option (LiveLink R)) → IsWaited o → old ≡ None → SomeRefused → AttachRefused old o Refused.OutOfMemory
@@ -24,39 +25,39 @@ inputs_same l i e = ap (λ x. record l { inputs = x }) e
 
 module _ {R : Type 0} (gives : AttachGives R) (l : LinksView R) (a : AttachModel) (hash : KeyHash) (same_hash : hash ≡ l.hash) (names : Names R) where
   -- the relay refuses
-  pub attaches_err : (i : Inputs R) (e : LinkRelayError) (x : SessionInnerError) → AttachAsked gives l.names a (Err e) names → x ≡ inner_of_relay e → i ≡ l.inputs →
+  pub attaches_err : (i : Inputs R) (h : InputHandle) (e : LinkRelayError) (x : SessionInnerError) → AttachAsked gives l.names a h (Err e) names → x ≡ inner_of_relay e → i ≡ l.inputs →
       (asked : Option (AttachQuestion R)) × Attaches gives l a asked (Err x) (record l { hash = hash; names = names; inputs = i })
-  attaches_err i e x r is same = by r.asked.answer r.asked.stands r.asked.leaves
+  attaches_err i h e x r is same = by r.asked.answer r.asked.stands r.asked.leaves
     where
-      by : (answer : Result (Unit {0}) LinkRelayError) → gives r.asked.before a answer r.asked.after → AttachLeaves r.old.handle r.asked.after answer (Err e) r.left →
+      by : (answer : Result (Unit {0}) LinkRelayError) → gives r.asked.before a answer r.asked.after → AttachLeaves r.old h r.asked.after answer (Err e) r.left →
           (asked : Option (AttachQuestion R)) × Attaches gives l a asked (Err x) (record l { hash = hash; names = names; inputs = i })
       by (Ok u) stands leaves = absurd leaves
       by (Err y) stands leaves = (
         Some (record { handle = r.old.handle; before = r.asked.before; asked = a; answer = Err y; after = r.asked.after }),
         (
           refl,
-          r.live ∙ ap (λ w. Some (record { handle = r.old.handle; waiting = w })) r.asked.waits,
+          record { link = r.old; is = r.live; on = refl; waits = r.asked.waits },
           stands,
-          (is ∙ ap inner_of_relay leaves.0, ap (λ h. record l { hash = h; names = names; inputs = i }) same_hash ∙ ap (λ j. record l { names = names; inputs = j }) same ∙ ap (λ n. record l { names = n }) (r.put ∙ ap (λ n. map.insert l.names a.name n) leaves.1)),
+          (is ∙ ap inner_of_relay leaves.0, ap (λ k. record l { hash = k; names = names; inputs = i }) same_hash ∙ ap (λ j. record l { names = names; inputs = j }) same ∙ ap (λ n. record l { names = n }) (r.put ∙ ap (λ n. map.insert l.names a.name n) leaves.1)),
         ),
       )
 
   -- the relay accepts, and is put under the input handle
-  pub attaches_ok : (i j : Inputs R) (k : ℕ) (link : AttachedLink R) → AttachAsked gives l.names a (Ok link) names → k ≡ a.handle → j ≡ l.inputs → i ≡ map.insert j k link →
+  pub attaches_ok : (i j : Inputs R) (h : InputHandle) (link : AttachedLink R) → AttachAsked gives l.names a h (Ok link) names → h.0 ≡ a.handle → j ≡ l.inputs → i ≡ map.insert j h.0 link →
       (asked : Option (AttachQuestion R)) × Attaches gives l a asked (Ok tt) (record l { hash = hash; names = names; inputs = i })
-  attaches_ok i j k link r is same put = by r.asked.answer r.asked.stands r.asked.leaves
+  attaches_ok i j h link r is same put = by r.asked.answer r.asked.stands r.asked.leaves
     where
-      by : (answer : Result (Unit {0}) LinkRelayError) → gives r.asked.before a answer r.asked.after → AttachLeaves r.old.handle r.asked.after answer (Ok link) r.left →
+      by : (answer : Result (Unit {0}) LinkRelayError) → gives r.asked.before a answer r.asked.after → AttachLeaves r.old h r.asked.after answer (Ok link) r.left →
           (asked : Option (AttachQuestion R)) × Attaches gives l a asked (Ok tt) (record l { hash = hash; names = names; inputs = i })
       by (Err y) stands leaves = absurd leaves
       by (Ok u) stands leaves = (
         Some (record { handle = r.old.handle; before = r.asked.before; asked = a; answer = Ok u; after = r.asked.after }),
         (
           refl,
-          r.live ∙ ap (λ w. Some (record { handle = r.old.handle; waiting = w })) r.asked.waits,
+          record { link = r.old; is = r.live; on = refl; waits = r.asked.waits },
           stands,
-          ap (λ h. record l { hash = h; names = names; inputs = i }) same_hash ∙ ap (λ x. record l { names = names; inputs = x }) (put ∙ ap (λ x. map.insert x k link) same ∙ ap (λ n. map.insert l.inputs n link) is ∙ ap (λ y. map.insert l.inputs a.handle y) leaves.0)
-              ∙ ap (λ n. record l { names = n; inputs = map.insert l.inputs a.handle (record { handle = r.old.handle; relay = r.asked.after }) }) (r.put ∙ ap (λ n. map.insert l.names a.name n) leaves.1),
+          ap (λ k. record l { hash = k; names = names; inputs = i }) same_hash ∙ ap (λ x. record l { names = names; inputs = x }) (put ∙ ap (λ x. map.insert x h.0 link) same ∙ ap (λ n. map.insert l.inputs n link) is ∙ ap (λ y. map.insert l.inputs a.handle y) leaves.0)
+              ∙ ap (λ n. record l { names = n; inputs = map.insert l.inputs a.handle (record { handle = r.old.handle; relay = r.asked.after }) }) (r.put ∙ ap (λ n. map.insert l.names a.name n) (leaves.1 ∙ ap (λ (n : ℕ). attached_under (record { 0 = n }) r.old) is)),
         ),
       )
 

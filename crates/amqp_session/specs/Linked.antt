@@ -7,8 +7,10 @@ use Rattle.amqp_types.specs.Detach.{DetachModel}
 use Rattle.amqp_session.specs.declared.frame.SessionFrame.{SessionFrame}
 use Rattle.amqp_session.specs.declared.link.LiveLink.{LiveLink}
 use Rattle.amqp_session.specs.declared.link.AttachedLink.{AttachedLink}
+use Rattle.amqp_session.specs.declared.numbers.InputHandle.{InputHandle}
 use Rattle.std.specs.FinMap as map
 use Rattle.amqp_session.specs.Links.{LinksView}
+use Rattle.amqp_session.specs.Linking.{attached_under, input_handle_at, output_at}
 use Rattle.amqp_session.specs.Relay.{DispositionQuestion, goes_on}
 use Rattle.amqp_session.specs.Received.{has_kind}
 use Rattle.amqp_session.specs.History.{SessionCall, AllocatesLink, AllocatesIncomingLink, DeallocatesLink, TakesAttach, TakesFlow, TakesTransfer}
@@ -56,22 +58,28 @@ abbrev pub unless_on : {R : Type 0} → ℕ → Option (LiveLink R) → Option (
 unless_on h None = None
 unless_on h (Some n) = if nat_eq n.handle.0 h then None else Some n
 
--- the same link, and this relay, if any, waits for the peer's attach
-abbrev pub where_waits : {R : Type 0} → Option R → Option (LiveLink R) → Option (LiveLink R)
+-- the same link, and this relay waits for the peer's attach
+abbrev pub where_waits : {R : Type 0} → R → Option (LiveLink R) → Option (LiveLink R)
 where_waits relay None = None
-where_waits relay (Some n) = Some (record n { waiting = relay })
+where_waits relay (Some n) = Some (record n { waiting = Some relay })
 
--- The live link of a name after a call, with its output handle and the relay that waits for the peer's attach, if any. An
--- allotment makes it, and a release or a detach of this side on its handle ends it. The peer's attach under the name leaves
--- none waiting where it is accepted; else the relay that was asked goes on to wait.
+-- the same link, which the peer's attach put under this input handle
+abbrev pub where_attached : {R : Type 0} → ℕ → Option (LiveLink R) → Option (LiveLink R)
+where_attached input None = None
+where_attached input (Some n) = Some (attached_under (record { 0 = input }) n)
+
+-- The live link of a name after a call, with its output handle, the relay that waits for the peer's attach, if any, and the input handle
+-- of the peer's last attach. An allotment makes it, and a release or a detach of this side on its handle ends it. The peer's attach under
+-- the name leaves none waiting where it is accepted, and gives the input handle; else the relay that was asked goes on to wait.
 abbrev pub live_by : {R : Type 0} → List ℕ → Option (LiveLink R) → SessionCall R → Option (LiveLink R)
-live_by name old (AllocatesLink new relay (Ok h)) = if bytes_eq name new then Some (record { handle = h; waiting = relay }) else old
+live_by name old (AllocatesLink new relay (Ok h)) =
+    if bytes_eq name new then Some (record { handle = h; waiting = relay; input = None }) else old
 live_by name old (AllocatesIncomingLink new relay input (Ok h)) =
-    if bytes_eq name new then Some (record { handle = h; waiting = None }) else old
+    if bytes_eq name new then Some (record { handle = h; waiting = None; input = Some input }) else old
 live_by name old (DeallocatesLink h was) = unless_on h.0 old
 live_by name old (SendsDetach d expects_echo result) = unless_on d.handle old
-live_by name old (TakesAttach a (Some q) (Ok u)) = if bytes_eq name a.name then where_waits None old else old
-live_by name old (TakesAttach a (Some q) (Err e)) = if bytes_eq name a.name then where_waits (Some q.after) old else old
+live_by name old (TakesAttach a (Some q) (Ok u)) = if bytes_eq name a.name then where_attached a.handle old else old
+live_by name old (TakesAttach a (Some q) (Err e)) = if bytes_eq name a.name then where_waits q.after old else old
 live_by name old e = old
 
 -- after a history: no link is live at first
@@ -133,6 +141,10 @@ LinksAgree H = OneToOne (λ name. handle_of (live_at name H)) (λ h. taken_at h 
 
 abbrev pub ShownAgree : {R : Type 0} → LinksView R → Type 0
 ShownAgree l = OneToOne (λ name. handle_of (map.get l.names name)) (λ h. map.get l.handles h)
+
+-- the input handle of a live link leads back to its output handle
+abbrev pub HandlesMeet : {R : Type 0} → LinksView R → Type 0
+HandlesMeet l = (h : ℕ) (input : InputHandle) → input_handle_at h l ≡ Some input → output_at input.0 l ≡ Some (record { 0 = h })
 
 -- this output handle is allotted
 abbrev pub allots : {R : Type 0} → ℕ → SessionCall R → Bool

@@ -1,7 +1,7 @@
 -- Part: every call exactly; other calls; inner.
 -- What each call of a session for its links does: output handles are allotted and released, and links are attached and detached
 -- (AMQP 1.0 part 2, sections 2.6.2 to 2.6.6).
-use Rattle.std.specs.Prelude.{◌≡◌, ◌<◌, ◌≤◌, ◌^◌, ℕ, Bool, true, false, not, if◌then◌else◌, List, Option, Some, None, is_some, Result, Ok, Err, IsSome}
+use Rattle.std.specs.Prelude.{◌≡◌, ◌<◌, ◌≤◌, ◌^◌, ℕ, Bool, true, false, not, if◌then◌else◌, List, Option, Some, None, is_some, nat_eq, Result, Ok, Err, IsSome}
 use Rattle.std.specs.FinMap as map
 use Rattle.amqp_memory.specs.Refusal.{SomeRefused}
 use Rattle.amqp_types.specs.Attach.{AttachModel}
@@ -22,7 +22,7 @@ use Rattle.amqp_session.specs.declared.error.LinkRelayError.{LinkRelayError}
 use Rattle.amqp_session.specs.declared.error.SessionInnerError.{SessionInnerError}
 use Rattle.amqp_session.specs.declared.error.SessionInnerError.TheVariants as Refused
 use Rattle.amqp_session.specs.Errors.{inner_of_relay}
-use Rattle.amqp_session.specs.Links.{LinksView, Names, Handles, attached_at, put_at}
+use Rattle.amqp_session.specs.Links.{LinksView, Names, attached_at, put_at}
 use Rattle.amqp_session.specs.declared.link.AttachedLink.{AttachedLink}
 use Rattle.amqp_session.specs.Relay.{AttachGives, DetachGives, AttachQuestion, DetachQuestion, Asks, goes_on, of_detach}
 use Rattle.amqp_session.specs.States.{is_mapped}
@@ -60,6 +60,25 @@ live_output (Some a) l = if is_some (name_at a.handle.0 l) then Some a.handle el
 abbrev pub output_at : {R : Type 0} → ℕ → LinksView R → Option OutputHandle
 output_at h l = live_output (attached_at h l) l
 
+-- whether the link of this output handle is the attached one
+abbrev pub is_link : {R : Type 0} → OutputHandle → Option (AttachedLink R) → Bool
+is_link h None = false
+is_link h (Some a) = nat_eq a.handle.0 h.0
+
+-- this input handle, if one is given, where the link of the output handle is attached under it
+abbrev pub while_under : {R : Type 0} → OutputHandle → Option InputHandle → LinksView R → Option InputHandle
+while_under h None l = None
+while_under h (Some i) l = if is_link h (attached_at i.0 l) then Some i else None
+
+-- the input handle that the peer's last attach gave a live link, if one is given, while the link is attached under it
+abbrev pub live_input : {R : Type 0} → Option (LiveLink R) → LinksView R → Option InputHandle
+live_input None l = None
+live_input (Some n) l = while_under n.handle n.input l
+
+-- the same of the live link of an output handle
+abbrev pub input_handle_at : {R : Type 0} → ℕ → LinksView R → Option InputHandle
+input_handle_at h l = live_input (link_at h l) l
+
 -- whether the peer's answer to the detach of a handle's last link is awaited
 abbrev pub is_awaited : Option (Option (List ℕ)) → Bool
 is_awaited None = false
@@ -69,11 +88,12 @@ is_awaited (Some (Some name)) = false
 abbrev pub awaits : {R : Type 0} → ℕ → LinksView R → Bool
 awaits h l = is_awaited (map.get l.handles h)
 
--- A link becomes live by a name and an output handle, and its relay, if any, waits for the peer's attach. Which handle comes after it, each
--- call says by itself, here and where a handle stays awaited: the crate slab, which keeps the handles, leaves that open.
-abbrev pub linked : {R : Type 0} → List ℕ → OutputHandle → Option R → LinksView R → LinksView R
-linked name h waiting l = record l {
-  names = map.insert l.names name (record { handle = h; waiting = waiting });
+-- A link becomes live by a name and an output handle: its relay, if any, waits for the peer's attach, or the input handle is known. Which
+-- handle comes after it, each call says by itself, here and where a handle stays awaited: the crate slab, which keeps the handles, leaves
+-- that open.
+abbrev pub linked : {R : Type 0} → List ℕ → OutputHandle → Option R → Option InputHandle → LinksView R → LinksView R
+linked name h waiting input l = record l {
+  names = map.insert l.names name (record { handle = h; waiting = waiting; input = input });
   handles = map.insert l.handles h.0 (Some name);
 }
 
@@ -135,13 +155,13 @@ AllotStep v name gives (Err e) w = AllotRefused v name e × (w ≡ v)
 
 -- the relay, if any, waits under the name
 abbrev pub AllocateLinkStep : {R : Type 0} → SessionView R → List ℕ → Option R → Result OutputHandle AllocLinkError → SessionView R → Type 0
-AllocateLinkStep v name relay result w = AllotStep v name (λ h. linked name h relay v.links) result w
+AllocateLinkStep v name relay result w = AllotStep v name (λ h. linked name h relay None v.links) result w
 
 -- the relay is put under the input handle at once, and none waits under the name
 abbrev pub AllocateIncomingStep : {R : Type 0} → SessionView R → List ℕ → R → InputHandle → Result OutputHandle AllocLinkError →
     SessionView R → Type 0
 AllocateIncomingStep v name relay input result w =
-    AllotStep v name (λ h. put_at input.0 (record { handle = h; relay = relay }) (linked name h None v.links)) result w
+    AllotStep v name (λ h. put_at input.0 (record { handle = h; relay = relay }) (linked name h None (Some input) v.links)) result w
 
 -- a live link is released, and it is said whether there was one
 abbrev pub Releases : {R : Type 0} → LinksView R → ℕ → Bool → LinksView R → Type 0
@@ -164,30 +184,34 @@ abbrev pub IsWaited : {R : Type 0} → Option (LiveLink R) → Type 0
 IsWaited None = ⊥
 IsWaited (Some n) = IsSome n.waiting
 
--- The link's relay answered so: it is attached and waits no longer, or it goes on to wait.
-abbrev pub AttachLeaves : {R : Type 0} → OutputHandle → R → Result (Unit {0}) LinkRelayError →
-    Result (AttachedLink R) LinkRelayError → LiveLink R → Type 0
-AttachLeaves handle after (Ok u) (Ok link) new =
-    (link ≡ record { handle = handle; relay = after }) × (new ≡ record { handle = handle; waiting = None })
-AttachLeaves handle after (Err e) (Err x) new = (x ≡ e) × (new ≡ record { handle = handle; waiting = Some after })
-AttachLeaves handle after answer result new = ⊥
+-- the link is attached under this input handle, and no relay waits for it
+abbrev pub attached_under : {R : Type 0} → InputHandle → LiveLink R → LiveLink R
+attached_under input n = record n { waiting = None; input = Some input }
 
-pub record WaitAsked {R : Type 0} (gives : AttachGives R) (old : LiveLink R) (a : AttachModel)
+-- The link's relay answered so: it is attached and waits no longer, or it goes on to wait.
+abbrev pub AttachLeaves : {R : Type 0} → LiveLink R → InputHandle → R → Result (Unit {0}) LinkRelayError →
+    Result (AttachedLink R) LinkRelayError → LiveLink R → Type 0
+AttachLeaves old input after (Ok u) (Ok link) new =
+    (link ≡ record { handle = old.handle; relay = after }) × (new ≡ attached_under input old)
+AttachLeaves old input after (Err e) (Err x) new = (x ≡ e) × (new ≡ record old { waiting = Some after })
+AttachLeaves old input after answer result new = ⊥
+
+pub record WaitAsked {R : Type 0} (gives : AttachGives R) (old : LiveLink R) (a : AttachModel) (input : InputHandle)
     (result : Result (AttachedLink R) LinkRelayError) (new : LiveLink R) : Type 0 where
   pub before : R
   pub after : R
   pub answer : Result (Unit {0}) LinkRelayError
   pub waits : old.waiting ≡ Some before
   pub stands : gives before a answer after
-  pub leaves : AttachLeaves old.handle after answer result new
+  pub leaves : AttachLeaves old input after answer result new
 
 -- the same, of the link of the attach's name
-pub record AttachAsked {R : Type 0} (gives : AttachGives R) (names : Names R) (a : AttachModel)
+pub record AttachAsked {R : Type 0} (gives : AttachGives R) (names : Names R) (a : AttachModel) (input : InputHandle)
     (result : Result (AttachedLink R) LinkRelayError) (new : Names R) : Type 0 where
   pub old : LiveLink R
   pub left : LiveLink R
   pub live : map.get names a.name ≡ Some old
-  pub asked : WaitAsked gives old a result left
+  pub asked : WaitAsked gives old a input result left
   pub put : new ≡ map.insert names a.name left
 
 -- What follows where no relay is asked, for the live link of the name, if any, and what stands under the input handle, if anything: memory is
@@ -198,23 +222,30 @@ AttachRefused old (Some n) Refused.HandleInUse = n.waiting ≡ None
 AttachRefused old (Some n) Refused.OutOfMemory = IsSome n.waiting × (old ≡ None) × SomeRefused
 AttachRefused old n e = ⊥
 
--- What follows from the relay's answer: it is put under the input handle, or goes on to wait. Where the relay says that it lacks memory, its
--- own relation says why.
-abbrev pub AttachAnswered : {R : Type 0} → LinksView R → AttachModel → AttachQuestion R → Result (Unit {0}) LinkRelayError →
+-- What follows for a live link from its relay's answer: the relay is put under the input handle, or goes on to wait. Where the relay says that
+-- it lacks memory, its own relation says why.
+abbrev pub AttachAnswered : {R : Type 0} → LinksView R → AttachModel → LiveLink R → AttachQuestion R → Result (Unit {0}) LinkRelayError →
     Result (Unit {0}) SessionInnerError → LinksView R → Type 0
-AttachAnswered l a q (Ok u) (Ok r) new =
-    new ≡ put_at a.handle (goes_on q) (record l { names = map.insert l.names a.name (record { handle = q.handle; waiting = None }) })
-AttachAnswered l a q (Err e) (Err x) new =
-    (x ≡ inner_of_relay e) × (new ≡ record l { names = map.insert l.names a.name (record { handle = q.handle; waiting = Some q.after }) })
-AttachAnswered l a q answer result new = ⊥
+AttachAnswered l a n q (Ok u) (Ok r) new =
+    new ≡ put_at a.handle (goes_on q) (record l { names = map.insert l.names a.name (attached_under (record { 0 = a.handle }) n) })
+AttachAnswered l a n q (Err e) (Err x) new =
+    (x ≡ inner_of_relay e) × (new ≡ record l { names = map.insert l.names a.name (record n { waiting = Some q.after }) })
+AttachAnswered l a n q answer result new = ⊥
+
+-- the live link of this output handle, for which this relay waits
+pub record WaitsFor {R : Type 0} (found : Option (LiveLink R)) (handle : OutputHandle) (relay : R) : Type 0 where
+  pub link : LiveLink R
+  pub is : found ≡ Some link
+  pub on : link.handle ≡ handle
+  pub waits : link.waiting ≡ Some relay
 
 abbrev pub Attaches : {R : Type 0} → AttachGives R → LinksView R → AttachModel → Option (AttachQuestion R) →
     Result (Unit {0}) SessionInnerError → LinksView R → Type 0
 Attaches gives l a None (Ok u) new = ⊥
 Attaches gives l a None (Err e) new = AttachRefused (attached_at a.handle l) (named_at a.name l) e × (new ≡ l)
 Attaches gives l a (Some q) result new =
-    (q.asked ≡ a) × (named_at a.name l ≡ Some (record { handle = q.handle; waiting = Some q.before })) × gives q.before a q.answer q.after
-    × AttachAnswered l a q q.answer result new
+    (q.asked ≡ a) × (waits : WaitsFor (named_at a.name l) q.handle q.before) × gives q.before a q.answer q.after
+    × AttachAnswered l a waits.link q q.answer result new
 
 abbrev pub TakeAttachStep : {R : Type 0} → AttachGives R → SessionView R → AttachModel → Option (AttachQuestion R) →
     Result (Unit {0}) SessionInnerError → SessionView R → Type 0

@@ -13,8 +13,10 @@ use Rattle.amqp_session.specs.declared.keys.KeyHash.{KeyHash}
 use Rattle.amqp_session.specs.Hashing.{hash_code}
 use Rattle.amqp_session.specs.declared.link.AttachedLink.{AttachedLink}
 use Rattle.amqp_session.specs.declared.link.LiveLink.{LiveLink}
+use Rattle.amqp_session.specs.declared.numbers.InputHandle.{InputHandle}
 
--- the live links by name, each with its output handle, and the relay that waits for the peer's attach, if any
+-- the live links by name, each with its output handle, the relay that waits for the peer's attach, if any, and the input handle of the
+-- peer's last attach
 abbrev pub Names : Type 0 → Type 0
 Names R = map.FinMap (slice_cmp nat_cmp) (LiveLink R)
 
@@ -63,10 +65,14 @@ inputs_of es = map.from_entries es
 
 -- ---- codes: a link is stored as the tuple of its parts, and so is each map
 
+abbrev pub input_code : Coded InputHandle
+input_code = code_by ℕ coded_ℕ (λ i. i.0) (λ n. record { 0 = n }) (λ _. refl)
+
 abbrev pub named_code : {R : Type 0} → Coded R → Coded (LiveLink R)
 named_code {R} code =
-    code_by (ℕ × Option R) (coded× coded_ℕ (coded_option code)) (λ n. (n.handle.0, n.waiting))
-    (λ p. record { handle = record { 0 = p.0 }; waiting = p.1 }) (λ _. refl)
+    code_by (ℕ × (Option R × Option InputHandle)) (coded× coded_ℕ (coded× (coded_option code) (coded_option input_code)))
+    (λ n. (n.handle.0, (n.waiting, n.input)))
+    (λ p. record { handle = record { 0 = p.0 }; waiting = p.1.0; input = p.1.1 }) (λ _. refl)
 
 abbrev pub attached_code : {R : Type 0} → Coded R → Coded (AttachedLink R)
 attached_code {R} code =

@@ -13,7 +13,7 @@ ghost use Rattle.amqp_session.specs.History.{SessionCall, Made, LeadsTo};
 ghost use Rattle.amqp_session.specs.Headline.{Headline, Stands};
 ghost use Rattle.amqp_session.specs.Numbers.{NumbersAreKnown, number_after};
 ghost use Rattle.amqp_session.specs.Sending.{number_shown};
-ghost use Rattle.amqp_session.specs.Linked.{LinksAgree, ShownAgree, AwaitedOnce};
+ghost use Rattle.amqp_session.specs.Linked.{HandlesMeet, LinksAgree, ShownAgree, AwaitedOnce};
 ghost use Rattle.amqp_session.specs.OutgoingFrames.{OnChannel, calls_frames};
 ghost use Rattle.amqp_session.specs.Settings.{SettingsModel};
 ghost use Rattle.amqp_session.specs.Transfers.{RequestedTransfer};
@@ -90,12 +90,15 @@ pub fn law_of_pairs<R: LinkRelay>()
 /// After any calls the live links' names and output handles are one to one, as the history says it and as the session shows it:
 /// two live links never share a name or an output handle, and a handle whose detach the peer is still to answer has no live
 /// link. A detach of this side that the peer is to answer goes out at most once for each allotment of its output handle: the
-/// handle was allotted before the first one, and again between any two (AMQP 1.0 part 2, sections 2.6.1 to 2.6.6).
+/// handle was allotted before the first one, and again between any two. The input handle that a live link has, by
+/// [`Session::input_handle_of`](crate::Session::input_handle_of), leads back to its output handle (AMQP 1.0 part 2, sections 2.6.1 to 2.6.6).
 pub fn law_of_links<R: LinkRelay>()
     ensures history { let g = R.gives in
         (m : Made) (h : List (SessionCall R)) (v : SessionView R) → LeadsTo g m h v → LinksAgree h }
     ensures shown { let g = R.gives in
         (m : Made) (h : List (SessionCall R)) (v : SessionView R) → LeadsTo g m h v → ShownAgree v.links }
+    ensures meet { let g = R.gives in
+        (m : Made) (h : List (SessionCall R)) (v : SessionView R) → LeadsTo g m h v → HandlesMeet v.links }
     ensures awaited_once { let g = R.gives in
         (m : Made) (h : List (SessionCall R)) (v : SessionView R) → LeadsTo g m h v → AwaitedOnce h }
 {}

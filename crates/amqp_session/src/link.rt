@@ -34,13 +34,15 @@ pub struct AttachedLink<R> {
     pub relay: R,
 }
 
-/// A live link: its output handle, and the relay that waits for the peer's attach, if any.
+/// A live link: its output handle, the relay that waits for the peer's attach, if any, and the input handle of the peer's last attach.
 #[derive(Drop)]
 pub struct LiveLink<R> {
     /// The output handle.
     pub handle: OutputHandle,
     /// The relay that waits.
     pub waiting: Option<R>,
+    /// The input handle that the peer's last attach gave, which need not be the link's any more.
+    pub input: Option<InputHandle>,
 }
 
 /// The live links by name, the output handles that are taken, and the relays by input handle.
@@ -103,7 +105,7 @@ impl<R: LinkRelay> Links<R> {
         ensures { Asked (of_flow R.gives.flow_gives) (attached_at input.0 self.old) flow result
             (λ link. self.new ≡ put_at input.0 link self.old) }
     {
-        inputs::ask_flow(&mut self.inputs, input, flow)
+        inputs::ask_flow(&mut self.inputs, &self.hints, input, flow)
     }
 
     /// Asks the relay under the handle of a transfer about it, once there is room for the record of its delivery; or says why none

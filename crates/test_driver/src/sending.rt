@@ -6,7 +6,7 @@ use crate::same::{holds, same};
 use amqp_connection::SessionNo;
 use amqp_driver::{Asked, Posted, Sent, Status, TransferHead, flag, refusal_number};
 use amqp_engine::Input;
-use amqp_session::SessionSettings;
+use amqp_session::{InputHandle, OutputHandle, SessionSettings};
 use amqp_types::Role;
 use std::alloc::Global;
 use std::test::Fail;
@@ -15,7 +15,7 @@ use std::test::Fail;
 const ATTACHED: usize = 375;
 
 /// A driver whose session 6 has its links: the one that sends has the peer's handle 0, and this side's handle 1.
-fn attached(alloc: Global) -> Result<PlainDriver, Fail> {
+pub fn attached(alloc: Global) -> Result<PlainDriver, Fail> {
     let mut driver = opened(alloc)?;
     let mut found = Vec::new(alloc);
     let _ = feed(&mut driver, &INPUT[..BEGUN], BEGUN, &mut found)?;
@@ -26,8 +26,8 @@ fn attached(alloc: Global) -> Result<PlainDriver, Fail> {
     Ok(driver)
 }
 
-/// The head of a delivery of the link with this handle of the peer's.
-fn head(link: u32, tag_size: u16, payload: u32) -> TransferHead {
+/// The head of a delivery of the link with this handle of this side's.
+pub fn head(link: u32, tag_size: u16, payload: u32) -> TransferHead {
     TransferHead {
         session: 6,
         link,
@@ -67,7 +67,7 @@ fn held_back(driver: &PlainDriver) -> usize {
 fn numbers_are_told_while_the_window_is_closed(rt: HostRuntime) -> Result<(), Fail> {
     let mut driver = attached(rt.alloc())?;
     let mut sent = [NOTHING; 18];
-    let found = driver.send(&[head(0, 1, 1); 18], &[0x31; 36], &mut sent);
+    let found = driver.send(&[head(1, 1, 1); 18], &[0x31; 36], &mut sent);
     let held = held_back(&driver);
     drop(driver);
     same(&rt, found, posted(Status::Done, 18, 36));
@@ -82,14 +82,14 @@ fn a_refused_one_changes_nothing(rt: HostRuntime) -> Result<(), Fail> {
     let mut driver = attached(rt.alloc())?;
     let mut sent = [NOTHING; 6];
     let heads = [
-        head(0, 1, 1),
+        head(1, 1, 1),
         head(9, 1, 1),
-        head(0, 33, 1),
-        head(0, 1, 1020),
-        head(0, 1, 2),
+        head(1, 33, 1),
+        head(1, 1, 1020),
+        head(1, 1, 2),
         TransferHead {
             session: 5,
-            ..head(0, 1, 1)
+            ..head(1, 1, 1)
         },
     ];
     let found = driver.send(&heads, &[0x31; 1064], &mut sent);
@@ -102,19 +102,48 @@ fn a_refused_one_changes_nothing(rt: HostRuntime) -> Result<(), Fail> {
 }
 
 #[test]
+fn a_link_is_attached_before_it_sends(rt: HostRuntime) -> Result<(), Fail> {
+    let mut driver = opened(rt.alloc())?;
+    let mut found = Vec::new(rt.alloc());
+    let session = SessionNo(6);
+    let _ = feed(&mut driver, &INPUT[..BEGUN], BEGUN, &mut found)?;
+    let unknown = driver.input_handle_of(session, OutputHandle(1));
+    link_up(rt.alloc(), &mut driver)?;
+    let waits = driver.input_handle_of(session, OutputHandle(1));
+    let mut early = [NOTHING];
+    let _ = driver.send(&[head(1, 1, 1)], b"1a", &mut early);
+    let _ = feed(&mut driver, &INPUT[BEGUN..ATTACHED], ATTACHED, &mut found)?;
+    let (first, second) = (
+        driver.input_handle_of(session, OutputHandle(0)),
+        driver.input_handle_of(session, OutputHandle(1)),
+    );
+    let mut sent = [NOTHING];
+    let _ = driver.send(&[head(1, 1, 1)], b"1a", &mut sent);
+    drop(driver);
+    same(&rt, (unknown, waits), (None, None));
+    same(
+        &rt,
+        (first, second),
+        (Some(InputHandle(1)), Some(InputHandle(0))),
+    );
+    same(&rt, (early[0], sent[0]), (told(0, 61), told(0, 0)));
+    Ok(())
+}
+
+#[test]
 fn a_delivery_in_two_transfers(rt: HostRuntime) -> Result<(), Fail> {
     let mut driver = attached(rt.alloc())?;
     let mut sent = [NOTHING; 3];
     let heads = [
         TransferHead {
             flags: flag::NUMBERED + flag::TAGGED + flag::MORE + flag::SETTLED,
-            ..head(0, 1, 2)
+            ..head(1, 1, 2)
         },
         TransferHead {
             flags: 0,
-            ..head(0, 0, 2)
+            ..head(1, 0, 2)
         },
-        head(0, 1, 0),
+        head(1, 1, 0),
     ];
     let found = driver.send(&heads, b"1abcd2", &mut sent);
     let frames = driver.out()
@@ -141,8 +170,8 @@ fn a_delivery_in_two_transfers(rt: HostRuntime) -> Result<(), Fail> {
 fn where_it_stops(rt: HostRuntime) -> Result<(), Fail> {
     let mut driver = attached(rt.alloc())?;
     let mut sent = [NOTHING; 2];
-    let short = driver.send(&[head(0, 1, 1); 2], b"1a2", &mut sent);
-    let full = driver.send(&[head(0, 1, 1); 3], b"2b3c4d", &mut sent);
+    let short = driver.send(&[head(1, 1, 1); 2], b"1a2", &mut sent);
+    let full = driver.send(&[head(1, 1, 1); 3], b"2b3c4d", &mut sent);
     let none = driver.send(&[], b"5", &mut []);
     drop(driver);
     same(&rt, short, posted(Status::Short, 1, 2));

@@ -102,6 +102,44 @@ fn the_relay_of_a_refused_allotment_and_a_replaced_one_are_not_asked(rt: HostRun
     same(&rt, [third.counts(), refused.counts()], [[0, 0, 0]; 2]);
 }
 
+/// The input handle of the links on the output handles 0 and 1.
+fn inputs(one: &Counted<'_>) -> [Option<u32>; 2] {
+    [
+        one.input_handle_of(OutputHandle(0)).map(|it| it.0),
+        one.input_handle_of(OutputHandle(1)).map(|it| it.0),
+    ]
+}
+
+#[test]
+fn a_link_has_the_input_handle_of_the_last_attach(rt: HostRuntime) {
+    let alloc = rt.alloc();
+    let asked = Asked::new();
+    let mut one = session(alloc);
+    let none = inputs(&one);
+    let is_first = allot(alloc, &mut one, "a", &asked);
+    let waiting = inputs(&one);
+    let is_attached = attach(alloc, &mut one, "a");
+    let attached = inputs(&one);
+    let is_second = allot(alloc, &mut one, "b", &asked) && attach(alloc, &mut one, "b");
+    let taken = inputs(&one);
+    let is_left = detach(&mut one);
+    let detached = inputs(&one);
+    let is_third = one.deallocate_link(OutputHandle(0))
+        && allot_incoming(alloc, &mut one, "c", &asked);
+    let incoming = inputs(&one);
+    let is_gone = leave(&mut one, true);
+    let gone = inputs(&one);
+    drop(one);
+    holds(
+        &rt,
+        is_first && is_attached && is_second && is_left && is_third && is_gone,
+    );
+    same(&rt, [none, waiting], [[None; 2]; 2]);
+    same(&rt, [attached, taken], [[Some(5), None], [None, Some(5)]]);
+    same(&rt, [detached, incoming], [[None; 2], [Some(5), None]]);
+    same(&rt, gone, [None; 2]);
+}
+
 #[test]
 fn a_released_relay_is_not_asked(rt: HostRuntime) {
     let alloc = rt.alloc();

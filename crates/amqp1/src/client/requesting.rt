@@ -2,15 +2,15 @@
 
 ghost use Rattle.std.specs.Prelude.{◌≡◌, ◌≤◌, length};
 ghost use Rattle.amqp1.specs.declared.status.Status.TheVariants.{Done};
-ghost use Rattle.amqp1.specs.Asked.{AllotsOn, Answers, PerformsDispose, RunsMatched, RunsOne};
+ghost use Rattle.amqp1.specs.Asked.{AllotsOn, Answers, PerformsDispose, RunsFound, RunsOne};
 ghost use Rattle.amqp1.specs.Linking.{link_said};
 ghost use Rattle.amqp1.specs.Client.{PerformsLink, ShowsHandle, handle_in};
 ghost use Rattle.amqp1.specs.Refused.{last_by};
 ghost use Rattle.amqp1.specs.Status.{status_of};
 
 use super::Client;
+use crate::finding::found;
 use crate::linking::{self, LinkAsked};
-use crate::matching::is_matched;
 use crate::operation::Operation;
 use crate::refused::Refused;
 use crate::status::{Status, status_of};
@@ -29,22 +29,23 @@ impl Client {
         ensures { Answers ⟦<PlainRelay as LinkRelay>⟧.gives operation input.now self.old result self.new }
     {
         match asking::asked(self.alloc, operation, input) {
-            Ok(input) => self.run_matched(input),
+            Ok(input) => self.run_found(input),
             Err(ReadError::Malformed) => Status::BadArgument,
             Err(ReadError::OutOfMemory) => Status::NoMemory,
         }
     }
 
-    /// Runs an input, unless it is a transfer whose two handles are not those of one link.
-    fn run_matched(&mut self, input: Input<PlainRelay>) -> Status
-        ensures { RunsMatched ⟦<PlainRelay as LinkRelay>⟧.gives self.old input result self.new }
+    /// Runs an input, unless it is a transfer whose link is not attached.
+    fn run_found(&mut self, input: Input<PlainRelay>) -> Status
+        ensures { RunsFound ⟦<PlainRelay as LinkRelay>⟧.gives self.old input result self.new }
     {
-        if is_matched(self.driver.engine(), &input) {
-            return self.run(input);
+        match found(&self.driver, input) {
+            Some(input) => self.run(input),
+            None => {
+                self.last = Refused::unattached();
+                Status::Refused
+            }
         }
-        drop(input);
-        self.last = Refused::unmatched();
-        Status::Refused
     }
 
     /// Runs one input.

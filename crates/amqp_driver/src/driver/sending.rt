@@ -7,7 +7,7 @@ ghost use Rattle.amqp_types.specs.Transfer.{widest};
 ghost use Rattle.amqp_frames.specs.Cut.{room_beside};
 ghost use Rattle.amqp_engine.specs.declared.engine.input.Input.TheVariants as given;
 ghost use Rattle.amqp_driver.specs.Driver.{Mirrors};
-ghost use Rattle.amqp_driver.specs.Heads.{FindsOutput, has, has_room, number_in, refused_as, tag_in};
+ghost use Rattle.amqp_driver.specs.Heads.{FindsInput, has, has_room, number_in, refused_as, tag_in};
 ghost use Rattle.amqp_driver.specs.Requests.{Requests};
 ghost use Rattle.amqp_driver.specs.Sending.{Handles, Sends, SendsTransfer, size_of};
 ghost use Rattle.amqp_driver.specs.Told.{session_at};
@@ -17,7 +17,9 @@ use super::telling::counted;
 use crate::asked::{Asked, asked_of, has_own};
 use crate::copied::Copied;
 use crate::flag;
-use crate::head::{Sent, TransferHead, has, size_of, transfer_of};
+use crate::head::{
+    Sent, TAG_TOO_LONG, TOO_LONG, TransferHead, UNATTACHED, has, size_of, transfer_of,
+};
 use crate::refusals::refusal_number;
 use crate::status::{Posted, Status};
 use amqp_connection::SessionNo;
@@ -26,13 +28,6 @@ use amqp_session::{InputHandle, LinkRelay, OutputHandle};
 use amqp_types::{DeliveryTag, Transfer};
 use bytes::Bytes;
 use std::alloc::AllocError;
-
-/// The refusal of a transfer whose link is not attached: that of `SessionInnerError::UnattachedHandle`.
-const UNATTACHED: u32 = 61;
-/// The refusal of a transfer whose payload does not fit one frame beside it.
-const TOO_LONG: u32 = 91;
-/// The refusal of a transfer whose tag has more than 32 bytes.
-const TAG_TOO_LONG: u32 = 92;
 
 fn posted(status: Status, taken: usize, used: usize) -> Posted
     ensures { result ≡ record { status = status; taken = taken; used = used } }
@@ -119,15 +114,16 @@ impl<R: LinkRelay> Driver<R> {
     /// Sends transfers, each of one frame, in order: of each the head stands in `heads`, and its tag and its payload in `bytes`, one after the
     /// other. What became of it goes to the next place of `sent`: of an accepted first transfer the number of its delivery, which it keeps
     /// also where the session holds it back (AMQP 1.0 part 2, section 2.6.12); of a refused one why. A refused one changes nothing, and the
-    /// next one is taken. A payload that is longer than [`Engine::payload_room`](amqp_engine::Engine::payload_room) is sent in parts by
-    /// the caller: a head for each, `NUMBERED` the first alone, and `MORE` all but the last. What goes out waits in [`Driver::out`].
+    /// next one is taken. A payload that is longer than [`Engine::payload_room`](amqp_engine::Engine::payload_room) goes in parts, by a
+    /// head for each, as [`Driver::cut`] makes them: `NUMBERED` the first alone, and `MORE` all but the last. What goes out waits in
+    /// [`Driver::out`].
     ///
     /// It stops where all were taken (`Done`), where all places of `sent` are written (`Full`), where the bytes end before those of the next
     /// transfer do (`Short`), or where memory was refused and the next transfer was not taken (`NoMemory`: some of what waited in the engine
     /// may be sent, and nothing else has changed). What is not taken is given again.
     ///
     /// ```
-    /// let head = TransferHead { session: 0, link: record.input, format: 0, payload: 5, flags: flag::NUMBERED + flag::TAGGED, tag_size: 1 };
+    /// let head = TransferHead { session: 0, link: record.output, format: 0, payload: 5, flags: flag::NUMBERED + flag::TAGGED, tag_size: 1 };
     /// let mut sent = [Sent { number: 0, refusal: 0 }];
     /// let posted = driver.send(&[head], b"1hello", &mut sent);
     /// ```
@@ -186,19 +182,20 @@ impl<R: LinkRelay> Driver<R> {
         if head.tag_size > 32 {
             return Some(refused(TAG_TOO_LONG));
         }
-        let Some(output) = self.output_of(head) else {
+        let session = SessionNo(head.session);
+        let Some(input) = self.input_handle_of(session, OutputHandle(head.link)) else {
             return Some(refused(UNATTACHED));
         };
         let Ok((tag, payload)) = parts_of(head, copied, bytes, at) else {
             return None;
         };
-        let transfer = transfer_of(head, output, tag);
+        let transfer = transfer_of(head, tag);
         if !self.has_room(&transfer, head.payload) {
             drop(transfer);
             drop(payload);
             return Some(refused(TOO_LONG));
         }
-        self.send_transfer(head, transfer, payload)
+        self.send_transfer(head, input, transfer, payload)
     }
 
     /// Whether so many bytes of payload fit one frame beside a transfer.
@@ -215,13 +212,14 @@ impl<R: LinkRelay> Driver<R> {
     fn send_transfer(
         &mut self,
         head: &TransferHead,
+        input: InputHandle,
         transfer: Transfer,
         payload: Bytes,
     ) -> Option<Sent>
-        ensures { SendsTransfer R.gives self.old head.now transfer payload result self.new }
+        ensures { SendsTransfer R.gives self.old head.now input transfer payload result self.new }
     {
         let number = self.number_of(head);
-        match self.ask_transfer(head, transfer, payload) {
+        match self.ask_transfer(head, input, transfer, payload) {
             Asked::NoMemory => None,
             Asked::Refused(error) => {
                 let sent = refused(refusal_number(&error));
@@ -234,12 +232,18 @@ impl<R: LinkRelay> Driver<R> {
 
     /// Requests the transfer of a head, as [`Driver::request`] does.
     #[inline(always)]
-    fn ask_transfer(&mut self, head: &TransferHead, transfer: Transfer, payload: Bytes) -> Asked
-        ensures { Requests R.gives self.old (given.Transfer (record { 0 = head.now.session }) (record { 0 = head.now.link }) transfer payload (has head.now.flags 1)) result self.new }
+    fn ask_transfer(
+        &mut self,
+        head: &TransferHead,
+        input: InputHandle,
+        transfer: Transfer,
+        payload: Bytes,
+    ) -> Asked
+        ensures { Requests R.gives self.old (given.Transfer (record { 0 = head.now.session }) input transfer payload (has head.now.flags 1)) result self.new }
     {
         let answer = self.engine.run_transfer(
             SessionNo(head.session),
-            InputHandle(head.link),
+            input,
             transfer,
             payload,
             has(head.flags, flag::NUMBERED),
@@ -252,18 +256,22 @@ impl<R: LinkRelay> Driver<R> {
         asked_of(answer, own)
     }
 
-    /// This side's handle of the link of a head. `None` where no such link is attached, in a session that is mapped; any handle where the
-    /// engine is to refuse the transfer.
-    fn output_of(&self, head: &TransferHead) -> Option<OutputHandle>
-        ensures { FindsOutput (session_at self.now.engine (Some head.now.session)) head.now.link result }
+    /// The peer's handle of the link that has this handle of this side's, for [`Input::Transfer`](amqp_engine::Input::Transfer). `None`
+    /// where no such link is attached, in a session that is mapped; any handle, where the engine refuses each transfer of the session.
+    ///
+    /// ```
+    /// let input = driver.input_handle_of(SessionNo(0), OutputHandle(record.output));
+    /// ```
+    pub fn input_handle_of(&self, session: SessionNo, link: OutputHandle) -> Option<InputHandle>
+        ensures { FindsInput (session_at self.now.engine (Some session.0)) link.0 result }
     {
-        let Some(session) = self.engine.session(SessionNo(head.session)) else {
-            return Some(OutputHandle(0));
+        let Some(session) = self.engine.session(session) else {
+            return Some(InputHandle(0));
         };
-        match session.output_handle_of(InputHandle(head.link)) {
+        match session.input_handle_of(link) {
             Some(handle) => Some(handle),
             None if session.can_send() => None,
-            None => Some(OutputHandle(0)),
+            None => Some(InputHandle(0)),
         }
     }
 

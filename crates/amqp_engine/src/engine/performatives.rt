@@ -7,7 +7,8 @@ ghost use Rattle.amqp_frames.specs.declared.frame.FrameBody.TheVariants as body;
 ghost use Rattle.amqp_engine.specs.EngineView.{peer_limit};
 ghost use Rattle.amqp_engine.specs.Engine.{ReceivedCloseStep, moved, recorded};
 ghost use Rattle.amqp_engine.specs.ByHistory.{remote_reason};
-ghost use Rattle.amqp_engine.specs.Inner.Taken.{BodyKept, BodyStep};
+ghost use Rattle.amqp_engine.specs.Inner.Taken.{BodyKept, BodyStep, TriesTransfer};
+ghost use Rattle.amqp_engine.specs.RunFrame.{OfRelay};
 
 use super::handle_state::{close_answer, end_answer};
 use super::peer_encoder::PeerEncoder;
@@ -95,6 +96,41 @@ impl<R: LinkRelay> Engine<R> {
             Ok(()) => self.waiting.put_item(session.maybe_outgoing_session_flow()),
             Err(error) => refused::by_session(outcome, error),
         }
+    }
+
+    /// The same, and it was taken; or memory was refused for the record of its delivery, and nothing changes.
+    #[inline(always)]
+    pub(super) fn try_transfer(
+        &mut self,
+        channel: IncomingChannel,
+        transfer: Transfer,
+        payload: Bytes,
+        outcome: &mut Result<(), StepError>,
+    ) -> bool
+        requires idle { self.old.waiting ≡ [] }
+        requires clear { refusal_of outcome.old ≡ None }
+        ensures tried { TriesTransfer R.gives self.old channel.0 transfer payload result (refusal_of outcome.new) self.new }
+        ensures memory { OfRelay R.gives.transfer_gives transfer payload (refusal_of outcome.new) }
+    {
+        let Some(number) = self.connection.session_tx_by_incoming_channel(channel) else {
+            drop(transfer);
+            drop(payload);
+            refused::unrouted(outcome);
+            return true;
+        };
+        let hint = self.hints.of(number.0);
+        let Some(session) = keys::get_mut(&mut self.sessions, hint, &number.0) else {
+            drop(transfer);
+            drop(payload);
+            refused::no_session(outcome);
+            return true;
+        };
+        match session.take_transfer_if_room(transfer, payload) {
+            None => return false,
+            Some(Ok(())) => self.waiting.put_item(session.maybe_outgoing_session_flow()),
+            Some(Err(error)) => refused::by_session(outcome, error),
+        }
+        true
     }
 
     #[inline(always)]

@@ -14,7 +14,8 @@ use super::step_error::StepError;
 use crate::laws::{law_of_histories, law_of_views};
 use amqp_frames::{Error, Frame, FrameBody, SendBuffer};
 use amqp_session::{IncomingChannel, LinkRelay};
-use amqp_types::{Close, End};
+use amqp_types::{Close, End, Transfer};
+use bytes::Bytes;
 
 impl<R: LinkRelay> Engine<R> {
     /// Runs one received frame that [`FrameDecoder::decode`](amqp_frames::FrameDecoder::decode) has read, or why it read none: as
@@ -29,8 +30,8 @@ impl<R: LinkRelay> Engine<R> {
     /// it is `StepError::Frame` with it, and nothing changes. The refusal is not appended to `returned`. Where memory is refused for what
     /// the frame hands out, that waits for the next call ([`Engine::has_output`]).
     ///
-    /// `None` where the frame is not taken: memory is refused for what waited, or for the copy of the error that a Close or an End names, or
-    /// `read` is `Err(Error::OutOfMemory)`. Then nothing changed but that some of what waited was sent, and the caller may read the frame
+    /// `None` where the frame is not taken: memory is refused for what waited, for the copy of the error that a Close or an End names, or for the
+    /// record of a transfer's delivery; or `read` is `Err(Error::OutOfMemory)`. Then nothing changed but that some of what waited was sent, and the caller may read the frame
     /// and give it again.
     ///
     /// ```
@@ -91,11 +92,7 @@ impl<R: LinkRelay> Engine<R> {
             FrameBody::Transfer {
                 performative,
                 payload,
-            } => {
-                let mut outcome = Ok(());
-                self.on_transfer(channel, performative, payload, &mut outcome);
-                Some(outcome)
-            }
+            } => self.take_transfer(channel, performative, payload),
             FrameBody::Disposition(disposition) => {
                 let mut outcome = Ok(());
                 self.on_disposition(channel, disposition, &mut outcome);
@@ -114,6 +111,24 @@ impl<R: LinkRelay> Engine<R> {
             FrameBody::Close(close) => self.take_close(channel, close),
             FrameBody::Empty => Some(Ok(())),
         }
+    }
+
+    /// Takes a transfer, where there is memory for the record of its delivery.
+    fn take_transfer(
+        &mut self,
+        channel: IncomingChannel,
+        transfer: Transfer,
+        payload: Bytes,
+    ) -> Option<Result<(), StepError>>
+        requires { self.old.waiting ≡ [] }
+        ensures { TakesBody R.gives self.old channel.0 (body.Transfer transfer payload) result self.new }
+    {
+        let mut outcome = Ok(());
+        if !self.try_transfer(channel, transfer, payload, &mut outcome) {
+            drop(outcome);
+            return None;
+        }
+        Some(outcome)
     }
 
     /// Takes the peer's End, of whose error a copy is kept for handles.

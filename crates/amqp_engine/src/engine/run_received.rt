@@ -1,10 +1,11 @@
 //! The received frames that come most often, each by what was read of it: none is made a [`Frame`](amqp_frames::Frame) first, which is large.
 
-ghost use Rattle.std.specs.Prelude.{◌≡◌, ◌≤◌, ◌+◌, ◌⊎◌, [], length, vec_capacity, Ok};
+ghost use Rattle.std.specs.Prelude.{◌≡◌, ◌≤◌, ◌+◌, ◌⊎◌, [], length, vec_capacity, IfSome, Ok};
 ghost use Rattle.amqp_memory.specs.Refusal.{SomeRefused};
 ghost use Rattle.amqp_frames.specs.declared.frame.FrameBody.TheVariants as body;
 ghost use Rattle.amqp_engine.specs.RunInto.{LacksRoom};
-ghost use Rattle.amqp_engine.specs.RunFrame.{AnswersRead, RunsFrame};
+ghost use Rattle.amqp_connection.specs.Connection.{refusal_of};
+ghost use Rattle.amqp_engine.specs.RunFrame.{AnswersRead, OfRelay, RunsFrame};
 
 use super::Engine;
 use super::refusal::Refusal;
@@ -18,7 +19,8 @@ use bytes::Bytes;
 impl<R: LinkRelay> Engine<R> {
     /// Runs a received Transfer, as [`Engine::run_frame`] runs its frame: of the head that
     /// [`FrameDecoder::head`](amqp_frames::FrameDecoder::head) read it has the channel, of the fields the transfer, and what is after them is
-    /// the payload (AMQP 1.0 part 2, section 2.7.5). Answers, and what is said of them, are those of `run_frame`.
+    /// the payload (AMQP 1.0 part 2, section 2.7.5). Answers, and what is said of them, are those of `run_frame`: where the answer is that a session
+    /// lacks memory, its link's relay said so.
     ///
     /// ```
     /// let transfer = Transfer::read_list(alloc, &mut fields)?;
@@ -35,6 +37,7 @@ impl<R: LinkRelay> Engine<R> {
         ensures ran { RunsFrame R.gives self.old (Ok (record { channel = channel.0; body = body.Transfer transfer payload })) result
             out.old.bytes returned.old.items self.new out.new.bytes returned.new.items }
         ensures answers { AnswersRead self.new (Ok (record { channel = channel.0; body = body.Transfer transfer payload })) result }
+        ensures memory { IfSome result (λ a. OfRelay R.gives.transfer_gives transfer payload (refusal_of a)) }
         ensures left { (self.new.waiting ≡ []) ⊎ (LacksRoom self.new out.new returned.new × SomeRefused) }
         ensures room { out.old.room + length out.old.bytes ≤ out.new.room + length out.new.bytes }
         ensures copied { out.new.copied ≡ out.old.copied }
@@ -49,7 +52,10 @@ impl<R: LinkRelay> Engine<R> {
             return None;
         };
         let mut outcome = Ok(());
-        self.on_transfer(channel, transfer, payload, &mut outcome);
+        if !self.try_transfer(channel, transfer, payload, &mut outcome) {
+            drop(outcome);
+            return None;
+        }
         // What is not sent now waits.
         let _ = self.send_out(Some(0), out, returned);
         Some(outcome)

@@ -1,6 +1,6 @@
 //! The output handles that are taken. The one that was freed last is given out first.
 
-ghost use Rattle.std.specs.Prelude.{◌≡◌, true, IsSome, is_some, Some, None, string_bytes};
+ghost use Rattle.std.specs.Prelude.{◌≡◌, true, IsSome, is_some, Some, None, option_copied, string_bytes};
 ghost use Rattle.std.specs.FinMap as map;
 ghost use Rattle.slab.specs.Slab.{HasRoomFor};
 ghost use Rattle.amqp_session.specs.Links.{handles_of};
@@ -22,6 +22,17 @@ pub(super) fn next(handles: &Slab<HandleSlot>) -> usize
     ensures { result ≡ handles.now.vacant_key }
 {
     handles.vacant_key()
+}
+
+/// The name of the live link that has the handle. `None` where none has it.
+pub(super) fn name_of(handles: &Slab<HandleSlot>, handle: u32) -> Option<&str>
+    ensures { option_copied result ≡ live_name (map.get (handles_of handles.now) handle) }
+{
+    match handles.get(handle as usize) {
+        None => None,
+        Some(HandleSlot::Awaited) => None,
+        Some(HandleSlot::Live(name)) => Some(name.as_str()),
+    }
 }
 
 /// Whether a live link has the handle.

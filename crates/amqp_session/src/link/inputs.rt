@@ -43,6 +43,7 @@ pub(super) fn make_place<R: Drop>(
 /// Asks the relay under a handle about a flow.
 pub(super) fn ask_flow<R: LinkRelay>(
     inputs: &mut Numbered<AttachedLink<R>>,
+    hints: &Hints,
     input: InputHandle,
     flow: LinkFlow,
 ) -> Result<Option<LinkFlow>, LinkRelayError>
@@ -51,7 +52,8 @@ pub(super) fn ask_flow<R: LinkRelay>(
         (λ link. inputs.new.entries ≡ set_value (nat_eq input.0) inputs.old.entries link) }
     ensures hasher { hasher_of inputs.new ≡ hasher_of inputs.old }
 {
-    let link = inputs.get_mut(&input.0).unwrap();
+    let at = keys::index_of(inputs, hints, input.0).unwrap();
+    let link = inputs.get_index_mut(at).unwrap();
     link.relay.on_incoming_flow(link.handle, flow)
 }
 

@@ -3,7 +3,7 @@
 ghost use Rattle.std.specs.Prelude.{◌≡◌, ◌<◌, ◌^◌, Option, Some, None, IfOk, IfErr, OnOk, OnErr, if◌then◌else◌, is_some, option_map, string_bytes};
 ghost use Rattle.std.specs.FinMap as map;
 ghost use Rattle.amqp_session.specs.Links.{put_at, attached_at};
-ghost use Rattle.amqp_session.specs.Linking.{named_at, link_at, name_at, output_at, linked, IsFull, Releases, Leaves, Attaches, Detaches, awaits};
+ghost use Rattle.amqp_session.specs.Linking.{named_at, link_at, name_at, output_at, input_handle_at, while_under, linked, IsFull, Releases, Leaves, Attaches, Detaches, awaits};
 ghost use Rattle.amqp_session.specs.Relay.{AttachQuestion, DetachQuestion};
 
 use super::handles::{self, HandleSlot};
@@ -34,6 +34,38 @@ impl<R: LinkRelay> Links<R> {
         }
     }
 
+    /// The input handle under which the live link of an output handle is attached: the peer's last attach gave it.
+    pub(crate) fn input_handle_of(&self, output: OutputHandle) -> Option<InputHandle>
+        ensures { result ≡ input_handle_at output.0 self.now }
+    {
+        let Some(name) = handles::name_of(&self.handles, output.0) else {
+            return None;
+        };
+        let Some(link) = names::of(&self.names, output.0 as usize, name) else {
+            return None;
+        };
+        match link.input {
+            None => None,
+            Some(input) => self.while_under(link.handle, input),
+        }
+    }
+
+    /// An input handle, while the link of this output handle is attached under it.
+    fn while_under(&self, output: OutputHandle, input: InputHandle) -> Option<InputHandle>
+        ensures { result ≡ while_under output (Some input) self.now }
+    {
+        match keys::get(&self.inputs, &self.hints, input.0) {
+            None => None,
+            Some(link) => {
+                if link.handle.0 == output.0 {
+                    Some(input)
+                } else {
+                    None
+                }
+            }
+        }
+    }
+
     /// A handle, while a live link has it.
     fn while_live(&self, handle: OutputHandle) -> Option<OutputHandle>
         ensures { result ≡ if is_some (name_at handle.0 self.now) then Some handle else None }
@@ -55,7 +87,7 @@ impl<R: LinkRelay> Links<R> {
         requires { named_at (string_bytes name) self.old ≡ None }
         ensures free { IfOk result.answer (λ h. map.get self.old.handles h.0 ≡ None) }
         ensures fits { IfOk result.answer (λ h. h.0 < 2 ^ 32) }
-        ensures ok { IfOk result.answer (λ h. self.new ≡ record (linked (string_bytes name) h waiting self.old) { next = self.new.next }) }
+        ensures ok { IfOk result.answer (λ h. self.new ≡ record (linked (string_bytes name) h waiting None self.old) { next = self.new.next }) }
         ensures full { IfErr result.answer (λ e. IsFull self.old e) }
         ensures next { IfOk result.answer (λ h. h.0 ≡ self.old.next) }
         ensures err { OnErr result.answer (self.new ≡ self.old) }
@@ -75,7 +107,12 @@ impl<R: LinkRelay> Links<R> {
             return Leaving::of(Err(AllocLinkError::OutOfMemory), waiting);
         };
         let handle = OutputHandle(handles::take(&mut self.handles, copy) as u32);
-        names::put(&mut self.names, name, LiveLink { handle, waiting });
+        let link = LiveLink {
+            handle,
+            waiting,
+            input: None,
+        };
+        names::put(&mut self.names, name, link);
         Leaving::of(Ok(handle), None)
     }
 
@@ -126,7 +163,7 @@ impl<R: LinkRelay> Links<R> {
         ensures free { IfOk result.answer (λ h. map.get self.old.handles h.0 ≡ None) }
         ensures fits { IfOk result.answer (λ h. h.0 < 2 ^ 32) }
         ensures ok { IfOk result.answer (λ h. self.new ≡ record (put_at input.0
-            (record { handle = h; relay = relay }) (linked (string_bytes name) h None self.old)) { next = self.new.next }) }
+            (record { handle = h; relay = relay }) (linked (string_bytes name) h None (Some input) self.old)) { next = self.new.next }) }
         ensures full { IfErr result.answer (λ e. IsFull self.old e) }
         ensures next { IfOk result.answer (λ h. h.0 ≡ self.old.next) }
         ensures err { OnErr result.answer (self.new ≡ self.old) }
@@ -152,6 +189,7 @@ impl<R: LinkRelay> Links<R> {
         let link = LiveLink {
             handle,
             waiting: None,
+            input: Some(input),
         };
         names::put(&mut self.names, name, link);
         let attached = AttachedLink { handle, relay };
@@ -179,7 +217,7 @@ impl<R: LinkRelay> Links<R> {
             drop(attach);
             return Leaving::of(Err(SessionInnerError::OutOfMemory), None);
         };
-        match names::attach(&mut self.names, attach) {
+        match names::attach(&mut self.names, attach, input) {
             Err(error) => Leaving::of(Err(SessionInnerError::from(error)), None),
             Ok(link) => {
                 let replaced = keys::put(&mut self.inputs, &mut self.hints, input.0, link);

@@ -1,6 +1,6 @@
 //! The live links by name.
 
-ghost use Rattle.std.specs.Prelude.{◌≡◌, ◌<◌, Option, None, option_map, is_some, IsSome, IfNone, IfSome, string_bytes};
+ghost use Rattle.std.specs.Prelude.{◌≡◌, ◌<◌, Option, None, option_copied, option_map, is_some, IsSome, IfNone, IfSome, string_bytes};
 ghost use Rattle.std.specs.FinMap as map;
 ghost use Rattle.indexmap.specs.IndexMap.{spare, hasher_of};
 ghost use Rattle.amqp_session.specs.declared.link.AttachedLink.{AttachedLink};
@@ -10,7 +10,7 @@ ghost use Rattle.amqp_session.specs.Linking.{AttachAsked, WaitAsked, IsWaited, A
 use super::{AttachedLink, LiveLink};
 use crate::error::{LinkRelayError, SessionInnerError};
 use crate::keys::KeyHash;
-use crate::numbers::OutputHandle;
+use crate::numbers::{InputHandle, OutputHandle};
 use crate::relay::LinkRelay;
 use amqp_types::Attach;
 use indexmap::IndexMap;
@@ -26,6 +26,22 @@ pub(super) fn handle_of<R: Drop>(
         None => None,
         Some(link) => Some(link.handle),
     }
+}
+
+/// The live link of a name. It is looked for first at the index where it may be.
+pub(super) fn of<'a, R: Drop>(
+    names: &'a IndexMap<String, LiveLink<R>, KeyHash>,
+    hint: usize,
+    name: &str,
+) -> Option<&'a LiveLink<R>>
+    ensures { option_copied result ≡ map.get (names_of names.now.entries) name.now }
+{
+    if let Some((found, link)) = names.get_index(hint) {
+        if found.as_str() == name {
+            return Some(link);
+        }
+    }
+    names.get(name)
 }
 
 /// Whether a relay waits for the link.
@@ -82,20 +98,24 @@ pub(super) fn remove<R: Drop>(
     left
 }
 
-/// Asks the relay that waits for a link: on success it waits no longer.
+/// Asks the relay that waits for a link: on success it waits no longer, and the link has this input handle.
 fn ask<R: LinkRelay>(
     link: &mut LiveLink<R>,
     attach: Attach,
+    input: InputHandle,
 ) -> Result<AttachedLink<R>, LinkRelayError>
     requires { IsSome link.old.waiting }
-    ensures { WaitAsked R.gives.attach_gives link.old attach result link.new }
+    ensures { WaitAsked R.gives.attach_gives link.old attach input result link.new }
 {
     let mut relay = link.waiting.take().unwrap();
     match relay.on_incoming_attach(attach) {
-        Ok(()) => Ok(AttachedLink {
-            handle: link.handle,
-            relay,
-        }),
+        Ok(()) => {
+            link.input = Some(input);
+            Ok(AttachedLink {
+                handle: link.handle,
+                relay,
+            })
+        }
         Err(error) => {
             link.waiting = Some(relay);
             Err(error)
@@ -103,15 +123,16 @@ fn ask<R: LinkRelay>(
     }
 }
 
-/// Asks the relay that waits under the name of an attach: on success it waits no longer.
+/// Asks the relay that waits under the name of an attach: on success it waits no longer, and its link has this input handle.
 pub(super) fn attach<R: LinkRelay>(
     names: &mut IndexMap<String, LiveLink<R>, KeyHash>,
     attach: Attach,
+    input: InputHandle,
 ) -> Result<AttachedLink<R>, LinkRelayError>
     requires { IsWaited (map.get (names_of names.old.entries) attach.name) }
-    ensures asked { AttachAsked R.gives.attach_gives (names_of names.old.entries) attach result (names_of names.new.entries) }
+    ensures asked { AttachAsked R.gives.attach_gives (names_of names.old.entries) attach input result (names_of names.new.entries) }
     ensures hasher { hasher_of names.new ≡ hasher_of names.old }
 {
     let link = names.get_mut(attach.name.as_str()).unwrap();
-    ask(link, attach)
+    ask(link, attach, input)
 }

@@ -1,6 +1,6 @@
 //! What a session takes from its peer for its links (AMQP 1.0 part 2, section 2.5.6).
 
-ghost use Rattle.std.specs.Prelude.{◌≡◌, ◌≤◌, ◌<◌, ◌^◌, ◌+◌, ◌++◌, ℕ, [], true, false, Option, Some, None, Err, IsSome, IfOk, OnOk, OnErr, length, vec_len, vec_capacity};
+ghost use Rattle.std.specs.Prelude.{◌≡◌, ◌≤◌, ◌<◌, ◌^◌, ◌+◌, ◌++◌, ℕ, [], true, false, Option, Some, None, Err, IsSome, IfSome, IfNone, IfOk, OnOk, OnErr, length, vec_len, vec_capacity};
 ghost use Rattle.std.specs.Option.{option_map};
 ghost use Rattle.amqp_memory.specs.Refusal.{SomeRefused};
 ghost use Rattle.amqp_session.specs.Items.{HandsOut, is_some_list, first_frame};
@@ -10,7 +10,7 @@ ghost use Rattle.amqp_session.specs.Links.{attached_at};
 ghost use Rattle.amqp_session.specs.Relay.{FlowQuestion, TransferQuestion};
 ghost use Rattle.amqp_session.specs.Sending.{let_out, drained, opened_by, ready_count, moved};
 ghost use Rattle.amqp_session.specs.Session.{flow_frame};
-ghost use Rattle.amqp_session.specs.Step.{FlowStep, LinkFlowStep, FlowUnasked, FlowFits, TakeTransferStep, LinkTransferStep, flow_moved, named_delivery, without_answer};
+ghost use Rattle.amqp_session.specs.Step.{FlowStep, LinkFlowStep, FlowUnasked, FlowFits, LacksRecord, RelayLacks, TakeTransferStep, flow_moved, named_delivery, without_answer};
 ghost use Rattle.amqp_session.specs.Errors.{inner_of_relay};
 
 use super::Session;
@@ -168,10 +168,29 @@ impl<R: LinkRelay> Session<R> {
         ensures walk { self.new.last_walk ≡ self.old.last_walk }
         ensures reads { self.new.reads ≡ self.old.reads }
     {
-        let counts = &mut self.receiving;
-        counts.next_incoming_id = counts.next_incoming_id.wrapping_add(1);
-        counts.remote_outgoing_window = counts.remote_outgoing_window.saturating_sub(1);
-        counts.unreported = counts.unreported.saturating_add(1);
+        match self.take_transfer_if_room(transfer, payload) {
+            Some(answer) => answer,
+            None => {
+                self.receiving.count();
+                refused(SessionInnerError::OutOfMemory)
+            }
+        }
+    }
+
+    /// [`Session::take_transfer`], but where memory is refused for the record of a delivery: then the answer is `None`, and nothing has changed, so
+    /// that the transfer may come again. Else `OutOfMemory` is an error of the relay alone.
+    pub fn take_transfer_if_room(
+        &mut self,
+        transfer: Transfer,
+        payload: Bytes,
+    ) -> Option<Result<(), SessionInnerError>>
+        ensures none { IfNone result ((self.new ≡ self.old) × LacksRecord self.old.view transfer.handle) }
+        ensures step { IfSome result (λ r. (asked : Option (TransferQuestion R))
+            × TakeTransferStep R.gives.transfer_gives self.old.view transfer payload asked (without_answer r) self.new.view) }
+        ensures memory { IfSome result (λ r. RelayLacks R.gives.transfer_gives transfer payload r) }
+        ensures walk { self.new.last_walk ≡ self.old.last_walk }
+        ensures reads { self.new.reads ≡ self.old.reads }
+    {
         let input = InputHandle(transfer.handle.0);
         let state_len = match &transfer.state {
             None => 0,
@@ -182,11 +201,19 @@ impl<R: LinkRelay> Session<R> {
             .links
             .ask_transfer(transfer, payload, &mut self.received);
         match asked {
-            Err(unasked) => refused(unasked),
-            Ok(Err(error)) => refused_by_relay(error),
+            Err(SessionInnerError::OutOfMemory) => None,
+            Err(unasked) => {
+                self.receiving.count();
+                Some(refused(unasked))
+            }
+            Ok(Err(error)) => {
+                self.receiving.count();
+                Some(refused_by_relay(error))
+            }
             Ok(Ok(named)) => {
+                self.receiving.count();
                 record_named(&mut self.tags, &mut self.received, input, named, beside);
-                Ok(())
+                Some(Ok(()))
             }
         }
     }

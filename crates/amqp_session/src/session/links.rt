@@ -1,7 +1,7 @@
 //! The calls of a session for its links (AMQP 1.0 part 2, section 2.6).
 
 ghost use Rattle.std.specs.Prelude.{◌≡◌, Option, option_map, string_bytes, OnOk, IfErr};
-ghost use Rattle.amqp_session.specs.Linking.{named_at, output_at, has_ended, why_unallotted, MayAllot, AllotRefused, AllocateLinkStep, AllocateIncomingStep, DeallocateStep, TakeAttachStep, TakeDetachStep, SendAttachStep, SendDetachStep};
+ghost use Rattle.amqp_session.specs.Linking.{named_at, output_at, input_handle_at, has_ended, why_unallotted, MayAllot, AllotRefused, AllocateLinkStep, AllocateIncomingStep, DeallocateStep, TakeAttachStep, TakeDetachStep, SendAttachStep, SendDetachStep};
 ghost use Rattle.amqp_session.specs.Relay.{AttachQuestion, DetachQuestion};
 
 use super::Session;
@@ -36,6 +36,15 @@ impl<R: LinkRelay> Session<R> {
         ensures { result ≡ output_at input.0 self.now.view.links }
     {
         self.links.output_handle_of(input)
+    }
+
+    /// The input handle of the live link of an output handle: the peer's last attach gave it, and the link is attached there. `None`
+    /// where no live link has the output handle, where the peer has not attached the link, where it has detached it, and where it has
+    /// given the input handle to another link since (AMQP 1.0 part 2, section 2.6.2).
+    pub fn input_handle_of(&self, output: OutputHandle) -> Option<InputHandle>
+        ensures { result ≡ input_handle_at output.0 self.now.view.links }
+    {
+        self.links.input_handle_of(output)
     }
 
     /// Allots an output handle for a link of this name, in `Mapped`. The relay, if any, waits under the name for the peer's attach. Without

@@ -2,7 +2,7 @@
 
 ghost use Rattle.std.specs.Prelude.{◌≡◌};
 ghost use Rattle.amqp_session.specs.Disposing.{widened};
-ghost use Rattle.amqp_session.specs.Receiving.{nothing_received, numbered_anew, reported};
+ghost use Rattle.amqp_session.specs.Receiving.{counted, nothing_received, numbered_anew, reported};
 
 /// The numbers of the transfers that the peer sends (AMQP 1.0 part 2, section 2.5.6).
 #[derive(Clone, Copy, Debug, PartialEq, Eq)]
@@ -25,6 +25,16 @@ impl Receiving {
             remote_outgoing_window: 0,
             unreported: 0,
         }
+    }
+
+    /// A transfer came: it takes the next number, and one of the window.
+    #[inline(always)]
+    pub(crate) fn count(&mut self)
+        ensures { self.new ≡ counted self.old }
+    {
+        self.next_incoming_id = self.next_incoming_id.wrapping_add(1);
+        self.remote_outgoing_window = self.remote_outgoing_window.saturating_sub(1);
+        self.unreported = self.unreported.saturating_add(1);
     }
 
     /// The peer says its next number and its outgoing window.

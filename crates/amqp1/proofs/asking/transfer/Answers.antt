@@ -6,16 +6,13 @@ use Rattle.amqp1.proofs.asking.transfer.Goals as goal
 
 pub returns-in-Ok : goal.returns-in-Ok
 returns-in-Ok g c = record {
-  handle = c.in-Some.handle;
-  flag = c.in-Some-byte.flag;
+  flag = c.in-Some.flag;
   first = c.in-Some-flag.first;
   count = c.in-Some-number.count;
-  after = c.in-Some.after.now;
-  rest = c.in-Some-byte.rest.now;
+  rest = c.in-Some.rest.now;
   parts = c.in-Some-number.parts.now;
   transfer = (c.in-Ok.transfer, c.in-Ok.payload);
-  has_handle = sym c.in-Some.ensures;
-  has_flag = sym c.in-Some-byte.ensures;
+  has_flag = sym c.in-Some.ensures;
   first_is = sym c.in-Some-flag.ensures;
   has_count = sym c.in-Some-number.ensures;
   has_transfer = c.in-Ok.ensures;
@@ -24,5 +21,5 @@ returns-in-Ok g c = record {
 
 pub returns-in-Err : goal.returns-in-Err
 returns-in-Err g c = none_of (HasTransfer c.in-Some-number.count c.in-Some-number.parts.now) (AsksTransfer c.args.session c.args.input.now) c.in-Err.error
-    (transfer_after c.args.session c.args.input.now c.in-Some.handle c.in-Some-byte.flag c.in-Some-number.count c.in-Some.after.now c.in-Some-byte.rest.now
-    c.in-Some-number.parts.now (sym c.in-Some.ensures) (sym c.in-Some-byte.ensures) (sym c.in-Some-number.ensures)) c.in-Err.ensures
+    (transfer_after c.args.session c.args.input.now c.in-Some.flag c.in-Some-number.count c.in-Some.rest.now c.in-Some-number.parts.now
+    (sym c.in-Some.ensures) (sym c.in-Some-number.ensures)) c.in-Err.ensures

@@ -1,5 +1,6 @@
-use Rattle.std.proofs.Common.{[], ◌∷◌, Some, None, refl, ap, sym, ◌∙◌}
+use Rattle.std.proofs.Common.{[], ◌∷◌, Some, None, refl, ap, sym, subst, ◌∙◌}
 use Rattle.amqp_session.specs.Inner.Histories.{input_from}
+use Rattle.amqp_session.specs.Linking.{WaitsFor}
 use Rattle.amqp_session.specs.History.{TakesAttach, TakesDetach}
 use Rattle.amqp_events.specs.Runs.{ToldAttach, ToldDetach}
 use Rattle.amqp_events.proofs.RunLemmas.{gives_queued, run_gives}
@@ -16,7 +17,7 @@ pub returns-clause-attach : goal.returns-clause-attach
 returns-clause-attach c = λ m w before after a q result l.
     let s = chain_split gives_queued before (TakesAttach a (Some q) result ∷ after) _ w l.2 in
     let t = s.2.1.0 in
-    (sym ((c.law_of_views.ensures.stands m before s.0 (l.0, l.1, s.1)).names_are a.name) ∙ t.1, run_gives q.before q.after (ToldAttach a q.answer ∷ []) (q.after, t.2, refl))
+    (subst (λ o. WaitsFor o q.handle q.before) ((c.law_of_views.ensures.stands m before s.0 (l.0, l.1, s.1)).names_are a.name) t.1, run_gives q.before q.after (ToldAttach a q.answer ∷ []) (q.after, t.2, refl))
 
 pub returns-clause-detach : goal.returns-clause-detach
 returns-clause-detach c = λ m w before after d q result l.

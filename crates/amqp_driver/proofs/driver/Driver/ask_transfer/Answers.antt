@@ -7,16 +7,16 @@ use Rattle.amqp_driver.proofs.driver.Driver.ask_transfer.Goals as goal
 
 pub returns : goal.returns
 returns g c = subst (λ m. Requests g.R.LinkRelay.gives m
-    (given.Transfer (record { 0 = c.args.head.now.session }) (record { 0 = c.args.head.now.link }) c.args.transfer c.args.payload (has c.args.head.now.flags 1)) c.asked_of.result
+    (given.Transfer (record { 0 = c.args.head.now.session }) c.args.input c.args.transfer c.args.payload (has c.args.head.now.flags 1)) c.asked_of.result
     (record { engine = c.run_transfer-answer.new.self; to_send = c.run_transfer-answer.new.out.bytes; unfit = c.counted-self-inside.result }))
     c.self.view_is
     (subst (λ (b : Bool). Requests g.R.LinkRelay.gives
     (record { engine = c.self.inside.engine; to_send = c.self.inside.out.bytes; unfit = c.self.inside.unfit })
-    (given.Transfer (record { 0 = c.args.head.now.session }) (record { 0 = c.args.head.now.link }) c.args.transfer c.args.payload b) c.asked_of.result
+    (given.Transfer (record { 0 = c.args.head.now.session }) c.args.input c.args.transfer c.args.payload b) c.asked_of.result
     (record { engine = c.run_transfer-answer.new.self; to_send = c.run_transfer-answer.new.out.bytes; unfit = c.counted-self-inside.result }))
     c.has.ensures
     (requests g.R.LinkRelay.gives c.self.inside.engine c.run_transfer-answer.new.self
-    (given.Transfer (record { 0 = c.args.head.now.session }) (record { 0 = c.args.head.now.link }) c.args.transfer c.args.payload c.has.result)
+    (given.Transfer (record { 0 = c.args.head.now.session }) c.args.input c.args.transfer c.args.payload c.has.result)
     c.self.inside.out.bytes c.run_transfer-answer.new.out.bytes
     c.self.inside.returned.items c.run_transfer-answer.new.returned.items c.self.inside.unfit c.counted-self-inside.result c.run_transfer-answer.result c.has_own-own.result
     c.asked_of.result c.self.invariant c.run_transfer-answer.ensures.ran c.counted-self-inside.ensures (c.has_own-own.ensures ∙ ap has_own c.as_slice.ensures.value) c.asked_of.ensures))

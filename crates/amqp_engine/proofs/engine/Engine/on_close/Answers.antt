@@ -1,10 +1,9 @@
-use Rattle.std.proofs.Common.{rules, ◌≡◌, None, Some, IsSome, [], refl, ap, subst, ◌∙◌}
+use Rattle.std.proofs.Common.{rules, ◌≡◌, None, Some, [], refl, subst}
 use Rattle.amqp_engine.specs.declared.engine.step_error.StepError.TheVariants as no
 use Rattle.amqp_connection.specs.Connection.{refusal_of}
 use Rattle.amqp_engine.specs.EngineView.{EngineView}
 use Rattle.amqp_engine.specs.Engine.{ReceivedClose}
 use Rattle.amqp_engine.proofs.OutcomeLemmas.{close_copy, kept_close}
-use Rattle.amqp_frames.specs.declared.frame.FrameBody.TheVariants as body
 use Rattle.amqp_engine.proofs.engine.Engine.on_close.Goals as goal
 
 pub close_answer-requires : goal.close_answer-requires

@@ -9,7 +9,6 @@ use Rattle.amqp_engine.specs.Inner.Calls.{ReceivedEndCalls}
 use Rattle.amqp_engine.proofs.AskedSessionLemmas.{reaches, reaches_unknown, reaches_none}
 use Rattle.amqp_engine.proofs.OutcomeLemmas.{end_copy, seat_known, kept_end}
 use Rattle.amqp_engine.proofs.SessionListLemmas.{viewed_some, viewed_none, seated_set}
-use Rattle.amqp_frames.specs.declared.frame.FrameBody.TheVariants as body
 use Rattle.amqp_engine.proofs.engine.Engine.on_end.Goals as goal
 
 pub returns-in_err-number : goal.returns-in_err-number

@@ -3,7 +3,6 @@ use Rattle.amqp_connection.specs.Connection.{refusal_of}
 use Rattle.amqp_engine.specs.declared.engine.step_error.StepError.TheVariants.{ConnectionState}
 use Rattle.amqp_engine.specs.EngineView.{EngineView, views_of, walks_of}
 use Rattle.amqp_engine.specs.Engine.{ReceivedOpen}
-use Rattle.amqp_frames.specs.declared.frame.FrameBody.TheVariants as body
 use Rattle.amqp_engine.proofs.engine.Engine.on_open.Goals as goal
 
 pub returns : goal.returns

@@ -10,12 +10,19 @@ returns-in_default-clause-ran g c =
     let s = c.send_out.ensures.said in
     ran_none g.R.LinkRelay.gives _ _ _ _ _ _ _ s.0 c.law_of_histories.ensures c.law_of_views.ensures c.send_out.ensures.taken s.1 s.2 refl
 
+pub returns-then-not-try_transfer-clause-ran : goal.returns-then-not-try_transfer-clause-ran
+returns-then-not-try_transfer-clause-ran g c =
+    let s = c.send_out.ensures.said in
+    let t = rw c.if-not-try_transfer.true at c.try_transfer.ensures.tried in
+    ran_none g.R.LinkRelay.gives _ _ _ _ _ _ _ s.0 c.law_of_histories.ensures c.law_of_views.ensures c.send_out.ensures.taken s.1 s.2 t.1
+
 pub returns-clause-ran : goal.returns-clause-ran
 returns-clause-ran g c =
     let s = c.send_out.ensures.said in
     let more = c.send_out-2.ensures.said in
+    let took = rw c.if-not-try_transfer.false at c.try_transfer.ensures.tried in
     λ bytes from. ran_frame g.R.LinkRelay.gives _ _ _ _ bytes (Ok (record { channel = c.args.channel.0; body = body.Transfer c.args.transfer c.args.payload })) _ _ _ _ _ _ _ s.0 more.0
     c.law_of_histories.ensures c.law_of_views.ensures c.send_out.ensures.taken s.1 s.2 c.in-Ok.ensures.ok
-    (taken_step g.R.LinkRelay.gives _ _ (Ok (record { channel = c.args.channel.0; body = body.Transfer c.args.transfer c.args.payload })) c.on_transfer.new.outcome bytes from c.in-Ok.ensures.ok
-    (body_kept g.R.LinkRelay.gives _ c.on_transfer.new.self c.args.channel.0 (body.Transfer c.args.transfer c.args.payload) (refusal_of c.on_transfer.new.outcome) tt c.on_transfer.ensures))
+    (taken_step g.R.LinkRelay.gives _ _ (Ok (record { channel = c.args.channel.0; body = body.Transfer c.args.transfer c.args.payload })) c.try_transfer.new.outcome bytes from c.in-Ok.ensures.ok
+    (body_kept g.R.LinkRelay.gives _ c.try_transfer.new.self c.args.channel.0 (body.Transfer c.args.transfer c.args.payload) (refusal_of c.try_transfer.new.outcome) tt took))
     c.send_out-2.ensures.taken more.1 more.2

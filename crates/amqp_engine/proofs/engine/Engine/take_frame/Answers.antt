@@ -17,7 +17,7 @@ pub returns-in-Open : goal.returns-in-Open
 returns-in-Open g c = rw c.in-Open.is (body_kept g.R.LinkRelay.gives c.args.self.now c.on_open.new.self c.args.frame.channel (body.Open c.in-Open.«open») (refusal_of c.on_open.result) tt c.on_open.ensures)
 
 pub returns-in-Transfer : goal.returns-in-Transfer
-returns-in-Transfer g c = rw c.in-Transfer.is (body_kept g.R.LinkRelay.gives c.args.self.now c.on_transfer.new.self c.args.frame.channel (body.Transfer c.in-Transfer.performative c.in-Transfer.payload) (refusal_of c.on_transfer.new.outcome) tt c.on_transfer.ensures)
+returns-in-Transfer g c = rw c.in-Transfer.is c.take_transfer.ensures
 
 pub returns-in-Disposition : goal.returns-in-Disposition
 returns-in-Disposition g c = rw c.in-Disposition.is (body_kept g.R.LinkRelay.gives c.args.self.now c.on_disposition.new.self c.args.frame.channel (body.Disposition c.in-Disposition.disposition) (refusal_of c.on_disposition.new.outcome) tt c.on_disposition.ensures)

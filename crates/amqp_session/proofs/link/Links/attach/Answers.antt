@@ -27,11 +27,11 @@ pub returns-in-Err-clause-step : goal.returns-in-Err-clause-step
 returns-in-Err-clause-step g c =
     rw (c.of-in-Err.ensures.answer, ← c.self.view_is) (attaches_err g.R.LinkRelay.gives.attach_gives
     (record { hash = hasher_of c.self.inside.names; names = names_of c.self.inside.names.entries; handles = handles_of c.self.inside.handles; inputs = inputs_of c.self.inside.inputs.entries; next = c.self.inside.handles.vacant_key })
-    c.args.attach _ c.in-Err.ensures.hasher _ _ c.in-Err.error c.from.result c.in-Err.ensures.asked c.from.ensures (ap inputs_of c.make_place.ensures.entries))
+    c.args.attach _ c.in-Err.ensures.hasher _ _ c.from-input.result c.in-Err.error c.from.result c.in-Err.ensures.asked c.from.ensures (ap inputs_of c.make_place.ensures.entries))
 
 pub returns-in-Ok-attach-clause-step : goal.returns-in-Ok-attach-clause-step
 returns-in-Ok-attach-clause-step g c =
     let is : c.from-input.result.0 ≡ c.args.attach.handle = ap (λ (i : InputHandle). i.0) c.from-input.ensures ∙ ap (λ (a : AttachModel). a.handle) c.attach.view_is in
     rw (c.of-in-Ok-attach.ensures.answer, ← c.self.view_is) (attaches_ok g.R.LinkRelay.gives.attach_gives
     (record { hash = hasher_of c.self.inside.names; names = names_of c.self.inside.names.entries; handles = handles_of c.self.inside.handles; inputs = inputs_of c.self.inside.inputs.entries; next = c.self.inside.handles.vacant_key })
-    c.args.attach _ c.in-Ok-attach.ensures.hasher _ _ (inputs_of c.make_place.new.inputs.entries) c.from-input.result.0 c.in-Ok-attach.link c.in-Ok-attach.ensures.asked is (ap inputs_of c.make_place.ensures.entries) c.put-replaced.ensures.put)
+    c.args.attach _ c.in-Ok-attach.ensures.hasher _ _ (inputs_of c.make_place.new.inputs.entries) c.from-input.result c.in-Ok-attach.link c.in-Ok-attach.ensures.asked is (ap inputs_of c.make_place.ensures.entries) c.put-replaced.ensures.put)

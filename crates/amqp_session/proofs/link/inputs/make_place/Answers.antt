@@ -1,4 +1,4 @@
-use Rattle.std.proofs.Common.{◌≡◌, is_some, None, ap, sym, ◌∙◌, true, false}
+use Rattle.std.proofs.Common.{◌≡◌, is_some, ap, sym, ◌∙◌, true, false}
 use Rattle.amqp_session.proofs.AbsenceLemmas.{none_there, on_any_err}
 use Rattle.amqp_session.proofs.FiniteMapLemmas.{get_at}
 use Rattle.amqp_session.proofs.link.inputs.make_place.Goals as goal

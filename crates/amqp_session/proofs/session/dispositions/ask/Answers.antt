@@ -1,4 +1,4 @@
-use Rattle.std.proofs.Common.{None, ◌/◌, ◌≡◌, ◌≤◌, ◌+◌, ◌-◌, ◌%◌, ◌^◌, min, vec_capacity, List, length, arith, sym, IsSome, inr, true, refl, ap, subst, ◌∙◌, Result, Ok, Err, IfOk, OnOk, OnErr, map}
+use Rattle.std.proofs.Common.{None, ◌/◌, ◌≡◌, ◌≤◌, ◌+◌, min, vec_capacity, List, length, arith, sym, IsSome, inr, true, refl, ap, subst, ◌∙◌, Result, Ok, Err, IfOk, OnOk, OnErr, map}
 use Rattle.std.proofs.lemmas.List.{length-map}
 use Rattle.amqp_types.specs.Disposition.{DispositionModel}
 use Rattle.amqp_session.specs.declared.deliveries.Delivery.{Delivery}

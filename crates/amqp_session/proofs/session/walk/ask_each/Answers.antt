@@ -1,4 +1,4 @@
-use Rattle.std.proofs.Common.{rules, map, None, vec_len, ◌≡◌, ◌≤◌, ◌<◌, ◌+◌, ◌-◌, ◌%◌, ◌^◌, [], List, length, take, Some, refl, ap, sym, subst, ◌∙◌, arith, slice_get}
+use Rattle.std.proofs.Common.{rules, map, None, vec_len, ◌≡◌, ◌≤◌, ◌<◌, ◌+◌, ◌^◌, [], List, length, take, Some, refl, ap, sym, subst, ◌∙◌, arith, slice_get}
 use Rattle.std.proofs.lemmas.List.{length-map}
 use Rattle.amqp_types.specs.Disposition.{DispositionModel}
 use Rattle.amqp_session.specs.declared.deliveries.Delivery.{Delivery}
