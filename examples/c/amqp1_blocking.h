@@ -15,9 +15,8 @@ enum { SESSION = 0 };
 static int the_socket = -1;
 static amqp1 engine;
 
-/* How many of the Open, the Begin and the Attaches of the peer have come; the peer's handle of the link that was attached last; whether the peer has
-   closed. */
-static uint32_t steps, link_handle, closed;
+/* How many of the Open, the Begin and the Attaches of the peer have come; whether the peer has closed. */
+static uint32_t steps, closed;
 
 /* What the program does with another record; the frame stands in the input. */
 static void take_record(const amqp1_record *record, const uint8_t *input);
@@ -137,9 +136,9 @@ static void give(void)
 static void take_any(const amqp1_record *record, const uint8_t *input)
 {
     switch (record->kind) {
-    case AMQP1_KIND_ATTACHED: link_handle = record->input; /* fall through */
     case AMQP1_KIND_OPENED:
-    case AMQP1_KIND_BEGUN: steps++; break;
+    case AMQP1_KIND_BEGUN:
+    case AMQP1_KIND_ATTACHED: steps++; break;
     case AMQP1_KIND_CLOSED: closed++; break;
     case AMQP1_KIND_FLOW:
     case AMQP1_KIND_TRANSFER:

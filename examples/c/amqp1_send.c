@@ -23,8 +23,8 @@ static void take_record(const amqp1_record *record, const uint8_t *input)
     must("a disposition", amqp1_dispose(&engine, SESSION, AMQP1_RECEIVER, record->first, record->last, 1, AMQP1_ACCEPTED));
 }
 
-/* Sends as many messages as the peer gives credit for, a hundred by one call at most. */
-static void send_some(uint32_t count)
+/* Sends as many messages on a link as the peer gives credit for, a hundred by one call at most. */
+static void send_some(uint32_t link, uint32_t count)
 {
     static amqp1_head heads[100];
     static amqp1_sent became[100];
@@ -33,7 +33,7 @@ static void send_some(uint32_t count)
     amqp1_went went;
     char text[32];
     size_t used = 0, n = 0, payload;
-    for (head.link = link_handle; n < 100 && sent < count && sent < credit; n++, sent++, used += 4 + head.payload) {
+    for (head.link = link; n < 100 && sent < count && sent < credit; n++, sent++, used += 4 + head.payload) {
         int length = snprintf(text, sizeof text, "message %u", (unsigned)sent);
         amqp1_u32_at(bytes + used, sent);
         must("a text", amqp1_write_data(bytes + used + 4, 60, &payload, text, (size_t)length));
@@ -55,8 +55,8 @@ int main(int words_count, char **words)
     connect_to(words[1], words[2]);
     login();
     meet("amqp1_send", words[1]);
-    attach("to", AMQP1_SENDER, words[3]);
-    for (send_some(count); give(), settled < count; send_some(count))
+    output = attach("to", AMQP1_SENDER, words[3]);
+    for (send_some(output, count); give(), settled < count; send_some(output, count))
         hear();
     printf("sent %u messages, all settled by the peer\n", (unsigned)sent);
     output = attach("from", AMQP1_RECEIVER, words[3]);

@@ -53,7 +53,7 @@ static struct link *link_of(struct peer *p, const amqp1_record *record)
 {
     struct link *it;
     for (it = p->links; it; it = it->next)
-        if (it->session == record->session && it->input == record->input)
+        if (it->session == record->session && it->output == record->output)
             return it;
     return NULL;
 }
@@ -121,7 +121,6 @@ static void attach(struct peer *p, const amqp1_record *record, const uint8_t *in
         return;
     it = (struct link *)some(sizeof *it);
     it->session = record->session;
-    it->input = record->input;
     it->output = output;
     it->is_receiver = role == AMQP1_RECEIVER;
     it->count = it->is_receiver ? record->count : 0;
@@ -194,7 +193,7 @@ static void send_message(struct peer *p, struct link *it, const struct message *
     amqp1_went went;
     uint8_t *bytes = (uint8_t *)some(p->payload_room + sizeof tag);
     head.session = it->session;
-    head.link = it->input;
+    head.link = it->output;
     amqp1_u32_at(bytes, it->count);
     do {
         size_t part = length - at < p->payload_room ? length - at : p->payload_room;
@@ -281,9 +280,8 @@ static void detached(struct peer *p, const amqp1_record *record)
     struct link *it = link_of(p, record);
     if (!it)
         return;
-    if (record->output != AMQP1_NONE &&
-        !told(p, "a detach's text", amqp1_write_detach(text, sizeof text, &length, it->output,
-                                                       amqp1_has(record, AMQP1_FLAG_FOR_GOOD), NULL, NULL)))
+    if (!told(p, "a detach's text",
+              amqp1_write_detach(text, sizeof text, &length, it->output, amqp1_has(record, AMQP1_FLAG_FOR_GOOD), NULL, NULL)))
         told(p, "a detach", amqp1_detach(&p->engine, it->session, 0, text, length));
     drop_links(p, it, 0);
 }

@@ -24,7 +24,7 @@ struct queue {
 struct link {
     struct link *next;
     int is_receiver, is_settled;
-    uint32_t session, input, output, credit, count, number;
+    uint32_t session, output, credit, count, number;
     struct queue *queue;
     struct message *partial;
 };

@@ -176,7 +176,7 @@ AMQP1_FUNCTION int32_t amqp1_allot(amqp1 *place, uint32_t operation, const uint8
 
 /* An output handle is allotted for a link of this name (UTF-8), on whose end `role` this side stands; the peer's attach is awaited under the
    name, which serves one live link of a session, on either end. `mode` is the receiver settle mode: deliveries that come by AMQP1_SECOND are recorded
-   until they are settled. */
+   until they are settled. All later calls name the link by this handle, in PERF or in an amqp1_head. */
 AMQP1_FUNCTION int32_t amqp1_link(amqp1 *place, uint32_t session, enum amqp1_role role, enum amqp1_rcv_settle_mode mode, const char *name,
                                   uint32_t *handle)
 {
@@ -221,19 +221,19 @@ AMQP1_FUNCTION int32_t amqp1_flow(amqp1 *place, uint32_t session, const uint8_t 
     return amqp1_of_session(place, AMQP1_FLOW, session, flow, length);
 }
 
-/* A Transfer (its PERF, and the payload) of a link is to be sent: the first of its delivery (1), or a later one (0). The input handle and the handle
-   in PERF are those of one link, whose attach came and which neither side has detached: else it is REFUSED
-   (`UnattachedHandle`). PERF of 0 bytes is BAD_ARGUMENT: the payload is never read as PERF.
-   The delivery's number is the engine's. A payload longer than amqp1_payload_room is cut, which a peer's window counts as several. */
-AMQP1_FUNCTION int32_t amqp1_transfer(amqp1 *place, uint32_t session, uint32_t input_handle, int first, const uint8_t *transfer, size_t length,
-                                      const uint8_t *payload, size_t payload_length)
+/* A Transfer (its PERF, and the payload) of a link is to be sent: the first of its delivery (1), or a later one (0). The handle in PERF is that of
+   a link which the peer has attached and neither side has detached: else, in a session that is mapped, it is REFUSED (`UnattachedHandle`). PERF of
+   0 bytes is BAD_ARGUMENT: the payload is never read as PERF. The delivery's number is the engine's. A payload longer than amqp1_payload_room is
+   cut, which a peer's window counts as several. */
+AMQP1_FUNCTION int32_t amqp1_transfer(amqp1 *place, uint32_t session, int first, const uint8_t *transfer, size_t length, const uint8_t *payload,
+                                      size_t payload_length)
 {
-    uint8_t head[13];
+    uint8_t head[9];
     if (length > UINT32_MAX)
         return AMQP1_BAD_ARGUMENT;
-    amqp1_u32_at(amqp1_u32_at(head, session), input_handle);
-    head[8] = first ? 1 : 0;
-    amqp1_u32_at(head + 9, (uint32_t)length);
+    amqp1_u32_at(head, session);
+    head[4] = first ? 1 : 0;
+    amqp1_u32_at(head + 5, (uint32_t)length);
     return amqp1_join_and_ask(place, AMQP1_TRANSFER, head, sizeof head, transfer, length, payload, payload_length);
 }
 

@@ -150,7 +150,7 @@ typedef struct amqp1_record {
     uint16_t flags;      /* those of amqp1_flag */
     uint32_t session;    /* the session that the frame reached */
     uint32_t output;     /* this side's handle of the link, where one is live; of an attach the one of its name. None of a detach that answers */
-    uint32_t input;      /* the peer's handle of the link */
+    uint32_t input;      /* the peer's handle of the link: of all calls amqp1_link_on alone takes it */
     uint32_t first;      /* the number of the delivery; of a disposition the first one */
     uint32_t last;       /* the number of the delivery; of a disposition the last one */
     uint32_t format;     /* the format of the message */
@@ -178,7 +178,7 @@ typedef struct amqp1_took {
    that go with the heads. */
 typedef struct amqp1_head {
     uint32_t session;  /* the session */
-    uint32_t link;     /* the link, by the peer's handle: `input` in the record of the peer's attach */
+    uint32_t link;     /* the link, by this side's handle: the one that amqp1_link gave, `output` in records */
     uint32_t format;   /* the format of the message, with AMQP1_FLAG_FORMATTED */
     uint32_t payload;  /* how many bytes the payload has: at most amqp1_payload_room */
     uint16_t flags;    /* of amqp1_flag: NUMBERED and TAGGED of the first transfer of a delivery; SETTLED, MORE, ABORTED, FORMATTED */

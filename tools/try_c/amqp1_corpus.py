@@ -21,6 +21,7 @@ PERFS = {
     10: "005312c00803a1036f75744341",
     11: "01005316c003024341",
     12: "005313c0080543524043526443",
+    13: "010000000d005314c008054340a001744342ff",
     14: "005315c006054143434140",
 }
 
@@ -46,7 +47,7 @@ def requests():
 
 
 def sends():
-    head = struct.pack("<IIIIHH", 7, 5, 0, 4, 1 + 16384, 4)
+    head = struct.pack("<IIIIHH", 7, 0, 0, 4, 1 + 16384, 4)
     for count in range(1, 4):
         yield step(SEND, count + 4 + 24, head * count + b"tag1data" * count) + step(OUTPUT, 31)
         yield step(SEND, count + 8, head * count + b"tag1dat" * count) + step(OUTPUT, 31)

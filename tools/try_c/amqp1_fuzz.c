@@ -116,7 +116,7 @@ static void send(amqp1 *engine, const uint8_t *bytes, size_t length, unsigned ro
     memcpy(heads, bytes, count * sizeof *heads);
     for (n = 0; room & 4 && n < count; n++) {
         heads[n].session = 7;
-        heads[n].link = 5;
+        heads[n].link = 0;
         heads[n].tag_size %= 34;
         heads[n].payload %= 2000;
     }

@@ -46,16 +46,70 @@ static void try_transfers(amqp1 *engine)
     uint8_t transfer[64];
     size_t length;
     CHECK(amqp1_write_transfer(transfer, sizeof transfer, &length, 0, "t0", 2, 0, 0, 0) == AMQP1_DONE);
-    CHECK(amqp1_transfer(engine, 7, 5, 1, transfer, length, (const uint8_t *)"hello", 5) == AMQP1_DONE);
+    CHECK(amqp1_transfer(engine, 7, 1, transfer, length, (const uint8_t *)"hello", 5) == AMQP1_DONE);
     CHECK(sends(engine, "[02000000 005314 c0(05 43 43 a0(7430) 43 42) 68656c6c6f]"));
     CHECK(amqp1_write_transfer(transfer, sizeof transfer, &length, 0, "t1", 2, 0, 0, 1) == AMQP1_DONE);
-    CHECK(amqp1_transfer(engine, 7, 5, 1, transfer, length, (const uint8_t *)"wor", 3) == AMQP1_DONE);
+    CHECK(amqp1_transfer(engine, 7, 1, transfer, length, (const uint8_t *)"wor", 3) == AMQP1_DONE);
     CHECK(amqp1_write_transfer(transfer, sizeof transfer, &length, 0, NULL, 0, 0, 0, 0) == AMQP1_DONE);
-    CHECK(amqp1_transfer(engine, 7, 5, 0, transfer, length, (const uint8_t *)"ld", 2) == AMQP1_DONE);
+    CHECK(amqp1_transfer(engine, 7, 0, transfer, length, (const uint8_t *)"ld", 2) == AMQP1_DONE);
     CHECK(sends(engine, "[02000000 005314 c0(06 43 5201 a0(7431) 43 42 41) 776f72] [02000000 005314 c0(05 43 40 40 40 42) 6c64]"));
-    CHECK(amqp1_transfer(engine, 7, 5, 1, transfer, length, NULL, 0) == AMQP1_REFUSED && refused_as(engine, "IllegalState", ""));
-    CHECK(amqp1_transfer(engine, 8, 5, 1, transfer, length, NULL, 0) == AMQP1_REFUSED && refused_as(engine, "NoSession", ""));
-    CHECK(amqp1_transfer(engine, 7, 4, 1, transfer, length, NULL, 0) == AMQP1_REFUSED && refused_as(engine, "UnattachedHandle", ""));
+    CHECK(amqp1_transfer(engine, 7, 1, transfer, length, NULL, 0) == AMQP1_REFUSED && refused_as(engine, "IllegalState", ""));
+    CHECK(amqp1_transfer(engine, 8, 1, transfer, length, NULL, 0) == AMQP1_REFUSED && refused_as(engine, "NoSession", ""));
+}
+
+/* Asks for a transfer on this handle by PERF, and for one by a head. Whether both are taken; else both are refused, since no attached link has the
+   handle, and nothing goes out. */
+static int are_taken(amqp1 *engine, uint32_t handle)
+{
+    uint8_t transfer[64];
+    amqp1_head head = head_of(7, handle, AMQP1_FLAG_NUMBERED | AMQP1_FLAG_TAGGED, 1, 1);
+    amqp1_sent sent = { 7, 7 };
+    amqp1_went went;
+    size_t length;
+    int32_t status;
+    CHECK(amqp1_write_transfer(transfer, sizeof transfer, &length, handle, "t", 1, 0, 0, 0) == AMQP1_DONE);
+    status = amqp1_transfer(engine, 7, 1, transfer, length, (const uint8_t *)"x", 1);
+    if (status == AMQP1_REFUSED)
+        CHECK(refused_as(engine, "UnattachedHandle", ""));
+    CHECK(amqp1_send(engine, &head, 1, (const uint8_t *)"tx", 2, &sent, 1, &went) == AMQP1_DONE && went.taken == 1 && went.used == 2);
+    if (status == AMQP1_DONE && sent.refusal == 0)
+        return 1;
+    CHECK(status == AMQP1_REFUSED && sent.refusal == AMQP1_WHY_SESSION_UNATTACHED_HANDLE && sent.number == 0 && sends(engine, ""));
+    return 0;
+}
+
+/* A link takes transfers on this side's handle once the peer has attached it, until either side detaches it, whatever the peer's handle is. */
+static void try_unattached(void)
+{
+    amqp1 engine = sending();
+    uint8_t detach[64];
+    uint32_t handle = 99;
+    size_t length;
+    /* handles that no link has, as the peer's of the first one */
+    CHECK(!are_taken(&engine, 4) && !are_taken(&engine, 5) && !are_taken(&engine, AMQP1_NONE));
+    /* links that were allotted handles, and that the peer has not attached */
+    CHECK(amqp1_link(&engine, 7, AMQP1_SENDER, AMQP1_FIRST, "a", &handle) == AMQP1_DONE && handle == 1 && !are_taken(&engine, 1));
+    CHECK(attaches(&engine, "b", AMQP1_SENDER, AMQP1_FIRST) == 2 && !are_taken(&engine, 2));
+    /* the peer attaches one by a handle that is this side's of the first one */
+    CHECK(hears_one(&engine, "[02000003 005312 c0(03 a1(62) 43 41)]", AMQP1_KIND_ATTACHED) && are_taken(&engine, 2));
+    CHECK(sends(&engine, "[02000000 005314 c0(05 5202 43 a0(74) 43 42) 78] [02000000 005314 c0(05 5202 5201 a0(74) 40 42) 78]"));
+    CHECK(are_taken(&engine, 0));
+    CHECK(sends(&engine, "[02000000 005314 c0(05 43 5202 a0(74) 43 42) 78] [02000000 005314 c0(05 43 5203 a0(74) 40 42) 78]"));
+    /* this side detaches it, and the peer answers */
+    CHECK(amqp1_write_detach(detach, sizeof detach, &length, 2, 1, NULL, NULL) == AMQP1_DONE);
+    CHECK(amqp1_detach(&engine, 7, 1, detach, length) == AMQP1_DONE && sends(&engine, "[02000000 005316 c0(02 5202 41)]"));
+    CHECK(!are_taken(&engine, 2));
+    CHECK(hears_one(&engine, "[02000003 005316 c0(02 43 41)]", AMQP1_KIND_DETACHED) && !are_taken(&engine, 2));
+    /* another link gets its handle, and from the peer the handle of the first one, which has none then */
+    CHECK(attaches(&engine, "c", AMQP1_SENDER, AMQP1_FIRST) == 2 && !are_taken(&engine, 2));
+    CHECK(hears_one(&engine, "[02000003 005312 c0(03 a1(63) 5205 41)]", AMQP1_KIND_ATTACHED) && heard[0].output == 2);
+    CHECK(!are_taken(&engine, 0) && are_taken(&engine, 2));
+    CHECK(sends(&engine, "[02000000 005314 c0(05 5202 5204 a0(74) 43 42) 78] [02000000 005314 c0(05 5202 5205 a0(74) 40 42) 78]"));
+    /* the peer detaches it, and this side answers */
+    CHECK(hears_one(&engine, "[02000003 005316 c0(02 5205 41)]", AMQP1_KIND_DETACHED) && heard[0].output == 2 && !are_taken(&engine, 2));
+    CHECK(amqp1_detach(&engine, 7, 0, detach, length) == AMQP1_DONE && sends(&engine, "[02000000 005316 c0(02 5202 41)]"));
+    CHECK(!are_taken(&engine, 2));
+    amqp1_free(&engine);
 }
 
 /* The peer accepts both deliveries, unsettled, and the engine settles them; then one of the peer's that is settled, with a state of no number. */
@@ -171,7 +225,7 @@ static void try_too_long(void)
     CHECK(amqp1_attach(&engine, 7, text, length) == AMQP1_REFUSED);
     CHECK(refused_as(&engine, "TooLarge", "") && sends(&engine, "") && amqp1_unfit(&engine, &unfit) == AMQP1_DONE);
     CHECK(amqp1_write_transfer(text, sizeof text, &length, 0, "t", 1, 0, 0, 0) == AMQP1_DONE);
-    CHECK(amqp1_transfer(&engine, 7, 5, 1, text, length, NULL, 0) == AMQP1_DONE);
+    CHECK(amqp1_transfer(&engine, 7, 1, text, length, NULL, 0) == AMQP1_DONE);
     CHECK(sends(&engine, "[02000000 005314 c0(05 43 43 a0(74) 43 42)]"));
     amqp1_u32_at(frame, (uint32_t)(front + 1100));
     amqp1_u32_at(frame + 12, (uint32_t)(front + 1100 - 16));
@@ -185,6 +239,7 @@ void try_links(void)
 {
     amqp1 engine = sending();
     try_too_long();
+    try_unattached();
     try_flows(&engine);
     try_transfers(&engine);
     try_dispositions(&engine);

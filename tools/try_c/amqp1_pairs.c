@@ -4,13 +4,14 @@
 
 enum { DELIVERIES = 1000, WINDOW = 64, BATCH = 100, ROOM = 1 << 19 };
 
-/* One side: what came and was not taken, its link on which it sends and the one on which it receives, and how far each is. */
+/* One side: what came and was not taken; its handles of the link on which it sends and of the one on which it receives, with the peer's of that;
+   and how far each is. */
 typedef struct side {
     amqp1 engine;
     uint8_t in[ROOM];
     size_t length;
     int is_server, settles;
-    uint32_t to, from, from_output;
+    uint32_t to, from, from_input;
     uint32_t sent, numbered, settled, received, opened, attached, closed;
 } side;
 
@@ -82,8 +83,8 @@ static void attach(side *it, const char *name, enum amqp1_role role, uint32_t ha
     CHECK(amqp1_write_attach(text, sizeof text, &length, name, handle, role, 2, AMQP1_FIRST, name, name, 0) ==
           AMQP1_DONE);
     CHECK(amqp1_attach(&it->engine, 0, text, length) == AMQP1_DONE);
+    *(role == AMQP1_SENDER ? &it->to : &it->from) = handle;
     if (role == AMQP1_RECEIVER) {
-        it->from_output = handle;
         CHECK(amqp1_write_flow(text, sizeof text, &length, handle, NULL, DELIVERIES, 0, 0) == AMQP1_DONE);
         CHECK(amqp1_flow(&it->engine, 0, text, length) == AMQP1_DONE);
     }
@@ -96,7 +97,8 @@ static void attached(side *it, const amqp1_record *record, const uint8_t *input)
     enum amqp1_role role = amqp1_has(record, AMQP1_FLAG_RECEIVER) ? AMQP1_SENDER : AMQP1_RECEIVER;
     amqp1_bytes text = amqp1_bytes_field(amqp1_performative(input, record), AMQP1_ATTACH_NAME);
     memcpy(name, text.at, text.length);
-    *(role == AMQP1_SENDER ? &it->to : &it->from) = record->input;
+    if (role == AMQP1_RECEIVER)
+        it->from_input = record->input;
     it->attached++;
     if (!it->is_server)
         return;
@@ -109,7 +111,7 @@ static void attached(side *it, const amqp1_record *record, const uint8_t *input)
 static void received(side *it, const amqp1_record *record, const uint8_t *input)
 {
     amqp1_bytes payload = amqp1_payload(input, record);
-    EACH(record->input == it->from && record->output == it->from_output && record->first == it->received);
+    EACH(record->input == it->from_input && record->output == it->from && record->first == it->received);
     EACH(payload.length == 4u * (1 + it->received % 7) && amqp1_u32_of(payload.at + payload.length - 4) == it->received);
     EACH(record->tag_size == 4 && amqp1_u32_of(record->tag) == it->received);
     EACH(amqp1_dispose(&it->engine, 0, AMQP1_RECEIVER, record->first, record->last, it->settles, AMQP1_ACCEPTED) == AMQP1_DONE);
@@ -189,10 +191,11 @@ static void exchange(void)
     take(&client);
 }
 
+/* The client's handles of the two links are not the server's, which allots them as they are attached. */
 static void meet(void)
 {
     uint8_t text[64];
-    uint32_t handle;
+    uint32_t up, down;
     size_t length;
     exchange();
     CHECK(client.opened == 1 && server.opened == 1);
@@ -200,12 +203,12 @@ static void meet(void)
     CHECK(amqp1_begin(&client.engine, 0, text, length) == AMQP1_DONE);
     exchange();
     CHECK(client.opened == 2);
-    CHECK(amqp1_link(&client.engine, 0, AMQP1_SENDER, AMQP1_FIRST, "up", &handle) == AMQP1_DONE);
-    attach(&client, "up", AMQP1_SENDER, handle);
-    CHECK(amqp1_link(&client.engine, 0, AMQP1_RECEIVER, AMQP1_FIRST, "down", &handle) == AMQP1_DONE);
-    attach(&client, "down", AMQP1_RECEIVER, handle);
+    CHECK(amqp1_link(&client.engine, 0, AMQP1_SENDER, AMQP1_FIRST, "up", &up) == AMQP1_DONE);
+    CHECK(amqp1_link(&client.engine, 0, AMQP1_RECEIVER, AMQP1_FIRST, "down", &down) == AMQP1_DONE);
+    attach(&client, "down", AMQP1_RECEIVER, down);
+    attach(&client, "up", AMQP1_SENDER, up);
     exchange();
-    CHECK(client.attached == 2 && server.attached == 2);
+    CHECK(client.attached == 2 && server.attached == 2 && client.to != server.from && client.from != server.to);
 }
 
 /* Where a side does not settle what it accepts, the sender's engine does, and tells. */

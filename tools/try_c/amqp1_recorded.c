@@ -2,7 +2,7 @@
    sizes, and records are taken a few at a time: what is refused, what goes out, and each record are the same for all. */
 #include "amqp1_try.h"
 
-enum { MOST = 1 << 20, FRAMES = 4096, RECORDS = 1 << 15, LINKS = 4096 };
+enum { MOST = 1 << 20, FRAMES = 4096, RECORDS = 1 << 15 };
 
 /* Bytes that grow, up to MOST. */
 typedef struct text {
@@ -21,10 +21,6 @@ static size_t frame_count;
 /* The records of the first size of chunks, with places counted from the connection's begin; how many there are, and how many came this time. */
 static amqp1_record first_records[RECORDS];
 static size_t first_count, count_now, heard_before;
-
-/* The peer's handles, by this side's. */
-static struct { uint32_t session, output, input; } links[LINKS];
-static size_t link_count;
 
 static char line[1 << 18];
 static char name[128];
@@ -128,22 +124,16 @@ static void compare(amqp1_record record, size_t from)
     EACH(count_now++ < first_count);
 }
 
-/* A detach that the peer began is answered by one; the handles of an attach are kept. */
+/* A detach that the peer began is answered by one. */
 static void answer(const amqp1_record *record)
 {
     uint8_t detach[64];
     size_t length;
-    if (record->kind == AMQP1_KIND_ATTACHED && link_count < LINKS) {
-        links[link_count].session = record->session;
-        links[link_count].output = record->output;
-        links[link_count++].input = record->input;
-    }
     if (record->kind != AMQP1_KIND_DETACHED || record->output == AMQP1_NONE)
         return;
     EACH(amqp1_write_detach(detach, sizeof detach, &length, record->output, amqp1_has(record, AMQP1_FLAG_FOR_GOOD),
                             NULL, NULL) == AMQP1_DONE);
     EACH(amqp1_detach(&engine, record->session, 0, detach, length) == AMQP1_DONE);
-   
 }
 
 /* Hands over what came, in chunks; what was not taken is given again with the next chunk. */
@@ -200,24 +190,21 @@ static void call(unsigned place, const char *said)
     settle_up(place, amqp1_call(&engine, (uint32_t)atoi(said), input, length, out, sizeof out, &written));
 }
 
-/* `SESSION OUTPUT FIRST PERF PAYLOAD`: a transfer, of the link that has this handle here. */
+/* `SESSION FIRST PERF PAYLOAD`: a transfer. */
 static void transfer(unsigned place, const char *said)
 {
     static uint8_t perf[1 << 16], payload[1 << 17];
-    uint32_t session = 0, output = 0, input, first = 0;
+    uint32_t session = 0, first = 0;
     const char *digits = said;
     size_t n, length, payload_length;
-    EACH(sscanf(said, "%u %u %u", &session, &output, &first) == 3);
-    for (n = 0; n < 3; n++)
+    EACH(sscanf(said, "%u %u", &session, &first) == 2);
+    for (n = 0; n < 2; n++)
         digits = strchr(digits, ' ') + 1;
     length = (size_t)(strchr(digits, ' ') - digits) / 2;
     EACH(bytes_of(digits, perf, sizeof perf) >= length);
     digits = strchr(digits, ' ') + 1;
     payload_length = *digits == '-' ? 0 : bytes_of(digits, payload, sizeof payload);
-    for (input = output, n = 0; n < link_count; n++)
-        if (links[n].session == session && links[n].output == output)
-            input = links[n].input;
-    settle_up(place, amqp1_transfer(&engine, session, input, (int)first, perf, length, payload, payload_length));
+    settle_up(place, amqp1_transfer(&engine, session, (int)first, perf, length, payload, payload_length));
 }
 
 /* The Open of all: container "replay", frames of 262144 bytes, 255 channels. */
@@ -228,7 +215,7 @@ static void begin(void)
     CHECK(amqp1_write_open(open, sizeof open, &length, "replay", NULL, 262144, 255, 0) == AMQP1_DONE);
     CHECK(amqp1_start(&engine, key, open, length) == AMQP1_DONE);
     sent.length = wanted_sent.length = told.length = wanted_told.length = waiting.length = 0;
-    frame_count = link_count = heard_before = 0;
+    frame_count = heard_before = 0;
 }
 
 static void end(void)

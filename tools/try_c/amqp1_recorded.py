@@ -6,7 +6,7 @@ them.
 
 A line is `exchange NAME SIDE`; then what is done, each with the place of the recorded frame from which it comes: `recv PLACE FRAME` with a frame that
 the peer sent, its size included, `call PLACE OPERATION INPUT` with the operation's number and its input in hexadecimal (`-` for none), `send PLACE
-SESSION OUTPUT FIRST PERF PAYLOAD` of a transfer, or `bad PLACE` of a request that no operation takes; then `err PLACE NAME` for each refusal that has
+SESSION FIRST PERF PAYLOAD` of a transfer, or `bad PLACE` of a request that no operation takes; then `err PLACE NAME` for each refusal that has
 to be told, and `end`. What is wanted stands in captures/refused.rows. A recording with a frame of less than four bytes, which no stream can carry, is
 left out.
 """
@@ -18,7 +18,7 @@ from pathlib import Path
 sys.path.insert(0, str(Path(__file__).resolve().parents[1]))
 
 from amqp.canonical import composite, uint
-from amqp.frames import ATTACH, BEGIN, DETACH, DISPOSITION, FLOW, NULL, TRANSFER, Frame, integer
+from amqp.frames import ATTACH, BEGIN, DETACH, DISPOSITION, FLOW, NULL, TRANSFER, Frame
 from gate.refused_of_captures import connections
 from shared.command import command
 from transcript import Transcript
@@ -43,7 +43,7 @@ def sent(session, text):
     frame = Frame(b"\x02\x00\x00\x00" + text)
     perf = text[: len(text) - len(frame.payload)]
     if frame.code == TRANSFER:
-        return f"send {{}} {session} {integer(frame[0])} {int(frame[2] != NULL)} {perf.hex()} {frame.payload.hex() or '-'}"
+        return f"send {{}} {session} {int(frame[2] != NULL)} {perf.hex()} {frame.payload.hex() or '-'}"
     return called(OPERATIONS[frame.code], u32(session) + (IS_AWAITED if frame.code == DETACH else b"") + perf)
 
 

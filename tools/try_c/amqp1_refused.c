@@ -103,9 +103,9 @@ static void send_three(void)
     amqp1_sent sent;
     amqp1_went went;
     size_t at, from = 0;
-    heads[0] = head_of(7, 5, AMQP1_FLAG_NUMBERED | AMQP1_FLAG_TAGGED, 2, 1);
+    heads[0] = head_of(7, 0, AMQP1_FLAG_NUMBERED | AMQP1_FLAG_TAGGED, 2, 1);
     heads[1] = head_of(7, 9, AMQP1_FLAG_NUMBERED | AMQP1_FLAG_TAGGED, 2, 0);
-    heads[2] = head_of(7, 5, AMQP1_FLAG_NUMBERED | AMQP1_FLAG_TAGGED, 2, 599);
+    heads[2] = head_of(7, 0, AMQP1_FLAG_NUMBERED | AMQP1_FLAG_TAGGED, 2, 599);
     for (at = 0; at < 3;) {
         int32_t status = amqp1_send(&one, heads + at, 1, bytes + from, sizeof bytes - from, &sent, 1, &went);
         if (status == AMQP1_NO_MEMORY || (went.taken && is_memory(sent.refusal))) {

@@ -89,7 +89,7 @@ static void some_go(amqp1 *engine, uint32_t first)
     uint8_t frame[64];
     size_t at, length = bytes_of("[02000003 005315 c0(04 41 7000000000 7000000000 41)]", frame, sizeof frame);
     for (at = 0; at < TOGETHER; at++)
-        heads[at] = head_of(7, 6, AMQP1_FLAG_NUMBERED | AMQP1_FLAG_TAGGED, 1, 0);
+        heads[at] = head_of(7, 1, AMQP1_FLAG_NUMBERED | AMQP1_FLAG_TAGGED, 1, 0);
     must(amqp1_send(engine, heads, TOGETHER, bytes, sizeof bytes, sent, TOGETHER, &went) == AMQP1_DONE, "not sent");
     must(sent[0].number == first && sent[TOGETHER - 1].number == first + TOGETHER - 1, "another number");
     take_out(engine);

@@ -24,20 +24,20 @@ static amqp1_sent send_one(amqp1 *engine, amqp1_head head, const char *bytes)
 
 static void try_forms(amqp1 *engine)
 {
-    amqp1_head head = head_of(7, 5, FIRST_OF, 2, 5);
+    amqp1_head head = head_of(7, 0, FIRST_OF, 2, 5);
     CHECK(send_one(engine, head, "t0hello").number == 0 && sends(engine, "[02000000 005314 c0(05 43 43 a0(7430) 40 42) 68656c6c6f]"));
-    head = head_of(7, 5, FIRST_OF | AMQP1_FLAG_FORMATTED | AMQP1_FLAG_SETTLED, 1, 0);
+    head = head_of(7, 0, FIRST_OF | AMQP1_FLAG_FORMATTED | AMQP1_FLAG_SETTLED, 1, 0);
     head.format = 3;
     CHECK(send_one(engine, head, "t").number == 1 && sends(engine, "[02000000 005314 c0(05 43 5201 a0(74) 5203 41)]"));
-    head = head_of(7, 5, FIRST_OF | AMQP1_FLAG_MORE, 0, 1);
-    CHECK(send_one(engine, head, "a").number == 2 && send_one(engine, head_of(7, 5, AMQP1_FLAG_MORE, 0, 1), "b").number == 0);
-    CHECK(send_one(engine, head_of(7, 5, 0, 0, 1), "c").refusal == 0);
+    head = head_of(7, 0, FIRST_OF | AMQP1_FLAG_MORE, 0, 1);
+    CHECK(send_one(engine, head, "a").number == 2 && send_one(engine, head_of(7, 0, AMQP1_FLAG_MORE, 0, 1), "b").number == 0);
+    CHECK(send_one(engine, head_of(7, 0, 0, 0, 1), "c").refusal == 0);
     CHECK(sends(engine, "[02000000 005314 c0(06 43 5202 a000 40 42 41) 61] [02000000 005314 c0(06 43 40 40 40 40 41) 62]"
                         "[02000000 005314 c0(01 43) 63]"));
     /* flags that a head does not have are passed over */
-    head = head_of(7, 5, 0xffff & ~(AMQP1_FLAG_MORE | AMQP1_FLAG_ABORTED | AMQP1_FLAG_FORMATTED | AMQP1_FLAG_SETTLED), 1, 1);
+    head = head_of(7, 0, 0xffff & ~(AMQP1_FLAG_MORE | AMQP1_FLAG_ABORTED | AMQP1_FLAG_FORMATTED | AMQP1_FLAG_SETTLED), 1, 1);
     CHECK(send_one(engine, head, "tx").number == 3 && sends(engine, "[02000000 005314 c0(05 43 5203 a0(74) 40 42) 78]"));
-    head = head_of(7, 5, FIRST_OF | AMQP1_FLAG_ABORTED, 1, 0);
+    head = head_of(7, 0, FIRST_OF | AMQP1_FLAG_ABORTED, 1, 0);
     CHECK(send_one(engine, head, "t").number == 4);
     CHECK(sends(engine, "[02000000 005314 c0(0a 43 5204 a0(74) 40 42 40 40 40 40 41)]"));
 }
@@ -72,7 +72,7 @@ static void try_hundreds(void)
     uint32_t round, at;
     for (round = 0; round < 3; round++) {
         for (at = 0; at < 100; at++) {
-            heads[at] = head_of(7, 5, FIRST_OF, 4, 2);
+            heads[at] = head_of(7, 0, FIRST_OF, 4, 2);
             amqp1_u32_at(bytes + 6 * at, 100 * round + at);
             bytes[6 * at + 4] = 'p';
             bytes[6 * at + 5] = (uint8_t)(100 * round + at);
@@ -105,7 +105,7 @@ static void try_stops(void)
             size_t fit = length / 3, taken = fit < room ? fit : room, at;
             int32_t status;
             for (at = 0; at < 3; at++)
-                heads[at] = head_of(7, 5, FIRST_OF, 2, 1);
+                heads[at] = head_of(7, 0, FIRST_OF, 2, 1);
             memset(sent, 0xee, sizeof sent);
             status = amqp1_send(&engine, heads, 3, (const uint8_t *)"aaabbbccc", length, sent, room, &went);
             CHECK(status == (taken == 3 ? AMQP1_DONE : taken == room ? AMQP1_FULL : AMQP1_SHORT));
@@ -123,7 +123,7 @@ void try_sends(void)
 {
     amqp1 engine = sending();
     amqp1_went went = { 7, 7 };
-    amqp1_head none = head_of(7, 5, 0, 0, 0);
+    amqp1_head none = head_of(7, 0, 0, 0, 0);
     amqp1_sent sent = { 77, 77 };
     CHECK(amqp1_send(&engine, &none, 0, (const uint8_t *)"x", 1, &sent, 1, &went) == AMQP1_DONE && !went.taken && !went.used && sent.number == 77);
     CHECK(hears_one(&engine, "[02000003 005313 c0(04 43 5264 43 520a)]", AMQP1_KIND_FLOW));
@@ -154,7 +154,7 @@ static void try_longest(amqp1 *engine)
     amqp1_went went;
     CHECK(amqp1_write_transfer(transfer, sizeof transfer, &length, 0, "t", 1, 0, 0, 0) == AMQP1_DONE);
     CHECK(amqp1_payload_room(engine, transfer, length, &room, &fits) == AMQP1_DONE && fits && room == 999);
-    head = head_of(7, 5, FIRST_OF | AMQP1_FLAG_FORMATTED, 1, room + 1);
+    head = head_of(7, 0, FIRST_OF | AMQP1_FLAG_FORMATTED, 1, room + 1);
     CHECK(amqp1_send(engine, &head, 1, bytes, room + 2, &sent, 1, &went) == AMQP1_DONE && went.taken == 1 && went.used == room + 2);
     CHECK(sent.refusal == AMQP1_WHY_PAYLOAD_TOO_LONG && sent.number == 0 && sends(engine, ""));
     head.payload = room;
@@ -172,20 +172,22 @@ void try_refused_sends(void)
     amqp1_went went;
     CHECK(is_refused(&engine, head_of(7, 4, FIRST_OF, 1, 1), "tx", AMQP1_WHY_SESSION_UNATTACHED_HANDLE));
     CHECK(is_refused(&engine, head_of(7, AMQP1_NONE, FIRST_OF, 1, 1), "tx", AMQP1_WHY_SESSION_UNATTACHED_HANDLE));
-    CHECK(is_refused(&engine, head_of(8, 5, FIRST_OF, 1, 1), "tx", AMQP1_WHY_NO_SESSION));
-    CHECK(is_refused(&engine, head_of(7, 5, FIRST_OF, 33, 1), "0123456789012345678901234567890123", AMQP1_WHY_TAG_TOO_LONG));
+    /* the peer's handle */
+    CHECK(is_refused(&engine, head_of(7, 5, FIRST_OF, 1, 1), "tx", AMQP1_WHY_SESSION_UNATTACHED_HANDLE));
+    CHECK(is_refused(&engine, head_of(8, 0, FIRST_OF, 1, 1), "tx", AMQP1_WHY_NO_SESSION));
+    CHECK(is_refused(&engine, head_of(7, 0, FIRST_OF, 33, 1), "0123456789012345678901234567890123", AMQP1_WHY_TAG_TOO_LONG));
     CHECK(is_refused(&engine, head_of(9, 9, 0, 33, 0), "012345678901234567890123456789012", AMQP1_WHY_TAG_TOO_LONG));
     /* a first transfer has a tag */
-    CHECK(is_refused(&engine, head_of(7, 5, AMQP1_FLAG_NUMBERED, 0, 1), "x", AMQP1_WHY_SESSION_ILLEGAL_STATE));
+    CHECK(is_refused(&engine, head_of(7, 0, AMQP1_FLAG_NUMBERED, 0, 1), "x", AMQP1_WHY_SESSION_ILLEGAL_STATE));
     /* a refused one between two others takes no number */
-    heads[0] = heads[2] = head_of(7, 5, FIRST_OF, 1, 1);
+    heads[0] = heads[2] = head_of(7, 0, FIRST_OF, 1, 1);
     heads[1] = head_of(7, 4, FIRST_OF, 1, 1);
     CHECK(amqp1_send(&engine, heads, 3, (const uint8_t *)"axbycz", 6, sent, 3, &went) == AMQP1_DONE && went.taken == 3 && went.used == 6);
     CHECK(sent[0].number == 0 && sent[1].refusal == AMQP1_WHY_SESSION_UNATTACHED_HANDLE && sent[2].number == 1 && sent[2].refusal == 0);
     CHECK(sends(&engine, "[02000000 005314 c0(05 43 43 a0(61) 40 42) 78] [02000000 005314 c0(05 43 5201 a0(63) 40 42) 7a]"));
     /* a session that is no longer mapped */
     CHECK(amqp1_end(&engine, 7, NULL, 0) == AMQP1_DONE && sends(&engine, "[02000000 00531745]"));
-    CHECK(send_one(&engine, head_of(7, 5, FIRST_OF, 1, 1), "tx").refusal != 0 && sends(&engine, ""));
+    CHECK(send_one(&engine, head_of(7, 0, FIRST_OF, 1, 1), "tx").refusal != 0 && sends(&engine, ""));
     amqp1_free(&engine);
     engine = sending();
     try_longest(&engine);

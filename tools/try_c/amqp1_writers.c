@@ -181,14 +181,14 @@ static void try_payload(amqp1 *engine)
     uint8_t small[16] = { 0 }, evil[128];
     size_t length, rest;
     CHECK(amqp1_write_transfer(evil, sizeof evil, &length, 0, "EVIL", 4, 0, 1, 0) == AMQP1_DONE);
-    CHECK(amqp1_transfer(engine, 7, 5, 1, small, 0, evil, length) == AMQP1_BAD_ARGUMENT && sends(engine, ""));
-    CHECK(amqp1_transfer(engine, 7, 5, 1, NULL, 0, evil, length) == AMQP1_BAD_ARGUMENT && sends(engine, ""));
+    CHECK(amqp1_transfer(engine, 7, 1, small, 0, evil, length) == AMQP1_BAD_ARGUMENT && sends(engine, ""));
+    CHECK(amqp1_transfer(engine, 7, 1, NULL, 0, evil, length) == AMQP1_BAD_ARGUMENT && sends(engine, ""));
     /* wherever it is cut, it is not one Transfer and a payload */
     for (rest = 0; rest < length; rest++)
-        CHECK(amqp1_transfer(engine, 7, 5, 1, evil, rest, evil + rest, length - rest) == AMQP1_BAD_ARGUMENT);
+        CHECK(amqp1_transfer(engine, 7, 1, evil, rest, evil + rest, length - rest) == AMQP1_BAD_ARGUMENT);
     memcpy(evil + length, "\1\2", 2);
-    CHECK(amqp1_transfer(engine, 7, 5, 1, evil, length + 1, evil + length + 1, 1) == AMQP1_BAD_ARGUMENT && sends(engine, ""));
-    CHECK(amqp1_transfer(engine, 7, 5, 1, evil, length, evil + length, 2) == AMQP1_DONE);
+    CHECK(amqp1_transfer(engine, 7, 1, evil, length + 1, evil + length + 1, 1) == AMQP1_BAD_ARGUMENT && sends(engine, ""));
+    CHECK(amqp1_transfer(engine, 7, 1, evil, length, evil + length, 2) == AMQP1_DONE);
     CHECK(sends(engine, "[02000000 005314 c0(05 43 43 a0(4556494c) 43 41) 0102]"));
 }
 

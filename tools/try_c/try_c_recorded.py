@@ -50,43 +50,26 @@ def link(session, name, attach):
     return u32(session) + bytes([role, mode]) + name.encode()
 
 
-class Links:
-    """The peer's handles of links, by this side's: by the names in their attaches."""
-
-    def __init__(self):
-        self.own, self.theirs = {}, {}
-
-    def attach(self, handles, text):
-        if text[:3] == bytes([0, 0x53, ATTACH]):
-            name, handle = fields(text)[:2]
-            handles[name] = number(handle)
-
-    def input_of(self, handle):
-        return next(self.theirs[name] for name, own in reversed(self.own.items()) if own == handle)
-
-
-def sent(session, text, links):
+def sent(session, text):
     """The operation by which a performative goes out, and its input."""
     code, said = text[2], fields(text)
-    links.attach(links.own, text)
     head = u32(session)
     if code == DETACH:
         head += b"\x01"
     if code == TRANSFER:
         is_first = len(said) > 2 and said[2] != b"\x40"
-        head += u32(links.input_of(number(said[0]))) + bytes([is_first]) + u32(value(text, 0)[2])
+        head += bytes([is_first]) + u32(value(text, 0)[2])
     return OPERATIONS[code], head + text
 
 
-def step(line, after, links):
+def step(line, after):
     """A line of a transcript as a line of this file."""
     word, _, rest = line.partition(" ")
     if word == "recv":
-        links.attach(links.theirs, bytes.fromhex(rest)[4:])
         return "recv " + sized(bytes.fromhex(rest)).hex()
     first, _, rest = rest.partition(" ")
     if word == "send":
-        operation, given = sent(first, bytes.fromhex(rest), links)
+        operation, given = sent(first, bytes.fromhex(rest))
     elif word == "link":
         operation, given = OPERATIONS[word], link(first, rest, bytes.fromhex(after.split(" ")[2]))
     else:
@@ -102,11 +85,11 @@ def is_left_alone(line):
 
 
 def exchange(name, ahead):
-    made, links = expected_exchange.replayed(name, ahead), Links()
+    made = expected_exchange.replayed(name, ahead)
     lines, said = made.lines[1:], [line for line in made.out[1:] if not is_left_alone(line)]
     yield "exchange " + name
     for line, after in zip(lines, lines[1:] + [""]):
-        yield step(line, after, links)
+        yield step(line, after)
     for line in said:
         yield "out " + sized(bytes.fromhex(line[4:])).hex() if line.startswith("out ") else line
     yield "end"
