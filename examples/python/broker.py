@@ -44,7 +44,7 @@ class Incoming:
 
     def __init__(self, client, event, output, queue):
         self.client, self.queue, self.second = client, queue, event.attach.rcv_settle_mode == SECOND
-        self.session, self.input, self.output = event.session, event.input_handle, output
+        self.session, self.output = event.session, output
         # the numbers of the deliveries that the client is to settle
         self.count, self.credit, self.owed = event.attach.initial_delivery_count or 0, 0, set()
         self.begin_anew()
@@ -53,7 +53,7 @@ class Incoming:
         self.body, self.number, self.settled = bytearray(), None, False
 
     def grant(self):
-        if self.credit > CREDIT // 2 or self.client.links.get((self.session, self.input)) is not self:
+        if self.credit > CREDIT // 2 or self.client.links.get((self.session, self.output)) is not self:
             return
         if not self.queue.has_room():
             self.queue.senders[self] = None
@@ -124,7 +124,7 @@ class Outgoing:
 
     def __init__(self, client, event, output, queue):
         self.client, self.queue = client, queue
-        self.session, self.input, self.output = event.session, event.input_handle, output
+        self.session, self.output = event.session, output
         self.settles = event.attach.snd_settle_mode == SETTLED
         # messages that are not settled, by the numbers of their deliveries
         self.count, self.credit, self.open = 0, 0, {}
@@ -157,7 +157,7 @@ class Outgoing:
 
     def send(self, message):
         """Sends a message; where that is refused, it comes back, and the client is closed. Answers whether it was sent."""
-        tag = self.count.to_bytes(4, "big") + self.input.to_bytes(4, "big")
+        tag = self.count.to_bytes(4, "big") + self.output.to_bytes(4, "big")
         transfer = Transfer(self.output, delivery_tag=tag, message_format=0, settled=self.settles)
         try:
             number = self.client.deliver(self, transfer, message)
@@ -198,7 +198,7 @@ class Outgoing:
 
 
 class Client:
-    """One client, and its links by session and handle."""
+    """One client, and its links by session and this side's handle."""
 
     def __init__(self, queues, connection):
         self.queues, self.connection, self.engine = queues, connection, connection.engine
@@ -242,7 +242,7 @@ class Client:
     def deliver(self, link, transfer, message):
         """Has a message go out, and answers the number of its delivery."""
         before = self.connection.server.transfers(link.session)
-        number = self.engine.deliver(link.session, link.input, transfer, message)
+        number = self.engine.deliver(link.session, transfer, message)
         self.open[link.session] = self.open.get(link.session, 0) + (not link.settles)
         self.unsettled += 0 if link.settles else len(message)
         self.push()
@@ -290,7 +290,7 @@ class Client:
             self.ended(event.session)
         elif isinstance(event, Disposed):
             self.disposed(event)
-        elif (link := self.links.get((event.session, event.input_handle))) is not None:
+        elif (link := self.links.get((event.session, event.output_handle))) is not None:
             self.take_of_link(link, event)
         elif isinstance(event, Transferred) and event.transfer.delivery_id is not None:
             # on its way when the link was detached
@@ -342,7 +342,7 @@ class Client:
         self.connection.server.attach(event.session, mine)
         link = (Incoming if theirs.role == SENDER else Outgoing)(self, event, output, self.queues[address])
         link.queue.attach()
-        self.links[event.session, event.input_handle] = link
+        self.links[event.session, output] = link
         if isinstance(link, Incoming):
             link.grant()
 
@@ -354,7 +354,7 @@ class Client:
     def drop(self, *links):
         """Links are gone, all of them before their messages go to others."""
         for link in links:
-            del self.links[link.session, link.input]
+            del self.links[link.session, link.output]
             link.drop()
         for link in links:
             link.queue.hand_out()

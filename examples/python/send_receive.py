@@ -24,11 +24,11 @@ UNSETTLED_MOST = 1024
 
 
 class Link:
-    """A link of this side: its handles, once the peer attached it."""
+    """A link of this side, by its handle."""
 
     def __init__(self, connection, name, role, address):
-        self.engine, self.name, self.role = connection.engine, name, role
-        self.output, self.input = self.engine.link(SESSION, name, role), None
+        self.engine = connection.engine
+        self.output = self.engine.link(SESSION, name, role)
         ends = (source(), target(address)) if role == SENDER else (source(address), target())
         self.engine.attach(SESSION, Attach(name, self.output, role, source=ends[0], target=ends[1], initial_delivery_count=None if role else 0))
 
@@ -40,12 +40,8 @@ async def next_event(connection, kind, link):
             raise event
         if isinstance(event, Detached) and event.detach.error:
             sys.exit(f"the peer detached: {event.detach.error.condition}: {event.detach.error.description}")
-        if isinstance(event, kind) and (isinstance(event, Disposed) or link.input == event.input_handle):
+        if isinstance(event, kind) and (isinstance(event, Disposed) or link.output == event.output_handle):
             return event
-        if isinstance(event, Attached) and event.attach.name == link.name:
-            link.input = event.input_handle
-            if kind is Attached:
-                return event
     sys.exit(f"the peer closed: {connection.engine.state}")
 
 
@@ -57,7 +53,7 @@ async def send(connection, address, messages):
     while sent < len(messages) or unsettled:
         while credit and sent < len(messages) and len(unsettled) < UNSETTLED_MOST:
             transfer = Transfer(link.output, delivery_tag=sent.to_bytes(4, "big"), message_format=0, settled=False)
-            unsettled.add(connection.engine.deliver(SESSION, link.input, transfer, data(messages[sent])))
+            unsettled.add(connection.engine.deliver(SESSION, transfer, data(messages[sent])))
             credit, sent = credit - 1, sent + 1
         event = await next_event(connection, (Flowed, Disposed), link)
         if isinstance(event, Disposed):

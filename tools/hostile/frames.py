@@ -53,7 +53,7 @@ def sender():
     engine.attach(0, Attach("l", handle, SENDER, target=target("q"), initial_delivery_count=0))
     list(engine.receive(frame(Attach("l", 0, RECEIVER, target=target("q"))) + frame(Flow(0, 1000, 0, 1000, handle=0, delivery_count=0, link_credit=10))))
     for at in range(3):
-        engine.deliver(0, 0, Transfer(handle, delivery_tag=b"%d" % at, message_format=0), data(b"x"))
+        engine.deliver(0, Transfer(handle, delivery_tag=b"%d" % at, message_format=0), data(b"x"))
     engine.to_send()
     return engine
 

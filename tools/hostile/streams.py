@@ -227,7 +227,7 @@ async def writes_much(connection):
     async for event in connection:
         if isinstance(event, Attached):
             for at in range(200):
-                connection.engine.deliver(0, 0, Transfer(handle, delivery_tag=b"%d" % at, message_format=0), data(bytes(100000)))
+                connection.engine.deliver(0, Transfer(handle, delivery_tag=b"%d" % at, message_format=0), data(bytes(100000)))
 
 
 @test
@@ -326,7 +326,7 @@ async def a_disposition_of_many_is_one_event():
         connection.engine.attach(0, Attach("a", handle, SENDER, target=target("q"), initial_delivery_count=0))
         async for event in connection:
             if isinstance(event, Attached):
-                left = {connection.engine.deliver(0, 0, Transfer(handle, delivery_tag=b"%d" % at, message_format=0), b"x") for at in range(100)}
+                left = {connection.engine.deliver(0, Transfer(handle, delivery_tag=b"%d" % at, message_format=0), b"x") for at in range(100)}
                 assert left == set(range(100)), left
             elif isinstance(event, Disposed):
                 came += 1

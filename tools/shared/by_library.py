@@ -5,7 +5,7 @@ from pathlib import Path
 
 sys.path.insert(0, str(Path(__file__).resolve().parents[2] / "bindings" / "python"))
 
-from amqp.frames import ATTACH, DETACH, DISPOSITION, FLOW, TRANSFER, Frame, integer
+from amqp.frames import ATTACH, DETACH, DISPOSITION, FLOW, TRANSFER, Frame
 from amqp_engine import Attach, Begin, Detach, Detached, Disposition, Engine, Flow, Malformed, Open, Refusal, Transfer
 from amqp_engine.serving import frames_of
 
@@ -67,8 +67,7 @@ class LineEngine:
     def send(self, number, frame):
         body = frame.body()[: len(frame.body()) - len(frame.payload)]
         if frame.code == TRANSFER:
-            handle = self.input_of(number, integer(frame[0]))
-            self.engine.transfer(number, handle, Transfer.decode(body), frame.payload, frame[2] != b"\x40")
+            self.engine.transfer(number, Transfer.decode(body), frame.payload, frame[2] != b"\x40")
         else:
             name, kind = ASKS[frame.code]
             getattr(self.engine, name)(number, kind.decode(body))
@@ -79,7 +78,3 @@ class LineEngine:
     def role_of(self, name):
         """This side's end of a link of this name."""
         return name != "to"
-
-    def input_of(self, number, handle):
-        """The peer's handle of the link that has this one here."""
-        return handle

@@ -153,15 +153,55 @@ def a_name_serves_a_sender_and_a_receiver_of_a_client():
 
 
 @test
+def a_link_is_named_by_this_sides_handle():
+    pair = mapped()
+    handles = [pair.client.link(0, name, SENDER) for name in "ab"]
+    # attached in the other order, so that the server's handles are the other ones
+    for name, handle in [*zip("ab", handles)][::-1]:
+        assert unattached(pair.client, handle)
+        pair.client.attach(0, Attach(name, handle, SENDER, initial_delivery_count=0))
+        assert unattached(pair.client, handle)
+    theirs = {event.attach.name: pair.server.output_of(event) for event in pair.carry()[1]}
+    assert [theirs[name] for name in "ab"] == handles[::-1] == [1, 0], theirs
+    for name in "ba":
+        pair.server.attach(0, Attach(name, theirs[name], RECEIVER))
+    assert [it.output_handle for it in pair.carry()[0]] == handles[::-1]
+    assert unattached(pair.client, 2)
+    for at, handle in enumerate(handles):
+        assert pair.client.transfer(0, Transfer(handle, delivery_tag=b"t", settled=True), b"x") == 2 * at
+        assert pair.client.send([Delivery(0, handle, b"u", b"y")]) == [(2 * at + 1, 0)]
+    came = [(it.transfer.handle, it.output_handle, it.payload) for it in pair.carry()[1]]
+    assert came == [(handle, theirs[name], payload) for name, handle in zip("ab", handles) for payload in (b"x", b"y")], came
+    # the one is detached by this side, the other one by the peer
+    pair.client.detach(0, Detach(handles[0], True))
+    pair.server.engine.detach(0, Detach(theirs["b"], True))
+    assert unattached(pair.client, handles[0]) and not unattached(pair.client, handles[1])
+    pair.carry()
+    assert all(unattached(pair.client, handle) for handle in handles)
+
+
+def unattached(engine, handle):
+    """Whether transfers on this handle are refused, by a head and by a performative; else both are taken."""
+    (sent,) = engine.send([Delivery(0, handle, b"t", b"x")])
+    try:
+        engine.transfer(0, Transfer(handle, delivery_tag=b"t", settled=True), b"x")
+    except Refusal as refusal:
+        assert (refusal.name, sent) == ("UnattachedHandle", (0, 61)), (refusal, sent)
+        return True
+    assert sent[1] == 0, sent
+    return False
+
+
+@test
 def deliveries_go_there_and_are_settled():
     pair = mapped()
-    handle, event, mine, answer = pair.attached()
+    handle, _, mine, _ = pair.attached()
     pair.server.engine.flow(0, Flow(handle=mine, delivery_count=0, link_credit=2))
     (flow,) = pair.carry()[0]
     assert isinstance(flow, Flowed) and (flow.output_handle, flow.flow.handle, flow.flow.link_credit) == (handle, mine, 2), flow
     for number, tag, message in ((0, b"a", b"short"), (1, b"b", bytes(1500))):
         transfer = Transfer(handle, delivery_tag=tag, message_format=0, settled=False)
-        assert pair.client.deliver(0, answer.input_handle, transfer, message) == number
+        assert pair.client.deliver(0, transfer, message) == number
     came = pair.carry()[1]
     assert [type(it) for it in came] == [Transferred] * len(came) and len(came) == 5, came
     assert [(it.transfer.delivery_id, it.transfer.delivery_tag, it.transfer.more) for it in came[:2]] == [(0, b"a", None), (1, b"b", True)], came
@@ -176,10 +216,10 @@ def deliveries_go_there_and_are_settled():
 @test
 def a_delivery_settled_second_is_settled_by_both():
     pair = mapped()
-    handle, event, mine, answer = pair.attached(settle_mode=SECOND)
+    handle, _, mine, _ = pair.attached(settle_mode=SECOND)
     pair.server.engine.flow(0, Flow(handle=mine, delivery_count=0, link_credit=1))
     pair.carry()
-    pair.client.transfer(0, answer.input_handle, Transfer(handle, delivery_tag=b"t", message_format=0, settled=False), b"x")
+    pair.client.transfer(0, Transfer(handle, delivery_tag=b"t", message_format=0, settled=False), b"x")
     pair.carry()
     pair.server.engine.disposition(0, Disposition(RECEIVER, 0, settled=False, state=RELEASED))
     first, second = pair.carry()
@@ -190,10 +230,10 @@ def a_delivery_settled_second_is_settled_by_both():
 @test
 def what_this_side_settles_is_let_go():
     pair = mapped()
-    handle, event, mine, answer = pair.attached()
+    handle, _, mine, _ = pair.attached()
     pair.server.engine.flow(0, Flow(handle=mine, delivery_count=0, link_credit=1))
     pair.carry()
-    pair.client.transfer(0, answer.input_handle, Transfer(handle, delivery_tag=b"t", settled=False), b"x")
+    pair.client.transfer(0, Transfer(handle, delivery_tag=b"t", settled=False), b"x")
     pair.carry()
     pair.client.settle(0, SENDER, 0)
     pair.server.engine.disposition(0, Disposition(RECEIVER, 0, settled=True, state=ACCEPTED))
@@ -203,9 +243,9 @@ def what_this_side_settles_is_let_go():
 @test
 def the_peers_window_holds_transfers_back():
     pair = mapped()
-    handle, event, mine, answer = pair.attached()
+    handle, *_ = pair.attached()
     for at in range(12):
-        pair.client.transfer(0, answer.input_handle, Transfer(handle, delivery_tag=bytes([at]), settled=True), b"x")
+        pair.client.transfer(0, Transfer(handle, delivery_tag=bytes([at]), settled=True), b"x")
     assert len([it for it in frames(pair.client.to_send()) if it[6] == 0x14]) == 8
 
 
@@ -229,10 +269,10 @@ def bytes_come_in_any_splitting():
 @test
 def transfers_go_by_their_heads_and_records_come():
     pair = mapped()
-    handle, event, mine, answer = pair.attached()
+    handle, _, mine, _ = pair.attached()
     pair.server.engine.flow(0, Flow(handle=mine, delivery_count=0, link_credit=9))
     pair.carry()
-    of = Delivery(0, answer.input_handle, b"t", b"hello", flags=NUMBERED | FORMATTED)
+    of = Delivery(0, handle, b"t", b"hello", flags=NUMBERED | FORMATTED)
     later = of._replace(tag=None, payload=b"!", flags=0)
     sent = pair.client.send([of._replace(flags=of.flags | MORE), later, of._replace(link=99), of._replace(payload=bytes(600)), of._replace(tag=bytes(33)), of])
     assert sent == [(0, 0), (0, 0), (0, 61), (0, 91), (0, 92), (1, 0)], sent
@@ -248,7 +288,7 @@ def transfers_go_by_their_heads_and_records_come():
     assert [(it.kind, it.first, it.tag[: it.tag_size], bool(it.flags & MORE)) for it in whole] == [(6, 0, b"t", True), (6, 0, b"", False), (6, 1, b"t", False)]
     driver.dispose(0, RECEIVER, 0, 1, True, 1)
     assert pair.carry()[0] == [Disposed(0, None, None, RECEIVER, True, ACCEPTED, 0, 1)]
-    assert pair.client.transfer(0, answer.input_handle, Transfer(handle, delivery_tag=b"u", settled=True), b"x") == 2
+    assert pair.client.transfer(0, Transfer(handle, delivery_tag=b"u", settled=True), b"x") == 2
     assert (pair.client.unfit, driver.unfit) == (0, 0)
 
 
@@ -265,11 +305,11 @@ def places(data):
 def what_an_iterator_leaves_the_next_one_gives():
     for side in (lambda pair: pair.server, lambda pair: pair.server.engine):
         pair = mapped()
-        handle, event, mine, answer = pair.attached()
+        handle, _, mine, _ = pair.attached()
         pair.server.engine.flow(0, Flow(handle=mine, delivery_count=0, link_credit=5))
         pair.carry()
         for at in range(5):
-            pair.client.transfer(0, answer.input_handle, Transfer(handle, delivery_tag=bytes([at]), settled=True), bytes([at]))
+            pair.client.transfer(0, Transfer(handle, delivery_tag=bytes([at]), settled=True), bytes([at]))
         came, left = pair.client.to_send(), []
         left.append(next(side(pair).receive(came[:-3])))
         side(pair).receive(came[-3:])

@@ -15,7 +15,6 @@ sys.path.insert(0, str(Path(__file__).resolve().parents[1]))
 
 from gate.refused_of_captures import connections
 from shared.by_library import Detach, Detached, LineEngine, Malformed, Open
-from amqp_engine import Attached
 from shared.command import command
 from transcript import Transcript, shown
 
@@ -25,7 +24,7 @@ class Replay(LineEngine):
 
     def __init__(self, size):
         super().__init__(Open("replay", max_frame_size=262144, channel_max=255), key=b"k" * 16)
-        self.size, self.allotted, self.inputs = size, {}, {}
+        self.size = size
 
     def role_of(self, name):
         return True
@@ -42,21 +41,8 @@ class Replay(LineEngine):
         finally:
             self.pieces()
 
-    def request(self, word, rest):
-        """Of a link it is kept which handle it was allotted."""
-        number, _, name = rest.partition(" ")
-        if word == "link":
-            self.allotted[int(number), name] = self.engine.link(int(number), name, self.role_of(name), 1)
-        else:
-            super().request(word, rest)
-
-    def input_of(self, number, handle):
-        return self.inputs.get((number, handle), handle)
-
     def hear(self, event):
         """A detach of the peer's is answered, as amqp_replay's relay answers it."""
-        if isinstance(event, Attached):
-            self.inputs[event.session, self.allotted[event.session, event.attach.name]] = event.input_handle
         if isinstance(event, Detached) and event.remote_initiated and event.output_handle is not None:
             self.engine.detach(event.session, Detach(event.output_handle, event.detach.closed), expects_answer=False)
 

@@ -48,7 +48,7 @@ async def talk(port, **how):
             assert not isinstance(event, Refusal), event
             if isinstance(event, Flowed):
                 for at in range(100):
-                    engine.transfer(0, event.input_handle, Transfer(handle, delivery_tag=bytes([at]), settled=False), b"x" * at)
+                    engine.transfer(0, Transfer(handle, delivery_tag=bytes([at]), settled=False), b"x" * at)
             settled += len(event.among(range(100))) if isinstance(event, Disposed) else 0
             if settled == 100:
                 break

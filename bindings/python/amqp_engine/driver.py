@@ -74,7 +74,7 @@ class Taken(NamedTuple):
 
 
 class Delivery(NamedTuple):
-    """A transfer of one frame that is to be sent: on the link that has this handle of the peer's."""
+    """A transfer of one frame that is to be sent: on the link that has this handle of this side's, as `link` or `link_on` gave it."""
 
     session: int
     link: int

@@ -121,7 +121,8 @@ class Requests:
     # ---- links
 
     def link(self, session: int, name: str, role: bool, settle_mode: int = 0) -> int:
-        """A link of this name is allotted, on whose events `role`, this side's, and its receiver's settle mode decide. Answers its output handle."""
+        """A link of this name is allotted, on whose events `role`, this side's, and its receiver's settle mode decide. Answers its output handle,
+        by which all later calls name the link."""
         return self._allot(_LINK, numbers(session) + bytes([role, settle_mode]) + name.encode())
 
     def link_on(self, session: int, input_handle: int, name: str, role: bool, settle_mode: int = 0) -> int:
@@ -140,12 +141,12 @@ class Requests:
         """A flow of a link is to be sent."""
         self._ask(_FLOW, numbers(session) + flow.encode())
 
-    def transfer(self, session: int, input_handle: int, transfer: Transfer, payload: bytes = b"", first: bool = True) -> Optional[int]:
-        """A transfer is to be sent: the first of its delivery, or a later one. `input_handle` is that of the link, `transfer.handle` its output handle.
-        Answers the number of the delivery, of a first one: deliveries are numbered in the order in which they are accepted, from 0 on, also while the
-        session holds them back (AMQP 1.0 part 2, section 2.6.12)."""
+    def transfer(self, session: int, transfer: Transfer, payload: bytes = b"", first: bool = True) -> Optional[int]:
+        """A transfer is to be sent: the first of its delivery, or a later one. `transfer.handle` is the output handle of its link, which the peer has
+        attached and neither side has detached: else it is refused (`UnattachedHandle`). Answers the number of the delivery, of a first one: deliveries
+        are numbered in the order in which they are accepted, from 0 on, also while the session holds them back (AMQP 1.0 part 2, section 2.6.12)."""
         perf = transfer.encode()
-        self._ask(_TRANSFER, numbers(session, input_handle) + bytes([first]) + numbers(len(perf)) + perf + payload)
+        self._ask(_TRANSFER, numbers(session) + bytes([first]) + numbers(len(perf)) + perf + payload)
         return self._numbered(session) if first else None
 
     def _numbered(self, session: int) -> int:
@@ -153,18 +154,18 @@ class Requests:
         self._numbers[session] = (number + 1) % 2**32
         return number
 
-    def deliver(self, session: int, input_handle: int, transfer: Transfer, payload: bytes) -> Optional[int]:
+    def deliver(self, session: int, transfer: Transfer, payload: bytes) -> Optional[int]:
         """A whole delivery is to be sent, in as many transfers as the peer's limit asks for. Each is one frame, so that both sides count as many against
         the window. Answers what `transfer` does of the first one."""
         if len(payload) <= self.payload_room(transfer):
-            return self.transfer(session, input_handle, transfer, payload)
+            return self.transfer(session, transfer, payload)
         part, at, number = replace(transfer, more=True), 0, None
         while at < len(payload):
             room = self.payload_room(part)
             if room == 0:
                 raise Refusal("TooLarge")
             is_first, is_last = at == 0, len(payload) - at <= room
-            told = self.transfer(session, input_handle, replace(part, more=not is_last), payload[at : at + room], is_first)
+            told = self.transfer(session, replace(part, more=not is_last), payload[at : at + room], is_first)
             number = told if is_first else number
             part, at = Transfer(transfer.handle, more=True), at + room
         return number
