@@ -295,7 +295,7 @@ impl Engine {
         self.ask(Operation::Forget, &[&session.to_be_bytes()])
     }
 
-    /// An output handle for a link of this name, whose attach by the peer is awaited.
+    /// An output handle for a link of this name, whose attach by the peer is awaited. All later calls name the link by it.
     pub fn link(&mut self, session: u32, role: Role, mode: ReceiverSettleMode, name: &str) -> Result<u32, Error> {
         let input = [&session.to_be_bytes()[..], &[role as u8, mode as u8], name.as_bytes()].concat();
         Ok(self.number(Operation::Link, &input)?.unwrap_or_default() as u32)
@@ -322,10 +322,11 @@ impl Engine {
         self.ask(Operation::Flow, &[&session.to_be_bytes(), flow])
     }
 
-    /// A transfer of the attached link that has the input handle and the handle in PERF: the first of its delivery, or a later one.
-    pub fn transfer(&mut self, session: u32, input_handle: u32, first: bool, transfer: &[u8], payload: &[u8]) -> Result<(), Error> {
-        let (length, handle) = (u32::try_from(transfer.len()).map_err(|_| Error::BadArgument)?.to_be_bytes(), input_handle.to_be_bytes());
-        self.ask(Operation::Transfer, &[&session.to_be_bytes(), &handle, &[first as u8], &length, transfer, payload])
+    /// A transfer of the link that has the handle in PERF: the first of its delivery, or a later one. It is refused (`UnattachedHandle`) where the
+    /// peer has not attached the link, or either side has detached it.
+    pub fn transfer(&mut self, session: u32, first: bool, transfer: &[u8], payload: &[u8]) -> Result<(), Error> {
+        let length = u32::try_from(transfer.len()).map_err(|_| Error::BadArgument)?.to_be_bytes();
+        self.ask(Operation::Transfer, &[&session.to_be_bytes(), &[first as u8], &length, transfer, payload])
     }
 
     pub fn disposition(&mut self, session: u32, disposition: &[u8]) -> Result<(), Error> {

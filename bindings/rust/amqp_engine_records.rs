@@ -16,7 +16,7 @@ pub struct Record {
     pub session: u32,
     /// This side's handle of the link.
     pub output: u32,
-    /// The peer's handle of the link.
+    /// The peer's handle of the link: of all calls `link_on` alone takes it.
     pub input: u32,
     /// The number of the delivery; of a disposition the first one.
     pub first: u32,
@@ -110,7 +110,7 @@ pub mod flag {
 #[repr(C)]
 pub struct TransferHead {
     pub session: u32,
-    /// The peer's handle of the link: `input` of the record of its attach.
+    /// This side's handle of the link, as `link` or `link_on` gave it: `output` in records.
     pub link: u32,
     /// The format of the message, where `FORMATTED` is set.
     pub format: u32,

@@ -62,7 +62,7 @@ fn a_connection_opens_and_closes() {
 fn a_message_is_sent_and_accepted() {
     let mut engine = sending();
     let transfer = b"\0\x53\x14\xc0\x08\x05\x43\x40\xa0\x01t\x43\x42";
-    engine.transfer(7, 5, true, transfer, b"hello").unwrap();
+    engine.transfer(7, true, transfer, b"hello").unwrap();
     let text = [&b"\0\x53\x14\xc0\x08\x05\x43\x43\xa0\x01t\x43\x42"[..], b"hello"].concat();
     assert_eq!(sent(&mut engine), framed(0, &text));
     let (record, _) = hear(&mut engine, 3, b"\0\x53\x15\xc0\x09\x05\x41\x43\x43\x41\0\x53\x24\x45");
@@ -74,26 +74,43 @@ fn a_message_is_sent_and_accepted() {
 fn a_payload_is_never_the_performative() {
     let mut engine = sending();
     let transfer = b"\0\x53\x14\xc0\x08\x05\x43\x40\xa0\x01t\x43\x42";
-    assert_eq!(engine.transfer(7, 5, true, b"", transfer), Err(Error::BadArgument));
-    assert_eq!(engine.transfer(7, 5, true, &transfer[..3], &transfer[3..]), Err(Error::BadArgument));
+    assert_eq!(engine.transfer(7, true, b"", transfer), Err(Error::BadArgument));
+    assert_eq!(engine.transfer(7, true, &transfer[..3], &transfer[3..]), Err(Error::BadArgument));
     assert_eq!(sent(&mut engine), b"");
 }
 
+/// Whether a transfer on this handle is taken; else it is refused, since no attached link has the handle, and nothing goes out.
+fn is_taken(engine: &mut Engine, handle: u8) -> bool {
+    let transfer = [&b"\0\x53\x14\xc0\x09\x05\x52"[..], &[handle], b"\x40\xa0\x01t\x43\x42"].concat();
+    match engine.transfer(7, true, &transfer, b"hello") {
+        Ok(()) => true,
+        Err(Error::Refused(refusal)) if refusal.name == "UnattachedHandle" => !sent(engine).is_empty(),
+        Err(error) => panic!("{error}"),
+    }
+}
+
 #[test]
-fn a_transfer_is_of_one_link() {
+fn a_transfer_is_of_an_attached_link() {
     let mut engine = sending();
-    let transfer = b"\0\x53\x14\xc0\x08\x05\x43\x40\xa0\x01t\x43\x42";
-    let refused = engine.transfer(7, 6, true, transfer, b"hello").unwrap_err();
-    assert!(matches!(refused, Error::Refused(refusal) if refusal.name == "UnattachedHandle"));
-    assert_eq!(sent(&mut engine), b"");
-    engine.transfer(7, 5, true, transfer, b"hello").unwrap();
+    assert!(is_taken(&mut engine, 0) && sent(&mut engine).ends_with(b"hello"));
+    // no link has it: it is the peer's handle of the first one
+    assert!(!is_taken(&mut engine, 5));
+    assert_eq!(engine.link(7, Role::Sender, ReceiverSettleMode::First, "next").unwrap(), 1);
+    assert!(!is_taken(&mut engine, 1));
+    assert_eq!(hear(&mut engine, 3, b"\0\x53\x12\xc0\x0a\x03\xa1\x04next\x52\x06\x41").0.kind, kind::ATTACHED);
+    assert!(is_taken(&mut engine, 1) && sent(&mut engine).ends_with(b"hello"));
+    // this side detaches the one, and the peer the other
+    engine.detach(7, true, b"\0\x53\x16\xc0\x02\x01\x43").unwrap();
+    sent(&mut engine);
+    assert_eq!(hear(&mut engine, 3, b"\0\x53\x16\xc0\x03\x01\x52\x06").0.output, 1);
+    assert!(!is_taken(&mut engine, 0) && !is_taken(&mut engine, 1));
 }
 
 #[test]
 fn transfers_go_by_their_heads() {
     let mut engine = sending();
-    let head = TransferHead { session: 7, link: 5, format: 0, payload: 5, flags: flag::NUMBERED | flag::TAGGED, tag_size: 1 };
-    let (other, mut sent_as) = (TransferHead { link: 6, ..head }, [Sent::default(); 3]);
+    let head = TransferHead { session: 7, link: 0, format: 0, payload: 5, flags: flag::NUMBERED | flag::TAGGED, tag_size: 1 };
+    let (other, mut sent_as) = (TransferHead { link: 5, ..head }, [Sent::default(); 3]);
     let told = engine.transfers(&[head, other, head, head], b"thelloxhellouhello", &mut sent_as).unwrap();
     assert_eq!(told, (3, 18, Stop::Full));
     assert_eq!(sent_as.map(|it| (it.number, it.refusal)), [(0, 0), (0, 61), (1, 0)]);
