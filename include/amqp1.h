@@ -2,8 +2,8 @@
    no clock. The library is written in Rattle, and its exports are proved; what stands in these headers is C, and is tested alone.
 
    A program makes an engine with its Open (amqp1_start), asks for what it wants (amqp1_open, amqp1_begin, amqp1_link, amqp1_attach ..), hands over
-   the bytes that come after the protocol headers (amqp1_take), reads a record of each frame, sends deliveries (amqp1_send), and writes the bytes
-   that wait (amqp1_output) to its socket.
+   the bytes that come after the protocol headers (amqp1_take), reads a record of each frame, sends deliveries (amqp1_send; amqp1_cut where one is
+   longer than a frame), and writes the bytes that wait (amqp1_output) to its socket.
 
        amqp1 engine = AMQP1_EMPTY;
        amqp1_record records[64];

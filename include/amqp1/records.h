@@ -78,8 +78,9 @@ enum amqp1_outcome {
     AMQP1_OTHER_STATE = 6 /* any other one, or one that is described by a name */
 };
 
-/* Why a frame or a transfer was refused, in amqp1_record.refusal and amqp1_sent.refusal; 0 where it was not. amqp1_refusal_text has the names, and
-   the condition by which the peer is answered. No number changes its meaning; one that is not named here is of a later version. */
+/* Why a frame or a transfer was refused, in amqp1_record.refusal, amqp1_sent.refusal and amqp1_parts.refusal; 0 where it was not.
+   amqp1_refusal_text has the names, and the condition by which the peer is answered. No number changes its meaning; one that is not named here is
+   of a later version. */
 enum amqp1_why {
     AMQP1_WHY_OUTPUT_WAITING = 1,
     AMQP1_WHY_NO_SESSION = 2,
@@ -133,8 +134,8 @@ enum amqp1_why {
     AMQP1_WHY_ALLOC_LINK_DUPLICATED_NAME = 83,
     AMQP1_WHY_ALLOC_LINK_HANDLES_EXHAUSTED = 84,
     AMQP1_WHY_ALLOC_LINK_OUT_OF_MEMORY = 85,
-    /* of a head in amqp1_send */
-    AMQP1_WHY_PAYLOAD_TOO_LONG = 91, /* it does not fit one frame beside the transfer */
+    /* of a head in amqp1_send and amqp1_cut */
+    AMQP1_WHY_PAYLOAD_TOO_LONG = 91, /* it does not fit one frame beside the transfer; of amqp1_cut: nor do parts of it fit frames */
     AMQP1_WHY_TAG_TOO_LONG = 92      /* it has more than 32 bytes (section 2.8.7) */
 };
 #define AMQP1_WHY_BEGIN_WANTED AMQP1_WHY_CONNECTION_NOT_IMPLEMENTED
@@ -180,7 +181,7 @@ typedef struct amqp1_head {
     uint32_t session;  /* the session */
     uint32_t link;     /* the link, by this side's handle: the one that amqp1_link gave, `output` in records */
     uint32_t format;   /* the format of the message, with AMQP1_FLAG_FORMATTED */
-    uint32_t payload;  /* how many bytes the payload has: at most amqp1_payload_room */
+    uint32_t payload;  /* how many bytes the payload has. Where they do not fit one frame, amqp1_cut makes the heads of parts */
     uint16_t flags;    /* of amqp1_flag: NUMBERED and TAGGED of the first transfer of a delivery; SETTLED, MORE, ABORTED, FORMATTED */
     uint16_t tag_size; /* how many bytes stand before the payload: the tag, with AMQP1_FLAG_TAGGED, of at most 32 bytes */
 } amqp1_head;
@@ -196,6 +197,14 @@ typedef struct amqp1_went {
     size_t taken; /* how many transfers: so many heads, and so many places were written */
     size_t used;  /* how many of the bytes those have */
 } amqp1_went;
+
+/* A head that was cut: 48 bytes without padding. Where it was not cut, `part` and `rest` are both the whole head. */
+typedef struct amqp1_parts {
+    amqp1_head part;  /* the head of the first frame: its tag and its payload stand first in the bytes of the whole */
+    amqp1_head rest;  /* the head of what is left, without a tag: its payload stands behind. It may be longer than a frame again */
+    uint32_t more;    /* 1 where something is left; else 0 */
+    uint32_t refusal; /* why it cannot be sent, AMQP1_WHY_PAYLOAD_TOO_LONG or AMQP1_WHY_TAG_TOO_LONG; else 0 */
+} amqp1_parts;
 
 /* The place in which an engine lies, or nothing. */
 typedef struct amqp1 {
@@ -229,5 +238,8 @@ AMQP1_IS_SO(sent_size, sizeof(amqp1_sent) == 8);
 AMQP1_IS_SO(place_size, sizeof(amqp1) == 16);
 AMQP1_IS_SO(took_size, sizeof(amqp1_took) == 24);
 AMQP1_IS_SO(went_size, sizeof(amqp1_went) == 16);
+AMQP1_IS_SO(parts_size, sizeof(amqp1_parts) == 48);
+AMQP1_IS_SO(parts_rest, offsetof(amqp1_parts, rest) == 20);
+AMQP1_IS_SO(parts_more, offsetof(amqp1_parts, more) == 40);
 
 #endif
