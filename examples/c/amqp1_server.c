@@ -139,7 +139,12 @@ static void receive(struct peer *p, struct link *it, const amqp1_record *record,
 {
     amqp1_bytes payload = amqp1_payload(input, record);
     size_t old = it->partial ? it->partial->length : 0;
-    struct message *message = (struct message *)realloc(it->partial, sizeof *message + old + payload.length);
+    struct message *message;
+    if (payload.length > UINT32_MAX - old) {
+        end_with(p, it->session, "amqp:link:message-size-exceeded");
+        return;
+    }
+    message = (struct message *)realloc(it->partial, sizeof *message + old + payload.length);
     if (!message)
         abort();
     if (!it->partial) {
@@ -186,26 +191,24 @@ static void flow(struct peer *p, struct link *it, const amqp1_record *record)
 /* Sends one message, in as many transfers as it needs. */
 static void send_message(struct peer *p, struct link *it, const struct message *message)
 {
-    uint8_t tag[4];
-    amqp1_head head = { 0, 0, 0, 0, AMQP1_FLAG_NUMBERED | AMQP1_FLAG_TAGGED | AMQP1_FLAG_FORMATTED | AMQP1_FLAG_SETTLED, sizeof tag };
-    size_t at = 0, length = message->length;
-    amqp1_sent sent = { 0, 0 };
+    amqp1_head head = { 0, 0, 0, 0, AMQP1_FLAG_NUMBERED | AMQP1_FLAG_TAGGED | AMQP1_FLAG_FORMATTED | AMQP1_FLAG_SETTLED, 4 };
+    size_t at = 0, length = head.tag_size + message->length;
+    uint8_t *bytes = (uint8_t *)some(length);
+    amqp1_parts cut;
+    amqp1_sent sent;
     amqp1_went went;
-    uint8_t *bytes = (uint8_t *)some(p->payload_room + sizeof tag);
     head.session = it->session;
     head.link = it->output;
+    head.payload = (uint32_t)message->length;
     amqp1_u32_at(bytes, it->count);
+    memcpy(bytes + head.tag_size, message->bytes, message->length);
     do {
-        size_t part = length - at < p->payload_room ? length - at : p->payload_room;
-        head.payload = (uint32_t)part;
-        head.flags = (uint16_t)((head.flags & ~AMQP1_FLAG_MORE) | (at + part < length ? AMQP1_FLAG_MORE : 0));
-        memcpy(bytes + head.tag_size, message->bytes + at, part);
-        if (told(p, "a transfer", amqp1_send(&p->engine, &head, 1, bytes, head.tag_size + part, &sent, 1, &went)) || sent.refusal)
+        if (told(p, "a cut", amqp1_cut(&p->engine, &head, bytes + at, head.tag_size, &cut)) ||
+            told(p, "a transfer", amqp1_send(&p->engine, &cut.part, 1, bytes + at, length - at, &sent, 1, &went)) || sent.refusal)
             break;
-        head.flags = AMQP1_FLAG_SETTLED;
-        head.tag_size = 0;
-        at += part;
-    } while (at < length);
+        at += went.used;
+        head = cut.rest;
+    } while (cut.more);
     free(bytes);
     it->count++;
     it->credit--;
@@ -229,14 +232,9 @@ void serve(struct peer *p)
 
 /* ---- what a client says */
 
-/* How long a payload goes out in one frame to this client: less than that, beside the widest transfer of this program's. */
 static void opened(struct peer *p, const amqp1_record *record, const uint8_t *input)
 {
-    amqp1_bytes perf = amqp1_performative(input, record);
-    uint32_t length = 0;
-    told(p, "a length", amqp1_max_piece_len(&p->engine, &length));
-    p->payload_room = length < 65536 ? length - 100 : 65436;
-    p->idle = (uint32_t)amqp1_number_field(perf, AMQP1_OPEN_IDLE_TIME_OUT, 0);
+    p->idle = (uint32_t)amqp1_number_field(amqp1_performative(input, record), AMQP1_OPEN_IDLE_TIME_OUT, 0);
 }
 
 /* A frame that was refused is answered as the standard says: by an End or a Close with the refusal's condition. */

@@ -35,7 +35,7 @@ struct peer {
     int fd, is_over;
     enum { HEADER, MECHANISM, SECOND_HEADER, FRAMES } phase;
     amqp1 engine;
-    uint32_t next_session, idle, payload_room;
+    uint32_t next_session, idle;
     uint64_t sent_at;
     struct link *links;
     uint8_t in[1 << 17];
