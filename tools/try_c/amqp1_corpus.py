@@ -51,6 +51,8 @@ def sends():
     for count in range(1, 4):
         yield step(SEND, count + 4 + 24, head * count + b"tag1data" * count) + step(OUTPUT, 31)
         yield step(SEND, count + 8, head * count + b"tag1dat" * count) + step(OUTPUT, 31)
+    for long in (1500, 2**32 - 1):
+        yield step(SEND, 1 + 8, struct.pack("<IIIIHH", 7, 0, 0, long, 1 + 16384, 4) + b"tag1")
 
 
 def main():

@@ -1,6 +1,6 @@
-/* Any bytes to libamqp1, for libFuzzer: frames in any pieces and with any room for records, requests, transfers by heads, and outputs of any
-   room. What a call says that it took and wrote has to fit what it was given. With AMQP1_FUZZ_ALONE it is a program that does the same with
-   files. See amqp1_try.sh.
+/* Any bytes to libamqp1, for libFuzzer: frames in any pieces and with any room for records, requests, transfers by heads, which are cut too, and
+   outputs of any room. What a call says that it took and wrote has to fit what it was given. With AMQP1_FUZZ_ALONE it is a program that does the
+   same with files. See amqp1_try.sh.
 
    The input is a row of steps: a byte that says what is done (the lowest three bits) and with what room (the others), two bytes of length, and
    as many bytes. */
@@ -103,6 +103,25 @@ static void call(amqp1 *engine, const uint8_t *input, size_t length, size_t room
     free(output);
 }
 
+/* Cuts a head until nothing is left. The parts have its payload, and each but the last is as much as fits a frame. */
+static void cut(amqp1 *engine, amqp1_head head, const uint8_t *bytes, size_t length)
+{
+    amqp1_parts parts;
+    unsigned round;
+    for (round = 0; round < 9; round++) {
+        MUST(amqp1_cut(engine, &head, bytes, round ? 0 : length, &parts) == AMQP1_DONE);
+        MUST(parts.refusal == 0 || parts.refusal == AMQP1_WHY_PAYLOAD_TOO_LONG || parts.refusal == AMQP1_WHY_TAG_TOO_LONG);
+        if (!parts.more) {
+            MUST(!memcmp(&parts.part, &head, sizeof head) && !memcmp(&parts.rest, &head, sizeof head));
+            return;
+        }
+        MUST(parts.more == 1 && !parts.refusal && parts.part.payload < head.payload && parts.rest.payload == head.payload - parts.part.payload);
+        MUST(parts.part.flags == (head.flags | AMQP1_FLAG_MORE) && parts.part.tag_size == head.tag_size && !parts.rest.tag_size);
+        MUST(parts.rest.flags == (head.flags & (AMQP1_FLAG_MORE | AMQP1_FLAG_ABORTED)) && (round == 0 || parts.part.payload));
+        head = parts.rest;
+    }
+}
+
 /* Transfers: the heads stand in the bytes first. Of every second one session and link are those that are there, and the sizes are small. */
 static void send(amqp1 *engine, const uint8_t *bytes, size_t length, unsigned room)
 {
@@ -121,6 +140,8 @@ static void send(amqp1 *engine, const uint8_t *bytes, size_t length, unsigned ro
         heads[n].payload %= 2000;
     }
     length -= count * sizeof *heads;
+    for (n = 0; n < count; n++)
+        cut(engine, heads[n], bytes + count * sizeof *heads, length);
     status = amqp1_send(engine, heads, count, bytes + count * sizeof *heads, length, sent, room >> 3, &went);
     MUST(status == AMQP1_DONE || status == AMQP1_FULL || status == AMQP1_SHORT);
     MUST(went.taken <= count && went.taken <= room >> 3 && went.used <= length && (status != AMQP1_DONE || went.taken == count));

@@ -36,6 +36,11 @@ void try_records(void)
     STANDS(amqp1_sent, refusal, 4, 4);
     STANDS(amqp1_took, written, 8, 8);
     STANDS(amqp1_went, used, 8, 8);
+    CHECK(sizeof(amqp1_parts) == 48);
+    STANDS(amqp1_parts, part, 0, 20);
+    STANDS(amqp1_parts, rest, 20, 20);
+    STANDS(amqp1_parts, more, 40, 4);
+    STANDS(amqp1_parts, refusal, 44, 4);
     CHECK(amqp1_version() >> 16 == AMQP1_VERSION_MAJOR && amqp1_version() == AMQP1_VERSION_NUMBER);
     CHECK(!strcmp(amqp1_status_name(AMQP1_SHORT), "SHORT") && !strcmp(amqp1_status_name(-1), "unknown") && !strcmp(amqp1_status_name(10), "unknown"));
     CHECK(!strcmp(amqp1_kind_name(AMQP1_KIND_REFUSED), "Refused") && !strcmp(amqp1_kind_name(12), "unknown"));
@@ -52,13 +57,17 @@ static void try_empty(amqp1 *place)
     amqp1_head head = head_of(7, 5, 0, 0, 0);
     amqp1_sent sent = { 7, 7 };
     amqp1_went went = { 7, 7 };
+    amqp1_parts cut, old;
     memset(&record, 7, sizeof record);
+    memset(&cut, 7, sizeof cut);
+    old = cut;
     for (operation = 0; operation < 40; operation++)
         CHECK(amqp1_call(place, operation, in, sizeof in, out, sizeof out, &written) == AMQP1_NO_ENGINE);
     CHECK(written == 77 && out[0] == 9 && out[7] == 9);
     CHECK(amqp1_take(place, in, sizeof in, &record, 1, &took) == AMQP1_NO_ENGINE && took.taken == 7 && took.written == 7 && took.wanted == 7);
     CHECK(record.kind == 7 && record.tag[31] == 7);
     CHECK(amqp1_send(place, &head, 1, in, sizeof in, &sent, 1, &went) == AMQP1_NO_ENGINE && went.taken == 7 && went.used == 7 && sent.number == 7);
+    CHECK(amqp1_cut(place, &head, in, sizeof in, &cut) == AMQP1_NO_ENGINE && !memcmp(&cut, &old, sizeof cut));
     CHECK(place->full == 0);
 }
 

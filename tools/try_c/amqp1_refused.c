@@ -95,28 +95,58 @@ static void hear(const char *digits)
         again++;
 }
 
+/* Sends a transfer, until it is taken: how many bytes it has. */
+static size_t send_one(const amqp1_head *head, const uint8_t *bytes, size_t length)
+{
+    amqp1_sent sent;
+    amqp1_went went;
+    int32_t status;
+    while (status = amqp1_send(&one, head, 1, bytes, length, &sent, 1, &went), status == AMQP1_NO_MEMORY || (went.taken && is_memory(sent.refusal)))
+        again++;
+    printf("%s %u %u\n", amqp1_status_name(status), (unsigned)sent.number, (unsigned)sent.refusal);
+    return went.used;
+}
+
 /* Sends two deliveries, one after the other, and one that is refused. */
 static void send_three(void)
 {
     static const uint8_t bytes[6 + 600] = { 't', '0', 1, 't', '1', 't', '2', 2 };
     amqp1_head heads[3];
-    amqp1_sent sent;
-    amqp1_went went;
     size_t at, from = 0;
     heads[0] = head_of(7, 0, AMQP1_FLAG_NUMBERED | AMQP1_FLAG_TAGGED, 2, 1);
     heads[1] = head_of(7, 9, AMQP1_FLAG_NUMBERED | AMQP1_FLAG_TAGGED, 2, 0);
     heads[2] = head_of(7, 0, AMQP1_FLAG_NUMBERED | AMQP1_FLAG_TAGGED, 2, 599);
-    for (at = 0; at < 3;) {
-        int32_t status = amqp1_send(&one, heads + at, 1, bytes + from, sizeof bytes - from, &sent, 1, &went);
-        if (status == AMQP1_NO_MEMORY || (went.taken && is_memory(sent.refusal))) {
-            again++;
-            continue;
-        }
-        printf("%s %u %u\n", amqp1_status_name(status), (unsigned)sent.number, (unsigned)sent.refusal);
-        from += went.used;
-        at++;
-    }
+    for (at = 0; at < 3; at++)
+        from += send_one(heads + at, bytes + from, sizeof bytes - from);
     tell();
+}
+
+/* Cuts a head, until memory is there: where it is refused nothing is written. */
+static amqp1_parts cut_one(const amqp1_head *head, const uint8_t *tag)
+{
+    amqp1_parts cut, old;
+    int32_t status;
+    memset(&old, 0xee, sizeof old);
+    for (cut = old; status = amqp1_cut(&one, head, tag, head->tag_size, &cut), status == AMQP1_NO_MEMORY; again++)
+        if (memcmp(&cut, &old, sizeof cut))
+            printf("cut: written\n");
+    printf("%s %u %u %u\n", amqp1_status_name(status), (unsigned)cut.part.payload, (unsigned)cut.more, (unsigned)cut.refusal);
+    return cut;
+}
+
+/* Sends a delivery of three frames, one by one. */
+static void send_long(void)
+{
+    static const uint8_t bytes[2 + 2500] = { 't', '3', 3 };
+    amqp1_head head = head_of(7, 0, AMQP1_FLAG_NUMBERED | AMQP1_FLAG_TAGGED, 2, 2500);
+    amqp1_parts cut;
+    size_t from = 0;
+    do {
+        cut = cut_one(&head, bytes + from);
+        from += send_one(&cut.part, bytes + from, sizeof bytes - from);
+        tell();
+        head = cut.rest;
+    } while (cut.more);
 }
 
 static void begin(void)
@@ -143,6 +173,7 @@ static void go_on(void)
     uint8_t text[64];
     size_t length;
     send_three();
+    send_long();
     must(amqp1_write_flow(text, sizeof text, &length, 1, NULL, 10, 0, 0));
     ASK(amqp1_flow(&one, 7, text, length));
     /* no numbers go out after this, since a transfer that is refused is counted all the same */

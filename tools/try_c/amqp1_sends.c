@@ -3,15 +3,6 @@
 
 enum { FIRST_OF = AMQP1_FLAG_NUMBERED | AMQP1_FLAG_TAGGED };
 
-/* An engine with a link on which this side sends: output handle 0, input handle 5. The peer's window is ten transfers. */
-static amqp1 sending(void)
-{
-    amqp1 engine = begun();
-    CHECK(attaches(&engine, "out", AMQP1_SENDER, AMQP1_FIRST) == 0);
-    CHECK(hears_one(&engine, "[02000003 005312 c0(03 a1(6f7574) 5205 41)]", AMQP1_KIND_ATTACHED));
-    return engine;
-}
-
 /* Sends by one head: what became of it. All bytes are used where it was taken. */
 static amqp1_sent send_one(amqp1 *engine, amqp1_head head, const char *bytes)
 {
@@ -67,7 +58,7 @@ static void try_hundreds(void)
     static amqp1_head heads[100];
     static amqp1_sent sent[100];
     static uint8_t bytes[600];
-    amqp1 engine = sending();
+    amqp1 engine = sending(PEERS_OPEN);
     amqp1_went went;
     uint32_t round, at;
     for (round = 0; round < 3; round++) {
@@ -98,7 +89,7 @@ static void try_stops(void)
     size_t room, length;
     for (room = 0; room <= 4; room++) {
         for (length = 0; length <= 9; length++) {
-            amqp1 engine = sending();
+            amqp1 engine = sending(PEERS_OPEN);
             amqp1_head heads[3];
             amqp1_sent sent[4];
             amqp1_went went;
@@ -121,7 +112,7 @@ static void try_stops(void)
 
 void try_sends(void)
 {
-    amqp1 engine = sending();
+    amqp1 engine = sending(PEERS_OPEN);
     amqp1_went went = { 7, 7 };
     amqp1_head none = head_of(7, 0, 0, 0, 0);
     amqp1_sent sent = { 77, 77 };
@@ -166,7 +157,7 @@ static void try_longest(amqp1 *engine)
 
 void try_refused_sends(void)
 {
-    amqp1 engine = sending();
+    amqp1 engine = sending(PEERS_OPEN);
     amqp1_head heads[3];
     amqp1_sent sent[3];
     amqp1_went went;
@@ -189,7 +180,7 @@ void try_refused_sends(void)
     CHECK(amqp1_end(&engine, 7, NULL, 0) == AMQP1_DONE && sends(&engine, "[02000000 00531745]"));
     CHECK(send_one(&engine, head_of(7, 0, FIRST_OF, 1, 1), "tx").refusal != 0 && sends(&engine, ""));
     amqp1_free(&engine);
-    engine = sending();
+    engine = sending(PEERS_OPEN);
     try_longest(&engine);
     amqp1_free(&engine);
 }

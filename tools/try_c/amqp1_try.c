@@ -62,23 +62,43 @@ int hears_refused(amqp1 *engine, const char *digits, enum amqp1_why why)
     return is_so;
 }
 
-amqp1 opened(void)
+static amqp1 opened_by(const char *peers_open)
 {
+    char frame[128];
     amqp1 engine = made();
     CHECK(amqp1_open(&engine) == AMQP1_DONE && sends(&engine, OPEN_OUT));
-    CHECK(hears_one(&engine, "[02000000 " PEERS_OPEN "]", AMQP1_KIND_OPENED));
+    snprintf(frame, sizeof frame, "[02000000 %s]", peers_open);
+    CHECK(hears_one(&engine, frame, AMQP1_KIND_OPENED));
     return engine;
 }
 
-amqp1 begun(void)
+amqp1 opened(void)
 {
-    amqp1 engine = opened();
+    return opened_by(PEERS_OPEN);
+}
+
+static amqp1 begun_by(const char *peers_open)
+{
+    amqp1 engine = opened_by(peers_open);
     uint8_t begin[64];
     size_t length;
     CHECK(amqp1_write_begin(begin, sizeof begin, &length, 0, 64, 64, 255) == AMQP1_DONE);
     CHECK(amqp1_begin(&engine, 7, begin, length) == AMQP1_DONE);
     CHECK(sends(&engine, "[02000000 005311 c0(05 40 43 5240 5240 52ff)]"));
     CHECK(hears_one(&engine, "[02000003 005311 c0(04 600000 43 520a 520a)]", AMQP1_KIND_BEGUN) && heard[0].session == 7 && heard[0].channel == 3);
+    return engine;
+}
+
+amqp1 begun(void)
+{
+    return begun_by(PEERS_OPEN);
+}
+
+amqp1 sending(const char *peers_open)
+{
+    amqp1 engine = begun_by(peers_open);
+    CHECK(attaches(&engine, "out", AMQP1_SENDER, AMQP1_FIRST) == 0);
+    CHECK(hears_one(&engine, "[02000003 005312 c0(03 a1(6f7574) 5205 41)]", AMQP1_KIND_ATTACHED));
     return engine;
 }
 
@@ -133,6 +153,7 @@ int main(int count, char **words)
     try_links();
     try_sends();
     try_refused_sends();
+    try_cuts();
     try_writers();
     try_peers();
     try_pairs();

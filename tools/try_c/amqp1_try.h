@@ -50,6 +50,10 @@ int hears_refused(amqp1 *engine, const char *digits, enum amqp1_why why);
 amqp1 opened(void);
 amqp1 begun(void);
 
+/* The same, where the peer opens with this, and with a link on which this side sends: output handle 0, input handle 5. The peer's window is ten
+   transfers. */
+amqp1 sending(const char *peers_open);
+
 /* Whether the last refusal has this name and this condition. */
 int refused_as(amqp1 *engine, const char *name, const char *condition);
 
@@ -71,6 +75,7 @@ void try_takes(void);
 void try_links(void);
 void try_sends(void);
 void try_refused_sends(void);
+void try_cuts(void);
 void try_writers(void);
 void try_peers(void);
 void try_pairs(void);
