@@ -12,13 +12,14 @@ sys.path.insert(0, str(Path(__file__).resolve().parents[1]))
 sys.path.insert(0, str(Path(__file__).resolve().parents[2] / "bindings" / "python"))
 
 from amqp_engine import (
-    ACCEPTED, FIRST, RECEIVER, RELEASED, SECOND, SENDER, Attach, BadArgument, Begin, Closed, Delivery, Detach, Detached, Disposed, Disposition, Driver, Engine,
-    Error, Flow, Flowed, Open, Refusal, Server, SessionBegan, SessionEnded, Transfer, Transferred, address_of, data, source,
-    target,
+    ACCEPTED, RECEIVER, RELEASED, SECOND, SENDER, Attach, BadArgument, Begin, Closed, Delivery, Detach, Detached, Disposed, Disposition, Driver, Engine,
+    Error, Flow, Flowed, Refusal, Server, SessionBegan, SessionEnded, Transfer, Transferred, address_of, data,
 )  # fmt: skip
 from amqp_engine.driver import FORMATTED, MORE, NUMBERED
 from amqp_engine.library import Place, load
 from shared.command import command
+from try_c.try_c_cuts import TESTS as OF_CUTS
+from try_c.try_c_pair import Pair, frames, mapped, refused
 from try_c.try_c_sockets import OPEN, TESTS as OVER_SOCKETS
 from try_c.try_c_values import TESTS as OF_VALUES
 
@@ -28,46 +29,6 @@ TESTS = []
 def test(function):
     TESTS.append(function)
     return function
-
-
-class Pair:
-    """A client's engine and a server's, and the bytes between them."""
-
-    def __init__(self):
-        self.client = Engine(OPEN)
-        self.server = Server(Engine(Open("server", max_frame_size=512, channel_max=7)), begin=Begin(incoming_window=8))
-        self.client.open()
-        self.server.engine.open()
-
-    def carry(self, cut=None):
-        """Hands on what waits, until nothing does; answers what came on each side."""
-        came = ([], [])
-        while True:
-            there, back = self.client.to_send(), self.server.to_send()
-            if not there and not back:
-                return came
-            for data, side, found in ((there, self.server, came[1]), (back, self.client, came[0])):
-                for at in range(0, len(data), cut or len(data) or 1):
-                    found += side.receive(data[at : at + (cut or len(data))])
-
-    def attached(self, role=SENDER, settle_mode=FIRST, name="link", snd=None):
-        """A link that both sides attached: the client's handle, what it came as on the server, the server's handle, what came back."""
-        handle = self.client.link(0, name, role, settle_mode)
-        ends = (source("from"), target("to"))
-        self.client.attach(0, Attach(name, handle, role, snd, settle_mode, *ends, initial_delivery_count=None if role else 0))
-        (event,) = self.carry()[1]
-        mine = self.server.output_of(event)
-        self.server.attach(event.session, Attach(name, mine, not role, snd, settle_mode, *ends, initial_delivery_count=0 if role else None))
-        (answer,) = self.carry()[0]
-        return handle, event, mine, answer
-
-
-def mapped():
-    pair = Pair()
-    pair.client.begin(0, Begin(next_outgoing_id=0, incoming_window=8, outgoing_window=8))
-    came = pair.carry()
-    assert came == ([], [SessionBegan(0, None, None, Begin(None, 0, 8, 8))]), came
-    return pair
 
 
 # ---- two engines
@@ -114,15 +75,6 @@ def a_session_begins_ends_and_is_forgotten():
     refused(lambda: pair.client.begin(0), "SessionInUse")
     pair.client.begin(1)
     assert pair.carry()[1] == [SessionBegan(1, None, None, Begin(None, 0, 2048, 2048))]
-
-
-def refused(call, name):
-    try:
-        call()
-    except Refusal as refusal:
-        assert refusal.name == name, refusal
-    else:
-        raise AssertionError(f"not refused: {name}")
 
 
 @test
@@ -247,15 +199,6 @@ def the_peers_window_holds_transfers_back():
     for at in range(12):
         pair.client.transfer(0, Transfer(handle, delivery_tag=bytes([at]), settled=True), b"x")
     assert len([it for it in frames(pair.client.to_send()) if it[6] == 0x14]) == 8
-
-
-def frames(data):
-    found = []
-    while data:
-        size = int.from_bytes(data[:4], "big")
-        found.append(data[4:size])
-        data = data[size:]
-    return found
 
 
 @test
@@ -388,7 +331,7 @@ def main():
     if len(sys.argv) != 2:
         sys.exit(__doc__.strip())
     os.environ["AMQP_LIBRARY"] = str(Path(sys.argv[1]).resolve())
-    failed, tests = 0, OF_VALUES + TESTS + OVER_SOCKETS
+    failed, tests = 0, OF_VALUES + TESTS + OF_CUTS + OVER_SOCKETS
     for it in tests:
         try:
             it()

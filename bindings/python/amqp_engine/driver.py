@@ -11,7 +11,7 @@ from typing import Any, Dict, List, NamedTuple, Optional, Sequence, Tuple, Union
 
 from . import library as lib
 from .events import Refusal
-from .performatives import Open
+from .performatives import Open, Transfer
 from .requesting import REMOTE_OPEN, SEND, BadArgument, NoMemory, Requests, numbers
 
 _UNFIT, _REFUSAL_TEXT, _DISPOSE = 27, 28, 29
@@ -34,6 +34,8 @@ STATE_ACCEPTED, STATE_REJECTED, STATE_RELEASED, STATE_MODIFIED, STATE_RECEIVED, 
 _RECORD = struct.Struct("=BBH14I2H32s")
 _HEAD = struct.Struct("=4I2H")
 _SENT = struct.Struct("=2I")
+_PARTS = struct.Struct("=4I2H20s2I")
+_PAYLOAD_TOO_LONG = 91
 _NONE_HERE = ctypes.c_char()
 
 
@@ -74,7 +76,7 @@ class Taken(NamedTuple):
 
 
 class Delivery(NamedTuple):
-    """A transfer of one frame that is to be sent: on the link that has this handle of this side's, as `link` or `link_on` gave it."""
+    """A transfer that is to be sent: on the link that has this handle of this side's, as `link` or `link_on` gave it."""
 
     session: int
     link: int
@@ -82,6 +84,24 @@ class Delivery(NamedTuple):
     payload: bytes
     flags: int = NUMBERED
     format: int = 0
+
+
+def _head_of(it: Delivery) -> bytes:
+    flags = it.flags | (TAGGED if it.tag is not None else 0)
+    try:
+        return _HEAD.pack(it.session, it.link, it.format, len(it.payload), flags, len(it.tag or b""))
+    except struct.error as error:
+        raise BadArgument(f"a head does not say this: {error}") from None
+
+
+def _delivery_of(session: int, transfer: Transfer, payload: bytes) -> Delivery:
+    """A whole delivery, as a head says it. Raises `BadArgument` where the transfer says more."""
+    if (transfer.rcv_settle_mode, transfer.state) != (None, None) or transfer.resume or transfer.batchable:
+        raise BadArgument("a delivery that is longer than a frame says no rcv_settle_mode, state, resume or batchable")
+    format = transfer.message_format
+    says = ((SETTLED, transfer.settled), (MORE, transfer.more), (ABORTED, transfer.aborted), (FORMATTED, format is not None))
+    flags = NUMBERED | sum(flag for flag, is_so in says if is_so)
+    return Delivery(session, transfer.handle, transfer.delivery_tag, payload, flags, format or 0)
 
 
 def _place_of(data: Union[bytes, bytearray], at: int) -> Tuple[int, Any]:
@@ -102,9 +122,10 @@ class Driver(Requests):
         default they are random. `most`: how many records there are at once. `library`: the path of `libamqp1.so`."""
         functions = lib.load(library)
         super().__init__(functions.amqp1_call, functions.amqp1_free)
-        self._take, self._send = functions.amqp1_take, functions.amqp1_send
+        self._take, self._send, self._cut = functions.amqp1_take, functions.amqp1_send, functions.amqp1_cut
         self._records = ctypes.create_string_buffer(most * _RECORD.size)
         self._most, self._took, self._went = most, lib.Took(), lib.Went()
+        self._parts = ctypes.create_string_buffer(_PARTS.size)
         self._texts: Dict[int, Tuple[str, ...]] = {}
         given = (os.urandom(16) if key is None else key) + open.encode()
         if key is not None and len(key) != 16:
@@ -152,12 +173,9 @@ class Driver(Requests):
     # ---- what goes
 
     def send(self, deliveries: Sequence[Delivery]) -> List[Tuple[int, int]]:
-        """Sends transfers, in order. Of each: the number of its delivery, if it is the first one of it, and 0; or 0, and the number of its refusal. Where
-        memory is refused the list is shorter: those that are left are to be sent again."""
-        heads = b"".join(
-            _HEAD.pack(it.session, it.link, it.format, len(it.payload), it.flags | (TAGGED if it.tag is not None else 0), len(it.tag or b""))
-            for it in deliveries
-        )
+        """Sends transfers, each of one frame, in order. Of each: the number of its delivery, if it is the first one of it, and 0; or 0, and the number of its
+        refusal. Where memory is refused the list is shorter: those that are left are to be sent again."""
+        heads = b"".join(map(_head_of, deliveries))
         data = b"".join(part for it in deliveries for part in (it.tag or b"", it.payload))
         count = len(deliveries)
         sent = ctypes.create_string_buffer(max(count, 1) * _SENT.size)
@@ -170,6 +188,37 @@ class Driver(Requests):
             if it.flags & NUMBERED and not refusal:
                 self._numbered(it.session)
         return told
+
+    def cut(self, delivery: Delivery) -> List[Delivery]:
+        """The parts of a transfer that may be longer than a frame, each of one frame. `send` takes them; one is to be sent only where the one before was
+        not refused. Raises `Refusal` where no frame has room for one (`TooLarge`), and where the tag has more than 32 bytes (`TagTooLong`)."""
+        parts: List[Delivery] = []
+        head, tag, at = _head_of(delivery), delivery.tag or b"", 0
+        while True:
+            self._judge(self._cut(ctypes.byref(self._place), head, tag, len(tag), self._parts))
+            session, link, format, payload, flags, _, rest, more, refusal = _PARTS.unpack(self._parts)
+            if refusal:
+                raise self._refused_as(refusal)
+            own_tag = tag if flags & TAGGED else None
+            parts.append(Delivery(session, link, own_tag, delivery.payload[at : at + payload], flags & ~TAGGED, format))
+            if not more:
+                return parts
+            head, tag, at = rest, b"", at + payload
+
+    def deliver(self, session: int, transfer: Transfer, payload: bytes) -> Optional[int]:
+        """A whole delivery is to be sent, in as many transfers as the peer's limit asks for. Each is one frame, so that both sides count as many against
+        the window. Answers what `transfer` does of the first one. Raises `BadArgument` where it is longer than a frame and says what no head does:
+        `rcv_settle_mode`, `state`, `resume`, `batchable`."""
+        if len(payload) <= self.payload_room(transfer):
+            return self.transfer(session, transfer, payload)
+        number = None
+        for part in self.cut(_delivery_of(session, transfer, payload)):
+            # one by one: behind one that is refused the others are taken all the same
+            ((told, refusal),) = self.send([part])
+            if refusal:
+                raise self._refused_as(refusal)
+            number = told if number is None else number
+        return number
 
     def dispose(self, session: int, role: bool, first: int, last: int, settled: bool, outcome: int = 0) -> None:
         """A disposition is to be sent, of the deliveries from `first` to `last`. `role` is this side's; the outcome is 0 for none, or accepted, released
@@ -191,6 +240,10 @@ class Driver(Requests):
     def unfit(self) -> int:
         """How many frames were longer than the peer takes, and were not sent."""
         return int.from_bytes(self._get(_UNFIT), "big")
+
+    def _refused_as(self, number: int) -> Refusal:
+        """The refusal of a request, of which no peer is told. What no frame has room for is `TooLarge`."""
+        return Refusal("TooLarge" if number == _PAYLOAD_TOO_LONG else self._text_of(number)[0])
 
 
 __all__ = ["BadArgument", "Delivery", "Driver", "NoMemory", "Record", "Taken"]

@@ -50,6 +50,8 @@ def load(path: Optional[str] = None) -> ctypes.CDLL:
     library.amqp1_take.restype = ctypes.c_int32
     library.amqp1_send.argtypes = [place, at, size, at, size, at, size, ctypes.POINTER(Went)]
     library.amqp1_send.restype = ctypes.c_int32
+    library.amqp1_cut.argtypes = [place, at, at, size, at]
+    library.amqp1_cut.restype = ctypes.c_int32
     return library
 
 

@@ -4,7 +4,6 @@ from __future__ import annotations
 
 import ctypes
 import struct
-from dataclasses import replace
 from typing import Any, Dict, Optional, Tuple, TypeVar, Union
 
 from . import library as lib
@@ -152,22 +151,6 @@ class Requests:
     def _numbered(self, session: int) -> int:
         number = self._numbers.get(session, 0)
         self._numbers[session] = (number + 1) % 2**32
-        return number
-
-    def deliver(self, session: int, transfer: Transfer, payload: bytes) -> Optional[int]:
-        """A whole delivery is to be sent, in as many transfers as the peer's limit asks for. Each is one frame, so that both sides count as many against
-        the window. Answers what `transfer` does of the first one."""
-        if len(payload) <= self.payload_room(transfer):
-            return self.transfer(session, transfer, payload)
-        part, at, number = replace(transfer, more=True), 0, None
-        while at < len(payload):
-            room = self.payload_room(part)
-            if room == 0:
-                raise Refusal("TooLarge")
-            is_first, is_last = at == 0, len(payload) - at <= room
-            told = self.transfer(session, replace(part, more=not is_last), payload[at : at + room], is_first)
-            number = told if is_first else number
-            part, at = Transfer(transfer.handle, more=True), at + room
         return number
 
     def payload_room(self, transfer: Transfer) -> int:
