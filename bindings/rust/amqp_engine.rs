@@ -16,7 +16,7 @@ use std::{ffi::c_void, fmt};
 mod records;
 
 use records::stop;
-pub use records::{NONE, Record, Sent, Stop, TransferHead, flag, kind};
+pub use records::{Cut, NONE, Record, Sent, Stop, TransferHead, flag, kind};
 
 #[repr(C)]
 struct Place {
@@ -68,6 +68,7 @@ unsafe extern "C" {
         sent_length: usize,
         answer: *mut Went,
     ) -> i32;
+    fn amqp1_cut(place: *mut Place, head: *const TransferHead, bytes: *const u8, bytes_length: usize, answer: *mut Cut) -> i32;
     fn amqp1_free(place: *mut Place);
 }
 
@@ -236,6 +237,15 @@ impl Engine {
         let (given, places) = (heads.as_ptr(), sent.as_mut_ptr());
         let status = unsafe { amqp1_send(&mut self.place, given, heads.len(), bytes.as_ptr(), bytes.len(), places, sent.len(), &mut went) };
         Ok((went.taken, went.used, stop(status, 0)?))
+    }
+
+    /// Cuts the head of a transfer that is longer than a frame into that of the first frame and that of what is left. While `more` is 1 `rest` is cut
+    /// again: so there is a head for each frame. `bytes` begin with the tag, and no others are read. Send a part only where the one before was accepted.
+    pub fn cut(&mut self, head: &TransferHead, bytes: &[u8]) -> Result<Cut, Error> {
+        let mut cut = Cut::default();
+        let status = unsafe { amqp1_cut(&mut self.place, head, bytes.as_ptr(), bytes.len(), &mut cut) };
+        self.outcome(status)?;
+        Ok(cut)
     }
 
     /// The name of a refusal by its number, and the condition that answers a frame that was refused so; it may be empty.

@@ -105,7 +105,7 @@ pub mod flag {
     pub const AVAILABLE: u16 = 32768;
 }
 
-/// The head of a transfer of one frame. Its tag and its payload stand in the bytes that go with it, one after the other.
+/// The head of a transfer. Its tag and its payload stand in the bytes that go with it, one after the other.
 #[derive(Clone, Copy, Debug, Default, PartialEq, Eq)]
 #[repr(C)]
 pub struct TransferHead {
@@ -114,7 +114,7 @@ pub struct TransferHead {
     pub link: u32,
     /// The format of the message, where `FORMATTED` is set.
     pub format: u32,
-    /// How many bytes the payload has.
+    /// How many bytes the payload has. Where they do not fit one frame, [`Engine::cut`](super::Engine::cut) makes the heads of parts.
     pub payload: u32,
     /// `NUMBERED` for the first transfer of a delivery, `SETTLED`, `MORE`, `ABORTED`, `FORMATTED`, `TAGGED`.
     pub flags: u16,
@@ -127,6 +127,21 @@ pub struct TransferHead {
 #[repr(C)]
 pub struct Sent {
     pub number: u32,
+    pub refusal: u32,
+}
+
+/// A head that was cut. Where it was not cut, `part` and `rest` are both the whole head.
+#[derive(Clone, Copy, Debug, Default, PartialEq, Eq)]
+#[repr(C)]
+pub struct Cut {
+    /// The head of the first frame: its tag and its payload stand first in the bytes of the whole.
+    pub part: TransferHead,
+    /// The head of what is left: its payload stands behind. It may be longer than a frame again.
+    pub rest: TransferHead,
+    /// 1 where something is left; else 0.
+    pub more: u32,
+    /// Why it cannot be sent: 91 where no frame has room for the transfer, or for a byte of payload beside it, and 92 where the tag has more than 32
+    /// bytes. Else 0.
     pub refusal: u32,
 }
 

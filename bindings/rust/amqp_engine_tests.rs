@@ -122,6 +122,59 @@ fn transfers_go_by_their_heads() {
     assert_eq!(sent(&mut engine), framed(0, b"\0\x53\x15\xc0\x06\x04\x42\x43\x52\x01\x41"));
 }
 
+/// The heads of the parts of a transfer, whose tag these bytes begin with.
+fn parts_of(engine: &mut Engine, head: TransferHead, bytes: &[u8]) -> Vec<TransferHead> {
+    let mut cut = engine.cut(&head, bytes).unwrap();
+    let mut parts = vec![cut.part];
+    while cut.more == 1 {
+        assert_eq!((cut.refusal, cut.rest.tag_size), (0, 0));
+        cut = engine.cut(&cut.rest, &[]).unwrap();
+        parts.push(cut.part);
+    }
+    parts
+}
+
+#[test]
+fn a_long_transfer_goes_in_parts() {
+    assert_eq!((size_of::<Cut>(), std::mem::offset_of!(Cut, rest), std::mem::offset_of!(Cut, more)), (48, 20, 40));
+    let mut engine = sending();
+    let bytes: Vec<u8> = (0..2501_u32).map(|at| at as u8 ^ (at >> 8) as u8).collect();
+    let first = flag::NUMBERED | flag::TAGGED | flag::SETTLED | flag::ABORTED;
+    let head = TransferHead { session: 7, link: 0, format: 0, payload: 2500, flags: first, tag_size: 1 };
+    let parts = parts_of(&mut engine, head, &bytes[..1]);
+    let wanted = [first | flag::MORE, flag::MORE | flag::ABORTED, flag::ABORTED];
+    assert_eq!(parts.iter().map(|it| it.flags).collect::<Vec<_>>(), wanted);
+    assert_eq!(parts.iter().map(|it| (it.session, it.link, it.tag_size)).collect::<Vec<_>>(), [(7, 0, 1), (7, 0, 0), (7, 0, 0)]);
+    assert_eq!(parts.iter().map(|it| it.payload).sum::<u32>(), 2500);
+    let mut at = 0;
+    for (count, part) in parts.iter().enumerate() {
+        let mut told = [Sent::default()];
+        let (taken, used, stop) = engine.transfers(&[*part], &bytes[at..], &mut told).unwrap();
+        assert_eq!((taken, stop, told[0]), (1, Stop::Done { wanted: 0 }, Sent { number: 0, refusal: 0 }));
+        let (frame, end) = (sent(&mut engine), at + used);
+        assert!(frame.ends_with(&bytes[end - part.payload as usize..end]) && frame.len() <= 1024);
+        assert!(frame.len() + 4 >= 1024 || count == 2);
+        at = end;
+    }
+    assert_eq!(at, bytes.len());
+}
+
+#[test]
+fn what_fits_is_not_cut_and_what_never_fits_is_refused() {
+    let mut engine = sending();
+    let room = engine.payload_room(b"\0\x53\x14\xc0\x08\x05\x43\x40\xa0\x01t\x43\x42").unwrap().unwrap();
+    let head = TransferHead { session: 7, link: 0, format: 0, payload: room, flags: flag::NUMBERED | flag::TAGGED, tag_size: 1 };
+    assert_eq!(engine.cut(&head, b"t").unwrap(), Cut { part: head, rest: head, more: 0, refusal: 0 });
+    let longer = TransferHead { payload: room + 1, ..head };
+    assert_eq!(parts_of(&mut engine, longer, b"t").iter().map(|it| it.payload).collect::<Vec<_>>(), [room - 1, 2]);
+    let tagged = TransferHead { tag_size: 33, ..head };
+    assert_eq!(engine.cut(&tagged, &[0; 33]).unwrap(), Cut { part: tagged, rest: tagged, more: 0, refusal: 92 });
+    // until the peer's Open has come the limit is that of this side's, here of 8 bytes
+    let mut narrow = Engine::new([7; 16], b"\0\x53\x10\xc0\x08\x03\xa1\x02me\x40\x52\x08").unwrap();
+    assert_eq!(narrow.cut(&head, b"t").unwrap(), Cut { part: head, rest: head, more: 0, refusal: 91 });
+    assert_eq!(sent(&mut engine), b"");
+}
+
 #[test]
 fn what_came_is_told_in_order_and_in_place() {
     let mut engine = sending();
