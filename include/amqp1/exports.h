@@ -111,7 +111,7 @@ int32_t amqp1_take(amqp1 *place, const uint8_t *input, size_t input_length, amqp
 int32_t amqp1_send(amqp1 *place, const amqp1_head *heads, size_t heads_length, const uint8_t *bytes, size_t bytes_length, amqp1_sent *sent,
                    size_t sent_length, amqp1_went *answer);
 
-/* Cuts the head of a transfer that is longer than a frame (sections 2.6.14 and 2.7.5): `part` is the head of the first frame, with as much payload
+/* Cuts the head of a transfer that is longer than a frame (sections 2.6.14 and 2.7.5). `part` is the head of the first frame, with as much payload
    as fits whatever number the delivery gets, and `rest` that of what is left. While `more` is 1, `rest` is cut again: so there is a head for each
    frame, for amqp1_send. The bytes stay where they are, those of a part behind those of the part before. AMQP1_FLAG_NUMBERED, TAGGED, FORMATTED and
    SETTLED stay with the first part alone. MORE is set on all parts but the last, which has it where the whole has it, and ABORTED on all, where the
