@@ -3,6 +3,8 @@
 
     tools/transcript.py FILE [A|B]             writes the lines to standard output
     tools/transcript.py FILE [A|B] --run PROG  runs the program PROG (amqp_replay) on them and prints each refused frame
+    tools/transcript.py FILE [A|B] [--run PROG] --html PAGE
+                                               writes a page for a browser too, with all frames; without a program the judge of both sides is asked alone
 
 FILE is what `tshark -q -z follow,tcp,raw,N` prints, or a file of lines `A HEX` and `B HEX`, each a frame without its size; A is the
 client. The second word says whose place the engine takes (A where it is left out): what the other side sent comes as `recv` lines, and
@@ -32,7 +34,8 @@ from amqp.judging import Judge
 from amqp.mended import kind_of, mended, wrong_with
 from amqp.streams import recorded
 from amqp.strict import why
-from shared.command import command, told
+from page.make import ENGINE, JUDGE, of_recording
+from shared.command import command, option, told
 
 # Two lines that are always refused, and change nothing: no line of a transcript is answered so
 MARK, MARKED = "release 4294967295\nrecv \n", "err NoSession\nerr DecodeError\n"
@@ -322,11 +325,17 @@ def answers(lines, program):
 
 def refusals(transcript, program, judges=False):
     """Each refused frame, as a text: its place among the recorded ones, who sent it, its kind, and the refusal. Where `judges`, also each other fault."""
+    return [f"{begins}: {name}" for _, begins, name, _ in told_of(transcript, program, judges)]
+
+
+def told_of(transcript, program, judges):
+    """Of each refused frame its place, how a line of it begins, the refusal, and who tells it."""
     lines, found = transcript.run(), []
     faults = dict(transcript.faults) if judges else {}
     for (at, line), names in zip(lines, answers(lines, program)):
         fault = faults.pop(at, None) if line.startswith("recv ") else None
-        found += [shown(transcript, at, line, name) for name in names or [fault] if name]
+        by = ENGINE if names else JUDGE
+        found += [(at, *shown(transcript, at, line, name), by) for name in names or [fault] if name]
     return found
 
 
@@ -340,7 +349,7 @@ def shown(transcript, at, line, name):
         mark = f" ({transcript.lawful[at]})"
     elif line.startswith("recv") and name == "DecodeError" and why(of):
         mark = f" ({why(of)})"
-    return f"frame {at + 1}, {side}, {kind_of(of)}{asked}: {name}{mark}"
+    return f"frame {at + 1}, {side}, {kind_of(of)}{asked}", f"{name}{mark}"
 
 
 def counted(frames, found):
@@ -351,28 +360,31 @@ def counted(frames, found):
     return line + "".join(f", {count} {mark}" for mark, count in named.items() if count)
 
 
+def read(path):
+    try:
+        frames = recorded(path)
+    except ValueError as error:
+        told(f"{path}: {error}")
+    return frames or told(f"{path}: no frame in it")
+
+
 def main():
-    words, program = sys.argv[1:], None
-    if "--run" in words[:-1]:
-        at = words.index("--run")
-        program = words[at + 1]
-        del words[at : at + 2]
+    words = sys.argv[1:]
+    program, html = option(words, "--run"), option(words, "--html")
     side = words[1] if len(words) > 1 else "A"
     if len(words) not in (1, 2) or side not in ("A", "B"):
         sys.exit(__doc__.strip())
-    try:
-        frames = recorded(words[0])
-    except ValueError as error:
-        told(f"{words[0]}: {error}")
-    if not frames:
-        told(f"{words[0]}: no frame in it")
-    transcript = Transcript(frames, side)
-    if program is None:
+    transcript = Transcript(read(words[0]), side)
+    found = told_of(transcript, program, judges=True) if program else []
+    if program:
+        lines = [f"{begins}: {name}" for _, begins, name, _ in found]
+        print("\n".join([*lines, counted(transcript.frames, lines)]))
+    elif html is None:
         print("\n".join(line for _, line in transcript.run()))
-        return
-    found = refusals(transcript, program, judges=True)
-    print("".join(f"{it}\n" for it in found), end="")
-    print(counted(frames, found))
+    else:
+        transcript.run()
+    if html is not None:
+        of_recording(words[0], transcript, found, f"the engine in the place of {side}, and a judge of both sides" if program else "a judge of both sides").write(html)
 
 
 if __name__ == "__main__":

@@ -10,11 +10,11 @@ LEAST = 8
 
 
 class Stream:
-    """What one side sends, in any chunks. Protocol headers and frames of SASL are passed over."""
+    """What one side sends, in any chunks. Protocol headers and, but where `sasl`, frames of SASL are passed over."""
 
-    def __init__(self, kept=2**32):
+    def __init__(self, kept=2**32, sasl=False):
         """Of a frame, with its size, `kept` bytes are kept; the others are counted, and passed over."""
-        self.kept, self.waiting, self.passing = kept, bytearray(), 0
+        self.kept, self.sasl, self.waiting, self.passing = kept, sasl, bytearray(), 0
         # why nothing more can be read of the stream
         self.broken = None
 
@@ -26,7 +26,7 @@ class Stream:
             of = bytes(self.waiting[at : at + min(size, self.kept)])
             at += len(of)
             self.pass_over(size - len(of), at)
-            if not of.startswith(HEADER) and of[5] != 1:
+            if not of.startswith(HEADER) and (self.sasl or of[5] != 1):
                 found.append((size, of[4:]))
         del self.waiting[:at]
         if self.broken is not None:
@@ -69,17 +69,17 @@ class Stream:
         return data[here:] if here else data
 
 
-def recorded(path):
+def recorded(path, sasl=False):
     """The frames of a recording: side and bytes, without their size, in the order in which they were whole."""
     lines = Path(path).read_text().splitlines()
     if any(line.startswith("Follow: tcp") for line in lines):
-        return followed(lines)
+        return followed(lines, sasl)
     return [(line[0], bytes.fromhex(line[2:])) for line in lines if re.fullmatch(r"[AB] [0-9a-fA-F]*", line)]
 
 
-def followed(lines):
+def followed(lines, sasl=False):
     """The frames of a followed stream: the second node's chunks are indented."""
-    streams, found = {"A": Stream(), "B": Stream()}, []
+    streams, found = {"A": Stream(sasl=sasl), "B": Stream(sasl=sasl)}, []
     for line in lines:
         if re.fullmatch(r"\t?[0-9a-fA-F]+", line):
             side = "B" if line.startswith("\t") else "A"

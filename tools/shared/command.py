@@ -28,6 +28,16 @@ def command(main, doc):
         sys.exit(130)
 
 
+def option(words, name):
+    """The word after this one; both are taken out of the words. `None` where it is not among them, or the last."""
+    if name not in words[:-1]:
+        return None
+    at = words.index(name)
+    _, found = words[at : at + 2]
+    del words[at : at + 2]
+    return found
+
+
 def told(what):
     """Ends the tool with one line on standard error, and status 1."""
     sys.exit(f"{Path(sys.argv[0]).stem}: {what}")

@@ -1,0 +1,108 @@
+"""Puts a page together: one HTML file of its own, for a browser without a server. What comes from frames is data in it, and never markup.
+
+The rows stand in one block of JSON, in which no character can end the block; the page's script writes each text as a text. The policy in the page lets the
+browser run that one script, which it knows by its sum, and load nothing.
+"""
+
+import base64
+import hashlib
+import json
+import re
+from pathlib import Path
+
+from amqp.streams import recorded
+from page.meanings import MEANINGS
+from page.rows import Reader
+from page.values import visible
+
+HERE = Path(__file__).resolve().parent
+# So many frames, and so many bytes of JSON for them, stand in a page: the page says where it was cut
+MOST_ROWS, MOST_BYTES = 200_000, 2**26
+# What is told with one of these in brackets is no breach
+LAWFUL = re.compile(r"\w+ \((the peer ended|in flight after this side's|after a frame that cannot be read)")
+ENGINE, JUDGE = "the engine", "the judge"
+PLACES = re.compile(r"@(POLICY|STYLE|SCRIPT|DATA)@")
+
+
+class Page:
+    """A page that grows by frames. `judged` says who judged them."""
+
+    def __init__(self, title, judged):
+        self.title, self.judged, self.reader = title, judged, Reader()
+        self.rows, self.size, self.count, self.refused, self.cut_refused = [], 0, 0, 0, 0
+
+    def add(self, side, of, number=0, time=None, found=(), size=None):
+        """A frame: its number, 0 of one of SASL; its time in seconds; and pairs of what is told of it and by whom."""
+        found = [verdict(text, by) for text, by in found]
+        breaks = any(it[3] for it in found)
+        self.count += 1
+        self.refused += breaks
+        if self.is_full():
+            self.cut_refused += breaks
+            return
+        row = written([number, time, *self.reader.row(side, of, size), found])
+        self.rows.append(row)
+        self.size += len(row)
+
+    def is_full(self):
+        return len(self.rows) == MOST_ROWS or self.size > MOST_BYTES
+
+    def text(self):
+        head = {
+            "title": visible(self.title),
+            "judged": self.judged,
+            "count": self.count,
+            "refused": self.refused,
+            "cutRefused": self.cut_refused,
+            "names": [*self.reader.names],
+            "meanings": MEANINGS,
+        }
+        script = "\n".join((HERE / name).read_text(encoding="utf-8") for name in ("page.js", "view.js"))
+        filled = {
+            "POLICY": policy(script),
+            "STYLE": (HERE / "page.css").read_text(encoding="utf-8"),
+            "SCRIPT": script,
+            "DATA": written(head)[:-1] + ',"rows":[' + ",\n".join(self.rows) + "]}",
+        }
+        # in one pass, so that nothing that is filled in is taken for a place
+        return PLACES.sub(lambda it: filled[it[1]], (HERE / "page.html").read_text(encoding="utf-8"))
+
+    def write(self, path):
+        Path(path).write_text(self.text(), encoding="utf-8", newline="\n")
+
+
+def verdict(text, by):
+    """What is told of a frame: its name, all of it, by whom, and whether it is a breach."""
+    name = "bad line" if text.startswith("bad line") else re.match(r"\w*", text)[0]
+    return [name, visible(text), by, 0 if LAWFUL.match(text) else 1]
+
+
+def written(value):
+    """JSON that nothing of HTML can be found in: neither an end of its block nor a comment nor a line's end that scripts know."""
+    text = json.dumps(value, ensure_ascii=True, separators=(",", ":"))
+    return text.replace("<", "\\u003c").replace(">", "\\u003e").replace("&", "\\u0026")
+
+
+def policy(script):
+    """What a browser may do with the page: run this one script."""
+    known = base64.b64encode(hashlib.sha256(script.encode("utf-8")).digest()).decode()
+    return f"default-src 'none'; style-src 'unsafe-inline'; script-src 'sha256-{known}'; base-uri 'none'; form-action 'none'"
+
+
+def of_recording(path, transcript, told, judged):
+    """The page of a recording: `told` is what transcript.py tells of its frames; of each other frame the judge's fault stands for that."""
+    found = {at: [(fault, JUDGE)] for at, fault in transcript.faults.items() if fault}
+    found |= {at: [] for at, *_ in told}
+    for at, _, name, by in told:
+        found[at].append((name, by))
+    return filled(Page(Path(path).name, judged), recorded(path, sasl=True), transcript.frames, found)
+
+
+def filled(page, whole, frames, found):
+    """The page with all of `whole`, which has frames of SASL too; those of `frames` are counted, and `found` tells of them, by their places."""
+    at = 0
+    for side, of in whole:
+        is_counted = at < len(frames) and frames[at] == (side, of)
+        page.add(side, of, at + 1 if is_counted else 0, None, found.get(at, ()) if is_counted else ())
+        at += is_counted
+    return page

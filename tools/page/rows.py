@@ -1,0 +1,167 @@
+"""The rows of a page: one for each frame, as what JSON can hold, bounded in size. Of a login no secret gets in: neither bytes nor lengths."""
+
+import re
+
+from amqp.frames import BEGIN, END, NAMES, NULL, Frame, Malformed, end_of, integer, number, parts
+from amqp.mended import plain
+from amqp.tables import TABLES
+from page.values import cut, fields_of, value, visible
+
+# Of a payload, or of a frame that cannot be read, so many bytes are shown
+MOST_BYTES = 48
+# The frames of SASL, by their descriptors, and those of their fields that are shown (AMQP 1.0 part 5, section 5.3.3): no response, no challenge
+SASL = {0x40: "mechanisms", 0x41: "init", 0x42: "challenge", 0x43: "response", 0x44: "outcome"}
+SASL_FIELDS = {0x40: ["sasl-server-mechanisms"], 0x41: ["mechanism", None, "hostname"], 0x44: ["code", None]}
+LEFT_OUT = {0x41: "initial-response", 0x42: "challenge", 0x43: "response", 0x44: "additional-data"}
+MECHANISM = re.compile(r"[A-Z0-9_-]{1,20}")
+
+
+class Sessions:
+    """Which session a frame is of: they are counted from 1, over both sides."""
+
+    def __init__(self):
+        self.count, self.on, self.asked = 0, {"A": {}, "B": {}}, {"A": {}, "B": {}}
+
+    def of(self, side, frame):
+        """The session's number; 0 where it is of none."""
+        if frame.code == BEGIN:
+            self.begin(side, frame)
+        mine = self.on[side]
+        return mine.pop(frame.channel, 0) if frame.code == END else mine.get(frame.channel, 0)
+
+    def begin(self, side, frame):
+        answers = None if frame[0] == NULL else integer(frame[0])
+        known = self.asked["B" if side == "A" else "A"].pop(answers, None)
+        if known is None:
+            self.count += 1
+            known = self.asked[side][frame.channel] = self.count
+        self.on[side][frame.channel] = known
+
+
+class Reader:
+    """Frames one after another, each as a row: a side, what it is, where, and its fields."""
+
+    def __init__(self):
+        self.sessions, self.names = Sessions(), {}
+
+    def row(self, side, of, size=None):
+        """The frame as [side, kind, channel, session, size, fields, payload's size, its front]; `of` is without its size, and may be cut."""
+        size = len(of) + 4 if size is None else size
+        if (code := sasl_code(of)) is not None:
+            return [side, f"SASL {SASL.get(code, 'frame')}", -1, 0, 0, self.flat(sasl(of, code)), 0, ""]
+        channel = int.from_bytes(of[2:4], "big")
+        try:
+            return self.read(side, Frame(plain(of)), size, len(of) + 4)
+        except (Malformed, RecursionError, IndexError, ValueError):
+            return [side, kind_of(of), channel, 0, size, self.flat(unread(of)), 0, ""]
+
+    def read(self, side, frame, size, kept):
+        if frame.code is None:
+            return [side, "empty frame", frame.channel, 0, size, [], 0, ""]
+        fields = self.flat(lines(frame))
+        session = self.sessions.of(side, frame) if 0x11 <= frame.code <= 0x17 else 0
+        payload = len(frame.payload) + size - kept
+        return [side, NAMES[frame.code], frame.channel, session, size, fields, payload, frame.payload[:MOST_BYTES].hex()]
+
+    def flat(self, pairs):
+        """Names by their places in `names`, each before its text."""
+        found = []
+        for name, text in pairs:
+            found += [self.names.setdefault(name, len(self.names)), text]
+        return found
+
+
+def lines(frame):
+    """The fields of a performative that are there, by the standard's names; one that cannot be read is said to be so."""
+    _, table = TABLES[frame.code]
+    for at, of in enumerate(frame.fields[: len(table) + 3]):
+        name, kind, _ = table[at] if at < len(table) else (f"field {at + 1}", "raw", None)
+        if of != NULL:
+            yield from field(of, name.replace("_", "-"), kind)
+
+
+def field(of, name, kind):
+    try:
+        found = [*fields_of(of, name, kind)]
+    except (Malformed, RecursionError, IndexError, ValueError):
+        found = [(name, f"cannot be read ({len(of):,} bytes)")]
+    return [(name, cut_twice(text)) for name, text in found]
+
+
+def cut_twice(text):
+    """A text of many parts, cut too."""
+    return text if len(text) <= 600 else f"{text[:600]}… ({len(text):,} characters shown as text)"
+
+
+# ---- what is not read as a performative
+
+
+def descriptor_of(of):
+    """The descriptor of a frame's body, as its text; `None` where there is none."""
+    try:
+        inside = of[of[0] * 4 - 4 :] if of[:1] > b"\x02" else of[4:]
+        return value(inside, 1)[0] if inside[:1] == b"\x00" else None
+    except (Malformed, RecursionError, IndexError, ValueError):
+        return None
+
+
+def sasl_code(of):
+    """The code of a frame of SASL, 0 where its kind is not known; `None` of any other frame."""
+    descriptor = descriptor_of(of) or ""
+    names = {f"amqp:sasl-{name}:list": code for code, name in SASL.items()}
+    code = names.get(descriptor, int(descriptor) if descriptor.isdecimal() else 0)
+    if code in SASL or descriptor.startswith("amqp:sasl"):
+        return code
+    return 0 if len(of) > 1 and of[1] == 1 else None
+
+
+def kind_of(of):
+    code = code_of(of)
+    return NAMES[code] if code else "no frame"
+
+
+def code_of(of):
+    """The performative that the descriptor names, if any."""
+    descriptor = descriptor_of(of) or ""
+    known = {str(code): code for code in NAMES} | {f"amqp:{name.lower()}:list": code for code, name in NAMES.items()}
+    return known.get(descriptor)
+
+
+def unread(of):
+    """What is shown of a frame that cannot be read: bytes only where they say that they are a performative, since others may be a login."""
+    if len(of) > 1 and of[1] == 0 and code_of(of):
+        shown = of[:MOST_BYTES].hex()
+        yield "bytes", shown if len(of) <= MOST_BYTES else f"{shown}… ({len(of):,} bytes in all)"
+    else:
+        yield "bytes", "left out: they name no performative, and may be a login"
+
+
+def sasl(of, code):
+    """The fields of a frame of SASL that are no secret."""
+    try:
+        at = of[0] * 4 - 4
+        inner, _ = parts(of, end_of(of, at + 1))
+    except (Malformed, RecursionError, IndexError, ValueError):
+        yield "fields", "cannot be read, and are left out"
+        return
+    for name, inside in zip(SASL_FIELDS.get(code, []), inner):
+        if name and inside != NULL and (text := open_text(name, inside)):
+            yield name, text
+    if code in LEFT_OUT:
+        yield LEFT_OUT[code], "left out"
+
+
+def open_text(name, of):
+    """A field of SASL whose value has the form that it has to have, and so is no secret by a slip."""
+    code, _ = number(of, 0, 1)
+    try:
+        text, _ = value(of)
+    except (Malformed, RecursionError, IndexError, ValueError):
+        return None
+    if name == "mechanism":
+        return text if code in (0xA3, 0xB3) and MECHANISM.fullmatch(text) else "left out: no name of a mechanism"
+    if name == "hostname":
+        return visible(text) if code in (0xA1, 0xB1) else None
+    if name == "code":
+        return {"0": "0 (ok)", "1": "1 (auth)", "2": "2 (sys)", "3": "3 (sys-perm)", "4": "4 (sys-temp)"}.get(text)
+    return " ".join(it for it in re.split(r"[\[\], ]+", text) if MECHANISM.fullmatch(it)) or None
