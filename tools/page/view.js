@@ -263,6 +263,7 @@ function head() {
 
 function begin() {
   head();
+  table.classList.toggle("untimed", rows.every((row) => row[TIME] === null));
   const channels = new Set(), kinds = new Set();
   for (const row of rows) {
     if (row[CHANNEL] >= 0) channels.add(row[CHANNEL]);

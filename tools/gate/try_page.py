@@ -1,0 +1,259 @@
+#!/usr/bin/env python3
+"""Tries the pages that tools/transcript.py --html and tools/watch.py --html write: what stands in them, and what a browser makes of them.
+
+    tools/gate/try_page.py [CHROMIUM]
+
+Of a page is read: whether its data can be read as JSON, what of each recording in captures is refused in it, whether text of a frame can be taken for markup, and
+whether it has a password. Then it is opened in Chromium, without a window: CHROMIUM, or what stands on the path under one of its names. Where there is
+none, a line says how many tests are left out. The last line is 'N passed, M failed'.
+"""
+
+import base64
+import contextlib
+import hashlib
+import html
+import io
+import json
+import re
+import shutil
+import subprocess
+import sys
+import tempfile
+import time
+from pathlib import Path
+from unittest import mock
+
+sys.path.insert(0, str(Path(__file__).resolve().parents[1]))
+
+import page.make
+import transcript
+from amqp.recorded import CAPTURES
+from amqp.streams import recorded
+from gate.made_pages import HOSTILE, PASSWORD, SYMBOL, followed_lines, generated, hostile, spelled
+from gate.refused_of_captures import wanted
+from page.make import ENGINE, MEANINGS, Page, of_recording
+from shared.command import command
+from transcript import Transcript
+
+NUMBER, KIND, FIELDS, FOUND = 0, 3, 7, 10
+NAMES = ("chromium", "chromium-browser", "google-chrome")
+MANY, MOST_SECONDS = 100_000, 3
+FAILED = []
+
+
+def check(name, is_right, *said):
+    """Counts a test, and says what was found where it is wrong."""
+    if not is_right:
+        print(name, *said)
+    FAILED.append(not is_right)
+
+
+def data_of(text):
+    """The data of a page, as a browser finds it: up to the first end of a script."""
+    return json.loads(text.split('<script type="application/json" id="data">', 1)[1].split("</script", 1)[0])
+
+
+def told_in(data, number):
+    return [said for row in data["rows"] if row[NUMBER] == number for _, said, _, _ in row[FOUND]]
+
+
+def texts_in(data):
+    return [text for row in data["rows"] for text in row[FIELDS][1::2]]
+
+
+# ---- what stands in a page
+
+
+def is_closed(name, text):
+    """The page is one document with one script, which its policy knows, and loads nothing."""
+    scripts = re.findall(r"<script([^>]*)>(.*?)</script>", text, re.S)
+    known = base64.b64encode(hashlib.sha256(scripts[-1][1].encode()).digest()).decode()
+    is_known = f"default-src 'none'; style-src 'unsafe-inline'; script-src 'sha256-{known}'" in text
+    data = scripts[0][1]
+    is_data = len(scripts) == 2 and data.isascii() and not set("<>&") & set(data)
+    check(name, is_known and is_data and not re.search(r"innerHTML|outerHTML|insertAdjacent|document\.write|eval\(", scripts[-1][1]), len(scripts))
+    check(name, not re.search(r"(src|href)\s*=\s*[\"']?(http|//|data:)|@import|url\(", text.replace(data, "")))
+
+
+def page_of(name, side, lines):
+    """The page of a recording in captures, with what the engine refuses of it as it is stored."""
+    path = CAPTURES / f"{name}.txt"
+    read = Transcript(recorded(path), side)
+    read.run()
+    found = [re.fullmatch(r"frame (\d+), ([^:]*): (.*)", it) for it in lines]
+    return of_recording(path, read, [(int(it[1]) - 1, "", it[3], ENGINE) for it in found], "the engine"), read
+
+
+def recordings():
+    for (name, side), lines in wanted().items():
+        made, read = page_of(name, side, lines)
+        text = made.text()
+        data = data_of(text)
+        check(name, [row[NUMBER] for row in data["rows"]] == [*range(1, len(read.frames) + 1)])
+        check(name, all(line.split(": ", 1)[1] in told_in(data, int(re.search(r"\d+", line)[0])) for line in lines), side, *lines)
+        is_all = all(told_in(data, at + 1) for at, fault in read.faults.items() if fault)
+        names = {it[0] for row in data["rows"] for it in row[FOUND]}
+        check(name, is_all and names <= set(MEANINGS), side, names - set(MEANINGS))
+        is_closed(name, text)
+
+
+def hostile_text():
+    for form, lines in (("lines", spelled(hostile())), ("followed", followed_lines(hostile()))):
+        text, said = written(lines)
+        data = data_of(text)
+        is_closed(f"hostile, {form}", text)
+        secrets = [PASSWORD, PASSWORD.encode().hex(), base64.b64encode(PASSWORD.encode()).decode()]
+        check(f"no password, {form}", not any(it in text for it in secrets) and said == "", said)
+        logins = [row for row in data["rows"] if row[KIND].startswith("SASL")]
+        check(f"logins are shown, {form}", len(logins) >= 2 and "PLAIN" in texts_in({"rows": logins}) and "left out" in texts_in({"rows": logins}))
+        texts = texts_in(data)
+        check(f"hostile texts are texts, {form}", all(it in texts for it in HOSTILE), [it for it in HOSTILE if it not in texts])
+        check(f"a long symbol, {form}", any(f"({SYMBOL:,} bytes in all)" in it for it in texts) and len(text) < 120_000, len(text))
+        check(f"what turns the direction, {form}", "\\u202e" in "".join(texts) and "\u202e" not in "".join(texts))
+
+
+def written(lines, *words):
+    """The page that transcript.py writes of these lines, and what it prints."""
+    with tempfile.TemporaryDirectory() as folder:
+        path, out = Path(folder) / "made.txt", Path(folder) / "page.html"
+        path.write_text("\n".join(lines) + "\n")
+        words, printed = ["transcript.py", str(path), *words, "--html", str(out)], io.StringIO()
+        with contextlib.redirect_stdout(printed), mock.patch.object(sys, "argv", words):
+            transcript.main()
+        return out.read_text(encoding="utf-8"), printed.getvalue()
+
+
+def many_rows():
+    made = Page("many", "nobody")
+    for at, (side, of) in enumerate(generated(MANY), 1):
+        made.add(side, of, at, at / 1000, [("WindowViolation (1 past the window)", "the judge")] if at % 9999 == 0 else ())
+    text = made.text()
+    check("100,000 frames", len(data_of(text)["rows"]) == MANY and len(text) < 30_000_000, len(text))
+    return text
+
+
+def a_page_has_an_end():
+    for limit, most in (("MOST_ROWS", 10), ("MOST_BYTES", 1000)):
+        before = getattr(page.make, limit)
+        setattr(page.make, limit, most)
+        made = Page("cut", "nobody")
+        for at, (side, of) in enumerate(generated(50), 1):
+            made.add(side, of, at, None, [("AfterClose", "the judge")] if at > 40 else ())
+        setattr(page.make, limit, before)
+        data = data_of(made.text())
+        check(f"an end: {limit}", len(data["rows"]) <= 12 and (data["count"], data["refused"], data["cutRefused"]) == (50, 10, 10))
+    return made.text()
+
+
+def any_bytes_are_a_row():
+    """Fronts of frames, and frames with a byte changed, are rows; of any side, in any order."""
+    made = Page("bytes", "nobody")
+    frames = [it for path in sorted(CAPTURES.glob("*.txt")) for it in recorded(path)[:40]]
+    for turn, (side, of) in enumerate(frames):
+        for at in range(0, len(of), 7):
+            made.add(side, of[:at])
+            made.add(side, of[:at] + bytes([of[at] ^ (turn % 255 + 1)]) + of[at + 1 :])
+    for of in (b"", b"\0", b"\2\1", b"\2\0\0\0\0", b"\2\0\0\0" + b"\0" * 5000, b"\2\0\0\0\0\x53\x10" + b"\xc0\xff\xff" * 900):
+        made.add("A", of)
+    check("any bytes", len(data_of(made.text())["rows"]) == made.count)
+
+
+# ---- what a browser makes of it
+
+
+class Browser:
+    """Chromium without a window; each page is opened anew."""
+
+    def __init__(self, program, folder):
+        self.program, self.folder = program, Path(folder)
+
+    def run(self, text, place, *words):
+        path = self.folder / "page.html"
+        path.write_text(text, encoding="utf-8", newline="\n")
+        fixed = [self.program, "--headless", "--no-sandbox", "--disable-gpu", "--enable-logging=stderr", "--window-size=1400,900", f"--user-data-dir={self.folder}/user"]
+        return subprocess.run([*fixed, *words, f"{path.as_uri()}{place}"], capture_output=True, text=True, errors="replace", timeout=120)
+
+    def opened(self, name, text, place=""):
+        """The document as the script left it; tests that no error was told."""
+        ran = self.run(text, place, "--dump-dom")
+        said = [line for line in ran.stderr.splitlines() if "CONSOLE" in line]
+        check(f"opened: {name}", 'data-ready="' in ran.stdout and not said, *said, ran.stderr[-500:] if not ran.stdout else "")
+        # the data is in the document too: what is drawn stands before it
+        return ran.stdout.split('<script type="application/json"')[0]
+
+    def picture(self, text):
+        path = self.folder / "page.png"
+        self.run(text, "", f"--screenshot={path}")
+        return path.stat().st_size if path.exists() else 0
+
+
+def drawn(document):
+    """The labels of the rows that are drawn, by their numbers."""
+    rows = re.findall(r'<tr class="[^"]*" id="row-\d+".*?</tr>', document, re.S)
+    return {re.search(r'href="#([^"]*)"', it)[1]: html.unescape(re.sub(r"<[^>]*>", "", it)) for it in rows}
+
+
+def browsed(browser, big, cut):
+    made, _ = page_of("erlang-rmq", "B", wanted()["erlang-rmq", "B"])
+    text = made.text()
+    rows = drawn(browser.opened("a recording", text))
+    check("rows are drawn", 20 < len(rows) < 96 and "Open container-id=erl-amqp10-client" in rows.get("frame-1", ""), *rows)
+    only = drawn(browser.opened("refused", text, "#refused"))
+    faults = {f"frame-{at + 1}" for at in (14, 18, 24, 28, 34, 38, 70, 71, 73, 92)}
+    check("refused only", set(only) == faults, *only)
+    sought = drawn(browser.opened("a search", text, "#q=ERL-settled"))
+    check("a search", sought and all("erl-settled" in it for it in sought.values()) and len(sought) == 2, *sought)
+    both = drawn(browser.opened("filters", text, "#side=B&kind=Detach&channel=2"))
+    check("filters", both and all("server to client: Detach" in it and "ch 2" in it for it in both.values()), *both)
+    document = browser.opened("a frame", text, "#frame-72")
+    panel = html.unescape(re.sub(r"<[^>]*>", " ", document.split('id="panel"')[1]))
+    check("a frame", "Frame 72: Flow" in panel and "UnattachedHandle" in panel and "section 2.8.17" in panel and "link-credit" in panel, panel[:500])
+    check("a frame is in view", "frame-72" in drawn(document) and 'aria-selected="true"' in document)
+    check("a picture", browser.picture(text) > 20_000)
+    check("a cut page", "Only the first" in browser.opened("a cut page", cut))
+    hostile_in(browser)
+    many_in(browser, big)
+
+
+def hostile_in(browser):
+    text, _ = written(followed_lines(hostile()))
+    document = browser.opened("hostile", text)
+    check("hostile text is shown", "&lt;script&gt;alert(1)&lt;/script&gt;" in document and "<img" not in document and document.count("<script") == 0)
+    check("hostile text is not run", "<title>made.txt</title>" in document)
+    odd = browser.opened("a hostile address", text, "#q=%E0%A4%A&frame-99999999&kind=<img src=x onerror=alert(1)>&__proto__=1")
+    check("a hostile address", "<img" not in odd)
+
+
+def many_in(browser, big):
+    began = time.monotonic()
+    document = browser.opened("100,000 frames", big, "#frame-99990")
+    took, ready = time.monotonic() - began, int((re.search(r'data-ready="(\d+)"', document) or [0, 10**6])[1])
+    print(f"a page of {MANY:,} frames, {len(big) / 1e6:.1f} MB, was drawn after {ready / 1000:.1f} s, and the browser had ended after {took:.1f} s")
+    rows = drawn(document)
+    check("the last rows are drawn", "frame-99990" in rows and len(rows) < 100, len(rows))
+    check("it opens in time", ready < MOST_SECONDS * 1000, ready)
+    check("its breaches", len(drawn(browser.opened("its breaches", big, "#refused"))) == MANY // 9999)
+
+
+LEFT_OUT = 24
+
+
+def main():
+    recordings()
+    hostile_text()
+    any_bytes_are_a_row()
+    cut, big = a_page_has_an_end(), many_rows()
+    program = sys.argv[1] if len(sys.argv) > 1 else next(filter(None, map(shutil.which, NAMES)), None)
+    before = len(FAILED)
+    if program is None:
+        print(f"chromium is not here: {LEFT_OUT} checks left out")
+    else:
+        with tempfile.TemporaryDirectory(ignore_cleanup_errors=True) as folder:
+            browsed(Browser(program, folder), big, cut)
+        check("the number of these tests", len(FAILED) - before == LEFT_OUT, len(FAILED) - before)
+    print(f"{FAILED.count(False)} passed, {FAILED.count(True)} failed")
+    sys.exit(any(FAILED))
+
+
+if __name__ == "__main__":
+    command(main, __doc__)
