@@ -8,6 +8,7 @@ whether it has a password. Then it is opened in Chromium, without a window: CHRO
 none, a line says how many tests are left out. The last line is 'N passed, M failed'.
 """
 
+import asyncio
 import base64
 import contextlib
 import hashlib
@@ -16,6 +17,7 @@ import io
 import json
 import re
 import shutil
+import signal
 import subprocess
 import sys
 import tempfile
@@ -27,6 +29,7 @@ sys.path.insert(0, str(Path(__file__).resolve().parents[1]))
 
 import page.make
 import transcript
+import watch
 from amqp.recorded import CAPTURES
 from amqp.streams import recorded
 from gate.made_pages import HOSTILE, PASSWORD, SYMBOL, followed_lines, generated, hostile, spelled
@@ -158,6 +161,50 @@ def any_bytes_are_a_row():
     check("any bytes", len(data_of(made.text())["rows"]) == made.count)
 
 
+# ---- what watch.py writes
+
+
+async def watched(path, streams, interrupts):
+    """What watch.py tells of one connection, which ends, or is interrupted."""
+
+    async def serve(reader, writer):
+        writer.write(streams["B"])
+        await reader.read()
+        writer.close()
+
+    server = await asyncio.start_server(serve, "127.0.0.1", 0)
+    far = server.sockets[0].getsockname()[1]
+    words = [sys.executable, watch.__file__, "0", "127.0.0.1", str(far), "--connections", "1", "--html", str(path)]
+    watcher = await asyncio.create_subprocess_exec(*words, stdout=asyncio.subprocess.PIPE, stderr=asyncio.subprocess.PIPE)
+    port = int((await watcher.stdout.readline()).split(b":")[-1])
+    reader, writer = await asyncio.open_connection("127.0.0.1", port)
+    writer.write(streams["A"])
+    await asyncio.wait_for(reader.readexactly(len(streams["B"])), 20)
+    if interrupts:
+        await asyncio.sleep(0.5)
+        watcher.send_signal(signal.SIGINT)
+    else:
+        writer.write_eof()
+    told, wrong = await asyncio.wait_for(watcher.communicate(), 20)
+    writer.close()
+    server.close()
+    return told.decode() + wrong.decode()
+
+
+def watched_pages():
+    """What two sides sent stands in the page of watch.py, with its times, also where it is interrupted."""
+    stream = {side: b"".join(bytes.fromhex(it.strip()) for it in followed_lines(hostile())[1:] if it.startswith("\t") == (side == "B")) for side in "AB"}
+    for interrupts in (False, True):
+        with tempfile.TemporaryDirectory() as folder:
+            path = Path(folder) / "page.html"
+            told = asyncio.run(watched(path, stream, interrupts))
+            text = path.read_text(encoding="utf-8") if path.exists() else ""
+        check("watch: a page", f"its page is {path}" in told and len(data_of(text)["rows"]) == len(hostile()), told[-500:])
+        check("watch: times", all(row[1] is not None and row[1] >= 0 for row in data_of(text)["rows"]))
+        check("watch: no password", PASSWORD not in text and PASSWORD.encode().hex() not in text and "SASL init" in text)
+        is_closed("watch", text)
+
+
 # ---- what a browser makes of it
 
 
@@ -242,6 +289,7 @@ def main():
     recordings()
     hostile_text()
     any_bytes_are_a_row()
+    watched_pages()
     cut, big = a_page_has_an_end(), many_rows()
     program = sys.argv[1] if len(sys.argv) > 1 else next(filter(None, map(shutil.which, NAMES)), None)
     before = len(FAILED)

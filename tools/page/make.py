@@ -5,7 +5,9 @@ browser run that one script, which it knows by its sum, and load nothing.
 """
 
 import base64
+import contextlib
 import hashlib
+import io
 import json
 import re
 from pathlib import Path
@@ -25,10 +27,10 @@ PLACES = re.compile(r"@(POLICY|STYLE|SCRIPT|DATA)@")
 
 
 class Page:
-    """A page that grows by frames. `judged` says who judged them."""
+    """A page that grows by frames. `judged` says who judged them, `notes` what is not in it."""
 
     def __init__(self, title, judged):
-        self.title, self.judged, self.reader = title, judged, Reader()
+        self.title, self.judged, self.reader, self.notes = title, judged, Reader(), []
         self.rows, self.size, self.count, self.refused, self.cut_refused = [], 0, 0, 0, 0
 
     def add(self, side, of, number=0, time=None, found=(), size=None):
@@ -51,6 +53,7 @@ class Page:
         head = {
             "title": visible(self.title),
             "judged": self.judged,
+            "notes": [visible(it) for it in self.notes],
             "count": self.count,
             "refused": self.refused,
             "cutRefused": self.cut_refused,
@@ -95,7 +98,12 @@ def of_recording(path, transcript, told, judged):
     found |= {at: [] for at, *_ in told}
     for at, _, name, by in told:
         found[at].append((name, by))
-    return filled(Page(Path(path).name, judged), recorded(path, sasl=True), transcript.frames, found)
+    page, said = Page(Path(path).name, judged), io.StringIO()
+    # what is told of a stream that breaks off was told already: here it is a note
+    with contextlib.redirect_stderr(said):
+        whole = recorded(path, sasl=True)
+    page.notes += said.getvalue().splitlines()
+    return filled(page, whole, transcript.frames, found)
 
 
 def filled(page, whole, frames, found):

@@ -254,11 +254,12 @@ function head() {
   at("title").textContent = data.title;
   const count = data.count.toLocaleString("en");
   at("summary").textContent = count + " frames, " + data.refused.toLocaleString("en") + " refused. Judged by " + data.judged + ".";
+  for (const note of data.notes) at("cut").append(make("span", "", note + ". "));
   if (rows.length < data.count) {
-    at("cut").hidden = false;
-    at("cut").textContent = "Only the first " + rows.length.toLocaleString("en") + " stand in this page: it has a limit. Of those that are left out, "
-      + data.cutRefused.toLocaleString("en") + " are refused.";
+    at("cut").append("Only the first " + rows.length.toLocaleString("en") + " stand in this page: it has a limit. Of those that are left out, "
+      + data.cutRefused.toLocaleString("en") + " are refused.");
   }
+  at("cut").hidden = !at("cut").hasChildNodes();
 }
 
 function begin() {
