@@ -27,8 +27,6 @@ const ON_ARROW = {
 
 const state = { side: "", channel: "", kind: "", refused: false, q: "", chosen: -1, shown: [] };
 const texts = new Array(rows.length);
-const places = new Map();
-rows.forEach((row, index) => places.set(nameOf(index), index));
 
 /** What a link to the row says: its number, or, of a frame of SASL, its place. */
 function nameOf(index) {
@@ -134,7 +132,7 @@ function readHash() {
     else if (key === "refused") state.refused = true;
     else if (at > 0 && ["q", "side", "channel", "kind"].includes(key)) state[key] = plainText(part.slice(at + 1));
   }
-  return places.has(name) ? places.get(name) : -1;
+  return name ? rows.findIndex((_, index) => nameOf(index) === name) : -1;
 }
 
 function plainText(spelled) {

@@ -8,7 +8,7 @@ from amqp.tables import TABLES
 from page.values import cut, fields_of, value, visible
 
 # Of a payload, or of a frame that cannot be read, so many bytes are shown
-MOST_BYTES = 48
+MOST_BYTES = 32
 # The frames of SASL, by their descriptors, and those of their fields that are shown (AMQP 1.0 part 5, section 5.3.3): no response, no challenge
 SASL = {0x40: "mechanisms", 0x41: "init", 0x42: "challenge", 0x43: "response", 0x44: "outcome"}
 SASL_FIELDS = {0x40: ["sasl-server-mechanisms"], 0x41: ["mechanism", None, "hostname"], 0x44: ["code", None]}
