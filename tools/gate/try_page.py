@@ -39,7 +39,7 @@ from transcript import Transcript
 
 NUMBER, KIND, FIELDS, FOUND = 0, 3, 7, 10
 NAMES = ("chromium", "chromium-browser", "google-chrome")
-MANY, MOST_SECONDS = 100_000, 3
+MANY, MOST_SECONDS, MOST_MILLISECONDS = 100_000, 3, 200
 FAILED = []
 
 
@@ -123,6 +123,21 @@ def written(lines, *words):
         with contextlib.redirect_stdout(printed), mock.patch.object(sys, "argv", words):
             transcript.main()
         return out.read_text(encoding="utf-8"), printed.getvalue()
+
+
+def with_a_program():
+    """A program in the place of amqp_replay, that refuses each Detach: the page says so, and by whom it is told."""
+    lines = spelled(recorded(CAPTURES / "erlang-rmq.txt"))
+    with tempfile.TemporaryDirectory() as folder:
+        program = Path(folder) / "stub"
+        program.write_text(f"#!{sys.executable}\n{STUB}")
+        program.chmod(0o755)
+        text, said = written(lines, "B", "--run", str(program))
+    data = data_of(text)
+    blamed = {row[NUMBER] for row in data["rows"] for _, told, by, _ in row[FOUND] if (told, by) == ("HandleInUse", ENGINE)}
+    detaches = {row[NUMBER] for row in data["rows"] if row[2] == "A" and row[KIND] == "Detach"}
+    check("with a program", blamed == detaches and len(blamed) > 2 and f"frame {min(blamed)}, A, Detach: HandleInUse" in said, blamed, said)
+    check("with a program, what the judge tells", told_in(data, 15) == ["DeliveryId (4, where 3 is next)"] and "engine in the place of B" in data["judged"])
 
 
 def many_rows():
@@ -227,6 +242,12 @@ class Browser:
         # the data is in the document too: what is drawn stands before it
         return ran.stdout.split('<script type="application/json"')[0]
 
+    def driven(self, name, text, script, place=""):
+        """The document after a script of the test, which the policy lets in for that."""
+        known = base64.b64encode(hashlib.sha256(script.encode()).digest()).decode()
+        text = text.replace("script-src ", f"script-src 'sha256-{known}' ", 1).replace("</body>", f"<script>{script}</script></body>", 1)
+        return self.opened(name, text, place)
+
     def picture(self, text):
         path = self.folder / "page.png"
         self.run(text, "", f"--screenshot={path}")
@@ -255,10 +276,43 @@ def browsed(browser, big, cut):
     panel = html.unescape(re.sub(r"<[^>]*>", " ", document.split('id="panel"')[1]))
     check("a frame", "Frame 72: Flow" in panel and "UnattachedHandle" in panel and "section 2.8.17" in panel and "link-credit" in panel, panel[:500])
     check("a frame is in view", "frame-72" in drawn(document) and 'aria-selected="true"' in document)
+    by_keys(browser, text)
     check("a picture", browser.picture(text) > 20_000)
     check("a cut page", "Only the first" in browser.opened("a cut page", cut))
     hostile_in(browser)
     many_in(browser, big)
+
+
+# What presses keys, and puts down which frame is chosen after each
+KEYS = """const went = [];
+for (const key of "%s".split(" ")) {
+  document.activeElement.dispatchEvent(new KeyboardEvent("keydown", { key, bubbles: true, cancelable: true }));
+  went.push(location.hash.slice(1));
+}
+document.title = went.join(" ");"""
+# What goes to many places, draws there, and puts down the milliseconds of the slowest drawing
+SCROLLS = """let most = 0;
+for (let turn = 0; turn < 200; turn += 1) {
+  scroller.scrollTop = (turn * 7919 * ROW) % (rows.length * ROW);
+  const began = performance.now();
+  draw();
+  most = Math.max(most, performance.now() - began);
+}
+document.title = "slowest " + most.toFixed(1);"""
+
+
+def title_of(document):
+    return html.unescape((re.search(r"<title>(.*?)</title>", document) or ["", ""])[1])
+
+
+def by_keys(browser, text):
+    went = title_of(browser.driven("keys", text, KEYS % "j j ArrowDown k n n N End n Home"))
+    wanted_places = "frame-1 frame-2 frame-3 frame-2 frame-15 frame-19 frame-15 frame-96 frame-15 frame-1"
+    check("keys", went == wanted_places, went)
+    pressed = browser.driven("a click", text, 'document.querySelector("#row-6 .label").click(); document.getElementById("next").click();')
+    check("a click", 'aria-activedescendant="row-14"' in pressed and "Frame 15: Transfer" in pressed)
+    focus = browser.driven("focus", text, KEYS % "j Enter" + 'went.push(document.activeElement.id); document.title = went.join(" ");')
+    check("focus", title_of(focus) == "frame-1 frame-1 panel", title_of(focus))
 
 
 def hostile_in(browser):
@@ -285,16 +339,30 @@ def many_in(browser, big):
     print(f"a page of {MANY:,} frames, {len(big) / 1e6:.1f} MB, is drawn {ready:.1f} s after it is opened")
     check("the last rows are drawn", "frame-99990" in rows and len(rows) < 100, len(rows))
     check("it opens in time", ready < MOST_SECONDS, ready)
+    slowest = float((re.search(r"slowest ([\d.]+)", title_of(browser.driven("scrolling", big, SCROLLS))) or [0, 10**6])[1])
+    print(f"the slowest of 200 places in it is drawn in {slowest:.0f} ms")
+    check("scrolling", slowest < MOST_MILLISECONDS, slowest)
     check("its breaches", len(drawn(browser.opened("its breaches", big, "#refused"))) == MANY // 9999)
 
 
-LEFT_OUT = 24
+# A program that is called like amqp_replay
+STUB = """import sys
+for line in sys.stdin.read().split("\\n"):
+    if line == "release 4294967295":
+        print("err NoSession")
+    elif line == "recv ":
+        print("err DecodeError")
+    elif line.startswith("recv ") and line[13:19] == "005316":
+        print("err HandleInUse")
+"""
+LEFT_OUT = 32
 
 
 def main():
     recordings()
     hostile_text()
     any_bytes_are_a_row()
+    with_a_program()
     watched_pages()
     cut, big = a_page_has_an_end(), many_rows()
     program = sys.argv[1] if len(sys.argv) > 1 else next(filter(None, map(shutil.which, NAMES)), None)

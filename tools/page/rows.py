@@ -130,8 +130,7 @@ def code_of(of):
 def unread(of):
     """What is shown of a frame that cannot be read: bytes only where they say that they are a performative, since others may be a login."""
     if len(of) > 1 and of[1] == 0 and code_of(of):
-        shown = of[:MOST_BYTES].hex()
-        yield "bytes", shown if len(of) <= MOST_BYTES else f"{shown}… ({len(of):,} bytes in all)"
+        yield "bytes", of[:MOST_BYTES].hex() + "…" * (len(of) > MOST_BYTES)
     else:
         yield "bytes", "left out: they name no performative, and may be a login"
 

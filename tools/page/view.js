@@ -230,6 +230,7 @@ function onKey(event) {
     PageDown: () => move(page), PageUp: () => move(-page), Home: () => move(-rows.length), End: () => move(rows.length),
     n: () => choose(nextBreach(1)), N: () => choose(nextBreach(-1)), "/": () => at("search").focus(),
   };
+  if (event.target === table) acts.Enter = () => panel.focus();
   if (!Object.hasOwn(acts, event.key) || (panel.contains(event.target) && !/^[a-zA-Z/]$/.test(event.key))) return;
   event.preventDefault();
   acts[event.key]();
