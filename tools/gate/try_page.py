@@ -21,6 +21,7 @@ import signal
 import subprocess
 import sys
 import tempfile
+import time
 from pathlib import Path
 from unittest import mock
 
@@ -29,9 +30,11 @@ sys.path.insert(0, str(Path(__file__).resolve().parents[1]))
 import page.make
 import transcript
 import watch
+from amqp.frames import ATTACH
 from amqp.recorded import CAPTURES
 from amqp.streams import recorded
-from gate.made_pages import HOSTILE, PASSWORD, SYMBOL, followed_lines, generated, hostile, spelled
+from gate.made_connections import NULL, SENDER, frame, string, uint
+from gate.made_pages import HOSTILE, PASSWORD, SYMBOL, followed_lines, generated, hostile, listed, spelled
 from gate.refused_of_captures import wanted
 from page.make import ENGINE, MEANINGS, Page, of_recording
 from shared.command import command
@@ -123,6 +126,20 @@ def written(lines, *words):
         with contextlib.redirect_stdout(printed), mock.patch.object(sys, "argv", words):
             transcript.main()
         return out.read_text(encoding="utf-8"), printed.getvalue()
+
+
+def many_parts_cost_little():
+    """A value of 262,144 lists, and a terminus within a terminus, many times: little of it is read, and it has few lines."""
+    lists, within = b"\x45", b"\x40"
+    for _ in range(3):
+        lists = listed(*[lists] * 64)
+    for _ in range(300):
+        within = b"\0\x53\x28" + listed(within, within if len(within) < 5000 else b"\x40")
+    made, began = Page("parts", "nobody"), time.process_time()
+    for of in (lists, within) * 10:
+        made.add(*frame("A", 0, ATTACH, string("many"), uint(0), SENDER, NULL, NULL, of))
+    took = time.process_time() - began
+    check("many parts", took < 5 and len(made.text()) < 200_000, took, len(made.text()))
 
 
 def with_a_program():
@@ -362,6 +379,7 @@ def main():
     recordings()
     hostile_text()
     any_bytes_are_a_row()
+    many_parts_cost_little()
     with_a_program()
     watched_pages()
     cut, big = a_page_has_an_end(), many_rows()

@@ -5,8 +5,8 @@ from amqp.frames import Malformed, end_of, number, parts
 from amqp.readable import NAMES, WORDS
 from amqp.tables import ERROR
 
-# Of a text so many characters are shown, of a field so many parts, and so deep
-MOST_TEXT, MOST_PARTS, DEEPEST = 200, 64, 12
+# Of a text so many characters are shown, of a value so many parts at each level, so many in all, and so deep; and so deep are parts fields of their own
+MOST_TEXT, MOST_PARTS, MOST_VALUES, DEEPEST, DEEPEST_FIELD = 200, 64, 400, 12, 2
 
 SOURCE = "address durable expiry-policy timeout dynamic dynamic-node-properties distribution-mode filter default-outcome outcomes capabilities"
 TARGET = "address durable expiry-policy timeout dynamic dynamic-node-properties capabilities"
@@ -77,11 +77,25 @@ def sized(code, inside, size):
     return f"{text}… ({size:,} bytes in all)" if is_cut else text
 
 
-def value(of, at=0, depth=0):
+class Room:
+    """How many values are read yet."""
+
+    def __init__(self):
+        self.left = MOST_VALUES
+
+    def is_out(self):
+        self.left -= 1
+        return self.left < 0
+
+
+def value(of, at=0, depth=0, room=None):
     """The text of the value at `at`, in brackets where it has parts; and where it ends."""
     code, after = number(of, at, 1)
+    room = room or Room()
+    if room.is_out():
+        return "…", end_of(of, at)
     if code == 0x00:
-        return described(of, after, depth)
+        return described(of, after, depth, room)
     if code == 0x45:
         return "[]", after
     if code not in COMPOUND:
@@ -89,14 +103,14 @@ def value(of, at=0, depth=0):
     end = end_of(of, at)
     if depth > DEEPEST:
         return "…", end
-    return compound(of[:end], after, code, depth), end
+    return compound(of, after, code, depth, room), end
 
 
-def described(of, at, depth):
-    descriptor, after = value(of, at, depth + 1)
+def described(of, at, depth, room):
+    descriptor, after = value(of, at, depth + 1, room)
     name = COMPOSITES.get(code_of(descriptor), descriptor)
     end = end_of(of, after)
-    inside, _ = value(of, after, depth + 1)
+    inside, _ = value(of, after, depth + 1, room)
     return (name if inside == "[]" else f"{name} {inside}"), end
 
 
@@ -104,15 +118,15 @@ def code_of(descriptor):
     return int(descriptor) if descriptor.isdecimal() else CODES.get(descriptor)
 
 
-def compound(of, at, code, depth):
+def compound(of, at, code, depth, room):
     kind, width = COMPOUND[code]
     _, at = number(of, at, width)
     count, at = number(of, at, width)
     if kind == "array":
-        return array(of, at, count, depth)
+        return array(of, at, count)
     texts = []
-    while len(texts) < min(count, MOST_PARTS):
-        text, at = value(of, at, depth + 1)
+    while len(texts) < min(count, MOST_PARTS) and room.left > 0:
+        text, at = value(of, at, depth + 1, room)
         texts.append(text)
     rest = [f"… ({count:,} in all)"] if count > len(texts) else []
     if kind == "map":
@@ -121,7 +135,7 @@ def compound(of, at, code, depth):
     return "[" + ", ".join([*texts, *rest]) + "]"
 
 
-def array(of, at, count, depth):
+def array(of, at, count):
     """An array's items share their constructor: each is read as that with its own data."""
     if count == 0 or at >= len(of):
         return "[]"
@@ -136,9 +150,9 @@ def array(of, at, count, depth):
     return "[" + ", ".join([*texts, *rest]) + "]"
 
 
-def fields_of(of, name, kind="raw"):
+def fields_of(of, name, kind="raw", depth=0):
     """A field's lines: pairs of a name and a text. A terminus, a state or an error has one for each of its own."""
-    if of[:1] == b"\x00":
+    if of[:1] == b"\x00" and depth < DEEPEST_FIELD:
         descriptor, after = value(of, 1)
         code = code_of(descriptor)
         if code in PARTS and of[after : after + 1] in (b"\x45", b"\xc0", b"\xd0"):
@@ -146,7 +160,7 @@ def fields_of(of, name, kind="raw"):
             inner, _ = parts(of, after)
             for part, inside in zip(PARTS[code].split(), inner):
                 if inside != b"\x40":
-                    yield from fields_of(inside, f"{name}: {part}")
+                    yield from fields_of(inside, f"{name}: {part}", depth=depth + 1)
             return
     text, _ = value(of)
     yield name, worded(kind, of, text)
