@@ -77,7 +77,7 @@ def is_closed(name, text):
     data = scripts[0][1]
     is_data = len(scripts) == 2 and data.isascii() and not set("<>&") & set(data)
     check(name, is_known and is_data and not re.search(r"innerHTML|outerHTML|insertAdjacent|document\.write|eval\(", scripts[-1][1]), len(scripts))
-    check(name, not re.search(r"(src|href)\s*=\s*[\"']?(http|//|data:)|@import|url\(", text.replace(data, "")))
+    check(name, not re.search(r"(src|href)\s*=\s*[\"'][^#]|://|@import|data:\w", text.replace(data, "")))
 
 
 def page_of(name, side, lines):
