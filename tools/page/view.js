@@ -18,7 +18,6 @@ function space() {
   const row = make("tr", "space"), cell = make("td");
   row.setAttribute("role", "presentation");
   row.setAttribute("aria-hidden", "true");
-  cell.colSpan = 5;
   row.append(cell);
   return row;
 }
