@@ -18,7 +18,6 @@ import json
 import re
 import shutil
 import signal
-import subprocess
 import sys
 import tempfile
 import time
@@ -33,6 +32,7 @@ import watch
 from amqp.frames import ATTACH
 from amqp.recorded import CAPTURES
 from amqp.streams import recorded
+from gate.browser import Browser
 from gate.made_connections import NULL, SENDER, frame, string, uint
 from gate.made_pages import HOSTILE, PASSWORD, SYMBOL, followed_lines, generated, hostile, listed, spelled
 from gate.refused_of_captures import wanted
@@ -239,38 +239,6 @@ def watched_pages():
 # ---- what a browser makes of it
 
 
-class Browser:
-    """Chromium without a window; each page is opened anew."""
-
-    def __init__(self, program, folder):
-        self.program, self.folder, self.tries = program, Path(folder), 1
-
-    def run(self, text, place, *words):
-        path = self.folder / "page.html"
-        path.write_text(text, encoding="utf-8", newline="\n")
-        fixed = [self.program, "--headless", "--no-sandbox", "--disable-gpu", "--enable-logging=stderr", "--window-size=1400,900", f"--user-data-dir={self.folder}/user"]
-        return subprocess.run([*fixed, *words, f"{path.as_uri()}{place}"], capture_output=True, text=True, errors="replace", timeout=120)
-
-    def opened(self, name, text, place=""):
-        """The document as the script left it; tests that no error was told."""
-        ran = self.run(text, place, "--dump-dom")
-        said = [line for line in ran.stderr.splitlines() if "CONSOLE" in line]
-        check(f"opened: {name}", 'data-ready="' in ran.stdout and not said, *said, ran.stderr[-500:] if not ran.stdout else "")
-        # the data is in the document too: what is drawn stands before it
-        return ran.stdout.split('<script type="application/json"')[0]
-
-    def driven(self, name, text, script, place=""):
-        """The document after a script of the test, which the policy lets in for that."""
-        known = base64.b64encode(hashlib.sha256(script.encode()).digest()).decode()
-        text = text.replace("script-src ", f"script-src 'sha256-{known}' ", 1).replace("</body>", f"<script>{script}</script></body>", 1)
-        return self.opened(name, text, place)
-
-    def picture(self, text):
-        path = self.folder / "page.png"
-        self.run(text, "", f"--screenshot={path}")
-        return path.stat().st_size if path.exists() else 0
-
-
 def drawn(document):
     """The labels of the rows that are drawn, by their numbers."""
     rows = re.findall(r'<tr class="[^"]*" id="row-\d+".*?</tr>', document, re.S)
@@ -385,12 +353,13 @@ def main():
     cut, big = a_page_has_an_end(), many_rows()
     program = sys.argv[1] if len(sys.argv) > 1 else next(filter(None, map(shutil.which, NAMES)), None)
     before = len(FAILED)
-    if program is None:
-        print(f"chromium is not here: {LEFT_OUT} checks left out")
-    else:
-        with tempfile.TemporaryDirectory(ignore_cleanup_errors=True) as folder:
-            browsed(Browser(program, folder), big, cut)
-        check("the number of these tests", len(FAILED) - before == LEFT_OUT, len(FAILED) - before)
+    with tempfile.TemporaryDirectory(ignore_cleanup_errors=True) as folder:
+        browser = Browser(program, folder, check)
+        if browser.works():
+            browsed(browser, big, cut)
+            check("the number of these tests", len(FAILED) - before == LEFT_OUT, len(FAILED) - before)
+        else:
+            print(f"chromium is not here, or does not run: {LEFT_OUT} checks left out")
     print(f"{FAILED.count(False)} passed, {FAILED.count(True)} failed")
     sys.exit(any(FAILED))
 

@@ -1,0 +1,45 @@
+"""A browser without a window, for tests of pages."""
+
+import base64
+import hashlib
+import subprocess
+from pathlib import Path
+
+
+class Browser:
+    """Chromium without a window; each page is opened anew. `check` counts a test, as that of try_page.py does."""
+
+    def __init__(self, program, folder, check):
+        self.program, self.folder, self.check, self.tries = program, Path(folder), check, 1
+
+    def works(self):
+        """Whether it opens a page at all: there may be none, or one that cannot run here."""
+        try:
+            return self.program is not None and "is drawn" in self.run("<!doctype html><p>is drawn", "", "--dump-dom").stdout
+        except (OSError, subprocess.TimeoutExpired):
+            return False
+
+    def run(self, text, place, *words):
+        path = self.folder / "page.html"
+        path.write_text(text, encoding="utf-8", newline="\n")
+        fixed = [self.program, "--headless", "--no-sandbox", "--disable-gpu", "--enable-logging=stderr", "--window-size=1400,900", f"--user-data-dir={self.folder}/user"]
+        return subprocess.run([*fixed, *words, f"{path.as_uri()}{place}"], capture_output=True, text=True, errors="replace", timeout=120)
+
+    def opened(self, name, text, place=""):
+        """The document as the script left it; tests that no error was told."""
+        ran = self.run(text, place, "--dump-dom")
+        said = [line for line in ran.stderr.splitlines() if "CONSOLE" in line]
+        self.check(f"opened: {name}", 'data-ready="' in ran.stdout and not said, *said, ran.stderr[-500:] if not ran.stdout else "")
+        # the data is in the document too: what is drawn stands before it
+        return ran.stdout.split('<script type="application/json"')[0]
+
+    def driven(self, name, text, script, place=""):
+        """The document after a script of the test, which the policy lets in for that."""
+        known = base64.b64encode(hashlib.sha256(script.encode()).digest()).decode()
+        text = text.replace("script-src ", f"script-src 'sha256-{known}' ", 1).replace("</body>", f"<script>{script}</script></body>", 1)
+        return self.opened(name, text, place)
+
+    def picture(self, text):
+        path = self.folder / "page.png"
+        self.run(text, "", f"--screenshot={path}")
+        return path.stat().st_size if path.exists() else 0
