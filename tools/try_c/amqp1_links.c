@@ -9,7 +9,7 @@
 #define ACCEPTED_STATE "00532445"
 
 /* An engine with a link on which this side sends: output handle 0, input handle 5. */
-static amqp1 sending(void)
+static amqp1 sender_attached(void)
 {
     amqp1 engine = begun();
     uint8_t attach[128];
@@ -81,7 +81,7 @@ static int are_taken(amqp1 *engine, uint32_t handle)
 /* A link takes transfers on this side's handle once the peer has attached it, until either side detaches it, whatever the peer's handle is. */
 static void try_unattached(void)
 {
-    amqp1 engine = sending();
+    amqp1 engine = sender_attached();
     uint8_t detach[64];
     uint32_t handle = 99;
     size_t length;
@@ -211,7 +211,7 @@ static void try_too_long(void)
 {
     static uint8_t text[2048], frame[2048];
     char address[1200];
-    amqp1 engine = sending();
+    amqp1 engine = sender_attached();
     amqp1_record record;
     amqp1_took took;
     uint32_t handle = 99, unfit = 99;
@@ -237,7 +237,7 @@ static void try_too_long(void)
 
 void try_links(void)
 {
-    amqp1 engine = sending();
+    amqp1 engine = sender_attached();
     try_too_long();
     try_unattached();
     try_flows(&engine);

@@ -55,7 +55,7 @@ def refused(frames, side, size):
     """What the library refuses of a connection, as texts."""
     transcript, replay = Transcript(frames, side), Replay(size)
     lines = transcript.run()
-    told = [shown(transcript, at, line, name) for at, line in lines for name in replay.names(line)]
+    told = [": ".join(shown(transcript, at, line, name)) for at, line in lines for name in replay.names(line)]
     replay.engine.free()
     return told
 
