@@ -50,8 +50,8 @@ fn byte(out: &[u8], at: usize) -> u8 {
 #[test]
 fn a_delivery_in_three_frames(rt: HostRuntime) -> Result<(), Fail> {
     let mut driver = attached(rt.alloc())?;
-    let bytes = [0x31; 2001];
-    let one = driver.cut(&head(1, 1, 2000), &bytes)?;
+    let bytes = [0x31; 2501];
+    let one = driver.cut(&head(1, 1, 2500), &bytes)?;
     let two = driver.cut(&one.rest, &bytes)?;
     let three = driver.cut(&two.rest, &bytes)?;
     let mut sent = [Sent {
@@ -63,10 +63,10 @@ fn a_delivery_in_three_frames(rt: HostRuntime) -> Result<(), Fail> {
     let sizes = [byte(out, 3), byte(out, 1023), byte(out, 2043)];
     let size = out.len();
     drop(driver);
-    same(&rt, one, in_two(first(997), later(0, 1003)));
-    same(&rt, two, in_two(later(flag::MORE, 999), later(0, 4)));
-    same(&rt, three, whole(later(0, 4), 0));
-    same(&rt, (posted.status, posted.used), (Status::Done, 2001));
+    same(&rt, one, in_two(first(997), later(0, 1503)));
+    same(&rt, two, in_two(later(flag::MORE, 999), later(0, 504)));
+    same(&rt, three, whole(later(0, 504), 0));
+    same(&rt, (posted.status, posted.used), (Status::Done, 2501));
     holds(
         &rt,
         sent == [Sent {
@@ -74,7 +74,7 @@ fn a_delivery_in_three_frames(rt: HostRuntime) -> Result<(), Fail> {
             refusal: 0,
         }; 3],
     );
-    same(&rt, (size, sizes), (2060, [0xfc, 0xfc, 0x14]));
+    same(&rt, (size, sizes), (2560, [0xfc, 0xfc, 0x08]));
     Ok(())
 }
 
