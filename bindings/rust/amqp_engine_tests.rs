@@ -142,7 +142,7 @@ fn a_long_transfer_goes_in_parts() {
     let first = flag::NUMBERED | flag::TAGGED | flag::SETTLED | flag::ABORTED;
     let head = TransferHead { session: 7, link: 0, format: 0, payload: 2500, flags: first, tag_size: 1 };
     let parts = parts_of(&mut engine, head, &bytes[..1]);
-    let wanted = [first | flag::MORE, flag::MORE | flag::ABORTED, flag::ABORTED];
+    let wanted = [first - flag::ABORTED + flag::MORE, flag::MORE, flag::ABORTED];
     assert_eq!(parts.iter().map(|it| it.flags).collect::<Vec<_>>(), wanted);
     assert_eq!(parts.iter().map(|it| (it.session, it.link, it.tag_size)).collect::<Vec<_>>(), [(7, 0, 1), (7, 0, 0), (7, 0, 0)]);
     assert_eq!(parts.iter().map(|it| it.payload).sum::<u32>(), 2500);

@@ -103,24 +103,25 @@ int32_t amqp1_take(amqp1 *place, const uint8_t *input, size_t input_length, amqp
 
 /* Sends transfers, each of one frame, in order (sections 2.6.12 and 2.7.5). In `bytes` stand the tag and the payload of each, one after the other.
    What became of a transfer goes to the next place of `sent`: of an accepted first one the number of its delivery, which it keeps also where the
-   session holds it back until the peer's window lets it out; of a refused one why. A refused one changes nothing, and the next one is taken. The
-   session counts no link's credit: that is the caller's. A transfer that is longer than a frame goes in parts: amqp1_cut makes a head for each.
+   session holds it back until the peer's window lets it out; of a refused one why. A refused one changes nothing, and the next one is taken; but
+   behind a part with MORE that is refused, the later parts of its delivery in the call are refused as it was, unless that of another link breaks
+   off between. The session counts no link's credit: that is the caller's. A transfer that is longer than a frame goes in parts: amqp1_cut makes a head for each.
 
    DONE where all were taken. FULL where all places of `sent` are written, SHORT where the bytes end before those of the next transfer do, NO_MEMORY
-   where the next one was not taken: with each of them `answer` says how many were, and the others are given again. */
+   where the next one was not taken, so that none is refused for want of memory: with each of them `answer` says how many were, and the others are given again. */
 int32_t amqp1_send(amqp1 *place, const amqp1_head *heads, size_t heads_length, const uint8_t *bytes, size_t bytes_length, amqp1_sent *sent,
                    size_t sent_length, amqp1_went *answer);
 
 /* Cuts the head of a transfer that is longer than a frame (sections 2.6.14 and 2.7.5). `part` is the head of the first frame, with as much payload
    as fits whatever number the delivery gets, and `rest` that of what is left. While `more` is 1, `rest` is cut again: so there is a head for each
    frame, for amqp1_send. The bytes stay where they are, those of a part behind those of the part before. AMQP1_FLAG_NUMBERED, TAGGED, FORMATTED and
-   SETTLED stay with the first part alone. MORE is set on all parts but the last, which has it where the whole has it, and ABORTED on all, where the
-   whole has it. A head that fits one frame is not cut: `part` is that head, and `more` is 0.
+   SETTLED stay with the first part alone. MORE is set on all parts but the last, which has it where the whole has it, and ABORTED on the last
+   alone, where the whole has it. A head that fits one frame is not cut: `part` is that head, and `more` is 0.
 
    The limit is that of the peer's Open, and until that has come this side's own. Of `bytes` the tag alone is read, with which they begin: of a head
    without a tag 0 bytes are enough. `head` does not lie in `answer`. The engine does not change.
 
-   amqp1_send goes on behind a head that it refuses. So send a part only where the one before was accepted: else a delivery goes out without it.
+   Send a part only where the one before was accepted. Within a call amqp1_send looks after that.
 
    DONE; where a head can be neither sent nor cut `refusal` says why, and amqp1_send refuses it too. NO_MEMORY where memory was refused for a copy of
    the tag: nothing is written, ask again. */

@@ -52,15 +52,22 @@ def changes(owner, head, types):
 
 
 @cache
+def cited(of):
+    """The definitions that a definition names."""
+    return {use if isinstance(use, tuple) else (*of[:2], use) for use in uses_of(*of)}
+
+
+@cache
 def steps(step):
     """What a step of a history is made of: the definitions that say what each call does."""
-    uses = {use if isinstance(use, tuple) else (*step[:2], use) for use in uses_of(*step)}
-    return {use for use in uses if use[2].endswith("Step") or use[2] == "stopped"}
+    return {use for use in cited(step) if use[2].endswith("Step") or use[2] == "stopped"}
 
 
 def speaks(of, step):
-    """Whether a definition speaks of histories."""
-    return of in steps(step) if step else reaches(of, lambda it: it == LEGAL)
+    """Whether a definition speaks of histories: it is such a step, or such a step and more."""
+    if not step:
+        return reaches(of, lambda it: it == LEGAL)
+    return of in steps(step) or of[2].endswith("Step") and bool(cited(of) & steps(step))
 
 
 def silent():

@@ -58,7 +58,7 @@ static uint32_t send_parts(amqp1 *engine, amqp1_head whole, uint32_t number)
     do {
         int flags = count ? whole.flags & LATER : whole.flags;
         cut = cut_of(engine, head, bytes + at);
-        EACH(cut.refusal == 0 && cut.part.flags == (cut.more ? flags | AMQP1_FLAG_MORE : flags));
+        EACH(cut.refusal == 0 && cut.part.flags == (cut.more ? (flags & ~AMQP1_FLAG_ABORTED) | AMQP1_FLAG_MORE : flags));
         EACH(cut.part.session == 7 && cut.part.link == 0 && cut.part.tag_size == (count ? 0 : whole.tag_size));
         at += send_part(engine, &cut.part, bytes + at, length - at, flags & AMQP1_FLAG_NUMBERED ? number : 0);
         head = cut.rest;
@@ -91,7 +91,7 @@ static size_t is_part(amqp1_bytes frame, amqp1_head whole, uint32_t number, int 
     EACH(tag.length == (is_first ? whole.tag_size : 0u) && !memcmp(tag.at, bytes, tag.length));
     EACH(amqp1_boolean_field(perf, AMQP1_TRANSFER_SETTLED) == ((first & AMQP1_FLAG_SETTLED) != 0));
     EACH(amqp1_boolean_field(perf, AMQP1_TRANSFER_MORE) == (!is_last || (flags & AMQP1_FLAG_MORE)));
-    EACH(amqp1_boolean_field(perf, AMQP1_TRANSFER_ABORTED) == ((flags & AMQP1_FLAG_ABORTED) != 0));
+    EACH(amqp1_boolean_field(perf, AMQP1_TRANSFER_ABORTED) == (is_last && (flags & AMQP1_FLAG_ABORTED)));
     EACH(from + payload <= sizeof bytes && !memcmp(perf.at + head, bytes + from, payload));
     return payload;
 }

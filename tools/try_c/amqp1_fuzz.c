@@ -116,7 +116,7 @@ static void cut(amqp1 *engine, amqp1_head head, const uint8_t *bytes, size_t len
             return;
         }
         MUST(parts.more == 1 && !parts.refusal && parts.part.payload < head.payload && parts.rest.payload == head.payload - parts.part.payload);
-        MUST(parts.part.flags == (head.flags | AMQP1_FLAG_MORE) && parts.part.tag_size == head.tag_size && !parts.rest.tag_size);
+        MUST(parts.part.flags == ((head.flags & ~AMQP1_FLAG_ABORTED) | AMQP1_FLAG_MORE) && parts.part.tag_size == head.tag_size && !parts.rest.tag_size);
         MUST(parts.rest.flags == (head.flags & (AMQP1_FLAG_MORE | AMQP1_FLAG_ABORTED)) && (round == 0 || parts.part.payload));
         head = parts.rest;
     }

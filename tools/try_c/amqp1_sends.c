@@ -33,6 +33,41 @@ static void try_forms(amqp1 *engine)
     CHECK(sends(engine, "[02000000 005314 c0(0a 43 5204 a0(74) 40 42 40 40 40 40 41)]"));
 }
 
+/* A part that is refused takes the later ones of its delivery with it: none goes out without it. What comes behind them goes out. */
+static void try_broken(void)
+{
+    amqp1 engine = sending(PEERS_OPEN);
+    amqp1_head heads[6];
+    amqp1_sent sent[6];
+    amqp1_went went;
+    uint8_t bytes[64] = { 0 };
+    unsigned at;
+    heads[0] = head_of(7, 0, FIRST_OF | AMQP1_FLAG_MORE, 33, 1);
+    heads[1] = head_of(7, 0, AMQP1_FLAG_MORE, 0, 1);
+    heads[2] = head_of(7, 0, 0, 0, 1);
+    heads[3] = head_of(7, 0, FIRST_OF | AMQP1_FLAG_MORE, 1, 1);
+    heads[4] = head_of(7, 0, 0, 0, 1);
+    heads[5] = head_of(7, 9, AMQP1_FLAG_MORE, 0, 0);
+    CHECK(amqp1_send(&engine, heads, 6, bytes, sizeof bytes, sent, 6, &went) == AMQP1_DONE && went.taken == 6);
+    for (at = 0; at < 3; at++)
+        EACH(sent[at].refusal == AMQP1_WHY_TAG_TOO_LONG && sent[at].number == 0);
+    CHECK(sent[3].refusal == 0 && sent[3].number == 0 && sent[4].refusal == 0 && sent[5].refusal);
+    CHECK(sends(&engine, "[02000000 005314 c0(06 43 43 a0(00) 40 42 41) 00] [02000000 005314 c0(01 43) 00]"));
+    /* so it does where heads of other links stand between */
+    heads[0] = head_of(7, 0, FIRST_OF | AMQP1_FLAG_MORE, 1, 1);
+    heads[1] = head_of(7, 0, AMQP1_FLAG_MORE, 33, 0);
+    heads[2] = head_of(7, 9, 0, 0, 0);
+    heads[3] = head_of(7, 0, AMQP1_FLAG_MORE, 0, 1);
+    heads[4] = head_of(7, 0, 0, 0, 1);
+    heads[5] = head_of(7, 0, 0, 0, 1);
+    CHECK(amqp1_send(&engine, heads, 6, bytes, sizeof bytes, sent, 6, &went) == AMQP1_DONE && went.taken == 6);
+    CHECK(sent[0].number == 1 && !sent[0].refusal && sent[2].refusal == AMQP1_WHY_SESSION_UNATTACHED_HANDLE && !sent[5].refusal);
+    for (at = 1; at < 5; at += at == 1 ? 2 : 1)
+        EACH(sent[at].refusal == AMQP1_WHY_TAG_TOO_LONG);
+    CHECK(sends(&engine, "[02000000 005314 c0(06 43 5201 a0(00) 40 42 41) 00] [02000000 005314 c0(01 43) 00]"));
+    amqp1_free(&engine);
+}
+
 /* How many transfers wait to be sent, each of 4 bytes of tag and 2 of payload; they are taken off. Their numbers, tags and payloads go on from
    `next`. */
 static uint32_t goes_out(amqp1 *engine, uint32_t next)
@@ -183,4 +218,5 @@ void try_refused_sends(void)
     engine = sending(PEERS_OPEN);
     try_longest(&engine);
     amqp1_free(&engine);
+    try_broken();
 }

@@ -45,7 +45,7 @@ def each_part_says_what_it_has_to_say():
     whole = Delivery(0, handle, b"t", LONG[:2000], first, 5)
     for number, kept in enumerate((0, MORE, ABORTED, both)):
         parts = pair.client.cut(whole._replace(flags=first | kept))
-        assert [it.flags for it in parts] == [first | kept | MORE, *[kept & both | MORE] * 3, kept & both], parts
+        assert [it.flags for it in parts] == [first | MORE, *[MORE] * 3, kept & both], parts
         assert [it.tag for it in parts] == [b"t", None, None, None, None] and b"".join(it.payload for it in parts) == whole.payload
         # each is one frame, and no longer part would be
         assert all(pair.client.cut(it) == [it] for it in parts)

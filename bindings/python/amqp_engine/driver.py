@@ -213,7 +213,7 @@ class Driver(Requests):
             return self.transfer(session, transfer, payload)
         number = None
         for part in self.cut(_delivery_of(session, transfer, payload)):
-            # one by one: behind one that is refused the others are taken all the same
+            # one by one: none goes out behind one that is refused
             ((told, refusal),) = self.send([part])
             if refusal:
                 raise self._refused_as(refusal)

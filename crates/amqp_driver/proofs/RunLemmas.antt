@@ -1,5 +1,5 @@
 -- A frame that was run: what was received of its entry, and what is told of it.
-use Rattle.std.proofs.Common.{◌≡◌, ◌⊎◌, inl, inr, ℕ, List, [], ◌∷◌, Bool, if◌then◌else◌, true, false, Option, Some, None, Result, Ok, Err, refl, ap, sym, subst, ◌∙◌}
+use Rattle.std.proofs.Common.{◌≡◌, ◌⊎◌, inl, inr, ℕ, List, [], ◌∷◌, Bool, if◌then◌else◌, true, false, Option, Some, None, IfSome, Result, Ok, Err, refl, ap, sym, subst, ◌∙◌}
 use Rattle.amqp_memory.specs.Refusal.{SomeRefused}
 use Rattle.amqp_session.specs.Relay.{Relays}
 use Rattle.amqp_session.specs.History as session
@@ -18,7 +18,7 @@ use Rattle.amqp_engine.specs.Engine.{InputStep, Received, Step}
 use Rattle.amqp_engine.specs.Entry.{Entry}
 use Rattle.amqp_engine.specs.History.{Chain}
 use Rattle.amqp_engine.specs.RunInto.{RanInto}
-use Rattle.amqp_engine.specs.RunFrame.{AnswersRead, RanFrame, ReadFrom, RunsFrame}
+use Rattle.amqp_engine.specs.RunFrame.{AnswersRead, OfRead, RanFrame, ReadFrom, RunsFrame}
 use Rattle.amqp_driver.specs.declared.record.Record.{Record}
 use Rattle.amqp_driver.specs.declared.told.Told.{Told}
 use Rattle.amqp_driver.specs.Driver.{DriverView, Runs, RunsRead, Tells, TellsRead, counted, is_passed_on, reached_by, route_by, told_as, told_of}
@@ -129,8 +129,8 @@ told_by_record g d d' bytes at size e (Some x) r is = (e, r, is)
 
 runs_of : {R : Type 0} (g : Relays R) (d d' : DriverView R) (bytes : List ℕ) (read : Result Frame Error) (refusal : Option StepError) (returned : List Refusal)
     → ReadFrom bytes read → (r : RanFrame g d.engine bytes read refusal d.to_send [] d'.engine d'.to_send returned) → d'.unfit ≡ counted d.unfit returned
-    → Runs g d bytes r.one.entry d'
-runs_of g d d' bytes read refusal returned from r u = record {
+    → OfRead g read refusal → Runs g d bytes r.one.entry d'
+runs_of g d d' bytes read refusal returned from r u o = record {
   read = read;
   decoded = from;
   returned = returned;
@@ -149,6 +149,7 @@ runs_of g d d' bytes read refusal returned from r u = record {
   };
   entry_is = refl;
   unfit_is = u;
+  of_relay = subst (λ (y : Option StepError). OfRead g read y) (sym r.one.refusal_is) o;
 }
 
 pub tells_frame : {R : Type 0} (g : Relays R) (d d' : DriverView R) (f : Frame) (at size : ℕ) (answer : Option (Result (Unit {0}) StepError))
@@ -158,7 +159,7 @@ tells_frame g d d' f at size None (inl was, sends) bytes from = (was, inr sends)
 tells_frame g d d' f at size None (inr is, sends) bytes from = absurd cc
 tells_frame g d d' f at size (Some a) r bytes from =
     let ran : RanFrame g d.engine bytes (Ok f) (refusal_of a) d.to_send [] d'.engine d'.to_send r.0 = r.2 bytes from in
-    told_by_record g d d' bytes at size ran.one.entry _ (runs_of g d d' bytes (Ok f) (refusal_of a) r.0 from ran r.1)
+    told_by_record g d d' bytes at size ran.one.entry _ (runs_of g d d' bytes (Ok f) (refusal_of a) r.0 from ran r.1 r.3)
     (told_frame g d.engine bytes at size ran.one.entry f (refusal_of a)
     (did g d.engine d'.engine bytes (Ok f) (refusal_of a) d.to_send d'.to_send [] r.0 ran) ran.one.refusal_is ran.received_is)
 
@@ -172,7 +173,7 @@ tells_unread g d d' x at size None (inr is, sends) bytes from = (refused_as_read
     refused_as_read bytes y e d = absurd cc
 tells_unread g d d' x at size (Some a) r bytes from =
     let ran : RanFrame g d.engine bytes (Err x) (refusal_of a) d.to_send [] d'.engine d'.to_send r.0 = r.2 bytes from in
-    told_by_record g d d' bytes at size ran.one.entry _ (runs_of g d d' bytes (Err x) (refusal_of a) r.0 from ran r.1)
+    told_by_record g d d' bytes at size ran.one.entry _ (runs_of g d d' bytes (Err x) (refusal_of a) r.0 from ran r.1 r.3)
     (told_unread g d.engine bytes at size ran.one.entry (refusal_of a)
     (did g d.engine d'.engine bytes (Err x) (refusal_of a) d.to_send d'.to_send [] r.0 ran) ran.one.refusal_is ran.received_is)
 
@@ -192,12 +193,12 @@ refused_read v' (Err e) L (inr x) left = inr (ap (λ (y : Error). Err y) x)
 
 pub runs_read : {R : Type 0} (g : Relays R) (v v' : EngineView R) (out out' : List ℕ) (before returned : List Refusal) (x x' : ℕ) (read : Result Frame Error)
     (answer : Option (Result (Unit {0}) StepError)) (L : Type 0) → before ≡ [] → RunsFrame g v read answer out before v' out' returned → AnswersRead v' read answer
-    → (v'.waiting ≡ []) ⊎ (L × SomeRefused) → x' ≡ counted x returned
+    → (v'.waiting ≡ []) ⊎ (L × SomeRefused) → IfSome answer (λ a. OfRead g read (refusal_of a)) → x' ≡ counted x returned
     → RunsRead g (record { engine = v; to_send = out; unfit = x }) read answer (record { engine = v'; to_send = out'; unfit = x' })
-runs_read g v v' out out' before returned x x' read None L e ran answers left u =
+runs_read g v v' out out' before returned x x' read None L e ran answers left o u =
     (refused_read v' read L answers left, (returned, subst (λ (b : List Refusal). RanInto g v [] out b v' [] out' returned) e ran, u))
-runs_read g v v' out out' before returned x x' read (Some answer) L e ran answers left u =
-    (returned, u, λ bytes from. subst (λ (b : List Refusal). RanFrame g v bytes read (refusal_of answer) out b v' out' returned) e (ran bytes from))
+runs_read g v v' out out' before returned x x' read (Some answer) L e ran answers left o u =
+    (returned, u, λ bytes from. subst (λ (b : List Refusal). RanFrame g v bytes read (refusal_of answer) out b v' out' returned) e (ran bytes from), o)
 
 -- what is told, by what the code found before
 pub told_same : {R : Type 0} (d : DriverView R) (f : Frame) (at size : ℕ) (answer : Option (Result (Unit {0}) StepError)) (route : Option ℕ) (link : Option OutputHandle)

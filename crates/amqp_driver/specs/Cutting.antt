@@ -11,9 +11,9 @@ use Rattle.amqp_driver.specs.Heads.{has, has_room, transfer_in}
 abbrev pub room_for : ℕ → TransferHead → List ℕ → Option ℕ
 room_for limit h bytes = room_beside (widest (transfer_in h bytes)) limit
 
--- the same transfer, after which more follow
+-- the same transfer, after which more follow: so it does not abort the delivery (section 2.7.5)
 abbrev pub begun : TransferHead → TransferHead
-begun h = record h { flags = bit_or h.flags 4 }
+begun h = record h { flags = bit_or (bit_and h.flags 65527) 4 }
 
 abbrev pub in_one : TransferHead → Cut
 in_one h = record { part = h; rest = h; more = 0; refusal = 0 }

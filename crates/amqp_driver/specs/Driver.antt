@@ -19,7 +19,7 @@ use Rattle.amqp_engine.specs.declared.engine.step_error.StepError.TheVariants as
 use Rattle.amqp_engine.specs.EngineView.{EngineView}
 use Rattle.amqp_engine.specs.Entry.{Entry}
 use Rattle.amqp_engine.specs.RunInto.{RanInto}
-use Rattle.amqp_engine.specs.RunFrame.{RanFrame, ReadFrom}
+use Rattle.amqp_engine.specs.RunFrame.{OfRead, RanFrame, ReadFrom}
 use Rattle.amqp_driver.specs.declared.record.Record.{Record}
 use Rattle.amqp_driver.specs.declared.copied.Copied.{Copied}
 use Rattle.amqp_driver.specs.declared.told.Told.{Told}
@@ -44,6 +44,8 @@ pub record Runs {R : Type 0} (g : Relays R) (d : DriverView R) (frame : List ℕ
   pub ran : RanFrame g d.engine frame read e.refusal d.to_send [] d'.engine d'.to_send returned
   pub entry_is : ran.one.entry ≡ e
   pub unfit_is : d'.unfit ≡ counted d.unfit returned
+  -- where it is refused for memory, its link's relay said so, or the state of an echo is not said again
+  pub of_relay : OfRead g read e.refusal
 
 -- some of what waited in the engine is sent, and nothing else happens
 abbrev pub SendsOnly : {R : Type 0} → Relays R → DriverView R → DriverView R → Type 0
@@ -78,6 +80,7 @@ abbrev pub RunsRead : {R : Type 0} → Relays R → DriverView R → Result Fram
 RunsRead g d read None d' = (SomeRefused ⊎ (read ≡ Err unread.OutOfMemory)) × SendsOnly g d d'
 RunsRead g d read (Some answer) d' = (returned : List Refusal) × (d'.unfit ≡ counted d.unfit returned)
     × ((bytes : List ℕ) → ReadFrom bytes read → RanFrame g d.engine bytes read (refusal_of answer) d.to_send [] d'.engine d'.to_send returned)
+    × OfRead g read (refusal_of answer)
 
 -- the session that holds this channel of this side's, if one is named
 abbrev pub held_by : ConnectionView → Option ℕ → Option ℕ

@@ -45,14 +45,14 @@ asked_entries (x ∷ rest) = listed x.entry ++ asked_entries rest
 -- Whatever legal history came before, it goes on by the entries of these heads, and all of it keeps the headline; also where memory was refused
 -- for the transfer after them.
 abbrev pub SendsGoOn : {R : Type 0} → Relays R → Type 0
-SendsGoOn g = (d k d' : DriverView _) (handled : List (Handled _)) → HandlesEach g d handled k → (d' ≡ k) ⊎ NotRun g k d'
+SendsGoOn g = (d k d' : DriverView _) (handled : List (Handled _)) → HandlesEach g d None handled k → (d' ≡ k) ⊎ NotRun g k d'
     → (s : ConnectionState) (o : OpenModel) (H : List (Entry _)) → Legal g s o H d.engine
     → Legal g s o (H ++ asked_entries handled) d'.engine × Headline s o (H ++ asked_entries handled)
 
 -- The number that is told of an accepted first transfer, wherever it stands among those of a call, is how many deliveries of its session were
 -- accepted before, modulo 2^32: the one by which the session's history knows the delivery, and that its frame carries, also where it waits.
 abbrev pub NumbersAreTold : {R : Type 0} → Relays R → Type 0
-NumbersAreTold g = (d k : DriverView _) (before after : List (Handled _)) (x : Handled _) (e : Entry _) → HandlesEach g d (before ++ x ∷ after) k
+NumbersAreTold g = (d k : DriverView _) (before after : List (Handled _)) (x : Handled _) (e : Entry _) → HandlesEach g d None (before ++ x ∷ after) k
     → x.entry ≡ Some e → e.refusal ≡ None → has x.head.flags 1 ≡ true
     → (s : ConnectionState) (o : OpenModel) (H : List (Entry _)) → Legal g s o H d.engine
     → (m : Made) → live s x.head.session (H ++ asked_entries before) ≡ Some m

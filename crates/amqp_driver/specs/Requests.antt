@@ -8,7 +8,7 @@ use Rattle.amqp_engine.specs.declared.engine.refusal.Refusal.{Refusal}
 use Rattle.amqp_engine.specs.declared.engine.refusal.Refusal.TheVariants as refusal
 use Rattle.amqp_engine.specs.declared.engine.step_error.StepError.{StepError}
 use Rattle.amqp_engine.specs.Entry.{Entry}
-use Rattle.amqp_engine.specs.RunOne.{RanOne}
+use Rattle.amqp_engine.specs.RunOne.{LacksNoMemory, RanOne}
 use Rattle.amqp_driver.specs.declared.asked.Asked.{Asked}
 use Rattle.amqp_driver.specs.declared.asked.Asked.TheVariants as asked
 use Rattle.amqp_driver.specs.Driver.{DriverView, NotTaken, counted}
@@ -41,3 +41,8 @@ asked_of (Some answer) own = asked_by (refusal_of answer) own
 abbrev pub Requests : {R : Type 0} → Relays R → DriverView R → Input R → Asked → DriverView R → Type 0
 Requests g d i asked.NoMemory d' = NotTaken g d d'
 Requests g d i a d' = (e : Entry _) × (returned : List Refusal) × RunsInput g d i e returned d' × (a ≡ asked_by e.refusal (has_own returned))
+
+-- it is not refused for want of memory
+abbrev pub AskedWell : Asked → Type 0
+AskedWell (asked.Refused e) = LacksNoMemory (Some e)
+AskedWell a = Unit {0}

@@ -53,7 +53,7 @@ pub(crate) fn begun(head: &TransferHead) -> TransferHead
     ensures { result ≡ begun head.now }
 {
     TransferHead {
-        flags: head.flags | flag::MORE,
+        flags: (head.flags & (u16::MAX - flag::ABORTED)) | flag::MORE,
         ..*head
     }
 }

@@ -3,7 +3,7 @@
 ghost use Rattle.std.specs.Prelude.{◌≡◌, ◌<◌, ◌≤◌, ◌^◌};
 ghost use Rattle.std.specs.Option.{option_map};
 ghost use Rattle.amqp_driver.specs.Heads.{has, settled_of, transfer_of};
-ghost use Rattle.amqp_driver.specs.Sending.{size_of};
+ghost use Rattle.amqp_driver.specs.Sending.{is_of, left_behind, refused_behind, size_of};
 
 use crate::flag;
 use amqp_types::{DeliveryTag, Handle, Transfer};
@@ -40,6 +40,55 @@ pub struct Sent {
     /// Why it was refused, by its number: [`refusal_number`](crate::refusal_number) has the list; 91 where the payload does not fit one
     /// frame beside the transfer, and 92 where the tag has more than 32 bytes. 0 where it was accepted.
     pub refusal: u32,
+}
+
+/// What a refused part leaves, where more parts of its delivery were to follow: they are refused as it was.
+#[derive(Clone, Copy)]
+pub(crate) struct Broken {
+    session: u32,
+    link: u32,
+    refusal: u32,
+}
+
+impl Broken {
+    /// Whether a head is of the same link.
+    #[inline(always)]
+    fn is_of(self, head: &TransferHead) -> bool
+        ensures { result ≡ is_of self head.now }
+    {
+        self.session == head.session && self.link == head.link
+    }
+}
+
+/// What is left of a head, by what became of it, and of what was left before it.
+#[inline(always)]
+pub(crate) fn left_behind(broken: Option<Broken>, head: &TransferHead, sent: Sent) -> Option<Broken>
+    ensures { result ≡ left_behind broken head.now sent }
+{
+    if has(head.flags, flag::MORE) && sent.refusal != 0 {
+        return Some(Broken {
+            session: head.session,
+            link: head.link,
+            refusal: sent.refusal,
+        });
+    }
+    match broken {
+        Some(before) if before.is_of(head) => None,
+        before => before,
+    }
+}
+
+/// Why a head is refused behind what was left: as a later part of the delivery that was broken so.
+#[inline(always)]
+pub(crate) fn refused_behind(broken: Option<Broken>, head: &TransferHead) -> Option<u32>
+    ensures { result ≡ refused_behind broken head.now }
+{
+    match broken {
+        Some(before) if !has(head.flags, flag::NUMBERED) && before.is_of(head) => {
+            Some(before.refusal)
+        }
+        _ => None,
+    }
 }
 
 /// The refusal of a transfer whose link is not attached: that of `SessionInnerError::UnattachedHandle`.

@@ -1,5 +1,6 @@
 -- A frame that was read runs as the bytes do that it was read from.
-use Rattle.std.proofs.Common.{◌≡◌, ℕ, List, [], refl, ap, sym, subst, ◌∙◌, Option, Some, None, Result, Ok, Err, inl, inr}
+use Rattle.std.proofs.Common.{◌≡◌, ℕ, Bool, true, false, List, [], refl, ap, sym, subst, ◌∙◌, Option, Some, None, IfNone, Result, Ok, Err, inl, inr}
+use Rattle.amqp_memory.specs.Refusal.{SomeRefused}
 use Rattle.amqp_session.specs.Relay.{Relays}
 use Rattle.amqp_frames.specs.declared.error.Error.{Error}
 use Rattle.amqp_frames.specs.declared.frame.Frame.{Frame}
@@ -16,8 +17,9 @@ use Rattle.amqp_engine.specs.History.{OnlyLeft}
 use Rattle.amqp_engine.specs.Output.{PutOut}
 use Rattle.amqp_engine.specs.RunInto.{Tells}
 use Rattle.amqp_engine.specs.RunFrame.{LacksMemory, RanFrame, ReadFrom, frame_read}
-use Rattle.amqp_engine.specs.Inner.Taken.{BodyStep, BodyKept, TakesRead}
+use Rattle.amqp_engine.specs.Inner.Taken.{BodyStep, BodyKept, NothingDone, TakesBody, TakesRead, Tries, refusal_or}
 use Rattle.amqp_engine.proofs.RunLemmas.{HeadlineLaw, StandsLaw}
+use Rattle.amqp_engine.proofs.KeptStateLemmas.{frame_wishes}
 use Rattle.amqp_engine.proofs.OneRunLemmas.{ran_one}
 
 -- ---- a body
@@ -27,6 +29,17 @@ abbrev IsUnkept : FrameBody → Type 0
 IsUnkept (body.End e) = ⊥
 IsUnkept (body.Close c) = ⊥
 IsUnkept b = Unit {0}
+
+-- what was done is a step, and where nothing was, all is as before
+pub tries : {R : Type 0} (g : Relays R) (v w : EngineView R) (c : ℕ) (b : FrameBody) (done : Bool) (r : Option StepError) → (done ≡ true → BodyStep g v c b r w)
+    → (done ≡ false → SomeRefused × (w ≡ v)) → Tries g v c b done r w
+tries g v w c b true r f h = f refl
+tries g v w c b false r f h = h refl
+
+-- where there is no answer
+pub where_none : {X : Type 0} {P Q : Type 0} (x : Option X) → (P → Q) → IfNone x P → IfNone x Q
+where_none None f h = f h
+where_none (Some y) f h = tt
 
 pub body_kept : {R : Type 0} (g : Relays R) (v w : EngineView R) (c : ℕ) (b : FrameBody) (r : Option StepError) → IsUnkept b → BodyStep g v c b r w → BodyKept g v c b r w
 body_kept g v w c (body.Attach p) r u s = (s.0, s.1, w, s.2, refl)
@@ -40,7 +53,19 @@ body_kept g v w c (body.Open p) r u s = (s.0, s.1, w, s.2, refl)
 body_kept g v w c (body.Close p) r u s = absurd u
 body_kept g v w c body.Empty r u s = (s.0, s.1, w, s.2, refl)
 
+-- a body that may not be taken for want of memory
+pub tried_kept : {R : Type 0} (g : Relays R) (v w : EngineView R) (c : ℕ) (b : FrameBody) (lacks : StepError) (answer : Option (Result (Unit {0}) StepError)) → IsUnkept b
+    → BodyStep g v c b (refusal_or lacks answer) w → IfNone answer (NothingDone v b w) → TakesBody g v c b answer w
+tried_kept g v w c b lacks None u s n = n
+tried_kept g v w c b lacks (Some a) u s n = body_kept g v w c b (refusal_of a) u s
+
 -- ---- a step
+
+-- what was taken leaves what handles wish
+pub taken_wishes : {R : Type 0} (g : Relays R) (v w : EngineView R) (read : Result Frame Error) (answer : Result (Unit {0}) StepError) → TakesRead g v read (Some answer) w
+    → w.wishes ≡ v.wishes
+taken_wishes g v w (Ok f) answer t = ap (λ (x : EngineView _). x.wishes) t.4 ∙ frame_wishes g v t.2 f.channel f.body t.0 t.1 (refusal_of answer) t.3
+taken_wishes g v w (Err e) answer t = ap (λ (x : EngineView _). x.wishes) t.2
 
 -- what was taken of what was read is a step with the bytes
 pub taken_step : {R : Type 0} (g : Relays R) (v w : EngineView R) (read : Result Frame Error) (answer : Result (Unit {0}) StepError) (bytes : List ℕ)

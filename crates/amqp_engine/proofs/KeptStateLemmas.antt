@@ -114,3 +114,6 @@ step_outcomes g v w e s = (same g v w e s).0
 
 pub step_wishes : {R : Type 0} (g : Relays R) (v w : EngineView R) (e : Entry R) → Step g v e w → w.wishes ≡ v.wishes
 step_wishes g v w e s = (same g v w e s).1
+
+pub frame_wishes : {R : Type 0} (g : Relays R) (v w : EngineView R) (c : ℕ) (b : FrameBody) (reached : Option ℕ) (calls : List (session.SessionCall R)) (r : Option StepError) → ReceivedFrame g v c b reached calls r w → w.wishes ≡ v.wishes
+frame_wishes g v w c b reached calls r s = (frame g v w c b reached calls r s).1

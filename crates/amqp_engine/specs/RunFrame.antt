@@ -1,10 +1,12 @@
 -- Part: other calls.
 -- One received frame that was read before: it runs as the bytes do that it was read from.
-use Rattle.std.specs.Prelude.{◌≡◌, ◌⊎◌, ℕ, List, [], Option, Some, None, IsSome, Result, Ok, Err}
+use Rattle.std.specs.Prelude.{◌≡◌, ◌⊎◌, ℕ, List, [], false, Option, Some, None, IsSome, Result, Ok, Err}
 use Rattle.amqp_memory.specs.Refusal.{SomeRefused}
-use Rattle.amqp_session.specs.Relay.{Relays, TransferGives}
-use Rattle.amqp_session.specs.Step.{RelayLacks}
-use Rattle.amqp_types.specs.Transfer.{TransferModel}
+use Rattle.amqp_session.specs.Relay.{Relays}
+use Rattle.amqp_session.specs.Room.{AttachLacks, FlowLacks, RelayLacks}
+use Rattle.amqp_session.specs.declared.error.SessionInnerError.{SessionInnerError}
+use Rattle.amqp_session.specs.declared.error.SessionInnerError.TheVariants as Refused
+use Rattle.amqp_types.specs.Disposition.{DispositionModel}
 use Rattle.amqp_frames.specs.declared.error.Error.{Error}
 use Rattle.amqp_frames.specs.declared.error.Error.TheVariants as unread
 use Rattle.amqp_frames.specs.declared.frame.Frame.{Frame}
@@ -12,6 +14,7 @@ use Rattle.amqp_frames.specs.declared.frame.FrameBody.{FrameBody}
 use Rattle.amqp_frames.specs.declared.frame.FrameBody.TheVariants as body
 use Rattle.amqp_frames.specs.Frame.{Decodes}
 use Rattle.amqp_connection.specs.Connection.{refusal_of}
+use Rattle.amqp_connection.specs.declared.error.ConnectionInnerError.TheVariants as routes
 use Rattle.amqp_engine.specs.declared.engine.input.Input.TheVariants.{Received}
 use Rattle.amqp_engine.specs.declared.engine.refusal.Refusal.{Refusal}
 use Rattle.amqp_engine.specs.declared.engine.step_error.StepError.{StepError}
@@ -44,10 +47,14 @@ RunsFrame g v read None out returned v' out' returned' = RanInto g v [] out retu
 RunsFrame g v read (Some answer) out returned v' out' returned' =
     (bytes : List ℕ) → ReadFrom bytes read → RanFrame g v bytes read (refusal_of answer) out returned v' out' returned'
 
--- for these frames memory is asked before anything is done: for the record of a transfer's delivery, and for the copy of the error that a
--- Close or an End names
+-- for these frames memory is asked before anything is done: for the record of a transfer's delivery, the frames that a Flow lets out, the place
+-- of an attach, the echoes of an unsettled disposition, the route of a Begin, and the copy of the error that a Close or an End names
 abbrev pub IsTried : FrameBody → Type 0
 IsTried (body.Transfer t payload) = Unit {0}
+IsTried (body.Flow f) = Unit {0}
+IsTried (body.Attach a) = Unit {0}
+IsTried (body.Disposition d) = d.settled ≡ false
+IsTried (body.Begin b) = Unit {0}
 IsTried b = IsSome (named_error b)
 
 -- memory was refused as the frame was read, or now
@@ -55,10 +62,25 @@ abbrev pub LacksMemory : Result Frame Error → Type 0
 LacksMemory (Ok f) = IsTried f.body × SomeRefused
 LacksMemory (Err e) = e ≡ unread.OutOfMemory
 
--- where a transfer's session lacks memory, its link's relay said so
-abbrev pub OfRelay : {R : Type 0} → TransferGives R → TransferModel → List ℕ → Option StepError → Type 0
-OfRelay gives t payload (Some (no.Session e)) = RelayLacks gives t payload (Err e)
-OfRelay gives t payload refusal = Unit {0}
+-- where a session lacks memory for a disposition, a relay asked for an echo, whose state is not said again
+abbrev pub StateLacks : DispositionModel → SessionInnerError → Type 0
+StateLacks d Refused.OutOfMemory = (d.settled ≡ false) × IsSome d.state × SomeRefused
+StateLacks d e = Unit {0}
+
+-- Where memory lacks in the answer to a frame that was taken, the session did not say so by itself: the relay of the link did, or the state of
+-- an echo is not said again.
+abbrev pub OfRelay : {R : Type 0} → Relays R → FrameBody → Option StepError → Type 0
+OfRelay g (body.Transfer t payload) (Some (no.Session e)) = RelayLacks g.transfer_gives t payload (Err e)
+OfRelay g (body.Flow f) (Some (no.Session e)) = FlowLacks g.flow_gives f f.handle (Err e)
+OfRelay g (body.Attach a) (Some (no.Session e)) = AttachLacks g.attach_gives a (Err e)
+OfRelay g (body.Disposition d) (Some (no.Session e)) = StateLacks d e
+OfRelay g (body.Begin b) (Some (no.Connection e)) = ¬ (e ≡ routes.OutOfMemory)
+OfRelay g b refusal = Unit {0}
+
+-- the same of what was read
+abbrev pub OfRead : {R : Type 0} → Relays R → Result Frame Error → Option StepError → Type 0
+OfRead g (Ok f) refusal = OfRelay g f.body refusal
+OfRead g (Err e) refusal = Unit {0}
 
 -- When a frame is not taken: what waited is not all sent, or memory was refused for the frame itself. Where it was read, any other answer
 -- may come, which the run says; where it was not, the answer says why, and memory is no reason.

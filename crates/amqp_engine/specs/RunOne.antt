@@ -9,6 +9,8 @@ use Rattle.amqp_engine.specs.declared.engine.answer.Answer.{Answer}
 use Rattle.amqp_engine.specs.declared.engine.refusal.Refusal.{Refusal}
 use Rattle.amqp_engine.specs.declared.engine.refusal.Refusal.TheVariants as refusal
 use Rattle.amqp_engine.specs.declared.engine.step_error.StepError.{StepError}
+use Rattle.amqp_engine.specs.declared.engine.step_error.StepError.TheVariants as no
+use Rattle.amqp_session.specs.declared.error.SessionInnerError.TheVariants as Refused
 use Rattle.amqp_engine.specs.EngineView.{EngineView}
 use Rattle.amqp_engine.specs.Entry.{Entry}
 use Rattle.amqp_engine.specs.Ran.{Ran}
@@ -39,3 +41,14 @@ abbrev pub RunsOne : {R : Type 0} → Relays R → EngineView R → Input R → 
 RunsOne g v input None out returned v' out' returned' =
     RanInto g v [] out returned v' [] out' returned' × (¬ (v'.waiting ≡ [])) × SomeRefused
 RunsOne g v input (Some answer) out returned v' out' returned' = RanOne g v input (refusal_of answer) out returned v' out' returned'
+
+-- the refusal is not that memory lacks
+abbrev pub LacksNoMemory : Option StepError → Type 0
+LacksNoMemory (Some (no.Session Refused.OutOfMemory)) = ⊥
+LacksNoMemory refusal = Unit {0}
+
+-- The same of a transfer that is to be sent, for which memory is asked before anything is done: where it is refused, the transfer is not taken.
+abbrev pub RunsTransfer : {R : Type 0} → Relays R → EngineView R → Input R → Option (Result (Unit {0}) StepError) → List ℕ → List Refusal
+    → EngineView R → List ℕ → List Refusal → Type 0
+RunsTransfer g v input None out returned v' out' returned' = RanInto g v [] out returned v' [] out' returned' × SomeRefused
+RunsTransfer g v input (Some answer) out returned v' out' returned' = RanOne g v input (refusal_of answer) out returned v' out' returned'

@@ -25,6 +25,7 @@ mod performatives;
 mod received;
 pub mod refusal;
 mod refused;
+mod request_transfer;
 mod requested;
 mod run;
 mod run_frame;

@@ -9,7 +9,8 @@ use Rattle.amqp_session.specs.declared.frame.SessionOutgoingItem.{SessionOutgoin
 use Rattle.amqp_session.specs.Items.{HandsOut, is_some_list, first_frame}
 use Rattle.amqp_session.specs.States.{is_mapped}
 use Rattle.amqp_session.specs.Sending.{SendingView, ready_count, let_out, opened_by, drained}
-use Rattle.amqp_session.specs.Session.{SessionView, flow_frame}
+use Rattle.amqp_session.specs.declared.deliveries.ReadCount.{ReadCount}
+use Rattle.amqp_session.specs.Session.{SessionModel, SessionView, flow_frame}
 use Rattle.amqp_types.specs.declared.definitions.DeliveryTag.{DeliveryTag}
 use Rattle.amqp_session.specs.Deliveries.{with_record}
 use Rattle.amqp_session.specs.declared.error.SessionInnerError.{SessionInnerError}
@@ -53,6 +54,10 @@ parts_gone v s rows room es er e = rw (es, er, e) refl
 -- the session after room was taken
 pub room_taken : {R : Type 0} → (v : SessionView R) (rows : List Delivery) → rows ≡ v.deliveries.receiver → record v { deliveries = record v.deliveries { receiver = rows } } ≡ v
 room_taken v rows e = rw e refl
+
+pub all_but_room : {R : Type 0} → (m : SessionModel R) (rows : List Delivery) (reads : ReadCount) → rows ≡ m.view.deliveries.receiver → reads ≡ m.reads.receiver →
+    record m { view = record m.view { deliveries = record m.view.deliveries { receiver = rows } }; reads = record m.reads { receiver = reads } } ≡ m
+all_but_room m rows reads er es = rw (er, es) refl
 
 pub sender_room_taken : {R : Type 0} → (v : SessionView R) (rows : List Delivery) → rows ≡ v.deliveries.sender → record v { deliveries = record v.deliveries { sender = rows } } ≡ v
 sender_room_taken v rows e = rw e refl

@@ -14,11 +14,25 @@ use Rattle.amqp_session.specs.Errors.{inner_of_relay}
 use Rattle.amqp_session.specs.Links.{LinksView, Names, Inputs}
 use Rattle.amqp_session.specs.Relay.{AttachGives, AttachQuestion}
 use Rattle.amqp_session.specs.Linking.{IsWaited, AttachRefused, AttachLeaves, AttachAsked, Attaches, attached_under, awaits, dropped}
+use Rattle.amqp_session.specs.Room.{AttachLacks, NotLacking}
 use Rattle.amqp_session.proofs.FiniteMapLemmas.{remove_none}
 
 pub waited_full : {R : Type 0} → (old : Option (AttachedLink R)) (o : Option (LiveLink R)) → IsWaited o → old ≡ None → SomeRefused → AttachRefused old o Refused.OutOfMemory
 waited_full old (Some n) h free r = (h, free, r)
 waited_full old None h free r = absurd h
+
+-- where memory does not lack, no relay need say so
+pub not_lacking : {R : Type 0} → (gives : AttachGives R) (a : AttachModel) (e : SessionInnerError) → NotLacking e → AttachLacks gives a (Err e)
+not_lacking gives a Refused.UnattachedHandle n = tt
+not_lacking gives a Refused.RemoteAttachingLinkNameNotFound n = tt
+not_lacking gives a Refused.HandleInUse n = tt
+not_lacking gives a Refused.IllegalState n = tt
+not_lacking gives a (Refused.ConnectionStopped x) n = tt
+not_lacking gives a Refused.TransferFrameToSender n = tt
+not_lacking gives a Refused.RemoteEnded n = tt
+not_lacking gives a (Refused.RemoteEndedWithError x) n = tt
+not_lacking gives a Refused.UnknownTxnId n = tt
+not_lacking gives a Refused.OutOfMemory n = absurd n
 
 pub inputs_same : {R : Type 0} → (l : LinksView R) (i : Inputs R) → i ≡ l.inputs → record l { inputs = i } ≡ l
 inputs_same l i e = ap (λ x. record l { inputs = x }) e

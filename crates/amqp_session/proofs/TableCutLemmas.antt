@@ -161,7 +161,7 @@ some_asked gives d rows asked l new t some none =
 
 pub walked : (d : DispositionModel) (rows : List Delivery) (from n turns comparisons : ℕ) → from ≤ length rows →
     n ≤ length rows → in_order d.first rows ≡ turned from rows → IsSplit d (turned from rows) n →
-    turns ≤ n + 1 → n ≤ turns → 2 ^ comparisons ≤ 2 * length rows + 1 → IsWalked d rows true (record { turns = turns; comparisons = comparisons })
+    turns ≤ n + 1 → n ≤ turns → 2 ^ comparisons ≤ 2 * length rows + 1 → IsWalked d rows (record { turns = turns; comparisons = comparisons })
 walked d rows from n turns comparisons h k o s most least cost =
     let len = meant_length d rows from n h k o s in
-    record { turns = omega (arith, len, most); each_read = λ e. omega (arith, len, least); comparisons = cost }
+    record { turns = omega (arith, len, most); each_read = omega (arith, len, least); comparisons = cost }

@@ -1,3 +1,4 @@
 -- What the contracts of private functions cite, and no public one does.
 pub mod Walks
+pub mod Flows
 pub mod Histories

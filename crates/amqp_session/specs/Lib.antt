@@ -16,6 +16,7 @@ pub mod Step
 pub mod Linking
 pub mod Runs
 pub mod Disposing
+pub mod Room
 pub mod History
 pub mod Received
 pub mod Linked

@@ -220,16 +220,6 @@ abbrev pub TakeTransferStep : {R : Type 0} → TransferGives R → SessionView R
     Option (TransferQuestion R) → Result (Option DispositionModel) SessionInnerError → SessionView R → Type 0
 TakeTransferStep gives v t payload asked result w = LinkTransferStep gives (counted_by v) t.handle t payload asked result w
 
--- memory was refused for the record of a delivery, before a relay was asked
-abbrev pub LacksRecord : {R : Type 0} → SessionView R → ℕ → Type 0
-LacksRecord v handle = IsSome (attached_at handle v.links) × SomeRefused
-
--- where the answer is that memory lacks, it is a relay's own
-abbrev pub RelayLacks : {R : Type 0} → TransferGives R → TransferModel → List ℕ → Result (Unit {0}) SessionInnerError → Type 0
-RelayLacks {R} gives t payload (Err Refused.OutOfMemory) =
-    (before after : R) × (error : LinkRelayError) × gives before t payload (Err error) after × (inner_of_relay error ≡ Refused.OutOfMemory)
-RelayLacks gives t payload result = Unit {0}
-
 -- what a call says that leaves the disposition out, which is never there
 abbrev pub without_answer : Result (Unit {0}) SessionInnerError → Result (Option DispositionModel) SessionInnerError
 without_answer (Ok none) = Ok None

@@ -11,6 +11,7 @@ ghost use Rattle.amqp_session.specs.Step.{StopStep};
 mod begin_end;
 mod debug;
 pub mod dispositions;
+mod flows;
 pub(crate) mod held;
 mod incoming;
 mod links;

@@ -101,6 +101,34 @@ fn a_refused_one_changes_nothing(rt: HostRuntime) -> Result<(), Fail> {
     Ok(())
 }
 
+/// The head of a part of a delivery.
+fn part(tag_size: u16, flags: u16) -> TransferHead {
+    TransferHead {
+        flags,
+        ..head(1, tag_size, 1)
+    }
+}
+
+#[test]
+fn a_refused_part_takes_the_rest_with_it(rt: HostRuntime) -> Result<(), Fail> {
+    let mut driver = attached(rt.alloc())?;
+    let mut sent = [NOTHING; 5];
+    let heads = [
+        part(33, flag::NUMBERED + flag::TAGGED + flag::MORE),
+        part(0, flag::MORE),
+        part(0, 0),
+        part(1, flag::NUMBERED + flag::TAGGED + flag::MORE),
+        part(0, 0),
+    ];
+    let found = driver.send(&heads, &[0x31; 39], &mut sent);
+    drop(driver);
+    same(&rt, found, posted(Status::Done, 5, 39));
+    same(&rt, (sent[0], sent[1]), (told(0, 92), told(0, 92)));
+    same(&rt, (sent[2], sent[3]), (told(0, 92), told(0, 0)));
+    same(&rt, sent[4], told(0, 0));
+    Ok(())
+}
+
 #[test]
 fn a_link_is_attached_before_it_sends(rt: HostRuntime) -> Result<(), Fail> {
     let mut driver = opened(rt.alloc())?;

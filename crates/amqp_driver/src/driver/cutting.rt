@@ -34,10 +34,10 @@ fn tag_of(
 
 impl<R: LinkRelay> Driver<R> {
     /// Cuts a head whose payload is longer than a frame (AMQP 1.0 part 2, section 2.6.14): after as many bytes as fit the first frame, whatever
-    /// number the delivery gets. The first head says that more follow. That of the rest says nothing again of the delivery, and whether
-    /// more follow as `head` does; who cuts it again, while `more` is 1, has a head for each frame, for [`Driver::send`]. `bytes` begin with the
-    /// tag. A head that fits one frame is not cut. Changes nothing. A part is to be sent only where the one before it was
-    /// accepted: `send` goes on behind one that is refused.
+    /// number the delivery gets. The first head says that more follow, and not that the delivery is aborted (section 2.7.5). That of the rest
+    /// says nothing again of the delivery, and as `head` does whether more follow and whether it is aborted; who cuts it again, while `more` is
+    /// 1, has a head for each frame, for [`Driver::send`]. `bytes` begin with the tag. A head that fits one frame is not cut. Changes nothing.
+    /// A part is to be sent only where the one before it was accepted: within a call `send` looks after that.
     ///
     /// The error says that memory was refused for a copy of the tag.
     ///

@@ -8,7 +8,7 @@ ghost use Rattle.amqp_frames.specs.Cut.{room_beside};
 ghost use Rattle.amqp_engine.specs.declared.engine.input.Input.TheVariants as given;
 ghost use Rattle.amqp_driver.specs.Driver.{Mirrors};
 ghost use Rattle.amqp_driver.specs.Heads.{FindsInput, has, has_room, number_in, refused_as, tag_in};
-ghost use Rattle.amqp_driver.specs.Requests.{Requests};
+ghost use Rattle.amqp_driver.specs.Requests.{AskedWell, Requests};
 ghost use Rattle.amqp_driver.specs.Sending.{Handles, Sends, SendsTransfer, size_of};
 ghost use Rattle.amqp_driver.specs.Told.{session_at};
 
@@ -18,7 +18,8 @@ use crate::asked::{Asked, asked_of, has_own};
 use crate::copied::Copied;
 use crate::flag;
 use crate::head::{
-    Sent, TAG_TOO_LONG, TOO_LONG, TransferHead, UNATTACHED, has, size_of, transfer_of,
+    Broken, Sent, TAG_TOO_LONG, TOO_LONG, TransferHead, UNATTACHED, has, left_behind,
+    refused_behind, size_of, transfer_of,
 };
 use crate::refusals::refusal_number;
 use crate::status::{Posted, Status};
@@ -115,8 +116,9 @@ impl<R: LinkRelay> Driver<R> {
     /// other. What became of it goes to the next place of `sent`: of an accepted first transfer the number of its delivery, which it keeps
     /// also where the session holds it back (AMQP 1.0 part 2, section 2.6.12); of a refused one why. A refused one changes nothing, and the
     /// next one is taken. A payload that is longer than [`Engine::payload_room`](amqp_engine::Engine::payload_room) goes in parts, by a
-    /// head for each, as [`Driver::cut`] makes them: `NUMBERED` the first alone, and `MORE` all but the last. What goes out waits in
-    /// [`Driver::out`].
+    /// head for each, as [`Driver::cut`] makes them: `NUMBERED` the first alone, and `MORE` all but the last. Where a part with `MORE` is
+    /// refused, the later parts of its delivery in the call are refused as it was, unless that of another link breaks off between. What goes
+    /// out waits in [`Driver::out`].
     ///
     /// It stops where all were taken (`Done`), where all places of `sent` are written (`Full`), where the bytes end before those of the next
     /// transfer do (`Short`), or where memory was refused and the next transfer was not taken (`NoMemory`: some of what waited in the engine
@@ -131,6 +133,7 @@ impl<R: LinkRelay> Driver<R> {
         ensures { Sends R.gives self.old heads.now bytes.now sent.old result.status result.taken result.used self.new sent.new }
     {
         let mut copied = Copied::none();
+        let mut broken = None;
         let mut taken = 0;
         let mut used = 0;
         'heads: loop {
@@ -157,19 +160,22 @@ impl<R: LinkRelay> Driver<R> {
                 Ok(copied) => copied,
                 Err(_) => return posted(Status::NoMemory, taken, used),
             };
-            let Some(told) = self.send_one(&head, &copied, bytes, used) else {
+            let Some(told) = self.send_one(&head, broken, &copied, bytes, used) else {
                 return posted(Status::NoMemory, taken, used);
             };
+            broken = left_behind(broken, &head, told);
             sent[taken] = told;
             taken += 1;
             used += size;
         }
     }
 
-    /// Handles one transfer, whose bytes begin at this place. `None` where memory was refused and it was not taken.
+    /// Handles one transfer, whose bytes begin at this place, behind what the one before it left. `None` where memory was refused and it was
+    /// not taken.
     fn send_one(
         &mut self,
         head: &TransferHead,
+        broken: Option<Broken>,
         copied: &Copied,
         bytes: &[u8],
         at: usize,
@@ -177,8 +183,11 @@ impl<R: LinkRelay> Driver<R> {
         requires copy { Mirrors copied.now bytes.now }
         requires from { copied.now.start ≤ at }
         requires to { at + size_of head.now ≤ copied.now.end }
-        ensures { Handles R.gives self.old head.now (take (size_of head.now) (drop at bytes.now)) result self.new }
+        ensures { Handles R.gives self.old broken head.now (take (size_of head.now) (drop at bytes.now)) result self.new }
     {
+        if let Some(why) = refused_behind(broken, head) {
+            return Some(refused(why));
+        }
         if head.tag_size > 32 {
             return Some(refused(TAG_TOO_LONG));
         }
@@ -239,7 +248,8 @@ impl<R: LinkRelay> Driver<R> {
         transfer: Transfer,
         payload: Bytes,
     ) -> Asked
-        ensures { Requests R.gives self.old (given.Transfer (record { 0 = head.now.session }) input transfer payload (has head.now.flags 1)) result self.new }
+        ensures asked { Requests R.gives self.old (given.Transfer (record { 0 = head.now.session }) input transfer payload (has head.now.flags 1)) result self.new }
+        ensures memory { AskedWell result }
     {
         let answer = self.engine.run_transfer(
             SessionNo(head.session),

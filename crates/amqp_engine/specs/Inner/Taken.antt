@@ -9,8 +9,6 @@ use Rattle.amqp_frames.specs.declared.error.Error.{Error}
 use Rattle.amqp_frames.specs.declared.error.Error.TheVariants as unread
 use Rattle.amqp_frames.specs.declared.frame.Frame.{Frame}
 use Rattle.amqp_frames.specs.declared.frame.FrameBody.{FrameBody}
-use Rattle.amqp_frames.specs.declared.frame.FrameBody.TheVariants as body
-use Rattle.amqp_types.specs.Transfer.{TransferModel}
 use Rattle.amqp_engine.specs.declared.engine.step_error.StepError.{StepError}
 use Rattle.amqp_engine.specs.declared.engine.step_error.StepError.TheVariants as no
 use Rattle.amqp_engine.specs.EngineView.{EngineView}
@@ -28,16 +26,24 @@ BodyKept g v c b refusal w =
     (reached : Option ℕ) × (calls : List (session.SessionCall _)) × (m : EngineView _)
     × ReceivedFrame g v c b reached calls refusal m × (w ≡ kept (Some (record { channel = c; body = b })) reached refusal m)
 
--- a transfer is received so; or memory was refused for the record of its delivery, and nothing is done
-abbrev pub TriesTransfer : {R : Type 0} → Relays R → EngineView R → ℕ → TransferModel → List ℕ → Bool → Option StepError → EngineView R → Type 0
-TriesTransfer g v c t payload true refusal w = BodyStep g v c (body.Transfer t payload) refusal w
-TriesTransfer g v c t payload false refusal w = SomeRefused × (w ≡ v)
+-- a body is received so; or memory was refused for it, and nothing is done
+abbrev pub Tries : {R : Type 0} → Relays R → EngineView R → ℕ → FrameBody → Bool → Option StepError → EngineView R → Type 0
+Tries g v c b true refusal w = BodyStep g v c b refusal w
+Tries g v c b false refusal w = SomeRefused × (w ≡ v)
 
--- A body is received, and the answer is this. Or memory was refused, for the record of a transfer's delivery or for the copy of the error that
--- the body names, and nothing is done.
+-- nothing was done, since memory was refused for it
+abbrev pub NothingDone : {R : Type 0} → EngineView R → FrameBody → EngineView R → Type 0
+NothingDone v b w = IsTried b × SomeRefused × (w ≡ v)
+
+-- the refusal of this answer; where there is none, this one
+abbrev pub refusal_or : StepError → Option (Result (Unit {0}) StepError) → Option StepError
+refusal_or e None = Some e
+refusal_or e (Some answer) = refusal_of answer
+
+-- A body is received, and the answer is this. Or memory was refused for it, and nothing is done.
 abbrev pub TakesBody : {R : Type 0} → Relays R → EngineView R → ℕ → FrameBody → Option (Result (Unit {0}) StepError) → EngineView R → Type 0
 TakesBody g v c b (Some answer) w = BodyKept g v c b (refusal_of answer) w
-TakesBody g v c b None w = IsTried b × SomeRefused × (w ≡ v)
+TakesBody g v c b None w = NothingDone v b w
 
 abbrev pub TakesFrame : {R : Type 0} → Relays R → EngineView R → Frame → Option (Result (Unit {0}) StepError) → EngineView R → Type 0
 TakesFrame g v f answer w = TakesBody g v f.channel f.body answer w

@@ -1,25 +1,28 @@
 //! What a received performative does, once it is read: the connection takes Open and Close, and every other one goes along its channel's
 //! route to a session.
 
-ghost use Rattle.std.specs.Prelude.{◌≡◌, ◌∷◌, [], None};
+ghost use Rattle.std.specs.Prelude.{◌≡◌, ◌∷◌, [], true, false, Some, None, IfSome, IfNone};
 ghost use Rattle.amqp_connection.specs.Connection.{refusal_of};
 ghost use Rattle.amqp_frames.specs.declared.frame.FrameBody.TheVariants as body;
 ghost use Rattle.amqp_engine.specs.EngineView.{peer_limit};
 ghost use Rattle.amqp_engine.specs.Engine.{ReceivedCloseStep, moved, recorded};
 ghost use Rattle.amqp_engine.specs.ByHistory.{remote_reason};
-ghost use Rattle.amqp_engine.specs.Inner.Taken.{BodyKept, BodyStep, TriesTransfer};
+ghost use Rattle.amqp_engine.specs.Inner.Taken.{BodyKept, BodyStep, NothingDone, Tries, refusal_or};
+ghost use Rattle.amqp_engine.specs.declared.engine.step_error.StepError.TheVariants as no;
+ghost use Rattle.amqp_connection.specs.declared.error.ConnectionInnerError.TheVariants as routes;
+ghost use Rattle.amqp_session.specs.declared.error.SessionInnerError.TheVariants as Refused;
 ghost use Rattle.amqp_engine.specs.RunFrame.{OfRelay};
 
 use super::handle_state::{close_answer, end_answer};
 use super::peer_encoder::PeerEncoder;
 use super::sessions::{
     attach_received, begin_received, detach_received, disposition_received, end_received,
-    flow_received,
+    flow_received, flow_received_if_room,
 };
 use super::step_error::StepError;
 use super::{Engine, refused};
 use amqp_connection::{Connection, ConnectionInnerError, ConnectionStateError};
-use amqp_session::{ConnectionStopReason, IncomingChannel, LinkRelay, keys};
+use amqp_session::{ConnectionStopReason, IncomingChannel, LinkRelay, SessionInnerError, keys};
 use amqp_types::{
     Attach, Begin, Close, ConnectionState, Detach, Disposition, End, Error, Flow, Open, Transfer,
 };
@@ -68,6 +71,18 @@ fn take_close(
     answer
 }
 
+/// The answer to a Begin that has no route: none, where memory was refused for it.
+fn unrouted(error: ConnectionInnerError) -> Option<Result<(), StepError>>
+    ensures same { refusal_or (no.Connection routes.OutOfMemory) result ≡ Some (no.Connection error) }
+    ensures none { IfNone result (error ≡ routes.OutOfMemory) }
+    ensures some { IfSome result (λ a. ¬ (error ≡ routes.OutOfMemory)) }
+{
+    match error {
+        ConnectionInnerError::OutOfMemory => None,
+        other => Some(Err(StepError::Connection(other))),
+    }
+}
+
 impl<R: LinkRelay> Engine<R> {
     #[inline(always)]
     pub(super) fn on_transfer(
@@ -109,8 +124,8 @@ impl<R: LinkRelay> Engine<R> {
     ) -> bool
         requires idle { self.old.waiting ≡ [] }
         requires clear { refusal_of outcome.old ≡ None }
-        ensures tried { TriesTransfer R.gives self.old channel.0 transfer payload result (refusal_of outcome.new) self.new }
-        ensures memory { OfRelay R.gives.transfer_gives transfer payload (refusal_of outcome.new) }
+        ensures tried { Tries R.gives self.old channel.0 (body.Transfer transfer payload) result (refusal_of outcome.new) self.new }
+        ensures memory { OfRelay R.gives (body.Transfer transfer payload) (refusal_of outcome.new) }
     {
         let Some(number) = self.connection.session_tx_by_incoming_channel(channel) else {
             drop(transfer);
@@ -156,27 +171,59 @@ impl<R: LinkRelay> Engine<R> {
         flow_received(session, &mut self.waiting, flow, outcome);
     }
 
+    /// The same, and it was taken; or memory was refused for what it lets out, and nothing changes.
+    #[inline(always)]
+    pub(super) fn try_flow(
+        &mut self,
+        channel: IncomingChannel,
+        flow: Flow,
+        outcome: &mut Result<(), StepError>,
+    ) -> bool
+        requires idle { self.old.waiting ≡ [] }
+        requires clear { refusal_of outcome.old ≡ None }
+        ensures tried { Tries R.gives self.old channel.0 (body.Flow flow) result (refusal_of outcome.new) self.new }
+        ensures memory { result ≡ true → OfRelay R.gives (body.Flow flow) (refusal_of outcome.new) }
+    {
+        let Some(number) = self.connection.session_tx_by_incoming_channel(channel) else {
+            drop(flow);
+            refused::unrouted(outcome);
+            return true;
+        };
+        let hint = self.hints.of(number.0);
+        let Some(session) = keys::get_mut(&mut self.sessions, hint, &number.0) else {
+            drop(flow);
+            refused::no_session(outcome);
+            return true;
+        };
+        flow_received_if_room(session, &mut self.waiting, flow, outcome)
+    }
+
+    /// `false` where memory is refused for it before anything is done: then nothing changes, and the outcome says so.
     #[inline(always)]
     pub(super) fn on_disposition(
         &mut self,
         channel: IncomingChannel,
         disposition: Disposition,
         outcome: &mut Result<(), StepError>,
-    )
+    ) -> bool
         requires idle { self.old.waiting ≡ [] }
         requires clear { refusal_of outcome.old ≡ None }
-        ensures { BodyStep R.gives self.old channel.0 (body.Disposition disposition) (refusal_of outcome.new) self.new }
+        ensures received { BodyStep R.gives self.old channel.0 (body.Disposition disposition) (refusal_of outcome.new) self.new }
+        ensures not_done { result ≡ false → NothingDone self.old (body.Disposition disposition) self.new }
+        ensures memory { result ≡ true → OfRelay R.gives (body.Disposition disposition) (refusal_of outcome.new) }
     {
         let Some(number) = self.connection.session_tx_by_incoming_channel(channel) else {
             drop(disposition);
-            return refused::unrouted(outcome);
+            refused::unrouted(outcome);
+            return true;
         };
         let hint = self.hints.of(number.0);
         let Some(session) = keys::get_mut(&mut self.sessions, hint, &number.0) else {
             drop(disposition);
-            return refused::no_session(outcome);
+            refused::no_session(outcome);
+            return true;
         };
-        disposition_received(session, &mut self.waiting, disposition, outcome);
+        disposition_received(session, &mut self.waiting, disposition, outcome)
     }
 
     #[inline(always)]
@@ -188,14 +235,32 @@ impl<R: LinkRelay> Engine<R> {
         requires { self.old.waiting ≡ [] }
         ensures { BodyStep R.gives self.old channel.0 (body.Attach attach) (refusal_of result) self.new }
     {
+        match self.try_attach(channel, attach) {
+            Some(answer) => answer,
+            None => Err(StepError::Session(SessionInnerError::OutOfMemory)),
+        }
+    }
+
+    /// `None` where memory is refused for its place: then nothing changes, and it is to be refused `Session(OutOfMemory)`.
+    #[inline(always)]
+    pub(super) fn try_attach(
+        &mut self,
+        channel: IncomingChannel,
+        attach: Attach,
+    ) -> Option<Result<(), StepError>>
+        requires { self.old.waiting ≡ [] }
+        ensures received { BodyStep R.gives self.old channel.0 (body.Attach attach) (refusal_or (no.Session Refused.OutOfMemory) result) self.new }
+        ensures none { IfNone result (NothingDone self.old (body.Attach attach) self.new) }
+        ensures memory { IfSome result (λ a. OfRelay R.gives (body.Attach attach) (refusal_of a)) }
+    {
         let Some(number) = self.connection.session_tx_by_incoming_channel(channel) else {
             drop(attach);
-            return Err(StepError::Connection(ConnectionInnerError::NotFound(None)));
+            return Some(Err(StepError::Connection(ConnectionInnerError::NotFound(None))));
         };
         let hint = self.hints.of(number.0);
         let Some(session) = keys::get_mut(&mut self.sessions, hint, &number.0) else {
             drop(attach);
-            return Err(StepError::NoSession);
+            return Some(Err(StepError::NoSession));
         };
         attach_received(session, attach)
     }
@@ -231,13 +296,37 @@ impl<R: LinkRelay> Engine<R> {
         requires { self.old.waiting ≡ [] }
         ensures { BodyStep R.gives self.old channel.0 (body.Begin begin) (refusal_of result) self.new }
     {
-        let number = self.connection.route_begin(channel, begin.remote_channel)?;
+        match self.try_begin(channel, begin) {
+            Some(answer) => answer,
+            None => Err(StepError::Connection(ConnectionInnerError::OutOfMemory)),
+        }
+    }
+
+    /// `None` where memory is refused for its route: then nothing changes, and it is to be refused `Connection(OutOfMemory)`.
+    #[inline(always)]
+    pub(super) fn try_begin(
+        &mut self,
+        channel: IncomingChannel,
+        begin: Begin,
+    ) -> Option<Result<(), StepError>>
+        requires { self.old.waiting ≡ [] }
+        ensures received { BodyStep R.gives self.old channel.0 (body.Begin begin) (refusal_or (no.Connection routes.OutOfMemory) result) self.new }
+        ensures none { IfNone result (NothingDone self.old (body.Begin begin) self.new) }
+        ensures memory { IfSome result (λ a. OfRelay R.gives (body.Begin begin) (refusal_of a)) }
+    {
+        let number = match self.connection.route_begin(channel, begin.remote_channel) {
+            Ok(number) => number,
+            Err(error) => {
+                drop(begin);
+                return unrouted(error);
+            }
+        };
         let hint = self.hints.of(number.0);
         let Some(session) = keys::get_mut(&mut self.sessions, hint, &number.0) else {
             drop(begin);
-            return Err(StepError::NoSession);
+            return Some(Err(StepError::NoSession));
         };
-        begin_received(session, channel, begin)
+        Some(begin_received(session, channel, begin))
     }
 
     /// `copy` is that of the End's error, which is kept for handles.

@@ -113,7 +113,9 @@ impl<R: LinkRelay> Engine<R> {
     {
         let mut rest = fields;
         match Disposition::read_list(self.alloc, &mut rest) {
-            Ok(disposition) => self.on_disposition(channel, disposition, outcome),
+            Ok(disposition) => {
+                let _done = self.on_disposition(channel, disposition, outcome);
+            }
             Err(error) => refused::unread(outcome, error),
         }
     }

@@ -11,6 +11,7 @@ ghost use Rattle.amqp_engine.specs.Sessions.{BeginRequest, BegunStep, ReleaseReq
 ghost use Rattle.amqp_engine.specs.Engine.{OpenRequest, CloseRequest, CarriedStep};
 ghost use Rattle.amqp_engine.specs.ByHistory.{close_reason};
 
+use super::Engine;
 use super::input::Input;
 use super::output_queue::OutputQueue;
 use super::sessions::{
@@ -18,7 +19,6 @@ use super::sessions::{
     send_flow, settle, stop,
 };
 use super::step_error::StepError;
-use super::{Engine, refused};
 use amqp_connection::{ConnectionInnerError, SessionNo};
 use amqp_memory::more_in_map;
 use amqp_session::keys::KeyHash;
@@ -26,10 +26,7 @@ use amqp_session::{
     ConnectionStopReason, InputHandle, LinkFlow, LinkRelay, OutgoingChannel, Session, SessionFrame,
     SessionSettings, SessionStateError, SessionStopReason, keys,
 };
-use amqp_types::{
-    Attach, DeliveryNumber, Detach, Disposition, Error, Role, SessionState, Transfer,
-};
-use bytes::Bytes;
+use amqp_types::{Attach, DeliveryNumber, Detach, Disposition, Error, Role, SessionState};
 use std::alloc::Global;
 
 /// Why the connection stops with a Close of this side.
@@ -79,7 +76,14 @@ impl<R: LinkRelay> Engine<R> {
             }
             Input::Transfer(number, input, transfer, payload, is_first) => {
                 let mut outcome = Ok(());
-                self.request_transfer(number, input, transfer, payload, is_first, &mut outcome);
+                let _done = self.request_transfer(
+                    number,
+                    input,
+                    transfer,
+                    payload,
+                    is_first,
+                    &mut outcome,
+                );
                 outcome
             }
             other => self.dispatch_any(other),
@@ -113,7 +117,14 @@ impl<R: LinkRelay> Engine<R> {
             Input::Flow(number, flow) => self.request_flow(number, flow),
             Input::Transfer(number, input, transfer, payload, is_first) => {
                 let mut outcome = Ok(());
-                self.request_transfer(number, input, transfer, payload, is_first, &mut outcome);
+                let _done = self.request_transfer(
+                    number,
+                    input,
+                    transfer,
+                    payload,
+                    is_first,
+                    &mut outcome,
+                );
                 outcome
             }
             Input::Disposition(number, disposition) => self.request_disposition(
@@ -228,32 +239,6 @@ impl<R: LinkRelay> Engine<R> {
         };
         send_flow(session, &mut self.waiting, flow);
         Ok(())
-    }
-
-    #[inline(never)]
-    pub(super) fn request_transfer(
-        &mut self,
-        number: SessionNo,
-        input: InputHandle,
-        transfer: Transfer,
-        payload: Bytes,
-        is_first: bool,
-        outcome: &mut Result<(), StepError>,
-    )
-        requires idle { self.old.waiting ≡ [] }
-        requires clear { refusal_of outcome.old ≡ None }
-        ensures { CarriedStep R.gives self.old (given.Transfer number input transfer payload is_first) (refusal_of outcome.new) self.new }
-    {
-        let hint = self.hints.of(number.0);
-        let Some(session) = keys::get_mut(&mut self.sessions, hint, &number.0) else {
-            drop(transfer);
-            drop(payload);
-            return refused::no_session(outcome);
-        };
-        match session.on_outgoing_transfer(input, transfer, payload, is_first) {
-            Ok(item) => self.waiting.put_item(item),
-            Err(error) => refused::by_session(outcome, error),
-        }
     }
 
     #[inline(never)]

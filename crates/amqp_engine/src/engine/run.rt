@@ -129,7 +129,9 @@ impl<R: LinkRelay> Engine<R> {
     {
         match inputs.pop_front() {
             Some(Input::Transfer(number, input, transfer, payload, is_first)) => {
-                self.request_transfer(number, input, transfer, payload, is_first, outcome)
+                let _done = self.request_transfer(
+                    number, input, transfer, payload, is_first, outcome,
+                );
             }
             _ => unreachable!(),
         }

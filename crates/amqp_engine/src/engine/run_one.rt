@@ -1,9 +1,10 @@
 //! One input that is run alone.
 
-ghost use Rattle.std.specs.Prelude.{◌≡◌, ◌≤◌, ◌+◌, ◌⊎◌, [], length, vec_capacity};
+ghost use Rattle.std.specs.Prelude.{◌≡◌, ◌≤◌, ◌+◌, ◌⊎◌, [], length, vec_capacity, IfSome};
+ghost use Rattle.amqp_connection.specs.Connection.{refusal_of};
 ghost use Rattle.amqp_memory.specs.Refusal.{SomeRefused};
 ghost use Rattle.amqp_engine.specs.RunInto.{LacksRoom};
-ghost use Rattle.amqp_engine.specs.RunOne.{RunsOne};
+ghost use Rattle.amqp_engine.specs.RunOne.{LacksNoMemory, RunsOne, RunsTransfer};
 ghost use Rattle.amqp_engine.specs.declared.engine.input.Input.TheVariants as given;
 
 use super::Engine;
@@ -61,7 +62,8 @@ impl<R: LinkRelay> Engine<R> {
     }
 
     /// Runs one transfer that is to be sent, as [`Engine::run_one`] runs [`Input::Transfer`] of it: of the session, by the link that is attached
-    /// under the peer's handle, and the first one of its delivery or a later one.
+    /// under the peer's handle, and the first one of its delivery or a later one. `None` also where memory is refused for the transfer itself:
+    /// then it is not taken either, and no transfer is refused `Session(OutOfMemory)`.
     ///
     /// ```
     /// let answer = engine.run_transfer(session, input, transfer, payload, true, out, returned);
@@ -76,8 +78,9 @@ impl<R: LinkRelay> Engine<R> {
         out: &mut SendBuffer,
         returned: &mut Vec<Refusal>,
     ) -> Option<Result<(), StepError>>
-        ensures ran { RunsOne R.gives self.old (given.Transfer session input transfer payload is_first) result
+        ensures ran { RunsTransfer R.gives self.old (given.Transfer session input transfer payload is_first) result
             out.old.bytes returned.old.items self.new out.new.bytes returned.new.items }
+        ensures memory { IfSome result (λ a. LacksNoMemory (refusal_of a)) }
         ensures left { (self.new.waiting ≡ []) ⊎ (LacksRoom self.new out.new returned.new × SomeRefused) }
         ensures room { out.old.room + length out.old.bytes ≤ out.new.room + length out.new.bytes }
         ensures copied { out.new.copied ≡ out.old.copied }
@@ -92,7 +95,10 @@ impl<R: LinkRelay> Engine<R> {
             return None;
         };
         let mut outcome = Ok(());
-        self.request_transfer(session, input, transfer, payload, is_first, &mut outcome);
+        if !self.request_transfer(session, input, transfer, payload, is_first, &mut outcome) {
+            drop(outcome);
+            return None;
+        }
         // What is not sent now waits.
         let _ = self.send_out(Some(0), out, returned);
         Some(outcome)

@@ -19,8 +19,7 @@ use bytes::Bytes;
 impl<R: LinkRelay> Engine<R> {
     /// Runs a received Transfer, as [`Engine::run_frame`] runs its frame: of the head that
     /// [`FrameDecoder::head`](amqp_frames::FrameDecoder::head) read it has the channel, of the fields the transfer, and what is after them is
-    /// the payload (AMQP 1.0 part 2, section 2.7.5). Answers, and what is said of them, are those of `run_frame`: where the answer is that a session
-    /// lacks memory, its link's relay said so.
+    /// the payload (AMQP 1.0 part 2, section 2.7.5). Answers, and what is said of them, are those of `run_frame`.
     ///
     /// ```
     /// let transfer = Transfer::read_list(alloc, &mut fields)?;
@@ -37,7 +36,7 @@ impl<R: LinkRelay> Engine<R> {
         ensures ran { RunsFrame R.gives self.old (Ok (record { channel = channel.0; body = body.Transfer transfer payload })) result
             out.old.bytes returned.old.items self.new out.new.bytes returned.new.items }
         ensures answers { AnswersRead self.new (Ok (record { channel = channel.0; body = body.Transfer transfer payload })) result }
-        ensures memory { IfSome result (λ a. OfRelay R.gives.transfer_gives transfer payload (refusal_of a)) }
+        ensures memory { IfSome result (λ a. OfRelay R.gives (body.Transfer transfer payload) (refusal_of a)) }
         ensures left { (self.new.waiting ≡ []) ⊎ (LacksRoom self.new out.new returned.new × SomeRefused) }
         ensures room { out.old.room + length out.old.bytes ≤ out.new.room + length out.new.bytes }
         ensures copied { out.new.copied ≡ out.old.copied }
@@ -76,6 +75,7 @@ impl<R: LinkRelay> Engine<R> {
         ensures ran { RunsFrame R.gives self.old (Ok (record { channel = channel.0; body = body.Flow flow })) result
             out.old.bytes returned.old.items self.new out.new.bytes returned.new.items }
         ensures answers { AnswersRead self.new (Ok (record { channel = channel.0; body = body.Flow flow })) result }
+        ensures memory { IfSome result (λ a. OfRelay R.gives (body.Flow flow) (refusal_of a)) }
         ensures left { (self.new.waiting ≡ []) ⊎ (LacksRoom self.new out.new returned.new × SomeRefused) }
         ensures room { out.old.room + length out.old.bytes ≤ out.new.room + length out.new.bytes }
         ensures copied { out.new.copied ≡ out.old.copied }
@@ -89,7 +89,10 @@ impl<R: LinkRelay> Engine<R> {
             return None;
         };
         let mut outcome = Ok(());
-        self.on_flow(channel, flow, &mut outcome);
+        if !self.try_flow(channel, flow, &mut outcome) {
+            drop(outcome);
+            return None;
+        }
         // What is not sent now waits.
         let _ = self.send_out(Some(0), out, returned);
         Some(outcome)
@@ -110,6 +113,7 @@ impl<R: LinkRelay> Engine<R> {
         ensures ran { RunsFrame R.gives self.old (Ok (record { channel = channel.0; body = body.Disposition disposition })) result
             out.old.bytes returned.old.items self.new out.new.bytes returned.new.items }
         ensures answers { AnswersRead self.new (Ok (record { channel = channel.0; body = body.Disposition disposition })) result }
+        ensures memory { IfSome result (λ a. OfRelay R.gives (body.Disposition disposition) (refusal_of a)) }
         ensures left { (self.new.waiting ≡ []) ⊎ (LacksRoom self.new out.new returned.new × SomeRefused) }
         ensures room { out.old.room + length out.old.bytes ≤ out.new.room + length out.new.bytes }
         ensures copied { out.new.copied ≡ out.old.copied }
@@ -123,7 +127,10 @@ impl<R: LinkRelay> Engine<R> {
             return None;
         };
         let mut outcome = Ok(());
-        self.on_disposition(channel, disposition, &mut outcome);
+        if !self.on_disposition(channel, disposition, &mut outcome) {
+            drop(outcome);
+            return None;
+        }
         // What is not sent now waits.
         let _ = self.send_out(Some(0), out, returned);
         Some(outcome)

@@ -1,6 +1,12 @@
 //! What is asked of one session: by a request, or by a frame that reached it.
 
-ghost use Rattle.std.specs.Prelude.{◌≡◌, None, [], string_bytes};
+ghost use Rattle.std.specs.Prelude.{◌≡◌, None, [], true, false, string_bytes, IfSome, IfNone};
+ghost use Rattle.amqp_memory.specs.Refusal.{SomeRefused};
+ghost use Rattle.amqp_session.specs.declared.error.SessionInnerError.TheVariants as Refused;
+ghost use Rattle.amqp_frames.specs.declared.frame.FrameBody.TheVariants as body;
+ghost use Rattle.amqp_engine.specs.declared.engine.step_error.StepError.TheVariants as no;
+ghost use Rattle.amqp_engine.specs.RunFrame.{OfRelay};
+ghost use Rattle.amqp_engine.specs.Inner.Taken.{refusal_or};
 ghost use Rattle.amqp_engine.specs.Calls.{end_reason, remote_end_reason, ReceivedDispositionCalls};
 ghost use Rattle.amqp_engine.specs.Inner.Calls.{EndCalls, AllocateLinkCalls, AllocateIncomingCalls, AttachCalls, DetachCalls, ReceivedAttachCalls, ReceivedDetachCalls, FlowCalls, SettleCalls, StopCalls, ReceivedBeginCalls, ReceivedEndCalls, ReceivedFlowCalls, DispositionCalls};
 ghost use Rattle.amqp_types.specs.Disposition.{DispositionModel};
@@ -13,7 +19,7 @@ use super::refused;
 use super::step_error::StepError;
 use amqp_session::{
     IncomingChannel, InputHandle, LinkFlow, LinkRelay, Session, SessionFrame, SessionFrameBody,
-    SessionStopReason,
+    SessionInnerError, SessionStopReason,
 };
 use amqp_types::{
     Attach, Begin, DeliveryNumber, Detach, Disposition, End, Error, Flow, Role, SessionState,
@@ -187,14 +193,20 @@ pub(crate) fn end_received<R: LinkRelay>(
     Ok(())
 }
 
+/// The peer's attach. `None` where memory is refused for its place: nothing changes, and it is to be refused `Session(OutOfMemory)`.
 pub(crate) fn attach_received<R: LinkRelay>(
     session: &mut Session<R>,
     attach: Attach,
-) -> Result<(), StepError>
-    ensures { Answered R.gives session.old.view (ReceivedAttachCalls attach) (refusal_of result) [] session.new.view }
+) -> Option<Result<(), StepError>>
+    ensures answered { Answered R.gives session.old.view (ReceivedAttachCalls attach) (refusal_or (no.Session Refused.OutOfMemory) result) [] session.new.view }
+    ensures none { IfNone result ((session.new ≡ session.old) × SomeRefused) }
+    ensures memory { IfSome result (λ a. OfRelay R.gives (body.Attach attach) (refusal_of a)) }
 {
-    session.on_incoming_attach(attach)?;
-    Ok(())
+    match session.on_incoming_attach_if_room(attach) {
+        None => None,
+        Some(Ok(())) => Some(Ok(())),
+        Some(Err(error)) => Some(Err(StepError::from(error))),
+    }
 }
 
 /// The peer's detach. The detach by which the link's relay answers goes out, and no answer to it is awaited.
@@ -231,6 +243,27 @@ pub(crate) fn flow_received<R: LinkRelay>(
     }
 }
 
+/// The same, and it was taken; or memory was refused for what it lets out, and nothing changes.
+pub(crate) fn flow_received_if_room<R: LinkRelay>(
+    session: &mut Session<R>,
+    waiting: &mut OutputQueue,
+    flow: Flow,
+    outcome: &mut Result<(), StepError>,
+) -> bool
+    requires idle { waiting.old ≡ [] }
+    requires clear { refusal_of outcome.old ≡ None }
+    ensures done { result ≡ true → Answered R.gives session.old.view (ReceivedFlowCalls flow) (refusal_of outcome.new) waiting.new session.new.view }
+    ensures not_done { result ≡ false → (session.new ≡ session.old) × (waiting.new ≡ waiting.old) × SomeRefused }
+    ensures memory { result ≡ true → OfRelay R.gives (body.Flow flow) (refusal_of outcome.new) }
+{
+    match session.on_incoming_flow_if_room(flow) {
+        None => return false,
+        Some(Ok(item)) => waiting.put_item(item),
+        Some(Err(error)) => refused::by_session(outcome, error),
+    }
+    true
+}
+
 /// Sends each disposition, in order, on the session's channel. They wait as dispositions, and become frames as they are put out: that takes
 /// no memory.
 #[inline(never)]
@@ -261,24 +294,32 @@ fn disposition_in(frame: SessionFrame) -> Disposition
     }
 }
 
-/// The peer's disposition. What the relays answer goes out, one disposition for each run of deliveries.
+/// The peer's disposition. What the relays answer goes out, one disposition for each run of deliveries. `false` where memory is refused before
+/// any relay is asked: nothing changes, and it is refused `Session(OutOfMemory)`.
 #[inline(always)]
 pub(crate) fn disposition_received<R: LinkRelay>(
     session: &mut Session<R>,
     waiting: &mut OutputQueue,
     disposition: Disposition,
     outcome: &mut Result<(), StepError>,
-)
+) -> bool
     requires idle { waiting.old ≡ [] }
     requires clear { refusal_of outcome.old ≡ None }
-    ensures { Answered R.gives session.old.view (ReceivedDispositionCalls disposition) (refusal_of outcome.new) waiting.new session.new.view }
+    ensures answered { Answered R.gives session.old.view (ReceivedDispositionCalls disposition) (refusal_of outcome.new) waiting.new session.new.view }
+    ensures not_done { result ≡ false → (session.new ≡ session.old) × (waiting.new ≡ waiting.old) × (disposition.settled ≡ false) × SomeRefused }
+    ensures memory { result ≡ true → OfRelay R.gives (body.Disposition disposition) (refusal_of outcome.new) }
 {
-    match session.on_incoming_disposition(disposition) {
-        Ok(None) => {},
-        Ok(Some(echoes)) => {
+    match session.on_incoming_disposition_if_room(disposition) {
+        None => {
+            refused::by_session(outcome, SessionInnerError::OutOfMemory);
+            return false;
+        }
+        Some(Ok(None)) => {},
+        Some(Ok(Some(echoes))) => {
             let channel = session.outgoing_channel();
             waiting.put_dispositions(channel, send_each(session, echoes));
         }
-        Err(error) => refused::by_session(outcome, error),
+        Some(Err(error)) => refused::by_session(outcome, error),
     }
+    true
 }

@@ -1,14 +1,17 @@
 -- Part: inner.
 -- The order in which a walk goes over a table.
 use Rattle.std.specs.Prelude.{◌≡◌, ◌≤◌, ◌+◌, ◌-◌, ◌*◌, ◌^◌, ℕ, Bool, true, false, if◌then◌else◌, nat_lt, List, [], ◌∷◌, ◌++◌, take, drop}
-use Rattle.std.specs.Prelude.{length}
+use Rattle.std.specs.Prelude.{length, Option, Some, None, Result, Ok, Err}
+use Rattle.amqp_memory.specs.Refusal.{SomeRefused}
 use Rattle.amqp_types.specs.Disposition.{DispositionModel}
 use Rattle.amqp_session.specs.declared.deliveries.Delivery.{Delivery}
 use Rattle.amqp_session.specs.Relay.{DispositionQuestion}
 use Rattle.amqp_session.specs.declared.deliveries.WalkCount.{WalkCount}
 use Rattle.amqp_session.specs.Runs.{DeliveryRange, extended}
 use Rattle.amqp_session.specs.declared.session.range.SerialRange.{SerialRange}
-use Rattle.amqp_session.specs.Disposing.{is_meant, meant, span, agreed}
+use Rattle.amqp_session.specs.declared.error.SessionInnerError.{SessionInnerError}
+use Rattle.amqp_session.specs.declared.error.SessionInnerError.TheVariants as Refused
+use Rattle.amqp_session.specs.Disposing.{is_meant, meant, span, agreed, Echoes, SaysStateAgain}
 
 -- the range that a disposition names
 abbrev pub range_of : DispositionModel → SerialRange
@@ -40,8 +43,17 @@ noted settled asked = if settled then [] else agreed asked
 abbrev pub noted_by : Bool → Bool → ℕ → List DeliveryRange → List DeliveryRange
 noted_by settled answer n runs = if settled then runs else (if answer then extended n runs else runs)
 
--- how much of a table a walk for a disposition has read, where it went over the records, and where it did not
-pub record IsWalked (d : DispositionModel) (rows : List Delivery) (went : Bool) (walk : WalkCount) : Type 0 where
+-- how much of a table a walk for a disposition has read
+pub record IsWalked (d : DispositionModel) (rows : List Delivery) (walk : WalkCount) : Type 0 where
   pub turns : walk.turns ≤ length (meant d rows) + 1
-  pub each_read : went ≡ true → length (meant d rows) ≤ walk.turns
+  pub each_read : length (meant d rows) ≤ walk.turns
   pub comparisons : 2 ^ walk.comparisons ≤ 2 * length rows + 1
+
+-- What an unsettled disposition answers once the relays were asked: the echoes, or memory is refused for the state that an echo says again, and
+-- then a delivery of its role is open.
+abbrev pub AreAnswered : {R : Type 0} → DispositionModel → List Delivery → List (DispositionQuestion R) →
+    Result (Option (List DispositionModel)) SessionInnerError → Type 0
+AreAnswered d rows asked (Ok None) = ⊥
+AreAnswered d rows asked (Ok (Some echoes)) = Echoes d (agreed asked) echoes
+AreAnswered d rows asked (Err Refused.OutOfMemory) = SaysStateAgain d asked × ¬ (rows ≡ []) × SomeRefused
+AreAnswered d rows asked (Err e) = ⊥

@@ -1,10 +1,11 @@
 //! The calls of a session for its links: allotment, release, attach and detach.
 
-ghost use Rattle.std.specs.Prelude.{◌≡◌, ◌<◌, ◌^◌, Option, Some, None, IfOk, IfErr, OnOk, OnErr, if◌then◌else◌, is_some, option_map, string_bytes};
+ghost use Rattle.std.specs.Prelude.{◌≡◌, ◌<◌, ◌^◌, Option, Some, None, IfOk, IfErr, IfSome, IfNone, OnOk, OnErr, if◌then◌else◌, is_some, option_map, string_bytes};
 ghost use Rattle.std.specs.FinMap as map;
 ghost use Rattle.amqp_session.specs.Links.{put_at, attached_at};
 ghost use Rattle.amqp_session.specs.Linking.{named_at, link_at, name_at, output_at, input_handle_at, while_under, linked, IsFull, Releases, Leaves, Attaches, Detaches, awaits};
 ghost use Rattle.amqp_session.specs.Relay.{AttachQuestion, DetachQuestion};
+ghost use Rattle.amqp_session.specs.Room.{AttachLacks, LacksPlace, has_accepted};
 
 use super::handles::{self, HandleSlot};
 use super::leaving::Leaving;
@@ -198,30 +199,31 @@ impl<R: LinkRelay> Links<R> {
     }
 
     /// Asks the relay that waits under the name of an attach, and puts it under the input handle where it accepts. The relay that
-    /// stood there is left.
+    /// stood there is left. `None` where memory is refused for its place, and nothing changes.
     pub(crate) fn attach(
         &mut self,
         attach: Attach,
-    ) -> Leaving<Result<(), SessionInnerError>, Option<AttachedLink<R>>>
-        ensures step { (asked : Option (AttachQuestion R))
-            × Attaches R.gives.attach_gives self.old attach asked result.answer self.new }
-        ensures replaced { OnOk result.answer (result.left ≡ attached_at attach.handle self.old) }
-        ensures none { OnErr result.answer (result.left ≡ None) }
+    ) -> Leaving<Option<Result<(), SessionInnerError>>, Option<AttachedLink<R>>>
+        ensures none { IfNone result.answer ((self.new ≡ self.old) × LacksPlace self.old attach) }
+        ensures step { IfSome result.answer (λ r. (asked : Option (AttachQuestion R))
+            × Attaches R.gives.attach_gives self.old attach asked r self.new) }
+        ensures memory { IfSome result.answer (λ r. AttachLacks R.gives.attach_gives attach r) }
+        ensures left { result.left ≡ if has_accepted result.answer then attached_at attach.handle self.old else None }
     {
         if let Some(error) = names::refusal(&self.names, attach.name.as_str()) {
             drop(attach);
-            return Leaving::of(Err(error), None);
+            return Leaving::of(Some(Err(error)), None);
         }
         let input = InputHandle::from(attach.handle);
         let Ok(()) = inputs::make_place(&mut self.inputs, &self.hints, input) else {
             drop(attach);
-            return Leaving::of(Err(SessionInnerError::OutOfMemory), None);
+            return Leaving::of(None, None);
         };
         match names::attach(&mut self.names, attach, input) {
-            Err(error) => Leaving::of(Err(SessionInnerError::from(error)), None),
+            Err(error) => Leaving::of(Some(Err(SessionInnerError::from(error))), None),
             Ok(link) => {
                 let replaced = keys::put(&mut self.inputs, &mut self.hints, input.0, link);
-                Leaving::of(Ok(()), replaced)
+                Leaving::of(Some(Ok(())), replaced)
             }
         }
     }

@@ -6,6 +6,7 @@ ghost use Rattle.indexmap.specs.IndexMap.{spare, hasher_of};
 ghost use Rattle.amqp_session.specs.declared.link.AttachedLink.{AttachedLink};
 ghost use Rattle.amqp_session.specs.Links.{names_of};
 ghost use Rattle.amqp_session.specs.Linking.{AttachAsked, WaitAsked, IsWaited, AttachRefused};
+ghost use Rattle.amqp_session.specs.Room.{NotLacking};
 
 use super::{AttachedLink, LiveLink};
 use crate::error::{LinkRelayError, SessionInnerError};
@@ -58,6 +59,7 @@ pub(super) fn refusal<R: Drop>(
 ) -> Option<SessionInnerError>
     ensures none { IfNone result (IsWaited (map.get (names_of names.now.entries) name.now)) }
     ensures some { IfSome result (λ e. (old : Option (AttachedLink R)) → AttachRefused old (map.get (names_of names.now.entries) name.now) e) }
+    ensures memory { IfSome result NotLacking }
 {
     match names.get(name) {
         None => Some(SessionInnerError::RemoteAttachingLinkNameNotFound),

@@ -1,13 +1,15 @@
 //! Dispositions of a session's open deliveries (AMQP 1.0 part 2, sections 2.6.12 and 2.7.6).
 
-ghost use Rattle.std.specs.Prelude.{◌≡◌, ◌≤◌, ◌<◌, ◌+◌, ◌*◌, ◌^◌, ◌⊎◌, ℕ, List, [], Bool, true, false, Some, None, Result, if◌then◌else◌, length, map, take, OnOk, OnErr, IfOk, IsSome, IsTrue, ◌↔◌, vec_capacity};
+ghost use Rattle.std.specs.Prelude.{◌≡◌, ◌≤◌, ◌<◌, ◌+◌, ◌^◌, ℕ, List, [], Bool, true, false, Some, None, if◌then◌else◌, length, take, IfSome, IfNone, IfOk, OnErr, Ok, Err, IsTrue, ◌↔◌};
+ghost use Rattle.amqp_session.specs.declared.error.SessionInnerError.TheVariants as Refused;
 ghost use Rattle.std.specs.Option.{option_map};
 ghost use Rattle.std.specs.Result.{result_map_both};
 ghost use Rattle.amqp_memory.specs.Refusal.{SomeRefused};
 ghost use Rattle.amqp_session.specs.Deliveries.{AreCounts, nothing_read, read_more, risen, stepped, with_role};
 ghost use Rattle.amqp_session.specs.Relay.{DispositionQuestion};
-ghost use Rattle.amqp_session.specs.Inner.Walks.{IsSplit, IsWalked, range_of, turned};
-ghost use Rattle.amqp_session.specs.Disposing.{span, is_forward, num_messages, in_order, meant, not_meant, agreed, AsksEach, AreRuns, SaysStateAgain, Echoes, echo_of, rows_of, IsBounded, HasTerminal, TakeDispositionStep, SendDispositionStep};
+ghost use Rattle.amqp_session.specs.Inner.Walks.{AreAnswered, IsSplit, IsWalked, range_of, turned};
+ghost use Rattle.amqp_session.specs.Disposing.{span, num_messages, in_order, meant, not_meant, AsksEach, rows_of, IsBounded, HasTerminal, TakeDispositionStep, SendDispositionStep};
+ghost use Rattle.amqp_session.specs.Room.{LacksEchoes, RoomyDispositionStep};
 
 use super::Session;
 use super::range::SerialRange;
@@ -57,18 +59,42 @@ impl<R: LinkRelay> Session<R> {
         ensures bound { IsBounded disposition (rows_of disposition self.old.view) result self.new.last_walk }
         ensures reads { self.new.reads ≡ read_more disposition.role self.new.last_walk self.old.reads }
     {
-        self.last_walk = WalkCount::new();
+        match self.on_incoming_disposition_if_room(disposition) {
+            Some(answer) => answer,
+            None => {
+                self.last_walk = WalkCount::new();
+                // prover
+                let _sent = self.sent.reads();
+                let _received = self.received.reads();
+                Err(SessionInnerError::OutOfMemory)
+            }
+        }
+    }
+
+    /// [`Session::on_incoming_disposition`], but where memory is refused before any relay is asked: then the answer is `None`, and nothing has
+    /// changed, so that the disposition may come again. Else `OutOfMemory` is of the state of an echo alone.
+    #[inline(always)]
+    pub fn on_incoming_disposition_if_room(
+        &mut self,
+        disposition: Disposition,
+    ) -> Option<Result<Option<Vec<Disposition>>, SessionInnerError>>
+        ensures none { IfNone result ((self.new ≡ self.old) × LacksEchoes self.old.view disposition) }
+        ensures step { IfSome result (λ r. (asked : List (DispositionQuestion R))
+            × RoomyDispositionStep R.gives.disposition_gives self.old.view disposition asked
+            (result_map_both (option_map (λ v. v.items)) (λ e. e) r) self.new.view) }
+        ensures bound { IfSome result (λ r. IsBounded disposition (rows_of disposition self.old.view) r self.new.last_walk) }
+        ensures reads { IfSome result (λ r. self.new.reads ≡ read_more disposition.role self.new.last_walk self.old.reads) }
+    {
         let Some(range) = SerialRange::forward(disposition.first, disposition.last) else {
-            return Ok(self.nothing_meant(disposition.settled));
+            self.last_walk = WalkCount::new();
+            return Some(Ok(self.nothing_meant(disposition.settled)));
         };
         if disposition.settled {
+            self.last_walk = WalkCount::new();
             self.take_away(&disposition, range);
-            return Ok(None);
+            return Some(Ok(None));
         }
-        match self.ask(&disposition, range) {
-            Ok(echoes) => Ok(Some(echoes)),
-            Err(_) => Err(SessionInnerError::OutOfMemory),
-        }
+        self.ask(&disposition, range)
     }
 
     /// The frame of a disposition, in every state. A terminal state opens the remote outgoing window again by the messages that the
@@ -118,7 +144,7 @@ impl<R: LinkRelay> Session<R> {
           links = self.new.view.links;
           deliveries = with_role disposition.now.role (not_meant disposition.now (rows_of disposition.now self.old.view)) self.old.view.deliveries;
         } }
-        ensures walk { IsWalked disposition.now (rows_of disposition.now self.old.view) true self.new.last_walk }
+        ensures walk { IsWalked disposition.now (rows_of disposition.now self.old.view) self.new.last_walk }
         ensures reads { self.new.reads ≡ read_more disposition.now.role self.new.last_walk self.old.reads }
     {
         let (links, walk) = (&mut self.links, &mut self.last_walk);
@@ -135,30 +161,24 @@ impl<R: LinkRelay> Session<R> {
         }
     }
 
-    /// Asks the relays of an unsettled disposition over a forward range about the deliveries of its role.
+    /// Asks the relays of an unsettled disposition over a forward range about the deliveries of its role. `None` where memory is refused
+    /// before, and nothing changes.
     fn ask(
         &mut self,
         disposition: &Disposition,
         range: SerialRange,
-    ) -> Result<Vec<Disposition>, AllocError>
+    ) -> Option<Result<Option<Vec<Disposition>>, SessionInnerError>>
         requires range { range ≡ range_of disposition.now }
         requires settled { disposition.now.settled ≡ false }
         requires forward { span disposition.now.first disposition.now.last < 2 ^ 31 }
-        requires unread { self.old.last_walk ≡ nothing_read }
-        ensures asked { IfOk result (λ echoes. (asked : List (DispositionQuestion R))
+        ensures none { IfNone result ((self.new ≡ self.old) × ¬ (rows_of disposition.now self.old.view ≡ []) × SomeRefused) }
+        ensures asked { IfSome result (λ r. (asked : List (DispositionQuestion R))
             × AsksEach R.gives.disposition_gives disposition.now
             (meant disposition.now (rows_of disposition.now self.old.view)) asked self.old.view.links self.new.view.links
-            × Echoes disposition.now (agreed asked) echoes.items) }
-        ensures refused { OnErr result ((self.new.view.links ≡ self.old.view.links)
-            ⊎ ((asked : List (DispositionQuestion R)) × SaysStateAgain disposition.now asked
-            × AsksEach R.gives.disposition_gives disposition.now
-            (meant disposition.now (rows_of disposition.now self.old.view)) asked self.old.view.links self.new.view.links)) }
-        ensures some_open { OnErr result (¬ (rows_of disposition.now self.old.view ≡ [])) }
-        ensures memory { OnErr result SomeRefused }
+            × AreAnswered disposition.now (rows_of disposition.now self.old.view) asked (result_map_both (option_map (λ v. v.items)) (λ e. e) r)) }
         ensures view { self.new.view ≡ record self.old.view { links = self.new.view.links } }
-        ensures walk { (went : Bool) × (OnOk result (went ≡ true))
-            × IsWalked disposition.now (rows_of disposition.now self.old.view) went self.new.last_walk }
-        ensures reads { self.new.reads ≡ read_more disposition.now.role self.new.last_walk self.old.reads }
+        ensures walk { IfSome result (λ r. IsWalked disposition.now (rows_of disposition.now self.old.view) self.new.last_walk) }
+        ensures reads { IfSome result (λ r. self.new.reads ≡ read_more disposition.now.role self.new.last_walk self.old.reads) }
     {
         let (links, walk) = (&mut self.links, &mut self.last_walk);
         match disposition.role {
@@ -201,7 +221,7 @@ fn settle<R: LinkRelay>(
     ensures rows { rows.new.rows ≡ not_meant disposition.now rows.old.rows }
     ensures asked { (asked : List (DispositionQuestion R))
         × AsksEach R.gives.disposition_gives disposition.now (meant disposition.now rows.old.rows) asked links.old links.new }
-    ensures walk { IsWalked disposition.now rows.old.rows true walk.new }
+    ensures walk { IsWalked disposition.now rows.old.rows walk.new }
     ensures reads { rows.new.reads ≡ risen walk.new rows.old.reads }
 {
     let before = rows.reads();
@@ -263,8 +283,8 @@ fn tell_each<R: LinkRelay>(
     ask_each(links, rows, disposition, range, from, &mut no_echoes)
 }
 
-/// Asks the relays of an unsettled disposition over a forward range, and gives the echoes. Room for them is taken before: what
-/// may be refused after it is the state, where an echo says it again.
+/// Asks the relays of an unsettled disposition over a forward range, and gives the echoes. Room for them is taken before, or `None` is the
+/// answer and nothing changes: what may be refused after it is the state, where an echo says it again.
 fn ask<R: LinkRelay>(
     alloc: Global,
     links: &mut Links<R>,
@@ -272,28 +292,39 @@ fn ask<R: LinkRelay>(
     walk: &mut WalkCount,
     disposition: &Disposition,
     range: SerialRange,
-) -> Result<Vec<Disposition>, AllocError>
+) -> Option<Result<Option<Vec<Disposition>>, SessionInnerError>>
     requires range { range ≡ range_of disposition.now }
     requires settled { disposition.now.settled ≡ false }
     requires forward { span disposition.now.first disposition.now.last < 2 ^ 31 }
-    requires unread { walk.old ≡ nothing_read }
-    ensures asked { IfOk result (λ echoes. (asked : List (DispositionQuestion R))
+    ensures none { IfNone result ((links.new ≡ links.old) × (rows.new ≡ rows.old) × (walk.new ≡ walk.old) × ¬ (rows.old.rows ≡ []) × SomeRefused) }
+    ensures asked { IfSome result (λ r. (asked : List (DispositionQuestion R))
         × AsksEach R.gives.disposition_gives disposition.now (meant disposition.now rows.old.rows) asked links.old links.new
-        × Echoes disposition.now (agreed asked) echoes.items) }
-    ensures refused { OnErr result ((links.new ≡ links.old)
-        ⊎ ((asked : List (DispositionQuestion R)) × SaysStateAgain disposition.now asked
-        × AsksEach R.gives.disposition_gives disposition.now (meant disposition.now rows.old.rows) asked links.old links.new)) }
-    ensures some_open { OnErr result (¬ (rows.old.rows ≡ [])) }
-    ensures memory { OnErr result SomeRefused }
+        × AreAnswered disposition.now rows.old.rows asked (result_map_both (option_map (λ v. v.items)) (λ e. e) r)) }
     ensures rows { rows.new.rows ≡ rows.old.rows }
-    ensures walk { (went : Bool) × (OnOk result (went ≡ true)) × IsWalked disposition.now rows.old.rows went walk.new }
-    ensures reads { rows.new.reads ≡ risen walk.new rows.old.reads }
+    ensures walk { IfSome result (λ r. IsWalked disposition.now rows.old.rows walk.new) }
+    ensures reads { IfSome result (λ r. rows.new.reads ≡ risen walk.new rows.old.reads) }
 {
     let most = rows.len().min(range.most_runs());
-    let mut echoes = vector_with(alloc, most)?;
+    let Ok(room) = vector_with(alloc, most) else {
+        return None;
+    };
+    let mut echoes = room;
     let before = rows.reads();
     let from = rows.place_of(range.first);
     ask_each(links, rows, disposition, range, from, &mut echoes);
     *walk = rows.reads().since(before);
-    with_state(echoes, &disposition.state)
+    Some(answer_of(with_state(echoes, &disposition.state)))
+}
+
+/// What is answered by these echoes.
+fn answer_of(
+    echoes: Result<Vec<Disposition>, AllocError>,
+) -> Result<Option<Vec<Disposition>>, SessionInnerError>
+    ensures ok { IfOk echoes (λ v. result ≡ Ok (Some v)) }
+    ensures err { OnErr echoes (result ≡ Err Refused.OutOfMemory) }
+{
+    match echoes {
+        Ok(echoes) => Ok(Some(echoes)),
+        Err(_) => Err(SessionInnerError::OutOfMemory),
+    }
 }

@@ -1,8 +1,9 @@
 //! The calls of a session for its links (AMQP 1.0 part 2, section 2.6).
 
-ghost use Rattle.std.specs.Prelude.{◌≡◌, Option, option_map, string_bytes, OnOk, IfErr};
+ghost use Rattle.std.specs.Prelude.{◌≡◌, Option, option_map, string_bytes, OnOk, IfErr, IfSome, IfNone};
 ghost use Rattle.amqp_session.specs.Linking.{named_at, output_at, input_handle_at, has_ended, why_unallotted, MayAllot, AllotRefused, AllocateLinkStep, AllocateIncomingStep, DeallocateStep, TakeAttachStep, TakeDetachStep, SendAttachStep, SendDetachStep};
 ghost use Rattle.amqp_session.specs.Relay.{AttachQuestion, DetachQuestion};
+ghost use Rattle.amqp_session.specs.Room.{AttachLacks, LacksPlace};
 
 use super::Session;
 use crate::error::{AllocLinkError, SessionInnerError};
@@ -106,6 +107,25 @@ impl<R: LinkRelay> Session<R> {
     pub fn on_incoming_attach(&mut self, attach: Attach) -> Result<(), SessionInnerError>
         ensures step { (asked : Option (AttachQuestion R))
             × TakeAttachStep R.gives.attach_gives self.old.view attach asked result self.new.view }
+        ensures walk { self.new.last_walk ≡ self.old.last_walk }
+        ensures reads { self.new.reads ≡ self.old.reads }
+    {
+        match self.on_incoming_attach_if_room(attach) {
+            Some(answer) => answer,
+            None => Err(SessionInnerError::OutOfMemory),
+        }
+    }
+
+    /// [`Session::on_incoming_attach`], but where memory is refused for the place under the input handle: then the answer is `None`, and
+    /// nothing has changed, so that the attach may come again. Else `OutOfMemory` is an error of the relay alone.
+    pub fn on_incoming_attach_if_room(
+        &mut self,
+        attach: Attach,
+    ) -> Option<Result<(), SessionInnerError>>
+        ensures none { IfNone result ((self.new ≡ self.old) × LacksPlace self.old.view.links attach) }
+        ensures step { IfSome result (λ r. (asked : Option (AttachQuestion R))
+            × TakeAttachStep R.gives.attach_gives self.old.view attach asked r self.new.view) }
+        ensures memory { IfSome result (λ r. AttachLacks R.gives.attach_gives attach r) }
         ensures walk { self.new.last_walk ≡ self.old.last_walk }
         ensures reads { self.new.reads ≡ self.old.reads }
     {

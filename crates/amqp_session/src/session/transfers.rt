@@ -177,6 +177,15 @@ impl Sending {
         );
     }
 
+    /// How many transfers the window would let out that a received Flow gives.
+    pub(crate) fn ready_from(&self, base: u32, width: u32) -> usize
+        ensures value { result ≡ ready_count (moved self.now base width) }
+        ensures few { result < 2 ^ 32 }
+    {
+        let window = width.saturating_sub(self.next_outgoing_id.wrapping_sub(base));
+        self.held.len().min(window as usize)
+    }
+
     /// How many transfers the window lets out.
     pub(crate) fn ready(&self) -> usize
         ensures value { result ≡ ready_count self.now }

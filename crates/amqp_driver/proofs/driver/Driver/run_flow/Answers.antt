@@ -11,4 +11,4 @@ returns g c = subst (λ m. RunsRead g.R.LinkRelay.gives m (Ok (record { channel 
     (runs_read g.R.LinkRelay.gives c.self.inside.engine c.run_received_flow-answer.new.self c.self.inside.out.bytes c.run_received_flow-answer.new.out.bytes
     c.self.inside.returned.items c.run_received_flow-answer.new.returned.items c.self.inside.unfit c.counted-self-inside.result
     (Ok (record { channel = c.args.channel; body = body.Flow c.args.flow })) c.run_received_flow-answer.result _
-    c.self.invariant c.run_received_flow-answer.ensures.ran c.run_received_flow-answer.ensures.answers c.run_received_flow-answer.ensures.left c.counted-self-inside.ensures)
+    c.self.invariant c.run_received_flow-answer.ensures.ran c.run_received_flow-answer.ensures.answers c.run_received_flow-answer.ensures.left c.run_received_flow-answer.ensures.memory c.counted-self-inside.ensures)

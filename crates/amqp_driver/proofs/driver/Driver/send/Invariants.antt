@@ -1,11 +1,11 @@
 use Rattle.std.proofs.Common.{◌-◌, ◌≤◌, length}
 use Rattle.amqp_driver.specs.Driver.{Mirrors}
-use Rattle.amqp_driver.specs.Sending.{Posts}
+use Rattle.amqp_driver.specs.Sending.{PostsSo}
 use Rattle.amqp_driver.proofs.driver.Driver.send.Given as goal
 
 abbrev pub invariant-heads : goal.invariant-heads
 invariant-heads g l = record {
-  posts : Posts g.R.LinkRelay.gives l.fn.self l.heads l.bytes l.fn.sent l.taken l.used l.self l.sent;
+  posts : PostsSo g.R.LinkRelay.gives l.fn.self l.heads l.bytes l.fn.sent l.taken l.used l.self l.sent l.broken;
   copy : Mirrors l.copied l.bytes;
   from : l.copied.start ≤ l.used;
   within : l.taken ≤ length l.heads;

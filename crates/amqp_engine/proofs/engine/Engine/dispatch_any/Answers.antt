@@ -8,7 +8,7 @@ pub returns-in-Flow : goal.returns-in-Flow
 returns-in-Flow g c = rw c.in-Flow.is c.request_flow.ensures
 
 pub returns-in-Transfer : goal.returns-in-Transfer
-returns-in-Transfer g c = rw c.in-Transfer.is c.request_transfer.ensures
+returns-in-Transfer g c = rw c.in-Transfer.is c.request_transfer-done.ensures.carried
 
 pub returns-in-Stop : goal.returns-in-Stop
 returns-in-Stop g c = rw c.in-Stop.is c.request_stop.ensures

@@ -5,7 +5,7 @@ use Rattle.amqp_engine.proofs.engine.Engine.receive_disposition.Goals as goal
 
 pub returns-in-Ok : goal.returns-in-Ok
 returns-in-Ok g c =
-    was_read g.R.LinkRelay.gives disposition_fields c.args.self.now c.on_disposition.new.self c.args.channel.0 c.args.fields c.read_list.new.bytes c.in-Ok.disposition _ c.in-Ok.ensures c.on_disposition.ensures
+    was_read g.R.LinkRelay.gives disposition_fields c.args.self.now c.on_disposition-done.new.self c.args.channel.0 c.args.fields c.read_list.new.bytes c.in-Ok.disposition _ c.in-Ok.ensures c.on_disposition-done.ensures.received
 
 pub returns : goal.returns
 returns g c =

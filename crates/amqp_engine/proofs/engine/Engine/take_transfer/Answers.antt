@@ -3,11 +3,11 @@ use Rattle.amqp_frames.specs.declared.frame.FrameBody.TheVariants as body
 use Rattle.amqp_engine.proofs.FrameRunLemmas.{body_kept}
 use Rattle.amqp_engine.proofs.engine.Engine.take_transfer.Goals as goal
 
-pub returns-then-not-try_transfer : goal.returns-then-not-try_transfer
-returns-then-not-try_transfer g c =
+pub returns-then-not-try_transfer-clause-taken : goal.returns-then-not-try_transfer-clause-taken
+returns-then-not-try_transfer-clause-taken g c =
     let t = rw c.if-not-try_transfer.true at c.try_transfer.ensures.tried in (tt, t.0, t.1)
 
-pub returns : goal.returns
-returns g c =
+pub returns-clause-taken : goal.returns-clause-taken
+returns-clause-taken g c =
     body_kept g.R.LinkRelay.gives c.args.self.now c.try_transfer.new.self c.args.channel.0 (body.Transfer c.args.transfer c.args.payload)
     (refusal_of c.try_transfer.new.outcome) tt (rw c.if-not-try_transfer.false at c.try_transfer.ensures.tried)

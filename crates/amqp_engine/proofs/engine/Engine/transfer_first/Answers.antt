@@ -8,4 +8,4 @@ returns g c =
     let input = given.Transfer t.number t.input t.transfer t.payload t.is_first in
     let taken = rw t.is at c.pop_front.ensures.items in
     let popped = rw t.field-0-is at taken in
-    (input, popped, carried g.R.LinkRelay.gives _ _ input _ c.requires.idle c.request_transfer.ensures)
+    (input, popped, carried g.R.LinkRelay.gives _ _ input _ c.requires.idle c.request_transfer-done.ensures.carried)

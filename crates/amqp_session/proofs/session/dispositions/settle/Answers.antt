@@ -51,7 +51,7 @@ returns-clause-walk g c =
     let within : c.tell-count.result ≤ length c.args.rows.now.rows = subst (λ (rows : List Delivery). c.tell-count.result ≤ length rows) same e.within in
     let little = few p.cost.0 (length c.args.rows.now.rows) (omega (arith, p.few)) p.cost.2 in
     let is = since_is c.since.result c.args.rows.now c.place_of-from.new.self c.tell-count.new.rows c.reads.result c.reads-before.result p.cost.0 e.read.0 c.since.ensures p.cost.1 e.read.3 c.reads.ensures c.reads-before.ensures (omega (arith, e.read.1, within, p.few)) (omega (arith, little)) in
-    subst (λ (w : WalkCount). IsWalked c.args.disposition.now c.args.rows.now.rows true w) (sym is)
+    subst (λ (w : WalkCount). IsWalked c.args.disposition.now c.args.rows.now.rows w) (sym is)
     (walked c.args.disposition.now c.args.rows.now.rows c.place_of-from.result c.tell-count.result e.read.0 p.cost.0 p.within within order split e.read.1 e.read.2 p.cost.2)
 
 pub returns-clause-reads : goal.returns-clause-reads
