@@ -1,0 +1,2 @@
+mod HistoryLemmas
+mod DueLemmas

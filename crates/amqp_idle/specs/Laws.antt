@@ -1,6 +1,6 @@
 -- Part: the laws of a clock for idle time-outs.
 -- What holds of every history of a clock (AMQP 1.0 part 2, section 2.4.5).
-use Rattle.std.specs.Prelude.{ℕ, ◌+◌, ◌<◌, ◌≤◌, ◌≡◌, ⊤, max, Bool, true, false, List, [], ◌∷◌, ◌++◌, Option, Some, None, nat_le, if◌then◌else◌}
+use Rattle.std.specs.Prelude.{ℕ, ◌+◌, ◌<◌, ◌≤◌, ◌≡◌, ◌||◌, not, ⊤, max, Bool, true, false, List, [], ◌∷◌, ◌++◌, Option, Some, None, nat_le, if◌then◌else◌}
 use Rattle.amqp_idle.specs.declared.due.Due.{Due}
 use Rattle.amqp_idle.specs.declared.due.Due.TheVariants.{Nothing, Beat, OpeningLate, PeerSilent}
 use Rattle.amqp_idle.specs.declared.due.Tick.{Tick}
@@ -32,6 +32,11 @@ due_by start limit before now =
 -- each tick tells what is due by the calls before it
 abbrev pub TellsWhatIsDue : ℕ → Option ℕ → List IdleCall → Type 0
 TellsWhatIsDue start limit H = EachTick start H (λ before now answer. answer.due ≡ due_by start limit before now)
+
+-- an opening is taken where none was before, and the clock is not over
+abbrev pub OpensOnce : List IdleCall → Type 0
+OpensOnce H = (before after : List IdleCall) (t : ℕ) (ours peers : Option ℕ) (taken : Bool) →
+    H ≡ before ++ Opens t ours peers taken ∷ after → taken ≡ not (is_ended before || is_opened before)
 
 -- a time at which so long has passed since another one
 abbrev pub HasPassed : ℕ → Option ℕ → ℕ → Type 0

@@ -3,12 +3,13 @@
 ghost use Rattle.std.specs.Prelude.{ℕ, List, Option};
 ghost use Rattle.amqp_idle.specs.Idle.{IdleView};
 ghost use Rattle.amqp_idle.specs.History.{IdleCall, LeadsTo};
-ghost use Rattle.amqp_idle.specs.Laws.{TellsWhatIsDue, BeatsWhereIdle, BeatsInTime, SilentWhereIdle, SilentAtOnce, LateOpenings};
+ghost use Rattle.amqp_idle.specs.Laws.{OpensOnce, TellsWhatIsDue, BeatsWhereIdle, BeatsInTime, SilentWhereIdle, SilentAtOnce, LateOpenings};
 ghost use Rattle.amqp_idle.specs.Laws.{QuietAfterEnd, NextIsExact, AnswerIsExact};
 
-/// Each tick tells what is due by the calls before it, and nothing else.
+/// Each tick tells what is due by the calls before it, and nothing else. An opening is taken where none was before.
 pub fn law_of_ticks()
-    ensures { (start : ℕ) (limit : Option ℕ) (H : List IdleCall) (v : IdleView) → LeadsTo start limit H v → TellsWhatIsDue start limit H }
+    ensures opened { (start : ℕ) (limit : Option ℕ) (H : List IdleCall) (v : IdleView) → LeadsTo start limit H v → OpensOnce H }
+    ensures due { (start : ℕ) (limit : Option ℕ) (H : List IdleCall) (v : IdleView) → LeadsTo start limit H v → TellsWhatIsDue start limit H }
 {}
 
 /// A beat is told only where nothing was sent for at least half of the peer's time-out. And where each call comes no later than the tick that
