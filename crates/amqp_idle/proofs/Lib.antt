@@ -1,2 +1,3 @@
 mod HistoryLemmas
 mod DueLemmas
+mod NextLemmas

@@ -1,0 +1,14 @@
+use Rattle.amqp_idle.proofs.DueLemmas.{silent_where_idle, silent_at_once, late_openings, quiet_after_end}
+use Rattle.amqp_idle.proofs.laws.law_of_ends.Goals as goal
+
+pub returns-clause-silent : goal.returns-clause-silent
+returns-clause-silent c = silent_where_idle
+
+pub returns-clause-at_once : goal.returns-clause-at_once
+returns-clause-at_once c = silent_at_once
+
+pub returns-clause-late : goal.returns-clause-late
+returns-clause-late c = late_openings
+
+pub returns-clause-quiet : goal.returns-clause-quiet
+returns-clause-quiet c = quiet_after_end
