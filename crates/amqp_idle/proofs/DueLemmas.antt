@@ -1,14 +1,13 @@
 -- What each tick of a history tells, by the calls before it.
-use Rattle.std.proofs.Common.{◌≡◌, ℕ, ◌+◌, ◌<◌, ◌≤◌, ◌||◌, not, max, Bool, true, false, List, [], ◌∷◌, ◌++◌, Option, Some, None, nat_le, if◌then◌else◌, refl, sym, ap, ap₂, ◌∙◌, subst, arith, true≢false, le_trans}
+use Rattle.std.proofs.Common.{◌≡◌, ℕ, ◌≤◌, ◌||◌, not, max, Bool, true, false, List, [], ◌∷◌, ◌++◌, Option, Some, None, if◌then◌else◌, refl, sym, ap, ap₂, ◌∙◌, subst, arith, true≢false, le_trans}
 use Rattle.std.proofs.lemmas.Bool.Decides.{nat_tests}
 use Rattle.std.proofs.lemmas.Grind.{common_steps}
 use Rattle.amqp_idle.specs.declared.due.Due.{Due}
 use Rattle.amqp_idle.specs.declared.due.Due.TheVariants.{Nothing, Beat, OpeningLate, PeerSilent}
 use Rattle.amqp_idle.specs.declared.due.Tick.{Tick}
-use Rattle.amqp_idle.specs.declared.phase.Phase.{Phase}
 use Rattle.amqp_idle.specs.declared.phase.Phase.TheVariants.{Opening, Open, Over}
 use Rattle.amqp_idle.specs.Idle.{IdleView, halved, has_passed, due_in, due_at, next_of, next_in, is_opening, new_clock}
-use Rattle.amqp_idle.specs.History.{IdleCall, IdleStep, LeadsTo, time_after, time_of, last_by, sends, receives}
+use Rattle.amqp_idle.specs.History.{IdleCall, LeadsTo, time_after, time_of, last_by, sends, receives}
 use Rattle.amqp_idle.specs.History.{last_sent, last_received, is_opened, ours_of, peers_of, is_ended}
 use Rattle.amqp_idle.specs.History.{Opens, Sends, Receives, Ticks, AsksNext}
 use Rattle.amqp_idle.specs.Laws.{due_by, due_when_open, HasPassed, SinceEach, TellsWhatIsDue, OpensOnce, BeatsWhereIdle}
@@ -77,7 +76,7 @@ goes_on now (Ticks t answer) = omega arith
 goes_on now (AsksNext next) = omega arith
 
 -- what is found last lies before the time
-chosen : (b : Bool) (now last later : ℕ) → last ≤ now → now ≤ later → (if b then later else last) ≤ later
+pub chosen : (b : Bool) (now last later : ℕ) → last ≤ now → now ≤ later → (if b then later else last) ≤ later
 chosen true now last later p q = omega arith
 chosen false now last later p q = omega (arith, p, q)
 
@@ -93,16 +92,16 @@ last_at : (test : IdleCall → Bool) (now last : ℕ) (before rest : List IdleCa
     time_of now (before ++ c ∷ []) ≤ last_by test now last (before ++ c ∷ rest)
 last_at test now last [] rest c e p =
     subst (λ (b : Bool). time_after now c ≤ last_by test (time_after now c) (if b then time_after now c else last) rest) (sym e)
-      (last_grows test (time_after now c) (time_after now c) rest (omega arith))
+    (last_grows test (time_after now c) (time_after now c) rest (omega arith))
 last_at test now last (x ∷ before) rest c e p =
     last_at test (time_after now x) (if test x then time_after now x else last) before rest c e
-      (chosen (test x) now last (time_after now x) p (goes_on now x))
+    (chosen (test x) now last (time_after now x) p (goes_on now x))
 
 since_each : (test : IdleCall → Bool) (start : ℕ) (H : List IdleCall) (span : Option ℕ) (now : ℕ) →
     HasPassed (last_by test start start H) span now → SinceEach test start H span now
 since_each test start H span now h before rest c e found =
     earlier_since (time_of start (before ++ c ∷ [])) (last_by test start start H) span now
-      (subst (λ xs. time_of start (before ++ c ∷ []) ≤ last_by test start start xs) (sym e) (last_at test start start before rest c found (omega arith))) h
+    (subst (λ xs. time_of start (before ++ c ∷ []) ≤ last_by test start start xs) (sym e) (last_at test start start before rest c found (omega arith))) h
 
 -- ---- what follows
 
@@ -154,14 +153,14 @@ pub beats_where_idle : (start : ℕ) (limit : Option ℕ) (H : List IdleCall) (v
 beats_where_idle start limit H v h before rest t answer e beat =
     let now = max (time_of start before) t in
     let p = by_tests (λ e o s b l. told e o s b l ≡ Beat → (o ≡ true) × (b ≡ true)) when_beat start limit before now
-              (sym (tells start limit H v h before rest t answer e) ∙ beat) in
+    (sym (tells start limit H v h before rest t answer e) ∙ beat) in
     (p.0, since_each sends start before (halved (peers_of before)) now (passed (last_sent start before) (halved (peers_of before)) now p.1))
 
 pub silent_where_idle : (start : ℕ) (limit : Option ℕ) (H : List IdleCall) (v : IdleView) → LeadsTo start limit H v → SilentWhereIdle start H
 silent_where_idle start limit H v h before rest t answer e silent =
     let now = max (time_of start before) t in
     let p = by_tests (λ e o s b l. told e o s b l ≡ PeerSilent → (o ≡ true) × (s ≡ true)) when_silent start limit before now
-              (sym (tells start limit H v h before rest t answer e) ∙ silent) in
+    (sym (tells start limit H v h before rest t answer e) ∙ silent) in
     (p.0, since_each receives start before (ours_of before) now (passed (last_received start before) (ours_of before) now p.1))
 
 pub silent_at_once : (start : ℕ) (limit : Option ℕ) (H : List IdleCall) (v : IdleView) → LeadsTo start limit H v → SilentAtOnce start H
@@ -169,16 +168,17 @@ silent_at_once start limit H v h before rest t answer e over opened long =
     let now = max (time_of start before) t in
     tells start limit H v h before rest t answer e
     ∙ by_tests (λ e o s b l. e ≡ false → o ≡ true → s ≡ true → told e o s b l ≡ PeerSilent) silent_then start limit before now over opened
-        (has_passed_by (last_received start before) (ours_of before) now long)
+    (has_passed_by (last_received start before) (ours_of before) now long)
 
 pub late_openings : (start : ℕ) (limit : Option ℕ) (H : List IdleCall) (v : IdleView) → LeadsTo start limit H v → LateOpenings start limit H
 late_openings start limit H v h before rest t answer e =
     let now = max (time_of start before) t in
-    let due = tells start limit H v h before rest t answer e in
-    (λ late. let p = by_tests (λ e o s b l. told e o s b l ≡ OpeningLate → (o ≡ false) × (l ≡ true)) when_late start limit before now (sym due ∙ late) in
-             (p.0, passed start limit now p.1),
-     λ over opened long. due ∙ by_tests (λ e o s b l. e ≡ false → o ≡ false → l ≡ true → told e o s b l ≡ OpeningLate) late_then start limit before now
-                              over opened (has_passed_by start limit now long))
+    let due = tells start limit H v h before rest t answer e in (
+      λ late. let p = by_tests (λ e o s b l. told e o s b l ≡ OpeningLate → (o ≡ false) × (l ≡ true)) when_late start limit before now (sym due ∙ late) in
+          (p.0, passed start limit now p.1),
+      λ over opened long. due ∙ by_tests (λ e o s b l. e ≡ false → o ≡ false → l ≡ true → told e o s b l ≡ OpeningLate) late_then start limit before now
+          over opened (has_passed_by start limit now long),
+    )
 
 over_by : (start : ℕ) (limit : Option ℕ) (H : List IdleCall) → is_ended H ≡ true → phase_by start limit H ≡ Over
 over_by start limit H e = ap (λ x. if x then Over else (if is_opened H then Open (ours_of H) (halved (peers_of H)) else Opening start limit)) e
@@ -191,14 +191,17 @@ quiet_after_end start limit H v h before rest over = (of_tick, of_question)
   where
     is_over : (c : IdleCall) (s : Split (new_clock start limit) before c rest v) → s.at.phase ≡ Over
     is_over c s = (stands start limit before s.at s.reached).phase_is ∙ over_by start limit before over
+
     of_tick : (t : ℕ) (answer : Tick) → H ≡ before ++ Ticks t answer ∷ rest → (answer.due ≡ Nothing) × (answer.next ≡ None)
     of_tick t answer e =
         let s = split_of start limit H before rest (Ticks t answer) v h e in
-        let now = max (time_of start before) t in
-        (tells start limit H v h before rest t answer e
-         ∙ by_tests (λ e o s b l. e ≡ true → told e o s b l ≡ Nothing) over_then start limit before now over,
-         ap (λ (x : Tick). x.next) s.step.1.0
-         ∙ none_next s.next (step_phase s.at s.next (Ticks t answer) s.step ∙ over_step s.at s.next (Ticks t answer) (is_over (Ticks t answer) s) s.step))
+        let now = max (time_of start before) t in (
+          tells start limit H v h before rest t answer e
+              ∙ by_tests (λ e o s b l. e ≡ true → told e o s b l ≡ Nothing) over_then start limit before now over,
+          ap (λ (x : Tick). x.next) s.step.1.0
+              ∙ none_next s.next (step_phase s.at s.next (Ticks t answer) s.step ∙ over_step s.at s.next (Ticks t answer) (is_over (Ticks t answer) s) s.step),
+        )
+
     of_question : (next : Option ℕ) → H ≡ before ++ AsksNext next ∷ rest → next ≡ None
     of_question next e =
         let s = split_of start limit H before rest (AsksNext next) v h e in

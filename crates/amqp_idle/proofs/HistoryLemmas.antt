@@ -1,11 +1,11 @@
 -- What a history says of the view that it leads to.
-use Rattle.std.proofs.Common.{◌≡◌, ℕ, ◌^◌, ◌<◌, ◌||◌, max, Bool, true, false, List, [], ◌∷◌, ◌++◌, Option, Some, None, if◌then◌else◌, refl, sym, ap, ap₂, ◌∙◌, subst, arith}
+use Rattle.std.proofs.Common.{◌≡◌, ℕ, ◌||◌, max, Bool, true, false, List, [], ◌∷◌, ◌++◌, Option, if◌then◌else◌, refl, sym, ap, ap₂, ◌∙◌, subst}
 use Rattle.amqp_idle.specs.declared.due.Due.{Due}
 use Rattle.amqp_idle.specs.declared.due.Due.TheVariants.{Nothing, Beat, OpeningLate, PeerSilent}
 use Rattle.amqp_idle.specs.declared.due.Tick.{Tick}
 use Rattle.amqp_idle.specs.declared.phase.Phase.{Phase}
 use Rattle.amqp_idle.specs.declared.phase.Phase.TheVariants.{Opening, Open, Over}
-use Rattle.amqp_idle.specs.Idle.{IdleView, lasting, halved, due_at, next_of, is_opening, new_clock, sent_at, received_at, opened_at, having_told, ticked}
+use Rattle.amqp_idle.specs.Idle.{IdleView, lasting, halved, due_at, is_opening, new_clock, sent_at, received_at, opened_at, having_told, ticked}
 use Rattle.amqp_idle.specs.History.{IdleCall, IdleStep, IdleChain, LeadsTo, time_after, time_of, last_by, sends, receives, is_beat, ends}
 use Rattle.amqp_idle.specs.History.{last_sent, last_received, is_opened, ours_of, peers_of, is_ended}
 use Rattle.amqp_idle.specs.History.{Opens, Sends, Receives, Ticks, AsksNext}
@@ -79,6 +79,7 @@ step_sent v m c h = ap (λ (x : IdleView). x.sent) (after_is v m c h) ∙ by c h
     opens_sent : (taken : Bool) (n : ℕ) → (if taken then n else v.sent) ≡ (if taken then (if taken then n else v.seen) else v.sent)
     opens_sent true n = refl
     opens_sent false n = refl
+
     by : (c : IdleCall) → IdleStep v c m → (after v c).sent ≡ (if sends c then time_after v.seen c else v.sent)
     by (Opens t ours peers taken) h =
         opened_by (λ (x : IdleView). x.sent) taken (is_opening v.phase) v (opened_at v.seen ours peers t) h.1.0 ∙ opens_sent taken (max v.seen t)
@@ -94,6 +95,7 @@ step_received v m c h = ap (λ (x : IdleView). x.received) (after_is v m c h) �
     opens_received : (taken : Bool) (n : ℕ) → (if taken then n else v.received) ≡ (if taken then (if taken then n else v.seen) else v.received)
     opens_received true n = refl
     opens_received false n = refl
+
     by : (c : IdleCall) → IdleStep v c m → (after v c).received ≡ (if receives c then time_after v.seen c else v.received)
     by (Opens t ours peers taken) h =
         opened_by (λ (x : IdleView). x.received) taken (is_opening v.phase) v (opened_at v.seen ours peers t) h.1.0
@@ -165,6 +167,7 @@ open_call v m w c cs s b p step rest goes_on = by c step
     after_tick Beat e = goes_on (e ∙ p)
     after_tick OpeningLate e = over_chain m w cs e rest
     after_tick PeerSilent e = over_chain m w cs e rest
+
     by : (c : IdleCall) → IdleStep v c m → w.phase ≡ (if is_ended (c ∷ cs) then Over else Open s b)
     by (Opens t ours peers taken) h =
         goes_on (step_phase v m (Opens t ours peers taken) h ∙ refused _ taken v.phase _ h.1.0 (ap is_opening p) ∙ p)
@@ -190,16 +193,19 @@ opening_call v m w c cs start limit p step rest goes_on = by c step
   where
     open_now : Phase
     open_now = if is_opened cs then Open (ours_of cs) (halved (peers_of cs)) else Opening start limit
+
     after_tick : (d : Due) → m.phase ≡ (if ends d then Over else v.phase) → w.phase ≡ (if (ends d || is_ended cs) then Over else open_now)
     after_tick Nothing e = goes_on (e ∙ p)
     after_tick Beat e = goes_on (e ∙ p)
     after_tick OpeningLate e = over_chain m w cs e rest
     after_tick PeerSilent e = over_chain m w cs e rest
+
     after_open : (t : ℕ) (ours peers : Option ℕ) (taken : Bool) →
         m.phase ≡ (if taken then Open (lasting ours) (halved (lasting peers)) else v.phase) →
         w.phase ≡ phase_by start limit (Opens t ours peers taken ∷ cs)
     after_open t ours peers true e = open_chain m w cs (lasting ours) (halved (lasting peers)) e rest
     after_open t ours peers false e = goes_on (e ∙ p)
+
     by : (c : IdleCall) → IdleStep v c m → w.phase ≡ phase_by start limit (c ∷ cs)
     by (Opens t ours peers taken) h = after_open t ours peers taken (step_phase v m (Opens t ours peers taken) h)
     by (Sends t) h = goes_on (step_phase v m (Sends t) h ∙ p)

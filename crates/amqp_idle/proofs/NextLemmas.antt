@@ -1,17 +1,16 @@
 -- When something is due next.
-use Rattle.std.proofs.Common.{◌≡◌, ℕ, zero, suc, ◌+◌, ◌/◌, ◌^◌, ◌<◌, ◌≤◌, ◌||◌, min, max, Bool, true, false, List, [], ◌∷◌, ◌++◌, Option, Some, None, nat_le, nat_lt, if◌then◌else◌, refl, sym, ap, ap₂, ◌∙◌, subst, subst₂, arith, true≢false}
+use Rattle.std.proofs.Common.{◌≡◌, ℕ, ◌+◌, ◌^◌, ◌<◌, ◌||◌, min, max, Bool, true, false, List, [], ◌∷◌, Option, Some, None, nat_le, nat_lt, if◌then◌else◌, refl, sym, ap, ap₂, ◌∙◌, subst, subst₂, arith}
 use Rattle.std.proofs.lemmas.Bool.Decides.{nat_tests}
 use Rattle.std.proofs.lemmas.Grind.{common_steps}
-use Rattle.amqp_idle.specs.declared.due.Due.{Due}
 use Rattle.amqp_idle.specs.declared.due.Due.TheVariants.{Nothing, Beat, OpeningLate, PeerSilent}
 use Rattle.amqp_idle.specs.declared.due.Tick.{Tick}
 use Rattle.amqp_idle.specs.declared.phase.Phase.{Phase}
 use Rattle.amqp_idle.specs.declared.phase.Phase.TheVariants.{Opening, Open, Over}
-use Rattle.amqp_idle.specs.Idle.{IdleView, lasting, halved, has_passed, later_by, earlier, due_in, due_at, next_in, next_of, new_clock, having_told, ticked}
-use Rattle.amqp_idle.specs.History.{IdleCall, IdleStep, IdleChain, LeadsTo, time_after, time_of}
+use Rattle.amqp_idle.specs.Idle.{IdleView, halved, has_passed, later_by, earlier, due_in, due_at, next_in, next_of, new_clock, having_told}
+use Rattle.amqp_idle.specs.History.{IdleCall, IdleStep, IdleChain, LeadsTo, time_after}
 use Rattle.amqp_idle.specs.History.{is_opened, ours_of, peers_of, is_ended, Opens, Sends, Receives, Ticks, AsksNext}
 use Rattle.amqp_idle.specs.Laws.{is_told, has_come, IsAfter, NextIsExact, AnswerIsExact}
-use Rattle.amqp_idle.proofs.HistoryLemmas.{Stands, stands, Split, split, split_of, after_is, due_is, phase_by, step_seen, chain_seen}
+use Rattle.amqp_idle.proofs.HistoryLemmas.{stands, split_of, due_is, phase_by, step_seen}
 
 -- ---- something is due from the next time on
 
@@ -106,12 +105,13 @@ to_come None now h = tt
 to_come (Some n) now h = grind (arith, nat_tests, common_steps)
 
 -- the time of a call within 64 bits
-in_bits : (v m : IdleView) (c : IdleCall) → IdleStep v c m → v.seen < 2 ^ 64 → m.seen < 2 ^ 64
+pub in_bits : (v m : IdleView) (c : IdleCall) → IdleStep v c m → v.seen < 2 ^ 64 → m.seen < 2 ^ 64
 in_bits v m c h f = subst (λ n. n < 2 ^ 64) (sym (step_seen v m c h)) (by c h)
   where
     opens_in : (taken : Bool) (t : ℕ) → t < 2 ^ 64 → (if taken then max v.seen t else v.seen) < 2 ^ 64
     opens_in true t g = omega (arith, f, g)
     opens_in false t g = f
+
     by : (c : IdleCall) → IdleStep v c m → time_after v.seen c < 2 ^ 64
     by (Opens t ours peers taken) h = opens_in taken t h.0
     by (Sends t) h = omega (arith, f, h.0)
@@ -123,7 +123,7 @@ pub chain_in_bits : (v w : IdleView) (cs : List IdleCall) → IdleChain v cs w �
 chain_in_bits v w [] h f = subst (λ (x : IdleView). x.seen < 2 ^ 64) (sym h) f
 chain_in_bits v w (c ∷ cs) h f = chain_in_bits h.0 w cs h.2 (in_bits v h.0 c h.1 f)
 
-next_answered : (v m : IdleView) (t : ℕ) (answer : Tick) → IdleStep v (Ticks t answer) m → answer.next ≡ next_of m
+pub next_answered : (v m : IdleView) (t : ℕ) (answer : Tick) → IdleStep v (Ticks t answer) m → answer.next ≡ next_of m
 next_answered v m t answer h = ap (λ (x : Tick). x.next) h.1.0
 
 tick_in_bits : (seen t : ℕ) → seen < 2 ^ 64 → t < 2 ^ 64 → max seen t < 2 ^ 64
@@ -167,22 +167,25 @@ next_is_exact start limit H v h before rest t answer e =
     let f = chain_in_bits (new_clock start limit) s.at before s.reached h.0 in
     let a = is_after s.at s.next t answer s.step f (subst BeatTakesTime (sym k.phase_is) (beat_takes start limit before)) in
     let seen = step_seen s.at s.next (Ticks t answer) s.step in
-    let said = next_answered s.at s.next t answer s.step in
-    (subst (λ n. IsAfter answer.next (max n t)) k.seen_is a,
-     λ more u told e2.
-        let g = first_of_chain s.next v (Ticks u told) rest more s.onward e2 in
-        let b = subst₂ IsAfter said (sym seen) a in
-        (told_as_said s.next g.0 u told g.1 (in_bits s.at s.next (Ticks t answer) s.step f)
-         ∙ come_after (next_of s.next) s.next.seen u b
-         ∙ ap (λ n. has_come n u) (sym said),
-         λ nothing. said_again s.next g.0 u told g.1 nothing ∙ sym said))
+    let said = next_answered s.at s.next t answer s.step in (
+      subst (λ n. IsAfter answer.next (max n t)) k.seen_is a,
+      λ more u told e2.
+          let g = first_of_chain s.next v (Ticks u told) rest more s.onward e2 in
+          let b = subst₂ IsAfter said (sym seen) a in (
+            told_as_said s.next g.0 u told g.1 (in_bits s.at s.next (Ticks t answer) s.step f)
+                ∙ come_after (next_of s.next) s.next.seen u b
+                ∙ ap (λ n. has_come n u) (sym said),
+            λ nothing. said_again s.next g.0 u told g.1 nothing ∙ sym said,
+          ),
+    )
 
 pub answer_is_exact : (start : ℕ) (limit : Option ℕ) (H : List IdleCall) (v : IdleView) → LeadsTo start limit H v → AnswerIsExact start H
 answer_is_exact start limit H v h before rest next u told e =
     let s = split_of start limit H before (Ticks u told ∷ rest) (AsksNext next) v h e in
     let k = stands start limit before s.at s.reached in
     let f = chain_in_bits (new_clock start limit) s.at before s.reached h.0 in
-    let step = subst (λ x. IdleStep x (Ticks u told) s.onward.0) s.step.1 s.onward.1 in
-    (told_as_said s.at s.onward.0 u told step f
-     ∙ ap₂ (λ n seen. has_come n (max seen u)) (sym s.step.0) k.seen_is,
-     λ nothing. said_again s.at s.onward.0 u told step nothing ∙ sym s.step.0)
+    let step = subst (λ x. IdleStep x (Ticks u told) s.onward.0) s.step.1 s.onward.1 in (
+      told_as_said s.at s.onward.0 u told step f
+          ∙ ap₂ (λ n seen. has_come n (max seen u)) (sym s.step.0) k.seen_is,
+      λ nothing. said_again s.at s.onward.0 u told step nothing ∙ sym s.step.0,
+    )

@@ -1,6 +1,6 @@
 -- Part: the laws of a clock for idle time-outs.
 -- The history of one clock: its calls with their times and answers, the oldest first, and what they say.
-use Rattle.std.specs.Prelude.{ℕ, ◌^◌, ◌<◌, ◌≡◌, ◌||◌, max, Bool, true, false, List, [], ◌∷◌, ◌++◌, Option, Some, None, if◌then◌else◌}
+use Rattle.std.specs.Prelude.{ℕ, ◌^◌, ◌<◌, ◌≡◌, ◌||◌, max, Bool, true, false, List, [], ◌∷◌, Option, None, if◌then◌else◌}
 use Rattle.amqp_idle.specs.declared.due.Due.{Due}
 use Rattle.amqp_idle.specs.declared.due.Due.TheVariants.{Nothing, Beat, OpeningLate, PeerSilent}
 use Rattle.amqp_idle.specs.declared.due.Tick.{Tick}

@@ -128,7 +128,7 @@ abbrev pub NextIsExact : ℕ → List IdleCall → Type 0
 NextIsExact start H = (before after : List IdleCall) (t : ℕ) (answer : Tick) → H ≡ before ++ Ticks t answer ∷ after →
     IsAfter answer.next (max (time_of start before) t)
     × ((rest : List IdleCall) (u : ℕ) (told : Tick) → after ≡ Ticks u told ∷ rest →
-        (is_told told.due ≡ has_come answer.next u) × (told.due ≡ Nothing → told.next ≡ answer.next))
+    (is_told told.due ≡ has_come answer.next u) × (told.due ≡ Nothing → told.next ≡ answer.next))
 
 -- The same of what is answered to a question, where that time may have come already.
 abbrev pub AnswerIsExact : ℕ → List IdleCall → Type 0

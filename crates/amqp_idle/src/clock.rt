@@ -98,7 +98,10 @@ impl IdleClock {
             Due::Beat => self.sent = self.seen,
             Due::OpeningLate | Due::PeerSilent => self.phase = Phase::Over,
         }
-        Tick { due, next: self.next() }
+        Tick {
+            due,
+            next: self.next(),
+        }
     }
 
     /// When the next tick is wanted, in milliseconds of the caller's clock: the time at which something is due, if nothing is sent or received

@@ -35,7 +35,10 @@ impl Phase {
     {
         match self {
             Phase::Opening(began, limit) => later_by(began, limit),
-            Phase::Open(silence, beat) => earlier(later_by(received, silence), later_by(sent, beat)),
+            Phase::Open(silence, beat) => earlier(
+                later_by(received, silence),
+                later_by(sent, beat),
+            ),
             Phase::Over => None,
         }
     }
