@@ -1,6 +1,7 @@
 -- Part: the laws of a clock for idle time-outs.
 -- The history of one clock: its calls with their times and answers, the oldest first, and what they say.
-use Rattle.std.specs.Prelude.{ℕ, ◌^◌, ◌<◌, ◌≡◌, ◌||◌, max, Bool, true, false, List, [], ◌∷◌, Option, None, if◌then◌else◌}
+use Rattle.std.specs.Prelude.{ℕ, ◌^◌, ◌<◌, ◌≡◌, ◌||◌, max, Bool, true, false}
+use Rattle.std.specs.Prelude.{List, [], ◌∷◌, Option, None, if◌then◌else◌}
 use Rattle.amqp_idle.specs.declared.due.Due.{Due}
 use Rattle.amqp_idle.specs.declared.due.Due.TheVariants.{Nothing, Beat, OpeningLate, PeerSilent}
 use Rattle.amqp_idle.specs.declared.due.Tick.{Tick}
@@ -29,6 +30,10 @@ IdleChain v (c ∷ cs) w = (m : IdleView) × IdleStep v c m × IdleChain m cs w
 -- a legal history of a clock that was made at this time and with this limit, and the view that it leads to
 abbrev pub LeadsTo : ℕ → Option ℕ → List IdleCall → IdleView → Type 0
 LeadsTo start limit H w = (start < 2 ^ 64) × IdleChain (new_clock start limit) H w
+
+-- what holds of every history of every clock
+abbrev pub Always : (ℕ → Option ℕ → List IdleCall → Type 0) → Type 0
+Always P = (start : ℕ) (limit : Option ℕ) (H : List IdleCall) (v : IdleView) → LeadsTo start limit H v → P start limit H
 
 -- the time after a call: the latest that was told. An opening that was refused tells none.
 abbrev pub time_after : ℕ → IdleCall → ℕ

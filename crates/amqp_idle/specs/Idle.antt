@@ -1,16 +1,17 @@
 -- Part: every call exactly.
--- A clock for the idle time-outs of one connection, and what each call makes of it (AMQP 1.0 part 2, section 2.4.5). Each time, and each
--- span of time, is in milliseconds.
-use Rattle.std.specs.Prelude.{ℕ, zero, suc, ◌+◌, ◌/◌, ◌^◌, ◌≡◌, min, max, Bool, true, false, Option, Some, None, nat_le, nat_lt, if◌then◌else◌}
+-- A clock for the idle time-outs of one connection, and what each call makes of it (AMQP 1.0 part 2, section 2.4.5).
+-- Each time, and each span of time, is in milliseconds.
+use Rattle.std.specs.Prelude.{ℕ, zero, suc, ◌+◌, ◌/◌, ◌^◌, ◌≡◌, min, max, nat_le, nat_lt}
+use Rattle.std.specs.Prelude.{Bool, true, false, Option, Some, None, if◌then◌else◌}
 use Rattle.amqp_idle.specs.declared.due.Due.{Due}
 use Rattle.amqp_idle.specs.declared.due.Due.TheVariants.{Nothing, Beat, OpeningLate, PeerSilent}
 use Rattle.amqp_idle.specs.declared.due.Tick.{Tick}
 use Rattle.amqp_idle.specs.declared.phase.Phase.{Phase}
 use Rattle.amqp_idle.specs.declared.phase.Phase.TheVariants.{Opening, Open, Over}
 
--- What a clock knows: the latest time that it was told; when something was sent last, and when something was received last, where the opening
--- counts as both; and whether the connection is opening, since when and how long it may, or open, with how long the peer may be silent and
--- after how long this side beats, or over.
+-- What a clock knows: the latest time that it was told; when something was sent last, and when something was received
+-- last, where the opening counts as both; and whether the connection is opening, since when and how long it may, or
+-- open, with how long the peer may be silent and after how long this side beats, or over.
 pub record IdleView : Type 0 where
   pub seen : ℕ
   pub sent : ℕ
@@ -79,8 +80,12 @@ received_at now v = record v { seen = max v.seen now; received = max v.seen now 
 
 -- both Opens have passed, with what they ask for
 abbrev pub opened_at : ℕ → Option ℕ → Option ℕ → ℕ → IdleView
-opened_at seen ours peers now =
-    record { seen = max seen now; sent = max seen now; received = max seen now; phase = Open (lasting ours) (halved (lasting peers)) }
+opened_at seen ours peers now = record {
+  seen = max seen now;
+  sent = max seen now;
+  received = max seen now;
+  phase = Open (lasting ours) (halved (lasting peers));
+}
 
 abbrev pub is_opening : Phase → Bool
 is_opening (Opening began limit) = true

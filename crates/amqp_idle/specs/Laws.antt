@@ -1,11 +1,13 @@
 -- Part: the laws of a clock for idle time-outs.
 -- What holds of every history of a clock (AMQP 1.0 part 2, section 2.4.5).
-use Rattle.std.specs.Prelude.{ℕ, ◌+◌, ◌<◌, ◌≤◌, ◌≡◌, ◌||◌, not, ⊤, max, Bool, true, false, List, [], ◌∷◌, ◌++◌, Option, Some, None, nat_le, if◌then◌else◌}
+use Rattle.std.specs.Prelude.{ℕ, ◌+◌, ◌<◌, ◌≤◌, ◌≡◌, ◌||◌, not, ⊤, max, nat_le, Bool, true, false}
+use Rattle.std.specs.Prelude.{List, [], ◌∷◌, ◌++◌, Option, Some, None, if◌then◌else◌}
 use Rattle.amqp_idle.specs.declared.due.Due.{Due}
 use Rattle.amqp_idle.specs.declared.due.Due.TheVariants.{Nothing, Beat, OpeningLate, PeerSilent}
 use Rattle.amqp_idle.specs.declared.due.Tick.{Tick}
 use Rattle.amqp_idle.specs.Idle.{halved, has_passed}
-use Rattle.amqp_idle.specs.History.{IdleCall, time_after, time_of, last_sent, last_received, sends, receives, is_opened, ours_of, peers_of, is_ended}
+use Rattle.amqp_idle.specs.History.{IdleCall, time_after, time_of, last_sent, last_received, sends, receives}
+use Rattle.amqp_idle.specs.History.{is_opened, ours_of, peers_of, is_ended}
 use Rattle.amqp_idle.specs.History.IdleCall.{Opens, Ticks, AsksNext}
 
 -- of each call of a history, and the calls before it
@@ -27,7 +29,8 @@ due_when_open start before now =
 abbrev pub due_by : ℕ → Option ℕ → List IdleCall → ℕ → Due
 due_by start limit before now =
     if is_ended before then Nothing
-    else (if is_opened before then due_when_open start before now else (if has_passed start limit now then OpeningLate else Nothing))
+    else (if is_opened before then due_when_open start before now
+    else (if has_passed start limit now then OpeningLate else Nothing))
 
 -- each tick tells what is due by the calls before it
 abbrev pub TellsWhatIsDue : ℕ → Option ℕ → List IdleCall → Type 0
@@ -80,7 +83,8 @@ QuietAfterEnd H = (before after : List IdleCall) → is_ended before ≡ true �
     ((t : ℕ) (answer : Tick) → H ≡ before ++ Ticks t answer ∷ after → (answer.due ≡ Nothing) × (answer.next ≡ None))
     × ((next : Option ℕ) → H ≡ before ++ AsksNext next ∷ after → next ≡ None)
 
--- When a tick was said to be wanted: what was answered last, by a tick or a question; right after the opening, at once.
+-- When a tick was said to be wanted: what was answered last, by a tick or a question; right after the opening, at
+-- once.
 abbrev pub said_after : ℕ → Option ℕ → IdleCall → Option ℕ
 said_after now said (Ticks t answer) = answer.next
 said_after now said (AsksNext next) = next
@@ -96,16 +100,26 @@ abbrev pub IsBy : Option ℕ → ℕ → Type 0
 IsBy None now = ⊤
 IsBy (Some said) now = now ≤ said
 
+-- of each call of a history, the calls before it, and its time
+abbrev pub EachTime : ℕ → List IdleCall → (List IdleCall → ℕ → Type 0) → Type 0
+EachTime start H P = Each H (λ before c. P before (time_after (time_of start before) c))
+
 -- each call comes no later than the tick that was wanted last
 abbrev pub OnTime : ℕ → List IdleCall → Type 0
-OnTime start H = Each H (λ before c. IsBy (said_by start None before) (time_after (time_of start before) c))
+OnTime start H = EachTime start H (λ before now. IsBy (said_by start None before) now)
 
--- Where calls come on time, as much as half of the peer's time-out passes at most from one thing that is sent to the next one, and from the
--- last one to the end: at each call no more has passed since what was sent last before it.
+-- Where calls come on time, no more than half of the peer's time-out passes from one thing that is sent to the next
+-- one, and from the last one to the end: at each call no more has passed since what was sent last before it.
 abbrev pub BeatsInTime : ℕ → List IdleCall → Type 0
-BeatsInTime start H = OnTime start H → Each H (λ before c. is_ended before ≡ false →
-    NoMoreThan (last_sent start before) (halved (peers_of before)) (time_after (time_of start before) c)
-    × NoMoreThan (last_sent start before) (peers_of before) (time_after (time_of start before) c))
+BeatsInTime start H = OnTime start H → EachTime start H (λ before now. is_ended before ≡ false →
+    NoMoreThan (last_sent start before) (halved (peers_of before)) now
+    × NoMoreThan (last_sent start before) (peers_of before) now)
+
+-- Where calls come on time, it is told that the peer is silent before nothing was received for longer than this side's
+-- time-out.
+abbrev pub SilentInTime : ℕ → List IdleCall → Type 0
+SilentInTime start H = OnTime start H → EachTime start H (λ before now. is_ended before ≡ false →
+    NoMoreThan (last_received start before) (ours_of before) now)
 
 -- something is told
 abbrev pub is_told : Due → Bool
@@ -122,8 +136,8 @@ abbrev pub IsAfter : Option ℕ → ℕ → Type 0
 IsAfter None now = ⊤
 IsAfter (Some said) now = now < said
 
--- What a tick answers as the next time is when something is due, if nothing else happens: it is to come, a tick before it tells nothing and
--- says the same time again, and one at that time or after it tells something.
+-- What a tick answers as the next time is when something is due, if nothing else happens: it is to come, a tick before
+-- it tells nothing and says the same time again, and one at that time or after it tells something.
 abbrev pub NextIsExact : ℕ → List IdleCall → Type 0
 NextIsExact start H = (before after : List IdleCall) (t : ℕ) (answer : Tick) → H ≡ before ++ Ticks t answer ∷ after →
     IsAfter answer.next (max (time_of start before) t)

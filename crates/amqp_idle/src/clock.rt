@@ -7,11 +7,11 @@ use crate::due::{Due, Tick};
 use crate::phase::{Phase, halved, lasting};
 use std::marker::Model;
 
-/// A clock for the idle time-outs of one connection (AMQP 1.0 part 2, section 2.4.5). It tells when to send an empty frame, that the peer is
-/// silent, and before that, that the opening takes too long.
+/// A clock for the idle time-outs of one connection (AMQP 1.0 part 2, section 2.4.5). It tells when to send an empty
+/// frame, that the peer is silent, and before that, that the opening takes too long.
 ///
-/// Each call is told the time, in milliseconds of any clock that the caller has. A time before the latest one that was told counts as that: the
-/// clock never goes back. It asks for no memory, and each call takes a few instructions.
+/// Each call is told the time, in milliseconds of any clock that the caller has. A time before the latest one that was
+/// told counts as that: the clock never goes back. It asks for no memory, and each call takes a few instructions.
 ///
 /// ```
 /// let mut clock = IdleClock::new(0, Some(10_000));
@@ -40,8 +40,9 @@ impl Model for IdleClock {
 }
 
 impl IdleClock {
-    /// A clock of a connection that is opening from `now` on. `opening_limit` is how many milliseconds that may take: protocol headers, SASL
-    /// and both Opens. `None` sets no limit; with 0 the first tick before [`IdleClock::opened`] tells that it is late.
+    /// A clock of a connection that is opening from `now` on. `opening_limit` is how many milliseconds that may take:
+    /// protocol headers, SASL and both Opens. `None` sets no limit; with 0 the first tick before [`IdleClock::opened`]
+    /// tells that it is late.
     pub fn new(now: u64, opening_limit: Option<u32>) -> IdleClock
         ensures { result ≡ new_clock now opening_limit }
     {
@@ -53,9 +54,10 @@ impl IdleClock {
         }
     }
 
-    /// Both Opens have passed. `ours` is for how many milliseconds nothing may be received: what this side's Open asks for, or longer, since
-    /// the standard advises to ask for half of it. `peers` is the `idle-time-out` of the peer's Open. `None` and 0 are no time-out (AMQP 1.0
-    /// part 2, section 2.7.1). Both count from now. It answers false, and changes nothing, where it was called before or the clock is over.
+    /// Both Opens have passed. `ours` is for how many milliseconds nothing may be received: what this side's Open asks
+    /// for, or longer, since the standard advises to ask for half of it. `peers` is the `idle-time-out` of the peer's
+    /// Open. `None` and 0 are no time-out (AMQP 1.0 part 2, section 2.7.1). Both count from now. It answers false, and
+    /// changes nothing, where it was called before or the clock is over.
     pub fn opened(&mut self, now: u64, ours: Option<u32>, peers: Option<u32>) -> bool
         ensures { OpenedStep self.old now ours peers result self.new }
     {
@@ -68,7 +70,7 @@ impl IdleClock {
         true
     }
 
-    /// A frame went out, an empty one or another.
+    /// A frame went out, an empty one or another: this side need not beat for half of the peer's time-out from now on.
     #[inline(always)]
     pub fn sent(&mut self, now: u64)
         ensures { self.new ≡ sent_at now self.old }
@@ -77,7 +79,7 @@ impl IdleClock {
         self.sent = self.seen;
     }
 
-    /// Bytes of whole frames came in.
+    /// Bytes of whole frames came in: the peer may be silent for as long as this side's time-out from now on.
     #[inline(always)]
     pub fn received(&mut self, now: u64)
         ensures { self.new ≡ received_at now self.old }
@@ -86,8 +88,9 @@ impl IdleClock {
         self.received = self.seen;
     }
 
-    /// What is due at this time. [`Due::Beat`] counts as sent at it. After [`Due::OpeningLate`] and [`Due::PeerSilent`], which are told once, the
-    /// clock is over: nothing is told any more. Where a beat is due and the peer is silent, this is what is told.
+    /// What is due at this time, and when the next tick is wanted. [`Due::Beat`] counts as sent now: the caller sends an
+    /// empty frame. After [`Due::OpeningLate`] and [`Due::PeerSilent`], which are told once, the clock is over: nothing
+    /// is told any more, and no tick is wanted. Where a beat is due and the peer is silent too, the latter is told.
     pub fn tick(&mut self, now: u64) -> Tick
         ensures { TickStep self.old now result self.new }
     {
@@ -104,9 +107,10 @@ impl IdleClock {
         }
     }
 
-    /// When the next tick is wanted, in milliseconds of the caller's clock: the time at which something is due, if nothing is sent or received
-    /// before. A time that has come already means at once. `None` where nothing is to come before 2^64. Ask for it after
-    /// [`IdleClock::opened`]: what was answered before it holds no longer.
+    /// When the next tick is wanted, in milliseconds of the caller's clock: the time at which something is due, if
+    /// nothing is sent or received before. A time that has come already means at once. `None` where nothing comes due,
+    /// or not before 2^64. Ask for it, or tick, right after [`IdleClock::opened`]: what was answered before it holds no
+    /// longer.
     pub fn next(&self) -> Option<u64>
         ensures { result ≡ next_of self.now }
     {

@@ -9,8 +9,8 @@ pub enum Due {
     Beat,
     /// The connection was not open within its limit. It is to be dropped; the clock is over.
     OpeningLate,
-    /// Nothing was received for as long as this side's time-out. A Close is due, with the error `amqp:resource-limit-exceeded`; the clock is
-    /// over.
+    /// Nothing was received for as long as this side's time-out. A Close is due, with the error
+    /// `amqp:resource-limit-exceeded`; the clock is over.
     PeerSilent,
 }
 
@@ -19,6 +19,7 @@ pub enum Due {
 pub struct Tick {
     /// What is due now.
     pub due: Due,
-    /// When the next tick is wanted, in milliseconds of the caller's clock: always a time to come. `None` where none is wanted.
+    /// When the next tick is wanted, in milliseconds of the caller's clock: always a time to come. `None` where none is
+    /// wanted: nothing comes due, or not before 2^64.
     pub next: Option<u64>,
 }

@@ -1,5 +1,6 @@
-//! A clock for the idle time-outs of one AMQP connection, without threads and without a system clock: the caller says the time, and is told
-//! when to beat, that the opening is late, or that the peer is silent (AMQP 1.0 part 2, section 2.4.5).
+//! A clock for the idle time-outs of one AMQP connection, without threads and without a system clock: the caller says
+//! the time, and is told when to beat, that the opening is late, or that the peer is silent (AMQP 1.0 part 2, section
+//! 2.4.5).
 //!
 //! ```
 //! let mut clock = IdleClock::new(now, Some(10_000));   // headers, SASL and both Opens: 10 s
