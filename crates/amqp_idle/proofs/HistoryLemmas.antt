@@ -1,12 +1,15 @@
 -- What a history says of the view that it leads to.
-use Rattle.std.proofs.Common.{◌≡◌, ℕ, ◌||◌, max, Bool, true, false, List, [], ◌∷◌, ◌++◌, Option, if◌then◌else◌, refl, sym, ap, ap₂, ◌∙◌, subst}
+use Rattle.std.proofs.Common.{◌≡◌, ℕ, ◌||◌, max, Bool, true, false, List, [], ◌∷◌, ◌++◌, Option, if◌then◌else◌}
+use Rattle.std.proofs.Common.{refl, sym, ap, ap₂, ◌∙◌, subst}
 use Rattle.amqp_idle.specs.declared.due.Due.{Due}
 use Rattle.amqp_idle.specs.declared.due.Due.TheVariants.{Nothing, Beat, OpeningLate, PeerSilent}
 use Rattle.amqp_idle.specs.declared.due.Tick.{Tick}
 use Rattle.amqp_idle.specs.declared.phase.Phase.{Phase}
 use Rattle.amqp_idle.specs.declared.phase.Phase.TheVariants.{Opening, Open, Over}
-use Rattle.amqp_idle.specs.Idle.{IdleView, lasting, halved, due_at, is_opening, new_clock, sent_at, received_at, opened_at, having_told, ticked}
-use Rattle.amqp_idle.specs.History.{IdleCall, IdleStep, IdleChain, LeadsTo, time_after, time_of, last_by, sends, receives, is_beat, ends}
+use Rattle.amqp_idle.specs.Idle.{IdleView, lasting, halved, due_at, is_opening, new_clock, sent_at, received_at}
+use Rattle.amqp_idle.specs.Idle.{opened_at, having_told, ticked}
+use Rattle.amqp_idle.specs.History.{IdleCall, IdleStep, IdleChain, LeadsTo, time_after, time_of, last_by, sends}
+use Rattle.amqp_idle.specs.History.{receives, is_beat, ends}
 use Rattle.amqp_idle.specs.History.{last_sent, last_received, is_opened, ours_of, peers_of, is_ended}
 use Rattle.amqp_idle.specs.History.{Opens, Sends, Receives, Ticks, AsksNext}
 
@@ -51,52 +54,63 @@ told_phase Beat now v = refl
 told_phase OpeningLate now v = refl
 told_phase PeerSilent now v = refl
 
-opened_field : {X : Type 0} (f : IdleView → X) (b : Bool) (v w : IdleView) → f (if b then w else v) ≡ (if b then f w else f v)
+opened_field : {X : Type 0} (f : IdleView → X) (b : Bool) (v w : IdleView) →
+    f (if b then w else v) ≡ (if b then f w else f v)
 opened_field f true v w = refl
 opened_field f false v w = refl
 
 -- the same where the answer stands for the test
-opened_by : {X : Type 0} (f : IdleView → X) (taken b : Bool) (v w : IdleView) → taken ≡ b → f (if b then w else v) ≡ (if taken then f w else f v)
+opened_by : {X : Type 0} (f : IdleView → X) (taken b : Bool) (v w : IdleView) → taken ≡ b →
+    f (if b then w else v) ≡ (if taken then f w else f v)
 opened_by f taken b v w e = opened_field f b v w ∙ ap (λ x. if x then f w else f v) (sym e)
 
 -- what is due is what was answered
-pub due_is : (v m : IdleView) (t : ℕ) (answer : Tick) → IdleStep v (Ticks t answer) m → due_at v (max v.seen t) ≡ answer.due
+pub due_is : (v m : IdleView) (t : ℕ) (answer : Tick) → IdleStep v (Ticks t answer) m →
+    due_at v (max v.seen t) ≡ answer.due
 due_is v m t answer h = sym (ap (λ (x : Tick). x.due) h.1.0)
 
 pub step_seen : (v m : IdleView) (c : IdleCall) → IdleStep v c m → m.seen ≡ time_after v.seen c
 step_seen v m c h = ap (λ (x : IdleView). x.seen) (after_is v m c h) ∙ by c h
   where
     by : (c : IdleCall) → IdleStep v c m → (after v c).seen ≡ time_after v.seen c
-    by (Opens t ours peers taken) h = opened_by (λ (x : IdleView). x.seen) taken (is_opening v.phase) v (opened_at v.seen ours peers t) h.1.0
+    by (Opens t ours peers taken) h =
+        opened_by (λ (x : IdleView). x.seen) taken (is_opening v.phase) v (opened_at v.seen ours peers t) h.1.0
     by (Sends t) h = refl
     by (Receives t) h = refl
     by (Ticks t answer) h = told_seen (due_at v (max v.seen t)) (max v.seen t) v
     by (AsksNext next) h = refl
 
-pub step_sent : (v m : IdleView) (c : IdleCall) → IdleStep v c m → m.sent ≡ (if sends c then time_after v.seen c else v.sent)
+pub step_sent : (v m : IdleView) (c : IdleCall) → IdleStep v c m →
+    m.sent ≡ (if sends c then time_after v.seen c else v.sent)
 step_sent v m c h = ap (λ (x : IdleView). x.sent) (after_is v m c h) ∙ by c h
   where
-    opens_sent : (taken : Bool) (n : ℕ) → (if taken then n else v.sent) ≡ (if taken then (if taken then n else v.seen) else v.sent)
+    opens_sent : (taken : Bool) (n : ℕ) →
+        (if taken then n else v.sent) ≡ (if taken then (if taken then n else v.seen) else v.sent)
     opens_sent true n = refl
     opens_sent false n = refl
 
     by : (c : IdleCall) → IdleStep v c m → (after v c).sent ≡ (if sends c then time_after v.seen c else v.sent)
     by (Opens t ours peers taken) h =
-        opened_by (λ (x : IdleView). x.sent) taken (is_opening v.phase) v (opened_at v.seen ours peers t) h.1.0 ∙ opens_sent taken (max v.seen t)
+        opened_by (λ (x : IdleView). x.sent) taken (is_opening v.phase) v (opened_at v.seen ours peers t) h.1.0
+        ∙ opens_sent taken (max v.seen t)
     by (Sends t) h = refl
     by (Receives t) h = refl
     by (Ticks t answer) h =
-        told_sent (due_at v (max v.seen t)) (max v.seen t) v ∙ ap (λ d. if is_beat d then max v.seen t else v.sent) (due_is v m t answer h)
+        told_sent (due_at v (max v.seen t)) (max v.seen t) v
+        ∙ ap (λ d. if is_beat d then max v.seen t else v.sent) (due_is v m t answer h)
     by (AsksNext next) h = refl
 
-pub step_received : (v m : IdleView) (c : IdleCall) → IdleStep v c m → m.received ≡ (if receives c then time_after v.seen c else v.received)
+pub step_received : (v m : IdleView) (c : IdleCall) → IdleStep v c m →
+    m.received ≡ (if receives c then time_after v.seen c else v.received)
 step_received v m c h = ap (λ (x : IdleView). x.received) (after_is v m c h) ∙ by c h
   where
-    opens_received : (taken : Bool) (n : ℕ) → (if taken then n else v.received) ≡ (if taken then (if taken then n else v.seen) else v.received)
+    opens_received : (taken : Bool) (n : ℕ) →
+        (if taken then n else v.received) ≡ (if taken then (if taken then n else v.seen) else v.received)
     opens_received true n = refl
     opens_received false n = refl
 
-    by : (c : IdleCall) → IdleStep v c m → (after v c).received ≡ (if receives c then time_after v.seen c else v.received)
+    by : (c : IdleCall) → IdleStep v c m →
+        (after v c).received ≡ (if receives c then time_after v.seen c else v.received)
     by (Opens t ours peers taken) h =
         opened_by (λ (x : IdleView). x.received) taken (is_opening v.phase) v (opened_at v.seen ours peers t) h.1.0
         ∙ opens_received taken (max v.seen t)
@@ -115,11 +129,13 @@ pub step_phase : (v m : IdleView) (c : IdleCall) → IdleStep v c m → m.phase 
 step_phase v m c h = ap (λ (x : IdleView). x.phase) (after_is v m c h) ∙ by c h
   where
     by : (c : IdleCall) → IdleStep v c m → (after v c).phase ≡ phase_after v.phase c
-    by (Opens t ours peers taken) h = opened_by (λ (x : IdleView). x.phase) taken (is_opening v.phase) v (opened_at v.seen ours peers t) h.1.0
+    by (Opens t ours peers taken) h =
+        opened_by (λ (x : IdleView). x.phase) taken (is_opening v.phase) v (opened_at v.seen ours peers t) h.1.0
     by (Sends t) h = refl
     by (Receives t) h = refl
     by (Ticks t answer) h =
-        told_phase (due_at v (max v.seen t)) (max v.seen t) v ∙ ap (λ d. if ends d then Over else v.phase) (due_is v m t answer h)
+        told_phase (due_at v (max v.seen t)) (max v.seen t) v
+        ∙ ap (λ d. if ends d then Over else v.phase) (due_is v m t answer h)
     by (AsksNext next) h = refl
 
 -- ---- a chain of them
@@ -133,10 +149,12 @@ chain_sent v w [] h = ap (λ (x : IdleView). x.sent) h
 chain_sent v w (c ∷ cs) h =
     chain_sent h.0 w cs h.2 ∙ ap₂ (λ n last. last_by sends n last cs) (step_seen v h.0 c h.1) (step_sent v h.0 c h.1)
 
-pub chain_received : (v w : IdleView) (cs : List IdleCall) → IdleChain v cs w → w.received ≡ last_by receives v.seen v.received cs
+pub chain_received : (v w : IdleView) (cs : List IdleCall) → IdleChain v cs w →
+    w.received ≡ last_by receives v.seen v.received cs
 chain_received v w [] h = ap (λ (x : IdleView). x.received) h
 chain_received v w (c ∷ cs) h =
-    chain_received h.0 w cs h.2 ∙ ap₂ (λ n last. last_by receives n last cs) (step_seen v h.0 c h.1) (step_received v h.0 c h.1)
+    chain_received h.0 w cs h.2
+    ∙ ap₂ (λ n last. last_by receives n last cs) (step_seen v h.0 c h.1) (step_received v h.0 c h.1)
 
 either : (b : Bool) (p q : Phase) → p ≡ q → (if b then q else p) ≡ q
 either true p q e = refl
@@ -158,11 +176,14 @@ over_chain v w [] p h = ap (λ (x : IdleView). x.phase) h ∙ p
 over_chain v w (c ∷ cs) p h = over_chain h.0 w cs (step_phase v h.0 c h.1 ∙ over_step v h.0 c p h.1) h.2
 
 -- what a call says of the phase in the end, where it is known what follows if the call leaves the phase
-open_call : (v m w : IdleView) (c : IdleCall) (cs : List IdleCall) (s b : Option ℕ) → v.phase ≡ Open s b → IdleStep v c m → IdleChain m cs w →
-    (m.phase ≡ Open s b → w.phase ≡ (if is_ended cs then Over else Open s b)) → w.phase ≡ (if is_ended (c ∷ cs) then Over else Open s b)
+open_call : (v m w : IdleView) (c : IdleCall) (cs : List IdleCall) (s b : Option ℕ) → v.phase ≡ Open s b →
+    IdleStep v c m → IdleChain m cs w →
+    (m.phase ≡ Open s b → w.phase ≡ (if is_ended cs then Over else Open s b)) →
+    w.phase ≡ (if is_ended (c ∷ cs) then Over else Open s b)
 open_call v m w c cs s b p step rest goes_on = by c step
   where
-    after_tick : (d : Due) → m.phase ≡ (if ends d then Over else v.phase) → w.phase ≡ (if (ends d || is_ended cs) then Over else Open s b)
+    after_tick : (d : Due) → m.phase ≡ (if ends d then Over else v.phase) →
+        w.phase ≡ (if (ends d || is_ended cs) then Over else Open s b)
     after_tick Nothing e = goes_on (e ∙ p)
     after_tick Beat e = goes_on (e ∙ p)
     after_tick OpeningLate e = over_chain m w cs e rest
@@ -182,11 +203,15 @@ open_chain v w [] s b p h = ap (λ (x : IdleView). x.phase) h ∙ p
 open_chain v w (c ∷ cs) s b p h = open_call v h.0 w c cs s b p h.1 h.2 (λ e. open_chain h.0 w cs s b e h.2)
 
 -- the phase that a history gives
-abbrev pub phase_by : ℕ → Option ℕ → List IdleCall → Phase
-phase_by start limit H =
-    if is_ended H then Over else (if is_opened H then Open (ours_of H) (halved (peers_of H)) else Opening start limit)
+abbrev pub phase_where : Bool → Bool → ℕ → Option ℕ → List IdleCall → Phase
+phase_where ended opened start limit H =
+    if ended then Over else (if opened then Open (ours_of H) (halved (peers_of H)) else Opening start limit)
 
-opening_call : (v m w : IdleView) (c : IdleCall) (cs : List IdleCall) (start : ℕ) (limit : Option ℕ) → v.phase ≡ Opening start limit →
+abbrev pub phase_by : ℕ → Option ℕ → List IdleCall → Phase
+phase_by start limit H = phase_where (is_ended H) (is_opened H) start limit H
+
+opening_call : (v m w : IdleView) (c : IdleCall) (cs : List IdleCall) (start : ℕ) (limit : Option ℕ) →
+    v.phase ≡ Opening start limit →
     IdleStep v c m → IdleChain m cs w → (m.phase ≡ Opening start limit → w.phase ≡ phase_by start limit cs) →
     w.phase ≡ phase_by start limit (c ∷ cs)
 opening_call v m w c cs start limit p step rest goes_on = by c step
@@ -194,7 +219,8 @@ opening_call v m w c cs start limit p step rest goes_on = by c step
     open_now : Phase
     open_now = if is_opened cs then Open (ours_of cs) (halved (peers_of cs)) else Opening start limit
 
-    after_tick : (d : Due) → m.phase ≡ (if ends d then Over else v.phase) → w.phase ≡ (if (ends d || is_ended cs) then Over else open_now)
+    after_tick : (d : Due) → m.phase ≡ (if ends d then Over else v.phase) →
+        w.phase ≡ (if (ends d || is_ended cs) then Over else open_now)
     after_tick Nothing e = goes_on (e ∙ p)
     after_tick Beat e = goes_on (e ∙ p)
     after_tick OpeningLate e = over_chain m w cs e rest
@@ -213,7 +239,8 @@ opening_call v m w c cs start limit p step rest goes_on = by c step
     by (Ticks t answer) h = after_tick answer.due (step_phase v m (Ticks t answer) h)
     by (AsksNext next) h = goes_on (step_phase v m (AsksNext next) h ∙ p)
 
-opening_chain : (v w : IdleView) (cs : List IdleCall) (start : ℕ) (limit : Option ℕ) → v.phase ≡ Opening start limit → IdleChain v cs w →
+opening_chain : (v w : IdleView) (cs : List IdleCall) (start : ℕ) (limit : Option ℕ) → v.phase ≡ Opening start limit →
+    IdleChain v cs w →
     w.phase ≡ phase_by start limit cs
 opening_chain v w [] start limit p h = ap (λ (x : IdleView). x.phase) h ∙ p
 opening_chain v w (c ∷ cs) start limit p h =
@@ -226,7 +253,8 @@ pub record Stands (start : ℕ) (limit : Option ℕ) (H : List IdleCall) (v : Id
   pub received_is : v.received ≡ last_received start H
   pub phase_is : v.phase ≡ phase_by start limit H
 
-pub stands : (start : ℕ) (limit : Option ℕ) (H : List IdleCall) (v : IdleView) → IdleChain (new_clock start limit) H v → Stands start limit H v
+pub stands : (start : ℕ) (limit : Option ℕ) (H : List IdleCall) (v : IdleView) →
+    IdleChain (new_clock start limit) H v → Stands start limit H v
 stands start limit H v h = record {
   seen_is = chain_seen (new_clock start limit) v H h;
   sent_is = chain_sent (new_clock start limit) v H h;
@@ -236,20 +264,23 @@ stands start limit H v h = record {
 
 -- ---- a call among others
 
-pub record Split (v : IdleView) (before : List IdleCall) (c : IdleCall) (rest : List IdleCall) (w : IdleView) : Type 0 where
+pub record Split (v : IdleView) (before : List IdleCall) (c : IdleCall) (rest : List IdleCall)
+    (w : IdleView) : Type 0 where
   pub at : IdleView
   pub reached : IdleChain v before at
   pub next : IdleView
   pub step : IdleStep at c next
   pub onward : IdleChain next rest w
 
-pub split : (v w : IdleView) (before rest : List IdleCall) (c : IdleCall) → IdleChain v (before ++ c ∷ rest) w → Split v before c rest w
+pub split : (v w : IdleView) (before rest : List IdleCall) (c : IdleCall) → IdleChain v (before ++ c ∷ rest) w →
+    Split v before c rest w
 split v w [] rest c h = record { at = v; reached = refl; next = h.0; step = h.1; onward = h.2 }
 split v w (b ∷ before) rest c h =
     let s = split h.0 w before rest c h.2 in
     record { at = s.at; reached = (h.0, h.1, s.reached); next = s.next; step = s.step; onward = s.onward }
 
-pub split_of : (start : ℕ) (limit : Option ℕ) (H before rest : List IdleCall) (c : IdleCall) (v : IdleView) → LeadsTo start limit H v →
+pub split_of : (start : ℕ) (limit : Option ℕ) (H before rest : List IdleCall) (c : IdleCall) (v : IdleView) →
+    LeadsTo start limit H v →
     H ≡ before ++ c ∷ rest → Split (new_clock start limit) before c rest v
 split_of start limit H before rest c v h e =
     split (new_clock start limit) v before rest c (subst (λ xs. IdleChain (new_clock start limit) xs v) e h.1)

@@ -1,16 +1,18 @@
 -- When something is due next.
-use Rattle.std.proofs.Common.{◌≡◌, ℕ, ◌+◌, ◌^◌, ◌<◌, ◌||◌, min, max, Bool, true, false, List, [], ◌∷◌, Option, Some, None, nat_le, nat_lt, if◌then◌else◌, refl, sym, ap, ap₂, ◌∙◌, subst, subst₂, arith}
+use Rattle.std.proofs.Common.{◌≡◌, ℕ, ◌+◌, ◌^◌, ◌<◌, ◌||◌, min, max, Bool, true, false, List, [], ◌∷◌, Option, Some}
+use Rattle.std.proofs.Common.{None, nat_le, nat_lt, if◌then◌else◌, refl, sym, ap, ap₂, ◌∙◌, subst, subst₂, arith}
 use Rattle.std.proofs.lemmas.Bool.Decides.{nat_tests}
 use Rattle.std.proofs.lemmas.Grind.{common_steps}
 use Rattle.amqp_idle.specs.declared.due.Due.TheVariants.{Nothing, Beat, OpeningLate, PeerSilent}
 use Rattle.amqp_idle.specs.declared.due.Tick.{Tick}
 use Rattle.amqp_idle.specs.declared.phase.Phase.{Phase}
 use Rattle.amqp_idle.specs.declared.phase.Phase.TheVariants.{Opening, Open, Over}
-use Rattle.amqp_idle.specs.Idle.{IdleView, halved, has_passed, later_by, earlier, due_in, due_at, next_in, next_of, new_clock, having_told}
-use Rattle.amqp_idle.specs.History.{IdleCall, IdleStep, IdleChain, LeadsTo, time_after}
-use Rattle.amqp_idle.specs.History.{is_opened, ours_of, peers_of, is_ended, Opens, Sends, Receives, Ticks, AsksNext}
+use Rattle.amqp_idle.specs.Idle.{IdleView, halved, has_passed, later_by, earlier, due_in, due_at, next_in, next_of}
+use Rattle.amqp_idle.specs.Idle.{new_clock, having_told}
+use Rattle.amqp_idle.specs.History.{IdleCall, IdleStep, IdleChain, Always, time_after}
+use Rattle.amqp_idle.specs.History.{is_opened, peers_of, is_ended, Opens, Sends, Receives, Ticks, AsksNext}
 use Rattle.amqp_idle.specs.Laws.{is_told, has_come, IsAfter, NextIsExact, AnswerIsExact}
-use Rattle.amqp_idle.proofs.HistoryLemmas.{stands, split_of, due_is, phase_by, step_seen}
+use Rattle.amqp_idle.proofs.HistoryLemmas.{stands, split_of, due_is, phase_where, phase_by, step_seen}
 
 -- ---- something is due from the next time on
 
@@ -19,7 +21,8 @@ come_within : (since span now : ℕ) → now < 2 ^ 64 → (b : Bool) → nat_lt 
 come_within since span now f true e = refl
 come_within since span now f false e = grind (arith, nat_tests, common_steps)
 
-come_by : (since : ℕ) (span : Option ℕ) (now : ℕ) → now < 2 ^ 64 → has_passed since span now ≡ has_come (later_by since span) now
+come_by : (since : ℕ) (span : Option ℕ) (now : ℕ) → now < 2 ^ 64 →
+    has_passed since span now ≡ has_come (later_by since span) now
 come_by since None now f = refl
 come_by since (Some n) now f = come_within since n now f (nat_lt (since + n) (2 ^ 64)) refl
 
@@ -44,8 +47,10 @@ told_late : (b : Bool) → is_told (if b then OpeningLate else Nothing) ≡ b
 told_late true = refl
 told_late false = refl
 
-told_from_next : (p : Phase) (sent received now : ℕ) → now < 2 ^ 64 → is_told (due_in p sent received now) ≡ has_come (next_in p sent received) now
-told_from_next (Opening began limit) sent received now f = told_late (has_passed began limit now) ∙ come_by began limit now f
+told_from_next : (p : Phase) (sent received now : ℕ) → now < 2 ^ 64 →
+    is_told (due_in p sent received now) ≡ has_come (next_in p sent received) now
+told_from_next (Opening began limit) sent received now f = told_late (has_passed began limit now)
+    ∙ come_by began limit now f
 told_from_next (Open silence beat) sent received now f =
     told_where (has_passed received silence now) (has_passed sent beat now)
     ∙ ap₂ (λ x y. x || y) (come_by received silence now f) (come_by sent beat now f)
@@ -74,7 +79,7 @@ BeatTakesTime p = Unit {0}
 beat_takes : (start : ℕ) (limit : Option ℕ) (H : List IdleCall) → BeatTakesTime (phase_by start limit H)
 beat_takes start limit H = by (is_ended H) (is_opened H)
   where
-    by : (e o : Bool) → BeatTakesTime (if e then Over else (if o then Open (ours_of H) (halved (peers_of H)) else Opening start limit))
+    by : (e o : Bool) → BeatTakesTime (phase_where e o start limit H)
     by true o = tt
     by false true = halved_takes (peers_of H)
     by false false = tt
@@ -90,7 +95,8 @@ nothing_more (Opening began limit) seen sent received now k = by (has_passed beg
         due_at (having_told (if b then OpeningLate else Nothing) now v) now ≡ Nothing
     by true e = refl
     by false e = ap (λ x. if x then OpeningLate else Nothing) e
-nothing_more (Open silence beat) seen sent received now k = by (has_passed received silence now) (has_passed sent beat now) refl refl
+nothing_more (Open silence beat) seen sent received now k =
+    by (has_passed received silence now) (has_passed sent beat now) refl refl
   where
     by : (s b : Bool) → has_passed received silence now ≡ s → has_passed sent beat now ≡ b →
         let v : IdleView = record { seen = seen; sent = sent; received = received; phase = Open silence beat } in
@@ -130,13 +136,16 @@ tick_in_bits : (seen t : ℕ) → seen < 2 ^ 64 → t < 2 ^ 64 → max seen t < 
 tick_in_bits seen t f g = omega (arith, f, g)
 
 -- what a tick answers as the next time is after its own
-is_after : (v m : IdleView) (t : ℕ) (answer : Tick) → IdleStep v (Ticks t answer) m → v.seen < 2 ^ 64 → BeatTakesTime v.phase →
+is_after : (v m : IdleView) (t : ℕ) (answer : Tick) → IdleStep v (Ticks t answer) m → v.seen < 2 ^ 64 →
+    BeatTakesTime v.phase →
     IsAfter answer.next (max v.seen t)
 is_after v m t answer h f k =
     let now = max v.seen t in
-    let told : due_at m now ≡ Nothing = ap (λ (x : IdleView). due_at x now) h.1.1 ∙ nothing_more v.phase v.seen v.sent v.received now k in
+    let told : due_at m now ≡ Nothing = ap (λ (x : IdleView). due_at x now) h.1.1
+    ∙ nothing_more v.phase v.seen v.sent v.received now k in
     let due = told_from_next m.phase m.sent m.received now (tick_in_bits v.seen t f h.0) in
-    subst (λ next. IsAfter next now) (sym (next_answered v m t answer h)) (to_come (next_of m) now (sym due ∙ ap is_told told))
+    subst (λ next. IsAfter next now) (sym (next_answered v m t answer h))
+    (to_come (next_of m) now (sym due ∙ ap is_told told))
 
 -- ---- two ticks
 
@@ -144,10 +153,12 @@ is_after v m t answer h f k =
 told_as_said : (v m : IdleView) (u : ℕ) (told : Tick) → IdleStep v (Ticks u told) m → v.seen < 2 ^ 64 →
     is_told told.due ≡ has_come (next_of v) (max v.seen u)
 told_as_said v m u told h f =
-    sym (ap is_told (due_is v m u told h)) ∙ told_from_next v.phase v.sent v.received (max v.seen u) (tick_in_bits v.seen u f h.0)
+    sym (ap is_told (due_is v m u told h))
+    ∙ told_from_next v.phase v.sent v.received (max v.seen u) (tick_in_bits v.seen u f h.0)
 
 -- and where it tells nothing it says the same time again
-said_again : (v m : IdleView) (u : ℕ) (told : Tick) → IdleStep v (Ticks u told) m → told.due ≡ Nothing → told.next ≡ next_of v
+said_again : (v m : IdleView) (u : ℕ) (told : Tick) → IdleStep v (Ticks u told) m → told.due ≡ Nothing →
+    told.next ≡ next_of v
 said_again v m u told h e =
     next_answered v m u told h
     ∙ ap next_of (h.1.1 ∙ ap (λ d. having_told d (max v.seen u) v) (due_is v m u told h ∙ e))
@@ -157,15 +168,17 @@ come_after None seen u a = refl
 come_after (Some n) seen u a = grind (arith, nat_tests, common_steps)
 
 -- the first of some calls
-first_of_chain : (v w : IdleView) (c : IdleCall) (xs rest : List IdleCall) → IdleChain v xs w → xs ≡ c ∷ rest → (m : IdleView) × IdleStep v c m
+first_of_chain : (v w : IdleView) (c : IdleCall) (xs rest : List IdleCall) → IdleChain v xs w → xs ≡ c ∷ rest →
+    (m : IdleView) × IdleStep v c m
 first_of_chain v w c xs rest h e = let g = subst (λ ys. IdleChain v ys w) e h in (g.0, g.1)
 
-pub next_is_exact : (start : ℕ) (limit : Option ℕ) (H : List IdleCall) (v : IdleView) → LeadsTo start limit H v → NextIsExact start H
+pub next_is_exact : Always (λ start limit H. NextIsExact start H)
 next_is_exact start limit H v h before rest t answer e =
     let s = split_of start limit H before rest (Ticks t answer) v h e in
     let k = stands start limit before s.at s.reached in
     let f = chain_in_bits (new_clock start limit) s.at before s.reached h.0 in
-    let a = is_after s.at s.next t answer s.step f (subst BeatTakesTime (sym k.phase_is) (beat_takes start limit before)) in
+    let a = is_after s.at s.next t answer s.step f
+    (subst BeatTakesTime (sym k.phase_is) (beat_takes start limit before)) in
     let seen = step_seen s.at s.next (Ticks t answer) s.step in
     let said = next_answered s.at s.next t answer s.step in (
       subst (λ n. IsAfter answer.next (max n t)) k.seen_is a,
@@ -179,7 +192,7 @@ next_is_exact start limit H v h before rest t answer e =
           ),
     )
 
-pub answer_is_exact : (start : ℕ) (limit : Option ℕ) (H : List IdleCall) (v : IdleView) → LeadsTo start limit H v → AnswerIsExact start H
+pub answer_is_exact : Always (λ start limit H. AnswerIsExact start H)
 answer_is_exact start limit H v h before rest next u told e =
     let s = split_of start limit H before (Ticks u told ∷ rest) (AsksNext next) v h e in
     let k = stands start limit before s.at s.reached in

@@ -33,7 +33,8 @@ LeadsTo start limit H w = (start < 2 ^ 64) × IdleChain (new_clock start limit) 
 
 -- what holds of every history of every clock
 abbrev pub Always : (ℕ → Option ℕ → List IdleCall → Type 0) → Type 0
-Always P = (start : ℕ) (limit : Option ℕ) (H : List IdleCall) (v : IdleView) → LeadsTo start limit H v → P start limit H
+Always P =
+    (start : ℕ) (limit : Option ℕ) (H : List IdleCall) (v : IdleView) → LeadsTo start limit H v → P start limit H
 
 -- the time after a call: the latest that was told. An opening that was refused tells none.
 abbrev pub time_after : ℕ → IdleCall → ℕ

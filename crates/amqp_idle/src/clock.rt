@@ -88,9 +88,10 @@ impl IdleClock {
         self.received = self.seen;
     }
 
-    /// What is due at this time, and when the next tick is wanted. [`Due::Beat`] counts as sent now: the caller sends an
-    /// empty frame. After [`Due::OpeningLate`] and [`Due::PeerSilent`], which are told once, the clock is over: nothing
-    /// is told any more, and no tick is wanted. Where a beat is due and the peer is silent too, the latter is told.
+    /// What is due at this time, and when the next tick is wanted. [`Due::Beat`] counts as sent now: the caller sends
+    /// an empty frame. After [`Due::OpeningLate`] and [`Due::PeerSilent`], which are told once, the clock is over:
+    /// nothing is told any more, and no tick is wanted. Where a beat is due and the peer is silent too, the latter is
+    /// told.
     pub fn tick(&mut self, now: u64) -> Tick
         ensures { TickStep self.old now result self.new }
     {
@@ -108,9 +109,9 @@ impl IdleClock {
     }
 
     /// When the next tick is wanted, in milliseconds of the caller's clock: the time at which something is due, if
-    /// nothing is sent or received before. A time that has come already means at once. `None` where nothing comes due,
-    /// or not before 2^64. Ask for it, or tick, right after [`IdleClock::opened`]: what was answered before it holds no
-    /// longer.
+    /// nothing is sent or received before. A time that has come already means at once. `None` where nothing comes
+    /// due, or not before 2^64. Ask for it, or tick, right after [`IdleClock::opened`]: what was answered before it
+    /// holds no longer.
     pub fn next(&self) -> Option<u64>
         ensures { result ≡ next_of self.now }
     {

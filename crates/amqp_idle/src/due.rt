@@ -19,7 +19,7 @@ pub enum Due {
 pub struct Tick {
     /// What is due now.
     pub due: Due,
-    /// When the next tick is wanted, in milliseconds of the caller's clock: always a time to come. `None` where none is
-    /// wanted: nothing comes due, or not before 2^64.
+    /// When the next tick is wanted, in milliseconds of the caller's clock: always a time to come. `None` where none
+    /// is wanted: nothing comes due, or not before 2^64.
     pub next: Option<u64>,
 }
