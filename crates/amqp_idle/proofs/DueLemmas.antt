@@ -7,14 +7,15 @@ use Rattle.amqp_idle.specs.declared.due.Due.{Due}
 use Rattle.amqp_idle.specs.declared.due.Due.TheVariants.{Nothing, Beat, OpeningLate, PeerSilent}
 use Rattle.amqp_idle.specs.declared.due.Tick.{Tick}
 use Rattle.amqp_idle.specs.declared.phase.Phase.TheVariants.{Over}
-use Rattle.amqp_idle.specs.Idle.{IdleView, halved, has_passed, due_in, due_at, next_of, next_in, is_opening, new_clock}
-use Rattle.amqp_idle.specs.History.{IdleCall, Always, time_after, time_of, last_by, sends, receives}
+use Rattle.amqp_idle.specs.Idle.{IdleView, halved, has_passed, due_in, due_at, next_of, next_in, is_opening, is_over, new_clock}
+use Rattle.amqp_idle.specs.History.{IdleCall, LeadsTo, Always, time_after, time_of, last_by, sends, receives}
 use Rattle.amqp_idle.specs.History.{last_sent, last_received, is_opened, ours_of, peers_of, is_ended}
 use Rattle.amqp_idle.specs.History.{Opens, Sends, Receives, Ticks, AsksNext}
 use Rattle.amqp_idle.specs.Laws.{due_by, due_when_open, HasPassed, SinceEach, TellsWhatIsDue, OpensOnce}
 use Rattle.amqp_idle.specs.Laws.{BeatsWhereIdle}
 use Rattle.amqp_idle.specs.Laws.{SilentWhereIdle, SilentAtOnce, LateOpenings, QuietAfterEnd}
-use Rattle.amqp_idle.proofs.HistoryLemmas.{Stands, stands, Split, split_of, due_is, phase_where, phase_by, over_step, step_phase}
+use Rattle.amqp_idle.proofs.HistoryLemmas.{Stands, stands, Split, split_of, due_is, step_phase, over_step}
+use Rattle.amqp_idle.proofs.HistoryLemmas.{phase_where, phase_by}
 
 -- ---- what is due
 
@@ -93,8 +94,9 @@ last_grows : (test : IdleCall → Bool) (now last : ℕ) (cs : List IdleCall) �
     last ≤ last_by test now last cs
 last_grows test now last [] p = omega arith
 last_grows test now last (c ∷ cs) p =
-    let before = chosen (test c) now last (time_after now c) p (goes_on now c) in
-    le_trans (grown (test c)) (last_grows test (time_after now c) (if test c then time_after now c else last) cs before)
+    let then_is = time_after now c in
+    let before = chosen (test c) now last then_is p (goes_on now c) in
+    le_trans (grown (test c)) (last_grows test then_is (if test c then then_is else last) cs before)
   where
     grown : (b : Bool) → last ≤ (if b then time_after now c else last)
     grown true = le_trans p (goes_on now c)
@@ -230,8 +232,8 @@ none_next v p = ap (λ x. next_in x v.sent v.received) p
 pub quiet_after_end : Always (λ start limit H. QuietAfterEnd H)
 quiet_after_end start limit H v h before rest over = (of_tick, of_question)
   where
-    is_over : (c : IdleCall) (s : Split (new_clock start limit) before c rest v) → s.at.phase ≡ Over
-    is_over c s = (stands start limit before s.at s.reached).phase_is ∙ over_by start limit before over
+    over_at : (c : IdleCall) (s : Split (new_clock start limit) before c rest v) → s.at.phase ≡ Over
+    over_at c s = (stands start limit before s.at s.reached).phase_is ∙ over_by start limit before over
 
     of_tick : (t : ℕ) (answer : Tick) → H ≡ before ++ Ticks t answer ∷ rest →
         (answer.due ≡ Nothing) × (answer.next ≡ None)
@@ -242,10 +244,19 @@ quiet_after_end start limit H v h before rest over = (of_tick, of_question)
               ∙ by_tests (λ e o s b l. e ≡ true → told e o s b l ≡ Nothing) over_then start limit before now over,
           ap (λ (x : Tick). x.next) s.step.1.0
               ∙ none_next s.next (step_phase s.at s.next (Ticks t answer) s.step
-              ∙ over_step s.at s.next (Ticks t answer) (is_over (Ticks t answer) s) s.step),
+              ∙ over_step s.at s.next (Ticks t answer) (over_at (Ticks t answer) s) s.step),
         )
 
     of_question : (next : Option ℕ) → H ≡ before ++ AsksNext next ∷ rest → next ≡ None
     of_question next e =
         let s = split_of start limit H before rest (AsksNext next) v h e in
-        s.step.0 ∙ none_next s.at (is_over (AsksNext next) s)
+        s.step.0 ∙ none_next s.at (over_at (AsksNext next) s)
+
+pub over_as_ended : (start : ℕ) (limit : Option ℕ) (H : List IdleCall) (v : IdleView) → LeadsTo start limit H v →
+    is_over v.phase ≡ is_ended H
+over_as_ended start limit H v h = ap is_over (stands start limit H v h.1).phase_is ∙ by (is_ended H) (is_opened H)
+  where
+    by : (e o : Bool) → is_over (phase_where e o start limit H) ≡ e
+    by true o = refl
+    by false true = refl
+    by false false = refl

@@ -12,7 +12,8 @@ use Rattle.amqp_idle.specs.History.{sends}
 use Rattle.amqp_idle.specs.History.{last_received, receives, is_opened, ours_of, peers_of, is_ended}
 use Rattle.amqp_idle.specs.History.{Opens, Sends, Receives, Ticks, AsksNext}
 use Rattle.amqp_idle.specs.Laws.{NoMoreThan, IsBy, said_after, said_by, OnTime, EachTime, BeatsInTime, SilentInTime}
-use Rattle.amqp_idle.proofs.HistoryLemmas.{stands, split_of, phase_where, phase_by, step_seen, step_sent, step_received}
+use Rattle.amqp_idle.proofs.HistoryLemmas.{stands, split_of, step_seen, step_sent, step_received}
+use Rattle.amqp_idle.proofs.HistoryLemmas.{phase_where, phase_by}
 use Rattle.amqp_idle.proofs.DueLemmas.{chosen, goes_on}
 use Rattle.amqp_idle.proofs.NextLemmas.{TakesTime, in_bits, chain_in_bits, next_answered}
 

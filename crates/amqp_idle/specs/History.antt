@@ -1,11 +1,11 @@
--- Part: the laws of a clock for idle time-outs.
+-- Part: other calls.
 -- The history of one clock: its calls with their times and answers, the oldest first, and what they say.
 use Rattle.std.specs.Prelude.{ℕ, ◌^◌, ◌<◌, ◌≡◌, ◌||◌, max, Bool, true, false}
 use Rattle.std.specs.Prelude.{List, [], ◌∷◌, Option, None, if◌then◌else◌}
 use Rattle.amqp_idle.specs.declared.due.Due.{Due}
 use Rattle.amqp_idle.specs.declared.due.Due.TheVariants.{Nothing, Beat, OpeningLate, PeerSilent}
 use Rattle.amqp_idle.specs.declared.due.Tick.{Tick}
-use Rattle.amqp_idle.specs.Idle.{IdleView, lasting, new_clock, sent_at, received_at, next_of, OpenedStep, TickStep}
+use Rattle.amqp_idle.specs.Idle.{IdleView, lasting, new_clock, next_of, OpenedStep, SentStep, ReceivedStep, TickStep}
 
 -- One call: its time, what it was told, and its answer. A question when the next tick is wanted has no time.
 pub data IdleCall : Type 0 where
@@ -18,8 +18,8 @@ pub data IdleCall : Type 0 where
 -- the clock goes from one view to the other by this call
 abbrev pub IdleStep : IdleView → IdleCall → IdleView → Type 0
 IdleStep v (Opens now ours peers taken) w = (now < 2 ^ 64) × OpenedStep v now ours peers taken w
-IdleStep v (Sends now) w = (now < 2 ^ 64) × (w ≡ sent_at now v)
-IdleStep v (Receives now) w = (now < 2 ^ 64) × (w ≡ received_at now v)
+IdleStep v (Sends now) w = (now < 2 ^ 64) × SentStep v now w
+IdleStep v (Receives now) w = (now < 2 ^ 64) × ReceivedStep v now w
 IdleStep v (Ticks now answer) w = (now < 2 ^ 64) × TickStep v now answer w
 IdleStep v (AsksNext next) w = (next ≡ next_of v) × (w ≡ v)
 

@@ -1,4 +1,4 @@
--- Part: every call exactly.
+-- Part: other calls.
 -- A clock for the idle time-outs of one connection, and what each call makes of it (AMQP 1.0 part 2, section 2.4.5).
 -- Each time, and each span of time, is in milliseconds.
 use Rattle.std.specs.Prelude.{ℕ, zero, suc, ◌+◌, ◌/◌, ◌^◌, ◌≡◌, min, max, nat_le, nat_lt}
@@ -77,6 +77,12 @@ sent_at now v = record v { seen = max v.seen now; sent = max v.seen now }
 
 abbrev pub received_at : ℕ → IdleView → IdleView
 received_at now v = record v { seen = max v.seen now; received = max v.seen now }
+
+abbrev pub SentStep : IdleView → ℕ → IdleView → Type 0
+SentStep v now w = w ≡ sent_at now v
+
+abbrev pub ReceivedStep : IdleView → ℕ → IdleView → Type 0
+ReceivedStep v now w = w ≡ received_at now v
 
 -- both Opens have passed, with what they ask for
 abbrev pub opened_at : ℕ → Option ℕ → Option ℕ → ℕ → IdleView

@@ -1,4 +1,4 @@
--- Part: the laws of a clock for idle time-outs.
+-- Part: other calls.
 -- What holds of every history of a clock (AMQP 1.0 part 2, section 2.4.5).
 use Rattle.std.specs.Prelude.{ℕ, ◌+◌, ◌<◌, ◌≤◌, ◌≡◌, ◌||◌, not, ⊤, max, nat_le, Bool, true, false}
 use Rattle.std.specs.Prelude.{List, [], ◌∷◌, ◌++◌, Option, Some, None, if◌then◌else◌}
@@ -8,7 +8,7 @@ use Rattle.amqp_idle.specs.declared.due.Tick.{Tick}
 use Rattle.amqp_idle.specs.Idle.{halved, has_passed}
 use Rattle.amqp_idle.specs.History.{IdleCall, time_after, time_of, last_sent, last_received, sends, receives}
 use Rattle.amqp_idle.specs.History.{is_opened, ours_of, peers_of, is_ended}
-use Rattle.amqp_idle.specs.History.IdleCall.{Opens, Ticks, AsksNext}
+use Rattle.amqp_idle.specs.History.{Opens, Ticks, AsksNext}
 
 -- of each call of a history, and the calls before it
 abbrev pub Each : List IdleCall → (List IdleCall → IdleCall → Type 0) → Type 0

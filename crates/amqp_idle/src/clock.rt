@@ -1,7 +1,7 @@
 //! The clock.
 
 ghost use Rattle.std.specs.Prelude.{◌≡◌};
-ghost use Rattle.amqp_idle.specs.Idle.{new_clock, sent_at, received_at, next_of, is_over, OpenedStep, TickStep};
+ghost use Rattle.amqp_idle.specs.Idle.{new_clock, next_of, is_over, OpenedStep, SentStep, ReceivedStep, TickStep};
 
 use crate::due::{Due, Tick};
 use crate::phase::{Phase, halved, lasting};
@@ -73,7 +73,7 @@ impl IdleClock {
     /// A frame went out, an empty one or another: this side need not beat for half of the peer's time-out from now on.
     #[inline(always)]
     pub fn sent(&mut self, now: u64)
-        ensures { self.new ≡ sent_at now self.old }
+        ensures { SentStep self.old now self.new }
     {
         self.seen = self.seen.max(now);
         self.sent = self.seen;
@@ -82,7 +82,7 @@ impl IdleClock {
     /// Bytes of whole frames came in: the peer may be silent for as long as this side's time-out from now on.
     #[inline(always)]
     pub fn received(&mut self, now: u64)
-        ensures { self.new ≡ received_at now self.old }
+        ensures { ReceivedStep self.old now self.new }
     {
         self.seen = self.seen.max(now);
         self.received = self.seen;

@@ -16,6 +16,7 @@ pub enum Due {
 
 /// What a tick answers.
 #[derive(Clone, Copy, Debug, PartialEq, Eq)]
+#[must_use]
 pub struct Tick {
     /// What is due now.
     pub due: Due,

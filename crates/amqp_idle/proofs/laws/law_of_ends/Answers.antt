@@ -1,4 +1,4 @@
-use Rattle.amqp_idle.proofs.DueLemmas.{silent_where_idle, silent_at_once, late_openings, quiet_after_end}
+use Rattle.amqp_idle.proofs.DueLemmas.{silent_where_idle, silent_at_once, late_openings, quiet_after_end, over_as_ended}
 use Rattle.amqp_idle.proofs.InTimeLemmas.{silent_in_time}
 use Rattle.amqp_idle.proofs.laws.law_of_ends.Goals as goal
 
@@ -16,3 +16,6 @@ returns-clause-late c = late_openings
 
 pub returns-clause-quiet : goal.returns-clause-quiet
 returns-clause-quiet c = quiet_after_end
+
+pub returns-clause-over : goal.returns-clause-over
+returns-clause-over c = over_as_ended
