@@ -71,6 +71,7 @@ impl IdleClock {
     }
 
     /// A frame went out, an empty one or another: this side need not beat for half of the peer's time-out from now on.
+    /// Before the opening, and once the clock is over, it only tells the time.
     #[inline(always)]
     pub fn sent(&mut self, now: u64)
         ensures { SentStep self.old now self.new }
@@ -79,7 +80,8 @@ impl IdleClock {
         self.sent = self.seen;
     }
 
-    /// Bytes of whole frames came in: the peer may be silent for as long as this side's time-out from now on.
+    /// Bytes of whole frames came in: the peer may be silent for as long as this side's time-out from now on. Before
+    /// the opening, and once the clock is over, it only tells the time.
     #[inline(always)]
     pub fn received(&mut self, now: u64)
         ensures { ReceivedStep self.old now self.new }
