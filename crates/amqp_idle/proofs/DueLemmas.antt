@@ -7,7 +7,8 @@ use Rattle.amqp_idle.specs.declared.due.Due.{Due}
 use Rattle.amqp_idle.specs.declared.due.Due.TheVariants.{Nothing, Beat, OpeningLate, PeerSilent}
 use Rattle.amqp_idle.specs.declared.due.Tick.{Tick}
 use Rattle.amqp_idle.specs.declared.phase.Phase.TheVariants.{Over}
-use Rattle.amqp_idle.specs.Idle.{IdleView, halved, has_passed, due_in, due_at, next_of, next_in, is_opening, is_over, new_clock}
+use Rattle.amqp_idle.specs.Idle.{IdleView, halved, has_passed, due_in, due_at}
+use Rattle.amqp_idle.specs.Idle.{next_of, next_in, is_opening, is_over, new_clock}
 use Rattle.amqp_idle.specs.History.{IdleCall, LeadsTo, Always, time_after, time_of, last_by, sends, receives}
 use Rattle.amqp_idle.specs.History.{last_sent, last_received, is_opened, ours_of, peers_of, is_ended}
 use Rattle.amqp_idle.specs.History.{Opens, Sends, Receives, Ticks, AsksNext}

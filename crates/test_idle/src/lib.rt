@@ -1,4 +1,5 @@
-//! Tests of the clock for idle time-outs: each call on its happy path, and times and time-outs at the ends of their ranges.
+//! Tests of the clock for idle time-outs: each call on its happy path, and times and time-outs at the ends of their
+//! ranges.
 #![tactic(auto)]
 
 #[cfg(test)]

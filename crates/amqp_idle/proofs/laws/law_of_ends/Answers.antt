@@ -1,4 +1,5 @@
-use Rattle.amqp_idle.proofs.DueLemmas.{silent_where_idle, silent_at_once, late_openings, quiet_after_end, over_as_ended}
+use Rattle.amqp_idle.proofs.DueLemmas.{silent_where_idle, silent_at_once}
+use Rattle.amqp_idle.proofs.DueLemmas.{late_openings, quiet_after_end, over_as_ended}
 use Rattle.amqp_idle.proofs.InTimeLemmas.{silent_in_time}
 use Rattle.amqp_idle.proofs.laws.law_of_ends.Goals as goal
 
