@@ -19,12 +19,16 @@ sys.path.insert(0, str(Path(__file__).resolve().parents[1]))
 import watch
 from amqp.canonical import boolean
 from amqp.frames import CLOSE, DETACH, END
+from amqp.judging import Judge
+from amqp.looking import Seen
 from amqp.recorded import CAPTURES
-from amqp.streams import recorded
+from amqp.recordings import recorded
+from amqp.telling import WHO
 from gate.made_connections import SENDER, attach, begin, begun, cases, ended, frame, opened, uint
+from gate.heard import Heard
 from gate.made_faults import FAULTS, LAWFUL
 from shared.command import command
-from watch import Desk, Seen, Watched
+from watch import Desk, Watched
 
 HEADER = b"AMQP\0\1\0\0"
 DAMAGED = 40
@@ -48,14 +52,14 @@ def streamed(frames):
 
 
 def told_of(frames, chunk=2**20):
-    told = []
-    seen = Seen(told.append)
+    heard = Heard()
+    seen = Seen(heard)
     for side, data in streamed(frames):
         for at in range(0, len(data), chunk):
             seen.see(side, data[at : at + chunk])
     for side in "AB":
         seen.end(side)
-    return told
+    return heard.told
 
 
 # ---- what it tells
@@ -82,7 +86,7 @@ def recordings():
 
 def made():
     for name, before, wrong, after, fault in FAULTS:
-        told, who = told_of([*before, *wrong, *after]), watch.WHO[wrong[0][0]]
+        told, who = told_of([*before, *wrong, *after]), WHO[wrong[0][0]]
         begins = f"{who}, frame {len(before) + 1}, "
         check(name, len(told) == 1 and told[0].startswith(begins) and fault in told[0], *told)
     for name, frames in LAWFUL:
@@ -121,11 +125,8 @@ class Quiet(Watched):
     """It tells a list."""
 
     def __init__(self, desk):
-        self.told = []
-        super().__init__(1, desk, False)
-
-    def tell(self, what):
-        self.told.append(what)
+        super().__init__(1, desk, Heard())
+        self.told = self.teller.told
 
 
 async def handed_on(stream, desk):
@@ -186,10 +187,10 @@ def what_cannot_be_read_is_told_once():
 
 
 def what_raises_is_told_once():
-    step, watch.Judge.step = watch.Judge.step, None
+    step, Judge.step = Judge.step, None
     watched = is_handed_on("what raises", [*streamed(opened()), *streamed(opened())[2:]], raises=True)
-    watch.Judge.step = step
-    check("what raises is told once", len(watched.told) == 2 and "frame 1: looked at no more (TypeError" in watched.told[0], *watched.told)
+    Judge.step = step
+    check("what raises is told once", len(watched.told) == 2 and "after frame 0: looked at no more (TypeError" in watched.told[0], *watched.told)
 
 
 def nothing_waits_for_what_looks():
@@ -235,8 +236,8 @@ def over_sockets():
 
 def keeps_what_is_live():
     """4,000 sessions, and as many links under handles of their own, come and go: what is kept does not grow."""
-    told, held = [], []
-    seen = Seen(told.append)
+    seen, held = Seen(Heard()), []
+    told = seen.teller.told
     turns = [lambda n: [*begun(n % 9, 5), *ended(n % 9, 5)], lambda n: link_comes_and_goes(n)]
     see(seen, opened())
     for turn in turns:
@@ -260,8 +261,8 @@ def link_comes_and_goes(n):
 
 
 def takes_many_sessions_at_once():
-    told = []
-    seen = Seen(told.append)
+    seen = Seen(Heard())
+    told = seen.teller.told
     see(seen, opened())
     for channel in range(0, 65536, 8):
         see(seen, begun(channel, 65535 - channel))

@@ -32,10 +32,14 @@ def cut(text):
     return text if len(text) <= MOST_TEXT else f"{text[:MOST_TEXT]}… ({len(text):,} characters in all)"
 
 
-def visible(text):
-    """The text, with what nobody can see, or what turns the direction of writing, spelled out."""
-    text = cut(text)
+def spelled(text):
+    """The text, with what nobody can see, a terminal obeys, or turns the direction of writing, spelled out."""
     return text if text.isprintable() else "".join(it if it.isprintable() else repr(it)[1:-1] for it in text)
+
+
+def visible(text):
+    """The text, so spelled; of a long one its beginning."""
+    return spelled(cut(text))
 
 
 def scalar(of, at, code):
