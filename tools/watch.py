@@ -2,6 +2,7 @@
 """Stands between a client and a server, and prints the frames of both, and which of them break the protocol, by name.
 
     tools/watch.py LISTEN HOST PORT [--connections N] [--quiet] [--json] [--color auto|always|never] [--html PAGE]
+                   [--tls-cert FILE --tls-key FILE] [--tls-to [CA]]
 
 It listens on 127.0.0.1:LISTEN (on a port that is free where that is 0), and hands what comes on to HOST:PORT and back, unchanged, whatever it is. A judge
 follows both sides, apart from that. Each frame has a line: the connection, the seconds since the frame before, who sent it, its number, its kind, its channel, its
@@ -12,8 +13,10 @@ than the breaches, and what could not be looked at, and the status is 1 where th
 
 `--json` prints an object of JSON a line, for programs (docs/USING.md lists their fields). Lines have colours on a terminal, where NO_COLOR is not set; `--color` says
 otherwise. With `--connections N` it ends after so many. `--html PAGE` writes each connection, once it is over or this is interrupted, as a page for a browser:
-the second one as PAGE-2, and so on, up to the 16th. SASL and protocol headers pass by; TLS is not looked into. A peer's End and Close with an error are told as what
-they are.
+the second one as PAGE-2, and so on, up to the 16th. SASL and protocol headers pass by. A peer's End and Close with an error are told as what they are.
+
+TLS that passes by is not looked into. With `--tls-cert` and `--tls-key`, a certificate and its key, clients speak TLS to this. With `--tls-to` this speaks TLS to the
+server, whose certificate has to be for HOST, and of an authority in the file CA, or of one that the system trusts. Who cannot agree on TLS is no connection.
 
 Looked at are: the bytes of each frame; its size and channel, once the other side's Open came by; the order of Open, Begin, Attach, Detach, End and Close, and
 what is sent after the last three; handles and names of links; transfers against the session's window; delivery-ids, which go up by one. A frame may
@@ -28,6 +31,7 @@ import argparse
 import asyncio
 import contextlib
 import queue
+import ssl
 import sys
 import threading
 import time
@@ -36,12 +40,14 @@ from pathlib import Path
 from amqp.looking import Seen
 from amqp.telling import add_options, teller_of
 from page.make import Page, page_of
-from shared.command import command
+from shared.command import command, told
 
 # So much may wait to be looked at
 MOST_WAITING = 2**26
 # What is counted for a chunk besides its bytes
 CHUNK = 200
+# The seconds for a handshake of TLS, and for one direction once the other has ended, where its end cannot be handed on
+HANDSHAKE, LAST = 20, 2
 
 
 class Desk(threading.Thread):
@@ -86,23 +92,37 @@ class Watched:
             self.desk.give(len(data) + CHUNK, self.seen.see, side, data, time.monotonic())
 
     async def carry(self, side, reader, writer):
-        """Hands on what comes. It waits to be looked at before an answer to it can come."""
+        """Hands on what comes. It waits to be looked at before an answer to it can come. Answers whether the end was handed on: TLS has none of one direction."""
+        is_ended = True
         try:
             while data := await reader.read(65536):
                 writer.write(data)
                 self.look(side, data)
                 await writer.drain()
-            writer.write_eof()
+            is_ended = writer.can_write_eof()
+            if is_ended:
+                writer.write_eof()
         except OSError:
             # one of the two is gone: so is the other then
             writer.close()
         if not self.is_behind:
             self.desk.give(CHUNK, self.seen.end, side)
+        return is_ended
+
+    async def both(self, near, far):
+        """Both directions. Where the end of one cannot be handed on, the other has a little time yet."""
+        ways = [asyncio.ensure_future(self.carry("A", near[0], far[1])), asyncio.ensure_future(self.carry("B", far[0], near[1]))]
+        ended, others = await asyncio.wait(ways, return_when=asyncio.FIRST_COMPLETED)
+        if others and not all(it.result() for it in ended):
+            await asyncio.wait(others, timeout=LAST)
+            near[1].close()
+            far[1].close()
+        await asyncio.gather(*ways)
 
     async def between(self, near, far):
         writers = near[1], far[1]
         try:
-            await asyncio.gather(self.carry("A", near[0], far[1]), self.carry("B", far[0], near[1]))
+            await self.both(near, far)
             for writer in writers:
                 writer.close()
             for writer in writers:
@@ -126,10 +146,11 @@ class Watched:
 
 
 class Watcher:
-    """Hands on each connection that comes, `most` at most."""
+    """Hands on each connection that comes, `most` at most; `tls` has what TLS to the client and to the server needs, if it is spoken."""
 
-    def __init__(self, host, port, most, teller, html=None):
+    def __init__(self, host, port, most, teller, html=None, tls=(None, None)):
         self.host, self.port, self.most, self.teller, self.html, self.count = host, port, most, teller, html, 0
+        (self.near, self.far), self.waits = tls, [{"ssl_handshake_timeout": HANDSHAKE} if it else {} for it in tls]
         self.desk, self.come, self.gone = Desk(), asyncio.Semaphore(0), asyncio.Semaphore(0)
 
     async def met(self, reader, writer):
@@ -143,7 +164,7 @@ class Watcher:
 
     async def hand_on(self, watched, near):
         try:
-            far = await asyncio.open_connection(self.host, self.port)
+            far = await asyncio.open_connection(self.host, self.port, ssl=self.far, **self.waits[1])
         except OSError as error:
             self.desk.give(CHUNK, watched.seen.stop, None, f"{self.host}:{self.port}: {error.strerror or error}")
             near[1].close()
@@ -152,13 +173,29 @@ class Watcher:
 
     async def watch(self, listen):
         self.desk.start()
-        async with await asyncio.start_server(self.met, "127.0.0.1", listen) as server:
+        async with await asyncio.start_server(self.met, "127.0.0.1", listen, ssl=self.near, **self.waits[0]) as server:
             self.teller.listens("127.0.0.1", server.sockets[0].getsockname()[1])
             for _ in range(self.most):
                 await self.come.acquire()
         for _ in range(self.most):
             await self.gone.acquire()
         self.desk.end()
+
+
+def tls_of(parser, said):
+    """What TLS to the client and to the server needs; `None` where it is not spoken."""
+    near = far = None
+    if bool(said.tls_cert) != bool(said.tls_key):
+        parser.error("--tls-cert and --tls-key go together")
+    try:
+        if said.tls_cert:
+            near = ssl.SSLContext(ssl.PROTOCOL_TLS_SERVER)
+            near.load_cert_chain(said.tls_cert, said.tls_key, password="")
+        if said.tls_to is not None:
+            far = ssl.create_default_context(cafile=said.tls_to or None)
+    except OSError as error:
+        told(f"a certificate or a key cannot be read: {error.strerror or error}")
+    return near, far
 
 
 def main():
@@ -168,9 +205,13 @@ def main():
     parser.add_argument("port", type=int)
     parser.add_argument("--connections", type=int)
     parser.add_argument("--html", type=Path)
+    parser.add_argument("--tls-cert", metavar="FILE")
+    parser.add_argument("--tls-key", metavar="FILE")
+    parser.add_argument("--tls-to", nargs="?", const="", metavar="CA")
     add_options(parser)
     said = parser.parse_args()
-    watcher = Watcher(said.host, said.port, said.connections or sys.maxsize, teller_of(said, goes_on=True), said.html)
+    tls = tls_of(parser, said)
+    watcher = Watcher(said.host, said.port, said.connections or sys.maxsize, teller_of(said, goes_on=True), said.html, tls)
     try:
         asyncio.run(watcher.watch(said.listen))
     finally:

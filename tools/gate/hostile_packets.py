@@ -191,6 +191,7 @@ def reversed_but_first(sent):
 
 def dear(check, file):
     """Each costs memory and time in proportion to its bytes."""
+    most, slowest = 0, 0
     with file(pcap(linked(packets_of([])))) as path:
         memory, took = cost(path, "--quiet")
     for name, of in DEAR.items():
@@ -199,8 +200,9 @@ def dear(check, file):
             for how in ("--quiet", "--json"):
                 its_memory, its_time = cost(path, how)
                 more, longer = (its_memory - memory) / len(made), (its_time - took) * 1e6 / len(made)
-                print(f"{name} {how}: {len(made):,} bytes, {more:.1f} bytes a byte, {longer:.2f} us a byte")
                 check(f"{name} {how}", more < MOST_MEMORY and longer < MOST_TIME, f"{more:.0f} bytes and {longer:.1f} us for each of {len(made):,}")
+                most, slowest = max(most, more), max(slowest, longer)
+    print(f"a byte of a hostile file takes {most:.0f} bytes of memory, and {slowest:.1f} microseconds, at most")
 
 
 RUN = """import os, re, runpy, sys

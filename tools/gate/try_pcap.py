@@ -307,7 +307,8 @@ def with_the_library():
     debian = "/usr/bin/python3"
     if not os.path.exists("/usr/lib/python3/dist-packages/dpkt"):
         print("try_pcap: no module dpkt: Debian's python3-dpkt is installed", flush=True)
-        subprocess.run(["apt-get", "install", "-y", "-qq", "--no-install-recommends", "python3-dpkt"], stdout=subprocess.DEVNULL, check=True)
+        for words in (["update"], ["install", "-y", "--no-install-recommends", "python3-dpkt"]):
+            subprocess.run(["apt-get", "-qq", *words], stdout=subprocess.DEVNULL, check=True)
     if os.path.samefile(sys.executable, debian):
         told("no module dpkt, though it was installed")
     os.execv(debian, [debian, *sys.argv])

@@ -27,6 +27,7 @@ from amqp.telling import WHO
 from gate.made_connections import SENDER, attach, begin, begun, cases, ended, frame, opened, uint
 from gate.heard import Heard
 from gate.made_faults import FAULTS, LAWFUL
+from gate.watched_over_tls import over_tls
 from shared.command import command
 from watch import Desk, Watched
 
@@ -116,6 +117,9 @@ class Sink:
         self.is_closed = True
 
     close = write_eof
+
+    def can_write_eof(self):
+        return True
 
     async def wait_closed(self):
         pass
@@ -278,6 +282,7 @@ def main():
     noise(seed)
     for test in (what_cannot_be_read_is_told_once, what_raises_is_told_once, nothing_waits_for_what_looks, over_sockets, keeps_what_is_live, takes_many_sessions_at_once):
         test()
+    over_tls(check)
     print(f"{FAILED.count(False)} passed, {FAILED.count(True)} failed")
     sys.exit(any(FAILED))
 
