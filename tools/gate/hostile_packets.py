@@ -130,14 +130,20 @@ def links():
 
 
 def nested():
-    """Values within values, lists of nothing, and arrays of a great count."""
+    """Values within values, lists of nothing, arrays of a great count, and descriptors upon descriptors."""
     deep, wide = b"\x45", b"\xd0" + pack(">II", 60004, 60000) + b"\x45" * 60000
     for _ in range(400):
         deep = b"\xd0" + pack(">II", len(deep) + 4, 1) + deep
     arrays = b"\xf0" + pack(">IIB", 5, 2**32 - 1, 0x40)
-    described = b"\0" * 900 + b"\x40"
-    of = [frame("A", 0, ATTACH, b"\xa1\1x", uint(0), SENDER, NULL, NULL, it) for it in (deep, wide, arrays, described)]
-    return in_segments(of * 24)
+    of = [frame("A", 0, ATTACH, b"\xa1\1x", uint(0), SENDER, NULL, NULL, it) for it in (deep, wide, arrays, b"\0" * 900 + b"\x40")]
+    return in_segments([*of * 12, *described() * 120])
+
+
+def described():
+    """A value whose descriptor is followed by a value whose descriptor .., alone and in the parts of a source."""
+    chain = b"\0\x40" * 440 + b"\x40"
+    parts = b"\0\x53\x28\xd0" + pack(">II", 4 + 11 * len(chain), 11) + chain * 11
+    return [frame("A", 0, ATTACH, b"\xa1\1x", uint(0), SENDER, NULL, NULL, it, it) for it in (chain, b"\0" * 300 + b"\x40" * 301, parts)]
 
 
 def one_by_one(count):
