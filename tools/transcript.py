@@ -9,9 +9,10 @@
                                                prints a line a frame; breaches alone, with the status 1 where there is one, or something could not be looked at;
                                                or, alone or with --quiet, an object of JSON a line (docs/USING.md lists their fields)
 
-FILE is a file of packets, .pcap or .pcapng (read by Debian's python3-dpkt), what `tshark -q -z follow,tcp,raw,N` prints, or a file of lines `A HEX` and `B HEX`, each a
-frame without its size; A is the client. Of several connections in a file of packets `--connection N` chooses one. The second word says whose place the engine takes (A where it is left out): what the other side sent comes as `recv` lines, and
-what this side sent is asked for. The engine gives its own channels, handles and numbers, so those are translated in both directions:
+FILE is a file of packets, .pcap or .pcapng (read by Debian's python3-dpkt), what `tshark -q -z follow,tcp,raw,N` prints, or a file of lines
+`A HEX` and `B HEX`, each a frame without its size; A is the client. Of several connections in a file of packets `--connection N` chooses
+one. The second word says whose place the engine takes (A where it is left out): what the other side sent comes as `recv` lines, and what
+this side sent is asked for. The engine gives its own channels, handles and numbers, so those are translated in both directions:
 - the peer's Begin names the channel that the engine has given, the lowest one that no session holds; a session holds its own until both have
   ended it. A Begin that asks for a session is taken as the answer to one of this side;
 - next-incoming-id of the peer's flows and the numbers in its dispositions count from this side's first ones, which are 0 here;
@@ -43,7 +44,7 @@ from packets.joined import Recording
 from page.make import found_by_place, of_recording, page_of
 from page.values import spelled, visible
 from shared.command import command, told
-from shared.progress import Progress, each
+from shared.progress import Progress
 
 # Two lines that are always refused, and change nothing: no line of a transcript is answered so
 MARK, MARKED = "release 4294967295\nrecv \n", "err NoSession\nerr DecodeError\n"
@@ -118,7 +119,7 @@ class Telling:
 
     def __init__(self, said):
         self.said, self.progress = said, Progress(Path(said.file).stat().st_size)
-        self.teller = teller_of(said, self.progress.hide)
+        self.teller = teller_of(said, lambda: self.progress.hide())
         # a line a frame is asked for, or breaches, or JSON
         self.by_frames = said.frames or said.quiet or said.json
 
@@ -127,11 +128,12 @@ class Telling:
         if has_packets(self.said.file):
             return self.look_at_packets()
         for it in self.connections(False):
-            seen = Seen(self.teller, it.number)
-            for at, (side, of) in enumerate(each(it.frames, self.progress)):
+            seen, self.progress = Seen(self.teller, it.number), self.progress_of(it, 1)
+            for at, (side, of) in enumerate(self.progress.each(it.frames)):
                 self.lose(seen, it.lost.get(at, {}))
                 seen.whole(side, of)
             self.lose(seen, it.lost.get(len(it.frames), {}))
+            self.progress.hide()
             seen.over()
 
     def lose(self, seen, lost):
@@ -145,7 +147,9 @@ class Telling:
                 self.happens(seen, connection, time, side, what)
         self.progress.hide()
         told_apart(recording.notes)
-        self.count = recording.count
+        self.teller.is_bad = self.teller.is_bad or not recording.is_whole
+        if recording.count < (self.said.connection or 1):
+            told(f"{self.said.file}: no connection {self.said.connection or ''} that speaks AMQP in it".replace("  ", " "))
 
     def happens(self, seen, connection, time, side, what):
         """What happens to a connection of a file of packets."""
@@ -158,6 +162,10 @@ class Telling:
             seen[connection.number].lose(side, what)
         else:
             seen[connection.number].see(side, what, time)
+
+    def progress_of(self, it, turns):
+        """How far it is with a connection whose frames are gone through so often."""
+        return Progress(turns * sum(len(of) + 4 for _, of in it.frames))
 
     def connections(self, sasl):
         found = connections(self.said.file, self.said.connection, sasl, self.progress)
@@ -172,10 +180,10 @@ class Telling:
             self.one(it, f"connection {it.number}, " if len(found) > 1 else "")
 
     def one(self, it, begins):
-        said, transcript = self.said, Transcript(it.frames, self.said.side, it.lost)
-        progress = Progress(sum(len(of) + 4 for _, of in it.frames))
-        lines = transcript.run(lambda frames: each(frames, progress))
-        progress.hide()
+        said, self.progress = self.said, self.progress_of(it, 2 + (self.said.html is not None))
+        transcript = Transcript(it.frames, said.side, it.lost, self.progress.each)
+        lines = transcript.run()
+        self.progress.hide()
         found = told_of(transcript, said.run, judges=True) if said.run else []
         if self.by_frames:
             self.tell(it, found_by_place(transcript, found))
@@ -187,6 +195,7 @@ class Telling:
             print("\n".join(shown(line) for _, line in lines))
         if page := page_of(said.html, it.number):
             of_recording(it, transcript, found, judged_by(said)).write(page)
+            self.progress.hide()
 
     def tell(self, it, found):
         tally = Tally(it.number)

@@ -11,7 +11,8 @@ from packets.joined import Recording
 
 
 class Recorded:
-    """A connection: its frames, each as a side and bytes, and their times; `whole` has those of SASL too. `lost` says by place before which frame a side ends, and why."""
+    """A connection: its frames, each as a side and bytes, and their times; `whole` has those of SASL too. `lost` says by place before which frame
+    a side ends, and why."""
 
     def __init__(self, number, title, sasl=False):
         self.number, self.title, self.frames, self.times, self.whole, self.lost, self.notes = number, title, [], [], [], {}, []
@@ -54,7 +55,7 @@ def connections(path, chosen, sasl, progress):
     if not has_packets(path):
         found = of_lines(Path(path).read_text().splitlines(), Path(path).name, sasl)
         told_apart(found.notes)
-        return [found]
+        return [found] if chosen in (None, 1) else []
     found, recording = {}, Recording(path, progress.at)
     for connection, time, side, what in recording:
         number = connection.number

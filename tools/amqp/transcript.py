@@ -14,10 +14,10 @@ AFTER_UNREAD = "after a frame that cannot be read"
 
 
 class Transcript:
-    def __init__(self, frames, side, lost=None):
-        """`lost` says by place before which frame a side's stream breaks off."""
-        self.frames, self.side, self.lines, self.lost = frames, side, [], lost or {}
-        self.read = [self.parsed(side, of) for side, of in frames]
+    def __init__(self, frames, side, lost=None, each=iter):
+        """`lost` says by place before which frame a side's stream breaks off; `each` hands on the frames, and may tell how far it is."""
+        self.frames, self.side, self.lines, self.lost, self.each = frames, side, [], lost or {}, each
+        self.read = [self.parsed(side, of) for side, of in each(frames)]
         self.places = Places(frames, self.read)
         # sessions by this side's recorded channel, and by the peer's; those in which a request waits; the channels here
         self.sessions, self.by_own, self.by_peer, self.waits, self.channels, self.is_open = [], {}, {}, set(), Channels(), False
@@ -33,9 +33,9 @@ class Transcript:
     def said(self, at, line):
         self.lines.append((at, line))
 
-    def run(self, each=iter):
-        """The lines, each with the place of its frame; `each` hands on the frames, and may tell how far it is."""
-        for at, ((side, of), frame) in enumerate(zip(each(self.frames), self.read)):
+    def run(self):
+        """The lines, each with the place of its frame."""
+        for at, ((side, of), frame) in enumerate(zip(self.each(self.frames), self.read)):
             for by in self.lost.get(at, ()):
                 self.judge.lose(by)
                 self.has_gap = True

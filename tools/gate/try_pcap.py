@@ -218,10 +218,12 @@ def several():
         lines, _ = ran(path, "--connection", "2")
         none, wrong = ran(path)
         nobody, no_frame = ran(path, "--connection", "9")
+        nobody_either, none_is_there = ran(path, "--connection", "9", "--quiet")
     check("one is chosen", all("connection 2, " in it for it in chosen) and not any("connection 1" in it for it in said), chosen, said)
     check("its lines", lines == [line for _, line in transcript.Transcript(sources[1], "A").run()], lines[:3])
     check("one is to be chosen", none == [] and any("one connection of 3 is to be chosen" in it for it in wrong), wrong)
     check("none of that number", nobody == [] and any("no frame in it" in it for it in no_frame), no_frame)
+    check("nothing is judged", nobody_either == [] and any("no connection 9 that speaks AMQP in it" in it for it in none_is_there), none_is_there)
 
 
 def a_port_that_is_used_again():
@@ -260,6 +262,8 @@ def fragments_are_told():
     time, data = on_link[8]
     on_link.append((time, data[:20] + b"\x20\0" + data[22:]))
     _, notes = looked_at(pcap(on_link))
+    with File(pcap(on_link)) as path:
+        check("a status where packets were left out", ran(path, "--quiet")[1][-1] == "1")
     check("fragments", notes == ["1 packets were left out: fragments of IP are not put together"], notes)
     _, notes = looked_at(pcap(on_link, 147))
     check("a link that is not read", notes == [f"{len(on_link)} packets were left out: links of type 147 are not read"], notes)
@@ -287,12 +291,15 @@ def the_tool():
         ran(path, "--html", f"{folder}/page.html")
         page = Path(folder, "page.html").read_text(encoding="utf-8")
     check("the same lines", same_lines)
-    check("times", sum("+0.001" in it or "+0.000999" in it for it in shown) > 90 and "0.001 s" in shown[-1] and "10.0.0.1:40000 to 10.0.0.2:5672" in shown[0], *shown[:3], shown[-1])
+    check("times", sum("+0.001" in it or "+0.000999" in it for it in shown) > 90 and "0.001 s" in shown[-1], *shown[:3], shown[-1])
+    check("its ends", "10.0.0.1:40000 to 10.0.0.2:5672" in shown[0], shown[0])
     check("a page", "DeliveryId" in page and "connection 1: 10.0.0.1:40000" in page and "[96,0.0" in page)
 
 
 def without_the_library():
-    code = f"import sys; sys.modules['dpkt'] = None; sys.argv = ['tools/transcript.py', sys.argv[1], '--quiet']; sys.path.insert(0, {str(Path(transcript.__file__).parent)!r}); import transcript; transcript.main()"
+    tools = str(Path(transcript.__file__).parent)
+    code = f"import sys; sys.modules['dpkt'] = None; sys.argv = ['transcript', sys.argv[1], '--quiet']; sys.path.insert(0, {tools!r})"
+    code += "; import transcript; transcript.main()"
     with File(pcap(linked(packets_of([])))) as path:
         done = subprocess.run([sys.executable, "-c", code, str(path)], capture_output=True, text=True)
         lines = subprocess.run([sys.executable, "-c", code, str(CAPTURES / "pyamqp-proton.txt")], capture_output=True, text=True)

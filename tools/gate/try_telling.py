@@ -259,6 +259,14 @@ def how_far():
     progress.at(1000)
     progress.hide()
     check("nothing where there is no terminal", plain.getvalue() == "")
+    with tempfile.TemporaryDirectory() as folder, mock.patch.multiple("shared.progress", FIRST=-1, BETWEEN=0):
+        for words in (["--quiet"], ["--frames"], [], ["--html", f"{folder}/page.html"]):
+            err = Screen()
+            said = mock.patch.object(sys, "argv", ["transcript.py", str(RECORDING), *words])
+            with contextlib.redirect_stdout(io.StringIO()), contextlib.redirect_stderr(err), said, contextlib.suppress(SystemExit):
+                transcript.main()
+            is_shown = "bytes, 100%\r\x1b[K" in err.getvalue() or words == ["--frames"]
+            check(f"how far a recording is: {words}", is_shown and err.getvalue().endswith("\r\x1b[K"), err.getvalue()[-80:])
 
 
 def main():

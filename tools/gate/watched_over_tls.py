@@ -70,7 +70,8 @@ async def exchanged(words, of, near=None, far=None):
 async def refused(at_words):
     """A client that speaks no TLS where TLS is wanted is no connection, and the next one is."""
     words, of, near = at_words
-    watcher = await asyncio.create_subprocess_exec(sys.executable, watch.__file__, "0", "localhost", "1", "--connections", "1", *words, stdout=asyncio.subprocess.PIPE)
+    words = [sys.executable, watch.__file__, "0", "localhost", "1", "--connections", "1", *words]
+    watcher = await asyncio.create_subprocess_exec(*words, stdout=asyncio.subprocess.PIPE)
     at = int((await watcher.stdout.readline()).split(b":")[-1])
     reader, writer = await asyncio.open_connection("127.0.0.1", at)
     writer.write(of["A"])
@@ -99,6 +100,7 @@ def over_tls(check):
             check(f"a certificate: {name}", got == {"A": b"", "B": b""} and status == 1 and "CERTIFICATE_VERIFY_FAILED" in told, told, status)
         told = asyncio.run(refused((ends, of, trusts)))
         check("no TLS where it is wanted", "connection 1, localhost:1: " in told and "connection 2" not in told, told)
-        for name, words in (("no key", ends[:2]), ("no such file", ["--tls-to", f"{folder}/none"]), ("no certificate", ["--tls-cert", __file__, "--tls-key", __file__])):
+        none = [["--tls-to", f"{folder}/none"], ["--tls-cert", __file__, "--tls-key", __file__]]
+        for name, words in (("no key", ends[:2]), ("no such file", none[0]), ("no certificate", none[1])):
             ran = subprocess.run([sys.executable, watch.__file__, "0", "localhost", "1", *words], capture_output=True, text=True, timeout=PATIENCE)
             check(f"TLS with {name}", ran.returncode in (1, 2) and "Traceback" not in ran.stderr and ran.stderr, ran.stderr)

@@ -1,4 +1,4 @@
-"""Reads the headers of a packet down to TCP: link, IP of version 4 or 6, TCP (RFC 791, 8200 and 9293). Each is read once, from the front, in what was recorded."""
+"""Reads the headers of a packet down to TCP: link, IP of version 4 or 6, TCP (RFC 791, 8200 and 9293). Each is read once, from the front."""
 
 from struct import unpack_from
 from typing import NamedTuple
@@ -77,7 +77,7 @@ def version_6(packet, at):
     while kind in OPTIONS or kind in (FRAGMENT, AUTHENTICATION):
         if begins + 8 > len(packet):
             return None
-        if kind == FRAGMENT and unpack_from(">H", packet, begins + 2)[0] & 0xFFF9:
+        if kind == FRAGMENT and packet[begins] == TCP and unpack_from(">H", packet, begins + 2)[0] & 0xFFF9:
             raise Left("fragments of IP are not put together")
         units = {FRAGMENT: 8, AUTHENTICATION: 8 + packet[begins + 1] * 4}
         kind, begins = packet[begins], begins + units.get(kind, 8 + packet[begins + 1] * 8)

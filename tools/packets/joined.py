@@ -202,10 +202,11 @@ class Connection:
 
 
 class Recording:
-    """The connections in a file of packets that speak AMQP. `notes` says what was left out, once it is read."""
+    """The connections in a file of packets that speak AMQP. In the end `notes` says what was left out, and `is_whole` whether all packets were read."""
 
     def __init__(self, path, went=lambda at: None):
         self.path, self.went, self.live, self.count, self.left, self.others, self.notes = path, went, {}, 0, {}, 0, []
+        self.is_whole = True
 
     def __iter__(self):
         """Each thing that happens: its connection, the time, the side, and bytes, or a text where bytes are missing; at a connection's end three times `None`."""
@@ -216,9 +217,11 @@ class Recording:
                 if of is not None:
                     yield from self.take(order, time, of)
         except Unreadable as error:
+            self.is_whole = False
             self.notes.append(f"the file can be read no further than packet {order:,}: {error}")
         for connection in [*self.live.values()]:
             yield from self.over(connection, order + 1)
+        self.is_whole = self.is_whole and not self.left
         self.notes += [f"{count:,} packets were left out: {why}" for why, count in self.left.items()]
         if self.others:
             self.notes.append(f"{self.others:,} other connections: they speak TLS or no AMQP, lack their first bytes, or are past the {MOST_CONNECTIONS:,}th")
@@ -237,14 +240,14 @@ class Recording:
             if connection is not None:
                 yield from self.over(connection, order)
             connection = self.live[key] = Connection(of.source, of.target)
-        if connection is None:
-            if not of.data and not of.flags & SYN:
-                return
+        elif connection is None and (of.data or of.flags & SYN):
             # without its first SYN: the answer to that is the server's
             ends = (of.target, of.source) if of.flags & SYN else (of.source, of.target)
             connection = self.live[key] = Connection(*ends)
-        if connection.is_other or connection.is_over:
-            return
+        if connection is not None and not connection.is_other and not connection.is_over:
+            yield from self.goes_on(connection, order, time, of)
+
+    def goes_on(self, connection, order, time, of):
         for time, side, what in connection.take(order, time, of):
             yield from self.seen(connection, time, side, what)
         if connection.has_ended():

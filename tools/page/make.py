@@ -100,17 +100,17 @@ def found_by_place(transcript, told):
 
 
 def of_recording(recorded, transcript, told, judged):
-    """The page of a connection that was recorded."""
+    """The page of a connection that was recorded; `transcript` may tell how far it is."""
     page = Page(recorded.title, judged)
     page.notes += recorded.notes
-    return filled(page, recorded, found_by_place(transcript, told))
+    return filled(page, recorded, transcript.each(recorded.whole), found_by_place(transcript, told))
 
 
-def filled(page, recorded, found):
+def filled(page, recorded, whole, found):
     """The page with all of a connection's frames: those of SASL too, but these alone are not counted."""
     frames, times, at = recorded.frames, recorded.times, 0
     began = next((it for it in times if it is not None), 0)
-    for side, of in recorded.whole:
+    for side, of in whole:
         is_counted = at < len(frames) and frames[at] == (side, of)
         time = None if not is_counted or times[at] is None else round(times[at] - began, 4)
         page.add(side, of, at + 1 if is_counted else 0, time, found.get(at, ()) if is_counted else ())

@@ -12,7 +12,7 @@ class Progress:
     """Of `total` bytes so many are done. The line is written over, and taken away before anything else is written to the terminal."""
 
     def __init__(self, total, err=None, clock=time.monotonic):
-        self.total, self.err, self.clock, self.is_shown = total, err or sys.stderr, clock, False
+        self.total, self.err, self.clock, self.is_shown, self.done = total, err or sys.stderr, clock, False, 0
         self.next = clock() + FIRST if self.err.isatty() else float("inf")
 
     def at(self, done):
@@ -20,6 +20,13 @@ class Progress:
             self.next, self.is_shown = now + BETWEEN, True
             share = 100 * done // max(self.total, 1)
             self.write(f"\r\x1b[K{done:,} of {self.total:,} bytes, {share}%")
+
+    def each(self, frames):
+        """Frames one after the other, each a side and bytes without a size: each counts once it is done."""
+        for side, of in frames:
+            yield side, of
+            self.done += len(of) + 4
+            self.at(self.done)
 
     def hide(self):
         if self.is_shown:
@@ -31,12 +38,3 @@ class Progress:
         with contextlib.suppress(OSError):
             self.err.write(text)
             self.err.flush()
-
-
-def each(frames, progress):
-    """The frames of a recording, one after the other; each counts once it is done."""
-    done = 0
-    for side, of in frames:
-        yield side, of
-        done += len(of) + 4
-        progress.at(done)
