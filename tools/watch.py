@@ -151,7 +151,7 @@ class Watcher:
     def __init__(self, host, port, most, teller, html=None, tls=(None, None)):
         self.host, self.port, self.most, self.teller, self.html, self.count = host, port, most, teller, html, 0
         (self.near, self.far), self.waits = tls, [{"ssl_handshake_timeout": HANDSHAKE} if it else {} for it in tls]
-        self.desk, self.come, self.gone = Desk(), asyncio.Semaphore(0), asyncio.Semaphore(0)
+        self.desk = Desk()
 
     async def met(self, reader, writer):
         if self.count == self.most:
@@ -172,6 +172,8 @@ class Watcher:
             await watched.between(near, far)
 
     async def watch(self, listen):
+        # here, since before Python 3.10 they are of the loop in which they are made
+        self.come, self.gone = asyncio.Semaphore(0), asyncio.Semaphore(0)
         self.desk.start()
         async with await asyncio.start_server(self.met, "127.0.0.1", listen, ssl=self.near, **self.waits[0]) as server:
             self.teller.listens("127.0.0.1", server.sockets[0].getsockname()[1])

@@ -170,6 +170,15 @@ def waiting():
     return raw([*packets[:4], *packets[5:], *answers])
 
 
+def cut_up():
+    """A packet of a million bytes says that it comes after what the other side sends, which says that it comes after each of them."""
+    long = Packet(1.0, "A", 8, bytes.fromhex("0000000802000000") * 125000, 10**8)
+    short = [Packet(1.0, "B", 8 + number, b"\0\0\0\x08\2\0\0\0"[number % 8 :][:1], 9 + number) for number in range(18000)]
+    found = raw([*packets_of([])[:4], *short, long])
+    # a length of zero, as offloaded segments have it
+    return [*found[:-1], (1.0, found[-1][1][:2] + b"\0\0" + found[-1][1][4:])]
+
+
 def options():
     return b"".join([section(), *[block(1, pack("<HHI", 101, 0, 0) + pack("<HH", 1, 0) * 1000)] * 500])
 
@@ -185,6 +194,7 @@ DEAR = {
     "links": lambda: pcap(links(), 101),
     "values in values": lambda: pcap(nested(), 101),
     "headers of IP": lambda: pcap(extended(), 101),
+    "a packet that is cut up": lambda: pcap(cut_up(), 101, most=2**20),
     "what waits": lambda: pcap(waiting(), 101),
     "interfaces": lambda: b"".join([section(), *[interface()] * (SIZE // 20)]),
     "options": options,

@@ -42,7 +42,7 @@ def tcp(packet, client=CLIENT):
 def ip_4(packet, inside, flags=0x4000):
     ends = bytes([10, 0, 0, 1]), bytes([10, 0, 0, 2])
     ends = ends if packet.side == "A" else ends[::-1]
-    return pack(">BBHHHBBH4s4s", 0x45, 0, 20 + len(inside), 1, flags, 64, 6, 0, *ends) + inside
+    return pack(">BBHHHBBH4s4s", 0x45, 0, (20 + len(inside)) % 2**16, 1, flags, 64, 6, 0, *ends) + inside
 
 
 def ip_6(packet, inside, extensions=b"", kind=6):

@@ -342,13 +342,17 @@ def main():
     cut, big = a_page_has_an_end(), many_rows()
     program = sys.argv[1] if len(sys.argv) > 1 else next(filter(None, map(shutil.which, NAMES)), None)
     before = len(FAILED)
-    with tempfile.TemporaryDirectory(ignore_cleanup_errors=True) as folder:
+    folder = tempfile.mkdtemp()
+    try:
         browser = Browser(program, folder, check)
         if browser.works():
             browsed(browser, big, cut)
             check("the number of these tests", len(FAILED) - before == LEFT_OUT, len(FAILED) - before)
         else:
             print(f"chromium is not here, or does not run: {LEFT_OUT} checks left out")
+    finally:
+        # a browser that has just ended may write there yet
+        shutil.rmtree(folder, ignore_errors=True)
     print(f"{FAILED.count(False)} passed, {FAILED.count(True)} failed")
     sys.exit(any(FAILED))
 

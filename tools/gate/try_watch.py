@@ -26,7 +26,7 @@ from amqp.recordings import recorded
 from amqp.telling import WHO
 from gate.made_connections import SENDER, attach, begin, begun, cases, ended, frame, opened, uint
 from gate.heard import Heard
-from gate.made_faults import FAULTS, LAWFUL
+from gate.made_faults import FAULTS, LAWFUL, transfer
 from gate.watched_over_tls import over_tls
 from shared.command import command
 from watch import Desk, Watched
@@ -190,6 +190,20 @@ def what_cannot_be_read_is_told_once():
     check("told once", sum("looked at no more (no frame has 3 bytes)" in it for it in watched.told) == 1, *watched.told)
 
 
+def what_hangs_on_it_is_not_told():
+    """What the client sent after a size that no frame has may have begun a session, or given a window: the server is not blamed for what hangs on it."""
+    for before, after in ((opened(), [begin("B", 0, 0), attach("B", 0, "link", 0, SENDER)]), ([*opened(), begin("A", 0)], [begin("B", 0, 0), *sends(200)])):
+        stream = [*streamed(before), ("A", b"\0\0\0\3" * 2), *((side, sized(of)) for side, of in after)]
+        watched = is_handed_on("what hangs on a broken stream", stream)
+        told = [it for it in watched.told if not it.startswith("over")]
+        check("what hangs on it is not told", told == [f"client, after frame {len(before)}: looked at no more (no frame has 3 bytes)"], *told)
+
+
+def sends(count):
+    """The server attaches a link, and sends on it."""
+    return [attach("B", 0, "link", 0, SENDER), *(transfer(number, side="B") for number in range(count))]
+
+
 def what_raises_is_told_once():
     step, Judge.step = Judge.step, None
     watched = is_handed_on("what raises", [*streamed(opened()), *streamed(opened())[2:]], raises=True)
@@ -280,7 +294,8 @@ def main():
     made()
     damages(seed)
     noise(seed)
-    for test in (what_cannot_be_read_is_told_once, what_raises_is_told_once, nothing_waits_for_what_looks, over_sockets, keeps_what_is_live, takes_many_sessions_at_once):
+    of_streams = what_cannot_be_read_is_told_once, what_hangs_on_it_is_not_told, what_raises_is_told_once, nothing_waits_for_what_looks
+    for test in (*of_streams, over_sockets, keeps_what_is_live, takes_many_sessions_at_once):
         test()
     over_tls(check)
     print(f"{FAILED.count(False)} passed, {FAILED.count(True)} failed")

@@ -68,7 +68,8 @@ class Page:
         return PLACES.sub(lambda it: filled[it[1]], (HERE / "page.html").read_text(encoding="utf-8"))
 
     def write(self, path):
-        Path(path).write_text(self.text(), encoding="utf-8", newline="\n")
+        with Path(path).open("w", encoding="utf-8", newline="\n") as file:
+            file.write(self.text())
 
 
 def page_of(html, number):
