@@ -60,7 +60,7 @@ class Half:
 
     def lose(self):
         """Something was sent that cannot be read: a window, or a transfer, may have been in it."""
-        self.is_lost = True
+        self.is_lost, self.window = True, inf
         if self.other is not None:
             self.other.room = inf
 
@@ -185,6 +185,13 @@ class Judge:
         if wrong and is_cut:
             wrong = f"NotRead ({size} bytes)"
         return other.refuses(channel, size) or wrong or fault
+
+    def lose(self, side):
+        """Nothing more of what a side sends is read: it may have begun, answered and allowed anything."""
+        mine = self.sides[side]
+        mine.is_begun = mine.is_doubtful = True
+        for half in mine.halves.values():
+            half.lose()
 
     def is_lost(self, side, channel):
         """Whether something that the side sent on this channel could not be read, so that it is not blamed there."""

@@ -1,8 +1,6 @@
-"""Cuts what one side sends into frames, and reads recordings, for transcript.py and watch.py (AMQP 1.0 part 2, sections 2.2 and 2.3)."""
+"""Cuts what one side sends into frames, for transcript.py and watch.py (AMQP 1.0 part 2, sections 2.2 and 2.3)."""
 
 import re
-import sys
-from pathlib import Path
 
 HEADER = b"AMQP"
 # The least size of a frame, which counts its own four bytes
@@ -15,8 +13,8 @@ class Stream:
     def __init__(self, kept=2**32, sasl=False):
         """Of a frame, with its size, `kept` bytes are kept; the others are counted, and passed over."""
         self.kept, self.sasl, self.waiting, self.passing = kept, sasl, bytearray(), 0
-        # why nothing more can be read of the stream
-        self.broken = None
+        # why nothing more can be read of the stream, and whether that is the fault of its side
+        self.broken, self.is_wrong = None, False
 
     def feed(self, data):
         """Each frame that these bytes bring: its size, and its bytes without that."""
@@ -33,6 +31,11 @@ class Stream:
             self.waiting.clear()
         return found
 
+    def stop(self, why):
+        """Nothing more is read of the stream."""
+        self.broken, self.passing = self.broken or why, 0
+        self.waiting.clear()
+
     def is_within(self):
         """Whether what was fed ends within a frame or a header."""
         return bool(self.waiting) or self.passing > 0
@@ -45,7 +48,7 @@ class Stream:
             return self.of_header(self.waiting[at + 4])
         size = int.from_bytes(self.waiting[at : at + 4], "big")
         if size < LEAST:
-            self.broken = f"no frame has {size} bytes"
+            self.broken, self.is_wrong = f"no frame has {size} bytes", True
             return None
         return size
 
@@ -69,22 +72,8 @@ class Stream:
         return data[here:] if here else data
 
 
-def recorded(path, sasl=False):
-    """The frames of a recording: side and bytes, without their size, in the order in which they were whole."""
-    lines = Path(path).read_text().splitlines()
-    if any(line.startswith("Follow: tcp") for line in lines):
-        return followed(lines, sasl)
-    return [(line[0], bytes.fromhex(line[2:])) for line in lines if re.fullmatch(r"[AB] [0-9a-fA-F]*", line)]
-
-
-def followed(lines, sasl=False):
-    """The frames of a followed stream: the second node's chunks are indented."""
-    streams, found = {"A": Stream(sasl=sasl), "B": Stream(sasl=sasl)}, []
+def chunks(lines):
+    """What a followed stream shows, in order: the second node's chunks are indented."""
     for line in lines:
         if re.fullmatch(r"\t?[0-9a-fA-F]+", line):
-            side = "B" if line.startswith("\t") else "A"
-            found += [(side, of) for _, of in streams[side].feed(bytes.fromhex(line.strip()))]
-    for side, stream in streams.items():
-        if stream.broken is not None:
-            print(f"{side}: no more of it was read: {stream.broken}", file=sys.stderr)
-    return found
+            yield "B" if line.startswith("\t") else "A", bytes.fromhex(line.strip())

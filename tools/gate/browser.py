@@ -21,7 +21,7 @@ class Browser:
 
     def run(self, text, place, *words):
         path = self.folder / "page.html"
-        path.write_text(text, encoding="utf-8", newline="\n")
+        path.write_text(text, encoding="utf-8")
         fixed = [self.program, "--headless", "--no-sandbox", "--disable-gpu", "--enable-logging=stderr", "--window-size=1400,900", f"--user-data-dir={self.folder}/user"]
         return subprocess.run([*fixed, *words, f"{path.as_uri()}{place}"], capture_output=True, text=True, errors="replace", timeout=120)
 

@@ -27,6 +27,7 @@ HISTORIES = {
     "amqp_driver": (("Driver",), None),
     "amqp_session": (("Session",), ("amqp_session", "History", "SessionStep")),
     "amqp_connection": (("Connection",), ("amqp_connection", "History", "Step")),
+    "amqp_idle": (("IdleClock",), ("amqp_idle", "History", "IdleStep")),
 }
 LEGAL = "amqp_engine", "Legal", "Legal"
 OWNER = re.compile(r"impl(?:<.*?>)? (?:[\w:]+(?:<.*?>)? for )?(\w+)")

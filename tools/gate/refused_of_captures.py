@@ -15,10 +15,11 @@ from pathlib import Path
 sys.path.insert(0, str(Path(__file__).resolve().parents[1]))
 
 from amqp.recorded import CAPTURES
-from amqp.streams import followed, recorded
+from amqp.recordings import of_lines, recorded
+from amqp.transcript import Transcript
 from gate.made_connections import cases
 from shared.command import command
-from transcript import Transcript, refusals
+from transcript import refusals
 
 ROOT = Path(__file__).resolve().parents[2]
 
@@ -64,7 +65,7 @@ def main():
     tried = [(name, size) for name in sorted(names) for size in (1, 7, 4096)]
     for name, size in tried:
         frames = recorded(CAPTURES / f"{name}.txt")
-        if followed(shown(frames, size)) != frames:
+        if of_lines(shown(frames, size)).frames != frames:
             failed.append((name, size))
             print(f"{name}, chunks of {size}: other frames were read")
     print(f"{len(table) + len(tried) - len(failed)} passed, {len(failed)} failed")

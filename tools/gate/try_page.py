@@ -31,14 +31,16 @@ import transcript
 import watch
 from amqp.frames import ATTACH
 from amqp.recorded import CAPTURES
-from amqp.streams import recorded
+from amqp.recordings import of_lines, recorded
+from amqp.telling import ENGINE
+from amqp.transcript import Transcript
 from gate.browser import Browser
 from gate.made_connections import NULL, SENDER, frame, string, uint
 from gate.made_pages import HOSTILE, PASSWORD, SYMBOL, followed_lines, generated, hostile, listed, spelled
 from gate.refused_of_captures import wanted
-from page.make import ENGINE, MEANINGS, Page, of_recording
+from gate.stub import with_stub
+from page.make import MEANINGS, Page, of_recording
 from shared.command import command
-from transcript import Transcript
 
 NUMBER, KIND, FIELDS, FOUND = 0, 3, 7, 10
 NAMES = ("chromium", "chromium-browser", "google-chrome")
@@ -86,7 +88,8 @@ def page_of(name, side, lines):
     read = Transcript(recorded(path), side)
     read.run()
     found = [re.fullmatch(r"frame (\d+), ([^:]*): (.*)", it) for it in lines]
-    return of_recording(path, read, [(int(it[1]) - 1, "", it[3], ENGINE) for it in found], "the engine"), read
+    made = of_lines(path.read_text().splitlines(), path.name)
+    return of_recording(made, read, [(int(it[1]) - 1, "", it[3], ENGINE) for it in found], "the engine"), read
 
 
 def recordings():
@@ -145,11 +148,7 @@ def many_parts_cost_little():
 def with_a_program():
     """A program in the place of amqp_replay, that refuses each Detach: the page says so, and by whom it is told."""
     lines = spelled(recorded(CAPTURES / "erlang-rmq.txt"))
-    with tempfile.TemporaryDirectory() as folder:
-        program = Path(folder) / "stub"
-        program.write_text(f"#!{sys.executable}\n{STUB}")
-        program.chmod(0o755)
-        text, said = written(lines, "B", "--run", str(program))
+    text, said = with_stub(lambda program: written(lines, "B", "--run", program), "HandleInUse")
     data = data_of(text)
     blamed = {row[NUMBER] for row in data["rows"] for _, told, by, _ in row[FOUND] if (told, by) == ("HandleInUse", ENGINE)}
     detaches = {row[NUMBER] for row in data["rows"] if row[2] == "A" and row[KIND] == "Detach"}
@@ -330,16 +329,6 @@ def many_in(browser, big):
     check("its breaches", len(drawn(browser.opened("its breaches", big, "#refused"))) == MANY // 9999)
 
 
-# A program that is called like amqp_replay
-STUB = """import sys
-for line in sys.stdin.read().split("\\n"):
-    if line == "release 4294967295":
-        print("err NoSession")
-    elif line == "recv ":
-        print("err DecodeError")
-    elif line.startswith("recv ") and line[13:19] == "005316":
-        print("err HandleInUse")
-"""
 LEFT_OUT = 32
 
 
@@ -353,13 +342,17 @@ def main():
     cut, big = a_page_has_an_end(), many_rows()
     program = sys.argv[1] if len(sys.argv) > 1 else next(filter(None, map(shutil.which, NAMES)), None)
     before = len(FAILED)
-    with tempfile.TemporaryDirectory(ignore_cleanup_errors=True) as folder:
+    folder = tempfile.mkdtemp()
+    try:
         browser = Browser(program, folder, check)
         if browser.works():
             browsed(browser, big, cut)
             check("the number of these tests", len(FAILED) - before == LEFT_OUT, len(FAILED) - before)
         else:
             print(f"chromium is not here, or does not run: {LEFT_OUT} checks left out")
+    finally:
+        # a browser that has just ended may write there yet
+        shutil.rmtree(folder, ignore_errors=True)
     print(f"{FAILED.count(False)} passed, {FAILED.count(True)} failed")
     sys.exit(any(FAILED))
 

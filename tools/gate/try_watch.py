@@ -19,12 +19,17 @@ sys.path.insert(0, str(Path(__file__).resolve().parents[1]))
 import watch
 from amqp.canonical import boolean
 from amqp.frames import CLOSE, DETACH, END
+from amqp.judging import Judge
+from amqp.looking import Seen
 from amqp.recorded import CAPTURES
-from amqp.streams import recorded
+from amqp.recordings import recorded
+from amqp.telling import WHO
 from gate.made_connections import SENDER, attach, begin, begun, cases, ended, frame, opened, uint
-from gate.made_faults import FAULTS, LAWFUL
+from gate.heard import Heard
+from gate.made_faults import FAULTS, LAWFUL, transfer
+from gate.watched_over_tls import over_tls
 from shared.command import command
-from watch import Desk, Seen, Watched
+from watch import Desk, Watched
 
 HEADER = b"AMQP\0\1\0\0"
 DAMAGED = 40
@@ -48,14 +53,14 @@ def streamed(frames):
 
 
 def told_of(frames, chunk=2**20):
-    told = []
-    seen = Seen(told.append)
+    heard = Heard()
+    seen = Seen(heard)
     for side, data in streamed(frames):
         for at in range(0, len(data), chunk):
             seen.see(side, data[at : at + chunk])
     for side in "AB":
         seen.end(side)
-    return told
+    return heard.told
 
 
 # ---- what it tells
@@ -82,7 +87,7 @@ def recordings():
 
 def made():
     for name, before, wrong, after, fault in FAULTS:
-        told, who = told_of([*before, *wrong, *after]), watch.WHO[wrong[0][0]]
+        told, who = told_of([*before, *wrong, *after]), WHO[wrong[0][0]]
         begins = f"{who}, frame {len(before) + 1}, "
         check(name, len(told) == 1 and told[0].startswith(begins) and fault in told[0], *told)
     for name, frames in LAWFUL:
@@ -113,6 +118,9 @@ class Sink:
 
     close = write_eof
 
+    def can_write_eof(self):
+        return True
+
     async def wait_closed(self):
         pass
 
@@ -121,11 +129,8 @@ class Quiet(Watched):
     """It tells a list."""
 
     def __init__(self, desk):
-        self.told = []
-        super().__init__(1, desk, False)
-
-    def tell(self, what):
-        self.told.append(what)
+        super().__init__(1, desk, Heard())
+        self.told = self.teller.told
 
 
 async def handed_on(stream, desk):
@@ -185,11 +190,25 @@ def what_cannot_be_read_is_told_once():
     check("told once", sum("looked at no more (no frame has 3 bytes)" in it for it in watched.told) == 1, *watched.told)
 
 
+def what_hangs_on_it_is_not_told():
+    """What the client sent after a size that no frame has may have begun a session, or given a window: the server is not blamed for what hangs on it."""
+    for before, after in ((opened(), [begin("B", 0, 0), attach("B", 0, "link", 0, SENDER)]), ([*opened(), begin("A", 0)], [begin("B", 0, 0), *sends(200)])):
+        stream = [*streamed(before), ("A", b"\0\0\0\3" * 2), *((side, sized(of)) for side, of in after)]
+        watched = is_handed_on("what hangs on a broken stream", stream)
+        told = [it for it in watched.told if not it.startswith("over")]
+        check("what hangs on it is not told", told == [f"client, after frame {len(before)}: looked at no more (no frame has 3 bytes)"], *told)
+
+
+def sends(count):
+    """The server attaches a link, and sends on it."""
+    return [attach("B", 0, "link", 0, SENDER), *(transfer(number, side="B") for number in range(count))]
+
+
 def what_raises_is_told_once():
-    step, watch.Judge.step = watch.Judge.step, None
+    step, Judge.step = Judge.step, None
     watched = is_handed_on("what raises", [*streamed(opened()), *streamed(opened())[2:]], raises=True)
-    watch.Judge.step = step
-    check("what raises is told once", len(watched.told) == 2 and "frame 1: looked at no more (TypeError" in watched.told[0], *watched.told)
+    Judge.step = step
+    check("what raises is told once", len(watched.told) == 2 and "after frame 0: looked at no more (TypeError" in watched.told[0], *watched.told)
 
 
 def nothing_waits_for_what_looks():
@@ -235,8 +254,8 @@ def over_sockets():
 
 def keeps_what_is_live():
     """4,000 sessions, and as many links under handles of their own, come and go: what is kept does not grow."""
-    told, held = [], []
-    seen = Seen(told.append)
+    seen, held = Seen(Heard()), []
+    told = seen.teller.told
     turns = [lambda n: [*begun(n % 9, 5), *ended(n % 9, 5)], lambda n: link_comes_and_goes(n)]
     see(seen, opened())
     for turn in turns:
@@ -260,8 +279,8 @@ def link_comes_and_goes(n):
 
 
 def takes_many_sessions_at_once():
-    told = []
-    seen = Seen(told.append)
+    seen = Seen(Heard())
+    told = seen.teller.told
     see(seen, opened())
     for channel in range(0, 65536, 8):
         see(seen, begun(channel, 65535 - channel))
@@ -275,8 +294,10 @@ def main():
     made()
     damages(seed)
     noise(seed)
-    for test in (what_cannot_be_read_is_told_once, what_raises_is_told_once, nothing_waits_for_what_looks, over_sockets, keeps_what_is_live, takes_many_sessions_at_once):
+    of_streams = what_cannot_be_read_is_told_once, what_hangs_on_it_is_not_told, what_raises_is_told_once, nothing_waits_for_what_looks
+    for test in (*of_streams, over_sockets, keeps_what_is_live, takes_many_sessions_at_once):
         test()
+    over_tls(check)
     print(f"{FAILED.count(False)} passed, {FAILED.count(True)} failed")
     sys.exit(any(FAILED))
 

@@ -5,14 +5,12 @@ browser run that one script, which it knows by its sum, and load nothing.
 """
 
 import base64
-import contextlib
 import hashlib
-import io
 import json
 import re
 from pathlib import Path
 
-from amqp.streams import recorded
+from amqp.telling import JUDGE, verdict
 from page.meanings import MEANINGS
 from page.rows import Reader
 from page.values import visible
@@ -20,9 +18,8 @@ from page.values import visible
 HERE = Path(__file__).resolve().parent
 # So many frames, and so many bytes of JSON for them, stand in a page: the page says where it was cut
 MOST_ROWS, MOST_BYTES = 200_000, 2**26
-# What is told with one of these in brackets is no breach
-LAWFUL = re.compile(r"\w+ \((the peer ended|in flight after this side's|after a frame that cannot be read)")
-ENGINE, JUDGE = "the engine", "the judge"
+# So many connections, the first ones, have a page
+MOST_PAGES = 16
 PLACES = re.compile(r"@(POLICY|STYLE|SCRIPT|DATA)@")
 
 
@@ -71,13 +68,15 @@ class Page:
         return PLACES.sub(lambda it: filled[it[1]], (HERE / "page.html").read_text(encoding="utf-8"))
 
     def write(self, path):
-        Path(path).write_text(self.text(), encoding="utf-8", newline="\n")
+        with Path(path).open("w", encoding="utf-8", newline="\n") as file:
+            file.write(self.text())
 
 
-def verdict(text, by):
-    """What is told of a frame: its name, all of it, by whom, and whether it is a breach."""
-    name = "bad line" if text.startswith("bad line") else re.match(r"\w*", text)[0]
-    return [name, visible(text), by, 0 if LAWFUL.match(text) else 1]
+def page_of(html, number):
+    """Where the page of a connection is written, if it has one: that of the first one is `html`."""
+    if html is None or number > MOST_PAGES:
+        return None
+    return html if number == 1 else html.with_stem(f"{html.stem}-{number}")
 
 
 def written(value):
@@ -92,25 +91,29 @@ def policy(script):
     return f"default-src 'none'; style-src 'unsafe-inline'; script-src 'sha256-{known}'; base-uri 'none'; form-action 'none'"
 
 
-def of_recording(path, transcript, told, judged):
-    """The page of a recording: `told` is what transcript.py tells of its frames; of each other frame the judge's fault stands for that."""
+def found_by_place(transcript, told):
+    """What is found of each frame: `told` is what transcript.py tells; of each other frame the judge's fault stands for that."""
     found = {at: [(fault, JUDGE)] for at, fault in transcript.faults.items() if fault}
     found |= {at: [] for at, *_ in told}
     for at, _, name, by in told:
         found[at].append((name, by))
-    page, said = Page(Path(path).name, judged), io.StringIO()
-    # what is told of a stream that breaks off was told already: here it is a note
-    with contextlib.redirect_stderr(said):
-        whole = recorded(path, sasl=True)
-    page.notes += said.getvalue().splitlines()
-    return filled(page, whole, transcript.frames, found)
+    return found
 
 
-def filled(page, whole, frames, found):
-    """The page with all of `whole`, which has frames of SASL too; those of `frames` are counted, and `found` tells of them, by their places."""
-    at = 0
+def of_recording(recorded, transcript, told, judged):
+    """The page of a connection that was recorded; `transcript` may tell how far it is."""
+    page = Page(recorded.title, judged)
+    page.notes += recorded.notes
+    return filled(page, recorded, transcript.each(recorded.whole), found_by_place(transcript, told))
+
+
+def filled(page, recorded, whole, found):
+    """The page with all of a connection's frames: those of SASL too, but these alone are not counted."""
+    frames, times, at = recorded.frames, recorded.times, 0
+    began = next((it for it in times if it is not None), 0)
     for side, of in whole:
         is_counted = at < len(frames) and frames[at] == (side, of)
-        page.add(side, of, at + 1 if is_counted else 0, None, found.get(at, ()) if is_counted else ())
+        time = None if not is_counted or times[at] is None else round(times[at] - began, 4)
+        page.add(side, of, at + 1 if is_counted else 0, time, found.get(at, ()) if is_counted else ())
         at += is_counted
     return page

@@ -1,6 +1,7 @@
 """The rows of a page: one for each frame, as what JSON can hold, bounded in size. Of a login no secret gets in: neither bytes nor lengths."""
 
 import re
+from typing import NamedTuple
 
 from amqp.frames import BEGIN, END, NAMES, NULL, Frame, Malformed, end_of, integer, number, parts
 from amqp.mended import plain
@@ -49,19 +50,9 @@ class Reader:
         size = len(of) + 4 if size is None else size
         if (code := sasl_code(of)) is not None:
             return [side, f"SASL {SASL.get(code, 'frame')}", -1, 0, 0, self.flat(sasl(of, code)), 0, ""]
-        channel = int.from_bytes(of[2:4], "big")
-        try:
-            return self.read(side, Frame(plain(of)), size, len(of) + 4)
-        except (Malformed, RecursionError, IndexError, ValueError):
-            return [side, kind_of(of), channel, 0, size, self.flat(unread(of)), 0, ""]
-
-    def read(self, side, frame, size, kept):
-        if frame.code is None:
-            return [side, "empty frame", frame.channel, 0, size, [], 0, ""]
-        fields = self.flat(lines(frame))
-        session = self.sessions.of(side, frame) if 0x11 <= frame.code <= 0x17 else 0
-        payload = len(frame.payload) + size - kept
-        return [side, NAMES[frame.code], frame.channel, session, size, fields, payload, frame.payload[:MOST_BYTES].hex()]
+        it = shown(of, size)
+        session = self.sessions.of(side, it.frame) if it.frame and 0x11 <= it.frame.code <= 0x17 else 0
+        return [side, it.kind, it.channel, session, size, self.flat(it.fields), it.payload, it.front]
 
     def flat(self, pairs):
         """Names by their places in `names`, each before its text."""
@@ -69,6 +60,29 @@ class Reader:
         for name, text in pairs:
             found += [self.names.setdefault(name, len(self.names)), text]
         return found
+
+
+class Shown(NamedTuple):
+    """What is shown of a frame: its kind and channel, pairs of a field's name and its text, the payload's size and its front; `frame` where it was read."""
+
+    kind: str
+    channel: int
+    fields: list
+    payload: int = 0
+    front: str = ""
+    frame: Frame = None
+
+
+def shown(of, size):
+    """A frame of AMQP, without its size; it may be cut."""
+    try:
+        frame = Frame(plain(of))
+        if frame.code is None:
+            return Shown("empty frame", frame.channel, [])
+        payload = len(frame.payload) + size - len(of) - 4
+        return Shown(NAMES[frame.code], frame.channel, [*lines(frame)], payload, frame.payload[:MOST_BYTES].hex(), frame)
+    except (Malformed, RecursionError, IndexError, ValueError):
+        return Shown(kind_of(of), int.from_bytes(of[2:4], "big"), [*unread(of)])
 
 
 def lines(frame):

@@ -32,10 +32,14 @@ def cut(text):
     return text if len(text) <= MOST_TEXT else f"{text[:MOST_TEXT]}… ({len(text):,} characters in all)"
 
 
-def visible(text):
-    """The text, with what nobody can see, or what turns the direction of writing, spelled out."""
-    text = cut(text)
+def spelled(text):
+    """The text, with what nobody can see, a terminal obeys, or turns the direction of writing, spelled out."""
     return text if text.isprintable() else "".join(it if it.isprintable() else repr(it)[1:-1] for it in text)
+
+
+def visible(text):
+    """The text, so spelled; of a long one its beginning."""
+    return spelled(cut(text))
 
 
 def scalar(of, at, code):
@@ -92,7 +96,7 @@ def value(of, at=0, depth=0, room=None):
     """The text of the value at `at`, in brackets where it has parts; and where it ends."""
     code, after = number(of, at, 1)
     room = room or Room()
-    if room.is_out():
+    if room.is_out() or depth > DEEPEST and (code == 0x00 or code in COMPOUND):
         return "…", end_of(of, at)
     if code == 0x00:
         return described(of, after, depth, room)
@@ -100,17 +104,13 @@ def value(of, at=0, depth=0, room=None):
         return "[]", after
     if code not in COMPOUND:
         return scalar(of, after, code)
-    end = end_of(of, at)
-    if depth > DEEPEST:
-        return "…", end
-    return compound(of, after, code, depth, room), end
+    return compound(of, after, code, depth, room), end_of(of, at)
 
 
 def described(of, at, depth, room):
     descriptor, after = value(of, at, depth + 1, room)
     name = COMPOSITES.get(code_of(descriptor), descriptor)
-    end = end_of(of, after)
-    inside, _ = value(of, after, depth + 1, room)
+    inside, end = value(of, after, depth + 1, room)
     return (name if inside == "[]" else f"{name} {inside}"), end
 
 

@@ -12,7 +12,7 @@ from pathlib import Path
 sys.path.insert(0, str(Path(__file__).resolve().parents[1]))
 
 from amqp.recorded import CAPTURES
-from amqp.streams import recorded
+from amqp.recordings import recorded
 from shared.command import command
 
 MAKE, TAKE, CALL, SEND, OUTPUT = 0, 1, 4, 6, 7

@@ -19,9 +19,9 @@ sys.path.insert(0, str(Path(__file__).resolve().parents[1]))
 
 from amqp.canonical import composite, uint
 from amqp.frames import ATTACH, BEGIN, DETACH, DISPOSITION, FLOW, NULL, TRANSFER, Frame
+from amqp.transcript import Transcript
 from gate.refused_of_captures import connections
 from shared.command import command
-from transcript import Transcript
 
 OPERATIONS = {ATTACH: 10, DETACH: 11, FLOW: 12, DISPOSITION: 14}
 OF_SESSION = {"release": 6, "forget": 7}

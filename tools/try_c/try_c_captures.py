@@ -13,10 +13,11 @@ from pathlib import Path
 
 sys.path.insert(0, str(Path(__file__).resolve().parents[1]))
 
+from amqp.transcript import Transcript
 from gate.refused_of_captures import connections
 from shared.by_library import Detach, Detached, LineEngine, Malformed, Open
 from shared.command import command
-from transcript import Transcript, shown
+from transcript import shown
 
 
 class Replay(LineEngine):

@@ -142,7 +142,7 @@ def a_watcher_tells_what_breaks_the_protocol():
     async def both():
         server = await serve("127.0.0.1", 0, lambda: Open("server"), echo)
         async with server:
-            words = [sys.executable, str(ROOT / "tools" / "watch.py"), "0", "127.0.0.1", str(server.sockets[0].getsockname()[1]), "--connections", "1"]
+            words = [sys.executable, str(ROOT / "tools" / "watch.py"), "0", "127.0.0.1", str(server.sockets[0].getsockname()[1]), "--connections", "1", "--quiet"]
             watcher = await asyncio.create_subprocess_exec(*words, stdout=subprocess.PIPE)
             try:
                 line = (await watcher.stdout.readline()).decode()

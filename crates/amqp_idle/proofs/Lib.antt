@@ -1,0 +1,4 @@
+mod HistoryLemmas
+mod DueLemmas
+mod NextLemmas
+mod InTimeLemmas
