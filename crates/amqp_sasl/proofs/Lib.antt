@@ -1,1 +1,3 @@
 mod HeaderLemmas
+pub mod FieldLemmas
+pub mod NameLemmas

@@ -1,1 +1,3 @@
 pub mod Header
+pub mod SaslFrame
+pub mod Inner

@@ -1,6 +1,15 @@
 //! What a connection of AMQP 1.0 needs before its first frame: protocol headers, and SASL.
 #![tactic(auto)]
 
+mod body;
+mod cursor;
 mod header;
+mod names;
+mod place;
+mod value;
+mod walk;
 
+pub use body::{Body, SaslCode};
 pub use header::{Protocol, ReceivedHeader, read_header};
+pub use names::is_offered;
+pub use place::Place;
