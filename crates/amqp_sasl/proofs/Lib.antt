@@ -1,3 +1,5 @@
-mod HeaderLemmas
+pub mod HeaderLemmas
 pub mod FieldLemmas
 pub mod NameLemmas
+pub mod BodyLemmas
+pub mod FrameLemmas

@@ -1,3 +1,4 @@
 pub mod Header
 pub mod SaslFrame
+pub mod ReadFrame
 pub mod Inner

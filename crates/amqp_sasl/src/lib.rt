@@ -3,6 +3,7 @@
 
 mod body;
 mod cursor;
+mod frame;
 mod header;
 mod names;
 mod place;
@@ -10,6 +11,7 @@ mod value;
 mod walk;
 
 pub use body::{Body, SaslCode};
+pub use frame::{FrameFault, MAX_FRAME, ReceivedFrame, read_frame};
 pub use header::{Protocol, ReceivedHeader, read_header};
 pub use names::is_offered;
 pub use place::Place;

@@ -8,8 +8,8 @@ ghost use Rattle.amqp_sasl.specs.SaslFrame.{part, IsWithin, names_in};
 ghost use Rattle.amqp_sasl.specs.Inner.Reading.{Reads, IsEntered, bytes_at, names_at, sasl_code_at};
 
 use crate::body::SaslCode;
-use crate::names::search_names;
 use crate::cursor::{take_byte, take_count, take_region};
+use crate::names::search_names;
 use crate::place::Place;
 use crate::value::{FieldType, value};
 use amqp_values::{ListWalk, codes};

@@ -14,9 +14,11 @@ returns-in-Some-search_names-clause-value c =
     (c.in-Some.ensures.coded c.in-Some.code-test.1) c.in-Some-search_names.ensures.bound c.in-Some-search_names.ensures.value
 
 pub returns-in-Some-search_names-clause-within : goal.returns-in-Some-search_names-clause-within
-returns-in-Some-search_names-clause-within c =
-    (names_within _ c.args.text.now c.in-Some-search_names.field-0 c.in-Some.code c.next_code.new.walk.at c.search_names.new.at (c.in-Some.ensures.behind c.in-Some.code-test.1) c.in-Some.ensures.bound
-    (c.in-Some.ensures.coded c.in-Some.code-test.1) c.in-Some-search_names.ensures.bound c.in-Some-search_names.ensures.value, c.in-Some-search_names.ensures.bound)
+returns-in-Some-search_names-clause-within c = (
+  names_within _ c.args.text.now c.in-Some-search_names.field-0 c.in-Some.code c.next_code.new.walk.at c.search_names.new.at (c.in-Some.ensures.behind c.in-Some.code-test.1) c.in-Some.ensures.bound
+      (c.in-Some.ensures.coded c.in-Some.code-test.1) c.in-Some-search_names.ensures.bound c.in-Some-search_names.ensures.value,
+  c.in-Some-search_names.ensures.bound,
+)
 
 pub returns-in-None-search_names-clause-value : goal.returns-in-None-search_names-clause-value
 returns-in-None-search_names-clause-value c = names_missing _ _ _ c.in-Some.code c.in-Some.ensures.value c.in-Some.code-test.1 c.in-None-search_names.ensures.value
