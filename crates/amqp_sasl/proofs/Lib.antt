@@ -3,3 +3,4 @@ pub mod FieldLemmas
 pub mod NameLemmas
 pub mod BodyLemmas
 pub mod FrameLemmas
+pub mod FrameLawLemmas

@@ -1,4 +1,5 @@
 pub mod Header
 pub mod SaslFrame
 pub mod ReadFrame
+pub mod FrameLaws
 pub mod Inner
