@@ -4,3 +4,4 @@ pub mod NameLemmas
 pub mod BodyLemmas
 pub mod FrameLemmas
 pub mod FrameLawLemmas
+pub mod WriteLemmas

@@ -11,6 +11,18 @@ use Rattle.amqp_sasl.specs.declared.frame.ReceivedFrame.TheVariants.{Wants, Fram
 use Rattle.amqp_sasl.specs.SaslFrame.{Said, mechanisms_are, init_is, challenge_is, response_is, outcome_is, IsFrame, said_in, frame_text}
 use Rattle.amqp_sasl.specs.ReadFrame.{ReadsFrame}
 
+-- what the types of a program say of what it writes: names of mechanisms are symbols, of which there is one or more; a host is UTF-8
+abbrev pub CanBeWritten : Said → Type 0
+CanBeWritten (mechanisms_are names) = AreSymbols names × (names ≢ [])
+CanBeWritten (init_is mechanism response hostname) = IsSymbolText mechanism × IfSome hostname (λ s. is_utf8 s ≡ true)
+CanBeWritten (challenge_is challenge) = Unit {0}
+CanBeWritten (response_is response) = Unit {0}
+CanBeWritten (outcome_is code additional) = Unit {0}
+
+-- the text of a frame is a frame: so it is what is read of it
+abbrev pub WrittenIsFrame : Type 0
+WrittenIsFrame = (said : Said) → CanBeWritten said → length (frame_text said) ≤ 512 → IsFrame said (frame_text said)
+
 -- a frame at the front is what is read, all of it and no more
 abbrev pub FramesAreRead : Type 0
 FramesAreRead =

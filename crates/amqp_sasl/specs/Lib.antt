@@ -1,5 +1,6 @@
 pub mod Header
 pub mod SaslFrame
 pub mod ReadFrame
+pub mod WriteFrame
 pub mod FrameLaws
 pub mod Inner

@@ -111,9 +111,12 @@ fields_of (outcome_is code additional) = ubyte_text (code_number code) ∷ optio
 unfoldable pub body_text : Said → List ℕ
 body_text said = described_text (descriptor_of said) (fields_of said)
 
--- a size, two words of header, type 1, two zeros, and the body
+-- a size, two words of header, type 1, two zeros, and a body
+abbrev pub framed : List ℕ → List ℕ
+framed body = to_be_bytes w32 (8 + length body) ++ (2 ∷ 1 ∷ 0 ∷ 0 ∷ body)
+
 unfoldable pub frame_text : Said → List ℕ
-frame_text said = to_be_bytes w32 (8 + length (body_text said)) ++ (2 ∷ 1 ∷ 0 ∷ 0 ∷ body_text said)
+frame_text said = framed (body_text said)
 
 -- ---- places of what is said
 

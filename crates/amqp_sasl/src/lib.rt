@@ -5,13 +5,16 @@ mod body;
 mod cursor;
 mod frame;
 mod header;
+pub mod laws;
 mod names;
 mod place;
 mod value;
 mod walk;
+mod writing;
 
 pub use body::{Body, SaslCode};
 pub use frame::{FrameFault, MAX_FRAME, ReceivedFrame, read_frame};
 pub use header::{Protocol, ReceivedHeader, read_header};
 pub use names::is_offered;
 pub use place::Place;
+pub use writing::{write_challenge, write_init, write_mechanisms, write_outcome, write_response};
