@@ -1,21 +1,21 @@
 -- Bodies are read exactly by their grammar.
-use Rattle.std.proofs.Common.{◌≡◌, ◌≢◌, ℕ, Bool, true, false, eqb, List, [], ◌∷◌, ◌++◌, length, Option, Some, None, refl, sym, ap, subst, ◌∙◌, arith, inl, inr, append_assoc}
+use Rattle.std.proofs.Common.{◌≡◌, ◌≢◌, ℕ, Bool, true, false, eqb, List, [], ◌∷◌, ◌++◌, Option, Some, refl, sym, ap, subst, ◌∙◌, inl, inr, append_assoc}
 use Rattle.std.specs.Prelude.{codes, bytes_eq}
 use Rattle.std.specs.Int.{w64}
-use Rattle.std.proofs.lemmas.Bool.{eqb-true, eq-eqb}
+use Rattle.std.proofs.lemmas.Bool.{eqb-true}
 use Rattle.std.proofs.lemmas.Slice.Eq.{bytes_eq-Decides}
-use Rattle.amqp_values.specs.Reading.{◌>>=◌, region_at, Takes, IsReader}
+use Rattle.amqp_values.specs.Reading.{region_at, IsReader}
 use Rattle.amqp_values.specs.Number.{IsUbyte, IsUlong, ulong0, small_ulong, ulong, ulong_at, ubyte_at}
-use Rattle.amqp_values.specs.Text.{by_width, is_ascii, IsVar, var, IsSymbol, IsBinary, IsString, binary_at, string_at, symbol_at}
+use Rattle.amqp_values.specs.Text.{by_width, is_ascii, IsVar, var, binary_at, string_at, symbol_at}
 use Rattle.amqp_values.specs.Symbols.{symbols_at}
-use Rattle.amqp_values.specs.Slots.{PartsLeft, Optional, optional_at, required_at, end_at, then_at, named_at}
-use Rattle.amqp_values.specs.Composite.{composite_at, IsComposite}
+use Rattle.amqp_values.specs.Slots.{PartsLeft, optional_at, required_at, end_at, then_at, named_at}
+use Rattle.amqp_values.specs.Composite.{IsComposite}
 use Rattle.amqp_values.proofs.ReaderLemmas.{IsFormat, bind_some, chosen, pair_is, some_is}
 use Rattle.amqp_values.proofs.NumberLemmas.{headed, ubyte_format, ulong_format}
 use Rattle.amqp_values.proofs.TextLemmas.{binary_format, string_format, symbol_format}
 use Rattle.amqp_values.proofs.SymbolLemmas.{symbols_format}
 use Rattle.amqp_values.proofs.RegionLemmas.{region_found, region_again, number_again}
-use Rattle.amqp_values.proofs.SlotLemmas.{IsSlot, IsBody, Ahead, optional_law, required_law, then_law, end_law}
+use Rattle.amqp_values.proofs.SlotLemmas.{IsBody, Ahead, optional_law, required_law, then_law, end_law}
 use Rattle.amqp_values.proofs.CompositeLemmas.{composite_law}
 use Rattle.amqp_sasl.specs.declared.body.SaslCode.{SaslCode}
 use Rattle.amqp_sasl.specs.declared.body.SaslCode.TheVariants as code

@@ -1,16 +1,16 @@
 -- Fields that are read where they stand.
-use Rattle.std.proofs.Common.{◌≡◌, ◌≢◌, ◌≤◌, ◌<◌, ◌-◌, ◌+◌, ℕ, List, [], ◌∷◌, ◌++◌, length, drop, take, Option, Some, None, refl, sym, ap, subst, ◌∙◌, arith}
+use Rattle.std.proofs.Common.{◌≡◌, ◌≢◌, ◌≤◌, ◌-◌, ◌+◌, ℕ, List, [], ◌∷◌, ◌++◌, length, drop, take, Option, Some, None, refl, ap, ◌∙◌, arith}
 use Rattle.std.specs.Prelude.{slice_range}
 use Rattle.std.proofs.lemmas.List.{length-append, length-drop}
 use Rattle.std.proofs.Math.Seq.{take-append_seam}
 use Rattle.amqp_values.specs.Text.{binary_at, string_at, symbol_at, var_at}
-use Rattle.amqp_values.specs.Slots.{PartsLeft, optional_at, required_at}
+use Rattle.amqp_values.specs.Slots.{PartsLeft, required_at}
 use Rattle.amqp_values.specs.Number.{ubyte_at}
 use Rattle.amqp_values.specs.Walking.{part_code_at}
 use Rattle.amqp_values.proofs.WalkLemmas.{part_ended, no_part, a_part, not_a_part}
 use Rattle.amqp_sasl.specs.declared.value.FieldType.{FieldType}
 use Rattle.amqp_sasl.specs.declared.value.FieldType.TheVariants.{Binary, String, Symbol}
-use Rattle.amqp_sasl.specs.Inner.Reading.{bytes_at, sasl_code_at, names_at}
+use Rattle.amqp_sasl.specs.Inner.Reading.{bytes_at, sasl_code_at}
 
 pub never_empty : (t : FieldType) → bytes_at t [] ≡ None
 unfolding binary_at string_at symbol_at var_at

@@ -1,5 +1,5 @@
 -- A frame at the front is read, and of a part of one more is wanted.
-use Rattle.std.proofs.Common.{◌≡◌, ◌≢◌, ◌≤◌, ◌<◌, ◌*◌, ◌+◌, ◌-◌, ℕ, List, [], ◌∷◌, ◌++◌, length, take, drop, get_or, Option, Some, None, refl, sym, ap, subst, ◌∙◌, arith, inl, inr, ◌⊎◌}
+use Rattle.std.proofs.Common.{◌≡◌, ◌≢◌, ◌≤◌, ◌<◌, ◌*◌, ◌+◌, ℕ, List, [], ◌∷◌, ◌++◌, length, take, drop, get_or, Some, refl, sym, ap, subst, ◌∙◌, arith, inl, inr}
 use Rattle.std.specs.Prelude.{Result, Ok, Err}
 use Rattle.std.specs.Int.{w32, from_be_bytes}
 use Rattle.std.proofs.lemmas.List.{append-nil, drop-drop, length-append, take-append-le}
@@ -10,8 +10,8 @@ use Rattle.amqp_sasl.specs.declared.frame.FrameFault.{FrameFault}
 use Rattle.amqp_sasl.specs.declared.frame.FrameFault.TheVariants as no
 use Rattle.amqp_sasl.specs.declared.frame.ReceivedFrame.{ReceivedFrame}
 use Rattle.amqp_sasl.specs.declared.frame.ReceivedFrame.TheVariants.{Wants, Frame}
-use Rattle.amqp_sasl.specs.SaslFrame.{Said, IsBody, IsFrame, said_in}
-use Rattle.amqp_sasl.specs.ReadFrame.{size_at, IsSize, offset_at, HasOffset, HasHeader, HasWhole, ReadsWhole, ReadsFrame}
+use Rattle.amqp_sasl.specs.SaslFrame.{Said, IsFrame, said_in}
+use Rattle.amqp_sasl.specs.ReadFrame.{size_at, IsSize, offset_at, HasHeader, HasWhole, ReadsWhole}
 use Rattle.amqp_sasl.specs.FrameLaws.{FramesAreRead, FrontsWantMore}
 use Rattle.amqp_sasl.specs.Inner.Reading.{body_at}
 use Rattle.amqp_sasl.proofs.BodyLemmas.{body_reader}

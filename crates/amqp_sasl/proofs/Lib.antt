@@ -5,3 +5,4 @@ pub mod BodyLemmas
 pub mod FrameLemmas
 pub mod FrameLawLemmas
 pub mod WriteLemmas
+pub mod ChoiceLemmas

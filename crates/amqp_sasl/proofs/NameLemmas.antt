@@ -1,10 +1,10 @@
 -- A name is looked for among the symbols of an array.
-use Rattle.std.proofs.Common.{◌≡◌, ◌≢◌, ℕ, zero, suc, ◌-◌, ◌+◌, ◌<◌, ◌≤◌, Bool, true, false, cond, ◌||◌, List, [], ◌∷◌, ◌++◌, length, drop, Option, Some, None, refl, sym, ap, ◌∙◌, arith, eqb}
+use Rattle.std.proofs.Common.{◌≡◌, ◌≢◌, ℕ, zero, suc, ◌-◌, ◌+◌, ◌<◌, ◌≤◌, Bool, true, false, cond, ◌||◌, List, [], ◌∷◌, length, drop, Option, Some, None, refl, sym, ap, ◌∙◌, arith, eqb}
 use Rattle.std.specs.Option.{option_map}
 use Rattle.std.specs.Prelude.{bytes_eq, slice_range}
 use Rattle.std.proofs.Math.Seq.{drop-length}
 use Rattle.std.proofs.lemmas.List.{append-nil}
-use Rattle.amqp_values.specs.Reading.{◌>>=◌, is_empty, byte_at}
+use Rattle.amqp_values.specs.Reading.{◌>>=◌, byte_at}
 use Rattle.amqp_values.specs.Slots.{PartsLeft, required_at}
 use Rattle.amqp_values.specs.Walking.{part_code_at}
 use Rattle.amqp_values.specs.Symbols.{item_at, run_at, all_at, symbols_at}

@@ -1,2 +1,3 @@
 -- What the contracts of private functions cite, and no public one does.
 pub mod Reading
+pub mod Sending

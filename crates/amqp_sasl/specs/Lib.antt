@@ -3,4 +3,5 @@ pub mod SaslFrame
 pub mod ReadFrame
 pub mod WriteFrame
 pub mod FrameLaws
+pub mod Opening
 pub mod Inner

@@ -2,7 +2,6 @@
 -- What is read at the front of received bytes where a SASL frame is expected (AMQP 1.0 part 5, section 5.3.1).
 use Rattle.std.specs.Prelude.{◌≡◌, ◌≢◌, ◌<◌, ◌≤◌, ◌*◌, ◌⊎◌, ℕ, List, [], ◌++◌, length, take, drop, slice_index, Result, Ok, Err}
 use Rattle.std.specs.Int.{w32, from_be_bytes}
-use Rattle.amqp_sasl.specs.declared.body.Body.{Body}
 use Rattle.amqp_sasl.specs.declared.frame.FrameFault.{FrameFault}
 use Rattle.amqp_sasl.specs.declared.frame.FrameFault.TheVariants as no
 use Rattle.amqp_sasl.specs.declared.frame.ReceivedFrame.{ReceivedFrame}

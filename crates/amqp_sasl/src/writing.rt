@@ -1,6 +1,6 @@
 //! SASL frames, written (AMQP 1.0 part 5, section 5.3.3): each is appended whole, or nothing is.
 
-ghost use Rattle.std.specs.Prelude.{◌≡◌, ◌≢◌, ◌<◌, ◌≤◌, ◌^◌, [], length, option_map, option_copied};
+ghost use Rattle.std.specs.Prelude.{◌≡◌, ◌≢◌, ◌<◌, ◌≤◌, ◌+◌, ◌^◌, [], OnOk, length, option_map, option_copied};
 ghost use Rattle.amqp_values.specs.Writing.{described_text};
 ghost use Rattle.amqp_sasl.specs.SaslFrame.{mechanisms_are, init_is, challenge_is, response_is, outcome_is, fields_of, framed, frame_text};
 ghost use Rattle.amqp_sasl.specs.WriteFrame.{Appends};
@@ -17,7 +17,8 @@ use bytes::BytesMut;
 fn write<R: Row>(code: u8, fields: &R, out: &mut BytesMut) -> Result<(), WriteError>
     requires few { length (R.texts fields.now) ≤ 16 }
     requires long { R.most < 2 ^ 126 }
-    ensures { Appends (framed (described_text code (R.texts fields.now))) out.old.items result out.new.items }
+    ensures text { Appends (framed (described_text code (R.texts fields.now))) out.old.items result out.new.items }
+    ensures spare { OnOk result (out.old.spare ≤ out.new.spare + 512) }
 {
     let len = described_len(fields);
     if len > 504 {
@@ -111,7 +112,8 @@ pub fn write_outcome(
     additional: Option<&[u8]>,
     out: &mut BytesMut,
 ) -> Result<(), WriteError>
-    ensures { Appends (frame_text (outcome_is code (option_copied additional.entry))) out.old.items result out.new.items }
+    ensures text { Appends (frame_text (outcome_is code (option_copied additional.entry))) out.old.items result out.new.items }
+    ensures spare { OnOk result (out.old.spare ≤ out.new.spare + 512) }
 {
     let fields = Cons(code.number(), Cons(binary(additional), NoMore));
     write(OUTCOME, &fields, out)

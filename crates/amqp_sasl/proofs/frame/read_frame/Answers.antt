@@ -1,4 +1,3 @@
-use Rattle.std.proofs.Common.{arith}
 use Rattle.amqp_sasl.proofs.FrameLemmas.{front_read, size_read}
 use Rattle.amqp_sasl.proofs.frame.read_frame.Goals as goal
 

@@ -1,4 +1,4 @@
-use Rattle.std.proofs.Common.{◌≡◌, ◌∷◌, List, ℕ, [], drop, sym, ap, ◌∙◌, ◌≤◌, length}
+use Rattle.std.proofs.Common.{◌∷◌, List, ℕ, drop, sym, ap, ◌∙◌}
 use Rattle.amqp_sasl.specs.SaslFrame.{has_name, names_in}
 use Rattle.amqp_sasl.proofs.NameLemmas.{offered_is, offered_not, offered_nothing, no_byte_at}
 use Rattle.amqp_sasl.proofs.names.is_offered.Goals as goal

@@ -1,7 +1,5 @@
-use Rattle.std.proofs.Common.{◌≡◌, ◌∷◌, drop, None, ap, sym, ◌∙◌}
-use Rattle.std.specs.Option.{option_map}
+use Rattle.std.proofs.Common.{◌∷◌, drop, ap, ◌∙◌}
 use Rattle.amqp_sasl.specs.SaslFrame.{has_name}
-use Rattle.amqp_sasl.specs.Inner.Reading.{counted_names_at}
 use Rattle.amqp_sasl.proofs.NameLemmas.{no_count, counted_is, counted_long}
 use Rattle.amqp_sasl.proofs.names.search_all.Goals as goal
 

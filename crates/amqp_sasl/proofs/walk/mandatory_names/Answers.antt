@@ -1,5 +1,3 @@
-use Rattle.std.proofs.Common.{◌≡◌, ◌∷◌, drop, sym, ap, ◌∙◌, Some}
-use Rattle.amqp_values.specs.Walking.{part_code_at, ahead}
 use Rattle.amqp_sasl.specs.Inner.Reading.{names_at}
 use Rattle.amqp_sasl.proofs.FieldLemmas.{null_needed}
 use Rattle.amqp_sasl.proofs.NameLemmas.{names_taken, names_within, names_missing, names_ended}
