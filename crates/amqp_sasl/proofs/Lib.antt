@@ -6,3 +6,5 @@ pub mod FrameLemmas
 pub mod FrameLawLemmas
 pub mod WriteLemmas
 pub mod ChoiceLemmas
+pub mod RowLemmas
+pub mod TalkLemmas

@@ -4,4 +4,5 @@ pub mod ReadFrame
 pub mod WriteFrame
 pub mod FrameLaws
 pub mod Opening
+pub mod History
 pub mod Inner

@@ -15,8 +15,8 @@ use bytes::{Bytes, BytesMut};
 use std::alloc::Global;
 use std::marker::Model;
 
-/// A way of logging in: a mechanism, and what its initial response is.
-#[derive(Debug, Drop)]
+/// A way of logging in: a mechanism, and what its initial response is. It has no `Debug`, since a response may hold a password.
+#[derive(Drop)]
 pub struct Login {
     /// The mechanism's name.
     pub mechanism: Symbol,
