@@ -8,3 +8,4 @@ pub mod WriteLemmas
 pub mod ChoiceLemmas
 pub mod RowLemmas
 pub mod TalkLemmas
+pub mod PlainLemmas

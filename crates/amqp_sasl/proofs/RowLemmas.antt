@@ -1,8 +1,8 @@
 -- Each call is a row of the table of an opening: nothing comes of it, or it leads on, by messages that go out.
-use Rattle.std.proofs.Common.{◌≡◌, ◌≢◌, ◌<◌, ◌≤◌, ◌+◌, ℕ, suc, List, [], ◌∷◌, ◌++◌, length, take, map, Option, Some, None, Bool, true, false, refl, sym, ap, subst, ◌∙◌, arith, inl, inr, ◌⊎◌, append_assoc}
+use Rattle.std.proofs.Common.{◌≡◌, ◌≢◌, ◌+◌, ℕ, List, [], ◌∷◌, ◌++◌, take, map, Option, Some, None, Bool, true, false, refl, sym, ap, subst, ◌∙◌, inl, inr}
 use Rattle.std.specs.Prelude.{Result, Ok, Err}
 use Rattle.std.specs.Option.{option_map}
-use Rattle.std.proofs.lemmas.List.{append-nil, length-append, length-take-le}
+use Rattle.std.proofs.lemmas.List.{append-nil, length-take-le}
 use Rattle.amqp_values.proofs.ReaderLemmas.{pair_is, chosen}
 use Rattle.amqp_values.specs.Reading.{joined}
 use Rattle.amqp_sasl.specs.declared.place.Place.{Place}
@@ -15,7 +15,6 @@ use Rattle.amqp_sasl.specs.declared.header.Protocol.TheVariants as protocol
 use Rattle.amqp_sasl.specs.declared.header.ReceivedHeader.{ReceivedHeader}
 use Rattle.amqp_sasl.specs.declared.header.ReceivedHeader.TheVariants as received
 use Rattle.amqp_sasl.specs.declared.frame.FrameFault.{FrameFault}
-use Rattle.amqp_sasl.specs.declared.frame.FrameFault.TheVariants as fault
 use Rattle.amqp_sasl.specs.declared.frame.ReceivedFrame.{ReceivedFrame}
 use Rattle.amqp_sasl.specs.declared.frame.ReceivedFrame.TheVariants as frame
 use Rattle.amqp_sasl.specs.declared.opening.Login.{Login}
@@ -29,10 +28,10 @@ use Rattle.amqp_sasl.specs.declared.told.Told.TheVariants as told
 use Rattle.amqp_sasl.specs.declared.told.OpeningError.{OpeningError}
 use Rattle.amqp_sasl.specs.declared.told.OpeningError.TheVariants as refused
 use Rattle.amqp_sasl.specs.Header.{header_text, ReadsHeader}
-use Rattle.amqp_sasl.specs.SaslFrame.{Said, mechanisms_are, init_is, challenge_is, response_is, outcome_is, frame_text, IsFrame, part, names_in, has_name, said_in}
+use Rattle.amqp_sasl.specs.SaslFrame.{mechanisms_are, init_is, challenge_is, response_is, outcome_is, frame_text, IsFrame, part, names_in, has_name, said_in}
 use Rattle.amqp_sasl.specs.ReadFrame.{ReadsFrame, size_at}
-use Rattle.amqp_sasl.specs.Opening.{OpeningView, Move, Sends, moved, Does, Calls, begin_at, outcome_move, login_at, challenge_at, response_at, Act, silent, stays, ends, Acts, after_header, greeted, on_header, choose, next_login, on_mechanisms, on_outcome, on_init, on_body, on_frame, first_header, TakesHeader, TakesFrame, TakesAt}
-use Rattle.amqp_sasl.specs.History.{Entry, begun, took, logged, challenged, responded, sent, Called, IsCall, TookAmqp, TookOk, Asked, IsAsking, IsIdle, IsWaiting, LetIn, Among, Message, a_header, a_frame, message_text, after_outcome}
+use Rattle.amqp_sasl.specs.Opening.{OpeningView, Move, Does, Calls, begin_at, outcome_move, login_at, challenge_at, response_at, Act, silent, stays, ends, Acts, after_header, greeted, on_header, choose, next_login, on_mechanisms, on_outcome, on_init, on_body, on_frame, first_header, TakesAt}
+use Rattle.amqp_sasl.specs.History.{Entry, begun, took, logged, challenged, responded, sent, IsCall, TookAmqp, TookOk, Asked, IsAsking, IsIdle, IsWaiting, LetIn, Among, Message, a_header, a_frame, message_text, after_outcome}
 
 abbrev pub texts : List Message → List ℕ
 texts ms = joined (map message_text ms)

@@ -1,10 +1,8 @@
 -- What went out so far, by where an opening stands, and who was let in.
-use Rattle.std.proofs.Common.{◌≡◌, ◌≢◌, ℕ, List, [], ◌∷◌, ◌++◌, length, map, Option, Some, None, refl, sym, ap, subst, ◌∙◌, inl, inr, ◌⊎◌, append_assoc}
+use Rattle.std.proofs.Common.{◌≡◌, ℕ, List, [], ◌∷◌, ◌++◌, map, None, refl, sym, ap, subst, ◌∙◌, inl, inr, append_assoc}
 use Rattle.std.proofs.lemmas.List.{append-nil, map-append}
 use Rattle.amqp_values.specs.Reading.{joined}
-use Rattle.amqp_sasl.specs.declared.body.SaslCode.{SaslCode}
 use Rattle.amqp_sasl.specs.declared.body.SaslCode.TheVariants as code
-use Rattle.amqp_sasl.specs.declared.header.Protocol.{Protocol}
 use Rattle.amqp_sasl.specs.declared.header.Protocol.TheVariants as protocol
 use Rattle.amqp_sasl.specs.declared.opening.Login.{Login}
 use Rattle.amqp_sasl.specs.declared.opening.Side.{Side}
@@ -13,7 +11,7 @@ use Rattle.amqp_sasl.specs.declared.opening.Phase.{Phase}
 use Rattle.amqp_sasl.specs.declared.opening.Phase.TheVariants as phase
 use Rattle.amqp_sasl.specs.SaslFrame.{mechanisms_are, init_is, challenge_is, response_is, outcome_is}
 use Rattle.amqp_sasl.specs.Opening.{OpeningView, first_header, fresh}
-use Rattle.amqp_sasl.specs.History.{Entry, sent, IsCall, Chain, TookAmqp, TookOk, Asked, IsIdle, LetIn, Among, Each, WasLetIn, LoggedIn, Message, a_header, a_frame, message_text, IsFront, after_outcome, ClientTalk, ServerTalk, IsTalk, OpensByLogin, SaysInOrder, StaysOver, IsSilent}
+use Rattle.amqp_sasl.specs.History.{Entry, sent, IsCall, Chain, TookAmqp, TookOk, Asked, IsIdle, LetIn, Among, Each, WasLetIn, LoggedIn, Message, a_header, a_frame, message_text, IsTalk, OpensByLogin, SaysInOrder, StaysOver, IsSilent}
 use Rattle.amqp_sasl.proofs.RowLemmas.{texts, Row, nothing, over, begins, opens_plain, greets_client, greets_server, opens, chooses, is_challenged, responds, is_let_in, is_asked, is_answered, refuses_choice, challenges, lets_in, refuses, IsRow, row_of}
 
 -- ---- what went out

@@ -1,6 +1,6 @@
 -- Part: other calls.
 -- Chains of calls of an opening, and what holds over each of them (AMQP 1.0 part 2, section 2.2; part 5, section 5.3.2).
-use Rattle.std.specs.Prelude.{◌≡◌, ◌≢◌, ℕ, List, [], ◌∷◌, ◌++◌, length, take, map, ◌⊎◌, Option, Some, None, Result, Ok, Err}
+use Rattle.std.specs.Prelude.{◌≡◌, ℕ, List, [], ◌∷◌, ◌++◌, take, map, ◌⊎◌, Option, Result, Ok, Err}
 use Rattle.amqp_values.specs.Reading.{joined}
 use Rattle.amqp_sasl.specs.declared.body.SaslCode.{SaslCode}
 use Rattle.amqp_sasl.specs.declared.body.SaslCode.TheVariants as code

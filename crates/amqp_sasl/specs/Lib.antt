@@ -5,4 +5,5 @@ pub mod WriteFrame
 pub mod FrameLaws
 pub mod Opening
 pub mod History
+pub mod Plain
 pub mod Inner
