@@ -16,7 +16,7 @@ use Rattle.amqp_values.proofs.TextCanonicalLemmas.{binary_canonical, string_cano
 use Rattle.amqp_values.proofs.SymbolCanonicalLemmas.{symbols_canonical}
 use Rattle.amqp_values.proofs.CompositeCanonicalLemmas.{described_canonical}
 use Rattle.amqp_sasl.specs.SaslFrame.{Said, mechanisms_are, init_is, challenge_is, response_is, outcome_is, IsDescriptor, by_number, descriptor_of, code_number, IsNames, AreFields, IsBody, fields_of, body_text, framed, frame_text}
-use Rattle.amqp_sasl.specs.FrameLaws.{CanBeWritten, WrittenIsFrame}
+use Rattle.amqp_sasl.specs.FrameLaws.{AreSpelled, CanBeWritten, WrittenIsFrame}
 
 pub framed_is : (old a b c d size body : List ℕ) → a ≡ old → b ≡ a ++ size → c ≡ b ++ (2 ∷ 1 ∷ 0 ∷ 0 ∷ []) → d ≡ c ++ body → size ≡ to_be_bytes w32 (8 + length body) → d ≡ old ++ framed body
 framed_is old a b c d size body ea eb ec ed es =
@@ -65,11 +65,15 @@ binary_or_null o = optional_canonical IsBinary binary_text (λ s. Unit {0}) (λ 
     each None = tt
     each (Some v) = tt
 
+are_symbols : (names : List (List ℕ)) → AreSpelled names → AreSymbols names
+are_symbols [] h = tt
+are_symbols (name ∷ names) h = (h.0, are_symbols names h.1)
+
 names_canonical : (names : List (List ℕ)) → AreSymbols names → names ≢ [] → IsCanonical (IsNames names) (symbols_text names)
 names_canonical names h some = let c = symbols_canonical names h in record { fits = λ f. (c.fits f, some); null_is = c.null_is }
 
 trims : (s : Said) → CanBeWritten s → Trims (AreFields s) (fields_of s)
-trims (mechanisms_are names) h = slot_canonical _ _ _ _ (names_canonical names h.0 h.1) end_canonical
+trims (mechanisms_are names) h = slot_canonical _ _ _ _ (names_canonical names (are_symbols names h.0) h.1) end_canonical
 trims (init_is mechanism response hostname) h =
     slot_canonical _ _ _ _ (symbol_canonical mechanism h.0)
     (slot_canonical _ _ _ _ (binary_or_null response)

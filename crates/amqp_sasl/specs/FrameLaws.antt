@@ -1,9 +1,8 @@
 -- Part: other calls.
 -- What holds of each SASL frame: it is read whatever follows it, and more is wanted before it is whole; what is written is a frame.
-use Rattle.std.specs.Prelude.{◌≡◌, ◌≢◌, ◌≤◌, ℕ, List, [], ◌++◌, length, Result, Ok, IfSome, true}
+use Rattle.std.specs.Prelude.{◌≡◌, ◌≢◌, ◌≤◌, ℕ, List, [], ◌∷◌, ◌++◌, length, Result, Ok, IfSome, true}
 use Rattle.std.specs.Str.{is_utf8}
 use Rattle.amqp_values.specs.Text.{IsSymbolText}
-use Rattle.amqp_values.specs.Inner.Held.{AreSymbols}
 use Rattle.amqp_sasl.specs.declared.body.Body.{Body}
 use Rattle.amqp_sasl.specs.declared.frame.FrameFault.{FrameFault}
 use Rattle.amqp_sasl.specs.declared.frame.ReceivedFrame.{ReceivedFrame}
@@ -11,9 +10,14 @@ use Rattle.amqp_sasl.specs.declared.frame.ReceivedFrame.TheVariants.{Wants, Fram
 use Rattle.amqp_sasl.specs.SaslFrame.{Said, mechanisms_are, init_is, challenge_is, response_is, outcome_is, IsFrame, said_in, frame_text}
 use Rattle.amqp_sasl.specs.ReadFrame.{ReadsFrame}
 
+-- each name is one that a symbol can spell
+abbrev pub AreSpelled : List (List ℕ) → Type 0
+AreSpelled [] = Unit {0}
+AreSpelled (name ∷ names) = IsSymbolText name × AreSpelled names
+
 -- what the types of a program say of what it writes: names of mechanisms are symbols, of which there is one or more; a host is UTF-8
 abbrev pub CanBeWritten : Said → Type 0
-CanBeWritten (mechanisms_are names) = AreSymbols names × (names ≢ [])
+CanBeWritten (mechanisms_are names) = AreSpelled names × (names ≢ [])
 CanBeWritten (init_is mechanism response hostname) = IsSymbolText mechanism × IfSome hostname (λ s. is_utf8 s ≡ true)
 CanBeWritten (challenge_is challenge) = Unit {0}
 CanBeWritten (response_is response) = Unit {0}

@@ -1,4 +1,4 @@
--- Part: other calls.
+-- Part: other calls; inner.
 -- Protocol headers (AMQP 1.0 part 2, section 2.2).
 use Rattle.std.specs.Prelude.{◌≡◌, ◌<◌, ◌≤◌, ℕ, List, [], ◌∷◌, ◌++◌, length, take, codes, Option, Some, None}
 use Rattle.amqp_sasl.specs.declared.header.Protocol.{Protocol}
