@@ -1,0 +1,11 @@
+pub mod HeaderLemmas
+pub mod FieldLemmas
+pub mod NameLemmas
+pub mod BodyLemmas
+pub mod FrameLemmas
+pub mod FrameLawLemmas
+pub mod WriteLemmas
+pub mod ChoiceLemmas
+pub mod RowLemmas
+pub mod TalkLemmas
+pub mod PlainLemmas
