@@ -17,4 +17,6 @@ mod relay_answers;
 #[cfg(test)]
 mod relays;
 #[cfg(test)]
+mod room;
+#[cfg(test)]
 mod same;
