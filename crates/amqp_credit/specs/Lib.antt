@@ -1,0 +1,4 @@
+pub mod Serial
+pub mod Sender
+pub mod Receiver
+pub mod Assembly
