@@ -1,4 +1,9 @@
 pub mod Serial
+pub mod Chain
 pub mod Sender
 pub mod Receiver
+pub mod SenderHistory
+pub mod SenderLaws
+pub mod ReceiverHistory
+pub mod ReceiverLaws
 pub mod Assembly

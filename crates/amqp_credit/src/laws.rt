@@ -1,1 +1,34 @@
 //! Laws: what holds of every history of calls, as contracts of functions that do nothing.
+
+ghost use Rattle.amqp_credit.specs.SenderHistory.{OfSenders};
+ghost use Rattle.amqp_credit.specs.SenderLaws as sender;
+ghost use Rattle.amqp_credit.specs.ReceiverHistory.{OfReceivers};
+ghost use Rattle.amqp_credit.specs.ReceiverLaws as receiver;
+
+/// A sender begins a delivery only where fewer were begun since the last flow, and used up, than the credit that the
+/// flow left; and none before the first one. What is answered of credit and of drains is what the history says: a
+/// drain uses up what is left, once. The count that is told is the initial one, and one for each delivery that was
+/// begun and each credit that was used up (AMQP 1.0 part 2, section 2.6.7).
+pub fn law_of_senders()
+    ensures begun { OfSenders (λ initial H. sender.BegunWithinCredit initial H) }
+    ensures taken { OfSenders (λ initial H. sender.TakenWithinCredit initial H) }
+    ensures answers { OfSenders (λ initial H. sender.AnswersByHistory initial H) }
+    ensures once { OfSenders (λ initial H. sender.UsedUpOnce H) }
+    ensures count { OfSenders (λ initial H. sender.CountIsExact initial H) }
+{}
+
+/// A receiver takes no more deliveries than it granted last, and none before the first grant. What is answered of
+/// credit, of counts and of drains is what the history says (AMQP 1.0 part 2, section 2.6.7).
+pub fn law_of_receivers()
+    ensures taken { OfReceivers (λ initial renewal H. receiver.TakenWithinGrant H) }
+    ensures answers { OfReceivers (λ initial renewal H. receiver.AnswersByHistory initial H) }
+    ensures count { OfReceivers (λ initial renewal H. receiver.CountIsExact initial H) }
+{}
+
+/// A renewal is told where the rule wants one, by the credit that is left: only where that is below the low mark, and
+/// up to the high one. Right after it none is wanted.
+pub fn law_of_renewals()
+    ensures rule { OfReceivers (λ initial renewal H. receiver.RenewsByRule renewal H) }
+    ensures below { OfReceivers (λ initial renewal H. receiver.RenewedBelowLow renewal H) }
+    ensures once { OfReceivers (λ initial renewal H. receiver.RenewedOnce H) }
+{}
