@@ -23,6 +23,11 @@ pub split_of : {V C : Type 0} (Step : V → C → V → Type 0) (v w : V) (H bef
     Chain Step v H w → H ≡ before ++ c ∷ rest → Split Step v before c rest w
 split_of Step v w H before rest c h e = split Step v w before rest c (subst (λ xs. Chain Step v xs w) e h)
 
+pub joined : {V C : Type 0} (Step : V → C → V → Type 0) (v m w : V) (before after : List C) → Chain Step v before m →
+    Chain Step m after w → Chain Step v (before ++ after) w
+joined Step v m w [] after h k = subst (λ x. Chain Step x after w) h k
+joined Step v m w (b ∷ before) after h k = (h.0, h.1, joined Step h.0 m w before after h.2 k)
+
 -- what holds at first and is kept by each step holds at the end
 pub kept : {V C : Type 0} (Step : V → C → V → Type 0) (P : V → Type 0) →
     ((v m : V) (c : C) → P v → Step v c m → P m) → (v w : V) (cs : List C) → P v → Chain Step v cs w → P w

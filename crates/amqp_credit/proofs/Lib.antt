@@ -1,2 +1,4 @@
 mod ChainLemmas
 mod SenderLemmas
+mod ReceiverLemmas
+mod GrantLemmas

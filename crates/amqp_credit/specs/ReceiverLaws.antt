@@ -55,6 +55,7 @@ AnswersBy count left (Takes (Err refused)) = left ≡ 0
 AnswersBy count left (Hears said (Ok used)) = UsedBy count left said used
 AnswersBy count left (Hears said (Err refused)) = IsPastLimit count left said
 AnswersBy count left (Drains told) = told ≡ record { delivery_count = count; link_credit = left; drain = true }
+AnswersBy count left (AsksTold told) = told.link_credit ≡ left
 AnswersBy count left (AsksCredit n) = n ≡ left
 AnswersBy count left c = ⊤
 
