@@ -2,3 +2,4 @@ mod ChainLemmas
 mod SenderLemmas
 mod ReceiverLemmas
 mod GrantLemmas
+mod AssemblyLemmas

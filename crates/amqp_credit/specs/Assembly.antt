@@ -54,6 +54,10 @@ abbrev pub says_settled : Option Bool → Bool
 says_settled None = false
 says_settled (Some settled) = settled
 
+-- a part settles its delivery, or aborts it
+abbrev pub settles : PartHead → Bool
+settles head = head.aborted || says_settled head.settled
+
 -- the bytes of a part; those of one that aborts its delivery are ignored
 abbrev pub bytes_of : PartHead → ℕ
 bytes_of head = if head.aborted then 0 else head.size
@@ -62,7 +66,7 @@ bytes_of head = if head.aborted then 0 else head.size
 -- of its parts, but 2^64 - 1 at most.
 abbrev pub with_part : Delivery → PartHead → Delivery
 with_part d head = record d {
-  settled = d.settled || head.aborted || says_settled head.settled;
+  settled = d.settled || settles head;
   size = min (d.size + bytes_of head) (2 ^ 64 - 1);
 }
 

@@ -7,3 +7,5 @@ pub mod SenderLaws
 pub mod ReceiverHistory
 pub mod ReceiverLaws
 pub mod Assembly
+pub mod AssemblyHistory
+pub mod AssemblyLaws

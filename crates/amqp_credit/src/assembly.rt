@@ -2,7 +2,7 @@
 
 ghost use Rattle.std.specs.Prelude.{◌≡◌};
 ghost use Rattle.amqp_credit.specs.Assembly.{new_assembly, PartStep, TakenStep, begun, belongs, differs};
-ghost use Rattle.amqp_credit.specs.Assembly.{goes_on, with_part, end_of, left_under_way, part_of, fits, number_in};
+ghost use Rattle.amqp_credit.specs.Assembly.{goes_on, with_part, end_of, left_under_way, part_of, fits, number_in, settles};
 
 use crate::part::{Part, PartEnd, PartError, PartHead, PartTag};
 use std::marker::Model;
@@ -137,10 +137,17 @@ fn with_part(delivery: Delivery, head: PartHead) -> Delivery
 {
     let size = if head.aborted { 0 } else { head.size };
     Delivery {
-        settled: delivery.settled || head.aborted || matches!(head.settled, Some(true)),
+        settled: delivery.settled || settles(head),
         size: delivery.size.saturating_add(u64::from(size)),
         ..delivery
     }
+}
+
+/// Whether a part settles its delivery, or aborts it.
+fn settles(head: PartHead) -> bool
+    ensures { result ≡ settles head }
+{
+    head.aborted || matches!(head.settled, Some(true))
 }
 
 /// Whether the delivery ends with a part.

@@ -4,6 +4,8 @@ ghost use Rattle.amqp_credit.specs.SenderHistory.{OfSenders};
 ghost use Rattle.amqp_credit.specs.SenderLaws as sender;
 ghost use Rattle.amqp_credit.specs.ReceiverHistory.{OfReceivers};
 ghost use Rattle.amqp_credit.specs.ReceiverLaws as receiver;
+ghost use Rattle.amqp_credit.specs.AssemblyHistory.{OfAssemblies};
+ghost use Rattle.amqp_credit.specs.AssemblyLaws as parts;
 
 /// A sender begins a delivery only where fewer were begun since the last flow, and used up, than the credit that the
 /// flow left; and none before the first one. What is answered of credit and of drains is what the history says: a
@@ -31,4 +33,17 @@ pub fn law_of_renewals()
     ensures rule { OfReceivers (λ initial renewal H. receiver.RenewsByRule renewal H) }
     ensures below { OfReceivers (λ initial renewal H. receiver.RenewedBelowLow renewal H) }
     ensures once { OfReceivers (λ initial renewal H. receiver.RenewedOnce H) }
+{}
+
+/// Each part that is accepted belongs to one delivery: the first part gives its number and a tag, and until the last
+/// one, or one that aborts it, only parts of it are accepted; after that none. The size that is told is that of all its
+/// parts, within the limit, and it is settled where one of them says so (AMQP 1.0 part 2, sections 2.6.14 and 2.7.5).
+/// A part that is refused has the reason that is told.
+pub fn law_of_parts()
+    ensures belong { OfAssemblies (λ limit H. parts.BelongToOne H) }
+    ensures in_a_row { OfAssemblies (λ limit H. parts.InARow H) }
+    ensures sizes { OfAssemblies (λ limit H. parts.SizesAddUp H) }
+    ensures within { OfAssemblies (λ limit H. parts.NoneTooLarge limit H) }
+    ensures refused { OfAssemblies (λ limit H. parts.RefusedForReason limit H) }
+    ensures under_way { OfAssemblies (λ limit H. parts.UnderWayIsExact H) }
 {}
