@@ -123,11 +123,11 @@ pub answers_by_history : OfReceivers (λ initial renewal H. AnswersByHistory ini
 answers_by_history initial renewal H v h = (
   λ before since after grant c credit e gives g.
       answers_at initial renewal (before ++ grant ∷ since) credit (taken_in since) c
-          (since_grant initial renewal H v h before since after grant c credit e gives g),
+      (since_grant initial renewal H v h before since after grant c credit e gives g),
   λ before after c e g.
       subst (λ n. AnswersBy (count_after initial before) n c) (none_taken (taken_in before))
-          (answers_at initial renewal before 0 (taken_in before) c
-          (before_grants initial renewal H v h before after c e g)),
+      (answers_at initial renewal before 0 (taken_in before) c
+      (before_grants initial renewal H v h before after c e g)),
 )
 
 fewer : (left taken : ℕ) → 0 < left - taken → taken < left
@@ -228,11 +228,11 @@ pub renews_by_rule : OfReceivers (λ initial renewal H. RenewsByRule renewal H)
 renews_by_rule initial renewal H v h = (
   λ before since after grant c credit e gives g.
       renews_at initial renewal (before ++ grant ∷ since) credit (taken_in since) c
-          (since_grant initial renewal H v h before since after grant c credit e gives g),
+      (since_grant initial renewal H v h before since after grant c credit e gives g),
   λ before after c e g.
       subst (λ n. RenewsBy (wanted_by renewal (is_draining_by false before) n) c) (none_taken (taken_in before))
-          (renews_at initial renewal before 0 (taken_in before) c
-          (before_grants initial renewal H v h before after c e g)),
+      (renews_at initial renewal before 0 (taken_in before) c
+      (before_grants initial renewal H v h before after c e g)),
 )
 
 allows : (renewal : Option Renewal) (draining : Bool) (left credit : ℕ) →
@@ -273,7 +273,7 @@ renewed_below_low initial renewal H v h =
     let rule = renews_by_rule initial renewal H v h in (
       λ before since after grant c credit e gives g.
           renewed_only renewal (is_draining_by false (before ++ grant ∷ since)) (credit - taken_in since) c
-              (rule.0 before since after grant c credit e gives g),
+          (rule.0 before since after grant c credit e gives g),
       λ before after c e g.
           renewed_only renewal (is_draining_by false before) 0 c (rule.1 before after c e g),
     )

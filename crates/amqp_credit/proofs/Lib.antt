@@ -3,3 +3,4 @@ mod SenderLemmas
 mod ReceiverLemmas
 mod GrantLemmas
 mod AssemblyLemmas
+mod PartLemmas

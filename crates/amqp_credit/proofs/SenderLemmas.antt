@@ -127,12 +127,12 @@ since_flow : (initial : ℕ) (H : List SenderCall) (v : SenderView) → SenderLe
     SinceFlow initial H (λ left drain since c. At left (taken_in since) drain c)
 since_flow initial H v h before since after seen granted drain c e g =
     let s = split_of SenderStep (new_sender initial) v H before (since ++ c ∷ after) (Flows seen (Some granted) drain)
-        h.1 e in
+    h.1 e in
     let t = split_of SenderStep s.next v (since ++ c ∷ after) since after c s.onward refl in
     let less = chain_less s.next t.at since g t.reached in
     let given = ap (λ (x : SenderView). x.credit) s.step
-        ∙ ap₂ (λ i n. left_of granted (seen_or i seen) n) (chain_initial (new_sender initial) s.at before s.reached)
-        (chain_count (new_sender initial) s.at before h.0 s.reached) in
+    ∙ ap₂ (λ i n. left_of granted (seen_or i seen) n) (chain_initial (new_sender initial) s.at before s.reached)
+    (chain_count (new_sender initial) s.at before h.0 s.reached) in
     record {
       at = t.at;
       next = t.next;
@@ -204,7 +204,7 @@ pub begun_within_credit : OfSenders (λ initial H. BegunWithinCredit initial H)
 begun_within_credit initial H v h = (
   λ before since after seen granted drain c e g.
       begun_at _ (taken_in since) drain c
-          ((answers_by_history initial H v h).0 before since after seen granted drain c e g),
+      ((answers_by_history initial H v h).0 before since after seen granted drain c e g),
   λ before after c e g b.
       none_of_none (begun_at 0 0 false c ((answers_by_history initial H v h).1 before after c e g) b),
 )
