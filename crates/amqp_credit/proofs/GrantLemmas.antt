@@ -235,7 +235,7 @@ renews_by_rule initial renewal H v h = (
       (before_grants initial renewal H v h before after c e g)),
 )
 
-allows : (renewal : Option Renewal) (draining : Bool) (left credit : ℕ) →
+pub allows : (renewal : Option Renewal) (draining : Bool) (left credit : ℕ) →
     wanted_by renewal draining left ≡ Some credit → Allows renewal left credit
 allows renewal true left credit e = absurd cc
 allows None false left credit e = absurd cc

@@ -4,3 +4,6 @@ mod ReceiverLemmas
 mod GrantLemmas
 mod AssemblyLemmas
 mod PartLemmas
+mod PairLemmas
+mod PairCalls
+mod PairLawLemmas

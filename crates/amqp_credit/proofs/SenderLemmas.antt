@@ -77,7 +77,7 @@ if_within : (b : Bool) (n : ℕ) → (if b then n else 0) ≤ n
 if_within true n = omega arith
 if_within false n = omega arith
 
-step_less : (v m : SenderView) (c : SenderCall) → gives c ≡ false → SenderStep v c m → Less v (takes c) m
+pub step_less : (v m : SenderView) (c : SenderCall) → gives c ≡ false → SenderStep v c m → Less v (takes c) m
 step_less v m (Flows seen (Some granted) drain) g h = absurd (true≢false g)
 step_less v m (Flows seen None drain) g h = same v m h
 step_less v m (Sends (Ok done)) g h = record {

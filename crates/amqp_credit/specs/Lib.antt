@@ -9,3 +9,4 @@ pub mod ReceiverLaws
 pub mod Assembly
 pub mod AssemblyHistory
 pub mod AssemblyLaws
+pub mod Pair

@@ -6,6 +6,7 @@ ghost use Rattle.amqp_credit.specs.ReceiverHistory.{OfReceivers};
 ghost use Rattle.amqp_credit.specs.ReceiverLaws as receiver;
 ghost use Rattle.amqp_credit.specs.AssemblyHistory.{OfAssemblies};
 ghost use Rattle.amqp_credit.specs.AssemblyLaws as parts;
+ghost use Rattle.amqp_credit.specs.Pair.{OfPairs, NoneRefused, CreditIsKept, EndsAgree};
 
 /// A sender begins a delivery only where fewer were begun since the last flow, and used up, than the credit that the
 /// flow left; and none before the first one. What is answered of credit and of drains is what the history says: a
@@ -46,4 +47,14 @@ pub fn law_of_parts()
     ensures within { OfAssemblies (λ limit H. parts.NoneTooLarge limit H) }
     ensures refused { OfAssemblies (λ limit H. parts.RefusedForReason limit H) }
     ensures under_way { OfAssemblies (λ limit H. parts.UnderWayIsExact H) }
+{}
+
+/// Of both ends of one link, where flows and deliveries come in order: what the sender begins is never refused, and no
+/// flow of it is; what it may still begin, with what is on the way, is no more than the receiver granted; and with
+/// nothing on the way both have the same count and credit. A receiver that grants less than its credit is is left out:
+/// deliveries that are on the way may pass it (AMQP 1.0 part 2, section 2.6.7).
+pub fn law_of_pair()
+    ensures refused { OfPairs (λ H p. NoneRefused H) }
+    ensures kept { OfPairs (λ H p. CreditIsKept p) }
+    ensures agree { OfPairs (λ H p. EndsAgree p) }
 {}
