@@ -1,7 +1,7 @@
 -- What a history of parts says of the delivery that is under way.
-use Rattle.std.proofs.Common.{◌≡◌, ◌+◌, ◌-◌, ◌^◌, ◌<◌, ◌≤◌, ◌||◌, ℕ, zero, suc, not, Bool, true, false, List, [], ◌∷◌}
-use Rattle.std.proofs.Common.{◌++◌, Option, Some, None, Result, Ok, Err, if◌then◌else◌, refl, sym, ap, ap₂, ◌∙◌}
-use Rattle.std.proofs.Common.{subst, arith, true≢false, min, nat_le, nat_eq, ◌⊎◌, inl, inr}
+use Rattle.std.proofs.Common.{◌≡◌, ◌+◌, ◌-◌, ◌^◌, ◌<◌, ◌||◌, ℕ, zero, suc, Bool, true, false, List, [], ◌∷◌}
+use Rattle.std.proofs.Common.{◌++◌, Option, Some, None, Result, Ok, Err, if◌then◌else◌, refl, sym, ap, ◌∙◌}
+use Rattle.std.proofs.Common.{subst, arith, true≢false, min, nat_le, inl, inr}
 use Rattle.std.proofs.lemmas.Bool.Decides.{nat_tests}
 use Rattle.std.proofs.lemmas.Grind.{common_steps}
 use Rattle.amqp_credit.specs.declared.part.PartTag.{PartTag}
@@ -11,16 +11,13 @@ use Rattle.amqp_credit.specs.declared.part.PartEnd.{PartEnd}
 use Rattle.amqp_credit.specs.declared.part.PartEnd.TheVariants.{More, Last, Aborted}
 use Rattle.amqp_credit.specs.declared.part.Part.{Part}
 use Rattle.amqp_credit.specs.declared.part.PartError.{PartError}
-use Rattle.amqp_credit.specs.declared.part.PartError.TheVariants.{NoneUnderWay, NoNumber, NoTag, OtherDelivery}
+use Rattle.amqp_credit.specs.declared.part.PartError.TheVariants.{OtherDelivery}
 use Rattle.amqp_credit.specs.declared.part.PartError.TheVariants.{OtherFormat, TooLarge}
 use Rattle.amqp_credit.specs.declared.assembly.Delivery.{Delivery}
-use Rattle.amqp_credit.specs.Chain.{Chain}
-use Rattle.amqp_credit.specs.Assembly.{AssemblyView, new_assembly, begun, differs, is_new, goes_on, belongs, bytes_of}
+use Rattle.amqp_credit.specs.Assembly.{AssemblyView, begun, differs, is_new, goes_on, belongs, bytes_of}
 use Rattle.amqp_credit.specs.Assembly.{settles, with_part, end_of, fits, part_of, is_none, left_under_way}
-use Rattle.amqp_credit.specs.Assembly.{TakenStep, TriedStep, PartStep, number_in}
-use Rattle.amqp_credit.specs.AssemblyHistory.{AssemblyCall, AssemblyStep, OfAssemblies, unless_ended, parts_after}
-use Rattle.amqp_credit.specs.AssemblyHistory.{parts_by, total, is_settled_by, is_accepted, has_accepted}
-use Rattle.amqp_credit.specs.AssemblyHistory.{Comes, AsksNumber}
+use Rattle.amqp_credit.specs.Assembly.{TriedStep, PartStep, number_in}
+use Rattle.amqp_credit.specs.AssemblyHistory.{total, is_settled_by}
 use Rattle.amqp_credit.specs.AssemblyLaws.{MayGive, GoesOn, AllGoOn, is_absent, AreOf, is_empty, NumberDiffers}
 use Rattle.amqp_credit.specs.AssemblyLaws.{FormatDiffers, IsOver, Reason}
 

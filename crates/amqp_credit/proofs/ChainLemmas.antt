@@ -1,5 +1,5 @@
 -- A call among others of a chain, and sums of serial numbers.
-use Rattle.std.proofs.Common.{◌≡◌, ◌+◌, ◌%◌, ◌^◌, ◌<◌, ◌||◌, ℕ, Bool, true, false, List, [], ◌∷◌, ◌++◌, refl, subst, arith}
+use Rattle.std.proofs.Common.{◌≡◌, ◌+◌, ◌^◌, ◌<◌, ◌||◌, ℕ, Bool, true, false, List, [], ◌∷◌, ◌++◌, refl, subst, arith}
 use Rattle.std.proofs.Common.{sym, true≢false}
 use Rattle.amqp_credit.specs.Serial.{advanced}
 use Rattle.amqp_credit.specs.Chain.{Chain}

@@ -1,23 +1,22 @@
 -- What a receiver answers since a grant, by its history.
-use Rattle.std.proofs.Common.{◌≡◌, ◌+◌, ◌-◌, ◌^◌, ◌<◌, ◌≤◌, ℕ, Bool, true, false, List, [], ◌∷◌, ◌++◌, Option, Some}
-use Rattle.std.proofs.Common.{None, Result, Ok, Err, if◌then◌else◌, refl, sym, ap, ap₂, ◌∙◌, subst, arith, true≢false}
-use Rattle.std.proofs.Common.{is_some, min, nat_le, nat_lt, ◌⊎◌, inl, inr}
+use Rattle.std.proofs.Common.{◌≡◌, ◌-◌, ◌^◌, ◌<◌, ◌≤◌, ℕ, Bool, true, false, List, ◌∷◌, ◌++◌, Option, Some}
+use Rattle.std.proofs.Common.{None, Ok, Err, if◌then◌else◌, refl, sym, ap, ap₂, ◌∙◌, subst, arith}
+use Rattle.std.proofs.Common.{min, nat_le, nat_lt, inl, inr}
 use Rattle.std.proofs.lemmas.Bool.Decides.{nat_tests}
 use Rattle.std.proofs.lemmas.Grind.{common_steps}
 use Rattle.amqp_credit.specs.declared.receiver.Renewal.{Renewal}
 use Rattle.amqp_credit.specs.declared.receiver.Grant.{Grant}
-use Rattle.amqp_credit.specs.Serial.{advanced, past, is_behind}
-use Rattle.amqp_credit.specs.Chain.{Chain, Each}
+use Rattle.amqp_credit.specs.Serial.{past, is_behind}
 use Rattle.amqp_credit.specs.Receiver.{ReceiverView, new_receiver, granted, told_by, used_up, by_rule, wanted}
-use Rattle.amqp_credit.specs.ReceiverHistory.{ReceiverCall, ReceiverStep, ReceiverLeadsTo, OfReceivers, takes, taken_in}
-use Rattle.amqp_credit.specs.ReceiverHistory.{grant_of, has_granted, count_after, is_draining_by}
+use Rattle.amqp_credit.specs.ReceiverHistory.{ReceiverCall, ReceiverStep, ReceiverLeadsTo, OfReceivers, taken_in}
+use Rattle.amqp_credit.specs.ReceiverHistory.{count_after, is_draining_by}
 use Rattle.amqp_credit.specs.ReceiverHistory.{Grants, Drains, Hears, Takes, Renews}
 use Rattle.amqp_credit.specs.ReceiverHistory.{AsksWanted, AsksTold, AsksCredit, AsksCount, AsksDraining}
 use Rattle.amqp_credit.specs.ReceiverLaws.{SinceGrant, BeforeGrants, IsTaken, TakenWithinGrant, UsedBy, IsPastLimit}
 use Rattle.amqp_credit.specs.ReceiverLaws.{AnswersBy, AnswersByHistory, TellsBy, CountIsExact, wanted_by, RenewsBy}
 use Rattle.amqp_credit.specs.ReceiverLaws.{RenewsByRule, Allows, RenewsOnly, RenewedBelowLow, RenewedOnce}
-use Rattle.amqp_credit.proofs.ChainLemmas.{Split, split_of, joined}
-use Rattle.amqp_credit.proofs.ReceiverLemmas.{Stands, stands, Less, chain_less, step_grants, of_renewal, of_no_renewal}
+use Rattle.amqp_credit.proofs.ChainLemmas.{split_of, joined}
+use Rattle.amqp_credit.proofs.ReceiverLemmas.{Stands, stands, chain_less, step_grants, of_renewal, of_no_renewal}
 use Rattle.amqp_credit.proofs.ReceiverLemmas.{of_heard, of_refused, stays_small}
 
 -- a view at which a call is made, after these calls: so many were taken of what was granted

@@ -1,13 +1,11 @@
 -- What each call makes of both ends of a link, and of what is on the way.
-use Rattle.std.proofs.Common.{◌≡◌, ◌+◌, ◌-◌, ◌%◌, ◌^◌, ◌<◌, ◌≤◌, ℕ, suc, Bool, true, false, List, [], ◌∷◌, ◌++◌, Option}
-use Rattle.std.proofs.Common.{Some, None, Result, Ok, Err, if◌then◌else◌, refl, sym, ap, ap₂, ◌∙◌, subst, arith}
-use Rattle.std.proofs.Common.{nat_le, le_trans, true≢false}
+use Rattle.std.proofs.Common.{◌≡◌, ◌+◌, ◌-◌, ◌%◌, ◌^◌, ◌<◌, ◌≤◌, ℕ, Bool, true, false, List, [], ◌∷◌, ◌++◌, Option}
+use Rattle.std.proofs.Common.{Some, None, Ok, Err, if◌then◌else◌, refl, sym, ap, ap₂, ◌∙◌, subst, arith}
+use Rattle.std.proofs.Common.{nat_le}
 use Rattle.std.proofs.lemmas.Bool.Decides.{nat_tests}
 use Rattle.std.proofs.lemmas.Grind.{common_steps}
 use Rattle.amqp_credit.specs.declared.receiver.Renewal.{Renewal}
-use Rattle.amqp_credit.specs.declared.receiver.Grant.{Grant}
 use Rattle.amqp_credit.specs.Serial.{advanced, past, is_behind}
-use Rattle.amqp_credit.specs.Chain.{Chain, Each}
 use Rattle.amqp_credit.specs.Sender.{SenderView}
 use Rattle.amqp_credit.specs.SenderHistory as sender
 use Rattle.amqp_credit.specs.SenderHistory.{SenderCall, SenderStep}
@@ -15,16 +13,14 @@ use Rattle.amqp_credit.specs.Receiver.{ReceiverView, told_by, used_up, wanted}
 use Rattle.amqp_credit.specs.ReceiverHistory as receiver
 use Rattle.amqp_credit.specs.ReceiverHistory.{ReceiverCall, ReceiverStep}
 use Rattle.amqp_credit.specs.ReceiverLaws.{Allows}
-use Rattle.amqp_credit.specs.Pair.{Sent, Pair, PairCall, new_pair, SenderMay, ReceiverMay, sent_by, told_to_sender}
-use Rattle.amqp_credit.specs.Pair.{IsFor, FlowStep, ComeStep, PairStep, IsRule, OfPairs, IsRefused, NoneRefused}
-use Rattle.amqp_credit.specs.Pair.{CreditIsKept, EndsAgree, begun_in, Begun, Says, AtSender, AtReceiver, FlowComes}
-use Rattle.amqp_credit.specs.Pair.{Comes}
-use Rattle.amqp_credit.proofs.ChainLemmas.{split_of}
+use Rattle.amqp_credit.specs.Pair.{Sent, Pair, SenderMay, ReceiverMay, sent_by, told_to_sender}
+use Rattle.amqp_credit.specs.Pair.{IsFor, IsRule}
+use Rattle.amqp_credit.specs.Pair.{Begun, Says}
 use Rattle.amqp_credit.proofs.SenderLemmas as sent
 use Rattle.amqp_credit.proofs.ReceiverLemmas.{of_renewal, of_no_renewal, of_heard}
 use Rattle.amqp_credit.proofs.GrantLemmas.{allows}
-use Rattle.amqp_credit.proofs.PairLemmas.{Way, Limits, way_grows, way_begun, way_one, way_says, limits_grow, PairStands}
-use Rattle.amqp_credit.proofs.PairLemmas.{new_stands, announced, receiver_same, came, went, sender_same, flow_came}
+use Rattle.amqp_credit.proofs.PairLemmas.{Way, way_grows, way_one, way_says, limits_grow, PairStands}
+use Rattle.amqp_credit.proofs.PairLemmas.{announced, receiver_same, came, went, sender_same}
 use Rattle.amqp_credit.proofs.PairLemmas.{mod_sum}
 
 -- ---- a call of the sender

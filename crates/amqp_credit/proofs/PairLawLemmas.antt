@@ -1,14 +1,11 @@
 -- What holds of every history of both ends of a link.
-use Rattle.std.proofs.Common.{◌≡◌, ◌+◌, ◌%◌, ◌^◌, ◌<◌, ◌≤◌, ℕ, List, [], ◌∷◌, ◌++◌, Option, Some, None, Result, Ok, Err}
+use Rattle.std.proofs.Common.{◌≡◌, ◌+◌, ◌%◌, ◌^◌, ◌≤◌, ℕ, List, [], ◌∷◌, Option, Ok, Err}
 use Rattle.std.proofs.Common.{refl, sym, ap, ◌∙◌, subst, arith}
 use Rattle.amqp_credit.specs.declared.receiver.Grant.{Grant}
-use Rattle.amqp_credit.specs.Chain.{Chain, Each}
 use Rattle.amqp_credit.specs.Sender.{SenderView}
-use Rattle.amqp_credit.specs.SenderHistory as sender
-use Rattle.amqp_credit.specs.Receiver.{ReceiverView}
 use Rattle.amqp_credit.specs.ReceiverHistory as receiver
 use Rattle.amqp_credit.specs.ReceiverHistory.{ReceiverCall, ReceiverStep}
-use Rattle.amqp_credit.specs.Pair.{Sent, Pair, PairCall, new_pair, IsFor, FlowStep, ComeStep, PairStep, OfPairs}
+use Rattle.amqp_credit.specs.Pair.{Sent, Pair, PairCall, new_pair, FlowStep, ComeStep, PairStep, OfPairs}
 use Rattle.amqp_credit.specs.Pair.{IsRefused, NoneRefused, CreditIsKept, EndsAgree, begun_in, Begun, Says, AtSender}
 use Rattle.amqp_credit.specs.Pair.{AtReceiver, FlowComes, Comes}
 use Rattle.amqp_credit.proofs.ChainLemmas.{split_of, kept}

@@ -1,26 +1,24 @@
 -- What a history of parts says of each part that is accepted or refused.
-use Rattle.std.proofs.Common.{◌≡◌, ◌-◌, ◌^◌, ◌≤◌, ℕ, zero, suc, Bool, true, false, List, [], ◌∷◌}
-use Rattle.std.proofs.Common.{◌++◌, Option, Some, None, Result, Ok, Err, if◌then◌else◌, refl, sym, ap, ap₂, ◌∙◌}
-use Rattle.std.proofs.Common.{subst, arith, true≢false, min, nat_le, ◌⊎◌, inl, inr}
+use Rattle.std.proofs.Common.{◌≡◌, ℕ, zero, suc, Bool, true, false, List, [], ◌∷◌}
+use Rattle.std.proofs.Common.{◌++◌, Option, Some, None, Ok, Err, refl, sym, ap, ◌∙◌}
+use Rattle.std.proofs.Common.{subst, arith, true≢false, inl, inr}
 use Rattle.std.proofs.lemmas.Bool.Decides.{nat_tests}
 use Rattle.std.proofs.lemmas.Grind.{common_steps}
 use Rattle.amqp_credit.specs.declared.part.PartHead.{PartHead}
 use Rattle.amqp_credit.specs.declared.part.PartEnd.{PartEnd}
 use Rattle.amqp_credit.specs.declared.part.PartEnd.TheVariants.{More, Last, Aborted}
 use Rattle.amqp_credit.specs.declared.part.Part.{Part}
-use Rattle.amqp_credit.specs.declared.part.PartError.{PartError}
-use Rattle.amqp_credit.specs.declared.part.PartError.TheVariants.{TooLarge}
 use Rattle.amqp_credit.specs.declared.assembly.Delivery.{Delivery}
 use Rattle.amqp_credit.specs.Chain.{Chain}
-use Rattle.amqp_credit.specs.Assembly.{AssemblyView, new_assembly, belongs, with_part, end_of, fits, part_of, is_none}
-use Rattle.amqp_credit.specs.Assembly.{left_under_way, TriedStep, PartStep, number_in}
+use Rattle.amqp_credit.specs.Assembly.{AssemblyView, new_assembly, end_of, fits, is_none}
+use Rattle.amqp_credit.specs.Assembly.{left_under_way, number_in}
 use Rattle.amqp_credit.specs.AssemblyHistory.{AssemblyCall, AssemblyStep, OfAssemblies, unless_ended, parts_after}
 use Rattle.amqp_credit.specs.AssemblyHistory.{parts_by, is_accepted, has_accepted, Comes, AsksNumber}
-use Rattle.amqp_credit.specs.AssemblyLaws.{AreOf, is_empty, IsWithin, Reason, Follows, number_of}
+use Rattle.amqp_credit.specs.AssemblyLaws.{AreOf, IsWithin, Reason, Follows, number_of}
 use Rattle.amqp_credit.specs.AssemblyLaws.{BelongToOne, InARow, SizesAddUp, NoneTooLarge, RefusedForReason}
 use Rattle.amqp_credit.specs.AssemblyLaws.{UnderWayIsExact}
-use Rattle.amqp_credit.proofs.ChainLemmas.{Split, split_of, joined, or_left, or_right}
-use Rattle.amqp_credit.proofs.AssemblyLemmas.{Has, Matches, Accepted, Outcome, outcome}
+use Rattle.amqp_credit.proofs.ChainLemmas.{split_of, or_left, or_right}
+use Rattle.amqp_credit.proofs.AssemblyLemmas.{Has, Matches, Accepted, outcome}
 
 -- ---- a chain of calls
 

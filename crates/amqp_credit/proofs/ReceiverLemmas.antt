@@ -1,23 +1,19 @@
 -- What a receiver's history says of its credit and of its count.
-use Rattle.std.proofs.Common.{◌≡◌, ◌+◌, ◌-◌, ◌^◌, ◌<◌, ◌≤◌, ℕ, Bool, true, false, List, [], ◌∷◌, ◌++◌, Option, Some}
-use Rattle.std.proofs.Common.{None, Result, Ok, Err, if◌then◌else◌, refl, sym, ap, ap₂, ◌∙◌, subst, arith, true≢false}
-use Rattle.std.proofs.Common.{is_some, min, nat_le, nat_lt, ◌⊎◌, inl, inr}
+use Rattle.std.proofs.Common.{◌≡◌, ◌+◌, ◌-◌, ◌^◌, ◌<◌, ◌≤◌, ℕ, Bool, true, false, List, [], ◌∷◌, Option, Some}
+use Rattle.std.proofs.Common.{None, Ok, Err, if◌then◌else◌, refl, sym, ap, ap₂, ◌∙◌, subst, arith, true≢false}
+use Rattle.std.proofs.Common.{is_some, nat_le}
 use Rattle.std.proofs.lemmas.Bool.Decides.{nat_tests}
 use Rattle.std.proofs.lemmas.Grind.{common_steps}
-use Rattle.amqp_credit.specs.declared.receiver.Renewal.{Renewal}
 use Rattle.amqp_credit.specs.declared.receiver.Grant.{Grant}
 use Rattle.amqp_credit.specs.Serial.{advanced, past, is_behind}
-use Rattle.amqp_credit.specs.Chain.{Chain, Each}
-use Rattle.amqp_credit.specs.Receiver.{ReceiverView, new_receiver, granted, told_by, taken_off, used_up, or_zero}
-use Rattle.amqp_credit.specs.Receiver.{accepted, by_rule, wanted, renewed}
-use Rattle.amqp_credit.specs.ReceiverHistory.{ReceiverCall, ReceiverStep, ReceiverLeadsTo, OfReceivers, takes, taken_in}
-use Rattle.amqp_credit.specs.ReceiverHistory.{grant_of, has_granted, count_after, drains_after, is_draining_by}
+use Rattle.amqp_credit.specs.Chain.{Chain}
+use Rattle.amqp_credit.specs.Receiver.{ReceiverView, granted, told_by, taken_off, used_up, or_zero}
+use Rattle.amqp_credit.specs.Receiver.{wanted, renewed}
+use Rattle.amqp_credit.specs.ReceiverHistory.{ReceiverCall, ReceiverStep, takes, taken_in}
+use Rattle.amqp_credit.specs.ReceiverHistory.{grant_of, has_granted, drains_after, is_draining_by}
 use Rattle.amqp_credit.specs.ReceiverHistory.{Grants, Drains, Hears, Takes, Renews}
 use Rattle.amqp_credit.specs.ReceiverHistory.{AsksWanted, AsksTold, AsksCredit, AsksCount, AsksDraining}
-use Rattle.amqp_credit.specs.ReceiverLaws.{SinceGrant, BeforeGrants, IsTaken, TakenWithinGrant, UsedBy, IsPastLimit}
-use Rattle.amqp_credit.specs.ReceiverLaws.{AnswersBy, AnswersByHistory, TellsBy, CountIsExact, wanted_by, RenewsBy}
-use Rattle.amqp_credit.specs.ReceiverLaws.{RenewsByRule, Allows, RenewsOnly, RenewedBelowLow, RenewedOnce}
-use Rattle.amqp_credit.proofs.ChainLemmas.{Split, split_of, kept, or_left, or_right}
+use Rattle.amqp_credit.proofs.ChainLemmas.{or_left, or_right}
 use Rattle.amqp_credit.proofs.ChainLemmas.{advanced_small, advanced_none, advanced_twice}
 
 -- ---- a call

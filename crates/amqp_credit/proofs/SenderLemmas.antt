@@ -1,15 +1,15 @@
 -- What a sender's history says of its credit and of its count.
-use Rattle.std.proofs.Common.{◌≡◌, ◌+◌, ◌-◌, ◌^◌, ◌<◌, ◌≤◌, ◌&&◌, ℕ, Bool, true, false, List, [], ◌∷◌, ◌++◌, Option, Some, None}
-use Rattle.std.proofs.Common.{Result, Ok, Err, if◌then◌else◌, refl, sym, ap, ap₂, ◌∙◌, subst, arith, true≢false}
+use Rattle.std.proofs.Common.{◌≡◌, ◌+◌, ◌-◌, ◌^◌, ◌<◌, ◌≤◌, ℕ, Bool, true, false, List, [], ◌∷◌, ◌++◌, Some, None}
+use Rattle.std.proofs.Common.{Ok, Err, if◌then◌else◌, refl, sym, ap, ap₂, ◌∙◌, subst, arith, true≢false}
 use Rattle.amqp_credit.specs.Serial.{advanced}
 use Rattle.amqp_credit.specs.Chain.{Chain}
-use Rattle.amqp_credit.specs.Sender.{SenderView, new_sender, seen_or, left_of, drainable}
+use Rattle.amqp_credit.specs.Sender.{SenderView, new_sender, seen_or, left_of}
 use Rattle.amqp_credit.specs.SenderHistory.{SenderCall, SenderStep, SenderLeadsTo, OfSenders, takes, taken_in, gives}
-use Rattle.amqp_credit.specs.SenderHistory.{has_given, count_after}
+use Rattle.amqp_credit.specs.SenderHistory.{has_given}
 use Rattle.amqp_credit.specs.SenderHistory.{Flows, Sends, UsesUp, AsksCredit, AsksCount, AsksDrain}
 use Rattle.amqp_credit.specs.SenderLaws.{SinceFlow, BeforeFlows, IsBegun, BegunWithinCredit, TakenWithinCredit}
 use Rattle.amqp_credit.specs.SenderLaws.{AnswersBy, AnswersByHistory, UsedUpOnce, CountIsExact}
-use Rattle.amqp_credit.proofs.ChainLemmas.{Split, split_of, kept, or_left, or_right}
+use Rattle.amqp_credit.proofs.ChainLemmas.{split_of, or_left, or_right}
 use Rattle.amqp_credit.proofs.ChainLemmas.{advanced_small, advanced_none, advanced_twice}
 
 -- ---- the counts

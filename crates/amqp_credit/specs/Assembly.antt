@@ -4,7 +4,7 @@
 use Rattle.std.specs.Prelude.{ℕ, zero, suc, ◌+◌, ◌-◌, ◌^◌, ◌≡◌, ◌||◌, min, not, nat_le, nat_eq, Bool, true, false}
 use Rattle.std.specs.Prelude.{Option, Some, None, Result, Ok, Err, if◌then◌else◌}
 use Rattle.amqp_credit.specs.declared.part.PartTag.{PartTag}
-use Rattle.amqp_credit.specs.declared.part.PartTag.TheVariants.{Absent, Same, New}
+use Rattle.amqp_credit.specs.declared.part.PartTag.TheVariants.{Absent, New}
 use Rattle.amqp_credit.specs.declared.part.PartHead.{PartHead}
 use Rattle.amqp_credit.specs.declared.part.PartEnd.{PartEnd}
 use Rattle.amqp_credit.specs.declared.part.PartEnd.TheVariants.{More, Last, Aborted}

@@ -1,11 +1,10 @@
 -- Part: other calls.
 -- What holds of every history of the parts of one link (AMQP 1.0 part 2, sections 2.6.14 and 2.7.5).
 use Rattle.std.specs.Prelude.{ℕ, zero, suc, ◌-◌, ◌^◌, ◌<◌, ◌≤◌, ◌≡◌, ◌⊎◌, ⊤, min, Bool, true, false}
-use Rattle.std.specs.Prelude.{List, [], ◌∷◌, ◌++◌, Option, Some, None, Result, Ok, Err}
+use Rattle.std.specs.Prelude.{List, [], ◌∷◌, ◌++◌, Option, Some, None, Ok, Err}
 use Rattle.amqp_credit.specs.declared.part.PartTag.{PartTag}
-use Rattle.amqp_credit.specs.declared.part.PartTag.TheVariants.{Absent, Same, New}
+use Rattle.amqp_credit.specs.declared.part.PartTag.TheVariants.{Absent, New}
 use Rattle.amqp_credit.specs.declared.part.PartHead.{PartHead}
-use Rattle.amqp_credit.specs.declared.part.PartEnd.{PartEnd}
 use Rattle.amqp_credit.specs.declared.part.PartEnd.TheVariants.{More, Last, Aborted}
 use Rattle.amqp_credit.specs.declared.part.Part.{Part}
 use Rattle.amqp_credit.specs.declared.part.PartError.{PartError}

@@ -1,7 +1,7 @@
 -- Part: other calls.
 -- Both ends of one link: a sender and a receiver, and what is on the way between them, in order, the first one that
 -- was sent first.
-use Rattle.std.specs.Prelude.{ℕ, ◌+◌, ◌^◌, ◌<◌, ◌≤◌, ◌≡◌, ⊤, List, [], ◌∷◌, ◌++◌, Option, Some, None, Result, Ok, Err}
+use Rattle.std.specs.Prelude.{ℕ, ◌+◌, ◌^◌, ◌<◌, ◌≤◌, ◌≡◌, ⊤, List, [], ◌∷◌, ◌++◌, Option, Some, None, Ok, Err}
 use Rattle.amqp_credit.specs.declared.receiver.Renewal.{Renewal}
 use Rattle.amqp_credit.specs.declared.receiver.Grant.{Grant}
 use Rattle.amqp_credit.specs.Chain.{Chain, Each}

@@ -1,7 +1,7 @@
 -- Part: other calls.
 -- The history of one receiver's credit: its calls with their answers, the oldest first, and what they say.
 use Rattle.std.specs.Prelude.{ℕ, ◌+◌, ◌^◌, ◌<◌, ◌≡◌, ◌||◌, Bool, true, false, is_some}
-use Rattle.std.specs.Prelude.{List, [], ◌∷◌, Option, Some, None, Result, Ok, Err}
+use Rattle.std.specs.Prelude.{List, [], ◌∷◌, Option, Some, None, Result, Ok}
 use Rattle.amqp_credit.specs.declared.receiver.Renewal.{Renewal}
 use Rattle.amqp_credit.specs.declared.receiver.Grant.{Grant}
 use Rattle.amqp_credit.specs.declared.receiver.OverCredit.{OverCredit}

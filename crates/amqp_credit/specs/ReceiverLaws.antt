@@ -1,7 +1,7 @@
 -- Part: other calls.
 -- What holds of every history of a receiver's credit (AMQP 1.0 part 2, section 2.6.7).
 use Rattle.std.specs.Prelude.{ℕ, ◌-◌, ◌<◌, ◌≤◌, ◌≡◌, ◌⊎◌, ⊤, Bool, true, false, if◌then◌else◌}
-use Rattle.std.specs.Prelude.{List, ◌∷◌, ◌++◌, Option, Some, None, Result, Ok, Err}
+use Rattle.std.specs.Prelude.{List, ◌∷◌, ◌++◌, Option, Some, None, Ok, Err}
 use Rattle.amqp_credit.specs.declared.receiver.Renewal.{Renewal}
 use Rattle.amqp_credit.specs.declared.receiver.Grant.{Grant}
 use Rattle.amqp_credit.specs.Serial.{past, is_behind}

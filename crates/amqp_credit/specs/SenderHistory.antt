@@ -1,7 +1,7 @@
 -- Part: other calls.
 -- The history of one sender's credit: its calls with their answers, the oldest first, and what they say.
-use Rattle.std.specs.Prelude.{ℕ, suc, ◌+◌, ◌^◌, ◌<◌, ◌≡◌, ◌||◌, Bool, true, false}
-use Rattle.std.specs.Prelude.{List, [], ◌∷◌, Option, Some, None, Result, Ok, Err}
+use Rattle.std.specs.Prelude.{ℕ, ◌+◌, ◌^◌, ◌<◌, ◌≡◌, ◌||◌, Bool, true, false}
+use Rattle.std.specs.Prelude.{List, [], ◌∷◌, Option, Some, Result, Ok}
 use Rattle.amqp_credit.specs.declared.sender.NoCredit.{NoCredit}
 use Rattle.amqp_credit.specs.Serial.{advanced}
 use Rattle.amqp_credit.specs.Chain.{Chain}

@@ -1,7 +1,7 @@
 -- Part: other calls.
 -- What holds of every history of a sender's credit (AMQP 1.0 part 2, section 2.6.7).
 use Rattle.std.specs.Prelude.{ℕ, ◌-◌, ◌<◌, ◌≤◌, ◌≡◌, ◌&&◌, ⊤, nat_lt, Bool, false, if◌then◌else◌}
-use Rattle.std.specs.Prelude.{List, ◌∷◌, ◌++◌, Option, Some, Result, Ok, Err}
+use Rattle.std.specs.Prelude.{List, ◌∷◌, ◌++◌, Option, Some, Ok, Err}
 use Rattle.amqp_credit.specs.Sender.{seen_or, left_of}
 use Rattle.amqp_credit.specs.SenderHistory.{SenderCall, taken_in, has_given, count_after}
 use Rattle.amqp_credit.specs.SenderHistory.{Flows, Sends, UsesUp, AsksCredit, AsksCount, AsksDrain}
