@@ -234,13 +234,15 @@ belongs_to v parts head d m e = by v.current refl m e
     by : (current : Option Delivery) → v.current ≡ current → Matches current parts → belongs current head ≡ Ok d →
         Belongs v parts head d
     by None c m e = record {
-      has = subst (λ xs. Has (with_part d head) (xs ++ head ∷ [])) (sym m) (begins head.number head.tag head d refl refl e);
+      has = subst (λ xs. Has (with_part d head) (xs ++ head ∷ [])) (sym m)
+          (begins head.number head.tag head d refl refl e);
       is_first = ap is_none c ∙ ap is_empty (sym m);
       number_is = λ number n. absurd (some_none (sym n ∙ ap number_in c));
     }
     by (Some under_way) c m e =
         let g = goes_with under_way head d e in record {
-          has = subst (λ x. Has (with_part x head) (parts ++ head ∷ [])) (sym g.0) (has_more under_way parts head m g.1);
+          has = subst (λ x. Has (with_part x head) (parts ++ head ∷ [])) (sym g.0)
+              (has_more under_way parts head m g.1);
           is_first = ap is_none c ∙ sym (has_some under_way.number parts m.are_of);
           number_is = λ number n. ap (λ (x : Delivery). x.number) g.0 ∙ some_is (sym (ap number_in c) ∙ n);
         }
@@ -252,7 +254,8 @@ belongs_not v parts head error m e = by v.current m e
     by : (current : Option Delivery) → Matches current parts → belongs current head ≡ Err error →
         Reason v.limit parts head error
     by None m e =
-        subst (λ xs. Reason v.limit xs head error) (sym m) (begins_not v.limit head.number head.tag head error refl refl e)
+        subst (λ xs. Reason v.limit xs head error) (sym m)
+        (begins_not v.limit head.number head.tag head error refl refl e)
     by (Some d) m e = goes_not v.limit d parts head error m e
 
 -- ---- limits
@@ -290,7 +293,8 @@ outcome v w parts head answer m h = by (belongs v.current head) refl h
         fits v.limit (with_part d head).size (end_of head.more head.aborted) ≡ b →
         answer ≡ (if b then Ok (part_of (with_part d head) (is_none v.current) (end_of head.more head.aborted))
         else Err TooLarge) →
-        w ≡ (if b then record v { current = left_under_way (end_of head.more head.aborted) (with_part d head) } else v) →
+        w
+        ≡ (if b then record v { current = left_under_way (end_of head.more head.aborted) (with_part d head) } else v) →
         Outcome v parts head answer w
     taken d true (Ok part) g f p q = record {
       delivery = with_part d head;

@@ -157,7 +157,8 @@ heard : (p : Pair) (n : ℕ) (others : List Sent) (k : PairStands p) → p.to_re
 heard p n others k first =
     let w = subst (λ xs. Way k.come xs k.gone) first k.way in
     let at = w.0 in
-    let less = between k.come at k.gone p.sender.credit p.receiver.credit (way_grows at others k.gone w.3) (within p k) in
+    let less = between k.come at k.gone p.sender.credit p.receiver.credit (way_grows at others k.gone w.3)
+    (within p k) in
     let far = ap₂ (λ x y. past x y) w.2 k.come_is ∙ past_is k.come at p.receiver.credit w.1 less k.small in
     record {
       used = at - k.come;

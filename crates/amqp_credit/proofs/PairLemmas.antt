@@ -66,7 +66,8 @@ pub limits_later : (come later limit : ℕ) (drain : Bool) (gs : List Grant) (la
     come ≤ later → Limits come limit drain gs last drains → Limits later limit drain gs last drains
 limits_later come later limit drain [] last drains p l = l
 limits_later come later limit drain (told ∷ gs) last drains p l =
-    (l.0, l.1, le_trans l.2 p, l.3, l.4, limits_later come later (l.0 + told.link_credit) told.drain gs last drains p l.5)
+    let others = limits_later come later (l.0 + told.link_credit) told.drain gs last drains p l.5 in
+    (l.0, l.1, le_trans l.2 p, l.3, l.4, others)
 
 -- one flow more
 pub limits_more : (come limit : ℕ) (drain : Bool) (gs : List Grant) (last : ℕ) (drains : Bool) (told : Grant) →
@@ -134,8 +135,8 @@ announced p r told k count renewal more small e =
       gone_is = k.gone_is;
       way = k.way;
       limits = subst
-          (λ (g : Grant). Limits k.come (k.gone + p.sender.credit) p.sender.drain (p.to_sender ++ g ∷ []) (k.come + r.credit)
-          r.draining)
+          (λ (g : Grant). Limits k.come (k.gone + p.sender.credit) p.sender.drain (p.to_sender ++ g ∷ [])
+          (k.come + r.credit) r.draining)
           (sym e)
           (limits_more k.come (k.gone + p.sender.credit) p.sender.drain p.to_sender (k.come + p.receiver.credit)
           p.receiver.draining (told_by r) k.limits (count ∙ k.come_is) small limit);

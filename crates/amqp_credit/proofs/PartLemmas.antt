@@ -39,7 +39,8 @@ after_part limit parts v w head part s a =
     let end = end_of head.more head.aborted in record {
       matches = subst (λ e. Matches w.current (unless_ended e (parts ++ head ∷ [])))
           (sym (ap (λ (x : Part). x.end) a.part_is))
-          (subst (λ c. Matches c (unless_ended end (parts ++ head ∷ []))) (sym (ap (λ (x : AssemblyView). x.current) a.after_is))
+          (subst (λ c. Matches c (unless_ended end (parts ++ head ∷ [])))
+          (sym (ap (λ (x : AssemblyView). x.current) a.after_is))
           (ended end a.delivery (parts ++ head ∷ []) a.has));
       limit_is = ap (λ (x : AssemblyView). x.limit) a.after_is ∙ s.limit_is;
     }

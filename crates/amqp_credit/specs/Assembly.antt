@@ -85,7 +85,13 @@ fits (Some (suc n)) size end = nat_le size (suc n)
 
 -- what a part is to this delivery, which has it already
 abbrev pub part_of : Delivery → Bool → PartEnd → Part
-part_of d is_first end = record { number = d.number; is_first = is_first; end = end; settled = d.settled; size = d.size }
+part_of d is_first end = record {
+  number = d.number;
+  is_first = is_first;
+  end = end;
+  settled = d.settled;
+  size = d.size;
+}
 
 abbrev pub is_none : Option Delivery → Bool
 is_none None = true
@@ -103,7 +109,8 @@ TakenStep v d end result w =
     (result ≡ (if fits v.limit d.size end then Ok (part_of d (is_none v.current) end) else Err TooLarge))
     × (w ≡ (if fits v.limit d.size end then record v { current = left_under_way end d } else v))
 
-abbrev pub TriedStep : AssemblyView → PartHead → Result Delivery PartError → Result Part PartError → AssemblyView → Type 0
+abbrev pub TriedStep :
+    AssemblyView → PartHead → Result Delivery PartError → Result Part PartError → AssemblyView → Type 0
 TriedStep v head (Err error) result w = (result ≡ Err error) × (w ≡ v)
 TriedStep v head (Ok d) result w = TakenStep v (with_part d head) (end_of head.more head.aborted) result w
 

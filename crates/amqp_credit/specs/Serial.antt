@@ -1,5 +1,6 @@
 -- Part: other calls.
--- Counts of deliveries are serial numbers of four bytes, which wrap at 2^32 (AMQP 1.0 part 2, section 2.8.10; RFC 1982).
+-- Counts of deliveries are serial numbers of four bytes, which wrap at 2^32 (AMQP 1.0 part 2, section 2.8.10; RFC
+-- 1982).
 use Rattle.std.specs.Prelude.{ℕ, ◌+◌, ◌-◌, ◌%◌, ◌^◌, nat_le, Bool}
 
 -- the number so many after another one

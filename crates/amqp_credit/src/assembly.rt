@@ -2,7 +2,8 @@
 
 ghost use Rattle.std.specs.Prelude.{◌≡◌};
 ghost use Rattle.amqp_credit.specs.Assembly.{new_assembly, PartStep, TakenStep, begun, belongs, differs};
-ghost use Rattle.amqp_credit.specs.Assembly.{goes_on, with_part, end_of, left_under_way, part_of, fits, number_in, settles};
+ghost use Rattle.amqp_credit.specs.Assembly.{goes_on, with_part, settles, end_of, left_under_way, part_of, fits};
+ghost use Rattle.amqp_credit.specs.Assembly.{number_in};
 
 use crate::part::{Part, PartEnd, PartError, PartHead, PartTag};
 use std::marker::Model;
