@@ -104,7 +104,7 @@ abbrev pub Allows : Option Renewal → ℕ → ℕ → Type 0
 Allows None left credit = ⊥
 Allows (Some rule) left credit = (left < rule.low) × (left < rule.high) × (credit ≡ rule.high)
 
--- this call announces so much more by itself
+-- this holds of what a renewal announces
 abbrev pub RenewsOnly : (ℕ → Type 0) → ReceiverCall → Type 0
 RenewsOnly P (Renews (Some told)) = P told.link_credit
 RenewsOnly P c = ⊤
