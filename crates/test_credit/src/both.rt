@@ -7,10 +7,7 @@ use std::test::Fail;
 #[test]
 fn a_thousand_deliveries_over_the_wrap(rt: HostRuntime) -> Result<(), Fail> {
     let mut sender = SenderCredit::new(4_294_966_795);
-    let mut receiver = ReceiverCredit::new(
-        4_294_966_795,
-        Some(Renewal { low: 10, high: 30 }),
-    );
+    let mut receiver = ReceiverCredit::new(4_294_966_795, Some(Renewal { low: 10, high: 30 }));
     for _ in 0..1_000u32 {
         if let Some(grant) = receiver.renew() {
             sender.on_flow(

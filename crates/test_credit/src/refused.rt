@@ -18,7 +18,11 @@ fn a_count_past_the_limit_is_refused(rt: HostRuntime) -> Result<(), Fail> {
     same(&rt, receiver.on_flow(Some(2)), Ok(3));
     same(&rt, receiver.told(), says(2, 0, false));
     same(&rt, receiver.on_delivery(), Err(OverCredit));
-    same(&rt, receiver.on_flow(Some(2_147_483_649)), Err(CountPastLimit));
+    same(
+        &rt,
+        receiver.on_flow(Some(2_147_483_649)),
+        Err(CountPastLimit),
+    );
     Ok(())
 }
 
