@@ -11,7 +11,7 @@ use Rattle.amqp_credit.specs.Receiver.{ReceiverView, new_receiver, granted, told
 use Rattle.amqp_credit.specs.ReceiverHistory.{ReceiverCall, ReceiverStep, ReceiverLeadsTo, OfReceivers, taken_in}
 use Rattle.amqp_credit.specs.ReceiverHistory.{count_after, is_draining_by}
 use Rattle.amqp_credit.specs.ReceiverHistory.{Grants, Drains, Hears, Takes, Renews}
-use Rattle.amqp_credit.specs.ReceiverHistory.{AsksWanted, AsksTold, AsksCredit, AsksCount, AsksDraining}
+use Rattle.amqp_credit.specs.ReceiverHistory.{AsksWanted, AsksFlowState, AsksCredit, AsksCount, AsksDraining}
 use Rattle.amqp_credit.specs.ReceiverLaws.{SinceGrant, BeforeGrants, IsTaken, TakenWithinGrant, UsedBy, IsPastLimit}
 use Rattle.amqp_credit.specs.ReceiverLaws.{AnswersBy, AnswersByHistory, TellsBy, CountIsExact, wanted_by, RenewsBy}
 use Rattle.amqp_credit.specs.ReceiverLaws.{RenewsByRule, Allows, RenewsOnly, RenewedBelowLow, RenewedOnce}
@@ -103,7 +103,7 @@ answers v m (Takes (Ok done)) p h = h.0
 answers v m (Takes (Err refused)) p h = h.0
 answers v m (Renews told) p h = tt
 answers v m (AsksWanted answer) p h = tt
-answers v m (AsksTold told) p h = ap (λ (x : Grant). x.link_credit) h.0
+answers v m (AsksFlowState told) p h = ap (λ (x : Grant). x.link_credit) h.0
 answers v m (AsksCredit n) p h = h.0
 answers v m (AsksCount n) p h = tt
 answers v m (AsksDraining answer) p h = tt
@@ -140,7 +140,7 @@ taken_at count left taken (Takes (Ok done)) a b = fewer left taken a
 taken_at count left taken (Takes (Err refused)) a b = absurd b
 taken_at count left taken (Renews told) a b = absurd b
 taken_at count left taken (AsksWanted answer) a b = absurd b
-taken_at count left taken (AsksTold told) a b = absurd b
+taken_at count left taken (AsksFlowState told) a b = absurd b
 taken_at count left taken (AsksCredit n) a b = absurd b
 taken_at count left taken (AsksCount n) a b = absurd b
 taken_at count left taken (AsksDraining answer) a b = absurd b
@@ -181,7 +181,7 @@ tells v m (Renews (Some told)) h =
     (ap (λ (x : Grant). x.delivery_count) all, ap (λ (x : Grant). x.drain) all)
 tells v m (Renews None) h = tt
 tells v m (AsksWanted answer) h = tt
-tells v m (AsksTold told) h = (ap (λ (x : Grant). x.delivery_count) h.0, ap (λ (x : Grant). x.drain) h.0)
+tells v m (AsksFlowState told) h = (ap (λ (x : Grant). x.delivery_count) h.0, ap (λ (x : Grant). x.drain) h.0)
 tells v m (AsksCredit n) h = tt
 tells v m (AsksCount n) h = h.0
 tells v m (AsksDraining answer) h = h.0
@@ -204,7 +204,7 @@ renews v m (Takes answer) h = tt
 renews v m (Renews (Some told)) h = (of_renewal (wanted v) v m told h).0
 renews v m (Renews None) h = (of_no_renewal (wanted v) v m h).0
 renews v m (AsksWanted answer) h = h.0
-renews v m (AsksTold told) h = tt
+renews v m (AsksFlowState told) h = tt
 renews v m (AsksCredit n) h = tt
 renews v m (AsksCount n) h = tt
 renews v m (AsksDraining answer) h = tt
@@ -262,7 +262,7 @@ renewed_only renewal draining left (Takes answer) r = tt
 renewed_only renewal draining left (Renews (Some told)) r = allows renewal draining left told.link_credit r
 renewed_only renewal draining left (Renews None) r = tt
 renewed_only renewal draining left (AsksWanted answer) r = tt
-renewed_only renewal draining left (AsksTold told) r = tt
+renewed_only renewal draining left (AsksFlowState told) r = tt
 renewed_only renewal draining left (AsksCredit n) r = tt
 renewed_only renewal draining left (AsksCount n) r = tt
 renewed_only renewal draining left (AsksDraining answer) r = tt

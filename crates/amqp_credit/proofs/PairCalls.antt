@@ -97,7 +97,7 @@ at_receiver p r (receiver.Renews (Some told)) k may h =
 at_receiver p r (receiver.Renews None) k may h =
     receiver_same p r k (of_no_renewal (wanted p.receiver) p.receiver r h).1
 at_receiver p r (receiver.AsksWanted answer) k may h = receiver_same p r k h.1
-at_receiver p r (receiver.AsksTold told) k may h =
+at_receiver p r (receiver.AsksFlowState told) k may h =
     let is = sym (ap (λ (x : ReceiverView). x.credit) h.1) in
     announced p r told k (ap (λ (x : ReceiverView). x.count) h.1) (ap (λ (x : ReceiverView). x.renewal) h.1)
     (subst (λ n. p.receiver.credit ≤ n) is (same_at p.receiver.credit)) (subst (λ n. n < 2 ^ 32) is k.small)
@@ -201,7 +201,7 @@ comes p r Begun others (receiver.Grants credit told) k first f h = absurd f
 comes p r Begun others (receiver.Drains told) k first f h = absurd f
 comes p r Begun others (receiver.Renews told) k first f h = absurd f
 comes p r Begun others (receiver.AsksWanted answer) k first f h = absurd f
-comes p r Begun others (receiver.AsksTold told) k first f h = absurd f
+comes p r Begun others (receiver.AsksFlowState told) k first f h = absurd f
 comes p r Begun others (receiver.AsksCredit m) k first f h = absurd f
 comes p r Begun others (receiver.AsksCount m) k first f h = absurd f
 comes p r Begun others (receiver.AsksDraining answer) k first f h = absurd f
@@ -210,7 +210,7 @@ comes p r (Says n) others (receiver.Grants credit told) k first f h = absurd f
 comes p r (Says n) others (receiver.Drains told) k first f h = absurd f
 comes p r (Says n) others (receiver.Renews told) k first f h = absurd f
 comes p r (Says n) others (receiver.AsksWanted answer) k first f h = absurd f
-comes p r (Says n) others (receiver.AsksTold told) k first f h = absurd f
+comes p r (Says n) others (receiver.AsksFlowState told) k first f h = absurd f
 comes p r (Says n) others (receiver.AsksCredit m) k first f h = absurd f
 comes p r (Says n) others (receiver.AsksCount m) k first f h = absurd f
 comes p r (Says n) others (receiver.AsksDraining answer) k first f h = absurd f

@@ -12,7 +12,7 @@ use Rattle.amqp_credit.specs.Receiver.{wanted, renewed}
 use Rattle.amqp_credit.specs.ReceiverHistory.{ReceiverCall, ReceiverStep, takes, taken_in}
 use Rattle.amqp_credit.specs.ReceiverHistory.{grant_of, has_granted, drains_after, is_draining_by}
 use Rattle.amqp_credit.specs.ReceiverHistory.{Grants, Drains, Hears, Takes, Renews}
-use Rattle.amqp_credit.specs.ReceiverHistory.{AsksWanted, AsksTold, AsksCredit, AsksCount, AsksDraining}
+use Rattle.amqp_credit.specs.ReceiverHistory.{AsksWanted, AsksFlowState, AsksCredit, AsksCount, AsksDraining}
 use Rattle.amqp_credit.proofs.ChainLemmas.{or_left, or_right}
 use Rattle.amqp_credit.proofs.ChainLemmas.{advanced_small, advanced_none, advanced_twice}
 
@@ -70,7 +70,7 @@ step_count v m (Renews (Some told)) p h =
 step_count v m (Renews None) p h =
     ap (λ (x : ReceiverView). x.count) (of_no_renewal (wanted v) v m h).1 ∙ advanced_none v.count p
 step_count v m (AsksWanted answer) p h = ap (λ (x : ReceiverView). x.count) h.1 ∙ advanced_none v.count p
-step_count v m (AsksTold told) p h = ap (λ (x : ReceiverView). x.count) h.1 ∙ advanced_none v.count p
+step_count v m (AsksFlowState told) p h = ap (λ (x : ReceiverView). x.count) h.1 ∙ advanced_none v.count p
 step_count v m (AsksCredit n) p h = ap (λ (x : ReceiverView). x.count) h.1 ∙ advanced_none v.count p
 step_count v m (AsksCount n) p h = ap (λ (x : ReceiverView). x.count) h.1 ∙ advanced_none v.count p
 step_count v m (AsksDraining answer) p h = ap (λ (x : ReceiverView). x.count) h.1 ∙ advanced_none v.count p
@@ -90,7 +90,7 @@ step_draining v m (Renews (Some told)) p h =
     ap (λ (x : ReceiverView). x.draining) (of_renewal (wanted v) v m told h).1
 step_draining v m (Renews None) p h = ap (λ (x : ReceiverView). x.draining) (of_no_renewal (wanted v) v m h).1
 step_draining v m (AsksWanted answer) p h = ap (λ (x : ReceiverView). x.draining) h.1
-step_draining v m (AsksTold told) p h = ap (λ (x : ReceiverView). x.draining) h.1
+step_draining v m (AsksFlowState told) p h = ap (λ (x : ReceiverView). x.draining) h.1
 step_draining v m (AsksCredit n) p h = ap (λ (x : ReceiverView). x.draining) h.1
 step_draining v m (AsksCount n) p h = ap (λ (x : ReceiverView). x.draining) h.1
 step_draining v m (AsksDraining answer) p h = ap (λ (x : ReceiverView). x.draining) h.1
@@ -105,7 +105,7 @@ step_renewal v m (Takes (Err refused)) h = ap (λ (x : ReceiverView). x.renewal)
 step_renewal v m (Renews (Some told)) h = ap (λ (x : ReceiverView). x.renewal) (of_renewal (wanted v) v m told h).1
 step_renewal v m (Renews None) h = ap (λ (x : ReceiverView). x.renewal) (of_no_renewal (wanted v) v m h).1
 step_renewal v m (AsksWanted answer) h = ap (λ (x : ReceiverView). x.renewal) h.1
-step_renewal v m (AsksTold told) h = ap (λ (x : ReceiverView). x.renewal) h.1
+step_renewal v m (AsksFlowState told) h = ap (λ (x : ReceiverView). x.renewal) h.1
 step_renewal v m (AsksCredit n) h = ap (λ (x : ReceiverView). x.renewal) h.1
 step_renewal v m (AsksCount n) h = ap (λ (x : ReceiverView). x.renewal) h.1
 step_renewal v m (AsksDraining answer) h = ap (λ (x : ReceiverView). x.renewal) h.1
@@ -174,7 +174,7 @@ step_less v m (Takes (Err refused)) p g h = same v m h.1
 step_less v m (Renews (Some told)) p g h = absurd (true≢false g)
 step_less v m (Renews None) p g h = same v m (of_no_renewal (wanted v) v m h).1
 step_less v m (AsksWanted answer) p g h = same v m h.1
-step_less v m (AsksTold told) p g h = same v m h.1
+step_less v m (AsksFlowState told) p g h = same v m h.1
 step_less v m (AsksCredit n) p g h = same v m h.1
 step_less v m (AsksCount n) p g h = same v m h.1
 step_less v m (AsksDraining answer) p g h = same v m h.1
@@ -207,7 +207,7 @@ step_grants v m (Renews (Some told)) credit e h =
     ap (λ (x : ReceiverView). x.credit) (of_renewal (wanted v) v m told h).1 ∙ cc
 step_grants v m (Renews None) credit e h = absurd cc
 step_grants v m (AsksWanted answer) credit e h = absurd cc
-step_grants v m (AsksTold told) credit e h = absurd cc
+step_grants v m (AsksFlowState told) credit e h = absurd cc
 step_grants v m (AsksCredit n) credit e h = absurd cc
 step_grants v m (AsksCount n) credit e h = absurd cc
 step_grants v m (AsksDraining answer) credit e h = absurd cc

@@ -65,7 +65,7 @@ abbrev pub told_to_sender : ReceiverCall → List Grant
 told_to_sender (receiver.Grants credit told) = told ∷ []
 told_to_sender (receiver.Drains told) = told ∷ []
 told_to_sender (receiver.Renews (Some told)) = told ∷ []
-told_to_sender (receiver.AsksTold told) = told ∷ []
+told_to_sender (receiver.AsksFlowState told) = told ∷ []
 told_to_sender c = []
 
 -- the call that a receiver makes of what comes

@@ -19,7 +19,7 @@ pub data ReceiverCall : Type 0 where
   Takes : Result (Unit {0}) OverCredit → ReceiverCall
   Renews : Option Grant → ReceiverCall
   AsksWanted : Option ℕ → ReceiverCall
-  AsksTold : Grant → ReceiverCall
+  AsksFlowState : Grant → ReceiverCall
   AsksCredit : ℕ → ReceiverCall
   AsksCount : ℕ → ReceiverCall
   AsksDraining : Bool → ReceiverCall
@@ -32,7 +32,7 @@ ReceiverStep v (Hears count answer) w = HeardStep v count answer w
 ReceiverStep v (Takes answer) w = DeliveryStep v answer w
 ReceiverStep v (Renews told) w = RenewStep v told w
 ReceiverStep v (AsksWanted answer) w = (answer ≡ wanted v) × (w ≡ v)
-ReceiverStep v (AsksTold told) w = (told ≡ told_by v) × (w ≡ v)
+ReceiverStep v (AsksFlowState told) w = (told ≡ told_by v) × (w ≡ v)
 ReceiverStep v (AsksCredit n) w = (n ≡ v.credit) × (w ≡ v)
 ReceiverStep v (AsksCount n) w = (n ≡ v.count) × (w ≡ v)
 ReceiverStep v (AsksDraining answer) w = (answer ≡ v.draining) × (w ≡ v)

@@ -9,7 +9,7 @@ use Rattle.amqp_credit.specs.Chain.{Each}
 use Rattle.amqp_credit.specs.Receiver.{by_rule}
 use Rattle.amqp_credit.specs.ReceiverHistory.{ReceiverCall, taken_in, grant_of, has_granted, count_after}
 use Rattle.amqp_credit.specs.ReceiverHistory.{is_draining_by, Grants, Drains, Hears, Takes, Renews}
-use Rattle.amqp_credit.specs.ReceiverHistory.{AsksWanted, AsksTold, AsksCredit, AsksCount, AsksDraining}
+use Rattle.amqp_credit.specs.ReceiverHistory.{AsksWanted, AsksFlowState, AsksCredit, AsksCount, AsksDraining}
 
 -- Of each call of a history that stands after a grant, and no further one between them: all calls before it, what was
 -- granted, the calls since, and the call.
@@ -55,7 +55,7 @@ AnswersBy count left (Takes (Err refused)) = left ≡ 0
 AnswersBy count left (Hears said (Ok used)) = UsedBy count left said used
 AnswersBy count left (Hears said (Err refused)) = IsPastLimit count left said
 AnswersBy count left (Drains told) = told ≡ record { delivery_count = count; link_credit = left; drain = true }
-AnswersBy count left (AsksTold told) = told.link_credit ≡ left
+AnswersBy count left (AsksFlowState told) = told.link_credit ≡ left
 AnswersBy count left (AsksCredit n) = n ≡ left
 AnswersBy count left c = ⊤
 
@@ -71,7 +71,7 @@ abbrev pub TellsBy : ℕ → Bool → ReceiverCall → Type 0
 TellsBy count draining (Grants credit told) =
     told ≡ record { delivery_count = count; link_credit = credit; drain = false }
 TellsBy count draining (Renews (Some told)) = (told.delivery_count ≡ count) × (told.drain ≡ false)
-TellsBy count draining (AsksTold told) = (told.delivery_count ≡ count) × (told.drain ≡ draining)
+TellsBy count draining (AsksFlowState told) = (told.delivery_count ≡ count) × (told.drain ≡ draining)
 TellsBy count draining (AsksCount n) = n ≡ count
 TellsBy count draining (AsksDraining answer) = answer ≡ draining
 TellsBy count draining c = ⊤

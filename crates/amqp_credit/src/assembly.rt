@@ -20,6 +20,12 @@ pub(crate) struct Delivery {
 /// The parts of the deliveries that come over one link: to which delivery each transfer belongs, and what it makes of
 /// it (AMQP 1.0 part 2, sections 2.6.14 and 2.7.5). Deliveries of one link are not interleaved: one ends before the
 /// next begins. It asks for no memory, and keeps no payload.
+///
+/// ```
+/// let mut parts = Assembly::new(Some(65_536));
+/// let part = parts.on_part(first)?;              // is_first, and end is More: count the delivery, keep the payload
+/// let part = parts.on_part(second)?;             // the same number, and end is Last: the delivery is whole
+/// ```
 #[derive(Clone, Copy, Debug)]
 pub struct Assembly {
     limit: Option<u64>,

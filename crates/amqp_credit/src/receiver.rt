@@ -45,6 +45,15 @@ pub struct Grant {
 ///
 /// [`ReceiverCredit::grant`], [`ReceiverCredit::renew`] and [`ReceiverCredit::drain`] answer what a flow is to say: the
 /// caller sends it. [`ReceiverCredit::on_delivery`] and [`ReceiverCredit::on_flow`] take what comes.
+///
+/// ```
+/// let mut receiver = ReceiverCredit::new(0, Some(Renewal { low: 2, high: 3 }));
+/// let grant = receiver.renew();                  // Some: a flow with a link-credit of 3
+/// receiver.on_delivery()?;                       // two are left: not fewer than the low mark
+/// let grant = receiver.renew();                  // None
+/// receiver.on_delivery()?;
+/// let grant = receiver.renew();                  // Some: a delivery-count of 2, and a link-credit of 3
+/// ```
 #[derive(Clone, Copy, Debug)]
 pub struct ReceiverCredit {
     count: u32,
@@ -84,7 +93,7 @@ impl ReceiverCredit {
     {
         self.credit = link_credit;
         self.draining = false;
-        self.told()
+        self.flow_state()
     }
 
     /// The sender is asked to send what it has, and to use up the credit that is left then. It answers what to say in a
@@ -93,7 +102,7 @@ impl ReceiverCredit {
         ensures { DrainStep self.old result self.new }
     {
         self.draining = true;
-        self.told()
+        self.flow_state()
     }
 
     /// A flow of the sender has come for this link, with this `delivery-count`. It answers how many of the credit the
@@ -161,7 +170,7 @@ impl ReceiverCredit {
     }
 
     /// What a flow says of this link now, as for an answer where the sender asks for an `echo`.
-    pub fn told(&self) -> Grant
+    pub fn flow_state(&self) -> Grant
         ensures { result ≡ told_by self.now }
     {
         Grant {

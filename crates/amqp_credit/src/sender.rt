@@ -16,6 +16,14 @@ pub struct NoCredit;
 ///
 /// A new one has no credit. [`SenderCredit::on_flow`] takes what the receiver says, and [`SenderCredit::send`] begins a
 /// delivery. What the count is goes into each flow that this end sends.
+///
+/// ```
+/// let mut sender = SenderCredit::new(0);
+/// sender.on_flow(Some(0), Some(10), true);       // ten deliveries may begin, and the receiver asks to drain
+/// sender.send()?;                                // nine are left
+/// let used = sender.use_up();                    // 9: nothing more is there to send
+/// let count = sender.delivery_count();           // 10, for the flow that answers
+/// ```
 #[derive(Clone, Copy, Debug)]
 pub struct SenderCredit {
     initial: u32,

@@ -22,7 +22,7 @@ fn credit_is_granted_and_taken(rt: HostRuntime) -> Result<(), Fail> {
     same(&rt, receiver.on_delivery(), Ok(()));
     same(&rt, receiver.credit(), 1);
     same(&rt, receiver.delivery_count(), 6);
-    same(&rt, receiver.told(), says(6, 1, false));
+    same(&rt, receiver.flow_state(), says(6, 1, false));
     same(&rt, receiver.on_delivery(), Ok(()));
     same(&rt, receiver.on_delivery(), Err(OverCredit));
     same(&rt, receiver.delivery_count(), 7);
