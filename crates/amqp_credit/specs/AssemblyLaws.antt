@@ -28,7 +28,7 @@ abbrev pub is_empty : List PartHead → Bool
 is_empty [] = true
 is_empty (head ∷ heads) = false
 
--- a part is given no value, or this one
+-- a part gives no value, or the one that the first part gave
 abbrev pub MayGive : Option ℕ → Option ℕ → Type 0
 MayGive first None = ⊤
 MayGive first (Some given) = first ≡ Some given
@@ -72,7 +72,7 @@ IsWithin None size = ⊤
 IsWithin (Some zero) size = ⊤
 IsWithin (Some (suc n)) size = size ≤ suc n
 
--- a delivery that is not aborted is within the limit
+-- the size that is told of a delivery that is not aborted is within the limit
 abbrev pub NoneTooLarge : Option ℕ → List AssemblyCall → Type 0
 NoneTooLarge limit H = EachPart H (λ parts head part. head.aborted ≡ false → IsWithin limit part.size)
 
@@ -89,7 +89,7 @@ InARow H = (before between after : List AssemblyCall) (head following : PartHead
     H ≡ before ++ Comes head (Ok part) ∷ (between ++ Comes following (Ok next) ∷ after) →
     has_accepted between ≡ false → Follows part next
 
--- the part before has a number that differs from this one
+-- the delivery of these parts has another number than this one, or another format
 abbrev pub NumberDiffers : List PartHead → Option ℕ → Type 0
 NumberDiffers [] given = ⊥
 NumberDiffers (head ∷ heads) given = MayGive head.number given → ⊥
