@@ -1,14 +1,14 @@
 -- What a sender's history says of its credit and of its count.
 use Rattle.std.proofs.Common.{◌≡◌, ◌+◌, ◌-◌, ◌^◌, ◌<◌, ◌≤◌, ℕ, Bool, true, false, List, [], ◌∷◌, ◌++◌, Some, None}
 use Rattle.std.proofs.Common.{Ok, Err, if◌then◌else◌, refl, sym, ap, ap₂, ◌∙◌, subst, arith, true≢false}
-use Rattle.amqp_credit.specs.Serial.{advanced}
+use Rattle.amqp_credit.specs.Serial.{advanced, past}
 use Rattle.amqp_credit.specs.Chain.{Chain}
 use Rattle.amqp_credit.specs.Sender.{SenderView, new_sender, seen_or, left_of}
 use Rattle.amqp_credit.specs.SenderHistory.{SenderCall, SenderStep, SenderLeadsTo, OfSenders, takes, taken_in, gives}
-use Rattle.amqp_credit.specs.SenderHistory.{has_given}
+use Rattle.amqp_credit.specs.SenderHistory.{count_after, has_given}
 use Rattle.amqp_credit.specs.SenderHistory.{Flows, Sends, UsesUp, AsksCredit, AsksCount, AsksDrain}
 use Rattle.amqp_credit.specs.SenderLaws.{SinceFlow, BeforeFlows, IsBegun, BegunWithinCredit, TakenWithinCredit}
-use Rattle.amqp_credit.specs.SenderLaws.{AnswersBy, AnswersByHistory, UsedUpOnce, CountIsExact}
+use Rattle.amqp_credit.specs.SenderLaws.{AnswersBy, AnswersByHistory, UsedUpOnce, CountIsExact, LimitIsKept}
 use Rattle.amqp_credit.proofs.ChainLemmas.{split_of, or_left, or_right}
 use Rattle.amqp_credit.proofs.ChainLemmas.{advanced_small, advanced_none, advanced_twice}
 
@@ -234,3 +234,29 @@ pub count_is_exact : OfSenders (λ initial H. CountIsExact initial H)
 count_is_exact initial H v h before after n e =
     let s = split_of SenderStep (new_sender initial) v H before after (AsksCount n) h.1 e in
     s.step.0 ∙ chain_count (new_sender initial) s.at before h.0 s.reached
+
+-- ---- the standard's formula
+
+taken_append : (before : List SenderCall) (flow : SenderCall) (since : List SenderCall) → takes flow ≡ 0 →
+    taken_in (before ++ flow ∷ since) ≡ taken_in before + taken_in since
+taken_append [] flow since e = ap (λ n. n + taken_in since) e
+taken_append (b ∷ before) flow since e = sum_of (takes b) (taken_in before) (taken_in since) (taken_append before flow since e)
+  where
+    sum_of : (a b c : ℕ) {s : ℕ} → s ≡ b + c → a + s ≡ (a + b) + c
+    sum_of a b c e = omega (arith, e)
+
+limit_is : (count seen granted taken : ℕ) → count < 2 ^ 32 → seen < 2 ^ 32 → past count seen ≤ granted →
+    taken ≤ granted - past count seen →
+    advanced (advanced count taken) ((granted - past count seen) - taken) ≡ advanced seen granted
+limit_is count seen granted taken p q r s = omega (arith, p, q, r, s)
+
+pub limit_is_kept : OfSenders (λ initial H. LimitIsKept initial H)
+limit_is_kept initial H v h before since after seen granted drain c e g small within =
+    let count = count_after initial before in
+    let at = seen_or initial seen in
+    let taken = (since_flow initial H v h before since after seen granted drain c e g).within in
+    let flow = Flows seen (Some granted) drain in
+    ap (λ n. advanced (advanced initial n) (left_of granted at count - taken_in since)) (taken_append before flow since refl)
+    ∙ ap (λ n. advanced n (left_of granted at count - taken_in since))
+    (sym (advanced_twice initial (taken_in before) (taken_in since)))
+    ∙ limit_is count at granted (taken_in since) (advanced_small initial (taken_in before)) small within taken

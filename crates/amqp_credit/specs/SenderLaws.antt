@@ -1,7 +1,8 @@
 -- Part: other calls.
 -- What holds of every history of a sender's credit (AMQP 1.0 part 2, section 2.6.7).
-use Rattle.std.specs.Prelude.{ℕ, ◌-◌, ◌<◌, ◌≤◌, ◌≡◌, ◌&&◌, ⊤, nat_lt, Bool, false, if◌then◌else◌}
+use Rattle.std.specs.Prelude.{ℕ, ◌-◌, ◌^◌, ◌<◌, ◌≤◌, ◌≡◌, ◌&&◌, ⊤, nat_lt, Bool, false, if◌then◌else◌}
 use Rattle.std.specs.Prelude.{List, ◌∷◌, ◌++◌, Option, Some, Ok, Err}
+use Rattle.amqp_credit.specs.Serial.{advanced, past}
 use Rattle.amqp_credit.specs.Sender.{seen_or, left_of}
 use Rattle.amqp_credit.specs.SenderHistory.{SenderCall, taken_in, has_given, count_after}
 use Rattle.amqp_credit.specs.SenderHistory.{Flows, Sends, UsesUp, AsksCredit, AsksCount, AsksDrain}
@@ -62,3 +63,14 @@ UsedUpOnce H = (before since after : List SenderCall) (used again : ℕ) →
 abbrev pub CountIsExact : ℕ → List SenderCall → Type 0
 CountIsExact initial H = (before after : List SenderCall) (n : ℕ) →
     H ≡ before ++ AsksCount n ∷ after → n ≡ count_after initial before
+
+-- The standard's formula: count and credit of the sender come to the limit, which is the count and the credit that the
+-- last flow said, in numbers that wrap. It holds where what had gone out past that count was no more than that credit.
+abbrev pub LimitIsKept : ℕ → List SenderCall → Type 0
+LimitIsKept initial H =
+    (before since after : List SenderCall) (seen : Option ℕ) (granted : ℕ) (drain : Bool) (c : SenderCall) →
+    H ≡ before ++ Flows seen (Some granted) drain ∷ (since ++ c ∷ after) → has_given since ≡ false →
+    seen_or initial seen < 2 ^ 32 → past (count_after initial before) (seen_or initial seen) ≤ granted →
+    advanced (count_after initial (before ++ Flows seen (Some granted) drain ∷ since))
+    (left_of granted (seen_or initial seen) (count_after initial before) - taken_in since)
+    ≡ advanced (seen_or initial seen) granted

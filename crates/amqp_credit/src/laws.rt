@@ -11,13 +11,15 @@ ghost use Rattle.amqp_credit.specs.Pair.{OfPairs, NoneRefused, CreditIsKept, End
 /// A sender begins a delivery only where fewer were begun since the last flow, and used up, than the credit that the
 /// flow left; and none before the first one. What is answered of credit and of drains is what the history says: a
 /// drain uses up what is left, once. The count that is told is the initial one, and one for each delivery that was
-/// begun and each credit that was used up (AMQP 1.0 part 2, section 2.6.7).
+/// begun and each credit that was used up; with the credit that is left it comes to the limit that the last flow said
+/// (AMQP 1.0 part 2, section 2.6.7).
 pub fn law_of_senders()
     ensures begun { OfSenders (λ initial H. sender.BegunWithinCredit initial H) }
     ensures taken { OfSenders (λ initial H. sender.TakenWithinCredit initial H) }
     ensures answers { OfSenders (λ initial H. sender.AnswersByHistory initial H) }
     ensures once { OfSenders (λ initial H. sender.UsedUpOnce H) }
     ensures count { OfSenders (λ initial H. sender.CountIsExact initial H) }
+    ensures limit { OfSenders (λ initial H. sender.LimitIsKept initial H) }
 {}
 
 /// A receiver takes no more deliveries than it granted last, and none before the first grant. What is answered of
