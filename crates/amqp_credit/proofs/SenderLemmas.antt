@@ -240,7 +240,8 @@ count_is_exact initial H v h before after n e =
 taken_append : (before : List SenderCall) (flow : SenderCall) (since : List SenderCall) → takes flow ≡ 0 →
     taken_in (before ++ flow ∷ since) ≡ taken_in before + taken_in since
 taken_append [] flow since e = ap (λ n. n + taken_in since) e
-taken_append (b ∷ before) flow since e = sum_of (takes b) (taken_in before) (taken_in since) (taken_append before flow since e)
+taken_append (b ∷ before) flow since e =
+    sum_of (takes b) (taken_in before) (taken_in since) (taken_append before flow since e)
   where
     sum_of : (a b c : ℕ) {s : ℕ} → s ≡ b + c → a + s ≡ (a + b) + c
     sum_of a b c e = omega (arith, e)
@@ -256,7 +257,8 @@ limit_is_kept initial H v h before since after seen granted drain c e g small wi
     let at = seen_or initial seen in
     let taken = (since_flow initial H v h before since after seen granted drain c e g).within in
     let flow = Flows seen (Some granted) drain in
-    ap (λ n. advanced (advanced initial n) (left_of granted at count - taken_in since)) (taken_append before flow since refl)
+    ap (λ n. advanced (advanced initial n) (left_of granted at count - taken_in since))
+    (taken_append before flow since refl)
     ∙ ap (λ n. advanced n (left_of granted at count - taken_in since))
     (sym (advanced_twice initial (taken_in before) (taken_in since)))
     ∙ limit_is count at granted (taken_in since) (advanced_small initial (taken_in before)) small within taken
