@@ -21,14 +21,17 @@ from gate.reached import meant, reaches
 from shared.command import command
 
 ROOT = Path(__file__).resolve().parents[2]
-# Of each crate the types that have histories, and the definition that takes a step of one.
-HISTORIES = {
-    "amqp_engine": (("Engine", "HandledEngine"), None),
-    "amqp_driver": (("Driver",), None),
-    "amqp_session": (("Session",), ("amqp_session", "History", "SessionStep")),
-    "amqp_connection": (("Connection",), ("amqp_connection", "History", "Step")),
-    "amqp_idle": (("IdleClock",), ("amqp_idle", "History", "IdleStep")),
-}
+# Crates, their types that have histories, and the definition that takes a step of one.
+HISTORIES = (
+    ("amqp_engine", ("Engine", "HandledEngine"), None),
+    ("amqp_driver", ("Driver",), None),
+    ("amqp_session", ("Session",), ("amqp_session", "History", "SessionStep")),
+    ("amqp_connection", ("Connection",), ("amqp_connection", "History", "Step")),
+    ("amqp_idle", ("IdleClock",), ("amqp_idle", "History", "IdleStep")),
+    ("amqp_credit", ("SenderCredit",), ("amqp_credit", "SenderHistory", "SenderStep")),
+    ("amqp_credit", ("ReceiverCredit",), ("amqp_credit", "ReceiverHistory", "ReceiverStep")),
+    ("amqp_credit", ("Assembly",), ("amqp_credit", "AssemblyHistory", "AssemblyStep")),
+)
 LEGAL = "amqp_engine", "Legal", "Legal"
 OWNER = re.compile(r"impl(?:<.*?>)? (?:[\w:]+(?:<.*?>)? for )?(\w+)")
 # The value stays as it was, or but for a driver's bytes.
@@ -74,7 +77,7 @@ def speaks(of, step):
 def silent():
     """Each public call that can change such a value and says nothing of histories; and how many calls there are."""
     found, count = [], 0
-    for crate, (types, step) in HISTORIES.items():
+    for crate, types, step in HISTORIES:
         for file in sorted(ROOT.glob(f"crates/{crate}/src/**/*.rt")):
             lines = file.read_text().splitlines()
             names = imports(lines)

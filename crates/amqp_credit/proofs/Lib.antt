@@ -1,0 +1,9 @@
+mod ChainLemmas
+mod SenderLemmas
+mod ReceiverLemmas
+mod GrantLemmas
+mod AssemblyLemmas
+mod PartLemmas
+mod PairLemmas
+mod PairCalls
+mod PairLawLemmas

@@ -1,0 +1,12 @@
+pub mod Serial
+pub mod Chain
+pub mod Sender
+pub mod Receiver
+pub mod SenderHistory
+pub mod SenderLaws
+pub mod ReceiverHistory
+pub mod ReceiverLaws
+pub mod Assembly
+pub mod AssemblyHistory
+pub mod AssemblyLaws
+pub mod Pair
