@@ -94,7 +94,7 @@ fn what_is_not_cut(rt: HostRuntime) -> Result<(), Fail> {
     same(&rt, more, in_two(first(997), later(0, 2)));
     same(&rt, tagged, whole(head(1, 33, 9), 92));
     let flags = flag::MORE + flag::ABORTED;
-    same(&rt, (ends.rest.flags, ends.rest.payload), (flags, 5));
+    same(&rt, (ends.rest.flags, ends.rest.payload), (flags, 1));
     same(&rt, ends.part.flags, aborted.flags - flag::ABORTED);
     Ok(())
 }
