@@ -35,6 +35,7 @@ from amqp.recordings import of_lines, recorded
 from amqp.telling import ENGINE
 from amqp.transcript import Transcript
 from gate.browser import Browser
+from gate.curves_of_pages import title_of, try_curves
 from gate.made_connections import NULL, SENDER, frame, string, uint
 from gate.made_pages import HOSTILE, PASSWORD, SYMBOL, followed_lines, generated, hostile, listed, spelled
 from gate.refused_of_captures import wanted
@@ -285,10 +286,6 @@ for (let turn = 0; turn < 200; turn += 1) {
 document.title = "slowest " + most.toFixed(1);"""
 
 
-def title_of(document):
-    return html.unescape((re.search(r"<title>(.*?)</title>", document) or ["", ""])[1])
-
-
 def by_keys(browser, text):
     went = title_of(browser.driven("keys", text, KEYS % "j j ArrowDown k n n N End n Home"))
     wanted_places = "frame-1 frame-2 frame-3 frame-2 frame-15 frame-19 frame-15 frame-96 frame-15 frame-1"
@@ -314,7 +311,7 @@ def ready_after(document):
 
 
 def many_in(browser, big):
-    document = browser.opened("100,000 frames", big, "#frame-99990")
+    document = browser.opened("100,000 frames", big, "#frame-99990&curves")
     ready, rows = ready_after(document), drawn(document)
     # the quickest of three, since other programs may have had the processors
     while ready >= MOST_SECONDS and browser.tries < 3:
@@ -329,7 +326,7 @@ def many_in(browser, big):
     check("its breaches", len(drawn(browser.opened("its breaches", big, "#refused"))) == MANY // 9999)
 
 
-LEFT_OUT = 32
+LEFT_OUT = 75
 
 
 def main():
@@ -347,6 +344,7 @@ def main():
         browser = Browser(program, folder, check)
         if browser.works():
             browsed(browser, big, cut)
+            try_curves(browser, check)
             check("the number of these tests", len(FAILED) - before == LEFT_OUT, len(FAILED) - before)
         else:
             print(f"chromium is not here, or does not run: {LEFT_OUT} checks left out")

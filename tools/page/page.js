@@ -25,7 +25,7 @@ const ON_ARROW = {
   "SASL outcome": ["code"],
 };
 
-const state = { side: "", channel: "", kind: "", refused: false, q: "", chosen: -1, shown: [] };
+const state = { side: "", channel: "", kind: "", refused: false, q: "", chosen: -1, shown: [], curves: false };
 const texts = new Array(rows.length);
 
 /** What a link to the row says: its number, or, of a frame of SASL, its place. */
@@ -121,15 +121,16 @@ function nextBreach(step) {
   return -1;
 }
 
-/** What the address says after its #: a frame, and filters. */
+/** What the address says after its #: a frame, filters, and whether the curves are shown. */
 function readHash() {
   clearFilters();
+  state.curves = false;
   let name = "";
   for (const part of location.hash.slice(1).split("&")) {
     const at = part.indexOf("=");
     const key = at < 0 ? part : part.slice(0, at);
     if (/^(frame|sasl)-\d+$/.test(key)) name = key;
-    else if (key === "refused") state.refused = true;
+    else if (key === "refused" || key === "curves") state[key] = true;
     else if (at > 0 && ["q", "side", "channel", "kind"].includes(key)) state[key] = plainText(part.slice(at + 1));
   }
   return name ? rows.findIndex((_, index) => nameOf(index) === name) : -1;
@@ -146,6 +147,7 @@ function plainText(spelled) {
 function hashOf() {
   const parts = state.chosen < 0 ? [] : [nameOf(state.chosen)];
   if (state.refused) parts.push("refused");
+  if (state.curves) parts.push("curves");
   for (const key of ["side", "channel", "kind", "q"]) {
     if (state[key] !== "") parts.push(key + "=" + encodeURIComponent(state[key]));
   }

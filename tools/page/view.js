@@ -165,6 +165,7 @@ function choose(index, comes = true) {
   fill();
   table.setAttribute("aria-activedescendant", "row-" + index);
   keepHash();
+  mark();
 }
 
 /** Scrolls so far that the row is in view. */
@@ -228,6 +229,7 @@ function onKey(event) {
     ArrowDown: () => move(1), j: () => move(1), ArrowUp: () => move(-1), k: () => move(-1),
     PageDown: () => move(page), PageUp: () => move(-page), Home: () => move(-rows.length), End: () => move(rows.length),
     n: () => choose(nextBreach(1)), N: () => choose(nextBreach(-1)), "/": () => at("search").focus(),
+    c: turnCurves,
   };
   if (event.target === table) acts.Enter = () => panel.focus();
   if (!Object.hasOwn(acts, event.key) || (panel.contains(event.target) && !/^[a-zA-Z/]$/.test(event.key))) return;
@@ -247,6 +249,8 @@ function follow() {
   const chosen = readHash();
   refresh();
   if (chosen >= 0) choose(chosen);
+  at("curves").open = state.curves;
+  mark();
 }
 
 function head() {
@@ -285,6 +289,7 @@ function begin() {
   addEventListener("resize", drawSoon);
   addEventListener("keydown", onKey);
   addEventListener("hashchange", follow);
+  prepareCurves();
   follow();
   table.focus({ preventScroll: true });
   document.documentElement.dataset.ready = Math.round(performance.now());
