@@ -39,11 +39,12 @@ from gate.curves_of_pages import title_of, try_curves
 from gate.made_connections import NULL, SENDER, frame, string, uint
 from gate.made_pages import HOSTILE, PASSWORD, SYMBOL, followed_lines, generated, hostile, listed, spelled
 from gate.refused_of_captures import wanted
+from gate.sections_of_pages import opened_in, try_sections
 from gate.stub import with_stub
 from page.make import MEANINGS, Page, of_recording
 from shared.command import command
 
-NUMBER, KIND, FIELDS, FOUND = 0, 3, 7, 10
+NUMBER, KIND, FIELDS, FOUND = 0, 3, 7, 11
 NAMES = ("chromium", "chromium-browser", "google-chrome")
 MANY, MOST_SECONDS, MOST_MILLISECONDS = 100_000, 3, 200
 FAILED = []
@@ -326,7 +327,7 @@ def many_in(browser, big):
     check("its breaches", len(drawn(browser.opened("its breaches", big, "#refused"))) == MANY // 9999)
 
 
-LEFT_OUT = 75
+LEFT_OUT = 81
 
 
 def main():
@@ -335,6 +336,7 @@ def main():
     any_bytes_are_a_row()
     many_parts_cost_little()
     with_a_program()
+    try_sections(check)
     watched_pages()
     cut, big = a_page_has_an_end(), many_rows()
     program = sys.argv[1] if len(sys.argv) > 1 else next(filter(None, map(shutil.which, NAMES)), None)
@@ -345,6 +347,7 @@ def main():
         if browser.works():
             browsed(browser, big, cut)
             try_curves(browser, check)
+            opened_in(browser, check)
             check("the number of these tests", len(FAILED) - before == LEFT_OUT, len(FAILED) - before)
         else:
             print(f"chromium is not here, or does not run: {LEFT_OUT} checks left out")

@@ -138,8 +138,15 @@ function fieldParts(row) {
 function payloadParts(row) {
   if (!row[PAYLOAD]) return [];
   const shown = row[FRONT].length / 2;
+  const said = row[SECTIONS].flatMap(sectionParts);
   const title = "Payload: " + row[PAYLOAD].toLocaleString("en") + " bytes" + (shown < row[PAYLOAD] ? ", the first " + shown : "");
-  return [make("h3", "", title), make("pre", "", dump(row[FRONT]))];
+  return [...said, make("h3", "", title), make("pre", "", dump(row[FRONT]))];
+}
+
+/** A section of a message: its fields or entries, and the first bytes of data. */
+function sectionParts(it) {
+  const list = pairsIn(it[PAIRS]);
+  return [make("h3", "", "Message: " + it[TITLE]), ...(list.length ? [pairs(list)] : []), ...(it[DATA] ? [make("pre", "", dump(it[DATA]))] : [])];
 }
 
 function dump(hex) {
