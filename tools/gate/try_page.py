@@ -34,10 +34,11 @@ from amqp.recorded import CAPTURES
 from amqp.recordings import of_lines, recorded
 from amqp.telling import ENGINE
 from amqp.transcript import Transcript
-from gate.browser import Browser
+from gate.browser import Browser, program
 from gate.curves_of_pages import title_of, try_curves
 from gate.made_connections import NULL, SENDER, frame, string, uint
 from gate.made_pages import HOSTILE, PASSWORD, SYMBOL, followed_lines, generated, hostile, listed, spelled
+from gate.pictures import MOST_BYTES, SHOWN
 from gate.refused_of_captures import wanted
 from gate.sections_of_pages import opened_in, try_sections
 from gate.stub import with_stub
@@ -45,7 +46,6 @@ from page.make import MEANINGS, Page, of_recording
 from shared.command import command
 
 NUMBER, KIND, FIELDS, FOUND = 0, 3, 7, 11
-NAMES = ("chromium", "chromium-browser", "google-chrome")
 MANY, MOST_SECONDS, MOST_MILLISECONDS = 100_000, 3, 200
 FAILED = []
 
@@ -237,6 +237,13 @@ def watched_pages():
         is_closed("watch", text)
 
 
+def stored_pictures():
+    """The pictures of docs/USING.md are there, as large as they may be; tools/gate/pictures.py makes them again."""
+    for it in SHOWN:
+        of = it.path().read_bytes() if it.path().exists() else b""
+        check(f"the picture {it.name}", of.startswith(b"\x89PNG") and len(of) <= MOST_BYTES, len(of))
+
+
 # ---- what a browser makes of it
 
 
@@ -338,12 +345,12 @@ def main():
     with_a_program()
     try_sections(check)
     watched_pages()
+    stored_pictures()
     cut, big = a_page_has_an_end(), many_rows()
-    program = sys.argv[1] if len(sys.argv) > 1 else next(filter(None, map(shutil.which, NAMES)), None)
     before = len(FAILED)
     folder = tempfile.mkdtemp()
     try:
-        browser = Browser(program, folder, check)
+        browser = Browser(program(sys.argv[1:]), folder, check)
         if browser.works():
             browsed(browser, big, cut)
             try_curves(browser, check)

@@ -1,6 +1,6 @@
 // Draws the curves of the session and the link that are looked at. A point leads to its frame, and the chosen frame is marked.
 
-const WIDE = 400, HIGH = 130, TOP = 14, FOOT = 112;
+const WIDE = 300, HIGH = 110, TOP = 14, FOOT = 92;
 // So many sessions, and links of a session, can be chosen; a frame leads to each other one
 const MOST_CHOICES = 1000;
 // What is looked at: the rows of all sessions, those of them whose curves were made, and the charts that are drawn
