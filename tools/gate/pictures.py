@@ -7,6 +7,7 @@ It writes docs/pictures/NAME.png, each of a page as `tools/transcript.py --html`
 and the fonts of the machine, so the gate does not compare them: `try_page.py` looks that each is there, and that none is too large.
 """
 
+import shutil
 import sys
 import tempfile
 from pathlib import Path
@@ -65,12 +66,16 @@ def take(browser, it):
 
 def main():
     PICTURES.mkdir(exist_ok=True)
-    with tempfile.TemporaryDirectory() as folder:
+    folder = tempfile.mkdtemp()
+    try:
         browser = Browser(program(sys.argv[1:]), folder, None)
         if not browser.works():
             told("chromium is not here, or does not run")
         for it in SHOWN:
             take(browser, it)
+    finally:
+        # a browser that has just ended may write there yet
+        shutil.rmtree(folder, ignore_errors=True)
 
 
 if __name__ == "__main__":
