@@ -58,6 +58,7 @@ def try_curves(browser, check):
     by_hand(browser, check)
     from_point_to_frame(browser, check)
     with_times(browser, check)
+    without_sessions(browser, check)
     hostile_curves(browser, check)
 
 
@@ -99,6 +100,12 @@ def with_times(browser, check):
     sizes = [len(of) + 4 for side, of in small() if side == "A"]
     check("bytes by time", abs(sum(of_client) * (places[-1] - places[0]) / 200 - sum(sizes)) < len(sizes), sum(of_client), sizes)
     check("the axis is told", "The axis is time, in seconds." in browser.opened("axis", page(small(), lambda at: at), "#curves"))
+
+
+def without_sessions(browser, check):
+    """Curves of no session, and of no frame at all."""
+    check("no session", "nothing to draw" in browser.opened("no session", page(opened()), "#frame-2&curves"))
+    browser.opened("no frame", page([]), "#curves")
 
 
 # ---- from a point to its frame, and back

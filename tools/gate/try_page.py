@@ -335,7 +335,7 @@ def many_in(browser, big):
     check("its breaches", len(drawn(browser.opened("its breaches", big, "#refused"))) == MANY // 9999)
 
 
-LEFT_OUT = 81
+LEFT_OUT = 84
 
 
 def main():

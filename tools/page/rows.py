@@ -7,7 +7,7 @@ from amqp.frames import ATTACH, BEGIN, DETACH, END, NAMES, NULL, TRANSFER, Frame
 from amqp.mended import plain
 from amqp.tables import TABLES
 from page.sections import LATER, Going, sections
-from page.values import cut, fields_of, value, visible
+from page.values import fields_of, value, visible
 
 # Of a payload, or of a frame that cannot be read, so many bytes are shown
 MOST_BYTES = 32
