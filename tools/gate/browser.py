@@ -2,8 +2,16 @@
 
 import base64
 import hashlib
+import shutil
 import subprocess
 from pathlib import Path
+
+NAMES = ("chromium", "chromium-browser", "google-chrome")
+
+
+def program(words):
+    """The browser that the words name, or what stands on the path under one of its names; `None` where there is none."""
+    return words[0] if words else next(filter(None, map(shutil.which, NAMES)), None)
 
 
 class Browser:
@@ -22,7 +30,8 @@ class Browser:
     def run(self, text, place, *words):
         path = self.folder / "page.html"
         path.write_text(text, encoding="utf-8")
-        fixed = [self.program, "--headless", "--no-sandbox", "--disable-gpu", "--enable-logging=stderr", "--window-size=1400,900", f"--user-data-dir={self.folder}/user"]
+        fixed = [self.program, "--headless", "--no-sandbox", "--disable-gpu", "--enable-logging=stderr", f"--user-data-dir={self.folder}/user"]
+        words = words if any(it.startswith("--window-size") for it in words) else ("--window-size=1400,900", *words)
         return subprocess.run([*fixed, *words, f"{path.as_uri()}{place}"], capture_output=True, text=True, errors="replace", timeout=120)
 
     def opened(self, name, text, place=""):

@@ -34,16 +34,18 @@ from amqp.recorded import CAPTURES
 from amqp.recordings import of_lines, recorded
 from amqp.telling import ENGINE
 from amqp.transcript import Transcript
-from gate.browser import Browser
+from gate.browser import Browser, program
+from gate.curves_of_pages import title_of, try_curves
 from gate.made_connections import NULL, SENDER, frame, string, uint
 from gate.made_pages import HOSTILE, PASSWORD, SYMBOL, followed_lines, generated, hostile, listed, spelled
+from gate.pictures import MOST_BYTES, SHOWN
 from gate.refused_of_captures import wanted
+from gate.sections_of_pages import opened_in, try_sections
 from gate.stub import with_stub
 from page.make import MEANINGS, Page, of_recording
 from shared.command import command
 
-NUMBER, KIND, FIELDS, FOUND = 0, 3, 7, 10
-NAMES = ("chromium", "chromium-browser", "google-chrome")
+NUMBER, KIND, FIELDS, FOUND = 0, 3, 7, 11
 MANY, MOST_SECONDS, MOST_MILLISECONDS = 100_000, 3, 200
 FAILED = []
 
@@ -235,6 +237,13 @@ def watched_pages():
         is_closed("watch", text)
 
 
+def stored_pictures():
+    """The pictures of docs/USING.md are there, as large as they may be; tools/gate/pictures.py makes them again."""
+    for it in SHOWN:
+        of = it.path().read_bytes() if it.path().exists() else b""
+        check(f"the picture {it.name}", of.startswith(b"\x89PNG") and len(of) <= MOST_BYTES, len(of))
+
+
 # ---- what a browser makes of it
 
 
@@ -285,10 +294,6 @@ for (let turn = 0; turn < 200; turn += 1) {
 document.title = "slowest " + most.toFixed(1);"""
 
 
-def title_of(document):
-    return html.unescape((re.search(r"<title>(.*?)</title>", document) or ["", ""])[1])
-
-
 def by_keys(browser, text):
     went = title_of(browser.driven("keys", text, KEYS % "j j ArrowDown k n n N End n Home"))
     wanted_places = "frame-1 frame-2 frame-3 frame-2 frame-15 frame-19 frame-15 frame-96 frame-15 frame-1"
@@ -314,13 +319,14 @@ def ready_after(document):
 
 
 def many_in(browser, big):
-    document = browser.opened("100,000 frames", big, "#frame-99990")
+    place = "#frame-99990&curves"
+    document = browser.opened("100,000 frames", big, place)
     ready, rows = ready_after(document), drawn(document)
     # the quickest of three, since other programs may have had the processors
     while ready >= MOST_SECONDS and browser.tries < 3:
         browser.tries += 1
-        ready = min(ready, ready_after(browser.run(big, "", "--dump-dom").stdout))
-    print(f"a page of {MANY:,} frames, {len(big) / 1e6:.1f} MB, is drawn {ready:.1f} s after it is opened")
+        ready = min(ready, ready_after(browser.run(big, place, "--dump-dom").stdout))
+    print(f"a page of {MANY:,} frames, {len(big) / 1e6:.1f} MB, is drawn, with its curves, {ready:.1f} s after it is opened")
     check("the last rows are drawn", "frame-99990" in rows and len(rows) < 100, len(rows))
     check("it opens in time", ready < MOST_SECONDS, ready)
     slowest = float((re.search(r"slowest ([\d.]+)", title_of(browser.driven("scrolling", big, SCROLLS))) or [0, 10**6])[1])
@@ -329,7 +335,7 @@ def many_in(browser, big):
     check("its breaches", len(drawn(browser.opened("its breaches", big, "#refused"))) == MANY // 9999)
 
 
-LEFT_OUT = 32
+LEFT_OUT = 84
 
 
 def main():
@@ -338,15 +344,18 @@ def main():
     any_bytes_are_a_row()
     many_parts_cost_little()
     with_a_program()
+    try_sections(check)
     watched_pages()
+    stored_pictures()
     cut, big = a_page_has_an_end(), many_rows()
-    program = sys.argv[1] if len(sys.argv) > 1 else next(filter(None, map(shutil.which, NAMES)), None)
     before = len(FAILED)
     folder = tempfile.mkdtemp()
     try:
-        browser = Browser(program, folder, check)
+        browser = Browser(program(sys.argv[1:]), folder, check)
         if browser.works():
             browsed(browser, big, cut)
+            try_curves(browser, check)
+            opened_in(browser, check)
             check("the number of these tests", len(FAILED) - before == LEFT_OUT, len(FAILED) - before)
         else:
             print(f"chromium is not here, or does not run: {LEFT_OUT} checks left out")

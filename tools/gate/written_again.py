@@ -4,8 +4,8 @@
     tools/gate/written_again.py
 
 Each of `tools/gen/expected_*.py` that is a program writes the rows of a program of `crates/`, or those of `tools/try_c`, `tools/gate/definitions_read.py` the tables of
-docs/READING.md and the first lines of `crates/*/specs/`, and `tools/gate/wrong_bodies.py` docs/WRONG_BODIES.md. A file that comes out otherwise
-than it is stored is named, and put back as it was: then run its tool by hand, and see what changed. The last line is 'N passed, M failed', a tool each.
+docs/READING.md and the first lines of `crates/*/specs/`, `tools/gate/wrong_bodies.py` docs/WRONG_BODIES.md, and `tools/bench/plots.py` a page and a
+picture of each table in docs/bench. A file that comes out otherwise than it is stored is named, and put back as it was: then run its tool by hand, and see what changed. The last line is 'N passed, M failed', a tool each.
 """
 
 import subprocess
@@ -22,8 +22,13 @@ PAGES = [ROOT / "docs" / "READING.md", ROOT / "docs" / "WRONG_BODIES.md"]
 
 def stored():
     """What is stored of the files that such tools write."""
-    files = [*ROOT.glob("crates/*/stdin"), *ROOT.glob("crates/*/stdout"), *ROOT.glob("tools/try_c/rows/*"), *ROOT.glob("crates/*/specs/**/*.antt"), *PAGES]
+    files = [*ROOT.glob("crates/*/stdin"), *ROOT.glob("crates/*/stdout"), *ROOT.glob("tools/try_c/rows/*"), *ROOT.glob("crates/*/specs/**/*.antt"), *PAGES, *plotted()]
     return {file: file.read_bytes() for file in files if file.exists()}
+
+
+def plotted():
+    """The pages and pictures of tables."""
+    return [path.with_suffix(ending) for path in ROOT.glob("docs/bench/*.txt") for ending in (".md", ".svg")]
 
 
 def tools():
@@ -33,6 +38,7 @@ def tools():
             yield tool, []
     yield ROOT / "tools" / "gate" / "definitions_read.py", ["--write"]
     yield ROOT / "tools" / "gate" / "wrong_bodies.py", ["--write"]
+    yield ROOT / "tools" / "bench" / "plots.py", []
 
 
 def write_again(tool, words):

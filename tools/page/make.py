@@ -16,6 +16,8 @@ from page.rows import Reader
 from page.values import visible
 
 HERE = Path(__file__).resolve().parent
+# The parts of the one script, in their order
+SCRIPTS = ("page.js", "curves.js", "charts.js", "view.js")
 # So many frames, and so many bytes of JSON for them, stand in a page: the page says where it was cut
 MOST_ROWS, MOST_BYTES = 200_000, 2**26
 # So many connections, the first ones, have a page
@@ -57,7 +59,7 @@ class Page:
             "names": [*self.reader.names],
             "meanings": MEANINGS,
         }
-        script = "\n".join((HERE / name).read_text(encoding="utf-8") for name in ("page.js", "view.js"))
+        script = "\n".join((HERE / name).read_text(encoding="utf-8") for name in SCRIPTS)
         filled = {
             "POLICY": policy(script),
             "STYLE": (HERE / "page.css").read_text(encoding="utf-8"),

@@ -4,7 +4,9 @@
 const data = JSON.parse(document.getElementById("data").textContent);
 const rows = data.rows;
 // The places of a row's parts, as rows.py and make.py write them
-const NUMBER = 0, TIME = 1, SIDE = 2, KIND = 3, CHANNEL = 4, SESSION = 5, SIZE = 6, FIELDS = 7, PAYLOAD = 8, FRONT = 9, FOUND = 10;
+const NUMBER = 0, TIME = 1, SIDE = 2, KIND = 3, CHANNEL = 4, SESSION = 5, SIZE = 6, FIELDS = 7, PAYLOAD = 8, FRONT = 9, SECTIONS = 10, FOUND = 11;
+// The places of the parts of a message's section
+const TITLE = 0, PAIRS = 1, DATA = 2;
 // The places of the parts of what was found
 const NAME = 0, SAID = 1, BY = 2, BREACH = 3;
 const WAYS = { A: "client to server", B: "server to client" };
@@ -25,7 +27,7 @@ const ON_ARROW = {
   "SASL outcome": ["code"],
 };
 
-const state = { side: "", channel: "", kind: "", refused: false, q: "", chosen: -1, shown: [] };
+const state = { side: "", channel: "", kind: "", refused: false, q: "", chosen: -1, shown: [], curves: false };
 const texts = new Array(rows.length);
 
 /** What a link to the row says: its number, or, of a frame of SASL, its place. */
@@ -40,10 +42,12 @@ function isBreach(row) {
 
 /** The fields of a row, as pairs of a name and a text. */
 function fieldsOf(row) {
+  return pairsIn(row[FIELDS]).map(([name, text]) => [data.names[name], text]);
+}
+
+function pairsIn(flat) {
   const found = [];
-  for (let at = 0; at < row[FIELDS].length; at += 2) {
-    found.push([data.names[row[FIELDS][at]], row[FIELDS][at + 1]]);
-  }
+  for (let at = 0; at < flat.length; at += 2) found.push([flat[at], flat[at + 1]]);
   return found;
 }
 
@@ -73,6 +77,7 @@ function textOf(index) {
     const row = rows[index];
     const fields = fieldsOf(row).map(([name, text]) => name + "=" + text);
     const found = row[FOUND].map((it) => it[SAID]);
+    for (const it of row[SECTIONS]) found.push(it[TITLE], ...pairsIn(it[PAIRS]).map(([name, text]) => name + "=" + text), letters(it[DATA]));
     texts[index] = [nameOf(index), row[KIND], FROM[row[SIDE]], ...fields, ...found, letters(row[FRONT]), row[FRONT]].join(" ").toLowerCase();
   }
   return texts[index];
@@ -121,15 +126,16 @@ function nextBreach(step) {
   return -1;
 }
 
-/** What the address says after its #: a frame, and filters. */
+/** What the address says after its #: a frame, filters, and whether the curves are shown. */
 function readHash() {
   clearFilters();
+  state.curves = false;
   let name = "";
   for (const part of location.hash.slice(1).split("&")) {
     const at = part.indexOf("=");
     const key = at < 0 ? part : part.slice(0, at);
     if (/^(frame|sasl)-\d+$/.test(key)) name = key;
-    else if (key === "refused") state.refused = true;
+    else if (key === "refused" || key === "curves") state[key] = true;
     else if (at > 0 && ["q", "side", "channel", "kind"].includes(key)) state[key] = plainText(part.slice(at + 1));
   }
   return name ? rows.findIndex((_, index) => nameOf(index) === name) : -1;
@@ -146,6 +152,7 @@ function plainText(spelled) {
 function hashOf() {
   const parts = state.chosen < 0 ? [] : [nameOf(state.chosen)];
   if (state.refused) parts.push("refused");
+  if (state.curves) parts.push("curves");
   for (const key of ["side", "channel", "kind", "q"]) {
     if (state[key] !== "") parts.push(key + "=" + encodeURIComponent(state[key]));
   }

@@ -3,10 +3,11 @@
 import re
 from typing import NamedTuple
 
-from amqp.frames import BEGIN, END, NAMES, NULL, Frame, Malformed, end_of, integer, number, parts
+from amqp.frames import ATTACH, BEGIN, DETACH, END, NAMES, NULL, TRANSFER, Frame, Malformed, end_of, flag, integer, number, parts
 from amqp.mended import plain
 from amqp.tables import TABLES
-from page.values import cut, fields_of, value, visible
+from page.sections import LATER, Going, sections
+from page.values import fields_of, value, visible
 
 # Of a payload, or of a frame that cannot be read, so many bytes are shown
 MOST_BYTES = 32
@@ -43,16 +44,33 @@ class Reader:
     """Frames one after another, each as a row: a side, what it is, where, and its fields."""
 
     def __init__(self):
-        self.sessions, self.names = Sessions(), {}
+        self.sessions, self.going, self.names = Sessions(), Going(), {}
 
     def row(self, side, of, size=None):
-        """The frame as [side, kind, channel, session, size, fields, payload's size, its front]; `of` is without its size, and may be cut."""
+        """The frame as [side, kind, channel, session, size, fields, payload's size, its front, its sections]; `of` is without its size, and may be cut."""
         size = len(of) + 4 if size is None else size
         if (code := sasl_code(of)) is not None:
-            return [side, f"SASL {SASL.get(code, 'frame')}", -1, 0, 0, self.flat(sasl(of, code)), 0, ""]
+            return [side, f"SASL {SASL.get(code, 'frame')}", -1, 0, 0, self.flat(sasl(of, code)), 0, "", []]
         it = shown(of, size)
         session = self.sessions.of(side, it.frame) if it.frame and 0x11 <= it.frame.code <= 0x17 else 0
-        return [side, it.kind, it.channel, session, size, self.flat(it.fields), it.payload, it.front]
+        return [side, it.kind, it.channel, session, size, self.flat(it.fields), it.payload, it.front, self.sections(side, it)]
+
+    def sections(self, side, it):
+        """The sections of a message, at the transfer that begins it: each as its name, its pairs, and the first bytes of its data."""
+        if it.frame is None or it.frame.code != TRANSFER:
+            self.forget(side, it.frame)
+            return []
+        goes_on = flag(it.frame[5]) and not flag(it.frame[9])
+        if not self.going.is_first(side, it.channel, it.frame[0], goes_on):
+            return [[LATER, [], ""]] if it.payload else []
+        # a peer chose the names in maps: they are not kept in `names`, which the size of the rows does not bound
+        return [[name, [it for pair in pairs for it in pair], front] for name, pairs, front in sections(it.frame.payload, goes_on)]
+
+    def forget(self, side, frame):
+        if frame is not None and frame.code in (BEGIN, END):
+            self.going.forget(side, frame.channel)
+        elif frame is not None and frame.code in (ATTACH, DETACH):
+            self.going.forget(side, frame.channel, frame[1 if frame.code == ATTACH else 0])
 
     def flat(self, pairs):
         """Names by their places in `names`, each before its text."""

@@ -138,8 +138,15 @@ function fieldParts(row) {
 function payloadParts(row) {
   if (!row[PAYLOAD]) return [];
   const shown = row[FRONT].length / 2;
+  const said = row[SECTIONS].flatMap(sectionParts);
   const title = "Payload: " + row[PAYLOAD].toLocaleString("en") + " bytes" + (shown < row[PAYLOAD] ? ", the first " + shown : "");
-  return [make("h3", "", title), make("pre", "", dump(row[FRONT]))];
+  return [...said, make("h3", "", title), make("pre", "", dump(row[FRONT]))];
+}
+
+/** A section of a message: its fields or entries, and the first bytes of data. */
+function sectionParts(it) {
+  const list = pairsIn(it[PAIRS]);
+  return [make("h3", "", "Message: " + it[TITLE]), ...(list.length ? [pairs(list)] : []), ...(it[DATA] ? [make("pre", "", dump(it[DATA]))] : [])];
 }
 
 function dump(hex) {
@@ -165,6 +172,7 @@ function choose(index, comes = true) {
   fill();
   table.setAttribute("aria-activedescendant", "row-" + index);
   keepHash();
+  mark();
 }
 
 /** Scrolls so far that the row is in view. */
@@ -228,6 +236,7 @@ function onKey(event) {
     ArrowDown: () => move(1), j: () => move(1), ArrowUp: () => move(-1), k: () => move(-1),
     PageDown: () => move(page), PageUp: () => move(-page), Home: () => move(-rows.length), End: () => move(rows.length),
     n: () => choose(nextBreach(1)), N: () => choose(nextBreach(-1)), "/": () => at("search").focus(),
+    c: turnCurves,
   };
   if (event.target === table) acts.Enter = () => panel.focus();
   if (!Object.hasOwn(acts, event.key) || (panel.contains(event.target) && !/^[a-zA-Z/]$/.test(event.key))) return;
@@ -247,6 +256,8 @@ function follow() {
   const chosen = readHash();
   refresh();
   if (chosen >= 0) choose(chosen);
+  at("curves").open = state.curves;
+  mark();
 }
 
 function head() {
@@ -285,6 +296,7 @@ function begin() {
   addEventListener("resize", drawSoon);
   addEventListener("keydown", onKey);
   addEventListener("hashchange", follow);
+  prepareCurves();
   follow();
   table.focus({ preventScroll: true });
   document.documentElement.dataset.ready = Math.round(performance.now());
