@@ -1,0 +1,12 @@
+pub mod ListLemmas
+pub mod OrderLemmas
+pub mod PlaceLemmas
+pub mod KeyLemmas
+pub mod RankLemmas
+pub mod NextLemmas
+pub mod KeptLemmas
+pub mod InsertLemmas
+pub mod ChainLemmas
+pub mod TableLemmas
+pub mod HistoryLemmas
+pub mod LawLemmas

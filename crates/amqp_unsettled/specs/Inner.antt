@@ -1,0 +1,2 @@
+-- What the contracts of private functions cite, and no public one does.
+pub mod Order

@@ -1,0 +1,36 @@
+//! What is known of an unsettled delivery, and why one is not taken.
+
+ghost use Rattle.std.specs.Prelude.{◌≡◌};
+ghost use Rattle.amqp_unsettled.specs.Inner.Order.{entry_far};
+
+use crate::order::Ordered;
+use crate::serial::distance;
+
+/// An unsettled delivery.
+#[derive(Clone, Copy, Debug, PartialEq, Eq)]
+pub struct Entry {
+    /// Its delivery number, a serial number (AMQP 1.0 part 2, section 2.8.4).
+    pub number: u32,
+    /// The link that it belongs to, by a number of the caller's.
+    pub link: u32,
+    /// What the caller gave with it.
+    pub given: u64,
+}
+
+impl Ordered for Entry {
+    ghost far_of = { entry_far };
+
+    #[inline(always)]
+    fn far(&self, base: u32) -> u64 {
+        u64::from(distance(base, self.number))
+    }
+}
+
+/// Why a delivery is not taken. Nothing has changed then.
+#[derive(Clone, Copy, Debug, PartialEq, Eq)]
+pub enum InsertError {
+    /// Its number does not lie after that of each delivery in the table, by less than 2^31.
+    NotNext,
+    /// Memory was refused.
+    OutOfMemory,
+}

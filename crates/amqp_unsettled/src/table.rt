@@ -1,0 +1,192 @@
+//! The table of what is unsettled.
+
+ghost use Rattle.std.specs.Prelude.{◌≡◌, ◌==◌, ◌+◌, ◌<◌, [], ◌++◌, Some, length, take, drop, slice_get};
+ghost use Rattle.std.specs.List.{find};
+ghost use Rattle.amqp_unsettled.specs.Table.{InsertStep, TakeStep, has_number, is_any, is_in, is_of, count_of};
+
+use crate::entry::{Entry, InsertError};
+use crate::key::Key;
+use crate::keys;
+use crate::rank::{base_for, rank_of, rank_within};
+use crate::taking::take_out;
+use amqp_blocks::Blocks;
+use std::alloc::Global;
+use std::marker::Model;
+
+/// Where as many deliveries were in a table at once, its memory is let go as the last one goes.
+const MANY: usize = 1024;
+
+/// What is unsettled in one direction of one session (AMQP 1.0 part 2, section 2.6.12): the deliveries that this side
+/// has sent, or those that it has received, from the oldest to the newest.
+///
+/// Delivery numbers are serial numbers, which wrap at 2^32. All that are in a table at once lie within half of that
+/// circle, so that each two of them have an order.
+#[derive(Drop)]
+pub struct Unsettled {
+    alloc: Global,
+    // No number lies before it, and each by less than half of the circle after it.
+    base: u32,
+    entries: Blocks<Entry>,
+    // The same deliveries by their links.
+    keys: Blocks<Key>,
+    // The most there were since the memory was let go.
+    most: usize,
+}
+
+impl Model for Unsettled {
+    ghost use Rattle.std.specs.Prelude.{List};
+    ghost use Rattle.amqp_unsettled.specs.declared.entry.Entry.{Entry};
+    ghost use Rattle.amqp_unsettled.specs.Inner.Order.{IsKept};
+
+    ghost Value = { List Entry };
+
+    ghost view = { λ s. s.entries.items };
+
+    ghost invariant = { λ s. IsKept s.base s.entries.items s.keys.items };
+}
+
+impl Unsettled {
+    /// A table with nothing unsettled. It asks for no memory.
+    pub fn new(alloc: Global) -> Unsettled
+        ensures { result ≡ [] }
+    {
+        Unsettled {
+            alloc,
+            base: 0,
+            entries: Blocks::new(alloc),
+            keys: Blocks::new(alloc),
+            most: 0,
+        }
+    }
+
+    /// How many deliveries are unsettled.
+    #[inline(always)]
+    pub fn len(&self) -> usize
+        ensures { result ≡ length self.now }
+    {
+        self.entries.len()
+    }
+
+    /// Whether nothing is unsettled.
+    #[inline(always)]
+    pub fn is_empty(&self) -> bool
+        ensures { result ≡ (length self.now == 0) }
+    {
+        self.entries.is_empty()
+    }
+
+    /// A delivery was sent, or has come, that is not settled. It is the newest one then.
+    ///
+    /// # Errors
+    /// [`InsertError::NotNext`] where its number does not lie after that of each delivery in the table, by less than
+    /// 2^31, in serial order (AMQP 1.0 part 2, section 2.8.10): it is there already, or lies before one, or so far
+    /// after the oldest one that no order holds. [`InsertError::OutOfMemory`] where memory was refused. Nothing
+    /// changes then.
+    pub fn insert(&mut self, entry: Entry) -> Result<(), InsertError>
+        ensures { InsertStep self.old entry result self.new }
+    {
+        let Some(base) = base_for(&self.entries, self.base, entry.number) else {
+            return Err(InsertError::NotNext);
+        };
+        let Ok(()) = self.entries.reserve(1) else {
+            return Err(InsertError::OutOfMemory);
+        };
+        let Ok(()) = self.keys.reserve(1) else {
+            return Err(InsertError::OutOfMemory);
+        };
+        keys::put(&mut self.keys, base, Key::of(entry));
+        self.entries.push_back(entry);
+        self.base = base;
+        self.most = self.most.max(self.entries.len());
+        Ok(())
+    }
+
+    /// The delivery of a number, which stays. `None` where it is not unsettled.
+    pub fn get(&self, number: u32) -> Option<Entry>
+        ensures { result ≡ find (has_number number) self.now }
+    {
+        let rank = rank_of(&self.entries, self.base, number)?;
+        Some(*self.entries.get(rank))
+    }
+
+    /// The oldest unsettled delivery of the range from `first` to `last`, which stays. A range is as for
+    /// [`Unsettled::settle_next`].
+    pub fn find_next(&self, first: u32, last: u32) -> Option<Entry>
+        ensures { result ≡ find (is_in first last) self.now }
+    {
+        let rank = rank_within(&self.entries, self.base, first, last)?;
+        Some(*self.entries.get(rank))
+    }
+
+    /// How many deliveries of a link are unsettled.
+    pub fn count_of(&self, link: u32) -> usize
+        ensures { result ≡ count_of link self.now }
+    {
+        keys::count_of(&self.keys, self.base, link)
+    }
+
+    /// Takes out the delivery of a number: this side settles it. `None` where it is not unsettled; nothing changes
+    /// then.
+    pub fn remove(&mut self, number: u32) -> Option<Entry>
+        ensures { TakeStep (has_number number) self.old result self.new }
+    {
+        let rank = rank_of(&self.entries, self.base, number)?;
+        Some(self.take_at(rank))
+    }
+
+    /// Takes out the oldest unsettled delivery of the range from `first` to `last`, both of them in it, as a
+    /// disposition with these and `settled` wants (AMQP 1.0 part 2, section 2.7.6). Called until it answers `None`, it
+    /// gives back each unsettled delivery of the range, once, in the order of their numbers. A disposition without
+    /// `last` has one number: `last` is `first`. A range that does not go forward by less than 2^31 has none (section
+    /// 2.8.10).
+    pub fn settle_next(&mut self, first: u32, last: u32) -> Option<Entry>
+        ensures { TakeStep (is_in first last) self.old result self.new }
+    {
+        let rank = rank_within(&self.entries, self.base, first, last)?;
+        Some(self.take_at(rank))
+    }
+
+    /// Takes out the oldest unsettled delivery of a link. Called until it answers `None`, it tells each delivery of a
+    /// link that goes which is unsettled then (AMQP 1.0 part 2, section 2.6.13), once, in the order of their numbers.
+    pub fn remove_next_of(&mut self, link: u32) -> Option<Entry>
+        ensures { TakeStep (is_of link) self.old result self.new }
+    {
+        let key = keys::first_of(&self.keys, self.base, link)?;
+        self.remove(key.number)
+    }
+
+    /// Takes out the oldest unsettled delivery, of any link. Called until it answers `None`, it tells all that is
+    /// unsettled where the session goes, in the order of their numbers.
+    pub fn remove_oldest(&mut self) -> Option<Entry>
+        ensures { TakeStep is_any self.old result self.new }
+    {
+        if self.is_empty() {
+            return None;
+        }
+        Some(self.take_at(0))
+    }
+
+    /// Takes out the delivery of a rank.
+    fn take_at(&mut self, rank: usize) -> Entry
+        requires within { rank < length self.old }
+        ensures value { slice_get self.old rank ≡ Some result }
+        ensures left { self.new ≡ take rank self.old ++ drop (rank + 1) self.old }
+    {
+        let entry = *self.entries.get(rank);
+        keys::forget(&mut self.keys, self.base, Key::of(entry));
+        take_out(&mut self.entries, rank);
+        self.let_go();
+        entry
+    }
+
+    /// Lets the memory of many deliveries go where none is left.
+    fn let_go(&mut self)
+        ensures { self.new ≡ self.old }
+    {
+        if self.most >= MANY && self.entries.is_empty() {
+            self.entries = Blocks::new(self.alloc);
+            self.keys = Blocks::new(self.alloc);
+            self.most = 0;
+        }
+    }
+}

@@ -1,0 +1,75 @@
+//! Links that go, among others.
+
+use crate::calls::entry;
+use crate::same::same;
+use amqp_unsettled::Unsettled;
+use std::test::Fail;
+
+#[test]
+fn each_of_many_links_is_told_its_own(rt: HostRuntime) -> Result<(), Fail> {
+    let mut table = Unsettled::new(rt.alloc());
+    // The numbers of each link pass the wrap.
+    let first: u32 = 4_294_967_000;
+    for i in 0..700u32 {
+        same(
+            &rt,
+            table.insert(entry(first.wrapping_add(i), i % 7)),
+            Ok(()),
+        );
+    }
+    for link in [3, 0, 6, 1, 5, 2, 4] {
+        same(&rt, table.count_of(link), 100);
+        for i in 0..100u32 {
+            let number = first.wrapping_add(i * 7 + link);
+            same(&rt, table.remove_next_of(link), Some(entry(number, link)));
+        }
+        same(&rt, table.remove_next_of(link), None);
+        same(&rt, table.count_of(link), 0);
+    }
+    same(&rt, table.len(), 0);
+    Ok(())
+}
+
+#[test]
+fn a_link_that_comes_again_has_what_came_since(rt: HostRuntime) -> Result<(), Fail> {
+    let mut table = Unsettled::new(rt.alloc());
+    same(&rt, table.insert(entry(1, 4_294_967_295)), Ok(()));
+    same(&rt, table.insert(entry(2, 0)), Ok(()));
+    same(
+        &rt,
+        table.remove_next_of(4_294_967_295),
+        Some(entry(1, 4_294_967_295)),
+    );
+    same(&rt, table.remove_next_of(4_294_967_295), None);
+    same(&rt, table.insert(entry(3, 4_294_967_295)), Ok(()));
+    same(&rt, table.settle_next(1, 3), Some(entry(2, 0)));
+    same(&rt, table.count_of(4_294_967_295), 1);
+    same(
+        &rt,
+        table.remove_next_of(4_294_967_295),
+        Some(entry(3, 4_294_967_295)),
+    );
+    Ok(())
+}
+
+#[test]
+fn a_link_that_goes_after_a_part_was_settled(rt: HostRuntime) -> Result<(), Fail> {
+    let mut table = Unsettled::new(rt.alloc());
+    for number in 0..20u32 {
+        same(&rt, table.insert(entry(number, number / 10)), Ok(()));
+    }
+    for number in [5, 7, 6, 9, 8] {
+        same(
+            &rt,
+            table.settle_next(number, number),
+            Some(entry(number, 0)),
+        );
+    }
+    for number in 0..5u32 {
+        same(&rt, table.remove_next_of(0), Some(entry(number, 0)));
+    }
+    same(&rt, table.remove_next_of(0), None);
+    same(&rt, table.len(), 10);
+    same(&rt, table.remove_oldest(), Some(entry(10, 1)));
+    Ok(())
+}
