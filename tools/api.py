@@ -1,30 +1,42 @@
 #!/usr/bin/env python3
-"""Writes an API reference of the library crates and of the header for C, from their sources: static pages, to be opened in a browser.
+"""Writes one API reference of the library crates, the header for C, the package for Python and the wrapper for Rust, from their sources.
 
     tools/api.py OUT
-    tools/api.py --check   writes nothing: the last line is 'N passed, M failed', a test for each file of a crate, and for each page
+    tools/api.py --man FOLDER   only the man pages of the functions for C, into FOLDER/man3: man -M FOLDER amqp1_take shows one
+    tools/api.py --check        writes nothing: the last line is 'N passed, M failed'
 
-OUT is a folder, which is made where it is missing; OUT/index.html has a box to search in, and OUT/man3 a man page of each function for C. Each crate has a page with its public items: doc,
-signature, and contract as it is written; and a page with its definitions (specs/*.antt), to which the names in contracts lead. The pages need no
-network. The last line counts them, and the links that lead nowhere; the status is 1 where there are any. A check is that each clause of a file
-was read, and that each link of a page leads somewhere.
+OUT is a folder, which is made where it is missing; OUT/index.html has a box to search in all of it, and OUT/man3 the man pages. Each crate has a page
+with its public items: doc, signature, and contract as it is written; and a page with its definitions (specs/*.antt), to which the names in contracts
+lead. C, Python and Rust have a page each; what is the same thing in several languages, as far as names show it, leads from one to the other. The pages
+need no network. The last line counts them, and the links that lead nowhere; the status is 1 where there are any.
+
+The check has a test for each file of a crate, of which each clause has to be read, for each page, whose links have to lead somewhere, for each public name
+of C, Python and Rust, which has to have a comment, for each man page, which groff has to take without a word where it is on the path, and for texts that
+want to be markup.
 """
 
 import re
 import sys
-from collections import defaultdict
+from collections import Counter, defaultdict
 from html import escape, unescape
 from pathlib import Path
 
-from reference.header import entries, header_page, man_pages, names_to_search
+from reference.bindings import address as address_of
+from reference.bindings import names_to_search, pages
+from reference.checks import check_bindings
+from reference.definitions import WORD, specs_page
+from reference.header import files, header, read, unread
+from reference.manual import man_pages
 from reference.page import linked, page, prose, search
-from reference.source import libraries
-from reference.specs import Definition, modules
+from reference.python_package import Package
+from reference.same import Same, line
+from reference.source import dependencies, libraries
+from reference.specs import modules
+from reference.wrapper import Wrapper
 from shared.command import command
 
 ROOT = Path(__file__).resolve().parent.parent
-HEADER = ROOT / "include" / "amqp1"
-WORD = re.compile(r"[^\W\d][\w']*(?:\.[^\W\d][\w']*)*")
+HEADER, PACKAGE, WRAPPER = ROOT / "include" / "amqp1", ROOT / "bindings" / "python" / "amqp_engine", ROOT / "bindings" / "rust"
 RUST = re.compile(r"(?<![\w'])[A-Za-z_]\w*")
 GROUPS = [("struct", "Structs"), ("enum", "Enums"), ("trait", "Traits"), ("fn", "Functions"), ("const", "Constants"), ("type", "Names of types")]
 
@@ -34,6 +46,8 @@ class Names:
 
     def __init__(self, crates):
         self.crates = crates
+        # for an address, the same thing in other languages
+        self.same = {}
         self.specs = {name: modules(name, it.folder / "specs") for name, it in crates.items()}
         self.defined = {}
         for name, files in self.specs.items():
@@ -179,6 +193,7 @@ class CratePage:
         path = ".".join(item.path)
         self.put(f'<section id="{path}">\n<h3><code>{item.name}</code> <small>{item.kind} {self.crate.name}::{"::".join(item.path)}</small></h3>')
         self.declaration(item, item)
+        self.put(line(address(self.crate.name, item), self.names.same))
         self.parts(item)
         self.model(item)
         own = methods(self.crate, item)
@@ -188,6 +203,7 @@ class CratePage:
         for method in own:
             self.put(f'<section class="method" id="{path}.{method.name}">\n<h4><code>{method.name}</code></h4>')
             self.declaration(method, item)
+            self.put(line(address(self.crate.name, item, method.name), self.names.same))
             self.put("</section>")
         if item.kind in ("struct", "enum"):
             self.implemented(item)
@@ -245,51 +261,46 @@ class CratePage:
             self.put("</details>")
 
 
-# ---- a crate's definitions
-
-
-def specs_page(names, crate):
-    """The definitions of a crate, file by file."""
-    files = names.specs[crate.name]
-    made = [f"<h1>Definitions of {crate.name}</h1>"]
-    made.append('<p class="names">' + " ".join(f'<a href="#{it.path}"><code>{it.path}</code></a>' for it in files) + "</p>")
-    for file in files:
-        local = {name: (f"Rattle.{crate.name}.specs.{file.path}", name) for it in file.definitions() for name in (it.name, *it.parts.values())}
-        href = names.in_contract({**file.names, **local})
-        made.append(f'<h2 id="{file.path}"><code>{file.path}</code></h2>\n<p>{escape(file.comment)}</p>')
-        made.append(f"<details><summary>What it brings in</summary><pre>{escape(chr(10).join(file.uses))}</pre></details>")
-        taken = set()
-        for piece in file.pieces:
-            if isinstance(piece, Definition):
-                made.append(definition(piece, file, href, taken))
-            elif piece:
-                made.append(f'<pre class="definition"><i>{escape(chr(10).join(piece))}</i></pre>')
-    return page(f"Definitions of {crate.name}", [("index.html", "API"), (f"{crate.name}.html", crate.name)], "\n".join(made))
-
-
-def definition(piece, file, href, taken):
-    """A definition's text, with an anchor at its name and at each field or constructor that no other name took."""
-    lines, own = [], f"{file.path}.{piece.name}"
-    other = lambda word: None if (to := href(word)) and to.endswith(f"#{own}") else to
-    for at, line in enumerate(piece.lines):
-        name = piece.name if at == piece.head() else piece.parts.get(at)
-        if line.strip().startswith("--"):
-            lines.append(f"<i>{escape(line)}</i>")
-        elif name and name not in taken:
-            taken.add(name)
-            before, _, after = line.partition(name)
-            lines.append(f'{escape(before)}<b id="{file.path}.{escape(name)}">{escape(name)}</b>{linked(after, WORD, other)}')
-        else:
-            lines.append(linked(line, WORD, other))
-    return '<pre class="definition">' + "\n".join(lines) + "</pre>"
-
-
 # ---- the index
 
 
-def index(names, header):
-    """The crates, the header, and a box that finds items and definitions."""
-    found, made = names_to_search(header), ["<h1>API reference</h1>"]
+class Bindings:
+    """The header for C, the package for Python, and the wrapper for Rust."""
+
+    def __init__(self):
+        self.files, self.package, self.rust = read(files(HEADER)), Package(PACKAGE), Wrapper(WRAPPER)
+        self.header, self.wrapper = [*header(self.files)], self.rust.parts()
+        self.version = re.search(r'^#define AMQP1_VERSION "(.*)"$', HEADER.with_suffix(".h").read_text(), re.M)[1]
+
+    def same(self, crates):
+        """What is the same thing in them, and in the crates on which the library for C stands."""
+        found = Same()
+        found.of_header(self.header, address_of)
+        found.of_package(self.package, address_of)
+        found.of_wrapper(self.wrapper, address_of)
+        found.of_crates(crates, dependencies(ROOT).get(HEADER.name, ()), address, lambda crate, it: [*variants(it), *methods(crate, it)])
+        return found.links()
+
+    def parts(self):
+        return self.header, self.package, self.wrapper
+
+    def unread(self):
+        """What is declared, and was passed over."""
+        return [*(f"{of.where}: {name} was not read" for of in self.files for name in unread(of)), *self.rust.unread()]
+
+    def man_pages(self):
+        return man_pages(self.header, self.version)
+
+
+OTHERS = """<h2>For C, Python and Rust</h2>
+<table><tr><td><a href="c.html"><code>amqp1.h</code></a></td><td>The functions, types and constants of <code>libamqp1</code>. Each function has a man page: see <code>man3</code>.</td></tr>
+<tr><td><a href="python.html"><code>amqp_engine</code></a></td><td>The package for Python.</td></tr>
+<tr><td><a href="rust.html"><code>amqp_engine.rs</code></a></td><td>The wrapper for Rust.</td></tr></table>"""
+
+
+def index(names, bindings):
+    """The crates, the other languages, and a box that finds what all of them have, and definitions."""
+    found, made = [*names_to_search(*bindings.parts())], ["<h1>API reference</h1>"]
     for name, crate in names.crates.items():
         for item in crate.public.values():
             found.append(["::".join(item.path), item.kind, name, address(name, item), item.first_sentence()])
@@ -304,15 +315,15 @@ def index(names, header):
     for name, crate in names.crates.items():
         doc = crate.files[()].doc[0]
         made.append(f'<tr><td><a href="{name}.html"><code>{name}</code></a></td><td>{escape(doc)} <a class="quiet" href="{name}.specs.html">definitions</a></td></tr>')
-    made.append("</table>\n<h2>For C</h2>\n<p><a href=\"c.html\"><code>amqp1.h</code></a>: the functions, types and constants of <code>libamqp1</code>.</p>")
-    made.append("<p>A user of connections names <code>fe2o3_amqp</code> alone; each name that it hands on leads to the crate that has it.</p>")
+    made.append("</table>\n<p>A user of connections names <code>fe2o3_amqp</code> alone; each name that it hands on leads to the crate that has it.</p>")
+    made.append(OTHERS)
     return page("API reference", [("index.html", "API")], "\n".join(made)), len(found)
 
 
 def dead(pages):
     """The links that lead to no page, or to no place on it; and the places that two texts have."""
     ids = {name: re.findall(r'\bid="([^"]*)"', text) for name, text in pages.items()}
-    found = [f"{name}: {place} twice" for name, all_ids in ids.items() for place in all_ids if all_ids.count(place) > 1]
+    found = [f"{name}: {place} twice" for name, all_ids in ids.items() for place, count in Counter(all_ids).items() if count > 1]
     for name, text in pages.items():
         for href in set(map(unescape, re.findall(r'<a [^>]*?href="([^"]*)"', text))):
             to, _, place = href.partition("#")
@@ -322,43 +333,51 @@ def dead(pages):
 
 
 def made():
-    """The crates, the pages by the names of their files, and how many names can be searched."""
-    names, pages, header = Names(libraries(ROOT)), {}, entries(HEADER)
+    """The crates, the other languages, the pages by the names of their files, and how many names can be searched."""
+    names, bindings, texts = Names(libraries(ROOT)), Bindings(), {}
+    names.same = bindings.same(names.crates)
     for name, crate in names.crates.items():
-        pages[f"{name}.html"] = CratePage(names, crate).html()
-        pages[f"{name}.specs.html"] = specs_page(names, crate)
-    pages["c.html"] = header_page(header)
-    pages["index.html"], count = index(names, header)
-    return names.crates, pages, count
+        texts[f"{name}.html"] = CratePage(names, crate).html()
+        texts[f"{name}.specs.html"] = specs_page(names, crate)
+    texts |= pages(*bindings.parts(), names.same)
+    texts["index.html"], count = index(names, bindings)
+    return names.crates, bindings, texts, count
 
 
 def check():
-    crates, pages, _ = made()
-    unread = [f"{name}::{'::'.join(file.module)}: not each clause was read" for name, it in crates.items() for file in it.unread()]
-    lost = dead(pages)
-    print("".join(f"{it}\n" for it in [*unread, *lost]), end="")
-    tests, failed = sum(len(it.files) for it in crates.values()) + len(pages), len(unread) + len({it.split(":")[0] for it in lost})
-    print(f"{tests - failed} passed, {failed} failed")
-    sys.exit(bool(failed))
+    crates, bindings, texts, _ = made()
+    left = [f"{name}::{'::'.join(file.module)}: not each clause was read" for name, it in crates.items() for file in it.unread()]
+    lost = dead(texts)
+    print("".join(f"{it}\n" for it in [*left, *lost]), end="")
+    tests, failed = sum(len(it.files) for it in crates.values()) + len(texts), len(left) + len({it.split(":")[0] for it in lost})
+    more, wrong = check_bindings(bindings)
+    print(f"{tests - failed + more - wrong} passed, {failed + wrong} failed")
+    sys.exit(bool(failed + wrong))
+
+
+def written(folder, texts):
+    folder.mkdir(parents=True, exist_ok=True)
+    for name, text in texts.items():
+        (folder / name).write_text(text, encoding="utf-8")
 
 
 def main():
     if sys.argv[1:] == ["--check"]:
         check()
+    if len(sys.argv) == 3 and sys.argv[1] == "--man":
+        manual = Bindings().man_pages()
+        written(Path(sys.argv[2], "man3"), manual)
+        print(f"{Path(sys.argv[2], 'man3')}: {len(manual)} pages")
+        return
     if len(sys.argv) != 2 or sys.argv[1].startswith("-"):
         sys.exit(__doc__.strip())
-    _, pages, count = made()
+    _, bindings, texts, count = made()
     out = Path(sys.argv[1])
-    out.mkdir(parents=True, exist_ok=True)
-    for name, text in pages.items():
-        out.joinpath(name).write_text(text)
-    version = re.search(r'^#define AMQP1_VERSION "(.*)"$', HEADER.with_suffix(".h").read_text(), re.M)
-    (out / "man3").mkdir(exist_ok=True)
-    for name, text in man_pages(entries(HEADER), version[1]).items():
-        out.joinpath("man3", name).write_text(text)
-    lost = dead(pages)
+    written(out, texts)
+    written(out / "man3", bindings.man_pages())
+    lost = dead(texts)
     print("".join(f"{it}\n" for it in lost), end="")
-    print(f"{out / 'index.html'}: {len(pages)} pages, {count} names, {len(lost)} links that lead nowhere")
+    print(f"{out / 'index.html'}: {len(texts)} pages, {count} names, {len(lost)} links that lead nowhere")
     sys.exit(bool(lost))
 
 

@@ -1,5 +1,5 @@
 #!/usr/bin/env python3
-"""Makes the pictures of pages that docs/USING.md shows, from captures, with Chromium without a window.
+"""Makes the pictures of pages that docs/USING.md and README show, from captures, with Chromium without a window.
 
     tools/gate/pictures.py [CHROMIUM]
 

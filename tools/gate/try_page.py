@@ -4,8 +4,8 @@
     tools/gate/try_page.py [CHROMIUM]
 
 Of a page is read: whether its data can be read as JSON, what of each recording in captures is refused in it, whether text of a frame can be taken for markup, and
-whether it has a password. Then it is opened in Chromium, without a window: CHROMIUM, or what stands on the path under one of its names. Where there is
-none, a line says how many tests are left out. The last line is 'N passed, M failed'.
+whether it has a password. Then it is opened in Chromium, without a window: CHROMIUM, or what stands on the path under one of its names; what a screen
+reader is given of it is read there too. Where there is none, a line says how many tests are left out. The last line is 'N passed, M failed'.
 """
 
 import asyncio
@@ -41,6 +41,7 @@ from gate.made_pages import HOSTILE, PASSWORD, SYMBOL, followed_lines, generated
 from gate.pictures import MOST_BYTES, SHOWN
 from gate.refused_of_captures import wanted
 from gate.sections_of_pages import opened_in, try_sections
+from gate.spoken_pages import try_spoken
 from gate.stub import with_stub
 from page.make import MEANINGS, Page, of_recording
 from shared.command import command
@@ -335,7 +336,7 @@ def many_in(browser, big):
     check("its breaches", len(drawn(browser.opened("its breaches", big, "#refused"))) == MANY // 9999)
 
 
-LEFT_OUT = 84
+LEFT_OUT = 107
 
 
 def main():
@@ -356,6 +357,7 @@ def main():
             browsed(browser, big, cut)
             try_curves(browser, check)
             opened_in(browser, check)
+            try_spoken(browser, check)
             check("the number of these tests", len(FAILED) - before == LEFT_OUT, len(FAILED) - before)
         else:
             print(f"chromium is not here, or does not run: {LEFT_OUT} checks left out")

@@ -73,7 +73,7 @@ function paint(it) {
   svg.replaceChildren(shape("path", { class: "axis", d: "M0 " + FOOT + "H" + WIDE }), ...texts, ...lines, shape("g", { class: "mark" }));
   svg.setAttribute("aria-label", it.title + ". Left and Right go from point to point.");
   const keys = it.curves.map((of, turn) => keyOf(of, it.ends[turn], turn));
-  figure.querySelector("figcaption").replaceChildren(make("strong", "", it.title), ...(keys.length ? keys : [make("span", "", "nothing to draw")]));
+  figure.querySelector("figcaption").replaceChildren(Object.assign(make("strong", "", it.title), { id: it.id + "-name" }), ...(keys.length ? keys : [make("span", "", "nothing to draw")]));
 }
 
 /** What the curve is, and what it comes to, as text. */
@@ -214,6 +214,7 @@ function onChartKey(event) {
 /** Shows the curves, or puts them away. */
 function turnCurves() {
   at("curves").open = !at("curves").open;
+  say(at("curves").open ? "Curves are shown." : "Curves are put away.");
 }
 
 function onCurves() {

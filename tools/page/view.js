@@ -74,7 +74,7 @@ function timeOf(row) {
 function whereOf(row) {
   const cell = make("td", "where");
   if (row[SESSION]) cell.append(make("b", "", "session " + row[SESSION]), " ");
-  if (row[CHANNEL] >= 0) cell.append("ch " + row[CHANNEL]);
+  if (row[CHANNEL] >= 0) cell.append(...spelled("ch " + row[CHANNEL], "channel " + row[CHANNEL]));
   return cell;
 }
 
@@ -86,8 +86,18 @@ function drawingOf(row) {
 }
 
 function foundOf(row) {
-  const words = row[FOUND].map((it) => (it[BREACH] ? "✗ " : "• ") + it[NAME]);
-  return make("td", "found", words.join(", "));
+  const cell = make("td", "found");
+  row[FOUND].forEach((it, turn) => {
+    cell.append(turn ? ", " : "", ...spelled(it[BREACH] ? "✗ " : "• ", it[BREACH] ? "refused: " : "told: "), it[NAME]);
+  });
+  return cell;
+}
+
+/** A short text for the eye, and a plain one for a screen reader. */
+function spelled(short, plain) {
+  const seen = make("span", "", short);
+  seen.setAttribute("aria-hidden", "true");
+  return [seen, make("span", "unseen", plain)];
 }
 
 // ---- the panel
@@ -95,9 +105,13 @@ function foundOf(row) {
 function fill() {
   if (state.chosen < 0) return;
   const row = rows[state.chosen];
-  const title = row[NUMBER] ? "Frame " + row[NUMBER] + ": " + row[KIND] : row[KIND];
-  panel.replaceChildren(make("h2", "", title), ...row[FOUND].map(verdictOf), placeTable(row), ...fieldParts(row), ...payloadParts(row));
+  panel.setAttribute("aria-label", "The chosen frame. " + titleOf(row));
+  panel.replaceChildren(make("h2", "", titleOf(row)), ...row[FOUND].map(verdictOf), placeTable(row), ...fieldParts(row), ...payloadParts(row));
   panel.scrollTop = 0;
+}
+
+function titleOf(row) {
+  return row[NUMBER] ? "Frame " + row[NUMBER] + ": " + row[KIND] : row[KIND];
 }
 
 function verdictOf(found) {
@@ -109,8 +123,9 @@ function verdictOf(found) {
   return made;
 }
 
-function pairs(list) {
+function pairs(list, name) {
   const made = make("table"), inside = make("tbody");
+  made.setAttribute("aria-label", name);
   for (const [name, text] of list) {
     const row = make("tr"), head = make("th", "", name);
     head.scope = "row";
@@ -127,12 +142,12 @@ function placeTable(row) {
   if (row[CHANNEL] >= 0) list.push(["channel", row[CHANNEL]]);
   if (row[SESSION]) list.push(["session", row[SESSION] + " of this page"]);
   if (row[SIZE]) list.push(["size", row[SIZE].toLocaleString("en") + " bytes"]);
-  return pairs(list);
+  return pairs(list, "Where it stands");
 }
 
 function fieldParts(row) {
   const fields = fieldsOf(row);
-  return [make("h3", "", "Fields"), fields.length ? pairs(fields) : make("p", "", "none")];
+  return [make("h3", "", "Fields"), fields.length ? pairs(fields, "Fields") : make("p", "", "none")];
 }
 
 function payloadParts(row) {
@@ -146,7 +161,7 @@ function payloadParts(row) {
 /** A section of a message: its fields or entries, and the first bytes of data. */
 function sectionParts(it) {
   const list = pairsIn(it[PAIRS]);
-  return [make("h3", "", "Message: " + it[TITLE]), ...(list.length ? [pairs(list)] : []), ...(it[DATA] ? [make("pre", "", dump(it[DATA]))] : [])];
+  return [make("h3", "", "Message: " + it[TITLE]), ...(list.length ? [pairs(list, "Message: " + it[TITLE])] : []), ...(it[DATA] ? [make("pre", "", dump(it[DATA]))] : [])];
 }
 
 function dump(hex) {
@@ -173,6 +188,25 @@ function choose(index, comes = true) {
   table.setAttribute("aria-activedescendant", "row-" + index);
   keepHash();
   mark();
+  tellOf(index);
+}
+
+/** Has a screen reader say which frame is chosen, where the focus is on nothing that says so itself: the table has its row, a chart its text. */
+function tellOf(index) {
+  if (document.activeElement.closest("#table, #charts svg")) return say("");
+  const row = rows[index], found = row[FOUND].map((it) => ", " + (it[BREACH] ? "refused: " : "told: ") + it[NAME]);
+  say(titleOf(row) + ", " + WAYS[row[SIDE]] + (row[CHANNEL] >= 0 ? ", channel " + row[CHANNEL] : "") + found.join(""));
+}
+
+function say(text) {
+  if (document.documentElement.dataset.ready) at("said").textContent = text;
+}
+
+/** Chooses the next breach after the chosen row, or before it, and says so where there is none. */
+function toBreach(step) {
+  const found = nextBreach(step);
+  if (found < 0) say("No frame that is shown was refused.");
+  choose(found);
 }
 
 /** Scrolls so far that the row is in view. */
@@ -235,7 +269,7 @@ function onKey(event) {
   const acts = {
     ArrowDown: () => move(1), j: () => move(1), ArrowUp: () => move(-1), k: () => move(-1),
     PageDown: () => move(page), PageUp: () => move(-page), Home: () => move(-rows.length), End: () => move(rows.length),
-    n: () => choose(nextBreach(1)), N: () => choose(nextBreach(-1)), "/": () => at("search").focus(),
+    n: () => toBreach(1), N: () => toBreach(-1), "/": () => at("search").focus(),
     c: turnCurves,
   };
   if (event.target === table) acts.Enter = () => panel.focus();
@@ -289,7 +323,7 @@ function begin() {
     waits = setTimeout(filtered, 150);
   });
   for (const id of ["side", "channel", "kind", "refused"]) at(id).addEventListener("change", filtered);
-  at("next").addEventListener("click", () => choose(nextBreach(1)));
+  at("next").addEventListener("click", () => toBreach(1));
   at("clear").addEventListener("click", () => { clearFilters(); refresh(); keepHash(); });
   scroller.addEventListener("scroll", drawSoon, { passive: true });
   body.addEventListener("click", onClick);

@@ -24,7 +24,7 @@ code { font-size: 0.82em; }
 pre { margin: 0.5rem 0; padding: 0.55rem 0.8rem; overflow-x: auto; background: #f3f2ec; border-radius: 3px; }
 pre.contract { background: #eef3f9; border-left: 3px solid #7b9cc7; white-space: pre-wrap; overflow-wrap: anywhere; }
 pre.contract span { display: block; padding-left: 2.4em; text-indent: -2.4em; }
-pre.definition { white-space: pre-wrap; overflow-wrap: anywhere; }
+pre.definition, pre.declared { white-space: pre-wrap; overflow-wrap: anywhere; }
 pre b { font-weight: normal; color: #7a3b12; }
 pre i { font-style: normal; color: #6a6960; }
 .method { margin-left: 1.2rem; }
@@ -43,8 +43,8 @@ SEARCH = """
 const box = document.getElementById("search"), list = document.getElementById("found"), count = document.getElementById("count");
 const rank = (item, words) => {
   const name = item[0].toLowerCase();
-  if (!words.every(word => (name + " " + item[1] + " " + item[4].toLowerCase()).includes(word))) return 99;
-  const last = name.split(/::|\\./).pop();
+  if (!words.every(word => (name + " " + item[1] + " " + (item[2] + " " + item[4]).toLowerCase()).includes(word))) return 99;
+  const last = name.split(/::|\\.|^amqp1_/).pop();
   const place = last === words[0] ? 0 : last.startsWith(words[0]) ? 1 : words.every(word => name.includes(word)) ? 2 : 3;
   return 2 * place + (item[1] === "definition");
 };
@@ -81,7 +81,7 @@ def search(items):
     data = json.dumps(items, ensure_ascii=False, separators=(",", ":")).replace("<", "\\u003c")
     return (
         '<p><input type="search" id="search" placeholder="Search names and first sentences" aria-label="Search" autofocus></p>\n'
-        f'<p class="quiet" id="count" aria-live="polite"></p>\n<ul id="found"></ul>\n<script>const ITEMS = {data};{SEARCH}</script>'
+        f'<p class="quiet" id="count" aria-live="polite"></p>\n<ul id="found"></ul>\n<noscript><p>The box needs a script, which is off here. Each page begins with the names on it.</p></noscript>\n<script>const ITEMS = {data};{SEARCH}</script>'
     )
 
 
@@ -96,20 +96,20 @@ def linked(text, pattern, href):
     return "".join([*made, escape(text[at:])])
 
 
-def prose(lines, href):
-    """A doc's lines: paragraphs, lists, tables and code, as Markdown has them."""
-    made, fence = [], None
+def prose(lines, href, plain=escape):
+    """A doc's lines: paragraphs, lists, tables and code, as Markdown has them. `plain` makes HTML of what is not code."""
+    made = []
     for block in blocks(lines):
         if block[0].startswith("```"):
             made.append(f"<pre>{escape(chr(10).join(block[1:]))}</pre>")
         elif re.match(r"[-*] ", block[0]):
             items = re.split(r"(?:^|\n)[-*] ", "\n".join(block))[1:]
-            made.append("<ul>" + "".join(f"<li>{inline(' '.join(it.split()), href)}</li>" for it in items) + "</ul>")
+            made.append("<ul>" + "".join(f"<li>{inline(' '.join(it.split()), href, plain)}</li>" for it in items) + "</ul>")
         elif block[0].startswith("|"):
             rows = [re.split(r"(?<!\\)\|", row.strip().strip("|")) for row in block if not re.fullmatch(r"[|\s:-]+", row)]
-            made.append("<table>" + "".join("<tr>" + "".join(f"<td>{inline(it.strip(), href)}</td>" for it in row) + "</tr>" for row in rows) + "</table>")
+            made.append("<table>" + "".join("<tr>" + "".join(f"<td>{inline(it.strip(), href, plain)}</td>" for it in row) + "</tr>" for row in rows) + "</table>")
         else:
-            made.append(f"<p>{inline(' '.join(block), href)}</p>")
+            made.append(f"<p>{inline(' '.join(block), href, plain)}</p>")
     return "\n".join(made)
 
 
@@ -139,12 +139,12 @@ def blocks(lines):
         yield block
 
 
-def inline(text, href):
+def inline(text, href, plain=escape):
     """A paragraph: code between backquotes, a link to what it names where there is one."""
     made = []
     for at, part in enumerate(re.split(r"\[?`([^`]+)`(?:\](?:\([^)]*\))?)?", text)):
         if at % 2 == 0:
-            made.append(re.sub(r"\*\*([^*]+)\*\*", r"<strong>\1</strong>", escape(part)))
+            made.append(re.sub(r"\*\*([^*]+)\*\*", r"<strong>\1</strong>", plain(part)))
             continue
         address = href(part)
         code = f"<code>{escape(part)}</code>"

@@ -80,6 +80,11 @@ class File:
             at = self.end_of(at) if self.code[at] in CLOSES else at + 1
         return at
 
+    def passed(self, at):
+        """After what is no item: up to its semicolon, or over its block."""
+        stop = self.until(at, "{;}")
+        return self.end_of(stop) if self.code[stop : stop + 1] == "{" else stop + 1
+
     def lead(self, at, end):
         """The doc and the attributes at `at`, and where they end."""
         doc, attributes = [], []
@@ -107,7 +112,7 @@ class File:
                 return items
             found = PREFIX.match(self.code, at)
             if not found:
-                at = min(self.until(at, ";}") + 1, end)
+                at = min(self.passed(at), end)
                 continue
             item, at = self.item(found, doc, at)
             if item:
@@ -121,6 +126,8 @@ class File:
         if kind == "fn":
             return self.function(name, is_public, doc, at)
         if kind in ("struct", "enum", "trait", "impl"):
+            return self.block(kind, name, is_public, doc, at)
+        if kind == "mod" and self.code[(stop := self.until(at, "{;")) : stop + 1] == "{":
             return self.block(kind, name, is_public, doc, at)
         end = self.until(at, ";") + 1
         if kind == "mod":
@@ -148,7 +155,7 @@ class File:
             item.text += ";"
             return item, stop + 1
         end = self.end_of(stop)
-        if kind in ("trait", "impl"):
+        if kind in ("trait", "impl", "mod"):
             item.inner = self.read(stop + 1, end - 1)
         else:
             item.inner = self.parts(stop + 1, end - 1)
