@@ -1,9 +1,9 @@
-/* AMQP 1.0's frame, connection and session layer for C: bytes and requests go in, records and bytes to send come out. It opens no socket and reads
-   no clock. The library is written in Rattle, and its exports are proved; what stands in these headers is C, and is tested alone.
+/* AMQP 1.0's connection for C, from its first byte to its last: protocol headers, SASL, frames, sessions, and the time. Bytes and requests go in,
+   records and bytes to send come out. It opens no socket and reads no clock. The library is written in Rattle, and its exports are proved; what stands in these headers is C, and is tested alone.
 
-   A program makes an engine with its Open (amqp1_start), asks for what it wants (amqp1_open, amqp1_begin, amqp1_link, amqp1_attach ..), hands over
-   the bytes that come after the protocol headers (amqp1_take), reads a record of each frame, sends deliveries (amqp1_send; amqp1_cut where one is
-   longer than a frame), and writes the bytes that wait (amqp1_output) to its socket.
+   A program makes an engine with its Open (amqp1_start, amqp1_start_client, amqp1_start_server), asks for what it wants (amqp1_open, amqp1_begin,
+   amqp1_link, amqp1_attach ..), hands over the bytes that come (amqp1_take), reads a record of each header, SASL frame and frame, sends deliveries
+   (amqp1_send; amqp1_cut where one is longer than a frame), writes the bytes that wait (amqp1_output) to its socket, and tells the time (amqp1_tick).
 
        amqp1 engine = AMQP1_EMPTY;
        amqp1_record records[64];
@@ -11,10 +11,11 @@
        uint8_t open[256], out[4096];
        size_t length, waits;
        if (amqp1_write_open(open, sizeof open, &length, "me", NULL, 65536, 255, 0) != AMQP1_DONE) ..
-       if (amqp1_start(&engine, key, open, length) != AMQP1_DONE) ..          -- 16 bytes from a source of randomness
+       if (amqp1_start_client(&engine, key, now, 20000, "host", "me", "secret", open, length) != AMQP1_DONE) ..   -- 16 bytes of randomness
        amqp1_open(&engine);
        while (amqp1_output(&engine, out, sizeof out, &waits) == AMQP1_DONE && waits) ..write the bytes to the socket..
-       amqp1_take(&engine, in, in_length, records, 64, &took);               -- what came, of which took.taken bytes were taken
+       amqp1_take(&engine, now, in, in_length, records, 64, &took);          -- what came, of which took.taken bytes were taken; AMQP1_AGAIN: again
+       amqp1_tick(&engine, now, &ticked);                                    -- the next one by ticked.next at the latest
        amqp1_free(&engine);
 
    The folder amqp1/ has records and heads, the exports, the calls that are made of them, writers of performatives, and readers of fields. Numbers in

@@ -25,6 +25,22 @@ struct Place {
 }
 
 #[repr(C)]
+struct How {
+    key: [u8; 16],
+    time: u64,
+    limit: u32,
+    side: u32,
+    host: u32,
+    reserved: u32,
+}
+
+#[repr(C)]
+struct LoginHead {
+    mechanism: u32,
+    response: u32,
+}
+
+#[repr(C)]
 #[derive(Default)]
 struct Took {
     taken: usize,
@@ -40,7 +56,16 @@ struct Went {
 }
 
 unsafe extern "C" {
-    fn amqp1_new(place: *mut Place, input: *const u8, input_length: usize) -> i32;
+    fn amqp1_new(
+        place: *mut Place,
+        how: *const How,
+        open: *const u8,
+        open_length: usize,
+        logins: *const LoginHead,
+        logins_length: usize,
+        bytes: *const u8,
+        bytes_length: usize,
+    ) -> i32;
     fn amqp1_call(
         place: *mut Place,
         operation: u32,
@@ -52,6 +77,7 @@ unsafe extern "C" {
     ) -> i32;
     fn amqp1_take(
         place: *mut Place,
+        now: u64,
         input: *const u8,
         input_length: usize,
         records: *mut Record,
@@ -123,14 +149,18 @@ impl std::error::Error for Error {}
 /// The end of a link on which a side stands.
 #[derive(Clone, Copy, Debug, PartialEq, Eq)]
 pub enum Role {
+    /// The end from which transfers go out.
     Sender = 0,
+    /// The end to which they come.
     Receiver = 1,
 }
 
 /// How the receiving end of a link settles.
 #[derive(Clone, Copy, Debug, PartialEq, Eq)]
 pub enum ReceiverSettleMode {
+    /// As deliveries come.
     First = 0,
+    /// Once the sender has settled: such deliveries are recorded until they are.
     Second = 1,
 }
 
@@ -151,14 +181,27 @@ impl Drop for Engine {
 impl Engine {
     /// An engine with PERF of this side's Open. The key is of the engine's maps: the peer should not be able to guess it. One of zeros is `BadArgument`.
     pub fn new(key: [u8; 16], open: &[u8]) -> Result<Engine, Error> {
-        let input = [&key[..], open].concat();
+        let how = How { key, time: 0, limit: NONE, side: 0, host: NONE, reserved: 0 };
+        let logins: [LoginHead; 0] = [];
         let mut engine = Engine { place: Place { full: 0, at: std::ptr::null_mut() } };
-        match unsafe { amqp1_new(&mut engine.place, input.as_ptr(), input.len()) } {
-            0 => Ok(engine),
+        let status = unsafe {
+            amqp1_new(&mut engine.place, &how, open.as_ptr(), open.len(), logins.as_ptr(), 0, [0; 0].as_ptr(), 0)
+        };
+        match status {
+            0 => engine.pass_headers(),
             2 => Err(Error::NoMemory),
             4 => Err(Error::BadArgument),
             status => Err(Error::Unknown(status)),
         }
+    }
+
+    /// This engine begins behind the protocol headers, which its caller exchanges: the library's stream is given the peer's, and its own is taken off.
+    fn pass_headers(mut self) -> Result<Engine, Error> {
+        let mut header = [0; 8];
+        let (status, _) = self.call(Operation::Output, &[], &mut header);
+        self.outcome(status)?;
+        self.take(&header, &mut [Record::default()])?;
+        Ok(self)
     }
 
     fn call(&mut self, operation: Operation, input: &[u8], output: &mut [u8]) -> (i32, usize) {
@@ -222,12 +265,12 @@ impl Engine {
         Ok((!said.is_empty()).then_some(number))
     }
 
-    /// Takes whole frames out of these bytes, runs each once, and writes a record of each. How many bytes were taken, how many records written, and why
-    /// it stopped. Give what was not taken again, with what came since.
+    /// Takes whole frames out of these bytes, up to one that is to be answered first, runs each once, and writes a record of each. How many bytes were
+    /// taken, how many records written, and why it stopped. Give what was not taken again, with what came since.
     pub fn take(&mut self, bytes: &[u8], records: &mut [Record]) -> Result<(usize, usize, Stop), Error> {
         let mut took = Took::default();
         let (given, places) = (bytes.as_ptr(), records.as_mut_ptr());
-        let status = unsafe { amqp1_take(&mut self.place, given, bytes.len(), places, records.len(), &mut took) };
+        let status = unsafe { amqp1_take(&mut self.place, 0, given, bytes.len(), places, records.len(), &mut took) };
         Ok((took.taken, took.written, stop(status, took.wanted)?))
     }
 
@@ -291,6 +334,7 @@ impl Engine {
         self.ask(Operation::Begin, &[&session.to_be_bytes(), begin])
     }
 
+    /// The session ends, or the peer's End is answered. Of the error the same holds as in [`Engine::close`].
     pub fn end(&mut self, session: u32, error: Option<&[u8]>) -> Result<(), Error> {
         self.ask(Operation::End, &[&session.to_be_bytes(), &[error.is_some() as u8], error.unwrap_or_default()])
     }
@@ -318,6 +362,7 @@ impl Engine {
         Ok(self.number(Operation::LinkOn, &input)?.unwrap_or_default() as u32)
     }
 
+    /// PERF of an Attach, whose handle is the output handle of the link.
     pub fn attach(&mut self, session: u32, attach: &[u8]) -> Result<(), Error> {
         self.ask(Operation::Attach, &[&session.to_be_bytes(), attach])
     }
@@ -339,6 +384,7 @@ impl Engine {
         self.ask(Operation::Transfer, &[&session.to_be_bytes(), &[first as u8], &length, transfer, payload])
     }
 
+    /// PERF of a Disposition of the session's deliveries.
     pub fn disposition(&mut self, session: u32, disposition: &[u8]) -> Result<(), Error> {
         self.ask(Operation::Disposition, &[&session.to_be_bytes(), disposition])
     }

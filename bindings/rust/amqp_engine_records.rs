@@ -13,6 +13,7 @@ pub struct Record {
     pub outcome: u8,
     /// Those of [`flag`].
     pub flags: u16,
+    /// The session that the frame reached.
     pub session: u32,
     /// This side's handle of the link.
     pub output: u32,
@@ -20,11 +21,15 @@ pub struct Record {
     pub input: u32,
     /// The number of the delivery; of a disposition the first one.
     pub first: u32,
+    /// The number of the delivery; of a disposition the last one.
     pub last: u32,
+    /// The format of the message.
     pub format: u32,
     /// The delivery count of a flow, the initial one of an attach.
     pub count: u32,
+    /// The credit of a flow.
     pub credit: u32,
+    /// How many messages the sender of a flow has ready.
     pub available: u32,
     /// Why the frame was refused, by its number ([`Engine::refusal_text`]). 0 where it was not.
     pub refusal: u32,
@@ -32,6 +37,7 @@ pub struct Record {
     size: u32,
     payload_at: u32,
     payload: u32,
+    /// The channel of the frame.
     pub channel: u16,
     tag_size: u16,
     tag: [u8; 32],
@@ -69,39 +75,65 @@ pub const NONE: u32 = u32::MAX;
 
 /// What a record is of.
 pub mod kind {
+    /// An Open.
     pub const OPENED: u8 = 1;
+    /// The Begin that answers one of this side's.
     pub const BEGUN: u8 = 2;
+    /// An Attach.
     pub const ATTACHED: u8 = 3;
     /// No link of this side waits for an attach of this name.
     pub const ATTACH_WANTED: u8 = 4;
+    /// A Flow.
     pub const FLOW: u8 = 5;
+    /// A Transfer.
     pub const TRANSFER: u8 = 6;
+    /// A Disposition.
     pub const DISPOSITION: u8 = 7;
+    /// A Detach.
     pub const DETACHED: u8 = 8;
+    /// An End.
     pub const ENDED: u8 = 9;
+    /// A Close.
     pub const CLOSED: u8 = 10;
+    /// A frame that was refused, or bytes that are none: `refusal` says why.
     pub const REFUSED: u8 = 11;
+    /// A Begin that answers none: it was refused, and `refusal` says why.
+    pub const BEGIN_WANTED: u8 = 12;
 }
 
 /// What a frame says besides, and what a transfer is to say.
 pub mod flag {
     /// A transfer is the first of its delivery.
     pub const NUMBERED: u16 = 1;
+    /// A transfer or a disposition is settled.
     pub const SETTLED: u16 = 2;
+    /// More transfers of the delivery follow.
     pub const MORE: u16 = 4;
+    /// The delivery is aborted.
     pub const ABORTED: u16 = 8;
     /// The role of the peer is that of the receiver.
     pub const RECEIVER: u16 = 16;
+    /// A transfer or a disposition has a state: `outcome` says which.
     pub const STATED: u16 = 32;
+    /// A flow asks that the credit be used up.
     pub const DRAIN: u16 = 64;
+    /// A flow asks for a flow in answer.
     pub const ECHO: u16 = 128;
+    /// A detach, an End or a Close names an error.
     pub const WITH_ERROR: u16 = 256;
+    /// A detach closes the link for good.
     pub const FOR_GOOD: u16 = 512;
+    /// A flow gives a credit, in `credit`.
     pub const CREDITED: u16 = 1024;
+    /// A flow gives the delivery count, and an attach its initial one, in `count`.
     pub const COUNTED: u16 = 2048;
+    /// The frame names a link: by the handle in `input`.
     pub const LINKED: u16 = 4096;
+    /// A transfer gives the format of its message, in `format`.
     pub const FORMATTED: u16 = 8192;
+    /// A transfer gives the tag of its delivery.
     pub const TAGGED: u16 = 16384;
+    /// A flow says how many messages are ready, in `available`.
     pub const AVAILABLE: u16 = 32768;
 }
 
@@ -109,6 +141,7 @@ pub mod flag {
 #[derive(Clone, Copy, Debug, Default, PartialEq, Eq)]
 #[repr(C)]
 pub struct TransferHead {
+    /// The session.
     pub session: u32,
     /// This side's handle of the link, as `link` or `link_on` gave it: `output` in records.
     pub link: u32,
@@ -126,7 +159,9 @@ pub struct TransferHead {
 #[derive(Clone, Copy, Debug, Default, PartialEq, Eq)]
 #[repr(C)]
 pub struct Sent {
+    /// The number of the delivery, also while the session holds it back; 0 of a later transfer, and of a refused one.
     pub number: u32,
+    /// Why it was refused, by its number ([`Engine::refusal_text`](super::Engine::refusal_text)); 0 where it was accepted.
     pub refusal: u32,
 }
 
@@ -152,12 +187,16 @@ pub enum Stop {
     Done { wanted: usize },
     /// There is no room for what is to be said of the next one.
     Full,
-    /// A size stands there that no frame may have: the connection is to be closed, for `amqp:connection:framing-error`.
+    /// A size stands there that no frame may have: a Close waits to be sent, for `amqp:connection:framing-error`, and the connection is over.
     BadSize,
     /// The bytes end before those of the next transfer do.
     Short,
     /// Memory was refused: what is left may be given again.
     NoMemory,
+    /// What was told last is to be answered: then what is left is given again.
+    Again,
+    /// The connection is over: nothing is taken any more.
+    Over,
 }
 
 /// The reason of this status.
@@ -168,6 +207,8 @@ pub(super) fn stop(status: i32, wanted: usize) -> Result<Stop, Error> {
         7 => Ok(Stop::Full),
         8 => Ok(Stop::BadSize),
         9 => Ok(Stop::Short),
+        10 => Ok(Stop::Again),
+        12 => Ok(Stop::Over),
         status => Err(Error::Unknown(status)),
     }
 }

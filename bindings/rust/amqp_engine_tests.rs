@@ -25,7 +25,8 @@ fn sent(engine: &mut Engine) -> Vec<u8> {
 fn hear(engine: &mut Engine, channel: u8, performative: &[u8]) -> (Record, Vec<u8>) {
     let (frame, mut records) = (framed(channel, performative), [Record::default(); 2]);
     let told = engine.take(&frame, &mut records).unwrap();
-    assert_eq!(told, (frame.len(), 1, Stop::Done { wanted: 4 }));
+    assert_eq!((told.0, told.1), (frame.len(), 1));
+    assert!(matches!(told.2, Stop::Done { wanted: 4 } | Stop::Over));
     (records[0], frame)
 }
 

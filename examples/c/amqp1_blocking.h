@@ -1,19 +1,22 @@
-/* An engine over a blocking socket, for amqp1_send.c: connecting, the protocol headers, SASL by ANONYMOUS (AMQP 1.0 part 2, section 2.2, and part 5,
-   section 5.3), bytes in and out, one session, and links. */
+/* An engine over a blocking socket, for amqp1_send.c: connecting, with SASL by ANONYMOUS, bytes in and out, the time, one session, and links. */
 #ifndef AMQP1_BLOCKING_H
 #define AMQP1_BLOCKING_H
 
 #include <amqp1.h>
 #include <netdb.h>
+#include <poll.h>
 #include <stdio.h>
 #include <sys/socket.h>
-#include <sys/time.h>
+#include <time.h>
 #include <unistd.h>
 
 enum { SESSION = 0 };
 
 static int the_socket = -1;
 static amqp1 engine;
+
+/* When the engine wants to be told the time. */
+static uint64_t next_tick;
 
 /* How many of the Open, the Begin and the Attaches of the peer have come; whether the peer has closed. */
 static uint32_t steps, closed;
@@ -38,7 +41,6 @@ static void must(const char *what, int32_t status)
 static void connect_to(const char *host, const char *port)
 {
     struct addrinfo hints, *found;
-    struct timeval patience = { 20, 0 };
     memset(&hints, 0, sizeof hints);
     hints.ai_socktype = SOCK_STREAM;
     if (getaddrinfo(host, port, &hints, &found))
@@ -46,7 +48,6 @@ static void connect_to(const char *host, const char *port)
     the_socket = socket(found->ai_family, found->ai_socktype, found->ai_protocol);
     if (the_socket < 0 || connect(the_socket, found->ai_addr, found->ai_addrlen))
         fail("nobody listens");
-    setsockopt(the_socket, SOL_SOCKET, SO_RCVTIMEO, &patience, sizeof patience);
     freeaddrinfo(found);
 }
 
@@ -66,67 +67,26 @@ static size_t read_some(uint8_t *to, size_t room)
 {
     ssize_t count = recv(the_socket, to, room, 0);
     if (count <= 0)
-        fail("the peer hung up, or is silent");
+        fail("the peer hung up");
     return (size_t)count;
 }
 
-static void read_all(uint8_t *to, size_t length)
+/* The time, in milliseconds. */
+static uint64_t now(void)
 {
-    while (length) {
-        size_t count = read_some(to, length);
-        to += count;
-        length -= count;
-    }
+    struct timespec it;
+    clock_gettime(CLOCK_MONOTONIC, &it);
+    return (uint64_t)it.tv_sec * 1000 + (uint64_t)it.tv_nsec / 1000000;
 }
 
-/* Both protocol headers: 3 for SASL, 0 for AMQP. */
-static void exchange_headers(uint8_t protocol)
-{
-    uint8_t mine[8] = { 'A', 'M', 'Q', 'P', 0, 1, 0, 0 }, theirs[8];
-    mine[4] = protocol;
-    write_all(mine, 8);
-    read_all(theirs, 8);
-    if (memcmp(mine, theirs, 8))
-        fail("the peer speaks another protocol");
-}
-
-/* A frame of SASL, after its header of 8 bytes. */
-static amqp1_bytes sasl_frame(uint8_t *room, size_t size)
-{
-    size_t length;
-    read_all(room, 4);
-    length = amqp1_u32_of(room);
-    if (length < 8 || length > size)
-        fail("a frame of SASL has a bad size");
-    read_all(room + 4, length - 4);
-    return amqp1_bytes_at(room + 8, length - 8);
-}
-
-/* The peer's mechanisms are passed over: where ANONYMOUS is none of them, it says so in its outcome. */
-static void login(void)
-{
-    uint8_t frame[512];
-    amqp1_text text = amqp1_text_at(frame, sizeof frame);
-    size_t list, length;
-    exchange_headers(3);
-    sasl_frame(frame, sizeof frame);
-    amqp1_put(&text, "\0\0\0\0\2\1\0\0", 8);
-    list = amqp1_begin_list(&text, 0x41, 1);
-    amqp1_put_symbol(&text, "ANONYMOUS");
-    amqp1_end_list(&text, list);
-    must("a frame of SASL", amqp1_written(&text, &length));
-    amqp1_u32_at(frame, (uint32_t)length);
-    write_all(frame, length);
-    if (amqp1_number_field(sasl_frame(frame, sizeof frame), 0, 99) != 0)
-        fail("the peer refused the login");
-    exchange_headers(0);
-}
-
-/* Sends what waits. */
+/* Tells the time, and sends what waits. */
 static void give(void)
 {
     uint8_t out[4096];
+    amqp1_ticked tick;
     size_t length;
+    must("a tick", amqp1_tick(&engine, now(), &tick));
+    next_tick = tick.next;
     do {
         must("output", amqp1_output(&engine, out, sizeof out, &length));
         write_all(out, length);
@@ -136,6 +96,10 @@ static void give(void)
 static void take_any(const amqp1_record *record, const uint8_t *input)
 {
     switch (record->kind) {
+    case AMQP1_KIND_SASL_HEADER:
+    case AMQP1_KIND_MECHANISM_CHOSEN:
+    case AMQP1_KIND_LOGGED_IN:
+    case AMQP1_KIND_AMQP_HEADER: break;
     case AMQP1_KIND_OPENED:
     case AMQP1_KIND_BEGUN:
     case AMQP1_KIND_ATTACHED: steps++; break;
@@ -147,6 +111,19 @@ static void take_any(const amqp1_record *record, const uint8_t *input)
     }
 }
 
+/* Whether something comes before the engine wants to be told the time. */
+static int comes(void)
+{
+    struct pollfd it = { -1, POLLIN, 0 };
+    uint64_t time = now(), most = 20000, left = next_tick > time ? next_tick - time : 0;
+    int count;
+    it.fd = the_socket;
+    count = poll(&it, 1, (int)(left < most ? left : most));
+    if (!count && left >= most)
+        fail("the peer is silent");
+    return count > 0;
+}
+
 /* Reads once, and takes what is whole; the rest stays for the next time. */
 static void hear(void)
 {
@@ -156,14 +133,17 @@ static void hear(void)
     amqp1_took took;
     size_t at = 0, n;
     int32_t status;
+    if (!comes())
+        return;
     length += read_some(in + length, sizeof in - length);
     do {
-        status = amqp1_take(&engine, in + at, length - at, records, 64, &took);
+        status = amqp1_take(&engine, now(), in + at, length - at, records, 64, &took);
         for (n = 0; n < took.written; n++)
             take_any(records + n, in + at);
         at += took.taken;
-    } while (status == AMQP1_FULL);
-    must("what came", status);
+    } while (status == AMQP1_FULL || status == AMQP1_AGAIN);
+    if (status != AMQP1_OVER || !closed)
+        must("what came", status);
     memmove(in, in + at, length -= at);
 }
 
@@ -182,7 +162,7 @@ static void meet(const char *name, const char *host)
         fail("no randomness");
     fclose(random);
     must("an open's text", amqp1_write_open(text, sizeof text, &length, name, host, 65536, 255, 0));
-    must("an engine", amqp1_start(&engine, key, text, length));
+    must("an engine", amqp1_start_client(&engine, key, now(), 20000, host, NULL, NULL, text, length));
     must("an open", amqp1_open(&engine));
     UNTIL(steps == 1);
     must("a begin's text", amqp1_write_begin(text, sizeof text, &length, 0, 2048, 2048, 255));

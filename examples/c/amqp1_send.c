@@ -53,7 +53,6 @@ int main(int words_count, char **words)
     if (words_count < 4)
         fail("usage: amqp1_send HOST PORT ADDRESS [COUNT]");
     connect_to(words[1], words[2]);
-    login();
     meet("amqp1_send", words[1]);
     output = attach("to", AMQP1_SENDER, words[3]);
     for (send_some(output, count); give(), settled < count; send_some(output, count))

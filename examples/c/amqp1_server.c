@@ -3,7 +3,7 @@
 
        amqp1_server PORT [CLIENTS]
 
-   It listens on the loopback, takes SASL by ANONYMOUS or none, and ends when so many clients have gone, if a number is given. Messages lie in
+   It listens on the loopback, lets each client in by SASL's ANONYMOUS, and ends when so many clients have gone, if a number is given. Messages lie in
    memory, without a bound, and go out settled: it shows how the library is called, and is no broker. Build it by `cc amqp1_server.c
    amqp1_server_io.c $(pkg-config --cflags --libs amqp1)`. */
 #include "amqp1_server.h"
@@ -232,21 +232,18 @@ void serve(struct peer *p)
 
 /* ---- what a client says */
 
-static void opened(struct peer *p, const amqp1_record *record, const uint8_t *input)
+/* A client asks to be let in: each is. */
+static void let_in(struct peer *p)
 {
-    p->idle = (uint32_t)amqp1_number_field(amqp1_performative(input, record), AMQP1_OPEN_IDLE_TIME_OUT, 0);
+    told(p, "a login", amqp1_login(&p->engine, AMQP1_LOGIN_OK));
 }
 
 /* A frame that was refused is answered as the standard says: by an End or a Close with the refusal's condition. */
-static void refused(struct peer *p, const amqp1_record *record, const uint8_t *input)
+static void refused(struct peer *p, const amqp1_record *record)
 {
     char text[128];
     size_t length = 0;
     char *condition, *answer;
-    if (record->refusal == AMQP1_WHY_BEGIN_WANTED) {
-        begin(p, record, input);
-        return;
-    }
     if (told(p, "a text", amqp1_refusal_text(&p->engine, record->refusal, (uint8_t *)text, sizeof text - 1, &length)))
         return;
     text[length] = 0;
@@ -288,7 +285,8 @@ void read_record(struct peer *p, const amqp1_record *record, const uint8_t *inpu
 {
     struct link *it = amqp1_has(record, AMQP1_FLAG_LINKED) ? link_of(p, record) : NULL;
     switch (record->kind) {
-    case AMQP1_KIND_OPENED: opened(p, record, input); break;
+    case AMQP1_KIND_LOGIN_ASKED: let_in(p); break;
+    case AMQP1_KIND_BEGIN_WANTED: begin(p, record, input); break;
     case AMQP1_KIND_ATTACH_WANTED: attach(p, record, input); break;
     case AMQP1_KIND_FLOW:
         if (it && !it->is_receiver)
@@ -301,7 +299,7 @@ void read_record(struct peer *p, const amqp1_record *record, const uint8_t *inpu
     case AMQP1_KIND_DETACHED: detached(p, record); break;
     case AMQP1_KIND_ENDED: ended(p, record->session); break;
     case AMQP1_KIND_CLOSED: close_with(p, NULL); break;
-    case AMQP1_KIND_REFUSED: refused(p, record, input); break;
+    case AMQP1_KIND_REFUSED: refused(p, record); break;
     default: break;
     }
 }

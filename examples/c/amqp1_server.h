@@ -29,14 +29,12 @@ struct link {
     struct message *partial;
 };
 
-/* A client: what it has said (a header, a SASL header, a SASL frame, then frames), bytes that came and were not taken, and bytes that go out. */
+/* A client: bytes that came and were not taken, and bytes that go out. */
 struct peer {
     struct peer *next;
     int fd, is_over;
-    enum { HEADER, MECHANISM, SECOND_HEADER, FRAMES } phase;
     amqp1 engine;
-    uint32_t next_session, idle;
-    uint64_t sent_at;
+    uint32_t next_session;
     struct link *links;
     uint8_t in[1 << 17];
     size_t in_length;

@@ -1,4 +1,4 @@
-/* The bytes of the server: epoll, protocol headers, SASL, frames, and the turn of a Begin. See amqp1_server.c. */
+/* The bytes of the server: epoll, the time, and the turn of a Begin. See amqp1_server.c. */
 #define _GNU_SOURCE
 #include "amqp1_server.h"
 #include <errno.h>
@@ -72,7 +72,7 @@ void begin(struct peer *p, const amqp1_record *record, const uint8_t *input)
     }
     put_out(p, turned, amqp1_turn_begin(turned, sizeof turned, amqp1_bytes_at(own, length), record->channel));
     length = amqp1_turn_begin(turned, sizeof turned, theirs, (uint16_t)(own[6] << 8 | own[7]));
-    if (!length || told(p, "a turned begin", amqp1_take(&p->engine, turned, length, &begun, 1, &took)) || begun.kind != AMQP1_KIND_BEGUN)
+    if (!length || told(p, "a turned begin", amqp1_take(&p->engine, now(), turned, length, &begun, 1, &took)) || begun.kind != AMQP1_KIND_BEGUN)
         close_with(p, "amqp:not-implemented");
 }
 
@@ -99,79 +99,16 @@ void close_with(struct peer *p, const char *condition)
     p->is_over = 1;
 }
 
-/* ---- before the frames */
-
-static void put_sasl(struct peer *p, unsigned descriptor, const char *mechanism)
-{
-    uint8_t frame[64];
-    amqp1_text text = amqp1_text_at(frame, sizeof frame);
-    size_t list, length;
-    amqp1_put(&text, "\0\0\0\0\2\1\0\0", 8);
-    list = amqp1_begin_list(&text, descriptor, 1);
-    if (mechanism)
-        amqp1_put_symbol(&text, mechanism);
-    else
-        amqp1_put_ubyte(&text, 0);
-    amqp1_end_list(&text, list);
-    if (told(p, "a frame of SASL", amqp1_written(&text, &length)))
-        return;
-    amqp1_u32_at(frame, (uint32_t)length);
-    put_out(p, frame, length);
-}
-
-static void start(struct peer *p)
-{
-    uint8_t key[16], text[64];
-    size_t length;
-    if (getrandom(key, sizeof key, 0) != sizeof key ||
-        told(p, "an open's text",
-             amqp1_write_open(text, sizeof text, &length, "amqp1_server", NULL, 65536, 255, 0)) ||
-        told(p, "an engine", amqp1_start(&p->engine, key, text, length)))
-        abort();
-    told(p, "an open", amqp1_open(&p->engine));
-    p->phase = FRAMES;
-}
-
-/* A header, or the frame by which a client names its mechanism. How many bytes were taken. */
-static size_t greet(struct peer *p, const uint8_t *in, size_t length)
-{
-    static const uint8_t sasl[8] = { 'A', 'M', 'Q', 'P', 3, 1, 0, 0 }, plain[8] = { 'A', 'M', 'Q', 'P', 0, 1, 0, 0 };
-    size_t size = p->phase == MECHANISM && length >= 4 ? amqp1_u32_of(in) : 8;
-    if (size < 8 || size > 512)
-        p->is_over = 1;
-    if (length < size || p->is_over)
-        return 0;
-    if (p->phase == MECHANISM) {
-        put_sasl(p, 0x44, NULL);
-        p->phase = SECOND_HEADER;
-    } else if (p->phase == HEADER && !memcmp(in, sasl, 8)) {
-        put_out(p, sasl, 8);
-        put_sasl(p, 0x40, "ANONYMOUS");
-        p->phase = MECHANISM;
-    } else {
-        put_out(p, plain, 8);
-        if (memcmp(in, plain, 8))
-            p->is_over = 1;
-        else
-            start(p);
-    }
-    return size;
-}
-
-/* ---- frames */
-
-/* Takes frames: up to and with a Begin or an Attach at once. How many bytes were taken. */
+/* Takes what came, up to what is to be answered. How many bytes were taken. */
 static size_t take(struct peer *p, const uint8_t *in, size_t length)
 {
     amqp1_record records[32];
     amqp1_took took = { 0, 0, 0 };
     size_t at;
-    int32_t status = amqp1_take(&p->engine, in, amqp1_up_to_wanted(in, length), records, 32, &took);
+    int32_t status = amqp1_take(&p->engine, now(), in, length, records, 32, &took);
     for (at = 0; at < took.written && !p->is_over; at++)
         read_record(p, records + at, in);
-    if (status == AMQP1_BAD_SIZE)
-        close_with(p, "amqp:connection:framing-error");
-    else if (status != AMQP1_FULL && told(p, "what came", status))
+    if (status != AMQP1_FULL && status != AMQP1_AGAIN && told(p, "what came", status))
         p->is_over = 1;
     collect(p);
     return took.taken;
@@ -187,8 +124,7 @@ static void hear(struct peer *p)
     }
     p->in_length += (size_t)count;
     do {
-        size_t length = p->in_length - at;
-        taken = p->phase == FRAMES ? take(p, p->in + at, length) : greet(p, p->in + at, length);
+        taken = take(p, p->in + at, p->in_length - at);
         at += taken;
     } while (taken && !p->is_over);
     p->in_length -= at;
@@ -200,30 +136,37 @@ static void hear(struct peer *p)
 static void accept_one(void)
 {
     struct epoll_event event = { EPOLLIN, { 0 } };
+    uint8_t key[16], text[64];
+    size_t length;
     int fd = accept4(listening, NULL, NULL, SOCK_NONBLOCK);
     struct peer *p = fd < 0 ? NULL : (struct peer *)calloc(1, sizeof *p);
     if (!p)
         return;
     p->fd = fd;
-    p->sent_at = now();
+    if (getrandom(key, sizeof key, 0) != sizeof key ||
+        told(p, "an open's text", amqp1_write_open(text, sizeof text, &length, "amqp1_server", NULL, 65536, 255, 0)) ||
+        told(p, "an engine", amqp1_start_server(&p->engine, key, now(), 20000, "ANONYMOUS", text, length)) ||
+        told(p, "an open", amqp1_open(&p->engine)))
+        abort();
     p->next = peers;
     peers = p;
     event.data.ptr = p;
     epoll_ctl(poll_fd, EPOLL_CTL_ADD, fd, &event);
 }
 
-/* Writes what goes out; and an empty frame where the client wants to hear something (section 2.4.5). */
+/* Tells the engine the time, and writes what goes out. */
 static void give(struct peer *p)
 {
     struct epoll_event event = { 0, { 0 } };
+    amqp1_ticked tick;
     ssize_t count;
-    if (p->idle && !p->is_over && now() - p->sent_at >= p->idle / 2)
-        put_out(p, "\0\0\0\x08\2\0\0\0", 8);
+    if (told(p, "a tick", amqp1_tick(&p->engine, now(), &tick)) || tick.due >= AMQP1_DUE_OPENING_LATE)
+        p->is_over = 1;
+    collect(p);
     count = p->out_length ? send(p->fd, p->out, p->out_length, MSG_NOSIGNAL) : 0;
     if (count < 0 && errno != EAGAIN)
         p->is_over = 2;
     if (count > 0) {
-        p->sent_at = now();
         p->out_length -= (size_t)count;
         memmove(p->out, p->out + count, p->out_length);
     }
@@ -289,10 +232,8 @@ int main(int count, char **words)
                 hear(p);
         }
         for (p = peers; p; p = p->next) {
-            if (p->phase == FRAMES && !p->is_over) {
+            if (!p->is_over)
                 serve(p);
-                collect(p);
-            }
             give(p);
         }
         left -= let_go();

@@ -59,7 +59,7 @@ AMQP1_FUNCTION int32_t amqp1_join_and_call(amqp1 *place, uint32_t operation, con
         memcpy(input + head_length, body, body_length);
     if (rest_length)
         memcpy(input + head_length + body_length, rest, rest_length);
-    status = operation ? amqp1_call(place, operation, input, length, room ? output : none, room, written) : amqp1_new(place, input, length);
+    status = amqp1_call(place, operation, input, length, room ? output : none, room, written);
     if (input != small)
         AMQP1_FREE_MEMORY(input);
     return status;
@@ -99,11 +99,103 @@ AMQP1_FUNCTION uint32_t amqp1_u32_of(const uint8_t *at)
     return (uint32_t)at[0] << 24 | (uint32_t)at[1] << 16 | (uint32_t)at[2] << 8 | (uint32_t)at[3];
 }
 
-/* Makes an engine: amqp1_new with 16 bytes of key, which the peer cannot guess (getrandom, /dev/urandom), and PERF of this side's Open. A key of
-   which all bytes are zero is BAD_ARGUMENT. */
+/* What amqp1_new takes, of a stream without a host. For use within this header. */
+AMQP1_FUNCTION amqp1_how amqp1_how_of(const uint8_t key[16], uint64_t now, uint32_t limit, enum amqp1_side side)
+{
+    amqp1_how how;
+    memcpy(how.key, key, sizeof how.key);
+    how.time = now;
+    how.limit = limit;
+    how.side = (uint32_t)side;
+    how.host = AMQP1_NONE;
+    how.reserved = 0;
+    return how;
+}
+
+/* Makes an engine of either side, without SASL: amqp1_new with 16 bytes of key, which the peer cannot guess (getrandom, /dev/urandom), and PERF of
+   this side's Open. Its time begins at 0, and the opening has no limit. A key of which all bytes are zero is BAD_ARGUMENT. */
 AMQP1_FUNCTION int32_t amqp1_start(amqp1 *place, const uint8_t key[16], const uint8_t *open, size_t open_length)
 {
-    return amqp1_join_and_call(place, 0, key, 16, open, open_length, NULL, 0, NULL, 0, NULL);
+    amqp1_how how = amqp1_how_of(key, 0, AMQP1_NONE, AMQP1_WITHOUT_SASL);
+    amqp1_login_head head = { 0, AMQP1_NONE };
+    uint8_t none[1] = { 0 };
+    return amqp1_new(place, &how, open, open_length, &head, 0, none, 0);
+}
+
+/* How many bytes a SASL frame has at most (part 5, section 5.3.1), and so what stands in it. */
+#define AMQP1_SASL_FRAME 512
+
+/* Makes an engine of a client of SASL with one login: by this mechanism, with this initial response, or with none, which NULL says. `now` is the time
+   in milliseconds, `limit` how many of them headers, SASL and both Opens may take (AMQP1_NONE: no limit), and `host` the name of the host that it
+   asks for, or NULL. TOO_LARGE where all these do not fit a SASL frame. Who has several logins calls amqp1_new. */
+AMQP1_FUNCTION int32_t amqp1_start_by(amqp1 *place, const uint8_t key[16], uint64_t now, uint32_t limit, const char *host, const char *mechanism,
+                                      const uint8_t *response, size_t response_length, const uint8_t *open, size_t open_length)
+{
+    uint8_t bytes[AMQP1_SASL_FRAME];
+    amqp1_how how = amqp1_how_of(key, now, limit, AMQP1_SASL_CLIENT);
+    amqp1_login_head head;
+    size_t host_length = host ? strlen(host) : 0, length = strlen(mechanism);
+    response_length = response ? response_length : 0;
+    if (host_length > sizeof bytes || length > sizeof bytes - host_length || response_length > sizeof bytes - host_length - length)
+        return AMQP1_TOO_LARGE;
+    bytes[0] = 0;
+    if (host) {
+        how.host = (uint32_t)host_length;
+        memcpy(bytes, host, host_length);
+    }
+    memcpy(bytes + host_length, mechanism, length);
+    if (response_length)
+        memcpy(bytes + host_length + length, response, response_length);
+    head.mechanism = (uint32_t)length;
+    head.response = response ? (uint32_t)response_length : AMQP1_NONE;
+    return amqp1_new(place, &how, open, open_length, &head, 1, bytes, host_length + length + response_length);
+}
+
+/* The same for a client that logs in by PLAIN (RFC 4616), as this user with this password, or by ANONYMOUS (RFC 4505), where the user is NULL. */
+AMQP1_FUNCTION int32_t amqp1_start_client(amqp1 *place, const uint8_t key[16], uint64_t now, uint32_t limit, const char *host, const char *user,
+                                          const char *password, const uint8_t *open, size_t open_length)
+{
+    uint8_t response[AMQP1_SASL_FRAME] = { 0 };
+    size_t user_length = user ? strlen(user) : 0, length = user && password ? strlen(password) : 0;
+    if (!user)
+        return amqp1_start_by(place, key, now, limit, host, "ANONYMOUS", response, 0, open, open_length);
+    if (user_length > sizeof response - 2 || length > sizeof response - 2 - user_length)
+        return AMQP1_TOO_LARGE;
+    memcpy(response + 1, user, user_length);
+    if (length)
+        memcpy(response + 2 + user_length, password, length);
+    return amqp1_start_by(place, key, now, limit, host, "PLAIN", response, 2 + user_length + length, open, open_length);
+}
+
+/* The same for a client that logs in by EXTERNAL (RFC 4422, appendix A), to act as this identity: "" where it is the one that is known by other
+   means, as by a certificate. */
+AMQP1_FUNCTION int32_t amqp1_start_external(amqp1 *place, const uint8_t key[16], uint64_t now, uint32_t limit, const char *host, const char *identity,
+                                            const uint8_t *open, size_t open_length)
+{
+    return amqp1_start_by(place, key, now, limit, host, "EXTERNAL", (const uint8_t *)identity, strlen(identity), open, open_length);
+}
+
+/* Makes an engine of a server of SASL that offers these mechanisms: their names, with one space between, as "PLAIN ANONYMOUS". Each client that asks
+   to be let in has a record of AMQP1_KIND_LOGIN_ASKED: answer it by amqp1_login or amqp1_challenge. TOO_LARGE where they do not fit a SASL frame. */
+AMQP1_FUNCTION int32_t amqp1_start_server(amqp1 *place, const uint8_t key[16], uint64_t now, uint32_t limit, const char *mechanisms,
+                                          const uint8_t *open, size_t open_length)
+{
+    uint8_t bytes[AMQP1_SASL_FRAME];
+    amqp1_login_head heads[AMQP1_SASL_FRAME / 2];
+    amqp1_how how = amqp1_how_of(key, now, limit, AMQP1_SASL_SERVER);
+    size_t count = 0, length = 0;
+    bytes[0] = 0;
+    while (*mechanisms) {
+        size_t name = strcspn(mechanisms, " ");
+        if (count == sizeof heads / sizeof *heads || name > sizeof bytes - length)
+            return AMQP1_TOO_LARGE;
+        memcpy(bytes + length, mechanisms, name);
+        length += name;
+        heads[count].mechanism = (uint32_t)name;
+        heads[count++].response = AMQP1_NONE;
+        mechanisms += name + (mechanisms[name] ? 1 : 0);
+    }
+    return amqp1_new(place, &how, open, open_length, heads, count, bytes, length);
 }
 
 /* An operation with no input. For use within this header. */
@@ -111,6 +203,35 @@ AMQP1_FUNCTION int32_t amqp1_ask_alone(amqp1 *place, uint32_t operation, uint8_t
 {
     *written = 0;
     return amqp1_join_and_call(place, operation, NULL, 0, NULL, 0, NULL, 0, output, room, written);
+}
+
+/* A server's answer to a client that asks to be let in, with additional data of the mechanism, or with none, which NULL says. AMQP1_LOGIN_OK lets it
+   in, and nothing else does; after another code the connection is over. The outcome waits to be sent. REFUSED (`WrongTime`) where no login is asked,
+   or the connection is over, and (`TooLarge`) where the SASL frame would have more than 512 bytes. */
+AMQP1_FUNCTION int32_t amqp1_login_with(amqp1 *place, enum amqp1_login_code code, const uint8_t *additional, size_t length)
+{
+    uint8_t head[2];
+    head[0] = amqp1_u8_of((int)code);
+    head[1] = additional ? 1 : 0;
+    return amqp1_join_and_ask(place, AMQP1_LOGIN, head, sizeof head, additional, additional ? length : 0, NULL, 0);
+}
+
+/* The same with no additional data. */
+AMQP1_FUNCTION int32_t amqp1_login(amqp1 *place, enum amqp1_login_code code)
+{
+    return amqp1_login_with(place, code, NULL, 0);
+}
+
+/* A server's challenge to a client that asks to be let in: one response is awaited then. REFUSED as amqp1_login is. */
+AMQP1_FUNCTION int32_t amqp1_challenge(amqp1 *place, const uint8_t *challenge, size_t length)
+{
+    return amqp1_join_and_ask(place, AMQP1_CHALLENGE, challenge, length, NULL, 0, NULL, 0);
+}
+
+/* A client's response to a challenge. REFUSED (`WrongTime`) where there was none, and on as amqp1_login is. */
+AMQP1_FUNCTION int32_t amqp1_respond(amqp1 *place, const uint8_t *response, size_t length)
+{
+    return amqp1_join_and_ask(place, AMQP1_RESPOND, response, length, NULL, 0, NULL, 0);
 }
 
 /* This side's Open is to be sent. */
@@ -188,8 +309,7 @@ AMQP1_FUNCTION int32_t amqp1_link(amqp1 *place, uint32_t session, enum amqp1_rol
 }
 
 /* The same for a link whose Attach came first, on this input handle: its record is of AMQP1_KIND_ATTACH_WANTED. The link is attached with this call,
-   and amqp1_attach answers. Frames of the link that the same amqp1_take had behind the Attach were refused: a server takes what
-   amqp1_up_to_wanted gives. */
+   and amqp1_attach answers. amqp1_take stops behind such an Attach (AMQP1_AGAIN), so that frames of the link that follow find it. */
 AMQP1_FUNCTION int32_t amqp1_link_on(amqp1 *place, uint32_t session, uint32_t input_handle, enum amqp1_role role, enum amqp1_rcv_settle_mode mode,
                                      const char *name, uint32_t *handle)
 {
@@ -357,6 +477,17 @@ AMQP1_FUNCTION int32_t amqp1_session_of(amqp1 *place, uint16_t channel, uint32_t
     return status;
 }
 
+/* Whether the connection is over: a header or a login was refused, the opening was late or the peer silent, a size came that no frame may have, or
+   both Closes have passed. Then nothing is taken, and requests are REFUSED (`Over`). What waits is still to be sent. */
+AMQP1_FUNCTION int32_t amqp1_is_over(amqp1 *place, int *is_over)
+{
+    uint64_t number;
+    int is_there;
+    int32_t status = amqp1_ask_number(place, AMQP1_IS_OVER, NULL, 0, &number, &is_there);
+    *is_over = number != 0;
+    return status;
+}
+
 /* The state of the connection, an amqp1_connection_state. */
 AMQP1_FUNCTION int32_t amqp1_state(amqp1 *place, uint32_t *state)
 {
@@ -383,7 +514,8 @@ AMQP1_FUNCTION int32_t amqp1_session_state(amqp1 *place, uint32_t session, uint3
 AMQP1_FUNCTION const char *amqp1_status_name(int32_t status)
 {
     static const char *const names[] = { "DONE",      "REFUSED", "NO_MEMORY", "TOO_SMALL", "BAD_ARGUMENT",
-                                         "NO_ENGINE", "unknown", "FULL",      "BAD_SIZE",  "SHORT" };
+                                         "NO_ENGINE", "unknown", "FULL",      "BAD_SIZE",  "SHORT",
+                                         "AGAIN",     "WAITS",   "OVER",      "TOO_LARGE" };
     return status >= 0 && (size_t)status < sizeof names / sizeof *names ? names[status] : "unknown";
 }
 

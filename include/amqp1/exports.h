@@ -38,7 +38,11 @@ enum amqp1_operation {
     AMQP1_SESSION_STATE = 25,
     AMQP1_UNFIT = 27,
     AMQP1_REFUSAL_TEXT = 28,
-    AMQP1_DISPOSE = 29
+    AMQP1_DISPOSE = 29,
+    AMQP1_LOGIN = 30,
+    AMQP1_CHALLENGE = 31,
+    AMQP1_RESPOND = 32,
+    AMQP1_IS_OVER = 33
 };
 
 /* The state of the connection (AMQP 1.0 part 2, section 2.4.6). */
@@ -80,26 +84,47 @@ enum amqp1_rcv_settle_mode { AMQP1_FIRST = 0, AMQP1_SECOND = 1 };
    records, heads and places of `sent` are counts of those; all other lengths are bytes. Where nothing lies in the place the answer is
    AMQP1_NO_ENGINE, and nothing is written. */
 
-/* Makes an engine in an empty place. The input: 16 bytes of key, then PERF of this side's Open. By the key the engine's maps find what the peer
-   names: with one that the peer cannot guess it cannot choose names or numbers that collide. DONE; else NO_MEMORY, and the place stays empty;
-   BAD_ARGUMENT where the input is another, where all bytes of the key are zero, and where an engine lies in the place already: it stays. */
-int32_t amqp1_new(amqp1 *place, const uint8_t *input, size_t input_length);
+/* Makes an engine in an empty place, for a connection from its first byte on: protocol headers (section 2.2), SASL where it is asked for (part 5,
+   section 5.3), then frames. Its first header waits to be sent. By `how->key` the engine's maps find what the peer names: with a key that the peer
+   cannot guess it cannot choose names or numbers that collide. `open` is PERF of this side's Open.
+
+   `logins` are the sizes of a client's logins, in the order in which it prefers them, or of the mechanisms that a server offers, at least one, whose
+   `response` is AMQP1_NONE. `bytes` has first the host, then each mechanism and its response, one after the other, and no more. Without SASL there
+   are neither. calls.h puts these together: amqp1_start, amqp1_start_client, amqp1_start_by, amqp1_start_server.
+
+   DONE; else NO_MEMORY, and the place stays empty; BAD_ARGUMENT where what is said is another, as a mechanism that is not ASCII, a host that is not
+   UTF-8, or sizes that are not those of the bytes; where all bytes of the key are zero; and where an engine lies in the place already: it stays. */
+int32_t amqp1_new(amqp1 *place, const amqp1_how *how, const uint8_t *open, size_t open_length, const amqp1_login_head *logins, size_t logins_length,
+                  const uint8_t *bytes, size_t bytes_length);
 
 /* Has the engine do one operation. `written` gets how much of the output was written, or how much is needed (TOO_SMALL). calls.h has a function for
    each. BAD_ARGUMENT where there is no such operation, or the input is none of its. */
 int32_t amqp1_call(amqp1 *place, uint32_t operation, const uint8_t *input, size_t input_length, uint8_t *output, size_t output_length,
                    size_t *written);
 
-/* Takes whole frames out of received bytes, as they come after the protocol headers (section 2.3), runs each once, in order, and writes a record of
-   what each says. It keeps no byte: the caller keeps what was not taken, and gives it again with what came since. A frame that was refused has a
-   record too, of AMQP1_KIND_REFUSED, and the next one is taken; an empty frame (section 2.4.5) is taken and has none. Records behind those that were
-   written stay as they were. What the frames hand out waits for amqp1_output.
+/* Takes what came, at the time `now` in milliseconds: before the stream is open one header or one SASL frame, and then whole frames (section 2.3), of
+   which each is run once, in order. It writes a record of what each says. It keeps no byte: the caller keeps what was not taken, and gives it again
+   with what came since. A frame that was refused has a record too, of AMQP1_KIND_REFUSED, and the next one is taken; an empty frame (section 2.4.5)
+   is taken and has none. Records behind those that were written stay as they were. What is answered waits for amqp1_output.
 
-   DONE where what is left is no whole frame: `wanted` says how long the next one is, as far as it is known. FULL where a whole frame is left and all
-   records are written: give the rest again. BAD_SIZE at a size below 8 or above this side's max-frame-size (sections 2.3.1 and 2.7.1): close the
-   connection, for amqp:connection:framing-error. NO_MEMORY where the next frame was not taken: give the rest again. With each of them `answer` says
-   what was taken, and the records that were written are to be read. Of an input of more than 4294967295 bytes the others are not looked at. */
-int32_t amqp1_take(amqp1 *place, const uint8_t *input, size_t input_length, amqp1_record *records, size_t records_length, amqp1_took *answer);
+   No frame is run before both headers of AMQP have passed, and with SASL none before a login: a server's own amqp1_login with AMQP1_LOGIN_OK, or a
+   client's record of AMQP1_KIND_LOGGED_IN.
+
+   AGAIN where what was told last comes first, as a frame that the program answers, or where what follows is of another layer: read the records, and
+   give the rest again. DONE where what is left is no whole thing: `wanted` says how long the next one is, as far as it is known. FULL where one is
+   left and all records are written: give the rest again. WAITS where amqp1_login, amqp1_challenge or amqp1_respond comes first. OVER where the
+   connection is over. BAD_SIZE at a size below 8 or above this side's max-frame-size (sections 2.3.1 and 2.7.1): a Close for
+   amqp:connection:framing-error waits to be sent, and the connection is over. NO_MEMORY where the next thing was not taken: give the rest again.
+   TOO_LARGE where the SASL frame to send would be too long, as of a login whose response is. With each of them `answer` says what was taken, and the
+   records that were written are to be read. Of an input of more than 4294967295 bytes the others are not looked at. */
+int32_t amqp1_take(amqp1 *place, uint64_t now, const uint8_t *input, size_t input_length, amqp1_record *records, size_t records_length,
+                   amqp1_took *answer);
+
+/* Tells the time, in milliseconds, and does what is due (section 2.4.5): from both Opens on an empty frame, where nothing was sent for half of the
+   peer's idle-time-out; a Close for amqp:resource-limit-exceeded, where nothing came for as long as this side's own; and the end of a connection of
+   which headers, SASL and both Opens have not passed within the limit of `how`. `answer` gets what it was, and when the next tick is wanted. Call it
+   by then, and after other calls, since these may move that time. A time before the latest one that was told counts as that. DONE. */
+int32_t amqp1_tick(amqp1 *place, uint64_t now, amqp1_ticked *answer);
 
 /* Sends transfers, each of one frame, in order (sections 2.6.12 and 2.7.5). In `bytes` stand the tag and the payload of each, one after the other.
    What became of a transfer goes to the next place of `sent`: of an accepted first one the number of its delivery, which it keeps also where the
@@ -107,7 +132,7 @@ int32_t amqp1_take(amqp1 *place, const uint8_t *input, size_t input_length, amqp
    behind a part with MORE that is refused, the later parts of its delivery in the call are refused as it was, unless that of another link breaks
    off between. The session counts no link's credit: that is the caller's. A transfer that is longer than a frame goes in parts: amqp1_cut makes a head for each.
 
-   DONE where all were taken. FULL where all places of `sent` are written, SHORT where the bytes end before those of the next transfer do, NO_MEMORY
+   DONE where all were taken. OVER where the connection is over. FULL where all places of `sent` are written, SHORT where the bytes end before those of the next transfer do, NO_MEMORY
    where the next one was not taken, so that none is refused for want of memory: with each of them `answer` says how many were, and the others are given again. */
 int32_t amqp1_send(amqp1 *place, const amqp1_head *heads, size_t heads_length, const uint8_t *bytes, size_t bytes_length, amqp1_sent *sent,
                    size_t sent_length, amqp1_went *answer);

@@ -22,6 +22,7 @@ typedef struct amqp1_bytes {
     size_t length;
 } amqp1_bytes;
 
+/* Bytes from a place on. */
 AMQP1_FUNCTION amqp1_bytes amqp1_bytes_at(const uint8_t *at, size_t length)
 {
     amqp1_bytes bytes;
@@ -30,15 +31,60 @@ AMQP1_FUNCTION amqp1_bytes amqp1_bytes_at(const uint8_t *at, size_t length)
     return bytes;
 }
 
-/* The performative of a record, and its payload, in the input of the call that wrote the record. */
+/* The performative of a record, in the input of the call that wrote the record. */
 AMQP1_FUNCTION amqp1_bytes amqp1_performative(const uint8_t *input, const amqp1_record *record)
 {
     return amqp1_bytes_at(input + record->at, record->size);
 }
 
+/* The payload of a record, there too: of no bytes where it has none. */
 AMQP1_FUNCTION amqp1_bytes amqp1_payload(const uint8_t *input, const amqp1_record *record)
 {
-    return amqp1_bytes_at(input + record->payload_at, record->payload);
+    return amqp1_bytes_at(record->payload_at == AMQP1_NONE ? input : input + record->payload_at, record->payload);
+}
+
+/* The mechanism of a record of AMQP1_KIND_LOGIN_ASKED, or of AMQP1_WHY_NOT_OFFERED. */
+AMQP1_FUNCTION amqp1_bytes amqp1_mechanism(const uint8_t *input, const amqp1_record *record)
+{
+    return amqp1_bytes_at(input + record->first, record->last);
+}
+
+/* Whether it is the one of this name. */
+AMQP1_FUNCTION int amqp1_mechanism_is(const uint8_t *input, const amqp1_record *record, const char *name)
+{
+    size_t length = strlen(name);
+    return record->last == length && !memcmp(input + record->first, name, length);
+}
+
+/* The initial response of a record of AMQP1_KIND_LOGIN_ASKED, or the response of AMQP1_KIND_RESPONDED. 0 where there is none. */
+AMQP1_FUNCTION int amqp1_response(const uint8_t *input, const amqp1_record *record, amqp1_bytes *response)
+{
+    *response = amqp1_payload(input, record);
+    return record->payload_at != AMQP1_NONE;
+}
+
+/* The host that the client of AMQP1_KIND_LOGIN_ASKED asks for. 0 where it asks for none. */
+AMQP1_FUNCTION int amqp1_host(const uint8_t *input, const amqp1_record *record, amqp1_bytes *host)
+{
+    *host = amqp1_bytes_at(record->count == AMQP1_NONE ? input : input + record->count, record->credit);
+    return record->count != AMQP1_NONE;
+}
+
+/* The three texts of a response of PLAIN (RFC 4616): as whom the client wants to act, which is empty where that is the user; the user; and the
+   password. They may be empty, and are any bytes but 0. 0 where it is no such response: it has not exactly two bytes 0. */
+AMQP1_FUNCTION int amqp1_plain_parts(const uint8_t *input, const amqp1_record *record, amqp1_bytes *authorization, amqp1_bytes *user,
+                                     amqp1_bytes *password)
+{
+    amqp1_bytes all = amqp1_payload(input, record);
+    const uint8_t *first, *second, *end = all.at + all.length;
+    first = all.length ? (const uint8_t *)memchr(all.at, 0, all.length) : NULL;
+    second = first && first + 1 < end ? (const uint8_t *)memchr(first + 1, 0, (size_t)(end - first - 1)) : NULL;
+    if (!second || (second + 1 < end && memchr(second + 1, 0, (size_t)(end - second - 1))))
+        return 0;
+    *authorization = amqp1_bytes_at(all.at, (size_t)(first - all.at));
+    *user = amqp1_bytes_at(first + 1, (size_t)(second - first - 1));
+    *password = amqp1_bytes_at(second + 1, (size_t)(end - second - 1));
+    return 1;
 }
 
 /* Whether a record has a flag. */
@@ -50,8 +96,9 @@ AMQP1_FUNCTION int amqp1_has(const amqp1_record *record, enum amqp1_flag flag)
 /* The name of a record's kind, as "Transfer"; "unknown" of one that is not named here. */
 AMQP1_FUNCTION const char *amqp1_kind_name(unsigned kind)
 {
-    static const char *const names[] = { "unknown",  "Opened",      "Begun",    "Attached", "AttachWanted", "Flow",
-                                         "Transfer", "Disposition", "Detached", "Ended",    "Closed",       "Refused" };
+    static const char *const names[] = { "unknown",     "Opened",     "Begun",      "Attached",   "AttachWanted",    "Flow",       "Transfer",
+                                         "Disposition", "Detached",   "Ended",      "Closed",     "Refused",         "BeginWanted", "SaslHeader",
+                                         "AmqpHeader",  "MechanismChosen", "LoginAsked", "Challenged", "Responded", "LoggedIn",   "NotOpened" };
     return kind < sizeof names / sizeof *names ? names[kind] : names[0];
 }
 
@@ -260,8 +307,8 @@ AMQP1_FUNCTION uint64_t amqp1_frame_code(amqp1_bytes frame)
     return code;
 }
 
-/* How many of the received bytes a server hands to amqp1_take at once: whole frames, up to and with the first Begin or Attach. Each of those the
-   server answers before the next frame is taken: see amqp1_turn_begin and amqp1_link_on. All of the bytes where no such frame stands in them. */
+/* How many of the received bytes are whole frames, up to and with the first Begin or Attach; all of the bytes where no such frame stands in them.
+   amqp1_take stops there by itself (AMQP1_AGAIN), where the program is to answer. */
 AMQP1_FUNCTION size_t amqp1_up_to_wanted(const uint8_t *input, size_t length)
 {
     size_t at = 0;

@@ -28,8 +28,12 @@ enum amqp1_status {
     AMQP1_BAD_ARGUMENT = 4, /* no such operation, or an input that is none of its: nothing changed. Of amqp1_new also where an engine lies there */
     AMQP1_NO_ENGINE = 5,    /* nothing lies in the place: nothing changed, and nothing is written */
     AMQP1_FULL = 7,         /* of amqp1_take and amqp1_send: something is left, and all places are written. Give the rest again */
-    AMQP1_BAD_SIZE = 8,     /* of amqp1_take: a size that no frame may have. Close the connection, for amqp:connection:framing-error */
-    AMQP1_SHORT = 9         /* of amqp1_send: the bytes end before those of the next transfer do */
+    AMQP1_BAD_SIZE = 8,     /* of amqp1_take: a size that no frame may have. A Close for amqp:connection:framing-error waits to be sent */
+    AMQP1_SHORT = 9,        /* of amqp1_send: the bytes end before those of the next transfer do */
+    AMQP1_AGAIN = 10,       /* of amqp1_take: what was told last is to be answered, or what follows is of another layer. Then give the rest again */
+    AMQP1_WAITS = 11,       /* of amqp1_take: amqp1_login, amqp1_challenge or amqp1_respond comes first */
+    AMQP1_OVER = 12,        /* of amqp1_take and amqp1_send: the connection is over, and nothing is taken any more */
+    AMQP1_TOO_LARGE = 13    /* of amqp1_take: the SASL frame to send would have more than 512 bytes (part 5, section 5.3.1) */
 };
 
 /* What a frame was. A record of a kind that is not named here is of a later version: pass over it. */
@@ -44,7 +48,20 @@ enum amqp1_kind {
     AMQP1_KIND_DETACHED = 8,      /* a Detach (section 2.7.7) */
     AMQP1_KIND_ENDED = 9,         /* an End (section 2.7.8) */
     AMQP1_KIND_CLOSED = 10,       /* a Close (section 2.7.9) */
-    AMQP1_KIND_REFUSED = 11       /* a frame that was refused, or bytes that are none: `refusal` says why */
+    AMQP1_KIND_REFUSED = 11,      /* a frame that was refused, or bytes that are none: `refusal` says why */
+    /* a Begin that answers none, on a channel that leads to no session: the peer begins one (section 2.5.1). It was refused: see amqp1_turn_begin */
+    AMQP1_KIND_BEGIN_WANTED = 12,
+    AMQP1_KIND_SASL_HEADER = 13,  /* the peer's header of SASL (section 2.2; part 5, section 5.3.1) */
+    AMQP1_KIND_AMQP_HEADER = 14,  /* the peer's header of AMQP (section 2.2): the stream is open, and frames follow */
+    /* the mechanisms of a server are the payload (part 5, section 5.3.3.1), and this side's login of the number `first`, from 0 on, was chosen */
+    AMQP1_KIND_MECHANISM_CHOSEN = 15,
+    /* a client asks to be let in (part 5, section 5.3.3.2): amqp1_mechanism, amqp1_response and amqp1_host read what it says; answer by
+       amqp1_login or amqp1_challenge */
+    AMQP1_KIND_LOGIN_ASKED = 16,
+    AMQP1_KIND_CHALLENGED = 17, /* a server's challenge is the payload (part 5, section 5.3.3.3): answer by amqp1_respond */
+    AMQP1_KIND_RESPONDED = 18,  /* a client's response is the payload (part 5, section 5.3.3.4): answer by amqp1_login or amqp1_challenge */
+    AMQP1_KIND_LOGGED_IN = 19,  /* a server's outcome `ok` (part 5, section 5.3.3.5): its additional data are the payload, if there are any */
+    AMQP1_KIND_NOT_OPENED = 20  /* the stream is not opened, and is over: `refusal` says why */
 };
 
 /* What a frame says besides, in amqp1_record.flags, and what a transfer is to say, in amqp1_head.flags. */
@@ -65,6 +82,30 @@ enum amqp1_flag {
     AMQP1_FLAG_FORMATTED = 8192, /* a transfer gives the format of its message, in `format` */
     AMQP1_FLAG_TAGGED = 16384,   /* a transfer gives the tag of its delivery, of `tag_size` bytes */
     AMQP1_FLAG_AVAILABLE = 32768 /* a flow says how many messages are ready, in `available` */
+};
+
+/* Which side of SASL a stream is on (part 5, section 5.3). */
+enum amqp1_side {
+    AMQP1_WITHOUT_SASL = 0,
+    AMQP1_SASL_CLIENT = 1,
+    AMQP1_SASL_SERVER = 2
+};
+
+/* The outcome of a login (part 5, section 5.3.3.6). */
+enum amqp1_login_code {
+    AMQP1_LOGIN_OK = 0,       /* the client is let in */
+    AMQP1_LOGIN_AUTH = 1,     /* what it says does not let it in */
+    AMQP1_LOGIN_SYS = 2,      /* the server fails */
+    AMQP1_LOGIN_SYS_PERM = 3, /* it fails, and will go on to fail */
+    AMQP1_LOGIN_SYS_TEMP = 4  /* it fails, and may be asked again */
+};
+
+/* What was due at a tick, and is done (part 2, section 2.4.5). */
+enum amqp1_due {
+    AMQP1_DUE_NOTHING = 0,
+    AMQP1_DUE_BEAT = 1,         /* an empty frame waits to be sent, unless something else does */
+    AMQP1_DUE_OPENING_LATE = 2, /* headers, SASL and both Opens have not passed within the limit: the connection is over */
+    AMQP1_DUE_PEER_SILENT = 3   /* nothing came for as long as this side's idle-time-out: a Close waits to be sent, and the connection is over */
 };
 
 /* The state of deliveries (part 3, section 3.4). */
@@ -136,8 +177,19 @@ enum amqp1_why {
     AMQP1_WHY_ALLOC_LINK_OUT_OF_MEMORY = 85,
     /* of a head in amqp1_send and amqp1_cut */
     AMQP1_WHY_PAYLOAD_TOO_LONG = 91, /* it does not fit one frame beside the transfer; of amqp1_cut: nor do parts of it fit frames */
-    AMQP1_WHY_TAG_TOO_LONG = 92      /* it has more than 32 bytes (section 2.8.7) */
+    AMQP1_WHY_TAG_TOO_LONG = 92,     /* it has more than 32 bytes (section 2.8.7) */
+    /* of a stream that is not opened, of AMQP1_KIND_NOT_OPENED */
+    AMQP1_WHY_NO_MECHANISM = 101,   /* none of this side's logins is among the mechanisms of the server, which are the payload */
+    AMQP1_WHY_NOT_OFFERED = 102,    /* the client chose a mechanism that was not offered: amqp1_mechanism. The outcome `auth` waits to be sent */
+    AMQP1_WHY_LOGIN_REFUSED = 103,  /* the server's outcome, an amqp1_login_code in `outcome`, with its additional data in the payload */
+    AMQP1_WHY_OTHER_PROTOCOL = 104, /* the header of another protocol, whose id is `first`: 0 AMQP, 2 TLS, 3 SASL */
+    AMQP1_WHY_OTHER_HEADER = 105,   /* eight bytes that are no header of AMQP 1.0 */
+    AMQP1_WHY_NOT_AMQP = 106,       /* bytes with which no header begins */
+    AMQP1_WHY_MALFORMED_SASL = 107, /* bytes that are no SASL frame */
+    AMQP1_WHY_UNEXPECTED_SASL = 108 /* a SASL frame that has no place there */
 };
+
+/* Why a Begin that answers none was refused: see amqp1_turn_begin. */
 #define AMQP1_WHY_BEGIN_WANTED AMQP1_WHY_CONNECTION_NOT_IMPLEMENTED
 
 /* No session, or no link, in a record. A handle of that number is told by AMQP1_FLAG_LINKED. */
@@ -168,12 +220,43 @@ typedef struct amqp1_record {
     uint8_t tag[32];     /* the tag, and zeros after it; of a longer one zeros, since that stands in the performative */
 } amqp1_record;
 
+/* Of records before the stream is open (part 5, section 5.3): the payload is what is said above; of LOGIN_ASKED and NOT_OFFERED the name of the
+   mechanism stands at `first`, of `last` bytes; of LOGIN_ASKED the host stands at `count`, of `credit` bytes. A payload or a host that is not there
+   is at AMQP1_NONE. `at` and `size` are 0. */
+
 /* What amqp1_take took. */
 typedef struct amqp1_took {
-    size_t taken;   /* how many bytes: whole frames. The others are given again, with what came since */
+    size_t taken;   /* how many bytes: a header, a SASL frame, or whole frames. The others are given again, with what came since */
     size_t written; /* how many records were written */
-    size_t wanted;  /* with AMQP1_DONE: how many bytes the next frame has, those that are there counted, and 4 where its size is not whole. Else 0 */
+    size_t wanted;  /* with AMQP1_DONE: how many bytes the next one of these has, those that are there counted, and 4 where its size is not whole.
+                       Else 0 */
 } amqp1_took;
+
+/* How a stream is made: 40 bytes without padding. */
+typedef struct amqp1_how {
+    uint8_t key[16];   /* bytes that the peer cannot guess (getrandom, /dev/urandom). All zero: they were forgotten, and it is BAD_ARGUMENT */
+    uint64_t time;     /* when it begins, in milliseconds of any clock that the caller has */
+    uint32_t limit;    /* how many milliseconds headers, SASL and both Opens may take. AMQP1_NONE: there is no limit */
+    uint32_t side;     /* an amqp1_side */
+    uint32_t host;     /* how many of the bytes are the name of the host that a client asks for. AMQP1_NONE: it asks for none, or is no client */
+    uint32_t reserved; /* it is not read */
+} amqp1_how;
+
+/* A login of a client, or a mechanism that a server offers: 8 bytes. */
+typedef struct amqp1_login_head {
+    uint32_t mechanism; /* how many bytes the name of the mechanism has */
+    uint32_t response;  /* how many bytes the initial response behind it has. AMQP1_NONE: it has none, as a mechanism that a server offers */
+} amqp1_login_head;
+
+/* What amqp1_tick answers: 16 bytes without padding. */
+typedef struct amqp1_ticked {
+    uint64_t next;     /* when the next tick is wanted, in milliseconds of the caller's clock. AMQP1_NEVER: none is */
+    uint32_t due;      /* what was due, and is done: an amqp1_due */
+    uint32_t reserved; /* 0 */
+} amqp1_ticked;
+
+/* No tick is wanted. */
+#define AMQP1_NEVER 0xffffffffffffffffu
 
 /* The head of one transfer (section 2.7.5), a delivery or a part of one: 20 bytes without padding. Its tag and then its payload stand in the bytes
    that go with the heads. */
@@ -232,6 +315,12 @@ AMQP1_IS_SO(record_refusal, offsetof(amqp1_record, refusal) == 40);
 AMQP1_IS_SO(record_payload, offsetof(amqp1_record, payload) == 56);
 AMQP1_IS_SO(record_channel, offsetof(amqp1_record, channel) == 60);
 AMQP1_IS_SO(record_tag, offsetof(amqp1_record, tag) == 64);
+AMQP1_IS_SO(how_size, sizeof(amqp1_how) == 40);
+AMQP1_IS_SO(how_time, offsetof(amqp1_how, time) == 16);
+AMQP1_IS_SO(how_side, offsetof(amqp1_how, side) == 28);
+AMQP1_IS_SO(login_head_size, sizeof(amqp1_login_head) == 8);
+AMQP1_IS_SO(ticked_size, sizeof(amqp1_ticked) == 16);
+AMQP1_IS_SO(ticked_due, offsetof(amqp1_ticked, due) == 8);
 AMQP1_IS_SO(head_size, sizeof(amqp1_head) == 20);
 AMQP1_IS_SO(head_flags, offsetof(amqp1_head, flags) == 16);
 AMQP1_IS_SO(sent_size, sizeof(amqp1_sent) == 8);

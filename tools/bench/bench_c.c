@@ -136,7 +136,7 @@ static void ours_in(long frames)
     size_t left = of_frames(frames), at;
     amqp1_took took;
     while (left) {
-        MUST(amqp1_take(&engine, peer_at, left, records, BATCH, &took) == AMQP1_DONE && took.taken);
+        MUST(amqp1_take(&engine, 0, peer_at, left, records, BATCH, &took) == AMQP1_DONE && took.taken);
         for (at = 0; at < took.written; at++)
             ours_read(&records[at]);
         peer_at += took.taken;
@@ -170,10 +170,13 @@ static void ours(int receives, int settled, long count, long batch)
 {
     uint8_t text[512], key[16] = { 1 };
     uint32_t zero = 0;
+    amqp1_took took;
     size_t written;
     long i;
     MUST(amqp1_write_open(text, sizeof text, &written, "bench", NULL, 1 << 20, 255, 0) == AMQP1_DONE);
     MUST(amqp1_start(&engine, key, text, written) == AMQP1_DONE);
+    MUST(amqp1_output(&engine, text, 8, &written) == AMQP1_DONE && written == 8);
+    MUST(amqp1_take(&engine, 0, text, 8, records, 1, &took) == AMQP1_AGAIN && took.taken == 8);
     MUST(amqp1_open(&engine) == AMQP1_DONE);
     ours_in(1);
     MUST(amqp1_write_begin(text, sizeof text, &written, 0, WINDOW, WINDOW, 255) == AMQP1_DONE);

@@ -31,6 +31,7 @@ HISTORIES = (
     ("amqp_credit", ("SenderCredit",), ("amqp_credit", "SenderHistory", "SenderStep")),
     ("amqp_credit", ("ReceiverCredit",), ("amqp_credit", "ReceiverHistory", "ReceiverStep")),
     ("amqp_credit", ("Assembly",), ("amqp_credit", "AssemblyHistory", "AssemblyStep")),
+    ("amqp_unsettled", ("Unsettled",), ("amqp_unsettled", "History", "TableStep")),
 )
 LEGAL = "amqp_engine", "Legal", "Legal"
 OWNER = re.compile(r"impl(?:<.*?>)? (?:[\w:]+(?:<.*?>)? for )?(\w+)")

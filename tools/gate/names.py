@@ -34,10 +34,10 @@ ALLOWED = {
     # what the kit makes
     "CONTRIBUTING.md": "out/incremental/*/*.Lts.oantt",
     # what a tool makes where the user wants it
-    "docs/BINDINGS.md": "PREFIX/lib/libamqp1.so",
+    "docs/BINDINGS.md": "PREFIX/lib/libamqp1.so OUT/index.html",
     # of fe2o3-amqp: types that are not here, those of crates that it stands on, and its tests
     "docs/PORT.md": """
-        Decoder DeallcoSessionError Encoder Infallible JoinError ParseError ScramError SendError serde_amqp url
+        Decoder DeallcoSessionError Encoder Infallible JoinError ParseError ScramError SendError serde_amqp
         src/connection/mod.rs src/session/mod.rs
         allocate_session_distinguishes_not_opened_from_stopped buffered_split_delivery_gets_one_delivery_id
         continuation_with_stray_tag_gets_no_delivery_id first_transfer_without_tag_is_rejected

@@ -41,7 +41,9 @@ class LineEngine:
             yield from [refusal] * refusal.count
 
     def receive(self, data):
-        """What received bytes bring."""
+        """What received bytes bring. A frame that comes behind both Closes is not taken, and is told as the program tells it."""
+        if self.engine.is_over:
+            return [Refusal("IllegalState")]
         return self.engine.receive(data)
 
     def pieces(self):

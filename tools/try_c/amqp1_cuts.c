@@ -224,7 +224,7 @@ static void try_limits(void)
         uint8_t open[64];
         amqp1_parts cut;
         CHECK(amqp1_write_open(open, sizeof open, &length, "me", NULL, rows[at].most, 255, 0) == AMQP1_DONE);
-        CHECK(amqp1_start(&engine, key, open, length) == AMQP1_DONE);
+        CHECK(amqp1_start(&engine, key, open, length) == AMQP1_DONE && exchanges_headers(&engine));
         cut = cut_of(&engine, head_of(9, 0, rows[at].flags, rows[at].tag_size, rows[at].payload), bytes);
         CHECK(cut.refusal == rows[at].refusal && cut.part.payload == rows[at].part && cut.more == (rows[at].part < rows[at].payload));
         CHECK(sends(&engine, ""));

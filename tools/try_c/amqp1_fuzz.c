@@ -26,6 +26,7 @@ static void make(amqp1 *engine, unsigned far)
                                     "\0\0\0\x16\2\0\0\3\0\x53\x12\xc0\x09\3\xa1\3out\x52\5\x41"
                                     "\0\0\0\x15\2\0\0\3\0\x53\x12\xc0\x08\3\xa1\2in\x52\6\x42";
     static const char *const names[] = { "out", "in" };
+    static const uint8_t header[8] = { 'A', 'M', 'Q', 'P', 0, 1, 0, 0 };
     uint8_t text[128];
     amqp1_record records[4];
     amqp1_took took;
@@ -36,15 +37,17 @@ static void make(amqp1 *engine, unsigned far)
     waits = 0;
     MUST(amqp1_write_open(text, sizeof text, &written, "me", NULL, 4096, 255, 0) == AMQP1_DONE);
     MUST(amqp1_start(engine, key, text, written) == AMQP1_DONE);
+    MUST(amqp1_output(engine, text, 8, &written) == AMQP1_DONE && written == 8 && !memcmp(text, header, 8));
+    MUST(amqp1_take(engine, 0, header, 8, records, 4, &took) == AMQP1_AGAIN && took.taken == 8 && records[0].kind == AMQP1_KIND_AMQP_HEADER);
     if (far >= 1)
         MUST(amqp1_open(engine) == AMQP1_DONE);
     if (far >= 2)
-        MUST(amqp1_take(engine, frames, 26, records, 4, &took) == AMQP1_DONE && records[0].kind == AMQP1_KIND_OPENED);
+        MUST(amqp1_take(engine, 0, frames, 26, records, 4, &took) == AMQP1_DONE && records[0].kind == AMQP1_KIND_OPENED);
     MUST(amqp1_write_begin(text, sizeof text, &written, 0, 64, 64, 255) == AMQP1_DONE);
     if (far >= 3)
         MUST(amqp1_begin(engine, 7, text, written) == AMQP1_DONE);
     if (far >= 3)
-        MUST(amqp1_take(engine, frames + 26, 22, records, 4, &took) == AMQP1_DONE && took.taken == 22 && records[0].kind == AMQP1_KIND_BEGUN);
+        MUST(amqp1_take(engine, 0, frames + 26, 22, records, 4, &took) == AMQP1_DONE && took.taken == 22 && records[0].kind == AMQP1_KIND_BEGUN);
     for (at = 0; at < 2 && far >= 4 + at; at++) {
         const uint8_t *attach = frames + 48 + (at ? 22 : 0);
         size_t length = at ? 21 : 22;
@@ -53,7 +56,7 @@ static void make(amqp1 *engine, unsigned far)
         MUST(amqp1_write_attach(text, sizeof text, &written, names[at], at, role, 2, AMQP1_FIRST, "q", "q", 0) ==
              AMQP1_DONE);
         MUST(amqp1_attach(engine, 7, text, written) == AMQP1_DONE);
-        MUST(amqp1_take(engine, attach, length, records, 4, &took) == AMQP1_DONE && took.taken == length && records[0].kind == AMQP1_KIND_ATTACHED);
+        MUST(amqp1_take(engine, 0, attach, length, records, 4, &took) == AMQP1_DONE && took.taken == length && records[0].kind == AMQP1_KIND_ATTACHED);
     }
 }
 
@@ -72,19 +75,19 @@ static void take(amqp1 *engine, const uint8_t *bytes, size_t length, size_t room
     input = (uint8_t *)malloc(waits ? waits : 1);
     MUST(records && input);
     memcpy(input, waiting, waits);
-    status = amqp1_take(engine, input, waits, records, room, &took);
-    MUST(status == AMQP1_DONE || status == AMQP1_FULL || status == AMQP1_BAD_SIZE);
+    status = amqp1_take(engine, 0, input, waits, records, room, &took);
+    MUST(status == AMQP1_DONE || status == AMQP1_FULL || status == AMQP1_BAD_SIZE || status == AMQP1_AGAIN || status == AMQP1_OVER);
     MUST(took.taken <= waits && took.written <= room && (status == AMQP1_DONE ? took.wanted > waits - took.taken : !took.wanted));
     for (n = 0; n < took.written; n++) {
         const amqp1_record *it = records + n;
-        MUST(it->kind >= 1 && it->kind <= 11 && it->outcome <= 6 && it->at >= 8 && it->at + it->size == it->payload_at);
+        MUST(it->kind >= 1 && it->kind <= 12 && it->outcome <= 6 && it->at >= 8 && it->at + it->size == it->payload_at);
         MUST(it->payload_at + it->payload <= took.taken);
-        MUST((it->refusal != 0) == (it->kind == AMQP1_KIND_REFUSED || it->kind == AMQP1_KIND_ATTACH_WANTED));
+        MUST((it->refusal != 0) == (it->kind == AMQP1_KIND_REFUSED || it->kind == AMQP1_KIND_ATTACH_WANTED || it->kind == AMQP1_KIND_BEGIN_WANTED));
         MUST(amqp1_u32_of(input + it->at - 8) == it->size + it->payload + 8);
         amqp1_bytes_field(amqp1_performative(input, it), AMQP1_ATTACH_NAME);
     }
     memmove(waiting, waiting + took.taken, waits - took.taken);
-    waits = status == AMQP1_BAD_SIZE ? 0 : waits - took.taken;
+    waits = status == AMQP1_BAD_SIZE || status == AMQP1_OVER ? 0 : waits - took.taken;
     free(records);
     free(input);
 }
@@ -97,7 +100,7 @@ static void call(amqp1 *engine, const uint8_t *input, size_t length, size_t room
     int32_t status;
     MUST(output);
     if (length) {
-        status = amqp1_call(engine, input[0] % 32, input + 1, length - 1, output, room, &written);
+        status = amqp1_call(engine, input[0] % 36, input + 1, length - 1, output, room, &written);
         MUST(status >= AMQP1_DONE && status <= AMQP1_BAD_ARGUMENT && (written <= room || status == AMQP1_TOO_SMALL));
     }
     free(output);
@@ -143,7 +146,7 @@ static void send(amqp1 *engine, const uint8_t *bytes, size_t length, unsigned ro
     for (n = 0; n < count; n++)
         cut(engine, heads[n], bytes + count * sizeof *heads, length);
     status = amqp1_send(engine, heads, count, bytes + count * sizeof *heads, length, sent, room >> 3, &went);
-    MUST(status == AMQP1_DONE || status == AMQP1_FULL || status == AMQP1_SHORT);
+    MUST(status == AMQP1_DONE || status == AMQP1_FULL || status == AMQP1_SHORT || status == AMQP1_OVER);
     MUST(went.taken <= count && went.taken <= room >> 3 && went.used <= length && (status != AMQP1_DONE || went.taken == count));
     for (n = 0; n < went.taken; n++)
         MUST(sent[n].refusal == 0 || sent[n].number == 0);

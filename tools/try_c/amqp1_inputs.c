@@ -1,26 +1,80 @@
 /* Tests of libamqp1: inputs that are none of an operation's, and outputs that are too small. Nothing changes. */
 #include "amqp1_try.h"
 
-/* Inputs of which no engine is made. */
-static void try_bad_new(void)
+/* Opens of which no engine is made. */
+static void try_bad_opens(void)
 {
     amqp1 place = AMQP1_EMPTY;
-    uint8_t input[64] = { 1 };
-    size_t length, all = 16 + bytes_of("005310 c0(02 a1(6d65) a1", input + 16, 32);
+    uint8_t open[64] = { 1 };
+    size_t length, all = bytes_of("005310 c0(02 a1(6d65) a1", open, 32);
     for (length = 0; length <= all; length++)
-        CHECK(amqp1_new(&place, input, length) == AMQP1_BAD_ARGUMENT && place.full == 0);
-    length = 16 + bytes_of("005311 c0(04 600000 43 520a 520a)", input + 16, 32);
-    CHECK(amqp1_new(&place, input, length) == AMQP1_BAD_ARGUMENT && place.full == 0);
-    length = 16 + bytes_of("005310 c0(01 a1(6d65)) 40", input + 16, 32);
-    CHECK(amqp1_new(&place, input, length) == AMQP1_BAD_ARGUMENT && place.full == 0);
-    CHECK(amqp1_new(&place, input, length - 1) == AMQP1_DONE && place.full == 1);
+        CHECK(amqp1_start(&place, key, open, length) == AMQP1_BAD_ARGUMENT && place.full == 0);
+    length = bytes_of("005311 c0(04 600000 43 520a 520a)", open, 32);
+    CHECK(amqp1_start(&place, key, open, length) == AMQP1_BAD_ARGUMENT && place.full == 0);
+    length = bytes_of("005310 c0(01 a1(6d65)) 40", open, 32);
+    CHECK(amqp1_start(&place, key, open, length) == AMQP1_BAD_ARGUMENT && place.full == 0);
+    CHECK(amqp1_start(&place, key, open, length - 1) == AMQP1_DONE && place.full == 1);
     amqp1_free(&place);
+}
+
+/* What is said of the opening, and whether an engine is made of it: the side, the host's size, heads, and bytes. */
+static void try_openings(void)
+{
+    static const struct opening {
+        uint32_t side, host;
+        size_t heads;
+        amqp1_login_head logins[3];
+        const char *bytes;
+        int32_t status;
+    } openings[] = {
+        { 0, AMQP1_NONE, 0, { { 0, 0 }, { 0, 0 }, { 0, 0 } }, "", AMQP1_DONE },
+        { 0, AMQP1_NONE, 0, { { 0, 0 }, { 0, 0 }, { 0, 0 } }, "00", AMQP1_BAD_ARGUMENT },
+        { 0, 0, 0, { { 0, 0 }, { 0, 0 }, { 0, 0 } }, "", AMQP1_BAD_ARGUMENT },
+        { 0, AMQP1_NONE, 1, { { 0, AMQP1_NONE }, { 0, 0 }, { 0, 0 } }, "", AMQP1_BAD_ARGUMENT },
+        { 1, AMQP1_NONE, 0, { { 0, 0 }, { 0, 0 }, { 0, 0 } }, "", AMQP1_DONE },
+        { 1, 0, 0, { { 0, 0 }, { 0, 0 }, { 0, 0 } }, "", AMQP1_DONE },
+        { 1, 2, 0, { { 0, 0 }, { 0, 0 }, { 0, 0 } }, "c3a9", AMQP1_DONE },
+        { 1, 2, 0, { { 0, 0 }, { 0, 0 }, { 0, 0 } }, "c3c3", AMQP1_BAD_ARGUMENT },
+        { 1, 3, 0, { { 0, 0 }, { 0, 0 }, { 0, 0 } }, "6161", AMQP1_BAD_ARGUMENT },
+        { 1, 1, 0, { { 0, 0 }, { 0, 0 }, { 0, 0 } }, "6161", AMQP1_BAD_ARGUMENT },
+        { 1, 0xfffffffe, 0, { { 0, 0 }, { 0, 0 }, { 0, 0 } }, "6161", AMQP1_BAD_ARGUMENT },
+        { 1, 1, 2, { { 1, AMQP1_NONE }, { 2, 3 }, { 0, 0 } }, "68 41 4242 000102", AMQP1_DONE },
+        { 1, 1, 2, { { 1, AMQP1_NONE }, { 2, 3 }, { 0, 0 } }, "68 41 4242 0001", AMQP1_BAD_ARGUMENT },
+        { 1, 1, 2, { { 1, AMQP1_NONE }, { 2, 3 }, { 0, 0 } }, "68 41 4242 00010203", AMQP1_BAD_ARGUMENT },
+        { 1, 1, 2, { { 1, AMQP1_NONE }, { 2, 3 }, { 0, 0 } }, "68 c1 4242 000102", AMQP1_BAD_ARGUMENT },
+        { 1, AMQP1_NONE, 1, { { 1, 0 }, { 0, 0 }, { 0, 0 } }, "41", AMQP1_DONE },
+        { 1, AMQP1_NONE, 1, { { 0xffffffff, 0 }, { 0, 0 }, { 0, 0 } }, "41", AMQP1_BAD_ARGUMENT },
+        { 1, AMQP1_NONE, 1, { { 1, 0xfffffffe }, { 0, 0 }, { 0, 0 } }, "41", AMQP1_BAD_ARGUMENT },
+        { 1, AMQP1_NONE, 2, { { 1, 0xfffffffe }, { 0xffffffff, 2 }, { 0, 0 } }, "41", AMQP1_BAD_ARGUMENT },
+        { 2, AMQP1_NONE, 1, { { 1, AMQP1_NONE }, { 0, 0 }, { 0, 0 } }, "41", AMQP1_DONE },
+        { 2, AMQP1_NONE, 3, { { 1, AMQP1_NONE }, { 0, AMQP1_NONE }, { 1, AMQP1_NONE } }, "4142", AMQP1_DONE },
+        { 2, AMQP1_NONE, 0, { { 0, 0 }, { 0, 0 }, { 0, 0 } }, "", AMQP1_BAD_ARGUMENT },
+        { 2, AMQP1_NONE, 1, { { 1, 0 }, { 0, 0 }, { 0, 0 } }, "41", AMQP1_BAD_ARGUMENT },
+        { 2, AMQP1_NONE, 1, { { 1, AMQP1_NONE }, { 0, 0 }, { 0, 0 } }, "80", AMQP1_BAD_ARGUMENT },
+        { 2, 0, 1, { { 1, AMQP1_NONE }, { 0, 0 }, { 0, 0 } }, "41", AMQP1_BAD_ARGUMENT },
+        { 3, AMQP1_NONE, 0, { { 0, 0 }, { 0, 0 }, { 0, 0 } }, "", AMQP1_BAD_ARGUMENT },
+        { UINT32_MAX, AMQP1_NONE, 0, { { 0, 0 }, { 0, 0 }, { 0, 0 } }, "", AMQP1_BAD_ARGUMENT },
+    };
+    uint8_t open[64], bytes[64] = { 0 };
+    size_t at, length = bytes_of("005310 c0(01 a1(6d65))", open, sizeof open);
+    for (at = 0; at < sizeof openings / sizeof *openings; at++) {
+        amqp1 place = AMQP1_EMPTY;
+        amqp1_how how = amqp1_how_of(key, 5, 6, AMQP1_WITHOUT_SASL);
+        int32_t status;
+        how.side = openings[at].side;
+        how.host = openings[at].host;
+        status = amqp1_new(&place, &how, open, length, openings[at].logins, openings[at].heads, bytes, bytes_of(openings[at].bytes, bytes, sizeof bytes));
+        if (status != openings[at].status)
+            printf("  opening %u: status %d\n", (unsigned)at, (int)status);
+        CHECK(status == openings[at].status && place.full == (status == AMQP1_DONE));
+        amqp1_free(&place);
+    }
 }
 
 /* An operation that does not exist, and no input or a very long one for each that does. */
 static void try_any_input(amqp1 *engine)
 {
-    static const uint32_t none_such[] = { 0, 1, 17, 22, 26, 30, 31, 255, UINT32_MAX };
+    static const uint32_t none_such[] = { 0, 1, 17, 22, 26, 34, 35, 255, UINT32_MAX };
     size_t many = 10 << 20, written, at;
     uint8_t *input = (uint8_t *)malloc(many), none[1] = { 0 }, out[64];
     uint32_t operation;
@@ -28,8 +82,12 @@ static void try_any_input(amqp1 *engine)
     if (!input)
         return;
     memset(input, 0xff, many);
-    for (operation = 0; operation < 40; operation++)
-        CHECK(amqp1_call(engine, operation, input, many, out, sizeof out, &written) == AMQP1_BAD_ARGUMENT);
+    for (operation = 0; operation < 40; operation++) {
+        /* any bytes are a challenge, and a response, which nothing asks for */
+        int is_any = operation == AMQP1_CHALLENGE || operation == AMQP1_RESPOND;
+        CHECK(amqp1_call(engine, operation, input, many, out, sizeof out, &written) == (is_any ? AMQP1_REFUSED : AMQP1_BAD_ARGUMENT));
+        CHECK(!is_any || refused_as(engine, "WrongTime", ""));
+    }
     for (operation = 3; operation < 16; operation++)
         CHECK(amqp1_call(engine, operation, none, 0, out, sizeof out, &written) == AMQP1_BAD_ARGUMENT);
     for (at = 0; at < sizeof none_such / sizeof *none_such; at++)
@@ -117,6 +175,14 @@ static void try_other_forms(void)
         { AMQP1_DISPOSE, "00000007 01 00000000 00000000 01 05" },
         { AMQP1_DISPOSE, "00000007 01 00000000 00000000 01 06" },
         { AMQP1_DISPOSE, "00000007 01 00000000 00000000 01 24" },
+        { AMQP1_LOGIN, "" },
+        { AMQP1_LOGIN, "00" },
+        { AMQP1_LOGIN, "05 00" },
+        { AMQP1_LOGIN, "ff 00" },
+        { AMQP1_LOGIN, "00 02" },
+        { AMQP1_LOGIN, "00 02 01" },
+        { AMQP1_LOGIN, "00 00 01" },
+        { AMQP1_IS_OVER, "00" },
     };
     amqp1 engine = begun();
     size_t at;
@@ -157,6 +223,7 @@ static void try_no_room(void)
     try_room_of(&engine, AMQP1_STATE, "", 1);
     try_room_of(&engine, AMQP1_SESSION_STATE, "00000007", 1);
     try_room_of(&engine, AMQP1_UNFIT, "", 4);
+    try_room_of(&engine, AMQP1_IS_OVER, "", 1);
     CHECK(amqp1_begin(&engine, 7, NULL, 5) == AMQP1_BAD_ARGUMENT);
     CHECK(amqp1_begin(&engine, 7, NULL, 0) == AMQP1_BAD_ARGUMENT && amqp1_release(&engine, 9) == AMQP1_REFUSED);
     CHECK(amqp1_refusal(&engine, out, 0, &written) == AMQP1_TOO_SMALL && written > strlen("NoSession") && written < sizeof out);
@@ -178,7 +245,8 @@ static void try_no_room(void)
 void try_inputs(void)
 {
     amqp1 engine = made();
-    try_bad_new();
+    try_bad_opens();
+    try_openings();
     try_any_input(&engine);
     amqp1_free(&engine);
     try_other_forms();

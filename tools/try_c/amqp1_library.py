@@ -14,6 +14,7 @@ import sys
 from pathlib import Path
 
 HEADERS = Path(__file__).resolve().parents[2] / "include" / "amqp1"
+HEADER = b"AMQP\0\1\0\0"
 SENT = bytes.fromhex("0000001b02000000005310c00e04a1026d654070000100006000ff")
 OPENED = bytes.fromhex("0000001a02000000005310c00d03a10470656572407000000400")
 
@@ -48,9 +49,13 @@ def tests(path):
     yield "start", library.amqp1_start(ctypes.byref(place), bytes(range(16)), text, count) == 0 and place.full == 1
     yield "open", library.amqp1_open(ctypes.byref(place)) == 0
     status = library.amqp1_output(ctypes.byref(place), text, ctypes.c_size_t(256), ctypes.byref(count))
-    yield "output", status == 0 and text.raw[: count.value] == SENT
-    status = library.amqp1_take(ctypes.byref(place), OPENED, ctypes.c_size_t(len(OPENED)), records, ctypes.c_size_t(2), ctypes.byref(took))
-    yield "take", status == 0 and took.taken == len(OPENED) and took.written == 1 and records.raw[0] == 1
+    yield "output", status == 0 and text.raw[: count.value] == HEADER
+    for what, came, wanted, kind in (("header", HEADER, 10, 14), ("take", OPENED, 0, 1)):
+        given = ctypes.c_uint64(0), came, ctypes.c_size_t(len(came)), records, ctypes.c_size_t(2), ctypes.byref(took)
+        status = library.amqp1_take(ctypes.byref(place), *given)
+        yield what, status == wanted and took.taken == len(came) and took.written == 1 and records.raw[0] == kind
+    status = library.amqp1_output(ctypes.byref(place), text, ctypes.c_size_t(256), ctypes.byref(count))
+    yield "frames", status == 0 and text.raw[: count.value] == SENT
     yield "name", library.amqp1_status_name(8) == b"BAD_SIZE"
     library.amqp1_free(ctypes.byref(place))
     yield "free", place.full == 0

@@ -229,7 +229,7 @@ static void try_too_long(void)
     CHECK(sends(&engine, "[02000000 005314 c0(05 43 43 a0(74) 43 42)]"));
     amqp1_u32_at(frame, (uint32_t)(front + 1100));
     amqp1_u32_at(frame + 12, (uint32_t)(front + 1100 - 16));
-    CHECK(amqp1_take(&engine, frame, front + 1100, &record, 1, &took) == AMQP1_DONE && took.taken == front + 1100);
+    CHECK(amqp1_take(&engine, 0, frame, front + 1100, &record, 1, &took) == AMQP1_DONE && took.taken == front + 1100);
     CHECK(record.kind == AMQP1_KIND_DISPOSITION && record.outcome == AMQP1_MODIFIED && sends(&engine, ""));
     CHECK(amqp1_unfit(&engine, &handle) == AMQP1_DONE && handle == unfit + 1);
     amqp1_free(&engine);

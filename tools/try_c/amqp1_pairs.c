@@ -54,7 +54,7 @@ static void start(side *it, int is_server, int settles)
     it->settles = settles;
     CHECK(amqp1_write_open(open, sizeof open, &length, is_server ? "server" : "client", NULL, 1024, 9, 0) ==
           AMQP1_DONE);
-    CHECK(amqp1_start(&it->engine, key, open, length) == AMQP1_DONE);
+    CHECK(amqp1_start(&it->engine, key, open, length) == AMQP1_DONE && exchanges_headers(&it->engine));
     CHECK(amqp1_open(&it->engine) == AMQP1_DONE);
 }
 
@@ -72,7 +72,7 @@ static void serve_begin(const amqp1_record *record, const uint8_t *input)
     length = amqp1_turn_begin(turned, sizeof turned, amqp1_bytes_at(out, written), record->channel);
     put(&client, turned, length);
     length = amqp1_turn_begin(turned, sizeof turned, amqp1_bytes_at(input + record->at - 8, record->size + 8), (uint16_t)(out[6] << 8 | out[7]));
-    CHECK(amqp1_take(&server.engine, turned, length, &begun, 1, &took) == AMQP1_DONE && begun.kind == AMQP1_KIND_BEGUN);
+    CHECK(amqp1_take(&server.engine, 0, turned, length, &begun, 1, &took) == AMQP1_DONE && begun.kind == AMQP1_KIND_BEGUN);
 }
 
 /* A link of this name: its Attach goes out. */
@@ -132,7 +132,7 @@ static void read_one(side *it, const amqp1_record *record, const uint8_t *input)
         break;
     case AMQP1_KIND_FLOW: break;
     case AMQP1_KIND_CLOSED: it->closed++; break;
-    case AMQP1_KIND_REFUSED:
+    case AMQP1_KIND_BEGIN_WANTED:
         EACH(it->is_server && record->refusal == AMQP1_WHY_BEGIN_WANTED);
         serve_begin(record, input);
         break;
@@ -140,7 +140,7 @@ static void read_one(side *it, const amqp1_record *record, const uint8_t *input)
     }
 }
 
-/* Takes what came, in pieces of any size, a few records at a time. The server stops behind each Begin and each Attach. */
+/* Takes what came, in pieces of any size, a few records at a time. The server's engine stops behind each Begin and each Attach that it answers. */
 static void take(side *it)
 {
     static uint8_t input[ROOM];
@@ -150,16 +150,15 @@ static void take(side *it)
     memcpy(input, it->in, all);
     it->length = 0;
     for (at = 0; known < all || at < known;) {
-        size_t end, n;
+        size_t n;
         int32_t status;
         known = all - known < 300 ? all : known + drawn(300);
-        end = it->is_server ? at + amqp1_up_to_wanted(input + at, known - at) : known;
-        status = amqp1_take(&it->engine, input + at, end - at, records, drawn(7), &took);
-        EACH(status == AMQP1_DONE || status == AMQP1_FULL);
+        status = amqp1_take(&it->engine, 0, input + at, known - at, records, drawn(7), &took);
+        EACH(status == AMQP1_DONE || status == AMQP1_FULL || status == AMQP1_AGAIN || status == AMQP1_OVER);
         for (n = 0; n < took.written; n++)
             read_one(it, records + n, input + at);
         at += took.taken;
-        if (!took.taken && known == all)
+        if ((status == AMQP1_DONE && known == all) || status == AMQP1_OVER)
             break;
     }
     put(it, input + at, all - at);

@@ -11,7 +11,7 @@ static void try_begin(amqp1 *engine)
     amqp1_took took;
     amqp1_bytes peers;
     size_t written = 0, length;
-    CHECK(hears_refused(engine, BEGIN_OF_PEER, AMQP1_WHY_BEGIN_WANTED) && heard[0].kind == AMQP1_KIND_REFUSED);
+    CHECK(hears_refused(engine, BEGIN_OF_PEER, AMQP1_WHY_BEGIN_WANTED) && heard[0].kind == AMQP1_KIND_BEGIN_WANTED);
     CHECK(heard[0].channel == 5 && heard[0].session == AMQP1_NONE && sends(engine, ""));
     peers = amqp1_bytes_at(begin, bytes_of(BEGIN_OF_PEER, begin, sizeof begin));
     CHECK(heard[0].at == 8 && amqp1_frame_code(peers) == AMQP1_BEGIN_CODE);
@@ -22,7 +22,7 @@ static void try_begin(amqp1 *engine)
     length = amqp1_turn_begin(turned, sizeof turned, amqp1_bytes_at(out, written), heard[0].channel);
     CHECK(are(turned, length, "[02000000 005311 d0 00000014 00000005 600005 43 7000000800 7000000800 52ff]"));
     length = amqp1_turn_begin(turned, sizeof turned, peers, 0);
-    CHECK(amqp1_take(engine, turned, length, &record, 1, &took) == AMQP1_DONE && took.taken == length && took.written == 1);
+    CHECK(amqp1_take(engine, 0, turned, length, &record, 1, &took) == AMQP1_DONE && took.taken == length && took.written == 1);
     CHECK(record.kind == AMQP1_KIND_BEGUN && record.session == 0 && record.channel == 5 && session_state_of(engine, 0) == AMQP1_SESSION_MAPPED);
 }
 
@@ -43,13 +43,16 @@ static void try_attach(amqp1 *engine)
 /* An End and a Close are records; the program answers them. */
 static void try_end(amqp1 *engine)
 {
+    amqp1_took took;
+    size_t length;
     CHECK(hears_one(engine, "[02000005 00531745]", AMQP1_KIND_ENDED) && heard[0].session == 0 && heard[0].refusal == 0 && sends(engine, ""));
     CHECK(session_state_of(engine, 0) == AMQP1_SESSION_END_RECEIVED);
     CHECK(amqp1_end(engine, 0, NULL, 0) == AMQP1_DONE && sends(engine, "[02000000 00531745]"));
     CHECK(hears_one(engine, "[02000000 00531845]", AMQP1_KIND_CLOSED) && heard[0].session == AMQP1_NONE && sends(engine, ""));
     CHECK(state_of(engine) == AMQP1_STATE_CLOSE_RECEIVED);
     CHECK(amqp1_close(engine, NULL, 0) == AMQP1_DONE && sends(engine, "[02000000 00531845]"));
-    CHECK(hears_refused(engine, "[02000000 " PEERS_OPEN "]", AMQP1_WHY_CONNECTION_STATE_ILLEGAL_STATE));
+    length = bytes_of("[02000000 " PEERS_OPEN "]", heard_bytes, sizeof heard_bytes);
+    CHECK(amqp1_take(engine, 0, heard_bytes, length, heard, 1, &took) == AMQP1_OVER && took.taken == 0 && took.written == 0);
 }
 
 void try_peers(void)

@@ -36,14 +36,24 @@ void try_records(void)
     STANDS(amqp1_sent, refusal, 4, 4);
     STANDS(amqp1_took, written, 8, 8);
     STANDS(amqp1_went, used, 8, 8);
-    CHECK(sizeof(amqp1_parts) == 48);
+    CHECK(sizeof(amqp1_parts) == 48 && sizeof(amqp1_how) == 40 && sizeof(amqp1_login_head) == 8 && sizeof(amqp1_ticked) == 16);
+    STANDS(amqp1_how, key, 0, 16);
+    STANDS(amqp1_how, time, 16, 8);
+    STANDS(amqp1_how, limit, 24, 4);
+    STANDS(amqp1_how, side, 28, 4);
+    STANDS(amqp1_how, host, 32, 4);
+    STANDS(amqp1_how, reserved, 36, 4);
+    STANDS(amqp1_login_head, mechanism, 0, 4);
+    STANDS(amqp1_login_head, response, 4, 4);
+    STANDS(amqp1_ticked, next, 0, 8);
+    STANDS(amqp1_ticked, due, 8, 4);
     STANDS(amqp1_parts, part, 0, 20);
     STANDS(amqp1_parts, rest, 20, 20);
     STANDS(amqp1_parts, more, 40, 4);
     STANDS(amqp1_parts, refusal, 44, 4);
     CHECK(amqp1_version() >> 16 == AMQP1_VERSION_MAJOR && amqp1_version() == AMQP1_VERSION_NUMBER);
-    CHECK(!strcmp(amqp1_status_name(AMQP1_SHORT), "SHORT") && !strcmp(amqp1_status_name(-1), "unknown") && !strcmp(amqp1_status_name(10), "unknown"));
-    CHECK(!strcmp(amqp1_kind_name(AMQP1_KIND_REFUSED), "Refused") && !strcmp(amqp1_kind_name(12), "unknown"));
+    CHECK(!strcmp(amqp1_status_name(AMQP1_SHORT), "SHORT") && !strcmp(amqp1_status_name(-1), "unknown") && !strcmp(amqp1_status_name(13), "TOO_LARGE") && !strcmp(amqp1_status_name(14), "unknown"));
+    CHECK(!strcmp(amqp1_kind_name(AMQP1_KIND_REFUSED), "Refused") && !strcmp(amqp1_kind_name(AMQP1_KIND_NOT_OPENED), "NotOpened") && !strcmp(amqp1_kind_name(21), "unknown"));
 }
 
 /* What each export answers where nothing lies; nothing is written. */
@@ -57,6 +67,7 @@ static void try_empty(amqp1 *place)
     amqp1_head head = head_of(7, 5, 0, 0, 0);
     amqp1_sent sent = { 7, 7 };
     amqp1_went went = { 7, 7 };
+    amqp1_ticked ticked = { 7, 7, 7 };
     amqp1_parts cut, old;
     memset(&record, 7, sizeof record);
     memset(&cut, 7, sizeof cut);
@@ -64,10 +75,11 @@ static void try_empty(amqp1 *place)
     for (operation = 0; operation < 40; operation++)
         CHECK(amqp1_call(place, operation, in, sizeof in, out, sizeof out, &written) == AMQP1_NO_ENGINE);
     CHECK(written == 77 && out[0] == 9 && out[7] == 9);
-    CHECK(amqp1_take(place, in, sizeof in, &record, 1, &took) == AMQP1_NO_ENGINE && took.taken == 7 && took.written == 7 && took.wanted == 7);
+    CHECK(amqp1_take(place, 0, in, sizeof in, &record, 1, &took) == AMQP1_NO_ENGINE && took.taken == 7 && took.written == 7 && took.wanted == 7);
     CHECK(record.kind == 7 && record.tag[31] == 7);
     CHECK(amqp1_send(place, &head, 1, in, sizeof in, &sent, 1, &went) == AMQP1_NO_ENGINE && went.taken == 7 && went.used == 7 && sent.number == 7);
     CHECK(amqp1_cut(place, &head, in, sizeof in, &cut) == AMQP1_NO_ENGINE && !memcmp(&cut, &old, sizeof cut));
+    CHECK(amqp1_tick(place, 9, &ticked) == AMQP1_NO_ENGINE && ticked.next == 7 && ticked.due == 7);
     CHECK(place->full == 0);
 }
 
@@ -75,11 +87,13 @@ static void try_made_twice(void)
 {
     amqp1 engine = made();
     void *at = engine.slot.at;
+    amqp1_how how = amqp1_how_of(key, 0, AMQP1_NONE, AMQP1_WITHOUT_SASL);
+    amqp1_login_head head = { 0, 0 };
     uint8_t open[64], none[1] = { 0 };
     size_t length;
     CHECK(amqp1_write_open(open, sizeof open, &length, "other", NULL, 512, 1, 0) == AMQP1_DONE);
     CHECK(amqp1_start(&engine, key, open, length) == AMQP1_BAD_ARGUMENT);
-    CHECK(amqp1_new(&engine, none, 0) == AMQP1_BAD_ARGUMENT);
+    CHECK(amqp1_new(&engine, &how, none, 0, &head, 0, none, 0) == AMQP1_BAD_ARGUMENT);
     CHECK(engine.full == 1 && engine.slot.at == at);
     CHECK(amqp1_open(&engine) == AMQP1_DONE && sends(&engine, OPEN_OUT));
     amqp1_free(&engine);

@@ -92,7 +92,7 @@ static void tell_record(unsigned place, const amqp1_record *record)
         const char *how = ended[record->kind == AMQP1_KIND_CLOSED][amqp1_has(record, AMQP1_FLAG_ERROR)];
         tell(place, how, strlen(how));
     } else if (record->refusal) {
-        EACH(record->kind == AMQP1_KIND_REFUSED || record->kind == AMQP1_KIND_ATTACH_WANTED);
+        EACH(record->kind == AMQP1_KIND_REFUSED || record->kind == AMQP1_KIND_ATTACH_WANTED || record->kind == AMQP1_KIND_BEGIN_WANTED);
         EACH(amqp1_refusal_text(&engine, record->refusal, said, sizeof said, &written) == AMQP1_DONE && written > 0);
         for (length = 0; length < written && said[length] != '\n'; length++) {
         }
@@ -146,15 +146,22 @@ static void hand_over(void)
         int32_t status;
         known = waiting.length - known < chunk ? waiting.length : known + chunk;
         do {
-            status = amqp1_take(&engine, waiting.at + at, known - at, records, 1 + chunk % 3, &took);
-            EACH(status == AMQP1_DONE || status == AMQP1_FULL);
+            status = amqp1_take(&engine, 0, waiting.at + at, known - at, records, 1 + chunk % 3, &took);
+            EACH(status == AMQP1_DONE || status == AMQP1_FULL || status == AMQP1_AGAIN || status == AMQP1_OVER);
             for (n = 0; n < took.written; n++) {
                 tell_record(place_of(records + n, at, known), records + n);
                 compare(records[n], at);
                 answer(records + n);
             }
             at += took.taken;
-        } while (status == AMQP1_FULL);
+        } while (status == AMQP1_FULL || status == AMQP1_AGAIN);
+        if (status == AMQP1_OVER) {
+            /* what comes behind both Closes is not taken: the recordings have it as it is refused */
+            for (n = 0; n < frame_count; n++)
+                if (frames[n].end > at)
+                    tell(frames[n].place, "IllegalState", 12);
+            break;
+        }
         EACH(at == known || (status == AMQP1_DONE && took.wanted > known - at));
         if (known == waiting.length && at < known) {
             EACH(0);
@@ -213,7 +220,7 @@ static void begin(void)
     uint8_t open[64];
     size_t length;
     CHECK(amqp1_write_open(open, sizeof open, &length, "replay", NULL, 262144, 255, 0) == AMQP1_DONE);
-    CHECK(amqp1_start(&engine, key, open, length) == AMQP1_DONE);
+    CHECK(amqp1_start(&engine, key, open, length) == AMQP1_DONE && exchanges_headers(&engine));
     sent.length = wanted_sent.length = told.length = wanted_told.length = waiting.length = 0;
     frame_count = heard_before = 0;
 }

@@ -75,9 +75,9 @@ static int hear_once(const uint8_t *frame, size_t length)
     amqp1_record record;
     amqp1_took took;
     int32_t status;
-    while (status = amqp1_take(&one, frame, length, &record, 1, &took), status == AMQP1_NO_MEMORY)
+    while (status = amqp1_take(&one, 0, frame, length, &record, 1, &took), status == AMQP1_NO_MEMORY)
         again++;
-    if (status != AMQP1_DONE || took.taken != length || took.written != 1)
+    if ((status != AMQP1_DONE && status != AMQP1_AGAIN && status != AMQP1_OVER) || took.taken != length || took.written != 1)
         printf("take: %s\n", amqp1_status_name(status));
     if (is_memory(record.refusal))
         return 0;
@@ -196,13 +196,41 @@ static void go_on(void)
     tell();
 }
 
+/* A client logs in: its engine is made, and both headers pass. */
+static void log_in(const uint8_t *open, size_t length)
+{
+    ASK(amqp1_start_client(&one, key, 0, AMQP1_NONE, "host", "me", "pw", open, length));
+    tell();
+    hear("414d5150 03010000");
+    hear("[02010000 005340 c0(01 a3(504c41494e))]");
+    hear("[02010000 005344 c0(01 5000)]");
+    hear("414d5150 00010000");
+}
+
+/* A server lets a client in, after a challenge. */
+static void let_in(const uint8_t *open, size_t length)
+{
+    ASK(amqp1_start_server(&one, key, 0, AMQP1_NONE, "PLAIN ASKING", open, length));
+    tell();
+    hear("414d5150 03010000");
+    hear("[02010000 005341 c0(01 a3(41534b494e47))]");
+    ASK(amqp1_challenge(&one, open, 3));
+    tell();
+    hear("[02010000 005343 c0(01 a0(72))]");
+    ASK(amqp1_login_with(&one, AMQP1_LOGIN_OK, open, 3));
+    tell();
+    hear("414d5150 00010000");
+    ASK(amqp1_open(&one));
+    tell();
+}
+
 int main(void)
 {
     uint8_t text[64];
     size_t length;
     setvbuf(stdout, printed, _IOFBF, sizeof printed);
     must(amqp1_write_open(text, sizeof text, &length, "me", NULL, 65536, 255, 0));
-    ASK(amqp1_start(&one, key, text, length));
+    log_in(text, length);
     ASK(amqp1_open(&one));
     hear("[02000000 " PEERS_OPEN "]");
     begin();
@@ -214,6 +242,9 @@ int main(void)
     ASK(amqp1_close(&one, NULL, 0));
     hear("[02000000 00531845]");
     tell();
+    amqp1_free(&one);
+    must(amqp1_write_open(text, sizeof text, &length, "me", NULL, 65536, 255, 0));
+    let_in(text, length);
     amqp1_free(&one);
     printf("~ %ld\n", again);
     return 0;

@@ -32,7 +32,7 @@ static void hear(amqp1 *engine, const uint8_t *frame, size_t length, enum amqp1_
 {
     amqp1_record record;
     amqp1_took took;
-    must(amqp1_take(engine, frame, length, &record, 1, &took) == AMQP1_DONE && took.taken == length, "a frame is not taken");
+    must(amqp1_take(engine, 0, frame, length, &record, 1, &took) == AMQP1_DONE && took.taken == length, "a frame is not taken");
     must(took.written == 1 && record.kind == kind, "a frame says something else");
 }
 
@@ -57,7 +57,7 @@ static void begin(amqp1 *engine)
     uint32_t handle;
     size_t length;
     must(amqp1_write_open(text, sizeof text, &length, "me", NULL, 65536, 255, 0) == AMQP1_DONE, "no room");
-    must(amqp1_start(engine, some, text, length) == AMQP1_DONE, "no engine");
+    must(amqp1_start(engine, some, text, length) == AMQP1_DONE && exchanges_headers(engine), "no engine");
     must(amqp1_open(engine) == AMQP1_DONE, "no open");
     hear_digits(engine, "[02000000 " PEERS_OPEN "]", AMQP1_KIND_OPENED);
     must(amqp1_write_begin(text, sizeof text, &length, 0, 2000000000, 2048, 255) == AMQP1_DONE, "no room");

@@ -5,6 +5,8 @@
 #define FIRST "[02000003 005314 c0(06 5206 43 a0(61) 43 42 42) 010203]"
 #define SECOND "[02000003 005314 c0(06 5206 5201 a0(62) 43 42 42) 04]"
 #define EMPTY "[02000000]"
+#define FRAMING_ERROR \
+    "[02000000 005318 c0(01 00531d c0(01 a3(616d71703a636f6e6e656374696f6e3a6672616d696e672d6572726f72)))]"
 
 /* An engine with a link on which this side receives, by the peer's handle 6. */
 static amqp1 receiving(void)
@@ -35,7 +37,7 @@ static void try_fronts(void)
             return;
         memcpy(part, bytes, front);
         memset(records, 0xee, sizeof records);
-        CHECK(amqp1_take(&engine, part, front, records, 4, &took) == AMQP1_DONE);
+        CHECK(amqp1_take(&engine, 0, part, front, records, 4, &took) == AMQP1_DONE);
         for (frame = 0, at = 0; frame < 4 && ends[frame] <= front; frame++)
             at = ends[frame];
         CHECK(took.taken == at && took.written == (front >= ends[1] ? 1u : 0u) + (front >= ends[2] ? 1u : 0u));
@@ -70,12 +72,12 @@ static void try_full(void)
         amqp1_took took;
         size_t at = 0, count = 0, rounds = 0;
         memset(records, 0xee, sizeof records);
-        CHECK(amqp1_take(&engine, bytes, length, records, room, &took) == AMQP1_FULL);
+        CHECK(amqp1_take(&engine, 0, bytes, length, records, room, &took) == AMQP1_FULL);
         CHECK(took.written == room && took.wanted == 0 && records[room].kind == 0xee);
         at = took.taken;
         count = took.written;
         while (at < length && rounds++ < 9) {
-            int32_t status = amqp1_take(&engine, bytes + at, length - at, records, 1, &took);
+            int32_t status = amqp1_take(&engine, 0, bytes + at, length - at, records, 1, &took);
             CHECK(status == AMQP1_DONE || status == AMQP1_FULL);
             CHECK(!took.written || (records[0].kind == AMQP1_KIND_TRANSFER && bytes[at + records[0].payload_at] == (count ? 4 : 1)));
             at += took.taken;
@@ -97,13 +99,18 @@ static void try_bad_sizes(void)
         amqp1_took took;
         uint8_t bytes[256];
         size_t front = bytes_of(EMPTY FIRST, bytes, sizeof bytes), length = front + bytes_of(sizes[at], bytes + front, 64);
-        CHECK(amqp1_take(&engine, bytes + front, length - front, records, 3, &took) == AMQP1_BAD_SIZE);
+        CHECK(amqp1_take(&engine, 0, bytes + front, length - front, records, 3, &took) == AMQP1_BAD_SIZE);
         CHECK(!took.taken && !took.written && !took.wanted);
-        CHECK(amqp1_take(&engine, bytes, length, records, 3, &took) == AMQP1_BAD_SIZE && took.taken == front && took.written == 1 && !took.wanted);
+        amqp1_free(&engine);
+        engine = receiving();
+        CHECK(amqp1_take(&engine, 0, bytes, length, records, 3, &took) == AMQP1_BAD_SIZE && took.taken == front && took.written == 1 && !took.wanted);
         CHECK(records[0].kind == AMQP1_KIND_TRANSFER);
-        /* the size stands there before its frame is whole, and before there is room for a record */
-        CHECK(amqp1_take(&engine, bytes + front, 4, records, 0, &took) == AMQP1_BAD_SIZE);
-        CHECK(amqp1_close(&engine, NULL, 0) == AMQP1_DONE && sends(&engine, "[02000000 00531845]"));
+        amqp1_free(&engine);
+        engine = receiving();
+        /* the size stands there before its frame is whole, and before there is room for a record; it closes, and is over */
+        CHECK(amqp1_take(&engine, 0, bytes + front, 4, records, 0, &took) == AMQP1_BAD_SIZE);
+        CHECK(sends(&engine, FRAMING_ERROR) && amqp1_close(&engine, NULL, 0) == AMQP1_REFUSED && refused_as(&engine, "Over", ""));
+        CHECK(amqp1_take(&engine, 0, bytes, front, records, 3, &took) == AMQP1_OVER && !took.taken && !took.written && sends(&engine, ""));
         amqp1_free(&engine);
     }
 }

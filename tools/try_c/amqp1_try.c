@@ -21,7 +21,7 @@ amqp1 made(void)
     uint8_t open[64];
     size_t length;
     CHECK(amqp1_write_open(open, sizeof open, &length, "me", NULL, 65536, 255, 0) == AMQP1_DONE);
-    CHECK(amqp1_start(&engine, key, open, length) == AMQP1_DONE);
+    CHECK(amqp1_start(&engine, key, open, length) == AMQP1_DONE && exchanges_headers(&engine));
     return engine;
 }
 
@@ -37,10 +37,19 @@ int sends(amqp1 *engine, const char *digits)
 size_t hears(amqp1 *engine, const char *digits)
 {
     amqp1_took took = { 9, 9, 9 };
-    size_t length = bytes_of(digits, heard_bytes, sizeof heard_bytes);
-    int32_t status = amqp1_take(engine, heard_bytes, length, heard, sizeof heard / sizeof *heard, &took);
-    CHECK(status == AMQP1_DONE && took.taken == length && took.wanted == 4);
-    return took.written;
+    size_t length = bytes_of(digits, heard_bytes, sizeof heard_bytes), at = 0, count = 0, n;
+    int32_t status;
+    do {
+        status = amqp1_take(engine, 0, heard_bytes + at, length - at, heard + count, sizeof heard / sizeof *heard - count, &took);
+        for (n = count; n < count + took.written; n++) {
+            heard[n].at += (uint32_t)at;
+            heard[n].payload_at += (uint32_t)at;
+        }
+        at += took.taken;
+        count += took.written;
+    } while (status == AMQP1_AGAIN);
+    CHECK(at == length && (status == AMQP1_DONE ? took.wanted == 4 : status == AMQP1_OVER));
+    return count;
 }
 
 int hears_one(amqp1 *engine, const char *digits, enum amqp1_kind kind)
@@ -56,7 +65,7 @@ int hears_one(amqp1 *engine, const char *digits, enum amqp1_kind kind)
 int hears_refused(amqp1 *engine, const char *digits, enum amqp1_why why)
 {
     size_t count = hears(engine, digits);
-    int is_so = count == 1 && (heard[0].kind == AMQP1_KIND_REFUSED || heard[0].kind == AMQP1_KIND_ATTACH_WANTED) && heard[0].refusal == (unsigned)why;
+    int is_so = count == 1 && (heard[0].kind == AMQP1_KIND_REFUSED || heard[0].kind == AMQP1_KIND_ATTACH_WANTED || heard[0].kind == AMQP1_KIND_BEGIN_WANTED) && heard[0].refusal == (unsigned)why;
     if (!is_so)
         printf("  %s, refusal %u, and not %u\n", amqp1_kind_name(heard[0].kind), (unsigned)heard[0].refusal, (unsigned)why);
     return is_so;
@@ -157,6 +166,7 @@ int main(int count, char **words)
     try_writers();
     try_peers();
     try_pairs();
+    try_streams();
     if (count > 1)
         try_exchanges(words[1]);
     if (count > 2)

@@ -22,17 +22,33 @@ size_t bytes_of(const char *digits, uint8_t *out, size_t room);
 int are(const uint8_t *bytes, size_t length, const char *digits);
 int is(amqp1_bytes bytes, const char *digits);
 
+/* The header of AMQP goes out, and the peer's comes in (AMQP 1.0 part 2, section 2.2): frames follow. Whether both are as they have to be. */
+static inline int exchanges_headers(amqp1 *engine)
+{
+    static const uint8_t header[8] = { 'A', 'M', 'Q', 'P', 0, 1, 0, 0 };
+    uint8_t out[8] = { 0 };
+    amqp1_record record;
+    amqp1_took took;
+    size_t written = 0;
+    int32_t status = amqp1_output(engine, out, sizeof out, &written);
+    if (status != AMQP1_DONE || written != sizeof out || memcmp(out, header, sizeof out))
+        return 0;
+    status = amqp1_take(engine, 0, header, sizeof header, &record, 1, &took);
+    return status == AMQP1_AGAIN && took.taken == 8 && took.written == 1 && record.kind == AMQP1_KIND_AMQP_HEADER;
+}
+
 /* 16 bytes that are not all zero. */
 extern const uint8_t key[16];
 
-/* An engine whose Open is the one that OPEN_OUT spells. */
+/* An engine whose Open is the one that OPEN_OUT spells; both headers have passed. */
 amqp1 made(void);
 #define OPEN_OUT "[02000000 005310 c0(04 a1(6d65) 40 7000010000 6000ff)]"
 
 /* Whether the bytes that wait to be sent are these; they are taken off. */
 int sends(amqp1 *engine, const char *digits);
 
-/* Hands over the peer's frames, all of which are taken: how many records came of them. Records and bytes stay until the next call. */
+/* Hands over the peer's frames, all of which are taken: how many records came of them. What comes behind one that is to be answered is given again
+   at once. Records and bytes stay until the next call. */
 size_t hears(amqp1 *engine, const char *digits);
 extern amqp1_record heard[64];
 extern uint8_t heard_bytes[4096];
@@ -79,6 +95,7 @@ void try_cuts(void);
 void try_writers(void);
 void try_peers(void);
 void try_pairs(void);
+void try_streams(void);
 /* The exchanges in the file of this name: what goes out, and what is refused; and recordings: records, and what is refused. */
 void try_exchanges(const char *path);
 void try_recorded(const char *path);

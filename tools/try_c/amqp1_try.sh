@@ -14,7 +14,7 @@ trap 'rm -rf "$folder"' EXIT
 passed=0 failed=0
 . tools/try_c/counting.sh
 include=$prefix/include library=$prefix/lib
-tests=(tools/try_c/amqp1_{try,bytes,places,inputs,operations,takes,links,sends,cuts,writers,peers,pairs,recorded}.c)
+tests=(tools/try_c/amqp1_{try,bytes,places,inputs,operations,takes,links,sends,cuts,writers,peers,pairs,streams,recorded}.c)
 strict=(-Wall -Wextra -Wpedantic -Wconversion -Wshadow -Werror -I"$include" -Itools/try_c)
 sanitized=(-g -O1 -fsanitize=address,undefined -fno-sanitize-recover=undefined)
 recorded=("$folder/exchanges" "$folder/recorded")
@@ -89,7 +89,13 @@ each_refused() {
 # Builds the examples.
 examples() {
     cc -std=c99 "${strict[@]}" "${sanitized[@]}" examples/c/amqp1_server.c examples/c/amqp1_server_io.c "$library/libamqp1.a" -o "$folder/server" &&
-        cc -std=c99 "${strict[@]}" "${sanitized[@]}" examples/c/amqp1_send.c "$library/libamqp1.a" -o "$folder/send"
+        cc -std=c99 "${strict[@]}" "${sanitized[@]}" examples/c/amqp1_send.c "$library/libamqp1.a" -o "$folder/send" &&
+        cc -std=c99 "${strict[@]}" "${sanitized[@]}" examples/c/amqp1_idle.c "$library/libamqp1.a" -o "$folder/idle"
+}
+
+# An idle hour of 1000 connections is 120 empty frames each, and one that was due when it began.
+idled() {
+    "$folder/idle" 1000 10 | grep -qx 'an idle hour: 121000 empty frames, 121000 ticks, .*'
 }
 
 # Starts a server in the background, and has a client be served by it, once it listens.
@@ -134,6 +140,7 @@ if has clang "libFuzzer, for $seconds seconds" && [ -e "$(clang -print-file-name
     holds "any bytes, for $seconds seconds" fuzzed
 fi
 holds "the examples" examples
+holds "an hour of idle connections" idled
 holds "500 messages each way, between the examples" served $port "$folder/server $port 2" "$folder/send 127.0.0.1 $port q 500"
 proton=(/usr/bin/python3 tools/try_c/amqp1_proton.py)
 if "${proton[0]}" -c 'import proton' 2>"$folder/said"; then

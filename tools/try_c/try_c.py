@@ -4,6 +4,7 @@
 Two engines talk in memory, and over sockets on loopback; each call is made once with the values compared; then what is refused, and what has no form.
 """
 
+import ctypes
 import os
 import sys
 from pathlib import Path
@@ -15,8 +16,8 @@ from amqp_engine import (
     ACCEPTED, RECEIVER, RELEASED, SECOND, SENDER, Attach, BadArgument, Begin, Closed, Delivery, Detach, Detached, Disposed, Disposition, Driver, Engine,
     Error, Flow, Flowed, Refusal, Server, SessionBegan, SessionEnded, Transfer, Transferred, address_of, data,
 )  # fmt: skip
-from amqp_engine.driver import FORMATTED, MORE, NUMBERED
-from amqp_engine.library import Place, load
+from amqp_engine.driver import FORMATTED, MORE, NONE, NUMBERED
+from amqp_engine.library import How, Place, load
 from shared.command import command
 from try_c.try_c_cuts import TESTS as OF_CUTS
 from try_c.try_c_pair import Pair, frames, mapped, refused
@@ -266,8 +267,8 @@ def frames_of_no_lawful_size_are_refused_for_good():
         engine = Engine(OPEN)
         assert [it.name for it in engine.receive(size + b"\x02\x00\x00\x00")] == ["BadSize"]
         assert [it.name for it in engine.receive(b"\x00\x00\x00\x08\x02\x00\x00\x00")] == ["BadSize"]
-        engine.open()
-        assert frames(engine.to_send())[0][4:7] == b"\x00\x53\x10"
+        refused(engine.open, "Over")
+        assert engine.to_send() == b""
 
 
 @test
@@ -320,10 +321,12 @@ def a_freed_engine_answers():
 def an_open_that_is_none_makes_no_engine():
     library, place = load(), Place()
     key = b"k" * 16
-    for given in (b"", bytes(15), key, key + b"\x00\x53\x11\x45", bytes(16) + OPEN.encode()):
-        assert library.amqp1_new(place, given, len(given)) == 4, given
+    for of, given in ((key, b""), (key, b"\x00\x53\x11\x45"), (key, OPEN.encode()[:-1]), (bytes(16), OPEN.encode())):
+        how = How((ctypes.c_uint8 * 16)(*of), 0, NONE, 0, NONE)
+        assert library.amqp1_new(place, how, given, len(given), b"", 0, b"", 0) == 4, given
         assert place.full == 0
-    assert library.amqp1_new(place, key + OPEN.encode(), 16 + len(OPEN.encode())) == 0 and place.full == 1
+    how = How((ctypes.c_uint8 * 16)(*key), 0, NONE, 0, NONE)
+    assert library.amqp1_new(place, how, OPEN.encode(), len(OPEN.encode()), b"", 0, b"", 0) == 0 and place.full == 1
     library.amqp1_free(place)
 
 

@@ -48,6 +48,9 @@ class Replay(LineEngine):
             self.engine.detach(event.session, Detach(event.output_handle, event.detach.closed), expects_answer=False)
 
     def receive(self, data):
+        if self.engine.is_over:
+            yield from super().receive(data)
+            return
         for at in range(0, len(data), self.size):
             yield from self.engine.receive(data[at : at + self.size])
 

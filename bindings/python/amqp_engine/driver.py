@@ -18,8 +18,8 @@ _UNFIT, _REFUSAL_TEXT, _DISPOSE = 27, 28, 29
 
 #: What a record is of
 (
-    OPENED, BEGUN, ATTACHED, ATTACH_WANTED, FLOW, TRANSFER, DISPOSITION, DETACHED, ENDED, CLOSED, REFUSED,
-) = range(1, 12)  # fmt: skip
+    OPENED, BEGUN, ATTACHED, ATTACH_WANTED, FLOW, TRANSFER, DISPOSITION, DETACHED, ENDED, CLOSED, REFUSED, BEGIN_WANTED,
+) = range(1, 13)  # fmt: skip
 
 #: What a frame says besides, and what a transfer is to say; the comments of `include/amqp1/records.h` have each
 (
@@ -37,6 +37,7 @@ _SENT = struct.Struct("=2I")
 _PARTS = struct.Struct("=4I2H20s2I")
 _PAYLOAD_TOO_LONG = 91
 _NONE_HERE = ctypes.c_char()
+_HEADER = b"AMQP\0\1\0\0"
 
 
 class Record(NamedTuple):
@@ -66,13 +67,14 @@ class Record(NamedTuple):
 
 
 class Taken(NamedTuple):
-    """What `Driver.take` took: how many bytes; the records of their frames; how many bytes the next frame has, as far as that is known; and whether a
-    size stands there that no frame has: then the connection is to be closed, with `amqp:connection:framing-error`."""
+    """What `Driver.take` took: how many bytes; the records of their frames; how many bytes the next frame has, as far as that is known; whether a size
+    stands there that no frame has: then a Close waits to be sent, for `amqp:connection:framing-error`; and whether the connection is over."""
 
     taken: int
     records: List[Record]
     wanted: int
     is_bad: bool
+    is_over: bool
 
 
 class Delivery(NamedTuple):
@@ -127,28 +129,38 @@ class Driver(Requests):
         self._most, self._took, self._went = most, lib.Took(), lib.Went()
         self._parts = ctypes.create_string_buffer(_PARTS.size)
         self._texts: Dict[int, Tuple[str, ...]] = {}
-        given = (os.urandom(16) if key is None else key) + open.encode()
+        given = open.encode()
         if key is not None and len(key) != 16:
             raise ValueError("a key has 16 bytes")
-        self._judge(functions.amqp1_new(ctypes.byref(self._place), given, len(given)))
+        how = lib.How((ctypes.c_uint8 * 16)(*(os.urandom(16) if key is None else key)), 0, NONE, 0, NONE)
+        self._judge(functions.amqp1_new(ctypes.byref(self._place), ctypes.byref(how), given, len(given), b"", 0, b"", 0))
+        self._pass_headers()
+
+    def _pass_headers(self) -> None:
+        """This driver begins behind the protocol headers, which its caller exchanges: the library's stream is given the peer's, and its own is taken off."""
+        status, count = self._call(SEND, b"", 0)
+        self._judge(status)
+        if ctypes.string_at(self._buffer, count) != _HEADER or self.take(_HEADER).taken != len(_HEADER):
+            raise RuntimeError("the library does not exchange headers")
 
     # ---- what comes
 
     def take(self, data: Union[bytes, bytearray], at: int = 0) -> Taken:
-        """Takes whole frames out of these bytes, from a place on, as long as there is room for their records: each runs once. Give what was not taken
-        again, with what came since. Raises `NoMemory` where memory was refused before the first frame."""
+        """Takes whole frames out of these bytes, from a place on, as long as there is room for their records, up to one that is to be answered first: each
+        runs once. Give what was not taken again, with what came since. Raises `NoMemory` where memory was refused before the first frame."""
         took = self._took
         # what is held keeps a bytearray as long as it is
         start, held = _place_of(data, at)
-        status = self._take(ctypes.byref(self._place), start, len(data) - at, self._records, self._most, ctypes.byref(took))
+        # the time is not told: who wants beats sends them
+        status = self._take(ctypes.byref(self._place), 0, start, len(data) - at, self._records, self._most, ctypes.byref(took))
         del held
-        if status not in (lib.FULL, lib.BAD_SIZE) and not (status == lib.NO_MEMORY and took.taken):
+        if status not in (lib.FULL, lib.BAD_SIZE, lib.AGAIN, lib.OVER) and not (status == lib.NO_MEMORY and took.taken):
             self._judge(status)
         said = memoryview(self._records)[: took.written * _RECORD.size]
         records = [Record._make(it) for it in _RECORD.iter_unpack(said)]
         if at:
             records = [it._replace(at=it.at + at, payload_at=it.payload_at + at) for it in records]
-        return Taken(took.taken, records, took.wanted, status == lib.BAD_SIZE)
+        return Taken(took.taken, records, took.wanted, status == lib.BAD_SIZE, status == lib.OVER)
 
     def refusal_of(self, number: int) -> Refusal:
         """Why a frame or a transfer was refused, by its number: its name, and the condition that answers the frame, if any."""

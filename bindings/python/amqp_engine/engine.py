@@ -27,6 +27,8 @@ class Engine(Driver):
         self._came, self._at, self._wanted = bytearray(), 0, 0
         #: Whether a frame had no lawful size: nothing more can be read
         self.is_broken = False
+        #: Whether both Closes have passed, and nothing is taken any more
+        self.is_over = False
         # the peer's Open, and whether it came; and how many frames that did not fit were told
         self._theirs: Optional[Open] = None
         self._has_theirs = False
@@ -61,8 +63,12 @@ class Engine(Driver):
             taken = self.take(self._came, self._at)
             self._at, self._wanted, self.is_broken = self._at + taken.taken, taken.wanted, taken.is_bad
             # made before any is given: whoever takes one may have more bytes received
-            yield from [event for record in taken.records for event in self._events_of(record)]
-            if taken.wanted:
+            told = [event for record in taken.records for event in self._events_of(record)]
+            if taken.is_over:
+                # nothing more is taken, whatever comes
+                self.is_over, self._at = True, len(self._came)
+            yield from told
+            if taken.wanted or taken.is_over:
                 return
         self._came.clear()
         self._at = self._wanted = 0
@@ -99,7 +105,7 @@ class Engine(Driver):
             return Attached(*link, Attach.decode(body))
         if kind == said.DETACHED:
             return Detached(*link, Detach.decode(body), link[2] is not None)
-        if kind in (said.ATTACH_WANTED, said.REFUSED):
+        if kind in (said.ATTACH_WANTED, said.BEGIN_WANTED, said.REFUSED):
             return self.refusal_of(record.refusal)
         return self._end_of(record, body)
 

@@ -66,6 +66,7 @@ class Detached(Event):
     remote_initiated: bool
 
 
+#: What `Engine.receive` gives beside refusals
 AnyEvent = Union[Attached, Flowed, Transferred, Disposed, Detached]
 
 

@@ -95,6 +95,7 @@ class Repeated(Sequence):
     __slots__ = ("item", "count")
 
     def __init__(self, item: Any, count: int) -> None:
+        #: the item, and how often it stands there
         self.item, self.count = item, count
 
     def __len__(self) -> int:
@@ -128,6 +129,7 @@ class Array:
     __slots__ = ("items", "constructor")
 
     def __init__(self, items: Sequence, constructor: Optional[bytes] = None) -> None:
+        #: the items, in their order
         self.items, self.constructor = items, constructor
 
     def __eq__(self, other: Any) -> bool:

@@ -7,8 +7,9 @@ import os
 from pathlib import Path
 from typing import Any, Optional
 
+#: What a function of the library answers; `enum amqp1_status` of `include/amqp1/records.h` has each
 DONE, REFUSED, NO_MEMORY, TOO_SMALL, BAD_ARGUMENT, NO_ENGINE = range(6)
-FULL, BAD_SIZE, SHORT = range(7, 10)
+FULL, BAD_SIZE, SHORT, AGAIN, WAITS, OVER, TOO_LARGE = range(7, 14)
 _FILE = "libamqp1.so.1"
 
 
@@ -22,6 +23,19 @@ class Place(ctypes.Structure):
     """Where one engine lies. All of it is zero at first; it is never copied while an engine lies there."""
 
     _fields_ = [("full", ctypes.c_uint32), ("slot", Slot)]
+
+
+class How(ctypes.Structure):
+    """How a stream is made: its key, the time, and its side of SASL."""
+
+    _fields_ = [
+        ("key", ctypes.c_uint8 * 16),
+        ("time", ctypes.c_uint64),
+        ("limit", ctypes.c_uint32),
+        ("side", ctypes.c_uint32),
+        ("host", ctypes.c_uint32),
+        ("reserved", ctypes.c_uint32),
+    ]
 
 
 class Took(ctypes.Structure):
@@ -46,7 +60,7 @@ def load(path: Optional[str] = None) -> ctypes.CDLL:
     library = _found(path)
     place, size, at = ctypes.POINTER(Place), ctypes.c_size_t, ctypes.c_void_p
     _declare(library.amqp1_new, library.amqp1_call, library.amqp1_free)
-    library.amqp1_take.argtypes = [place, at, size, at, size, ctypes.POINTER(Took)]
+    library.amqp1_take.argtypes = [place, ctypes.c_uint64, at, size, at, size, ctypes.POINTER(Took)]
     library.amqp1_take.restype = ctypes.c_int32
     library.amqp1_send.argtypes = [place, at, size, at, size, at, size, ctypes.POINTER(Went)]
     library.amqp1_send.restype = ctypes.c_int32
@@ -57,7 +71,8 @@ def load(path: Optional[str] = None) -> ctypes.CDLL:
 
 def _declare(new: Any, call: Any, free: Any) -> None:
     place, size = ctypes.POINTER(Place), ctypes.c_size_t
-    new.argtypes, new.restype = [place, ctypes.c_char_p, size], ctypes.c_int32
+    text = ctypes.c_char_p
+    new.argtypes, new.restype = [place, ctypes.POINTER(How), text, size, text, size, text, size], ctypes.c_int32
     call.argtypes = [place, ctypes.c_uint32, ctypes.c_void_p, size, ctypes.c_void_p, size, ctypes.POINTER(size)]
     call.restype = ctypes.c_int32
     free.argtypes, free.restype = [place], None

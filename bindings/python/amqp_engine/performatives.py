@@ -13,6 +13,7 @@ from typing import Any, ClassVar, List, Mapping, Optional, Tuple, Type, TypeVar
 
 from .values import Array, Described, Malformed, Map, Symbol, Ubyte, Uint, Ulong, Ushort, read, write
 
+#: The end of a link on which a side stands (section 2.8.1)
 SENDER, RECEIVER = False, True
 #: Settle modes of a sender: unsettled, settled, mixed; of a receiver: first, second
 UNSETTLED, SETTLED, MIXED = 0, 1, 2
@@ -302,7 +303,9 @@ def address_of(terminus: Any) -> Optional[str]:
     return None
 
 
+#: The outcome accepted (AMQP 1.0 part 3, section 3.4.2)
 ACCEPTED = Described(Ulong(0x24), [])
+#: The outcome released (section 3.4.4)
 RELEASED = Described(Ulong(0x26), [])
 
 

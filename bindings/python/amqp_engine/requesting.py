@@ -10,6 +10,7 @@ from . import library as lib
 from .events import Refusal
 from .performatives import Attach, Begin, Detach, Disposition, Error, Flow, Transfer
 
+#: The operations of the library by their numbers; `enum amqp1_operation` of `include/amqp1/exports.h` has each
 (
     _OPEN, _CLOSE, _BEGIN, _END, _RELEASE, _FORGET, _LINK, _LINK_ON, _ATTACH, _DETACH, _FLOW, _TRANSFER, _DISPOSITION, _SETTLE, SEND,
 ) = range(2, 17)  # fmt: skip

@@ -32,6 +32,7 @@ class Plain:
     password: str
 
 
+#: How a client logs in
 Login = Union[Anonymous, Plain]
 
 

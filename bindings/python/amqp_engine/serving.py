@@ -39,6 +39,7 @@ class Closed(Event):
     """The client closed the connection, and was answered."""
 
 
+#: What `Server.receive` gives: events, and refusals of frames
 ServerEvent = Union[AnyEvent, SessionBegan, SessionEnded, Closed, Refusal]
 
 

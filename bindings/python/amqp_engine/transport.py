@@ -65,6 +65,7 @@ class Connection:
         waits: Optional[Waits] = None,
         **how: Any,
     ) -> None:
+        #: the engine, of which a program asks what it wants to be sent
         self.engine = Engine(open, **how)
         self.server = None if serves is None else Server(self.engine, begin=serves)
         self._waits = waits or Waits()
@@ -260,8 +261,10 @@ class Connection:
 
     async def _close_soon(self, error: Error) -> None:
         """Has a Close go out, if one still can."""
-        with contextlib.suppress(Refusal, ConnectionError):
+        with contextlib.suppress(Refusal):
             self.engine.close(error)
+        # also where the engine has closed by itself
+        with contextlib.suppress(Refusal, ConnectionError):
             await self.flush()
 
     def _keep_alive(self) -> None:
@@ -289,7 +292,9 @@ class Connection:
 
     async def close(self, error: Optional[Error] = None) -> None:
         """Sends a Close, and waits until the peer's has come; what else comes meanwhile is passed over. Raises `PeerSilent` where none comes in time."""
-        self.engine.close(error)
+        # at a size that no frame may have the engine has closed by itself
+        if not self.engine.is_broken:
+            self.engine.close(error)
         await self._passed_over()
 
     async def fail(self, error: BaseException) -> None:

@@ -1,6 +1,7 @@
 pub mod AskingLemmas
 pub mod ClientLemmas
 pub mod LinkingLemmas
+pub mod LoginLemmas
 pub mod NamesLemmas
 pub mod PlaceLemmas
 pub mod ReadingLemmas

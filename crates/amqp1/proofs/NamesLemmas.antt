@@ -15,9 +15,9 @@ use Rattle.amqp_driver.specs.Refusals.{refusal_number}
 use Rattle.fe2o3_amqp.specs.declared.refusals.PeerAnswer.{PeerAnswer}
 use Rattle.fe2o3_amqp.specs.Refusals.{step_answer}
 use Rattle.fe2o3_amqp.specs.Transcript.{name_of}
-use Rattle.amqp1.specs.Names.{IsAnsweredBy, IsCalled, is_engines}
+use Rattle.amqp1.specs.Names.{IsAnsweredBy, IsCalled, is_engines, is_drivers}
 use Rattle.amqp1.specs.Inner.NameTables.{answer_at, answer_by, closing_at, ending_at, name_at, step_name_at, frame_name_at, state_name_at, inner_name_at}
-use Rattle.amqp1.specs.Inner.NameTables.{alloc_name_at, begun_name_at, session_name_at, link_name_at, own_name_at}
+use Rattle.amqp1.specs.Inner.NameTables.{alloc_name_at, begun_name_at, session_name_at, link_name_at, own_name_at, opening_name_at}
 
 named : (e : StepError) → name_at (refusal_number e) ≡ Some (name_of e)
 named no.OutputWaiting = refl
@@ -173,16 +173,25 @@ link_none n h =
     past (nat_eq n 81) _ (no_engines n 81 h refl) (past (nat_eq n 82) _ (no_engines n 82 h refl) (past (nat_eq n 83) _ (no_engines n 83 h refl)
     (past (nat_eq n 84) _ (no_engines n 84 h refl) (past (nat_eq n 85) _ (no_engines n 85 h refl) refl))))
 
-own_none : (n : ℕ) → ¬ (n ≡ 91) → ¬ (n ≡ 92) → own_name_at n ≡ None
-own_none n a b =
-    past (nat_eq n 91) _ (differ n 91 a) (past (nat_eq n 92) _ (differ n 92 b) refl)
+no_drivers : (n k : ℕ) → is_drivers n ≡ false → is_drivers k ≡ true → nat_eq n k ≡ false
+no_drivers n k h t = differ n k (λ e. let x : true ≡ false = sym t ∙ ap is_drivers (sym e) ∙ h in absurd cc)
 
-none_named : (n : ℕ) → is_engines n ≡ false → ¬ (n ≡ 91) → ¬ (n ≡ 92) → name_at n ≡ None
-none_named n h a b =
+own_none : (n : ℕ) → is_drivers n ≡ false → own_name_at n ≡ None
+own_none n h = past (nat_eq n 91) _ (no_drivers n 91 h refl) (past (nat_eq n 92) _ (no_drivers n 92 h refl) refl)
+
+opening_none : (n : ℕ) → is_drivers n ≡ false → opening_name_at n ≡ None
+opening_none n h =
+    past (nat_eq n 101) _ (no_drivers n 101 h refl) (past (nat_eq n 102) _ (no_drivers n 102 h refl) (past (nat_eq n 103) _ (no_drivers n 103 h refl)
+    (past (nat_eq n 104) _ (no_drivers n 104 h refl) (past (nat_eq n 105) _ (no_drivers n 105 h refl) (past (nat_eq n 106) _ (no_drivers n 106 h refl)
+    (past (nat_eq n 107) _ (no_drivers n 107 h refl) (past (nat_eq n 108) _ (no_drivers n 108 h refl) refl)))))))
+
+none_named : (n : ℕ) → is_engines n ≡ false → is_drivers n ≡ false → name_at n ≡ None
+none_named n h d =
     either (nat_eq (n / 10) 0) (step_none n h) (either (nat_eq (n / 10) 1) (frame_none n h) (either (nat_eq (n / 10) 2) (state_none n h)
     (either (nat_eq (n / 10) 3) (inner_none n h) (either (nat_eq (n / 10) 4) (alloc_none n h) (either (nat_eq (n / 10) 5) (begun_none n h)
     (either (nat_eq (n / 10) 6) (session_none n h) (either (nat_eq (n / 10) 7) (session_none n h)
-    (either (nat_eq (n / 10) 8) (link_none n h) (either (nat_eq (n / 10) 9) (own_none n a b) refl)))))))))
+    (either (nat_eq (n / 10) 8) (link_none n h) (either (nat_eq (n / 10) 9) (own_none n d)
+    (either (nat_eq (n / 10) 10) (opening_none n d) refl))))))))))
 
 closing_none : (n : ℕ) → is_engines n ≡ false → closing_at n ≡ None
 closing_none n h =
@@ -205,7 +214,15 @@ is_called n name e = record {
   engine = λ x h. e ∙ ap name_at (sym h) ∙ named x;
   too_long = λ h. e ∙ ap name_at h;
   tag_too_long = λ h. e ∙ ap name_at h;
-  other = λ h a b. e ∙ none_named n h a b;
+  no_mechanism = λ h. e ∙ ap name_at h;
+  not_offered = λ h. e ∙ ap name_at h;
+  login_refused = λ h. e ∙ ap name_at h;
+  other_protocol = λ h. e ∙ ap name_at h;
+  other_header = λ h. e ∙ ap name_at h;
+  not_amqp = λ h. e ∙ ap name_at h;
+  malformed_sasl = λ h. e ∙ ap name_at h;
+  unexpected_sasl = λ h. e ∙ ap name_at h;
+  other = λ h d. e ∙ none_named n h d;
 }
 
 pub is_answered : (n : ℕ) (answer : Option PeerAnswer) → answer ≡ answer_at n → IsAnsweredBy n answer

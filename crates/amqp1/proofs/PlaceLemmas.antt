@@ -11,10 +11,15 @@ use Rattle.amqp_driver.specs.declared.status.Status.{Status as DriverStatus}
 use Rattle.amqp_driver.specs.declared.cut.Cut.{Cut}
 use Rattle.amqp_driver.specs.Cutting.{cut_of}
 use Rattle.amqp_driver.specs.Driver.{seen}
-use Rattle.amqp_driver.specs.Sending.{Sends}
-use Rattle.amqp_driver.specs.Taking.{Takes}
+use Rattle.amqp_driver.specs.StreamTaking.{TakesStream}
+use Rattle.amqp_driver.specs.StreamTicking.{PostsStream, TicksStream}
+use Rattle.amqp_idle.specs.declared.due.Tick.{Tick}
 use Rattle.amqp1.specs.declared.exports.Took.{Took}
+use Rattle.amqp1.specs.declared.exports.Ticked.{Ticked}
 use Rattle.amqp1.specs.declared.exports.Went.{Went}
+use Rattle.amqp1.specs.declared.how.How.{How}
+use Rattle.amqp1.specs.declared.logins.LoginHead.{LoginHead}
+use Rattle.amqp1.specs.Ticking.{ticked_of}
 use Rattle.amqp1.specs.Client.{Calls}
 use Rattle.amqp1.specs.ClientView.{ClientView}
 use Rattle.amqp1.specs.Making.{Makes}
@@ -23,7 +28,7 @@ use Rattle.amqp1.specs.Status.{status_number, taken_status}
 use Rattle.amqp1.specs.declared.operation.Operation.{Operation}
 use Rattle.amqp1.specs.declared.status.Status.{Status}
 use Rattle.amqp1.specs.declared.status.Status.TheVariants as status
-use Rattle.amqp1.specs.Place.{CallsThere, CutsThere, MadeThere, SendsThere, TakesThere}
+use Rattle.amqp1.specs.Place.{CallsThere, CutsThere, MadeThere, SendsThere, TakesThere, TicksThere}
 
 -- what is said of what is there is so
 pub of_some : {B : Type 0} (P : B → Type 0) (r : Option B) (x : B) → r ≡ Some x → IsSomeAnd r P → P x
@@ -40,6 +45,10 @@ kept_number status.NoEngine = refl
 kept_number status.Full = refl
 kept_number status.BadSize = refl
 kept_number status.Short = refl
+kept_number status.Again = refl
+kept_number status.Waits = refl
+kept_number status.Over = refl
+kept_number status.TooLarge = refl
 
 kept : (s : Status) (z : ℤ) → z ≡ pos (status_number s) → to_z w32 (of_z w32 z) ≡ z
 kept s z e = subst (λ (x : ℤ). to_z w32 (of_z w32 x) ≡ x) (sym e) (kept_number s)
@@ -63,20 +72,20 @@ calls_there g operation before after input old z n new was is b a calls = record
 }
 
 -- a client that was made lies there, or there was no memory for its box
-pub made_there : (g : Relays PlainRelay) (input : List ℕ) (z : ℤ) (full : ℕ) (held : Option ClientView) (r : Result ClientView ℤ) (c : ClientView)
-    → r ≡ Ok c → Makes g input r → ((z ≡ pos 0) × (full ≡ 1) × (held ≡ Some c)) ⊎ ((z ≡ pos 2) × (full ≡ 0) × SomeRefused)
-    → MadeThere g input (to_z w32 (of_z w32 z)) full held
-made_there g input z full held r c is makes (inl h) = subst (λ (y : ℤ). MadeThere g input y full held) (sym (kept status.Done z h.0))
-    (inl (h.0, h.1, c, h.2, subst (λ (x : Result ClientView ℤ). Makes g input x) is makes))
-made_there g input z full held r c is makes (inr h) = subst (λ (y : ℤ). MadeThere g input y full held) (sym (kept status.NoMemory z h.0))
+pub made_there : (g : Relays PlainRelay) (how : How) (open_bytes : List ℕ) (heads : List LoginHead) (bytes : List ℕ) (z : ℤ) (full : ℕ)
+    (held : Option ClientView) (r : Result ClientView ℤ) (c : ClientView) → r ≡ Ok c → Makes g how open_bytes heads bytes r → ((z ≡ pos 0) × (full ≡ 1) × (held ≡ Some c)) ⊎ ((z ≡ pos 2) × (full ≡ 0) × SomeRefused)
+    → MadeThere g how open_bytes heads bytes (to_z w32 (of_z w32 z)) full held
+made_there g how open_bytes heads bytes z full held r c is makes (inl h) = subst (λ (y : ℤ). MadeThere g how open_bytes heads bytes y full held) (sym (kept status.Done z h.0))
+    (inl (h.0, h.1, c, h.2, subst (λ (x : Result ClientView ℤ). Makes g how open_bytes heads bytes x) is makes))
+made_there g how open_bytes heads bytes z full held r c is makes (inr h) = subst (λ (y : ℤ). MadeThere g how open_bytes heads bytes y full held) (sym (kept status.NoMemory z h.0))
     (inr (h.1, inl (h.0, h.2)))
 
--- a call of the driver of a client is one of what lies in a place
-pub takes_there : (g : Relays PlainRelay) (before after : Option ClientView) (input : List ℕ) (old new : List Record) (z : ℤ) (a : Took) (s : DriverStatus)
+-- a call of the stream of a client is one of what lies in a place
+pub takes_there : (g : Relays PlainRelay) (before after : Option ClientView) (now : ℕ) (input : List ℕ) (old new : List Record) (z : ℤ) (a : Took) (s : DriverStatus)
     (was is : ClientView) → before ≡ Some was → after ≡ Some is → z ≡ pos (status_number (taken_status s))
-    → Takes g was.driver.engine.connection.local_open.max_frame_size was.driver (seen input) old s a.taken a.written a.wanted is.driver new
-    → is.last ≡ was.last → TakesThere g before input old (to_z w32 (of_z w32 z)) a after new
-takes_there g before after input old new z a s was is b f e takes last = record {
+    → TakesStream g was.stream now (seen input) old s a.taken a.written a.wanted is.stream new
+    → is.last ≡ was.last → TakesThere g before now input old (to_z w32 (of_z w32 z)) a after new
+takes_there g before after now input old new z a s was is b f e takes last = record {
   was = was;
   is = is;
   lay_there = b;
@@ -89,7 +98,7 @@ takes_there g before after input old new z a s was is b f e takes last = record 
 
 pub sends_there : (g : Relays PlainRelay) (before after : Option ClientView) (heads : List TransferHead) (bytes : List ℕ) (old new : List Sent) (z : ℤ) (a : Went)
     (s : DriverStatus) (was is : ClientView) → before ≡ Some was → after ≡ Some is → z ≡ pos (status_number (taken_status s))
-    → Sends g was.driver heads bytes old s a.taken a.used is.driver new
+    → PostsStream g was.stream heads bytes old s a.taken a.used is.stream new
     → is.last ≡ was.last → SendsThere g before heads bytes old (to_z w32 (of_z w32 z)) a after new
 sends_there g before after heads bytes old new z a s was is b f e sends last = record {
   was = was;
@@ -102,9 +111,24 @@ sends_there g before after heads bytes old new z a s was is b f e sends last = r
   last_is = last;
 }
 
+pub ticks_there : (g : Relays PlainRelay) (before after : Option ClientView) (now : ℕ) (z : ℤ) (a : Ticked) (t : Tick) (was is : ClientView)
+    → before ≡ Some was → after ≡ Some is → z ≡ pos (status_number status.Done) → TicksStream g was.stream now t is.stream → is.last ≡ was.last
+    → a ≡ ticked_of t → TicksThere g before now (to_z w32 (of_z w32 z)) a after
+ticks_there g before after now z a t was is b f e ticks last answer = record {
+  was = was;
+  is = is;
+  tick = t;
+  lay_there = b;
+  lies_there = f;
+  status_is = kept status.Done z e ∙ e;
+  ticks = ticks;
+  last_is = last;
+  answer_is = answer;
+}
+
 -- a head was cut by the driver of a client that lies in a place again
 pub cuts_there : (before after : Option ClientView) (head : TransferHead) (bytes : List ℕ) (old new : Cut) (z : ℤ) (was : ClientView)
-    → before ≡ Some was → after ≡ Some was → z ≡ pos (status_number status.Done) → new ≡ cut_of was.driver.engine.limit head bytes
+    → before ≡ Some was → after ≡ Some was → z ≡ pos (status_number status.Done) → new ≡ cut_of was.stream.driver.engine.limit head bytes
     → CutsThere before head bytes old (to_z w32 (of_z w32 z)) new after
 cuts_there before after head bytes old new z was b f e is = record {
   was = was;

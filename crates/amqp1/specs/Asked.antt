@@ -6,7 +6,7 @@ use Rattle.amqp_session.specs.Relay.{Relays}
 use Rattle.amqp_engine.specs.declared.engine.input.Input.{Input}
 use Rattle.amqp_driver.specs.declared.asked.Asked.{Asked}
 use Rattle.amqp_driver.specs.declared.plain.PlainRelay.{PlainRelay}
-use Rattle.amqp_driver.specs.Requests.{Requests}
+use Rattle.amqp_driver.specs.StreamTicking.{AsksStream}
 use Rattle.amqp1.specs.declared.operation.Operation.{Operation}
 use Rattle.amqp1.specs.declared.status.Status.{Status}
 use Rattle.amqp1.specs.declared.status.Status.TheVariants as status
@@ -18,10 +18,10 @@ use Rattle.amqp1.specs.Finding.{found, is_unlinked}
 use Rattle.amqp1.specs.Refused.{last_by, unattached}
 use Rattle.amqp1.specs.Status.{status_of}
 
--- The driver runs this one input, once; the status says what became of it, and a refusal is kept.
+-- The stream runs this one input, once, or is over; the status says what became of it, and a refusal is kept.
 abbrev pub RunsOne : Relays PlainRelay → ClientView → Input PlainRelay → Status → ClientView → Type 0
-RunsOne g c i s c' = (a : Asked) × Requests g c.driver i a c'.driver × (s ≡ status_of a)
-    × (c'.last ≡ last_by c.last c'.driver.engine.connection.state a)
+RunsOne g c i s c' = (a : Asked) × AsksStream g c.stream i a c'.stream × (s ≡ status_of a)
+    × (c'.last ≡ last_by c.last c'.stream.driver.engine.connection.state a)
 
 -- memory was refused before anything was done
 abbrev pub NoneGranted : ClientView → Status → ClientView → Type 0
@@ -31,8 +31,8 @@ NoneGranted c s c' = (s ≡ status.NoMemory) × (c' ≡ c) × SomeRefused
 -- else changes.
 abbrev pub RunsFound : Relays PlainRelay → ClientView → Input PlainRelay → Status → ClientView → Type 0
 RunsFound g c i s c' =
-    ((is_unlinked c.driver.engine i ≡ false) × RunsOne g c (found c.driver.engine i) s c')
-    ⊎ ((is_unlinked c.driver.engine i ≡ true) × (s ≡ status.Refused) × (c' ≡ record c { last = unattached }))
+    ((is_unlinked c.stream.driver.engine i ≡ false) × RunsOne g c (found c.stream.driver.engine i) s c')
+    ⊎ ((is_unlinked c.stream.driver.engine i ≡ true) × (s ≡ status.Refused) × (c' ≡ record c { last = unattached }))
 
 -- the bytes do not have the operation's form
 abbrev pub AsksNothing : Operation → List ℕ → ClientView → Status → ClientView → Type 0

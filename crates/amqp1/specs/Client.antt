@@ -13,6 +13,7 @@ use Rattle.amqp_frames.specs.declared.frame.Frame.{Frame}
 use Rattle.amqp_engine.specs.EngineView.{EngineView, output_handle_at}
 use Rattle.amqp_driver.specs.declared.plain.PlainRelay.{PlainRelay}
 use Rattle.amqp_driver.specs.Driver.{DriverView, SendsOnly}
+use Rattle.amqp_driver.specs.Stream.{having_sent, is_over, waiting}
 use Rattle.amqp1.specs.declared.operation.Operation.{Operation}
 use Rattle.amqp1.specs.declared.operation.Operation.TheVariants as op
 use Rattle.amqp1.specs.declared.operation.Group.{Group}
@@ -21,6 +22,7 @@ use Rattle.amqp1.specs.declared.status.Status.{Status}
 use Rattle.amqp1.specs.declared.status.Status.TheVariants as status
 use Rattle.amqp1.specs.Asked.{AllotsOn, Answers, PerformsDispose}
 use Rattle.amqp1.specs.ClientView.{ClientView}
+use Rattle.amqp1.specs.LoggingIn.{PerformsChallenge, PerformsLogin, PerformsRespond}
 use Rattle.amqp1.specs.Linking.{AsksLink, LinkModel}
 use Rattle.amqp1.specs.Names.{IsRefusalText}
 use Rattle.amqp1.specs.Operation.{group_of}
@@ -58,7 +60,7 @@ pub record LinksOne (g : Relays PlainRelay) (o : Operation) (c : ClientView) (in
   pub link : LinkModel
   pub asks : AsksLink o input link
   pub allots : AllotsOn g link c s c'
-  pub tells : TellsHandle c'.driver.engine link old s n new
+  pub tells : TellsHandle c'.stream.driver.engine link old s n new
 
 abbrev pub PerformsLink : Relays PlainRelay → Operation → ClientView → List ℕ → List ℕ → Status → ℕ → ClientView → List ℕ → Type 0
 PerformsLink g o c input old s n c' new = LinksNothing o c input old s n c' new ⊎ LinksOne g o c input old s n c' new
@@ -71,21 +73,27 @@ OutputStatus status.Done waiting = waiting ≡ []
 OutputStatus status.NoMemory waiting = SomeRefused × ¬ (waiting ≡ [])
 OutputStatus s waiting = ⊥
 
--- What waits in the engine is put out first. Then a front of all that is to be sent is taken off.
+-- What waits in the engine is put out first. Then a front of all that is to be sent is taken off: headers, SASL and frames.
 pub record PerformsOutput (g : Relays PlainRelay) (c : ClientView) (old : List ℕ) (s : Status) (n : ℕ) (c' : ClientView) (new : List ℕ) : Type 0 where
   pub between : DriverView PlainRelay
-  pub put_out : SendsOnly g c.driver between
+  pub put_out : SendsOnly g c.stream.driver between
   pub ends : OutputStatus s between.engine.waiting
-  pub taken : TakesOff between.to_send old n c'.driver.to_send new
-  pub rest_is : c' ≡ record c { driver = record between { to_send = c'.driver.to_send } }
+  pub taken : TakesOff (waiting (record c.stream { driver = between })) old n (waiting c'.stream) new
+  pub rest_is : c' ≡ record c { stream = having_sent n (record c.stream { driver = between }) }
+
+-- 1 where it is over
+abbrev pub over_number : Bool → ℕ
+over_number true = 1
+over_number false = 0
 
 abbrev pub PerformsBare : Relays PlainRelay → Operation → ClientView → List ℕ → Status → ℕ → ClientView → List ℕ → Type 0
 PerformsBare g op.Output c old s n c' new = PerformsOutput g c old s n c' new
 PerformsBare g op.Refusal c old s n c' new = WritesIfGranted (refusal_text c.last) old s n new × (c' ≡ c)
-PerformsBare g op.RemoteOpen c old s n c' new = WritesIfGranted (open_text c.driver.engine.connection.remote_open) old s n new × (c' ≡ c)
-PerformsBare g op.MaxPieceLen c old s n c' new = Writes (to_be_bytes w32 c.driver.engine.limit) old s n new × (c' ≡ c)
-PerformsBare g op.Unfit c old s n c' new = Writes (to_be_bytes w32 c.driver.unfit) old s n new × (c' ≡ c)
-PerformsBare g op.State c old s n c' new = Writes (state_number c.driver.engine.connection.state ∷ []) old s n new × (c' ≡ c)
+PerformsBare g op.RemoteOpen c old s n c' new = WritesIfGranted (open_text c.stream.driver.engine.connection.remote_open) old s n new × (c' ≡ c)
+PerformsBare g op.MaxPieceLen c old s n c' new = Writes (to_be_bytes w32 c.stream.driver.engine.limit) old s n new × (c' ≡ c)
+PerformsBare g op.Unfit c old s n c' new = Writes (to_be_bytes w32 c.stream.driver.unfit) old s n new × (c' ≡ c)
+PerformsBare g op.State c old s n c' new = Writes (state_number c.stream.driver.engine.connection.state ∷ []) old s n new × (c' ≡ c)
+PerformsBare g op.IsOver c old s n c' new = Writes (over_number (is_over c.stream) ∷ []) old s n new × (c' ≡ c)
 PerformsBare g o c old s n c' new = ⊥
 
 abbrev pub IfEmpty : Relays PlainRelay → Operation → ClientView → List ℕ → List ℕ → Status → ℕ → ClientView → List ℕ → Type 0
@@ -96,13 +104,13 @@ IfEmpty g o c input old s n c' new =
 abbrev pub PerformsSessionOf : ClientView → List ℕ → List ℕ → Status → ℕ → ClientView → List ℕ → Type 0
 PerformsSessionOf c input old status.BadArgument n c' new = Refuses c old status.BadArgument n c' new × ¬ (length input ≡ 2)
 PerformsSessionOf c input old s n c' new =
-    (length input ≡ 2) × Writes (session_text c.driver.engine (from_be_bytes w16 input)) old s n new × (c' ≡ c)
+    (length input ≡ 2) × Writes (session_text c.stream.driver.engine (from_be_bytes w16 input)) old s n new × (c' ≡ c)
 
 -- the state of a session, whose number is four bytes
 abbrev pub PerformsSessionState : ClientView → List ℕ → List ℕ → Status → ℕ → ClientView → List ℕ → Type 0
 PerformsSessionState c input old status.BadArgument n c' new = Refuses c old status.BadArgument n c' new × ¬ (length input ≡ 4)
 PerformsSessionState c input old s n c' new =
-    (length input ≡ 4) × Writes (session_state_text c.driver.engine (from_be_bytes w32 input)) old s n new × (c' ≡ c)
+    (length input ≡ 4) × Writes (session_state_text c.stream.driver.engine (from_be_bytes w32 input)) old s n new × (c' ≡ c)
 
 -- what the refusals of a number are called and what answers them; the number is four bytes
 abbrev pub PerformsRefusalText : ClientView → List ℕ → List ℕ → Status → ℕ → ClientView → List ℕ → Type 0
@@ -114,7 +122,7 @@ abbrev pub PerformsPayloadRoom : ClientView → List ℕ → List ℕ → Status
 PerformsPayloadRoom c input old s n c' new =
     (Refuses c old s n c' new × ((t : TransferModel) → ¬ IsPerformative (its.Transfer t) input))
     ⊎ (((s ≡ status.NoMemory) × SomeRefused × (n ≡ 0) × (new ≡ old) × (c' ≡ c))
-    ⊎ ((t : TransferModel) × IsPerformative (its.Transfer t) input × Writes (room_text c.driver.engine t) old s n new × (c' ≡ c)))
+    ⊎ ((t : TransferModel) × IsPerformative (its.Transfer t) input × Writes (room_text c.stream.driver.engine t) old s n new × (c' ≡ c)))
 
 -- ---- all of them
 
@@ -126,6 +134,9 @@ PerformsBy group.ShowsSession g o c input old s n c' new = PerformsSessionState 
 PerformsBy group.Measures g o c input old s n c' new = PerformsPayloadRoom c input old s n c' new
 PerformsBy group.Names g o c input old s n c' new = PerformsRefusalText c input old s n c' new
 PerformsBy group.Bare g o c input old s n c' new = IfEmpty g o c input old s n c' new
+PerformsBy group.Logs g o c input old s n c' new = PerformsLogin c input s c' × (n ≡ 0) × (new ≡ old)
+PerformsBy group.Challenges g o c input old s n c' new = PerformsChallenge c input s c' × (n ≡ 0) × (new ≡ old)
+PerformsBy group.Responds g o c input old s n c' new = PerformsRespond c input s c' × (n ≡ 0) × (new ≡ old)
 PerformsBy group.Asks g o c input old s n c' new = Answers g o input c s c' × (n ≡ 0) × (new ≡ old)
 
 abbrev pub Performs : Relays PlainRelay → Operation → ClientView → List ℕ → List ℕ → Status → ℕ → ClientView → List ℕ → Type 0
@@ -145,4 +156,5 @@ only_tells op.RemoteOpen = true
 only_tells op.MaxPieceLen = true
 only_tells op.State = true
 only_tells op.Unfit = true
+only_tells op.IsOver = true
 only_tells o = false

@@ -4,6 +4,8 @@ pub mod Client
 pub mod ClientView
 pub mod Disposing
 pub mod Linking
+pub mod LoggingIn
+pub mod Logins
 pub mod Making
 pub mod Finding
 pub mod Names
@@ -14,5 +16,6 @@ pub mod Refused
 pub mod Status
 pub mod Taking
 pub mod Telling
+pub mod Ticking
 pub mod Writing
 pub mod Inner

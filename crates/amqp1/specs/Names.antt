@@ -24,12 +24,25 @@ is_engines n =
     is_within 61 70 n ||
     is_within 81 85 n
 
--- The name of each refusal of the engine that has the number; of the two of the driver; and no other number has one.
+-- those of transfers that the driver does not send, and of streams that are not opened
+abbrev pub is_drivers : ℕ → Bool
+is_drivers n = is_within 91 92 n || is_within 101 108 n
+
+-- The name of each refusal of the engine that has the number; of the two of the driver, and of the eight of a stream that is not opened; and no
+-- other number has one.
 pub record IsCalled (n : ℕ) (name : Option (List ℕ)) : Type 0 where
   pub engine : (e : StepError) → refusal_number e ≡ n → name ≡ Some (name_of e)
   pub too_long : n ≡ 91 → name ≡ Some (codes "PayloadTooLong")
   pub tag_too_long : n ≡ 92 → name ≡ Some (codes "TagTooLong")
-  pub other : is_engines n ≡ false → ¬ (n ≡ 91) → ¬ (n ≡ 92) → name ≡ None
+  pub no_mechanism : n ≡ 101 → name ≡ Some (codes "NoMechanism")
+  pub not_offered : n ≡ 102 → name ≡ Some (codes "NotOffered")
+  pub login_refused : n ≡ 103 → name ≡ Some (codes "LoginRefused")
+  pub other_protocol : n ≡ 104 → name ≡ Some (codes "OtherProtocol")
+  pub other_header : n ≡ 105 → name ≡ Some (codes "OtherHeader")
+  pub not_amqp : n ≡ 106 → name ≡ Some (codes "NotAmqp")
+  pub malformed_sasl : n ≡ 107 → name ≡ Some (codes "MalformedSasl")
+  pub unexpected_sasl : n ≡ 108 → name ≡ Some (codes "UnexpectedSasl")
+  pub other : is_engines n ≡ false → is_drivers n ≡ false → name ≡ None
 
 -- What answers a received frame that was refused so, where this side's Close did not go out; nothing answers any other.
 pub record IsAnsweredBy (n : ℕ) (answer : Option PeerAnswer) : Type 0 where

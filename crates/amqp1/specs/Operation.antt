@@ -32,6 +32,10 @@ operation_number op.SessionState = 25
 operation_number op.Unfit = 27
 operation_number op.RefusalText = 28
 operation_number op.Dispose = 29
+operation_number op.Login = 30
+operation_number op.Challenge = 31
+operation_number op.Respond = 32
+operation_number op.IsOver = 33
 
 -- the operation of this number, or there is none
 abbrev pub IsOperation : ℕ → Option Operation → Type 0
@@ -53,4 +57,8 @@ group_of op.RemoteOpen = group.Bare
 group_of op.MaxPieceLen = group.Bare
 group_of op.State = group.Bare
 group_of op.Unfit = group.Bare
+group_of op.IsOver = group.Bare
+group_of op.Login = group.Logs
+group_of op.Challenge = group.Challenges
+group_of op.Respond = group.Responds
 group_of o = group.Asks

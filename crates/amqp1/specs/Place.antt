@@ -3,6 +3,7 @@
 use Rattle.std.specs.Prelude.{◌≡◌, ◌⊎◌, ℕ, ℤ, pos, List, Option, Some, Ok, Err}
 use Rattle.amqp_memory.specs.Refusal.{SomeRefused}
 use Rattle.amqp_session.specs.Relay.{Relays}
+use Rattle.amqp_idle.specs.declared.due.Tick.{Tick}
 use Rattle.amqp_driver.specs.declared.cut.Cut.{Cut}
 use Rattle.amqp_driver.specs.declared.head.Sent.{Sent}
 use Rattle.amqp_driver.specs.declared.head.TransferHead.{TransferHead}
@@ -11,10 +12,13 @@ use Rattle.amqp_driver.specs.declared.record.Record.{Record}
 use Rattle.amqp_driver.specs.declared.status.Status.{Status as DriverStatus}
 use Rattle.amqp_driver.specs.Cutting.{cut_of}
 use Rattle.amqp_driver.specs.Driver.{seen}
-use Rattle.amqp_driver.specs.Sending.{Sends}
-use Rattle.amqp_driver.specs.Taking.{Takes}
+use Rattle.amqp_driver.specs.StreamTaking.{TakesStream}
+use Rattle.amqp_driver.specs.StreamTicking.{PostsStream, TicksStream}
 use Rattle.amqp1.specs.declared.exports.Took.{Took}
+use Rattle.amqp1.specs.declared.exports.Ticked.{Ticked}
 use Rattle.amqp1.specs.declared.exports.Went.{Went}
+use Rattle.amqp1.specs.declared.how.How.{How}
+use Rattle.amqp1.specs.declared.logins.LoginHead.{LoginHead}
 use Rattle.amqp1.specs.declared.operation.Operation.{Operation}
 use Rattle.amqp1.specs.declared.status.Status.{Status}
 use Rattle.amqp1.specs.declared.status.Status.TheVariants as status
@@ -23,16 +27,18 @@ use Rattle.amqp1.specs.ClientView.{ClientView}
 use Rattle.amqp1.specs.Making.{Makes}
 use Rattle.amqp1.specs.Operation.{IsOperation}
 use Rattle.amqp1.specs.Status.{status_number, taken_status}
+use Rattle.amqp1.specs.Ticking.{ticked_of}
 
 -- this status, as a number of C
 abbrev pub Is : ℤ → Status → Type 0
 Is z s = z ≡ pos (status_number s)
 
--- A new client lies there, which is made of the input. Or none does, and none is made of it: memory was refused, also for its box, or the input
--- does not have its form.
-abbrev pub MadeThere : Relays PlainRelay → List ℕ → ℤ → ℕ → Option ClientView → Type 0
-MadeThere g input z full held =
-    ((z ≡ pos 0) × (full ≡ 1) × (c : ClientView) × (held ≡ Some c) × Makes g input (Ok c)) ⊎ ((full ≡ 0) × Makes g input (Err z))
+-- A new client lies there, which is the one that is asked for. Or none does, and none is made: memory was refused, also for its box, or what is
+-- said asks for none.
+abbrev pub MadeThere : Relays PlainRelay → How → List ℕ → List LoginHead → List ℕ → ℤ → ℕ → Option ClientView → Type 0
+MadeThere g how open_bytes heads bytes z full held =
+    ((z ≡ pos 0) × (full ≡ 1) × (c : ClientView) × (held ≡ Some c) × Makes g how open_bytes heads bytes (Ok c))
+    ⊎ ((full ≡ 0) × Makes g how open_bytes heads bytes (Err z))
 
 -- one call of the client that lay there, and the client that it leaves lies there
 pub record CallsThere (g : Relays PlainRelay) (operation : ℕ) (before : Option ClientView) (input old : List ℕ) (z : ℤ) (n : ℕ)
@@ -43,9 +49,9 @@ pub record CallsThere (g : Relays PlainRelay) (operation : ℕ) (before : Option
   pub lies_there : after ≡ Some is
   pub calls : (o : Option Operation) × IsOperation operation o × Calls g o was input old z n is new
 
--- The driver of the client that lay there takes whole frames, and that client lies there again. Of an input of more than 4294967295 bytes the others
--- are not looked at.
-pub record TakesThere (g : Relays PlainRelay) (before : Option ClientView) (input : List ℕ) (old : List Record) (z : ℤ) (answer : Took)
+-- The stream of the client that lay there takes what came: a header, a SASL frame, or whole frames; and that client lies there again. Of an input of
+-- more than 4294967295 bytes the others are not looked at.
+pub record TakesThere (g : Relays PlainRelay) (before : Option ClientView) (now : ℕ) (input : List ℕ) (old : List Record) (z : ℤ) (answer : Took)
     (after : Option ClientView) (new : List Record) : Type 0 where
   pub was : ClientView
   pub is : ClientView
@@ -53,8 +59,7 @@ pub record TakesThere (g : Relays PlainRelay) (before : Option ClientView) (inpu
   pub lies_there : after ≡ Some is
   pub why : DriverStatus
   pub status_is : Is z (taken_status why)
-  pub takes : Takes g was.driver.engine.connection.local_open.max_frame_size was.driver (seen input) old
-      why answer.taken answer.written answer.wanted is.driver new
+  pub takes : TakesStream g was.stream now (seen input) old why answer.taken answer.written answer.wanted is.stream new
   pub last_is : is.last ≡ was.last
 
 -- A head is cut by the limit of the peer of the client that lay there, and that client lies there again. Or memory was refused.
@@ -63,9 +68,9 @@ pub record CutsThere (before : Option ClientView) (head : TransferHead) (bytes :
   pub was : ClientView
   pub lay_there : before ≡ Some was
   pub lies_there : after ≡ Some was
-  pub cuts : (Is z status.Done × (new ≡ cut_of was.driver.engine.limit head bytes)) ⊎ (Is z status.NoMemory × (new ≡ old) × SomeRefused)
+  pub cuts : (Is z status.Done × (new ≡ cut_of was.stream.driver.engine.limit head bytes)) ⊎ (Is z status.NoMemory × (new ≡ old) × SomeRefused)
 
--- the driver of the client that lay there sends transfers, and that client lies there again
+-- the stream of the client that lay there sends transfers, and that client lies there again
 pub record SendsThere (g : Relays PlainRelay) (before : Option ClientView) (heads : List TransferHead) (bytes : List ℕ) (old : List Sent) (z : ℤ)
     (answer : Went) (after : Option ClientView) (new : List Sent) : Type 0 where
   pub was : ClientView
@@ -74,5 +79,17 @@ pub record SendsThere (g : Relays PlainRelay) (before : Option ClientView) (head
   pub lies_there : after ≡ Some is
   pub why : DriverStatus
   pub status_is : Is z (taken_status why)
-  pub sends : Sends g was.driver heads bytes old why answer.taken answer.used is.driver new
+  pub sends : PostsStream g was.stream heads bytes old why answer.taken answer.used is.stream new
   pub last_is : is.last ≡ was.last
+
+-- the stream of the client that lay there is told the time, and that client lies there again
+pub record TicksThere (g : Relays PlainRelay) (before : Option ClientView) (now : ℕ) (z : ℤ) (answer : Ticked) (after : Option ClientView) : Type 0 where
+  pub was : ClientView
+  pub is : ClientView
+  pub tick : Tick
+  pub lay_there : before ≡ Some was
+  pub lies_there : after ≡ Some is
+  pub status_is : Is z status.Done
+  pub ticks : TicksStream g was.stream now tick is.stream
+  pub last_is : is.last ≡ was.last
+  pub answer_is : answer ≡ ticked_of tick

@@ -24,7 +24,7 @@ pub record RefusedModel : Type 0 where
 abbrev pub nothing : RefusedModel
 nothing = record { name = []; condition = []; peer = None }
 
--- a frame of the request is longer than the peer takes (AMQP 1.0 part 2, section 2.7.1)
+-- a frame of the request is longer than the peer takes (AMQP 1.0 part 2, section 2.7.1), or than a SASL frame may be (part 5, section 5.3.1)
 abbrev pub too_large : RefusedModel
 too_large = record { name = codes "TooLarge"; condition = []; peer = None }
 
@@ -44,6 +44,14 @@ peer_error (step.ConnectionState (connection.RemoteClosedWithError e)) = Some e
 peer_error (step.SessionState (session.RemoteEndedWithError e)) = Some e
 peer_error e = None
 
+-- a request of a stream that is over
+abbrev pub over : RefusedModel
+over = record { name = codes "Over"; condition = []; peer = None }
+
+-- a call of SASL to which nothing asks
+abbrev pub wrong_time : RefusedModel
+wrong_time = record { name = codes "WrongTime"; condition = []; peer = None }
+
 -- what the engine refused, in this state of the connection
 abbrev pub refused_of : StepError → ConnectionState → RefusedModel
 refused_of e s = record { name = name_of e; condition = condition_said (answer_of e s); peer = peer_error e }
@@ -54,3 +62,4 @@ last_by last s asked.Done = last
 last_by last s asked.TooLarge = too_large
 last_by last s (asked.Refused e) = refused_of e s
 last_by last s asked.NoMemory = last
+last_by last s asked.Over = over

@@ -18,6 +18,10 @@ status_number status.NoEngine = 5
 status_number status.Full = 7
 status_number status.BadSize = 8
 status_number status.Short = 9
+status_number status.Again = 10
+status_number status.Waits = 11
+status_number status.Over = 12
+status_number status.TooLarge = 13
 
 -- of a call of the driver that takes many
 abbrev pub taken_status : DriverStatus → Status
@@ -26,6 +30,10 @@ taken_status driver.Full = status.Full
 taken_status driver.BadSize = status.BadSize
 taken_status driver.NoMemory = status.NoMemory
 taken_status driver.Short = status.Short
+taken_status driver.Again = status.Again
+taken_status driver.Waits = status.Waits
+taken_status driver.Over = status.Over
+taken_status driver.TooLarge = status.TooLarge
 
 -- of a request
 abbrev pub status_of : Asked → Status
@@ -33,6 +41,7 @@ status_of asked.Done = status.Done
 status_of asked.TooLarge = status.Refused
 status_of (asked.Refused e) = status.Refused
 status_of asked.NoMemory = status.NoMemory
+status_of asked.Over = status.Refused
 
 -- of what waits in the engine, where all is put out or memory was refused
 abbrev pub flushed_status : {X E : Type 0} → Result X E → Status

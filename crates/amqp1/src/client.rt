@@ -1,42 +1,42 @@
 //! A client: one side of a connection.
 
-ghost use Rattle.std.specs.Prelude.{◌≡◌, ◌≤◌, IfOk, Ok, OnErr, Option, drop, length};
+ghost use Rattle.std.specs.Prelude.{◌≡◌, IfOk, OnErr, Option, drop};
 ghost use Rattle.amqp_memory.specs.Refusal.{SomeRefused};
-ghost use Rattle.amqp_types.specs.Performatives.{IsPerformative};
-ghost use Rattle.amqp_types.specs.declared.performatives.Performative.TheVariants as its;
+ghost use Rattle.amqp_sasl.specs.declared.opening.Phase.TheVariants.{Fresh};
 ghost use Rattle.amqp_driver.specs.Cutting.{cut_of};
 ghost use Rattle.amqp_driver.specs.Driver.{seen};
-ghost use Rattle.amqp_driver.specs.Sending.{Sends};
-ghost use Rattle.amqp_driver.specs.Taking.{Takes};
-ghost use Rattle.amqp1.specs.Reading.{ReadsOne};
+ghost use Rattle.amqp_driver.specs.StreamTaking.{TakesStream};
+ghost use Rattle.amqp_driver.specs.StreamTicking.{PostsStream, TicksStream};
 ghost use Rattle.amqp1.specs.declared.operation.Operation.{Operation};
 ghost use Rattle.amqp1.specs.declared.operation.Group.TheVariants.{Bare};
 ghost use Rattle.amqp1.specs.Operation.{IsOperation, group_of};
-ghost use Rattle.amqp1.specs.Making.{Makes, HasOpen, is_zero, unread_of};
+ghost use Rattle.amqp1.specs.Making.{BeginsAs, Makes, is_zero, unread_of};
 ghost use Rattle.amqp1.specs.Client.{Calls, Performs, IfEmpty};
 
+mod logging_in;
 mod requesting;
 mod telling;
 
+use crate::how::{How, limit_of};
 use crate::key::hash_of;
+use crate::logins::{self, LoginHead};
 use crate::operation::{Group, Operation};
 use crate::reading;
 use crate::refused::Refused;
 use crate::status::Status;
-use amqp_driver::{Cut, Driver, PlainRelay, Posted, Record, Sent, Taken, TransferHead};
+use amqp_driver::{Cut, PlainRelay, Posted, Record, Sent, Stream, Taken, TransferHead};
+use amqp_idle::Tick;
+use amqp_sasl::Opening;
 use amqp_session::LinkRelay;
-use amqp_types::{ConnectionState, Open, ReadError};
+use amqp_types::{Open, ReadError};
 use bytes::BytesMut;
 use std::alloc::{AllocError, Global};
 use std::marker::Model;
 
-/// The bytes of a new client's key, which stand before its Open.
-const KEY: usize = 16;
-
-/// One side of a connection: a driver, and the last refusal of a request.
+/// One side of a connection: a stream, and the last refusal of a request.
 pub struct Client {
     alloc: Global,
-    driver: Driver<PlainRelay>,
+    stream: Stream<PlainRelay>,
     last: Refused,
     /// Room for texts. Nothing that it holds between calls is read.
     scratch: BytesMut,
@@ -47,11 +47,11 @@ impl Drop for Client {
     fn drop(self) {
         let Client {
             alloc: _,
-            driver,
+            stream,
             last,
             scratch,
         } = self;
-        drop(driver);
+        drop(stream);
         drop(last);
         drop(scratch);
     }
@@ -69,16 +69,7 @@ impl Model for Client {
 
     ghost coded = { Prim.hlevel (codes, channel_table_code, hash_code, links_code, map.code) };
 
-    ghost view = { λ c. record { driver = c.driver; last = c.last } };
-}
-
-/// The Open of a new client's input.
-fn read_open(alloc: Global, input: &[u8]) -> Result<Open, ReadError>
-    requires { 16 ≤ length input.now }
-    ensures { ReadsOne (λ p. IsPerformative (its.Open p) (drop 16 input.now)) result }
-{
-    let (_, rest) = input.split_at(KEY);
-    reading::open(alloc, rest)
+    ghost view = { λ c. record { stream = c.stream; last = c.last } };
 }
 
 /// Whether all of these bytes are 0, as in a key that nobody drew.
@@ -105,60 +96,83 @@ fn unread(error: ReadError) -> Status
 }
 
 impl Client {
-    /// A client whose connection is in `HeaderExchange`. `input` is a key of 16 bytes and this side's Open, as the crate's page says.
+    /// A client whose stream begins now, with the key, the time and the side of SASL that `how` says, with the logins of these sizes, whose bytes
+    /// stand one after the other behind the host's, and with this side's Open.
     ///
-    /// The error is a status's number: 4 (`BadArgument`) where the input does not have this form, or the key is 16 zeros; 2 (`NoMemory`) where
-    /// memory is refused.
-    pub fn new(alloc: Global, input: &[u8]) -> Result<Client, i32>
-        ensures { Makes ⟦<PlainRelay as LinkRelay>⟧.gives input.now result }
+    /// The error is a status's number: 4 (`BadArgument`) where what is said asks for none, as the crate's page says, or the key is 16 zeros; 2
+    /// (`NoMemory`) where memory is refused.
+    pub fn new(
+        alloc: Global,
+        how: &How,
+        open_bytes: &[u8],
+        heads: &[LoginHead],
+        bytes: &[u8],
+    ) -> Result<Client, i32>
+        ensures { Makes ⟦<PlainRelay as LinkRelay>⟧.gives how.now open_bytes.now heads.now bytes.now result }
     {
-        if input.len() < KEY || is_zero(&input[..KEY]) {
+        if is_zero(&how.key) {
             return Err(Status::BadArgument.number());
         }
-        match read_open(alloc, input) {
-            Ok(ours) => Ok(Client::with_open(alloc, input, ours)),
-            Err(error) => Err(unread(error).number()),
-        }
+        let ours = match reading::open(alloc, open_bytes) {
+            Ok(ours) => ours,
+            Err(error) => return Err(unread(error).number()),
+        };
+        let opening = match logins::opening(alloc, how.side, how.host, heads, bytes) {
+            Ok(opening) => opening,
+            Err(error) => return Err(unread(error).number()),
+        };
+        Client::begin(alloc, how, opening, ours)
     }
 
-    /// A client with this Open, which stands in the input after the key.
-    fn with_open(alloc: Global, input: &[u8], ours: Open) -> Client
-        requires { HasOpen input.now ours }
-        ensures { Makes ⟦<PlainRelay as LinkRelay>⟧.gives input.now (Ok result) }
+    /// A client whose stream begins with this opening and this Open.
+    fn begin(alloc: Global, how: &How, opening: Opening, ours: Open) -> Result<Client, i32>
+        requires { opening.phase ≡ Fresh }
+        ensures { BeginsAs ⟦<PlainRelay as LinkRelay>⟧.gives how.now opening ours result }
     {
-        let hash = hash_of(&input[..KEY]);
-        Client {
-            alloc,
-            driver: Driver::new(alloc, hash, ConnectionState::HeaderExchange, ours),
-            last: Refused::nothing(),
-            scratch: BytesMut::new(alloc),
+        let hash = hash_of(&how.key);
+        match Stream::new(alloc, how.time, limit_of(how.limit), opening, hash, ours) {
+            Ok(stream) => Ok(Client {
+                alloc,
+                stream,
+                last: Refused::nothing(),
+                scratch: BytesMut::new(alloc),
+            }),
+            Err(_) => Err(Status::NoMemory.number()),
         }
     }
 
-    /// Takes whole frames out of received bytes, by [`Driver::take`].
-    pub fn take(&mut self, input: &[u8], records: &mut [Record]) -> Taken
-        ensures taken { Takes ⟦<PlainRelay as LinkRelay>⟧.gives self.old.driver.engine.connection.local_open.max_frame_size self.old.driver
-            (seen input.now) records.old result.status result.taken result.written result.wanted self.new.driver records.new }
+    /// Takes what came at this time: a header, a SASL frame, or whole frames, by [`Stream::take`].
+    pub fn take(&mut self, now: u64, input: &[u8], records: &mut [Record]) -> Taken
+        ensures taken { TakesStream ⟦<PlainRelay as LinkRelay>⟧.gives self.old.stream now (seen input.now) records.old
+            result.status result.taken result.written result.wanted self.new.stream records.new }
         ensures last { self.new.last ≡ self.old.last }
     {
-        self.driver.take(input, records)
+        self.stream.take(now, input, records)
     }
 
-    /// Sends transfers by their heads, by [`Driver::send`].
+    /// Tells the time, and does what is due, by [`Stream::tick`].
+    pub fn tick(&mut self, now: u64) -> Tick
+        ensures ticks { TicksStream ⟦<PlainRelay as LinkRelay>⟧.gives self.old.stream now result self.new.stream }
+        ensures last { self.new.last ≡ self.old.last }
+    {
+        self.stream.tick(now)
+    }
+
+    /// Sends transfers by their heads, by [`Stream::send`].
     pub fn send(&mut self, heads: &[TransferHead], bytes: &[u8], sent: &mut [Sent]) -> Posted
-        ensures sent { Sends ⟦<PlainRelay as LinkRelay>⟧.gives self.old.driver heads.now bytes.now sent.old
-            result.status result.taken result.used self.new.driver sent.new }
+        ensures sent { PostsStream ⟦<PlainRelay as LinkRelay>⟧.gives self.old.stream heads.now bytes.now sent.old
+            result.status result.taken result.used self.new.stream sent.new }
         ensures last { self.new.last ≡ self.old.last }
     {
-        self.driver.send(heads, bytes, sent)
+        self.stream.send(heads, bytes, sent)
     }
 
     /// Cuts a head whose payload is longer than a frame, by [`Driver::cut`].
     pub fn cut(&self, head: &TransferHead, bytes: &[u8]) -> Result<Cut, AllocError>
-        ensures ok { IfOk result (λ c. c ≡ cut_of self.now.driver.engine.limit head.now bytes.now) }
+        ensures ok { IfOk result (λ c. c ≡ cut_of self.now.stream.driver.engine.limit head.now bytes.now) }
         ensures refused { OnErr result SomeRefused }
     {
-        self.driver.cut(head, bytes)
+        self.stream.driver().cut(head, bytes)
     }
 
     /// Does the operation of this number, as [`Client::perform`] does, and answers the status by its number. 4 (`BadArgument`) and 0 where no
@@ -194,6 +208,9 @@ impl Client {
             Group::Measures => self.payload_room(input, output),
             Group::Names => self.refusal_text(input, output),
             Group::Bare => self.if_empty(operation, input, output),
+            Group::Logs => (self.login(input), 0),
+            Group::Challenges => (self.challenge(input), 0),
+            Group::Responds => (self.respond(input), 0),
             Group::Asks => (self.ask(operation, input), 0),
         }
     }

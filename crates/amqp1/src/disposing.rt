@@ -1,6 +1,7 @@
 //! Dispositions by numbers.
 
-ghost use Rattle.std.specs.Prelude.{◌≡◌, [], ◌∷◌};
+ghost use Rattle.std.specs.Prelude.{◌≡◌, [], ◌∷◌, is_some};
+ghost use Rattle.amqp_driver.specs.Settling.{state_of};
 ghost use Rattle.amqp1.specs.Disposing.{FindsDispose};
 
 use crate::reading;
@@ -45,4 +46,11 @@ pub(crate) fn asked(input: &[u8]) -> Option<DisposeAsked>
         }),
         _ => None,
     }
+}
+
+/// Whether the number is that of a state.
+pub(crate) fn has_state(outcome: u8) -> bool
+    ensures { result ≡ is_some (state_of outcome) }
+{
+    matches!(outcome, 0 | 1 | 3 | 4)
 }

@@ -3,12 +3,16 @@
 ghost use Rattle.std.specs.Prelude.{◌≡◌, ◌<◌, ◌⊎◌, Some};
 ghost use Rattle.amqp_memory.specs.Refusal.{SomeRefused};
 ghost use Rattle.amqp1.specs.declared.status.Status.TheVariants as status;
-ghost use Rattle.amqp1.specs.Place.{CallsThere, CutsThere, Is, MadeThere, SendsThere, TakesThere};
+ghost use Rattle.amqp1.specs.Place.{CallsThere, CutsThere, Is, MadeThere, SendsThere, TakesThere, TicksThere};
+ghost use Rattle.amqp1.specs.Ticking.{due_number, next_number, ticked_of};
 
 use crate::client::Client;
+use crate::how::How;
+use crate::logins::LoginHead;
 use crate::place::Place;
 use crate::status::Status;
 use amqp_driver::{Cut, PlainRelay, Record, Sent, TransferHead};
+use amqp_idle::{Due, Tick};
 use amqp_memory::boxed;
 use amqp_session::LinkRelay;
 use std::alloc::Global;
@@ -26,6 +30,18 @@ pub struct Took {
     pub written: usize,
     /// Where the status is `DONE`: how many bytes the next frame has, and 4 where its size is not whole. Else 0.
     pub wanted: usize,
+}
+
+/// What `amqp1_tick` answers, in 16 bytes without padding.
+#[repr(C)]
+#[derive(Drop)]
+pub struct Ticked {
+    /// When the next tick is wanted, in milliseconds of the caller's clock. 18446744073709551615 where none is.
+    pub next: u64,
+    /// What was due, and is done: 0 nothing, 1 an empty frame, 2 the opening is late, 3 the peer is silent.
+    pub due: u32,
+    /// 0.
+    pub reserved: u32,
 }
 
 /// What `amqp1_send` took.
@@ -46,17 +62,24 @@ pub extern "C" fn amqp1_version() -> u32
     VERSION
 }
 
-/// Makes a client in a place where nothing lies, of the input of `Client::new`. `BAD_ARGUMENT` where one lies there already.
+/// Makes a client in a place where nothing lies, by `Client::new`. `BAD_ARGUMENT` where one lies there already.
 #[unsafe(no_mangle)]
-pub extern "C" fn amqp1_new(alloc: Global, place: &mut Place, input: &[u8]) -> i32
+pub extern "C" fn amqp1_new(
+    alloc: Global,
+    place: &mut Place,
+    how: &How,
+    open_bytes: &[u8],
+    logins: &[LoginHead],
+    bytes: &[u8],
+) -> i32
     ensures taken { 0 < place.old.full → Is result status.BadArgument × (place.new ≡ place.old) }
     ensures made { place.old.full ≡ 0 →
-        MadeThere ⟦<PlainRelay as LinkRelay>⟧.gives input.now result place.new.full place.new.slot.held }
+        MadeThere ⟦<PlainRelay as LinkRelay>⟧.gives how.now open_bytes.now logins.now bytes.now result place.new.full place.new.slot.held }
 {
     if place.full != 0 {
         return Status::BadArgument.number();
     }
-    match Client::new(alloc, input) {
+    match Client::new(alloc, how, open_bytes, logins, bytes) {
         Ok(client) => put(alloc, place, client),
         Err(status) => status,
     }
@@ -108,12 +131,13 @@ pub extern "C" fn amqp1_call(
     }
 }
 
-/// Takes whole frames out of received bytes, runs each once, in order, and writes a record of each, by `Driver::take`. What it took goes to
-/// `answer`. `NO_ENGINE`, and nothing is written, where no client lies in the place.
+/// Takes what came at this time, by `Stream::take`: a header, a SASL frame, or whole frames, of which each is run once, in order; and writes a
+/// record of each. What it took goes to `answer`. `NO_ENGINE`, and nothing is written, where no client lies in the place.
 #[unsafe(no_mangle)]
 pub extern "C" fn amqp1_take(
     alloc: Global,
     place: &mut Place,
+    now: u64,
     input: &[u8],
     records: &mut [Record],
     answer: &mut Took,
@@ -121,14 +145,14 @@ pub extern "C" fn amqp1_take(
     ensures empty { place.old.full ≡ 0 →
         Is result status.NoEngine × (place.new.full ≡ 0) × (records.new ≡ records.old) × (answer.new ≡ answer.old) }
     ensures taken { 0 < place.old.full → (0 < place.new.full)
-        × TakesThere ⟦<PlainRelay as LinkRelay>⟧.gives place.old.slot.held input.now records.old
+        × TakesThere ⟦<PlainRelay as LinkRelay>⟧.gives place.old.slot.held now input.now records.old
         result answer.new place.new.slot.held records.new }
 {
     let old = std::mem::replace(place, Place::empty(alloc));
     match old.into_client() {
         None => Status::NoEngine.number(),
         Some(mut client) => {
-            let took = client.take(input, records);
+            let took = client.take(now, input, records);
             answer.taken = took.taken;
             answer.written = took.written;
             answer.wanted = took.wanted;
@@ -138,7 +162,61 @@ pub extern "C" fn amqp1_take(
     }
 }
 
-/// Sends transfers by their heads, and writes what became of each, by `Driver::send`. What it took goes to `answer`. `NO_ENGINE`, and nothing is
+/// What was due, as a number.
+fn due_number(due: Due) -> u32
+    ensures { result ≡ due_number due }
+{
+    match due {
+        Due::Nothing => 0,
+        Due::Beat => 1,
+        Due::OpeningLate => 2,
+        Due::PeerSilent => 3,
+    }
+}
+
+/// When the next tick is wanted, as a number.
+fn next_number(next: Option<u64>) -> u64
+    ensures { result ≡ next_number next }
+{
+    match next {
+        Some(time) => time,
+        None => u64::MAX,
+    }
+}
+
+/// What a tick answers, in numbers.
+fn ticked_of(tick: Tick) -> Ticked
+    ensures { result ≡ ticked_of tick }
+{
+    Ticked {
+        next: next_number(tick.next),
+        due: due_number(tick.due),
+        reserved: 0,
+    }
+}
+
+/// Tells the time, and does what is due, by `Stream::tick`. What that was, and when the next tick is wanted, goes to `answer`. `NO_ENGINE`, and
+/// nothing is written, where no client lies in the place.
+#[unsafe(no_mangle)]
+pub extern "C" fn amqp1_tick(alloc: Global, place: &mut Place, now: u64, answer: &mut Ticked) -> i32
+    ensures empty { place.old.full ≡ 0 →
+        Is result status.NoEngine × (place.new.full ≡ 0) × (answer.new ≡ answer.old) }
+    ensures ticked { 0 < place.old.full → (0 < place.new.full)
+        × TicksThere ⟦<PlainRelay as LinkRelay>⟧.gives place.old.slot.held now result answer.new place.new.slot.held }
+{
+    let old = std::mem::replace(place, Place::empty(alloc));
+    match old.into_client() {
+        None => Status::NoEngine.number(),
+        Some(mut client) => {
+            let tick = client.tick(now);
+            *answer = ticked_of(tick);
+            *place = Place::of(client);
+            Status::Done.number()
+        }
+    }
+}
+
+/// Sends transfers by their heads, and writes what became of each, by `Stream::send`. What it took goes to `answer`. `NO_ENGINE`, and nothing is
 /// written, where no client lies in the place.
 #[unsafe(no_mangle)]
 pub extern "C" fn amqp1_send(

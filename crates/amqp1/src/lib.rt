@@ -1,9 +1,9 @@
-//! The library for C: an engine in a place that the caller keeps, and seven functions over it.
+//! The library for C: an engine in a place that the caller keeps, and eight functions over it.
 //!
-//! An engine is one side of a connection: an `amqp_driver::Driver`, and the last refusal of a request. It lies in a [`place::Place`], or nothing
-//! does. `amqp1_new` makes it, `amqp1_take` runs received frames and writes a record of each, `amqp1_send` sends transfers, `amqp1_call` does one
-//! operation of those below, and `amqp1_free` lets it go. `amqp1_version` is 256: 0.1.0. `include/amqp1.h` declares them. Protocol headers (AMQP
-//! 1.0 part 2, section 2.2) are the caller's: the connection begins where both have passed.
+//! An engine is one side of a connection from its first byte to its last: an `amqp_driver::Stream`, and the last refusal of a request. It lies in a
+//! [`place::Place`], or nothing does. `amqp1_new` makes it, `amqp1_take` takes what came and writes a record of each thing, `amqp1_tick` tells the
+//! time, `amqp1_send` sends transfers, `amqp1_cut` cuts long ones, `amqp1_call` does one operation of those below, and `amqp1_free` lets it go.
+//! `amqp1_version` is 256: 0.1.0. `include/amqp1.h` declares them.
 //!
 //! Nothing is kept of what came: bytes that `amqp1_take` did not take are given again, with what came since. Records say where payloads and
 //! performatives stand in the input of that call. Relays answer by `amqp_events::Policy`, and tell nobody: an owner reads the records.
@@ -14,8 +14,11 @@
 //!
 //! # A new engine
 //!
-//! `amqp1_new` takes 16 bytes that the peer does not know, by which names, handles and channels are found, and PERF of this side's Open. A key of
-//! 16 zeros is refused: it was forgotten.
+//! `amqp1_new` takes a [`how::How`]: 16 bytes that the peer does not know, by which names, handles and channels are found, the time, how long the
+//! opening may take, and this side of SASL (AMQP 1.0 part 5, section 5.3): 0 without, 1 for a client, 2 for a server. A key of 16 zeros is refused:
+//! it was forgotten. It takes PERF of this side's Open, and logins by the sizes of each ([`logins::LoginHead`]): a client's in the order in which it
+//! prefers them, or the mechanisms that a server offers, at least one. Their bytes stand one after the other, behind the name of the host that a
+//! client asks for, and are all the bytes there are.
 //!
 //! # Operations
 //!
@@ -37,7 +40,7 @@
 //! | 13 | `Transfer` | u32 session, u8 (1 for the first of its delivery), u32 length of PERF, PERF, payload | a Transfer is to be sent, of the link that has the handle of PERF |
 //! | 14 | `Disposition` | u32 session, PERF | a Disposition is to be sent |
 //! | 15 | `Settle` | u32 session, u8 role, u32 first, u32 last | deliveries that this side settles are let go |
-//! | 16 | `Output` | none | bytes that are to be sent, as many as fit: they are taken off |
+//! | 16 | `Output` | none | bytes that are to be sent, headers, SASL and frames, as many as fit: they are taken off |
 //! | 18 | `Refusal` | none | the last refusal of a request: its name, a condition and a description, with a line feed between: the condition that answers a frame that is refused so, if any; or condition and description of the error with which the peer ended or closed |
 //! | 19 | `RemoteOpen` | none | PERF of the peer's Open; nothing before it |
 //! | 20 | `MaxPieceLen` | none | u32, as `Engine::max_piece_len` |
@@ -48,16 +51,21 @@
 //! | 27 | `Unfit` | none | u32: how many frames did not fit the peer's limit and were not sent |
 //! | 28 | `RefusalText` | u32 number of a refusal, as in a record | its name, the condition that answers a frame that is refused so, and `end` or `close` for the frame that carries it, with a line feed between; nothing where no refusal has the number |
 //! | 29 | `Dispose` | u32 session, u8 role, u32 first, u32 last, u8 settled, u8 state (0 none, 1 accepted, 3 released, 4 modified) | a Disposition of these deliveries is to be sent |
+//! | 30 | `Login` | u8 outcome (0 ok, 1 auth, 2 sys, 3 sys-perm, 4 sys-temp), u8 1 and additional data, or u8 0 for none | a server answers a client that asks to be let in: 0 lets it in, and nothing else does |
+//! | 31 | `Challenge` | the challenge | a server asks a client for more |
+//! | 32 | `Respond` | the response | a client answers a challenge |
+//! | 33 | `IsOver` | none | u8: 1 where the connection is over, else 0 |
 //!
 //! # Statuses
 //!
 //! Each export but the last two answers a status. 6 is never used.
 //!
-//! - 0 `DONE`. Of `amqp1_take`: what is left is no whole frame. Of `amqp1_send`: no head is left.
+//! - 0 `DONE`. Of `amqp1_take`: what is left is no whole header, SASL frame or frame. Of `amqp1_send`: no head is left.
 //! - 1 `REFUSED`, of a request, by a name, which `Refusal` gives. In a session that is mapped a transfer whose link is not attached (the
 //!   peer's attach came for no live link that has the handle, or a detach of either side since) is refused `UnattachedHandle`, and is not
 //!   run. Where a frame of the request does not fit the peer's limit the name is `TooLarge`: the request was accepted, and that frame
-//!   is not sent.
+//!   is not sent. Where the connection is over it is `Over`. A call of SASL is refused `WrongTime` where nothing asks for it, and `TooLarge` where its
+//!   frame would have more than 512 bytes.
 //! - 2 `NO_MEMORY`: memory was refused, and the request, the frame or the transfer was not taken; it may be asked again. `Output` answers it where
 //!   some waits in the engine still; what it wrote is to be sent all the same.
 //! - 3 `TOO_SMALL`: the output is. Nothing changed, and the number that is written says how many bytes are needed.
@@ -65,8 +73,13 @@
 //!   changed.
 //! - 5 `NO_ENGINE`: nothing lies in the place. Nothing changed.
 //! - 7 `FULL`: a whole frame is left, or a head, and all places for what is to be said of it are written.
-//! - 8 `BAD_SIZE`: a size stands there that no frame may have. The owner closes, for `amqp:connection:framing-error`.
+//! - 8 `BAD_SIZE`: a size stands there that no frame may have. A Close for `amqp:connection:framing-error` waits to be sent, and the connection is
+//!   over.
 //! - 9 `SHORT`: the bytes end before the tag and the payload of the next head do.
+//! - 10 `AGAIN`: what was told last is to be answered, or what follows is of another layer. Then the rest is given again.
+//! - 11 `WAITS`: `Login`, `Challenge` or `Respond` comes first.
+//! - 12 `OVER`: the connection is over, and nothing is taken any more.
+//! - 13 `TOO_LARGE`: the SASL frame to send would have more than 512 bytes.
 //!
 //! # What is proved, and what is not
 //!
@@ -74,9 +87,10 @@
 //! own, none panics, each ends, the engine is freed once, and each contract holds. The walks by hand under `proofs/slot` show that a pointer to C
 //! and back owns what it owned.
 //!
-//! `specs/Place` has the contracts. `amqp1_take` and `amqp1_send` promise all that `Driver::take` and `Driver::send` do: which frames were run,
-//! each once and in order, and the record of each; which heads were handled, and what became of each. `specs/Client` says of each operation what
-//! it does. A request is one run of the engine with the one input that its bytes ask for, or its bytes ask for none, or for a transfer whose
+//! `specs/Place` has the contracts. `amqp1_take`, `amqp1_tick` and `amqp1_send` promise all that `Stream::take`, `tick` and `send` do: which header or
+//! SASL frame was taken, and that no frame is run before a login where one is asked for; which frames were run, each once and in order, and the
+//! record of each; what was due; which heads were handled, and what became of each. `specs/Making` says which stream is made. `specs/Client` says of
+//! each operation what it does. A request is one run of the engine with the one input that its bytes ask for, or its bytes ask for none, or for a transfer whose
 //! link is not attached (`specs/Finding`). What `Output` writes is a front of what waits, as much as fits, and waits no longer. The
 //! name of a number is that of each refusal that has it (`specs/Names`). An output that is too small stays as it is, and so does all else.
 //!
@@ -89,8 +103,11 @@ mod client;
 mod disposing;
 mod exports;
 mod finding;
+mod how;
 mod key;
 mod linking;
+mod logging_in;
+mod logins;
 mod names;
 mod operation;
 mod place;

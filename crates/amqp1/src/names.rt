@@ -2,7 +2,7 @@
 
 ghost use Rattle.std.specs.Prelude.{◌≡◌, option_copied};
 ghost use Rattle.amqp1.specs.Names.{IsAnsweredBy, IsCalled};
-ghost use Rattle.amqp1.specs.Inner.NameTables.{answer_at, closing_at, ending_at, name_at, step_name_at, frame_name_at, state_name_at, inner_name_at, alloc_name_at, begun_name_at, session_name_at, link_name_at, own_name_at};
+ghost use Rattle.amqp1.specs.Inner.NameTables.{answer_at, closing_at, ending_at, name_at, step_name_at, frame_name_at, state_name_at, inner_name_at, alloc_name_at, begun_name_at, session_name_at, link_name_at, own_name_at, opening_name_at};
 
 use fe2o3_amqp::{ErrorCondition, PeerAnswer};
 
@@ -37,6 +37,7 @@ fn name_at(number: u32) -> Option<&'static str>
         6 | 7 => session_name(number),
         8 => link_name(number),
         9 => own_name(number),
+        10 => opening_name(number),
         _ => None,
     }
 }
@@ -165,6 +166,23 @@ fn own_name(number: u32) -> Option<&'static str>
     match number {
         91 => Some("PayloadTooLong"),
         92 => Some("TagTooLong"),
+        _ => None,
+    }
+}
+
+/// Those of a stream that is not opened.
+fn opening_name(number: u32) -> Option<&'static str>
+    ensures { option_copied result ≡ opening_name_at number }
+{
+    match number {
+        101 => Some("NoMechanism"),
+        102 => Some("NotOffered"),
+        103 => Some("LoginRefused"),
+        104 => Some("OtherProtocol"),
+        105 => Some("OtherHeader"),
+        106 => Some("NotAmqp"),
+        107 => Some("MalformedSasl"),
+        108 => Some("UnexpectedSasl"),
         _ => None,
     }
 }

@@ -56,6 +56,14 @@ pub enum Operation {
     RefusalText,
     /// 29: a Disposition by numbers is to be sent.
     Dispose,
+    /// 30: a client is let in, or it is not.
+    Login,
+    /// 31: a challenge is to be sent.
+    Challenge,
+    /// 32: a response is to be sent.
+    Respond,
+    /// 33: whether the stream is over.
+    IsOver,
 }
 
 impl Operation {
@@ -89,6 +97,10 @@ impl Operation {
             27 => Some(Operation::Unfit),
             28 => Some(Operation::RefusalText),
             29 => Some(Operation::Dispose),
+            30 => Some(Operation::Login),
+            31 => Some(Operation::Challenge),
+            32 => Some(Operation::Respond),
+            33 => Some(Operation::IsOver),
             _ => None,
         }
     }
@@ -109,7 +121,11 @@ impl Operation {
             | Operation::RemoteOpen
             | Operation::MaxPieceLen
             | Operation::State
-            | Operation::Unfit => Group::Bare,
+            | Operation::Unfit
+            | Operation::IsOver => Group::Bare,
+            Operation::Login => Group::Logs,
+            Operation::Challenge => Group::Challenges,
+            Operation::Respond => Group::Responds,
             _ => Group::Asks,
         }
     }
@@ -132,6 +148,12 @@ pub(crate) enum Group {
     Names,
     /// An empty one.
     Bare,
+    /// The outcome of a login.
+    Logs,
+    /// A challenge.
+    Challenges,
+    /// A response to a challenge.
+    Responds,
     /// A request of the engine's.
     Asks,
 }

@@ -1,7 +1,7 @@
 //! The last refusal: its name, and the condition that answers it, or the error with which the peer ended or closed.
 
 ghost use Rattle.std.specs.Prelude.{◌≡◌};
-ghost use Rattle.amqp1.specs.Refused.{nothing, too_large, unattached, refused_of, condition_said, peer_error};
+ghost use Rattle.amqp1.specs.Refused.{nothing, over, too_large, unattached, wrong_time, refused_of, condition_said, peer_error};
 
 use amqp_connection::ConnectionStateError;
 use amqp_engine::StepError;
@@ -41,7 +41,7 @@ impl Refused {
         }
     }
 
-    /// A frame of the request does not fit the peer's limit.
+    /// A frame of the request does not fit the peer's limit, or a SASL frame its own.
     pub(crate) fn too_large() -> Refused
         ensures { result ≡ too_large }
     {
@@ -58,6 +58,28 @@ impl Refused {
     {
         Refused {
             name: "UnattachedHandle",
+            condition: "",
+            peer: None,
+        }
+    }
+
+    /// A request of a stream that is over.
+    pub(crate) fn over() -> Refused
+        ensures { result ≡ over }
+    {
+        Refused {
+            name: "Over",
+            condition: "",
+            peer: None,
+        }
+    }
+
+    /// A call of SASL to which nothing asks.
+    pub(crate) fn wrong_time() -> Refused
+        ensures { result ≡ wrong_time }
+    {
+        Refused {
+            name: "WrongTime",
             condition: "",
             peer: None,
         }

@@ -1,9 +1,11 @@
 //! How a call ends.
 
 ghost use Rattle.std.specs.Prelude.{◌≡◌, pos};
+ghost use Rattle.amqp1.specs.LoggingIn.{sasl_status};
 ghost use Rattle.amqp1.specs.Status.{flushed_status, status_number, status_of, taken_status};
 
 use amqp_driver::{Asked, Status as DriverStatus};
+use amqp_sasl::OpeningError;
 use std::alloc::AllocError;
 
 /// How a call ends. The numbers of `include/amqp1.h`; 6 is never used.
@@ -27,6 +29,14 @@ pub enum Status {
     BadSize,
     /// The bytes end before those of the next transfer do.
     Short,
+    /// What was told last comes before the rest, which is given again.
+    Again,
+    /// A call of this side is awaited.
+    Waits,
+    /// The connection is over: nothing is taken any more.
+    Over,
+    /// The SASL frame to send would have more than 512 bytes.
+    TooLarge,
 }
 
 impl Status {
@@ -44,6 +54,10 @@ impl Status {
             Status::Full => 7,
             Status::BadSize => 8,
             Status::Short => 9,
+            Status::Again => 10,
+            Status::Waits => 11,
+            Status::Over => 12,
+            Status::TooLarge => 13,
         }
     }
 
@@ -57,6 +71,10 @@ impl Status {
             DriverStatus::BadSize => Status::BadSize,
             DriverStatus::NoMemory => Status::NoMemory,
             DriverStatus::Short => Status::Short,
+            DriverStatus::Again => Status::Again,
+            DriverStatus::Waits => Status::Waits,
+            DriverStatus::Over => Status::Over,
+            DriverStatus::TooLarge => Status::TooLarge,
         }
     }
 }
@@ -67,7 +85,7 @@ pub(crate) fn status_of(asked: &Asked) -> Status
 {
     match asked {
         Asked::Done => Status::Done,
-        Asked::TooLarge | Asked::Refused(_) => Status::Refused,
+        Asked::TooLarge | Asked::Refused(_) | Asked::Over => Status::Refused,
         Asked::NoMemory => Status::NoMemory,
     }
 }
@@ -79,5 +97,16 @@ pub(crate) fn flushed_status(flushed: Result<(), AllocError>) -> Status
     match flushed {
         Ok(()) => Status::Done,
         Err(_) => Status::NoMemory,
+    }
+}
+
+/// The status of a call of SASL.
+pub(crate) fn sasl_status(answer: &Result<(), OpeningError>) -> Status
+    ensures { result ≡ sasl_status answer.now }
+{
+    match answer {
+        Ok(()) => Status::Done,
+        Err(OpeningError::WrongTime) | Err(OpeningError::TooLarge) => Status::Refused,
+        Err(OpeningError::OutOfMemory) => Status::NoMemory,
     }
 }

@@ -28,7 +28,7 @@ use Rattle.amqp_driver.specs.Taking.{Answered, RunsEach, listed}
 use Rattle.amqp_driver.specs.Told.{session_at}
 
 -- the entry of one frame goes on
-one_goes_on : {R : Type 0} (g : Relays R) (d d' : DriverView R) (frame : List ℕ) (e : Entry R) → Runs g d frame e d'
+pub one_goes_on : {R : Type 0} (g : Relays R) (d d' : DriverView R) (frame : List ℕ) (e : Entry R) → Runs g d frame e d'
     → (s : ConnectionState) (o : OpenModel) (H : List (Entry R)) → Legal g s o H d.engine → Legal g s o (H ++ e ∷ []) d'.engine
 one_goes_on g d d' frame e r s o H l =
     let x : Legal g s o (H ++ r.ran.one.ran.entries) d'.engine = (r.ran.one.ran.promise.goes_on s o H l).0 in
@@ -40,17 +40,17 @@ pub each_goes_on : {R : Type 0} (g : Relays R) (limit : ℕ) (d d' : DriverView 
 each_goes_on g limit d d' [] r s o H l =
     subst (λ (es : List (Entry _)). Legal g s o es d'.engine) (sym (append-nil H)) (subst (λ (x : DriverView _). Legal g s o H x.engine) (sym r) l)
 each_goes_on g limit d d' (a ∷ rest) r s o H l =
-    let y : Legal g s o (H ++ a.entry ∷ []) r.0.engine = one_goes_on g d r.0 _ a.entry r.3 s o H l in
+    let y : Legal g s o (H ++ a.entry ∷ []) r.0.engine = one_goes_on g d r.0 _ a.entry r.4 s o H l in
     subst (λ (es : List (Entry _)). Legal g s o es d'.engine) (append_assoc H (a.entry ∷ []) (entries_of rest))
-    (each_goes_on g limit r.0 d' rest r.4 s o (H ++ a.entry ∷ []) y)
+    (each_goes_on g limit r.0 d' rest r.5 s o (H ++ a.entry ∷ []) y)
 
 -- a run of no input has no entry
-no_entries : {R : Type 0} (es : List (Entry R)) → [] ≡ inputs_of es ++ [] → es ≡ []
+pub no_entries : {R : Type 0} (es : List (Entry R)) → [] ≡ inputs_of es ++ [] → es ≡ []
 no_entries [] e = refl
 no_entries (x ∷ es) e = let k : [] ≡ x.input ∷ (inputs_of es ++ []) = e in absurd cc
 
 -- where only what waited was sent, the history stays
-sends_stays : {R : Type 0} (g : Relays R) (d d' : DriverView R) → SendsOnly g d d'
+pub sends_stays : {R : Type 0} (g : Relays R) (d d' : DriverView R) → SendsOnly g d d'
     → (s : ConnectionState) (o : OpenModel) (H : List (Entry R)) → Legal g s o H d.engine → Legal g s o H d'.engine
 sends_stays g d d' x s o H l =
     let ran = x.1.1 in
@@ -67,7 +67,7 @@ rest_stays g k d' (inr (was, inr x)) s o H l = sends_stays g k d' x s o H l
 -- ---- transfers
 
 -- the entry of one input goes on
-input_goes_on : {R : Type 0} (g : Relays R) (d d' : DriverView R) (i : Input R) (e : Entry R) (returned : List Refusal) → RunsInput g d i e returned d'
+pub input_goes_on : {R : Type 0} (g : Relays R) (d d' : DriverView R) (i : Input R) (e : Entry R) (returned : List Refusal) → RunsInput g d i e returned d'
     → (s : ConnectionState) (o : OpenModel) (H : List (Entry R)) → Legal g s o H d.engine → Legal g s o (H ++ e ∷ []) d'.engine
 input_goes_on g d d' i e returned r s o H l =
     let x : Legal g s o (H ++ r.ran.ran.entries) d'.engine = (r.ran.ran.promise.goes_on s o H l).0 in

@@ -16,7 +16,7 @@ use Rattle.amqp_engine.specs.Entry.{Entry}
 use Rattle.amqp_engine.specs.RunFrame.{ReadFrom, frame_read}
 use Rattle.amqp_driver.specs.declared.record.Record.{Record}
 use Rattle.amqp_driver.specs.Driver.{DriverView, Runs}
-use Rattle.amqp_driver.specs.Told.{is_over, is_silent, output_of, placed, record_of, refused_kind, refused_record, told_by}
+use Rattle.amqp_driver.specs.Told.{begins_anew, is_over, is_silent, output_of, placed, record_of, refused_kind, refused_record, told_by}
 use Rattle.amqp_driver.specs.Record.{bare_record, body_record, frame_record, read_record}
 use Rattle.amqp_driver.specs.Refusals.{refusal_number}
 
@@ -96,12 +96,12 @@ kept_by : (kind refusal : ℕ) (over : Bool) (q : Record) → SamePayload (if ov
 kept_by kind refusal true q = record { place = refl; many = refl }
 kept_by kind refusal false q = record { place = refl; many = refl }
 
-told_payload : (refusal : Option StepError) (silent : _) (q r : Record) → told_by refusal silent q ≡ Some r → SamePayload r q
-told_payload None true q r e = absurd cc
-told_payload None false q r e = let same : q ≡ r = cc in record { place = ap (λ (x : Record). x.payload_at) (sym same); many = ap (λ (x : Record). x.payload) (sym same) }
-told_payload (Some x) silent q r e =
-    let same : refused_record x q ≡ r = let f : Some (refused_record x q) ≡ Some r = e in cc in
-    let k = kept_by (refused_kind q.kind x) (refusal_number x) (is_over q.kind x) q in
+told_payload : (refusal : Option StepError) (silent anew : Bool) (q r : Record) → told_by refusal silent anew q ≡ Some r → SamePayload r q
+told_payload None true anew q r e = absurd cc
+told_payload None false anew q r e = let same : q ≡ r = cc in record { place = ap (λ (x : Record). x.payload_at) (sym same); many = ap (λ (x : Record). x.payload) (sym same) }
+told_payload (Some x) silent anew q r e =
+    let same : refused_record anew x q ≡ r = let f : Some (refused_record anew x q) ≡ Some r = e in cc in
+    let k = kept_by (refused_kind anew q.kind x) (refusal_number x) (is_over q.kind x) q in
     record { place = ap (λ (y : Record). y.payload_at) (sym same) ∙ k.place; many = ap (λ (y : Record). y.payload) (sym same) ∙ k.many }
 
 frame_payload : (at size : ℕ) (f : Frame) (t : TransferModel) (payload : List ℕ) → f.body ≡ body.Transfer t payload
@@ -128,7 +128,8 @@ payload_is_there g d d' input at size e r f t payload l run told got is =
     let x = in_frame f (drop 4 (take size (drop at input))) from.0 from.1.0 in
     let y : drop 4 (take size (drop at input)) ≡ x.0 ++ payload = x.1 ∙ ap (λ (b : FrameBody). x.0 ++ payload_of b) is in
     let k : SamePayload r (placed e.reached (output_of d.engine e.reached e.received) (read_record at size e.received)) =
-    told_payload e.refusal (is_silent e.received) (placed e.reached (output_of d.engine e.reached e.received) (read_record at size e.received)) r told in
+    told_payload e.refusal (is_silent e.received) (begins_anew d.engine e.received)
+    (placed e.reached (output_of d.engine e.reached e.received) (read_record at size e.received)) r told in
     let p = frame_payload at size f t payload is in
     let many : r.payload ≡ length payload = k.many ∙ ap (λ (z : Option Frame). (read_record at size z).payload) got ∙ p.0 in
     let place : r.payload_at ≡ at + size - length payload = k.place ∙ ap (λ (z : Option Frame). (read_record at size z).payload_at) got ∙ p.1 in

@@ -23,7 +23,7 @@ use Rattle.amqp_driver.specs.declared.record.Record.{Record}
 use Rattle.amqp_driver.specs.declared.told.Told.{Told}
 use Rattle.amqp_driver.specs.Driver.{DriverView, Runs, RunsRead, Tells, TellsRead, counted, is_passed_on, reached_by, route_by, told_as, told_of}
 use Rattle.amqp_driver.specs.Record.{bare_record, frame_record, read_record}
-use Rattle.amqp_driver.specs.Told.{is_empty_body, is_silent, link_in, output_of, placed, record_of, session_at, told_by}
+use Rattle.amqp_driver.specs.Told.{begins_anew, begins_on, is_empty_body, is_silent, link_in, output_of, placed, record_of, session_at, told_by}
 use Rattle.amqp_driver.proofs.RouteLemmas.{none_reached, reached_is}
 
 -- ---- the entry of a run of one frame
@@ -94,31 +94,33 @@ link_reached v b (Some e) route = by_test (is_passed_on e)
 -- the record of an entry, by what was received of it and what it reached
 record_is : {R : Type 0} (v : EngineView R) (at size : ℕ) (e : Entry R) (refusal : Option StepError) (received : Option Frame) (reached : Option ℕ)
     → e.refusal ≡ refusal → e.received ≡ received → e.reached ≡ reached
-    → record_of v at size e ≡ told_by refusal (is_silent received) (placed reached (output_of v reached received) (read_record at size received))
+    → record_of v at size e ≡ told_by refusal (is_silent received) (begins_anew v received) (placed reached (output_of v reached received) (read_record at size received))
 record_is v at size e refusal received reached r f n =
-    ap (λ (x : Option StepError). told_by x (is_silent e.received) (placed e.reached (output_of v e.reached e.received) (read_record at size e.received))) r
-    ∙ ap (λ (x : Option Frame). told_by refusal (is_silent x) (placed e.reached (output_of v e.reached x) (read_record at size x))) f
-    ∙ ap (λ (x : Option ℕ). told_by refusal (is_silent received) (placed x (output_of v x received) (read_record at size received))) n
+    ap (λ (x : Option StepError). told_by x (is_silent e.received) (begins_anew v e.received)
+    (placed e.reached (output_of v e.reached e.received) (read_record at size e.received))) r
+    ∙ ap (λ (x : Option Frame). told_by refusal (is_silent x) (begins_anew v x) (placed e.reached (output_of v e.reached x) (read_record at size x))) f
+    ∙ ap (λ (x : Option ℕ). told_by refusal (is_silent received) (begins_anew v received) (placed x (output_of v x received) (read_record at size received))) n
 
 told_frame : {R : Type 0} (g : Relays R) (v : EngineView R) (bytes : List ℕ) (at size : ℕ) (e : Entry R) (f : Frame) (refusal : Option StepError)
     → Did g v bytes e → e.refusal ≡ refusal → e.received ≡ Some f
-    → record_of v at size e ≡ told_by refusal (is_empty_body f.body) (placed (reached_by refusal (route_by v.connection f.channel f.body))
+    → record_of v at size e ≡ told_by refusal (is_empty_body f.body) (begins_on v.connection f.channel f.body)
+    (placed (reached_by refusal (route_by v.connection f.channel f.body))
     (reached_by refusal (link_in f.body (session_at v (route_by v.connection f.channel f.body)))) (frame_record at size f))
 told_frame g v bytes at size e f refusal d r is =
     let n : e.reached ≡ reached_by refusal (route_by v.connection f.channel f.body) = reached_by_frame g v bytes e f d is
     ∙ ap (λ (x : Option StepError). reached_by x (route_by v.connection f.channel f.body)) r in
     record_is v at size e refusal (Some f) (reached_by refusal (route_by v.connection f.channel f.body)) r is n
-    ∙ ap (λ (x : Option OutputHandle). told_by refusal (is_empty_body f.body)
+    ∙ ap (λ (x : Option OutputHandle). told_by refusal (is_empty_body f.body) (begins_on v.connection f.channel f.body)
     (placed (reached_by refusal (route_by v.connection f.channel f.body)) x (frame_record at size f)))
     (link_reached v f.body refusal (route_by v.connection f.channel f.body))
 
 told_unread : {R : Type 0} (g : Relays R) (v : EngineView R) (bytes : List ℕ) (at size : ℕ) (e : Entry R) (refusal : Option StepError)
     → Did g v bytes e → e.refusal ≡ refusal → e.received ≡ None
-    → record_of v at size e ≡ told_by refusal false (placed (reached_by {X = ℕ} refusal None) (reached_by {X = OutputHandle} refusal None) (bare_record at size))
+    → record_of v at size e ≡ told_by refusal false false (placed (reached_by {X = ℕ} refusal None) (reached_by {X = OutputHandle} refusal None) (bare_record at size))
 told_unread g v bytes at size e refusal d r is =
     record_is v at size e refusal None None r is (reached_unread g v bytes e d is)
-    ∙ ap (λ (x : Option ℕ). told_by refusal false (placed x None (bare_record at size))) (sym (none_reached refusal))
-    ∙ ap (λ (x : Option OutputHandle). told_by refusal false (placed (reached_by {X = ℕ} refusal None) x (bare_record at size))) (sym (none_reached refusal))
+    ∙ ap (λ (x : Option ℕ). told_by refusal false false (placed x None (bare_record at size))) (sym (none_reached refusal))
+    ∙ ap (λ (x : Option OutputHandle). told_by refusal false false (placed (reached_by {X = ℕ} refusal None) x (bare_record at size))) (sym (none_reached refusal))
 
 -- ---- what is told
 
@@ -127,7 +129,7 @@ told_by_record : {R : Type 0} (g : Relays R) (d d' : DriverView R) (bytes : List
 told_by_record g d d' bytes at size e None r is = (e, r, is)
 told_by_record g d d' bytes at size e (Some x) r is = (e, r, is)
 
-runs_of : {R : Type 0} (g : Relays R) (d d' : DriverView R) (bytes : List ℕ) (read : Result Frame Error) (refusal : Option StepError) (returned : List Refusal)
+pub runs_of : {R : Type 0} (g : Relays R) (d d' : DriverView R) (bytes : List ℕ) (read : Result Frame Error) (refusal : Option StepError) (returned : List Refusal)
     → ReadFrom bytes read → (r : RanFrame g d.engine bytes read refusal d.to_send [] d'.engine d'.to_send returned) → d'.unfit ≡ counted d.unfit returned
     → OfRead g read refusal → Runs g d bytes r.one.entry d'
 runs_of g d d' bytes read refusal returned from r u o = record {
@@ -154,7 +156,8 @@ runs_of g d d' bytes read refusal returned from r u o = record {
 
 pub tells_frame : {R : Type 0} (g : Relays R) (d d' : DriverView R) (f : Frame) (at size : ℕ) (answer : Option (Result (Unit {0}) StepError))
     → RunsRead g d (Ok f) answer d' → TellsRead g d (Ok f) at size (told_of answer (route_by d.engine.connection f.channel f.body)
-    (link_in f.body (session_at d.engine (route_by d.engine.connection f.channel f.body))) (is_empty_body f.body) (frame_record at size f)) d'
+    (link_in f.body (session_at d.engine (route_by d.engine.connection f.channel f.body))) (is_empty_body f.body)
+    (begins_on d.engine.connection f.channel f.body) (frame_record at size f)) d'
 tells_frame g d d' f at size None (inl was, sends) bytes from = (was, inr sends)
 tells_frame g d d' f at size None (inr is, sends) bytes from = absurd cc
 tells_frame g d d' f at size (Some a) r bytes from =
@@ -164,7 +167,7 @@ tells_frame g d d' f at size (Some a) r bytes from =
     (did g d.engine d'.engine bytes (Ok f) (refusal_of a) d.to_send d'.to_send [] r.0 ran) ran.one.refusal_is ran.received_is)
 
 pub tells_unread : {R : Type 0} (g : Relays R) (d d' : DriverView R) (x : Error) (at size : ℕ) (answer : Option (Result (Unit {0}) StepError))
-    → RunsRead g d (Err x) answer d' → TellsRead g d (Err x) at size (told_of answer None None false (bare_record at size)) d'
+    → RunsRead g d (Err x) answer d' → TellsRead g d (Err x) at size (told_of answer None None false false (bare_record at size)) d'
 tells_unread g d d' x at size None (inl was, sends) bytes from = (was, inr sends)
 tells_unread g d d' x at size None (inr is, sends) bytes from = (refused_as_read bytes x (let e : ◌≡◌ {A = Result Frame Error} (Err x) (Err unread.OutOfMemory) = is in cc) from, inr sends)
   where
@@ -202,12 +205,15 @@ runs_read g v v' out out' before returned x x' read (Some answer) L e ran answer
 
 -- what is told, by what the code found before
 pub told_same : {R : Type 0} (d : DriverView R) (f : Frame) (at size : ℕ) (answer : Option (Result (Unit {0}) StepError)) (route : Option ℕ) (link : Option OutputHandle)
-    (silent : Bool) (said : Record) → route ≡ route_by d.engine.connection f.channel f.body → link ≡ link_in f.body (session_at d.engine route)
-    → silent ≡ is_empty_body f.body → said ≡ frame_record at size f
-    → told_of answer route link silent said ≡ told_of answer (route_by d.engine.connection f.channel f.body)
-    (link_in f.body (session_at d.engine (route_by d.engine.connection f.channel f.body))) (is_empty_body f.body) (frame_record at size f)
-told_same d f at size answer route link silent said r l s t =
-    ap (λ (x : Record). told_of answer route link silent x) t
-    ∙ ap (λ (x : Bool). told_of answer route link x (frame_record at size f)) s
-    ∙ ap (λ (x : Option OutputHandle). told_of answer route x (is_empty_body f.body) (frame_record at size f)) l
-    ∙ ap (λ (x : Option ℕ). told_of answer x (link_in f.body (session_at d.engine x)) (is_empty_body f.body) (frame_record at size f)) r
+    (silent anew : Bool) (said : Record) → route ≡ route_by d.engine.connection f.channel f.body → link ≡ link_in f.body (session_at d.engine route)
+    → silent ≡ is_empty_body f.body → anew ≡ begins_on d.engine.connection f.channel f.body → said ≡ frame_record at size f
+    → told_of answer route link silent anew said ≡ told_of answer (route_by d.engine.connection f.channel f.body)
+    (link_in f.body (session_at d.engine (route_by d.engine.connection f.channel f.body))) (is_empty_body f.body)
+    (begins_on d.engine.connection f.channel f.body) (frame_record at size f)
+told_same d f at size answer route link silent anew said r l s b t =
+    ap (λ (x : Record). told_of answer route link silent anew x) t
+    ∙ ap (λ (x : Bool). told_of answer route link silent x (frame_record at size f)) b
+    ∙ ap (λ (x : Bool). told_of answer route link x (begins_on d.engine.connection f.channel f.body) (frame_record at size f)) s
+    ∙ ap (λ (x : Option OutputHandle). told_of answer route x (is_empty_body f.body) (begins_on d.engine.connection f.channel f.body) (frame_record at size f)) l
+    ∙ ap (λ (x : Option ℕ). told_of answer x (link_in f.body (session_at d.engine x)) (is_empty_body f.body)
+    (begins_on d.engine.connection f.channel f.body) (frame_record at size f)) r

@@ -1,5 +1,5 @@
 -- Frames that were taken, and one more.
-use Rattle.std.proofs.Common.{◌≡◌, ◌≤◌, ◌<◌, ◌+◌, ◌-◌, ℕ, suc, List, [], ◌∷◌, ◌++◌, Option, Some, None, length, take, drop, get_or, min, set, map, refl, ap, sym, subst, ◌∙◌, append_assoc, add-one, arith}
+use Rattle.std.proofs.Common.{◌≡◌, ◌↔◌, IsTrue, ◌≤◌, ◌<◌, ◌+◌, ◌-◌, ℕ, suc, Bool, true, false, List, [], ◌∷◌, ◌++◌, Option, Some, None, length, take, drop, get_or, min, set, map, refl, ap, sym, subst, ◌∙◌, append_assoc, add-one, arith}
 use Rattle.std.proofs.lemmas.List.{append-nil, length-append, length-drop, length-take, length-take-le, take-take, take_all, take_rest}
 use Rattle.std.proofs.Math.Seq.{drop-cons, set-append_seam, take-add}
 use Rattle.std.specs.Int.{w32, from_be_bytes}
@@ -15,7 +15,7 @@ use Rattle.amqp_driver.specs.declared.front.Front.TheVariants as front
 use Rattle.amqp_driver.specs.Front.{IsAllowed, IsWhole, Stands, size_at}
 use Rattle.amqp_driver.specs.Told.{record_of}
 use Rattle.amqp_driver.specs.Driver.{DriverView, Runs, NotRun, Tells}
-use Rattle.amqp_driver.specs.Taking.{Answered, IsSized, RunsEach, Took, Takes, listed, records_of}
+use Rattle.amqp_driver.specs.Taking.{Answered, IsOver, IsSized, RunsEach, Took, Takes, Wants, is_wanted, listed, records_of, wants, wants_at}
 
 -- ---- the frames
 
@@ -27,9 +27,28 @@ bytes_more [] a = append-nil a.whole
 bytes_more (r ∷ rs) a = ap (λ (t : List ℕ). r.whole ++ t) (bytes_more rs a) ∙ sym (append_assoc r.whole (joined (wholes rs)) a.whole)
 
 runs_more : {R : Type 0} (g : Relays R) (limit : ℕ) (d k n : DriverView R) (rs : List (Answered R)) (a : Answered R)
-    → RunsEach g limit d rs k → a.before ≡ k → IsSized limit a.whole → Runs g k (drop 4 a.whole) a.entry n → RunsEach g limit d (rs ++ a ∷ []) n
-runs_more g limit d k n [] a t b f r = (n, b ∙ t, f, subst (λ x. Runs g x (drop 4 a.whole) a.entry n) t r, refl)
-runs_more g limit d k n (x ∷ rs) a t b f r = (t.0, t.1, t.2, t.3, runs_more g limit t.0 k n rs a t.4 b f r)
+    → RunsEach g limit d rs k → a.before ≡ k → ¬ IsOver k → IsSized limit a.whole → Runs g k (drop 4 a.whole) a.entry n → RunsEach g limit d (rs ++ a ∷ []) n
+runs_more g limit d k n [] a t b goes f r =
+    (n, b ∙ t, subst (λ x. ¬ IsOver x) t goes, f, subst (λ x. Runs g x (drop 4 a.whole) a.entry n) t r, refl)
+runs_more g limit d k n (x ∷ rs) a t b goes f r = (t.0, t.1, t.2, t.3, t.4, runs_more g limit t.0 k n rs a t.5 b goes f r)
+
+-- one more frame behind those of which none is to be answered
+wants_more : {R : Type 0} (at : ℕ) (rs : List (Answered R)) (a : Answered R) (asks : Bool) → Wants at rs false
+    → wants_at (at + length (joined (wholes rs))) a ≡ asks → Wants at (rs ++ a ∷ []) asks
+wants_more at [] a asks w h = ap (λ n. wants_at n a) (let e : at ≡ at + 0 = omega arith in e) ∙ h
+wants_more at (r ∷ []) a asks w h = (w, ap (λ n. wants_at n a) (one at r) ∙ h)
+  where
+    one : {R : Type 0} (at : ℕ) (r : Answered R) → at + length r.whole ≡ at + length (joined (wholes (r ∷ [])))
+    one at r = ap (λ (xs : List ℕ). at + length xs) (sym (append-nil r.whole))
+wants_more at (r ∷ s ∷ rs) a asks w h = (
+  w.0,
+  wants_more (at + length r.whole) (s ∷ rs) a asks w.1
+      (ap (λ n. wants_at n a) (sums at (length r.whole) (length (joined (wholes (s ∷ rs))))
+      ∙ ap (λ n. at + n) (sym (length-append r.whole (joined (wholes (s ∷ rs)))))) ∙ h),
+)
+  where
+    sums : (x y z : ℕ) → x + y + z ≡ x + (y + z)
+    sums x y z = omega arith
 
 records_more : {R : Type 0} (at : ℕ) (rs : List (Answered R)) (a : Answered R)
     → records_of at (rs ++ a ∷ []) ≡ records_of at rs ++ listed (record_of a.before.engine (at + length (joined (wholes rs))) (length a.whole) a.entry)
@@ -55,9 +74,9 @@ sized_is limit rest w =
 
 -- ---- what was taken
 
-pub took_none : {R : Type 0} (g : Relays R) (limit : ℕ) (d : DriverView R) (input : List ℕ) (old : List Record) → Took g limit d input 0 old 0 d old
+pub took_none : {R : Type 0} (g : Relays R) (limit : ℕ) (d : DriverView R) (input : List ℕ) (old : List Record) → Took g limit d input 0 old 0 false d old
 took_none g limit d input old =
-    record { answered = []; within = omega arith; front = refl; runs = refl; count = refl; fits = omega arith; output = refl }
+    record { answered = []; within = omega arith; front = refl; runs = refl; last = refl; count = refl; fits = omega arith; output = refl }
 
 -- one more is put at the first place behind the others
 pub put_next : {X : Type 0} (xs old : List X) (n : ℕ) (r : X) → n ≡ length xs → n < length old → set (xs ++ drop n old) n r ≡ (xs ++ r ∷ []) ++ drop (n + 1) old
@@ -69,7 +88,7 @@ put_next xs old n r e h =
     ∙ sym (append_assoc xs (r ∷ []) (drop (n + 1) old))
 
 module _ {R : Type 0} (g : Relays R) (limit : ℕ) (d k n : DriverView R) (input : List ℕ) (taken : ℕ) (old : List Record) (written : ℕ) (new : List Record)
-    (t : Took g limit d input taken old written k new) (w : IsWhole limit (drop taken input)) (e : Entry R)
+    (t : Took g limit d input taken old written false k new) (goes : ¬ IsOver k) (w : IsWhole limit (drop taken input)) (e : Entry R)
     (r : Runs g k (drop 4 (take (size_at (drop taken input)) (drop taken input))) e n) where
   unfoldable this : Answered R
   this = record { whole = take (size_at (drop taken input)) (drop taken input); before = k; entry = e }
@@ -95,10 +114,19 @@ module _ {R : Type 0} (g : Relays R) (limit : ℕ) (d k n : DriverView R) (input
 
   runs_is : RunsEach g limit d (t.answered ++ this ∷ []) n
   unfolding this
-  runs_is = runs_more g limit d k n t.answered this t.runs refl (sized_is limit (drop taken input) w).0 r
+  runs_is = runs_more g limit d k n t.answered this t.runs refl goes (sized_is limit (drop taken input) w).0 r
+
+  -- whether it is to be answered
+  last_is : Wants 0 (t.answered ++ this ∷ []) (wants (record_of k.engine taken (size_at (drop taken input)) e))
+  unfolding this
+  last_is = wants_more 0 t.answered this (wants (record_of k.engine taken (size_at (drop taken input)) e)) t.last
+      (ap (λ m. wants_at m this)
+      (let z : 0 + length (joined (wholes t.answered)) ≡ length (joined (wholes t.answered)) = omega arith in
+      z ∙ ap length (sym t.front) ∙ length-take-le taken input t.within)
+      ∙ ap (λ m. wants (record_of k.engine taken m e)) (sized_is limit (drop taken input) w).1)
 
   -- a frame that has no record
-  pub took_nothing : record_of k.engine taken (size_at (drop taken input)) e ≡ None → Took g limit d input (taken + size_at (drop taken input)) old written n new
+  pub took_nothing : record_of k.engine taken (size_at (drop taken input)) e ≡ None → Took g limit d input (taken + size_at (drop taken input)) old written false n new
   took_nothing none =
       let rs : records_of 0 (t.answered ++ this ∷ []) ≡ records_of 0 t.answered =
       records_are ∙ ap (λ (x : Option Record). records_of 0 t.answered ++ listed x) none ∙ append-nil (records_of 0 t.answered) in
@@ -107,6 +135,7 @@ module _ {R : Type 0} (g : Relays R) (limit : ℕ) (d k n : DriverView R) (input
         within = within_is;
         front = front_is;
         runs = runs_is;
+        last = subst (λ (x : Option Record). Wants 0 (t.answered ++ this ∷ []) (wants x)) none last_is;
         count = t.count ∙ ap length (sym rs);
         fits = t.fits;
         output = t.output ∙ ap (λ (x : List Record). x ++ drop written old) (sym rs);
@@ -114,7 +143,7 @@ module _ {R : Type 0} (g : Relays R) (limit : ℕ) (d k n : DriverView R) (input
 
   -- one whose record is written after the others
   pub took_one : (x : Record) (new' : List Record) → record_of k.engine taken (size_at (drop taken input)) e ≡ Some x → written < length old
-      → new' ≡ set new written x → Took g limit d input (taken + size_at (drop taken input)) old (written + 1) n new'
+      → new' ≡ set new written x → Took g limit d input (taken + size_at (drop taken input)) old (written + 1) (is_wanted x.kind) n new'
   took_one x new' one room put =
       let rs : records_of 0 (t.answered ++ this ∷ []) ≡ records_of 0 t.answered ++ x ∷ [] =
       records_are ∙ ap (λ (y : Option Record). records_of 0 t.answered ++ listed y) one in
@@ -123,6 +152,7 @@ module _ {R : Type 0} (g : Relays R) (limit : ℕ) (d k n : DriverView R) (input
         within = within_is;
         front = front_is;
         runs = runs_is;
+        last = subst (λ (y : Option Record). Wants 0 (t.answered ++ this ∷ []) (wants y)) one last_is;
         count = let c : written ≡ length (records_of 0 t.answered) = t.count in
             let s : length (records_of 0 t.answered ++ x ∷ []) ≡ length (records_of 0 t.answered) + 1 = length-append (records_of 0 t.answered) (x ∷ []) in
             let u : written + 1 ≡ length (records_of 0 t.answered ++ x ∷ []) = omega arith in u ∙ ap length (sym rs);
@@ -133,9 +163,9 @@ module _ {R : Type 0} (g : Relays R) (limit : ℕ) (d k n : DriverView R) (input
       }
 
 -- the records keep their number
-pub length_is : {R : Type 0} (g : Relays R) (limit : ℕ) (d k : DriverView R) (input : List ℕ) (taken : ℕ) (old : List Record) (written : ℕ) (new : List Record)
-    → Took g limit d input taken old written k new → length new ≡ length old
-length_is g limit d k input taken old written new t =
+pub length_is : {R : Type 0} (g : Relays R) (limit : ℕ) (d k : DriverView R) (input : List ℕ) (taken : ℕ) (old : List Record) (written : ℕ) (asks : Bool)
+    (new : List Record) → Took g limit d input taken old written asks k new → length new ≡ length old
+length_is g limit d k input taken old written asks new t =
     ap length t.output ∙ length-append (records_of 0 t.answered) (drop written old)
     ∙ (let a : written ≡ length (records_of 0 t.answered) = t.count in
     let b : length (drop written old) ≡ length old - written = length-drop written old in
@@ -152,36 +182,41 @@ told_at : {R : Type 0} (g : Relays R) (k n : DriverView R) (input : List ℕ) (t
 told_at g k n input taken size size' t e h = subst (λ m. Tells g k (drop 4 (take m (drop taken input))) taken m t n) e h
 
 module _ {R : Type 0} (g : Relays R) (limit : ℕ) (d k n : DriverView R) (input : List ℕ) (taken size : ℕ) (old : List Record) (written : ℕ) (new : List Record)
-    (t : Took g limit d input taken old written k new) (s : Stands limit (take (length input - taken) (drop taken input)) (front.Whole size)) where
-  pub told_nothing : Tells g k (drop 4 (take size (drop taken input))) taken size told.Nothing n → Took g limit d input (taken + size) old written n new
+    (t : Took g limit d input taken old written false k new) (goes : ¬ IsOver k) (s : Stands limit (take (length input - taken) (drop taken input)) (front.Whole size)) where
+  pub told_nothing : Tells g k (drop 4 (take size (drop taken input))) taken size told.Nothing n → Took g limit d input (taken + size) old written false n new
   told_nothing h =
       let f = front_of limit size input taken s in
       let x : Tells g k (drop 4 (take (size_at (drop taken input)) (drop taken input))) taken (size_at (drop taken input)) told.Nothing n =
       told_at g k n input taken size (size_at (drop taken input)) told.Nothing f.1 h in
-      subst (λ m. Took g limit d input (taken + m) old written n new) (sym f.1) (took_nothing g limit d k n input taken old written new t f.0 x.0 x.1 x.2)
+      subst (λ m. Took g limit d input (taken + m) old written false n new) (sym f.1) (took_nothing g limit d k n input taken old written new t goes f.0 x.0 x.1 x.2)
 
   pub told_one : (r : Record) (new' : List Record) → written < length new → new' ≡ set new written r
-      → Tells g k (drop 4 (take size (drop taken input))) taken size (told.One r) n → Took g limit d input (taken + size) old (written + 1) n new'
+      → Tells g k (drop 4 (take size (drop taken input))) taken size (told.One r) n → Took g limit d input (taken + size) old (written + 1) (is_wanted r.kind) n new'
   told_one r new' room put h =
       let f = front_of limit size input taken s in
       let x : Tells g k (drop 4 (take (size_at (drop taken input)) (drop taken input))) taken (size_at (drop taken input)) (told.One r) n =
       told_at g k n input taken size (size_at (drop taken input)) (told.One r) f.1 h in
-      let room' : written < length old = subst (λ m. written < m) (length_is g limit d k input taken old written new t) room in
-      subst (λ m. Took g limit d input (taken + m) old (written + 1) n new') (sym f.1) (took_one g limit d k n input taken old written new t f.0 x.0 x.1 r new' x.2 room' put)
+      let room' : written < length old = subst (λ m. written < m) (length_is g limit d k input taken old written false new t) room in
+      subst (λ m. Took g limit d input (taken + m) old (written + 1) (is_wanted r.kind) n new') (sym f.1)
+      (took_one g limit d k n input taken old written new t goes f.0 x.0 x.1 r new' x.2 room' put)
 
   -- memory was refused, for this frame or for the copy of it
   pub not_run : written < length new → NotRun g k n → Takes g limit d input old status.NoMemory taken written 0 n new
   not_run room h =
       let f = front_of limit size input taken s in
-      let room' : written < length old = subst (λ m. written < m) (length_is g limit d k input taken old written new t) room in
-      (k, t, f.0, room', h, refl)
+      let room' : written < length old = subst (λ m. written < m) (length_is g limit d k input taken old written false new t) room in
+      (k, t, goes, f.0, room', h, refl)
+
+-- where it is not seen to be over, it is not
+pub goes_on : {R : Type 0} (d : DriverView R) (b : Bool) → IsTrue b ↔ IsOver d → b ≡ false → ¬ IsOver d
+goes_on d b both off over = let on : b ≡ true = both.1 over in absurd cc
 
 -- there is a place for one record more
 pub room_left : {R : Type 0} (g : Relays R) (limit : ℕ) (d k : DriverView R) (input : List ℕ) (taken : ℕ) (old : List Record) (written : ℕ) (new : List Record)
-    → Took g limit d input taken old written k new → ¬ (written ≡ length new) → written < length new
+    → Took g limit d input taken old written false k new → ¬ (written ≡ length new) → written < length new
 room_left g limit d k input taken old written new t some =
     let f : written ≤ length old = t.fits in
-    let l : length new ≡ length old = length_is g limit d k input taken old written new t in
+    let l : length new ≡ length old = length_is g limit d k input taken old written false new t in
     below written (length new) (omega arith) some
   where
     below : (m n : ℕ) → m ≤ n → ¬ (m ≡ n) → m < n

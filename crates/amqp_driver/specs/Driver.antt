@@ -111,10 +111,10 @@ told_as None = told.Nothing
 told_as (Some r) = told.One r
 
 -- what is told of what was said, by the engine's answer, the route and the link
-abbrev pub told_of : Option (Result (Unit {0}) StepError) → Option ℕ → Option OutputHandle → Bool → Record → Told
-told_of None route link silent r = told.NoMemory
-told_of (Some answer) route link silent r =
-    told_as (told_by (refusal_of answer) silent (placed (reached_by (refusal_of answer) route) (reached_by (refusal_of answer) link) r))
+abbrev pub told_of : Option (Result (Unit {0}) StepError) → Option ℕ → Option OutputHandle → Bool → Bool → Record → Told
+told_of None route link silent anew r = told.NoMemory
+told_of (Some answer) route link silent anew r =
+    told_as (told_by (refusal_of answer) silent anew (placed (reached_by (refusal_of answer) route) (reached_by (refusal_of answer) link) r))
 
 -- ---- the copy of a part of the input
 

@@ -1,6 +1,6 @@
 -- Part: other calls.
 -- What the frames of a call are: entries by which a legal history goes on, and the bytes of a payload at their place.
-use Rattle.std.specs.Prelude.{◌≡◌, ◌⊎◌, ℕ, true, List, [], ◌∷◌, ◌++◌, Some, None, map, take, drop, length}
+use Rattle.std.specs.Prelude.{◌≡◌, ◌⊎◌, ℕ, true, List, [], ◌∷◌, ◌++◌, Option, Some, None, map, take, drop, length}
 use Rattle.amqp_types.specs.declared.states.ConnectionState.{ConnectionState}
 use Rattle.amqp_types.specs.Open.{OpenModel}
 use Rattle.amqp_types.specs.Transfer.{TransferModel}
@@ -13,12 +13,26 @@ use Rattle.amqp_engine.specs.Entry.{Entry}
 use Rattle.amqp_engine.specs.ByHistory.{live, of_session}
 use Rattle.amqp_engine.specs.Legal.{Legal}
 use Rattle.amqp_engine.specs.Headline.{Headline}
+use Rattle.amqp_connection.specs.declared.numbers.SessionNo.{SessionNo}
+use Rattle.amqp_session.specs.Settings.{SettingsModel}
+use Rattle.amqp_types.specs.Error.{ErrorModel}
+use Rattle.amqp_driver.specs.declared.answered.BeginAnswer.{BeginAnswer}
+use Rattle.amqp_driver.specs.declared.answered.EndAnswer.{EndAnswer}
 use Rattle.amqp_driver.specs.declared.record.Record.{Record}
+use Rattle.amqp_driver.specs.Answering.{AnswersBegin, begin_entries}
+use Rattle.amqp_driver.specs.Ending.{AnswersEnd, end_entries}
 use Rattle.amqp_driver.specs.Driver.{DriverView, Runs, NotRun}
 use Rattle.amqp_driver.specs.Heads.{has}
 use Rattle.amqp_driver.specs.Sending.{Handled, HandlesEach}
 use Rattle.amqp_driver.specs.Taking.{Answered, RunsEach, listed}
 use Rattle.amqp_driver.specs.Told.{record_of}
+use Rattle.amqp_driver.specs.declared.answered.RecordAnswer.{RecordAnswer}
+use Rattle.amqp_driver.specs.Refusals.{refusal_number}
+use Rattle.amqp_driver.specs.Stream.{StreamView}
+use Rattle.amqp_driver.specs.StreamLife.{Call, CallsEach}
+use Rattle.amqp_driver.specs.Wanted.{AnswersRecord, LetsGoStream, answer_by_number}
+use Rattle.amqp_engine.specs.declared.engine.step_error.StepError.{StepError}
+use Rattle.fe2o3_amqp.specs.Refusals.{step_answer}
 
 abbrev pub entries_of : {R : Type 0} → List (Answered R) → List (Entry R)
 entries_of answered = map (λ a. a.entry) answered
@@ -57,3 +71,34 @@ NumbersAreTold g = (d k : DriverView _) (before after : List (Handled _)) (x : H
     → (s : ConnectionState) (o : OpenModel) (H : List (Entry _)) → Legal g s o H d.engine
     → (m : Made) → live s x.head.session (H ++ asked_entries before) ≡ Some m
     → x.sent ≡ record { number = number_after (of_session x.head.session (H ++ asked_entries before)); refusal = 0 }
+
+-- Whatever legal history came before, it goes on by the entries of an answer to the peer's Begin, and all of it keeps the headline.
+abbrev pub BeginsGoOn : {R : Type 0} → Relays R → Type 0
+BeginsGoOn g = (d d' : DriverView _) (frame : List ℕ) (number : SessionNo) (settings : SettingsModel) (a : BeginAnswer)
+    (x : AnswersBegin g d frame number settings a d') → (s : ConnectionState) (o : OpenModel) (H : List (Entry _)) → Legal g s o H d.engine
+    → Legal g s o (H ++ begin_entries g d frame number settings a d' x) d'.engine
+    × Headline s o (H ++ begin_entries g d frame number settings a d' x)
+
+-- the same of an answer to the peer's End
+abbrev pub EndsGoOn : {R : Type 0} → Relays R → Type 0
+EndsGoOn g = (d d' : DriverView _) (n : SessionNo) (error : Option ErrorModel) (a : EndAnswer) (x : AnswersEnd g d n error a d')
+    → (s : ConnectionState) (o : OpenModel) (H : List (Entry _)) → Legal g s o H d.engine
+    → Legal g s o (H ++ end_entries g d n error a d' x) d'.engine × Headline s o (H ++ end_entries g d n error a d' x)
+
+-- ---- the answer that a record asks for
+
+-- the second stream is the first one after some chain of calls
+abbrev pub IsMadeOfCalls : {R : Type 0} → Relays R → StreamView R → StreamView R → Type 0
+IsMadeOfCalls g v w = (cs : List (Call _)) × CallsEach g v cs w
+
+-- `answer` and `let_go` are made of calls that have a place of their own in a chain: so what holds over every chain holds with them in it.
+abbrev pub AnswersByCalls : {R : Type 0} → Relays R → Type 0
+AnswersByCalls g = (v w : StreamView _) (flags : ℕ) (r : Record) (input : List ℕ) (a : RecordAnswer) → AnswersRecord g v flags r input a w
+    → IsMadeOfCalls g v w
+
+abbrev pub LetsGoByCalls : {R : Type 0} → Relays R → Type 0
+LetsGoByCalls g = (v w : StreamView _) (n : SessionNo) (a : EndAnswer) → LetsGoStream g v n a w → IsMadeOfCalls g v w
+
+-- By the number of a refusal a frame is answered as `answer_to` says of the refusal itself.
+abbrev pub AnswersByNumber : Type 0
+AnswersByNumber = (e : StepError) → answer_by_number (refusal_number e) ≡ step_answer e

@@ -1,8 +1,12 @@
+pub mod Answering
+pub mod BeginSession
 pub mod Cutting
 pub mod Driver
+pub mod Ending
 pub mod Front
 pub mod Heads
 pub mod Laws
+pub mod LinkNames
 pub mod Outcome
 pub mod Plain
 pub mod Record
@@ -10,6 +14,13 @@ pub mod Refusals
 pub mod Requests
 pub mod Sending
 pub mod Settling
+pub mod Stream
+pub mod StreamLife
+pub mod StreamRecord
+pub mod StreamTaking
+pub mod StreamTicking
 pub mod Tag
 pub mod Taking
 pub mod Told
+pub mod Turn
+pub mod Wanted

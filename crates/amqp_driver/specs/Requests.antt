@@ -40,6 +40,7 @@ asked_of (Some answer) own = asked_by (refusal_of answer) own
 -- The input is run, and the answer says what became of it. Or memory was refused, and it is not taken.
 abbrev pub Requests : {R : Type 0} → Relays R → DriverView R → Input R → Asked → DriverView R → Type 0
 Requests g d i asked.NoMemory d' = NotTaken g d d'
+Requests g d i asked.Over d' = ⊥
 Requests g d i a d' = (e : Entry _) × (returned : List Refusal) × RunsInput g d i e returned d' × (a ≡ asked_by e.refusal (has_own returned))
 
 -- it is not refused for want of memory

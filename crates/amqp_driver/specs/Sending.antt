@@ -104,7 +104,7 @@ Sends g d heads bytes old status.Short taken used d' new = (h : TransferHead)
     × Posts g d heads bytes old taken used d' new × IsNext heads taken h × (taken < length old) × (length bytes < used + size_of h)
 Sends g d heads bytes old status.NoMemory taken used d' new = (h : TransferHead) × (k : DriverView _)
     × Posts g d heads bytes old taken used k new × IsNext heads taken h × (taken < length old) × (used + size_of h ≤ length bytes) × NotRun g k d'
-Sends g d heads bytes old status.BadSize taken used d' new = ⊥
+Sends g d heads bytes old s taken used d' new = ⊥
 
 -- ---- parts
 

@@ -1,6 +1,7 @@
 -- Part: other calls; inner.
 -- The record of an entry of the history: what its frame says, which session and which link it reached, and whether it was refused.
-use Rattle.std.specs.Prelude.{ℕ, Bool, true, false, ◌==◌, if◌then◌else◌, Option, Some, None, nat_eq}
+use Rattle.std.specs.Prelude.{ℕ, Bool, true, false, ◌==◌, ◌&&◌, not, is_some, if◌then◌else◌, Option, Some, None, nat_eq}
+use Rattle.std.specs.FinMap as map
 use Rattle.std.specs.Map.{lookup}
 use Rattle.std.specs.Option.{option_map}
 use Rattle.amqp_session.specs.declared.error.SessionStateError.TheVariants as ended
@@ -13,6 +14,8 @@ use Rattle.amqp_frames.specs.declared.frame.Frame.{Frame}
 use Rattle.amqp_frames.specs.declared.frame.FrameBody.{FrameBody}
 use Rattle.amqp_frames.specs.declared.frame.FrameBody.TheVariants as body
 use Rattle.amqp_connection.specs.declared.error.ConnectionStateError.TheVariants as closed
+use Rattle.amqp_connection.specs.declared.error.ConnectionInnerError.TheVariants as routes
+use Rattle.amqp_connection.specs.Connection.{ConnectionView}
 use Rattle.amqp_engine.specs.declared.engine.step_error.StepError.{StepError}
 use Rattle.amqp_engine.specs.declared.engine.step_error.StepError.TheVariants as no
 use Rattle.amqp_engine.specs.EngineView.{EngineView}
@@ -70,16 +73,30 @@ is_over kind (no.ConnectionState (closed.RemoteClosedWithError e)) = kind == 10
 is_over kind e = false
 
 -- an attach whose name no link of this side waits for (section 2.6.3)
-abbrev pub is_wanted : ℕ → StepError → Bool
-is_wanted kind (no.Session session.RemoteAttachingLinkNameNotFound) = kind == 3
-is_wanted kind e = false
+abbrev pub is_attach_wanted : ℕ → StepError → Bool
+is_attach_wanted kind (no.Session session.RemoteAttachingLinkNameNotFound) = kind == 3
+is_attach_wanted kind e = false
 
--- the kind of a record of such a refusal, by that of what is said
-abbrev pub refused_kind : ℕ → StepError → ℕ
-refused_kind kind e = if is_wanted kind e then 4 else 11
+-- A Begin that answers none, on a channel of the peer's that leads to no session: the peer begins one (section 2.5.1).
+abbrev pub begins_on : ConnectionView → ℕ → FrameBody → Bool
+begins_on v channel (body.Begin p) = not (is_some p.remote_channel) && not (is_some (map.get v.session_by_incoming_channel channel))
+begins_on v channel b = false
 
-abbrev pub refused_record : StepError → Record → Record
-refused_record e r = if is_over r.kind e then r else record r { kind = refused_kind r.kind e; refusal = refusal_number e }
+abbrev pub begins_anew : {R : Type 0} → EngineView R → Option Frame → Bool
+begins_anew v None = false
+begins_anew v (Some f) = begins_on v.connection f.channel f.body
+
+-- such a Begin, where it was refused since the engine takes none but the answers to its own
+abbrev pub is_begin_wanted : Bool → StepError → Bool
+is_begin_wanted anew (no.Connection (routes.NotImplemented text)) = anew
+is_begin_wanted anew e = false
+
+-- the kind of a record of such a refusal, by that of what is said, and by whether the peer begins a session
+abbrev pub refused_kind : Bool → ℕ → StepError → ℕ
+refused_kind anew kind e = if is_attach_wanted kind e then 4 else if is_begin_wanted anew e then 12 else 11
+
+abbrev pub refused_record : Bool → StepError → Record → Record
+refused_record anew e r = if is_over r.kind e then r else record r { kind = refused_kind anew r.kind e; refusal = refusal_number e }
 
 -- ---- the record
 
@@ -92,12 +109,13 @@ abbrev pub is_silent : Option Frame → Bool
 is_silent None = false
 is_silent (Some f) = is_empty_body f.body
 
--- what is told, where it was refused or not, and is silent or not
-abbrev pub told_by : Option StepError → Bool → Record → Option Record
-told_by (Some e) silent r = Some (refused_record e r)
-told_by None true r = None
-told_by None false r = Some r
+-- what is told, where it was refused or not, is silent or not, and begins a session or not
+abbrev pub told_by : Option StepError → Bool → Bool → Record → Option Record
+told_by (Some e) silent anew r = Some (refused_record anew e r)
+told_by None true anew r = None
+told_by None false anew r = Some r
 
 -- The record of an entry whose frame stands at this place of the input, and has so many bytes; `v` is the engine before it. An empty frame has none.
 abbrev pub record_of : {R : Type 0} → EngineView R → ℕ → ℕ → Entry R → Option Record
-record_of v at size e = told_by e.refusal (is_silent e.received) (placed e.reached (output_of v e.reached e.received) (read_record at size e.received))
+record_of v at size e =
+    told_by e.refusal (is_silent e.received) (begins_anew v e.received) (placed e.reached (output_of v e.reached e.received) (read_record at size e.received))

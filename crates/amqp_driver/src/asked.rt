@@ -19,6 +19,8 @@ pub enum Asked {
     /// Memory was refused for what waited in the engine, and the request was not taken: it is gone with what it held, and may be made again.
     /// Some of what waited may be sent, and nothing else has changed.
     NoMemory,
+    /// Of a [`Stream`](crate::Stream) that is over: it was not run, and is gone with what it held.
+    Over,
 }
 
 /// Whether a frame that was handed back is the input's own, and did not wait from before.

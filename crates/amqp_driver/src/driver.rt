@@ -6,8 +6,10 @@ ghost use Rattle.amqp_engine.specs.Legal.{Legal};
 ghost use Rattle.amqp_engine.specs.Promise.{Ends, NoneLeft};
 ghost use Rattle.amqp_engine.specs.RunInto.{RanInto};
 
+mod answering;
 mod by_fields;
 mod cutting;
+mod ending;
 mod sending;
 mod settling;
 mod taking;
@@ -21,6 +23,7 @@ use amqp_types::{ConnectionState, Open};
 use std::alloc::Global;
 use std::collections::VecDeque;
 use std::marker::Model;
+pub(crate) use taking::seen;
 
 /// One side of a connection. Received bytes go in by [`Driver::take`], which runs each whole frame once and writes what it says as a
 /// [`Record`](crate::Record); requests go in by [`Driver::run`]. What is to be sent stands in [`Driver::out`]. It does no input or output

@@ -5,6 +5,8 @@
 //! say. [`PlainRelay`] is the relay of links whose owner reads records.
 #![tactic(auto)]
 
+mod answered;
+pub mod answers;
 mod asked;
 mod copied;
 mod cut;
@@ -14,20 +16,30 @@ mod front;
 mod head;
 pub mod kind;
 pub mod laws;
+mod link_names;
+mod opened;
 mod outcome;
 mod plain;
 mod record;
 mod refusals;
 mod saying;
 mod status;
+mod stream;
 mod tag;
 mod told;
+mod turning;
+mod wanted;
 
+pub use answered::{BeginAnswer, EndAnswer, RecordAnswer};
 pub use asked::Asked;
 pub use cut::Cut;
 pub use driver::Driver;
 pub use head::{Sent, TransferHead};
+pub use link_names::{marked_name, plain_name};
 pub use plain::PlainRelay;
 pub use record::{NONE, Record};
 pub use refusals::refusal_number;
 pub use status::{Posted, Status, Taken};
+pub use stream::Stream;
+pub use turning::{BeginSessionError, TurnError, Turned, begin_session, turn_begin};
+pub use wanted::answer_by_number;

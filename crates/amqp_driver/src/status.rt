@@ -15,6 +15,14 @@ pub enum Status {
     NoMemory,
     /// Of [`Driver::send`](crate::Driver::send): the bytes end before the tag and the payload of the next transfer do.
     Short,
+    /// What was told last comes before the rest: it is to be answered, or what follows is of another layer. Then the rest is given again.
+    Again,
+    /// Of a stream that is not open: a call of this side is awaited.
+    Waits,
+    /// The connection is over: nothing is taken any more.
+    Over,
+    /// Of a stream that is not open: the SASL frame to send would have more than 512 bytes (AMQP 1.0 part 5, section 5.3.1).
+    TooLarge,
 }
 
 /// What a call took.

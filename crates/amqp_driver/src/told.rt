@@ -5,12 +5,12 @@ ghost use Rattle.std.specs.Option.{option_map};
 ghost use Rattle.amqp_connection.specs.Connection.{refusal_of};
 ghost use Rattle.amqp_driver.specs.Driver.{is_passed_on, told_of};
 ghost use Rattle.amqp_driver.specs.Record.{number_or, none};
-ghost use Rattle.amqp_driver.specs.Told.{is_over, is_wanted, placed, refused_kind, refused_record};
+ghost use Rattle.amqp_driver.specs.Told.{is_attach_wanted, is_begin_wanted, is_over, placed, refused_kind, refused_record};
 
 use crate::kind;
 use crate::record::{NONE, Record};
 use crate::refusals::refusal_number;
-use amqp_connection::{ConnectionStateError, SessionNo};
+use amqp_connection::{ConnectionInnerError, ConnectionStateError, SessionNo};
 use amqp_engine::StepError;
 use amqp_session::{OutputHandle, SessionInnerError, SessionStateError};
 
@@ -25,16 +25,18 @@ pub(crate) enum Told {
     One(Record),
 }
 
-/// What is told of a frame, by the engine's answer, by what it says, and by the session and the link that stood there for it before.
+/// What is told of a frame, by the engine's answer, by what it says, and by the session and the link that stood there for it before: it is
+/// silent, as an empty one, or `anew` the peer begins a session by it.
 #[inline(always)]
 pub(crate) fn told_of(
     answer: Option<Result<(), StepError>>,
     route: Option<SessionNo>,
     link: Option<OutputHandle>,
     silent: bool,
+    anew: bool,
     said: Record,
 ) -> Told
-    ensures { result ≡ told_of answer (option_map (λ n. n.0) route) link silent said }
+    ensures { result ≡ told_of answer (option_map (λ n. n.0) route) link silent anew said }
 {
     match answer {
         None => Told::NoMemory,
@@ -51,7 +53,7 @@ pub(crate) fn told_of(
             } else {
                 placed(None, None, said)
             };
-            let record = refused(&error, placed);
+            let record = refused(&error, anew, placed);
             drop(error);
             Told::One(record)
         }
@@ -100,24 +102,26 @@ fn output_or_none(link: Option<OutputHandle>) -> u32
 
 /// The record of a frame that was refused so.
 #[inline(never)]
-fn refused(error: &StepError, said: Record) -> Record
-    ensures { result ≡ refused_record error.now said }
+fn refused(error: &StepError, anew: bool, said: Record) -> Record
+    ensures { result ≡ refused_record anew error.now said }
 {
     if is_over(said.kind, error) {
         return said;
     }
     Record {
-        kind: refused_kind(said.kind, error),
+        kind: refused_kind(anew, said.kind, error),
         refusal: refusal_number(error),
         ..said
     }
 }
 
-fn refused_kind(said: u8, error: &StepError) -> u8
-    ensures { result ≡ refused_kind said error.now }
+fn refused_kind(anew: bool, said: u8, error: &StepError) -> u8
+    ensures { result ≡ refused_kind anew said error.now }
 {
-    if is_wanted(said, error) {
+    if is_attach_wanted(said, error) {
         kind::ATTACH_WANTED
+    } else if is_begin_wanted(anew, error) {
+        kind::BEGIN_WANTED
     } else {
         kind::REFUSED
     }
@@ -140,13 +144,23 @@ fn is_over(said: u8, error: &StepError) -> bool
 }
 
 /// Whether it is the refusal of an Attach whose name no link waits for.
-fn is_wanted(said: u8, error: &StepError) -> bool
-    ensures { result ≡ is_wanted said error.now }
+fn is_attach_wanted(said: u8, error: &StepError) -> bool
+    ensures { result ≡ is_attach_wanted said error.now }
 {
     match error {
         StepError::Session(SessionInnerError::RemoteAttachingLinkNameNotFound) => {
             said == kind::ATTACHED
         }
+        _ => false,
+    }
+}
+
+/// Whether it is the refusal of a Begin by which the peer begins a session.
+fn is_begin_wanted(anew: bool, error: &StepError) -> bool
+    ensures { result ≡ is_begin_wanted anew error.now }
+{
+    match error {
+        StepError::Connection(ConnectionInnerError::NotImplemented(_)) => anew,
         _ => false,
     }
 }

@@ -1,4 +1,3 @@
-pub mod NameLemmas
 pub mod PlaceLemmas
 pub mod ReadLemmas
 pub mod RunLemmas

@@ -22,12 +22,11 @@
 
 mod calls;
 pub mod laws;
-mod link_names;
 mod running;
 mod stream;
-mod turning;
 
-pub use link_names::{marked_name, plain_name};
+pub use amqp_driver::{
+    BeginSessionError, TurnError, Turned, begin_session, marked_name, plain_name, turn_begin,
+};
 pub use running::{close, push, receive, run};
 pub use stream::{exchange_headers, next_frame, write_frame, write_out, write_piece};
-pub use turning::{BeginSessionError, TurnError, Turned, begin_session, turn_begin};

@@ -214,7 +214,7 @@ fn number(asked: Asked) -> u32 {
     match asked {
         Asked::Done => 0,
         Asked::TooLarge => 1000,
-        Asked::NoMemory => 1001,
+        Asked::NoMemory | Asked::Over => 1001,
         Asked::Refused(error) => {
             let number = refusal_number(&error);
             drop(error);

@@ -98,6 +98,19 @@ own_name_at n =
     if nat_eq n 92 then Some (codes "TagTooLong") else
     None
 
+-- of a stream that is not opened
+abbrev pub opening_name_at : ℕ → Option (List ℕ)
+opening_name_at n =
+    if nat_eq n 101 then Some (codes "NoMechanism") else
+    if nat_eq n 102 then Some (codes "NotOffered") else
+    if nat_eq n 103 then Some (codes "LoginRefused") else
+    if nat_eq n 104 then Some (codes "OtherProtocol") else
+    if nat_eq n 105 then Some (codes "OtherHeader") else
+    if nat_eq n 106 then Some (codes "NotAmqp") else
+    if nat_eq n 107 then Some (codes "MalformedSasl") else
+    if nat_eq n 108 then Some (codes "UnexpectedSasl") else
+    None
+
 abbrev pub name_at : ℕ → Option (List ℕ)
 name_at n =
     if nat_eq (n / 10) 0 then step_name_at n else
@@ -110,6 +123,7 @@ name_at n =
     if nat_eq (n / 10) 7 then session_name_at n else
     if nat_eq (n / 10) 8 then link_name_at n else
     if nat_eq (n / 10) 9 then own_name_at n else
+    if nat_eq (n / 10) 10 then opening_name_at n else
     None
 
 abbrev pub closing_at : ℕ → Option ErrorCondition

@@ -39,7 +39,7 @@ impl Client {
     fn run_found(&mut self, input: Input<PlainRelay>) -> Status
         ensures { RunsFound ⟦<PlainRelay as LinkRelay>⟧.gives self.old input result self.new }
     {
-        match found(&self.driver, input) {
+        match found(self.stream.driver(), input) {
             Some(input) => self.run(input),
             None => {
                 self.last = Refused::unattached();
@@ -52,20 +52,21 @@ impl Client {
     fn run(&mut self, input: Input<PlainRelay>) -> Status
         ensures { RunsOne ⟦<PlainRelay as LinkRelay>⟧.gives self.old input result self.new }
     {
-        let asked = self.driver.request(input);
+        let asked = self.stream.request(input);
         self.note(asked)
     }
 
     /// The status of a request. Its refusal is kept, if it is one.
     fn note(&mut self, asked: Asked) -> Status
         ensures status { result ≡ status_of asked }
-        ensures noted { self.new ≡ record self.old { last = last_by self.old.last self.old.driver.engine.connection.state asked } }
+        ensures noted { self.new ≡ record self.old { last = last_by self.old.last self.old.stream.driver.engine.connection.state asked } }
     {
         let status = status_of(&asked);
         match asked {
             Asked::TooLarge => self.last = Refused::too_large(),
+            Asked::Over => self.last = Refused::over(),
             Asked::Refused(error) => {
-                let state = *self.driver.engine().connection().local_state();
+                let state = *self.stream.engine().connection().local_state();
                 self.last = Refused::of(error, state);
             }
             Asked::Done | Asked::NoMemory => {}
@@ -80,7 +81,10 @@ impl Client {
         let Some(asked) = disposing::asked(input) else {
             return Status::BadArgument;
         };
-        let answer = self.driver.dispose(
+        if !disposing::has_state(asked.outcome) {
+            return Status::BadArgument;
+        }
+        let answer = self.stream.dispose(
             SessionNo(asked.session),
             asked.role,
             asked.first,
@@ -129,10 +133,10 @@ impl Client {
     fn show_handle(&self, asked: &LinkAsked<'_>, output: &mut [u8]) -> (Status, usize)
         requires { 4 ≤ length output.old }
         ensures done { result.0 ≡ Done }
-        ensures shown { ShowsHandle (handle_in self.now.driver.engine (link_said asked.now)) output.old result.1 output.new }
+        ensures shown { ShowsHandle (handle_in self.now.stream.driver.engine (link_said asked.now)) output.old result.1 output.new }
     {
         match self
-            .driver
+            .stream
             .engine()
             .output_handle(SessionNo(asked.session), asked.name)
         {

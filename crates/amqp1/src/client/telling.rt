@@ -1,7 +1,7 @@
 //! What is taken, and told.
 
 ghost use Rattle.std.specs.Prelude.{◌≡◌, IsTrue};
-ghost use Rattle.amqp1.specs.Client.{PerformsBare, PerformsOutput, PerformsSessionOf, PerformsSessionState, PerformsPayloadRoom, PerformsRefusalText, only_tells};
+ghost use Rattle.amqp1.specs.Client.{PerformsBare, PerformsOutput, PerformsSessionOf, PerformsSessionState, PerformsPayloadRoom, PerformsRefusalText, only_tells, over_number};
 ghost use Rattle.amqp1.specs.Telling.{room_text};
 ghost use Rattle.amqp1.specs.Writing.{Writes};
 
@@ -15,13 +15,20 @@ use amqp_driver::PlainRelay;
 use amqp_session::LinkRelay;
 use amqp_types::{ReadError, Transfer};
 
+/// 1 where it is over.
+fn over_number(is_over: bool) -> u8
+    ensures { result ≡ over_number is_over }
+{
+    if is_over { 1 } else { 0 }
+}
+
 impl Client {
     /// Takes bytes that are to be sent. `NoMemory` where some waits in the engine still: what was taken is to be sent all the same.
     pub(super) fn output(&mut self, output: &mut [u8]) -> (Status, usize)
         ensures { PerformsOutput ⟦<PlainRelay as LinkRelay>⟧.gives self.old output.old result.0 result.1 self.new output.new }
     {
-        let status = flushed_status(self.driver.flush());
-        let written = take(&mut self.driver, output);
+        let status = flushed_status(self.stream.flush());
+        let written = take(&mut self.stream, output);
         (status, written)
     }
 
@@ -30,14 +37,15 @@ impl Client {
         requires { IsTrue (only_tells operation) }
         ensures { PerformsBare ⟦<PlainRelay as LinkRelay>⟧.gives operation self.old output.old result.0 result.1 self.new output.new }
     {
-        let engine = self.driver.engine();
+        let engine = self.stream.engine();
         match operation {
             Operation::Refusal => telling::refusal(&self.last, &mut self.scratch, output),
             Operation::RemoteOpen => {
                 telling::remote_open(engine.connection().remote_open(), &mut self.scratch, output)
             }
             Operation::MaxPieceLen => write(output, &engine.max_piece_len().to_be_bytes()),
-            Operation::Unfit => write(output, &self.driver.unfit().to_be_bytes()),
+            Operation::Unfit => write(output, &self.stream.driver().unfit().to_be_bytes()),
+            Operation::IsOver => write(output, &[over_number(self.stream.is_over())]),
             _ => write(
                 output,
                 &[telling::state_number(*engine.connection().local_state())],
@@ -53,7 +61,7 @@ impl Client {
             return (Status::BadArgument, 0);
         }
         let channel = u16::from_be_bytes([input[0], input[1]]);
-        telling::session_of(self.driver.engine(), channel, output)
+        telling::session_of(self.stream.engine(), channel, output)
     }
 
     /// Writes the state of a session.
@@ -64,7 +72,7 @@ impl Client {
             return (Status::BadArgument, 0);
         }
         let number = u32::from_be_bytes([input[0], input[1], input[2], input[3]]);
-        telling::session_state(self.driver.engine(), number, output)
+        telling::session_state(self.stream.engine(), number, output)
     }
 
     /// Writes what a refusal of a record is called, and what answers it.
@@ -90,9 +98,9 @@ impl Client {
     }
 
     fn room_beside(&self, transfer: Transfer, output: &mut [u8]) -> (Status, usize)
-        ensures { Writes (room_text self.now.driver.engine transfer) output.old result.0 result.1 output.new }
+        ensures { Writes (room_text self.now.stream.driver.engine transfer) output.old result.0 result.1 output.new }
     {
-        let room = self.driver.engine().payload_room(&transfer);
+        let room = self.stream.engine().payload_room(&transfer);
         drop(transfer);
         match room {
             Some(room) => write(output, &room.to_be_bytes()),

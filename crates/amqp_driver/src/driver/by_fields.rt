@@ -40,7 +40,7 @@ impl<R: LinkRelay> Driver<R> {
         let link = self.link_at(route, Some(transfer.handle.0));
         let said = saying::of_transfer(channel, at, size, &transfer, rest.len() as u32);
         let answer = self.run_transfer(channel, transfer, rest);
-        told_of(answer, route, link, false, said)
+        told_of(answer, route, link, false, false, said)
     }
 
     /// The same of a Flow.
@@ -61,7 +61,7 @@ impl<R: LinkRelay> Driver<R> {
         let link = self.link_at(route, input_of(&flow));
         let said = saying::of_flow(channel, at, size, &flow);
         let answer = self.run_flow(channel, flow);
-        told_of(answer, route, link, false, said)
+        told_of(answer, route, link, false, false, said)
     }
 
     /// The same of a Disposition.
@@ -87,7 +87,7 @@ impl<R: LinkRelay> Driver<R> {
         let route = self.route_on(channel);
         let said = saying::of_disposition(channel, at, size, &disposition);
         let answer = self.run_disposition(channel, disposition);
-        told_of(answer, route, None, false, said)
+        told_of(answer, route, None, false, false, said)
     }
 
     /// The session to which a channel of the peer's leads.

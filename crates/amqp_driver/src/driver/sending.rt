@@ -229,7 +229,7 @@ impl<R: LinkRelay> Driver<R> {
     {
         let number = self.number_of(head);
         match self.ask_transfer(head, input, transfer, payload) {
-            Asked::NoMemory => None,
+            Asked::NoMemory | Asked::Over => None,
             Asked::Refused(error) => {
                 let sent = refused(refusal_number(&error));
                 drop(error);

@@ -4,7 +4,7 @@ ghost use Rattle.std.specs.Prelude.{◌≡◌, ◌≤◌, ◌<◌, ◌+◌, ◌^
 ghost use Rattle.std.specs.Option.{option_map};
 ghost use Rattle.amqp_frames.specs.Frame.{payload_of};
 ghost use Rattle.amqp_driver.specs.Driver.{RunsRead, Tells, TellsFields, TellsRead, counted, route_by};
-ghost use Rattle.amqp_driver.specs.Told.{is_empty_body, link_in, session_at};
+ghost use Rattle.amqp_driver.specs.Told.{begins_on, is_empty_body, link_in, session_at};
 
 use super::Driver;
 use crate::told::{Told, told_of};
@@ -73,9 +73,10 @@ impl<R: LinkRelay> Driver<R> {
         let route = self.route_of(&frame);
         let link = self.link_of(route, &frame.body);
         let silent = is_empty(&frame.body);
+        let anew = self.begins_anew(&frame);
         let said = saying::of_frame(at, size, &frame);
         let answer = self.run_read(Ok(frame));
-        told_of(answer, route, link, silent, said)
+        told_of(answer, route, link, silent, anew, said)
     }
 
     /// Runs what could not be read, and tells why.
@@ -86,11 +87,11 @@ impl<R: LinkRelay> Driver<R> {
         ensures { TellsRead R.gives self.old (Err error) at size result self.new }
     {
         let answer = self.run_read(Err(error));
-        told_of(answer, None, None, false, record::bare(at, size))
+        told_of(answer, None, None, false, false, record::bare(at, size))
     }
 
     /// Runs what was read.
-    fn run_read(&mut self, read: Result<Frame, Error>) -> Option<Result<(), StepError>>
+    pub(super) fn run_read(&mut self, read: Result<Frame, Error>) -> Option<Result<(), StepError>>
         ensures { RunsRead R.gives self.old read result self.new }
     {
         let answer = self
@@ -115,6 +116,20 @@ impl<R: LinkRelay> Driver<R> {
             FrameBody::Open(_) | FrameBody::Close(_) | FrameBody::Empty => None,
             _ => self.engine.session_of(IncomingChannel(frame.channel)),
         }
+    }
+
+    /// Whether a frame is a Begin that answers none, on a channel of the peer's that leads to no session.
+    fn begins_anew(&self, frame: &Frame) -> bool
+        ensures { result ≡ begins_on self.now.engine.connection frame.now.channel frame.now.body }
+    {
+        let FrameBody::Begin(begin) = &frame.body else {
+            return false;
+        };
+        begin.remote_channel.is_none()
+            && self
+                .engine
+                .session_of(IncomingChannel(frame.channel))
+                .is_none()
     }
 
     /// This side's handle of the link that a frame names in this session.

@@ -11,7 +11,7 @@ returns-in-Ok-clause-cut c = λ h.
     let lay = of_some _ _ _ c.in-Some.is (c.into_client.ensures.some (subst (λ p. 0 < p.full) (sym same) h)) in (
       subst (λ (n : ℕ). 0 < n) (sym c.of.ensures.full) (lit< tt),
       cuts_there _ _ _ _ _ _ _ _ (ap (λ p. p.slot.held) (sym same) ∙ lay) c.of.ensures.held c.number-in-Some.ensures
-          (c.in-Ok.ensures.ok ∙ ap (λ (m : ClientView). cut_of m.driver.engine.limit c.args.head.now c.args.bytes.now) c.deref.ensures),
+          (c.in-Ok.ensures.ok ∙ ap (λ (m : ClientView). cut_of m.stream.driver.engine.limit c.args.head.now c.args.bytes.now) c.deref.ensures),
     )
 
 pub returns-in_default-clause-cut : goal.returns-in_default-clause-cut

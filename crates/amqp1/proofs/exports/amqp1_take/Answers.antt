@@ -2,6 +2,7 @@
 use Rattle.std.proofs.Common.{sym, subst, ap, ◌∙◌, ℕ, ◌<◌, Some, lit<}
 use Rattle.amqp1.specs.Status.{status_number}
 use Rattle.std.specs.Prelude.{pos}
+use Rattle.amqp_driver.specs.contracts.plain.PlainRelayLinkRelay.TheImpl.{ghosts}
 use Rattle.amqp1.proofs.PlaceLemmas.{of_some, takes_there}
 use Rattle.amqp1.proofs.exports.amqp1_take.Goals as goal
 
@@ -10,6 +11,6 @@ returns-in-Some-clause-taken c = λ h.
     let same = c.replace-old.ensures.value in
     let lay = of_some _ _ _ c.in-Some.is (c.into_client.ensures.some (subst (λ p. 0 < p.full) (sym same) h)) in (
       subst (λ (n : ℕ). 0 < n) (sym c.of.ensures.full) (lit< tt),
-      takes_there _ _ _ _ _ _ _ _ _ _ _ (ap (λ p. p.slot.held) (sym same) ∙ lay ∙ ap Some (sym c.deref_mut.ensures.value)) c.of.ensures.held
+      takes_there ghosts.gives _ _ _ _ _ _ _ _ _ _ _ (ap (λ p. p.slot.held) (sym same) ∙ lay ∙ ap Some (sym c.deref_mut.ensures.value)) c.of.ensures.held
           (c.number-in-Some.ensures ∙ ap (λ s. pos (status_number s)) c.of_driver.ensures) c.take-took.ensures.taken c.take-took.ensures.last,
     )

@@ -1,9 +1,10 @@
 use Rattle.std.proofs.Common.{◌≡◌, length}
+use Rattle.amqp_driver.specs.Stream.{having_sent, waiting}
 use Rattle.amqp1.proofs.TakingLemmas.{Taken}
 use Rattle.amqp1.proofs.taking.take.Given as goal
 
 abbrev pub invariant-loop-at : goal.invariant-loop-at
-invariant-loop-at g l = Taken l.fn.driver.to_send l.fn.output l.at l.driver.to_send l.output × (l.driver ≡ record l.fn.driver { to_send = l.driver.to_send })
+invariant-loop-at g l = Taken (waiting l.fn.stream) l.fn.output l.at (waiting l.stream) l.output × (l.stream ≡ having_sent l.at l.fn.stream)
 
 abbrev pub decreases-loop-at : goal.decreases-loop-at
-decreases-loop-at g l = length l.driver.to_send
+decreases-loop-at g l = length (waiting l.stream)

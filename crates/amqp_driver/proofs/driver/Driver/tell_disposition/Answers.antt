@@ -19,8 +19,8 @@ pub returns : goal.returns
 returns g c = λ bytes opened.
     let f : Frame = record { channel = c.args.channel; body = body.Disposition c.in-Ok.disposition } in
     subst (λ (t : Told). Tells g.R.LinkRelay.gives c.args.self.now bytes c.args.at c.args.size t c.run_disposition-answer.new.self)
-    (sym (c.told_of.ensures ∙ told_same c.args.self.now f c.args.at c.args.size c.run_disposition-answer.result _ None false
-    c.of_disposition-said.result c.route_on-route.ensures (link_of_disposition c.in-Ok.disposition _) refl c.of_disposition-said.ensures))
+    (sym (c.told_of.ensures ∙ told_same c.args.self.now f c.args.at c.args.size c.run_disposition-answer.result _ None false false
+    c.of_disposition-said.result c.route_on-route.ensures (link_of_disposition c.in-Ok.disposition _) refl refl c.of_disposition-said.ensures))
     (tells_frame g.R.LinkRelay.gives c.args.self.now c.run_disposition-answer.new.self f c.args.at c.args.size c.run_disposition-answer.result c.run_disposition-answer.ensures bytes
     (read_fields IsDispositionBody disposition_body_at c.lists_are_read.ensures.of_disposition (λ p. performative.Disposition p) kind.Disposition (λ b f r x. x) (λ b f r x. x)
     bytes c.args.fields c.read_list.new.bytes c.args.channel c.in-Ok.disposition opened c.in-Ok.ensures))

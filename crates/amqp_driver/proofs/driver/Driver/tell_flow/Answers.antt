@@ -19,8 +19,8 @@ pub returns : goal.returns
 returns g c = λ bytes opened.
     let f : Frame = record { channel = c.args.channel; body = body.Flow c.in-Ok.flow } in
     subst (λ (t : Told). Tells g.R.LinkRelay.gives c.args.self.now bytes c.args.at c.args.size t c.run_flow-answer.new.self)
-    (sym (c.told_of.ensures ∙ told_same c.args.self.now f c.args.at c.args.size c.run_flow-answer.result _ c.link_at-link.result false
-    c.of_flow-said.result c.route_on-route.ensures (link_of_flow c.in-Ok.flow _ _ _ c.link_at-link.ensures c.input_of.ensures) refl c.of_flow-said.ensures))
+    (sym (c.told_of.ensures ∙ told_same c.args.self.now f c.args.at c.args.size c.run_flow-answer.result _ c.link_at-link.result false false
+    c.of_flow-said.result c.route_on-route.ensures (link_of_flow c.in-Ok.flow _ _ _ c.link_at-link.ensures c.input_of.ensures) refl refl c.of_flow-said.ensures))
     (tells_frame g.R.LinkRelay.gives c.args.self.now c.run_flow-answer.new.self f c.args.at c.args.size c.run_flow-answer.result c.run_flow-answer.ensures bytes
     (read_fields IsFlowBody flow_body_at c.lists_are_read.ensures.of_flow (λ p. performative.Flow p) kind.Flow (λ b f r x. x) (λ b f r x. x)
     bytes c.args.fields c.read_list.new.bytes c.args.channel c.in-Ok.flow opened c.in-Ok.ensures))

@@ -20,9 +20,9 @@ pub returns : goal.returns
 returns g c = λ bytes opened.
     let f : Frame = record { channel = c.args.channel; body = body.Transfer c.in-Ok.transfer c.read_list.new.bytes } in
     subst (λ (t : Told). Tells g.R.LinkRelay.gives c.args.self.now bytes c.args.at c.args.size t c.run_transfer-answer.new.self)
-    (sym (c.told_of.ensures ∙ told_same c.args.self.now f c.args.at c.args.size c.run_transfer-answer.result _ c.link_at-link.result false
+    (sym (c.told_of.ensures ∙ told_same c.args.self.now f c.args.at c.args.size c.run_transfer-answer.result _ c.link_at-link.result false false
     c.of_transfer-said.result c.route_on-route.ensures (link_of_transfer c.in-Ok.transfer c.read_list.new.bytes _ _ _ c.link_at-link.ensures
-    (ap (λ (p : TransferModel). p.handle) c.transfer.view_is)) refl
+    (ap (λ (p : TransferModel). p.handle) c.transfer.view_is)) refl refl
     (c.of_transfer-said.ensures ∙ ap (λ (n : ℕ). transfer_record (record (bare_record c.args.at c.args.size) { channel = c.args.channel }) c.in-Ok.transfer n)
     c.len.ensures.value)))
     (tells_frame g.R.LinkRelay.gives c.args.self.now c.run_transfer-answer.new.self f c.args.at c.args.size c.run_transfer-answer.result c.run_transfer-answer.ensures bytes

@@ -1,0 +1,25 @@
+use Rattle.std.proofs.Common.{arith, ◌≡◌, ℕ, List, length, Vec, Global, Bor, ltb, eqb}
+use Rattle.std.proofs.lemmas.List.{drop_more}
+use Rattle.amqp_values.specs.declared.symbol.Symbol.{Symbol}
+use Rattle.amqp1.specs.Logins.{all_in, name_in}
+use Rattle.amqp1.proofs.LoginLemmas.{all_done, all_failed, all_left, all_more}
+use Rattle.amqp1.proofs.logins.names.Goals as goal
+
+pub loop-head-preserved : goal.loop-head-preserved
+loop-head-preserved c = record {
+  read = rw c.push_reserved.ensures.items
+      (all_more name_in (all_in name_in c.args.heads.now c.args.bytes.now) c.args.heads.now c.loop-head.head-index _ _ _ _ c.loop-head.names.items
+      (drop_more c.args.heads.now c.loop-head.head-index _ c.loop-head-test.true) c.in-Ok.ensures c.loop-head.invariant.read);
+  room = omega (arith, c.push_reserved.ensures.len, c.push_reserved.ensures.capacity, c.loop-head.invariant.room, c.loop-head-test.true);
+}
+
+pub returns-in-Err : goal.returns-in-Err
+returns-in-Err c = all_failed {Y = Vec Symbol Global} {Z = List ℕ × Bor (List ℕ)} (λ x. (x.0, x.1.now)) (λ v. v.items) c.in-Err.error name_in
+    (all_in name_in c.args.heads.now c.args.bytes.now) c.args.heads.now c.loop-head.head-index _ _ c.loop-head.names.items
+    (drop_more c.args.heads.now c.loop-head.head-index _ c.loop-head-test.true) c.in-Err.ensures c.loop-head.invariant.read
+
+pub returns-then-is_empty : goal.returns-then-is_empty
+returns-then-is_empty c = all_done name_in (all_in name_in c.args.heads.now c.args.bytes.now) c.args.heads.now c.loop-head.head-index _ _ c.loop-head-test.false c.if-is_empty.ensures c.loop-head.invariant.read
+
+pub returns-else-is_empty : goal.returns-else-is_empty
+returns-else-is_empty c = all_left name_in (all_in name_in c.args.heads.now c.args.bytes.now) c.args.heads.now c.loop-head.head-index _ _ c.loop-head-test.false c.if-is_empty.ensures c.loop-head.invariant.read
