@@ -1,4 +1,4 @@
-//! AMQP 1.0's frame, connection and session layer for Rust: a safe wrapper over the library for C. Two files, and no dependency.
+//! AMQP 1.0's frame, connection and session layer for Rust: a safe wrapper over the library for C. Three files, and no dependency.
 //!
 //! ```sh
 //! tools/build_c.sh PREFIX
@@ -12,9 +12,13 @@
 
 use std::{ffi::c_void, fmt};
 
+#[path = "amqp_engine_opening.rs"]
+mod opening;
 #[path = "amqp_engine_records.rs"]
 mod records;
 
+pub use opening::{Due, Login, LoginCode, Opening, Tick};
+use opening::Ticked;
 use records::stop;
 pub use records::{Cut, NONE, Record, Sent, Stop, TransferHead, flag, kind};
 
@@ -84,6 +88,7 @@ unsafe extern "C" {
         records_length: usize,
         answer: *mut Took,
     ) -> i32;
+    fn amqp1_tick(place: *mut Place, now: u64, answer: *mut Ticked) -> i32;
     fn amqp1_send(
         place: *mut Place,
         heads: *const TransferHead,
@@ -106,7 +111,7 @@ enum Operation {
     Open = 2, Close, Begin, End, Release, Forget, Link, LinkOn, Attach, Detach, Flow, Transfer, Disposition, Settle, Output,
     Refusal = 18, RemoteOpen, MaxPieceLen, PayloadRoom,
     SessionOf = 23, State, SessionState,
-    Unfit = 27, RefusalText, Dispose,
+    Unfit = 27, RefusalText, Dispose, Login, Challenge, Respond, IsOver,
 }
 
 /// Why a call did not do what was asked.
@@ -180,23 +185,13 @@ impl Drop for Engine {
 
 impl Engine {
     /// An engine with PERF of this side's Open. The key is of the engine's maps: the peer should not be able to guess it. One of zeros is `BadArgument`.
+    /// It begins behind the protocol headers, which its caller exchanges; one that [`Engine::with_opening`] makes begins with the stream's first byte.
     pub fn new(key: [u8; 16], open: &[u8]) -> Result<Engine, Error> {
-        let how = How { key, time: 0, limit: NONE, side: 0, host: NONE, reserved: 0 };
-        let logins: [LoginHead; 0] = [];
-        let mut engine = Engine { place: Place { full: 0, at: std::ptr::null_mut() } };
-        let status = unsafe {
-            amqp1_new(&mut engine.place, &how, open.as_ptr(), open.len(), logins.as_ptr(), 0, [0; 0].as_ptr(), 0)
-        };
-        match status {
-            0 => engine.pass_headers(),
-            2 => Err(Error::NoMemory),
-            4 => Err(Error::BadArgument),
-            status => Err(Error::Unknown(status)),
-        }
+        Engine::with_opening(key, open, &Opening::Plain, 0, None)?.behind_headers()
     }
 
-    /// This engine begins behind the protocol headers, which its caller exchanges: the library's stream is given the peer's, and its own is taken off.
-    fn pass_headers(mut self) -> Result<Engine, Error> {
+    /// The library's stream is given the peer's header, and its own is taken off.
+    fn behind_headers(mut self) -> Result<Engine, Error> {
         let mut header = [0; 8];
         let (status, _) = self.call(Operation::Output, &[], &mut header);
         self.outcome(status)?;
@@ -268,10 +263,7 @@ impl Engine {
     /// Takes whole frames out of these bytes, up to one that is to be answered first, runs each once, and writes a record of each. How many bytes were
     /// taken, how many records written, and why it stopped. Give what was not taken again, with what came since.
     pub fn take(&mut self, bytes: &[u8], records: &mut [Record]) -> Result<(usize, usize, Stop), Error> {
-        let mut took = Took::default();
-        let (given, places) = (bytes.as_ptr(), records.as_mut_ptr());
-        let status = unsafe { amqp1_take(&mut self.place, 0, given, bytes.len(), places, records.len(), &mut took) };
-        Ok((took.taken, took.written, stop(status, took.wanted)?))
+        self.take_at(0, bytes, records)
     }
 
     /// Sends transfers: of each the head, and its tag and payload in `bytes`. How many were taken, how many of the bytes they have, and why it stopped.
