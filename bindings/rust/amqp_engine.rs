@@ -1,4 +1,4 @@
-//! AMQP 1.0's frame, connection and session layer for Rust: a safe wrapper over the library for C. Three files, and no dependency.
+//! AMQP 1.0's frame, connection and session layer for Rust: a safe wrapper over the library for C. Four files, and no dependency.
 //!
 //! ```sh
 //! tools/build_c.sh PREFIX
@@ -12,11 +12,14 @@
 
 use std::{ffi::c_void, fmt};
 
+#[path = "amqp_engine_answering.rs"]
+mod answering;
 #[path = "amqp_engine_opening.rs"]
 mod opening;
 #[path = "amqp_engine_records.rs"]
 mod records;
 
+pub use answering::answers;
 pub use opening::{Due, Login, LoginCode, Opening, Tick};
 use opening::Ticked;
 use records::stop;
@@ -88,6 +91,7 @@ unsafe extern "C" {
         records_length: usize,
         answer: *mut Took,
     ) -> i32;
+    fn amqp1_answer(place: *mut Place, record: *const Record, input: *const u8, input_length: usize, flags: u16) -> i32;
     fn amqp1_tick(place: *mut Place, now: u64, answer: *mut Ticked) -> i32;
     fn amqp1_send(
         place: *mut Place,
@@ -112,6 +116,7 @@ enum Operation {
     Refusal = 18, RemoteOpen, MaxPieceLen, PayloadRoom,
     SessionOf = 23, State, SessionState,
     Unfit = 27, RefusalText, Dispose, Login, Challenge, Respond, IsOver,
+    BeginAnswer, EndAnswer, LetGo,
 }
 
 /// Why a call did not do what was asked.
@@ -123,6 +128,10 @@ pub enum Error {
     NoMemory,
     /// The input is none of this operation's, as a performative that is another one.
     BadArgument,
+    /// Memory was refused once the engine had begun a session in answer to the peer's: its number is used, and the peer has no answer.
+    Lost,
+    /// Memory was refused for the peer's Begin, once this side's was sent: the connection is to be closed.
+    Broken,
     /// What this version of the library does not answer.
     Unknown(i32),
 }
@@ -144,6 +153,8 @@ impl fmt::Display for Error {
             Error::Refused(refusal) => write!(to, "refused: {}", refusal.name),
             Error::NoMemory => to.write_str("memory was refused"),
             Error::BadArgument => to.write_str("the input is none of this operation's"),
+            Error::Lost => to.write_str("memory was refused, and a session's number is used"),
+            Error::Broken => to.write_str("memory was refused, and the connection is to be closed"),
             Error::Unknown(status) => write!(to, "unknown status {status}"),
         }
     }
@@ -232,9 +243,11 @@ impl Engine {
     fn outcome(&mut self, status: i32) -> Result<(), Error> {
         match status {
             0 => Ok(()),
-            1 => Err(Error::Refused(self.refusal())),
+            1 | 17 | 18 => Err(Error::Refused(self.refusal())),
             2 => Err(Error::NoMemory),
             4 => Err(Error::BadArgument),
+            15 => Err(Error::Lost),
+            16 => Err(Error::Broken),
             status => Err(Error::Unknown(status)),
         }
     }

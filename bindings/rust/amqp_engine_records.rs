@@ -54,6 +54,12 @@ impl Record {
         part(input, self.payload_at, self.payload)
     }
 
+    /// The frame behind its size, there too; none of a record of the opening.
+    pub(super) fn frame<'a>(&self, input: &'a [u8]) -> Option<&'a [u8]> {
+        let from = (self.at as usize).checked_sub(4)?;
+        input.get(from..(self.at as usize).checked_add(self.size as usize)?)
+    }
+
     /// Whether there is one: a response that is empty is told from none.
     pub fn has_payload(&self) -> bool {
         self.payload_at != NONE

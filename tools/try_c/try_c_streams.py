@@ -1,7 +1,7 @@
 """What try_c.py tries of a stream from its first byte on: protocol headers, SASL of both sides, and the time."""
 
 from amqp_engine import Driver, Engine, Open, Refusal
-from amqp_engine.driver import DUE_BEAT, DUE_NOTHING, DUE_OPENING_LATE, DUE_PEER_SILENT
+from amqp_engine.driver import ANSWER_ENDS, BEGUN, DUE_BEAT, DUE_NOTHING, DUE_OPENING_LATE, DUE_PEER_SILENT
 from amqp_engine.opening import (
     LOGIN_REFUSED, NO_MECHANISM, OTHER_PROTOCOL, SASL_CLIENT, SASL_SERVER, Challenged, HeaderCame, LoggedIn, LoginAsked, MechanismChosen, NotOpened, Opening,
     Responded,
@@ -112,6 +112,38 @@ def time_passes():
     assert one.tick(60).due == DUE_BEAT and one.to_send() == EMPTY_FRAME
     assert other.tick(110) == (DUE_PEER_SILENT, None) and other.has_ended
     assert b"resource-limit-exceeded" in other.to_send()
+
+
+@test
+def a_record_is_answered():
+    client, server = Driver(Open("client")), Driver(Open("server"))
+    for it, peer in ((client, server), (server, client)):
+        it.open()
+        peer.take(it.to_send())
+    client.begin(7)
+    came = client.to_send()
+    (told,) = server.take(came).records
+    assert not server.answer(told, came, ANSWER_ENDS) and server.to_send() == b""
+    assert server.answer(told, came)
+    (told,) = client.take(server.to_send()).records
+    assert (told.kind, told.session, server.session_state(0)) == (BEGUN, 7, "MAPPED")
+    refused(lambda: server.answer_end(0), "NotEnded")
+    client.end(7)
+    came = client.to_send()
+    (told,) = server.take(came).records
+    server.answer_end(0)
+    assert client.take(server.to_send()).taken and server.session_state(0) is None
+    client.let_go(7)
+    refused(lambda: client.let_go(7), "NoSession")
+    client.begin(8)
+    came = client.to_send()
+    (told,) = server.take(came).records
+    refused(lambda: server.answer(told, came), "SessionInUse")
+    server.answer_begin(70, came[told.at - 4 : told.at + told.size])
+    assert (server.session_state(70), server.session_of(told.channel)) == ("MAPPED", 70)
+    client.close()
+    came = client.to_send()
+    assert server.answer(server.take(came).records[0], came) and server.state == "END"
 
 
 @test

@@ -31,6 +31,9 @@ _UNFIT, _REFUSAL_TEXT, _DISPOSE, _LOGIN, _CHALLENGE, _RESPOND, _IS_OVER = range(
 #: What is due at a tick: nothing; an empty frame, which waits to be sent; the end of an opening that took too long; or of a peer that was silent
 DUE_NOTHING, DUE_BEAT, DUE_OPENING_LATE, DUE_PEER_SILENT = range(4)
 _NEVER = 2**64 - 1
+#: What `answer` gives: to a Begin, an End and a Close of the peer's, and to a frame that was refused
+ANSWER_BEGINS, ANSWER_ENDS, ANSWER_CLOSES, ANSWER_REFUSALS = 1, 2, 4, 8
+ANSWER_ALL = 15
 #: No session, or no link
 NONE = 0xFFFFFFFF
 #: The states of deliveries
@@ -159,6 +162,7 @@ class Driver(Requests):
         functions = lib.load(library)
         super().__init__(functions.amqp1_call, functions.amqp1_free)
         self._take, self._send, self._cut, self._tick = functions.amqp1_take, functions.amqp1_send, functions.amqp1_cut, functions.amqp1_tick
+        self._answer = functions.amqp1_answer
         self._records = ctypes.create_string_buffer(most * _RECORD.size)
         self._most, self._took, self._went, self._ticked = most, lib.Took(), lib.Went(), lib.Ticked()
         self._parts = ctypes.create_string_buffer(_PARTS.size)
@@ -230,6 +234,16 @@ class Driver(Requests):
         if at:
             records = [_moved(it, at) for it in records]
         return Taken(took.taken, records, took.wanted, status == lib.BAD_SIZE, status == lib.OVER, status == lib.WAITS)
+
+    def answer(self, record: Record, data: bytes, answers: int = ANSWER_ALL) -> bool:
+        """Gives what a record asks for, of the answers that are named; `data` are the bytes that `take` was given for it. False where it asks for none of
+        them, or none is due. A Begin of the peer's is answered by a session that has the number of the peer's channel. Raises as `answer_begin` and
+        `answer_end` do, and `Refusal` where the End or the Close for a refused frame is refused."""
+        status = self._answer(ctypes.byref(self._place), _RECORD.pack(*record), data, len(data), answers)
+        if status == lib.NOTHING:
+            return False
+        self._judge(status)
+        return True
 
     def refusal_of(self, number: int) -> Refusal:
         """Why a frame or a transfer was refused, by its number: its name, and the condition that answers the frame, if any."""

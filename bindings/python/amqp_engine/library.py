@@ -9,7 +9,7 @@ from typing import Any, Optional
 
 #: What a function of the library answers; `enum amqp1_status` of `include/amqp1/records.h` has each
 DONE, REFUSED, NO_MEMORY, TOO_SMALL, BAD_ARGUMENT, NO_ENGINE = range(6)
-FULL, BAD_SIZE, SHORT, AGAIN, WAITS, OVER, TOO_LARGE = range(7, 14)
+FULL, BAD_SIZE, SHORT, AGAIN, WAITS, OVER, TOO_LARGE, NOTHING, LOST, BROKEN, NOT_RELEASED, NOT_FORGOTTEN = range(7, 19)
 _FILE = "libamqp1.so.1"
 
 
@@ -78,6 +78,8 @@ def load(path: Optional[str] = None) -> ctypes.CDLL:
     library.amqp1_send.restype = ctypes.c_int32
     library.amqp1_tick.argtypes = [place, ctypes.c_uint64, ctypes.POINTER(Ticked)]
     library.amqp1_tick.restype = ctypes.c_int32
+    library.amqp1_answer.argtypes = [place, ctypes.c_char_p, at, size, ctypes.c_uint16]
+    library.amqp1_answer.restype = ctypes.c_int32
     library.amqp1_cut.argtypes = [place, at, at, size, at]
     library.amqp1_cut.restype = ctypes.c_int32
     return library
