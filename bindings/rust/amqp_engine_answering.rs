@@ -4,7 +4,7 @@ use super::{Engine, Error, Operation, Record, amqp1_answer};
 
 /// The answers that [`Engine::answer`] may give.
 pub mod answers {
-    /// To a Begin by which the peer begins a session: one that has the number of the peer's channel.
+    /// To a Begin by which the peer begins a session.
     pub const BEGINS: u16 = 1;
     /// To an End of the peer's; its session is let go.
     pub const ENDS: u16 = 2;
@@ -18,9 +18,9 @@ pub mod answers {
 
 impl Engine {
     /// Gives what a record asks for, of the answers that are named; `bytes` are those that `take` was given for it. False where it asks for none of them, or
-    /// none is due. The errors are those of [`Engine::answer_begin`] and [`Engine::answer_end`], and `Refused` where what was asked is.
-    pub fn answer(&mut self, record: &Record, bytes: &[u8], answers: u16) -> Result<bool, Error> {
-        match unsafe { amqp1_answer(&mut self.place, record, bytes.as_ptr(), bytes.len(), answers) } {
+    /// none is due. A session that begins has this `number`, which none had before. The errors are those of [`Engine::answer_begin`] and [`Engine::answer_end`], and `Refused` where what was asked is.
+    pub fn answer(&mut self, record: &Record, bytes: &[u8], answers: u16, number: u32) -> Result<bool, Error> {
+        match unsafe { amqp1_answer(&mut self.place, record, bytes.as_ptr(), bytes.len(), answers, number) } {
             14 => Ok(false),
             status => self.outcome(status).map(|()| true),
         }

@@ -264,7 +264,7 @@ fn what_a_peer_begins_and_ends_is_answered() {
     let mut engine = sending();
     let (begin, frame) = hear(&mut engine, 5, b"\0\x53\x11\xc0\x07\x04\x40\x43\x52\x64\x52\x64");
     assert_eq!(begin.kind, kind::BEGIN_WANTED);
-    assert_eq!(engine.answer(&begin, &frame, answers::ALL & !answers::BEGINS), Ok(false));
+    assert_eq!(engine.answer(&begin, &frame, answers::ALL & !answers::BEGINS, 70), Ok(false));
     engine.answer_begin(&begin, &frame, 70, BEGIN).unwrap();
     assert_eq!((engine.session_of(5).unwrap(), engine.session_state(70).unwrap()), (Some(70), Some(3)));
     assert!(matches!(engine.answer_end(70, None), Err(Error::Refused(_))));
@@ -276,6 +276,6 @@ fn what_a_peer_begins_and_ends_is_answered() {
     assert!(matches!(engine.let_go(7), Err(Error::Refused(_))));
     sent(&mut engine);
     let (close, frame) = hear(&mut engine, 0, b"\0\x53\x18\x45");
-    assert_eq!(engine.answer(&close, &frame, answers::ALL), Ok(true));
+    assert_eq!(engine.answer(&close, &frame, answers::ALL, 0), Ok(true));
     assert_eq!(sent(&mut engine), framed(0, b"\0\x53\x18\x45"));
 }

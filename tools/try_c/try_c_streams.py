@@ -123,8 +123,8 @@ def a_record_is_answered():
     client.begin(7)
     came = client.to_send()
     (told,) = server.take(came).records
-    assert not server.answer(told, came, ANSWER_ENDS) and server.to_send() == b""
-    assert server.answer(told, came)
+    assert not server.answer(told, came, 0, ANSWER_ENDS) and server.to_send() == b""
+    assert server.answer(told, came, 0)
     (told,) = client.take(server.to_send()).records
     assert (told.kind, told.session, server.session_state(0)) == (BEGUN, 7, "MAPPED")
     refused(lambda: server.answer_end(0), "NotEnded")
@@ -138,12 +138,12 @@ def a_record_is_answered():
     client.begin(8)
     came = client.to_send()
     (told,) = server.take(came).records
-    refused(lambda: server.answer(told, came), "SessionInUse")
+    refused(lambda: server.answer(told, came, 0), "SessionInUse")
     server.answer_begin(70, came[told.at - 4 : told.at + told.size])
     assert (server.session_state(70), server.session_of(told.channel)) == ("MAPPED", 70)
     client.close()
     came = client.to_send()
-    assert server.answer(server.take(came).records[0], came) and server.state == "END"
+    assert server.answer(server.take(came).records[0], came, 0) and server.state == "END"
 
 
 @test

@@ -235,14 +235,16 @@ class Driver(Requests):
             records = [_moved(it, at) for it in records]
         return Taken(took.taken, records, took.wanted, status == lib.BAD_SIZE, status == lib.OVER, status == lib.WAITS)
 
-    def answer(self, record: Record, data: bytes, answers: int = ANSWER_ALL) -> bool:
+    def answer(self, record: Record, data: bytes, number: int, answers: int = ANSWER_ALL) -> bool:
         """Gives what a record asks for, of the answers that are named; `data` are the bytes that `take` was given for it. False where it asks for none of
-        them, or none is due. A Begin of the peer's is answered by a session that has the number of the peer's channel. Raises as `answer_begin` and
+        them, or none is due. A Begin of the peer's is answered by a session of this number, which none had before. Raises as `answer_begin` and
         `answer_end` do, and `Refusal` where the End or the Close for a refused frame is refused."""
-        status = self._answer(ctypes.byref(self._place), _RECORD.pack(*record), data, len(data), answers)
+        status = self._answer(ctypes.byref(self._place), _RECORD.pack(*record), data, len(data), answers, number)
         if status == lib.NOTHING:
             return False
         self._judge(status)
+        if record.kind == BEGIN_WANTED:
+            self._numbers[number] = 0
         return True
 
     def refusal_of(self, number: int) -> Refusal:
