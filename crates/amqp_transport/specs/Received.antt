@@ -1,4 +1,4 @@
--- Part: other calls.
+-- Part: other calls; inner.
 -- Bytes that came from a reader and are not taken yet.
 use Rattle.std.specs.Prelude.{◌≡◌, ◌≤◌, ◌<◌, ◌⊎◌, ◌++◌, ℕ, List, length, Option, Result, Ok, Err}
 use Rattle.std.specs.declared.io.Error.{Error}
