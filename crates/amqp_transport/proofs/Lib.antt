@@ -2,6 +2,6 @@ pub mod ExchangeLemmas
 pub mod PlaceLemmas
 pub mod ReadLemmas
 pub mod ReceivedLemmas
+pub mod RoundLemmas
 pub mod RunLemmas
-pub mod TurnLemmas
 pub mod WriteLemmas

@@ -1,5 +1,5 @@
 -- Part: other calls.
--- A turn of a connection over a reader and a writer: what waits is written, and what came is taken.
+-- A round of a connection over a reader and a writer: what waits is written, and what came is taken.
 use Rattle.std.specs.Prelude.{◌≡◌, ◌≤◌, ◌⊎◌, ◌==◌, ◌&&◌, ℕ, List, Bool, true, false, Option, Some, None, Result, Ok, Err, length}
 use Rattle.std.specs.Io.KnownBytes.{Appends, Keeps}
 use Rattle.std.specs.declared.io.Error.{Error}
@@ -13,11 +13,11 @@ use Rattle.amqp_driver.specs.Stream.{StreamView, having_sent, waiting}
 use Rattle.amqp_driver.specs.StreamTaking.{TakesStream}
 use Rattle.amqp_transport.specs.declared.received.Came.{Came}
 use Rattle.amqp_transport.specs.declared.received.Came.TheVariants as came
-use Rattle.amqp_transport.specs.declared.exchanging.Turn.{Turn}
+use Rattle.amqp_transport.specs.declared.exchanging.Round.{Round}
 use Rattle.amqp_transport.specs.Failing.{ReadFailed, WriteFailed, NoMemory}
 use Rattle.amqp_transport.specs.Received.{ReceivedView, Reads}
 
--- What a turn works on: a stream, the bytes that came, the places for records, and the bytes that the reader still gives and that the writer
+-- What a round works on: a stream, the bytes that came, the places for records, and the bytes that the reader still gives and that the writer
 -- holds, where they are known.
 pub record Exchanging (R : Type 0) : Type 0 where
   pub stream : StreamView R
@@ -59,11 +59,11 @@ abbrev pub TakesAgain : {R : Type 0} → Relays R → ℕ → Came → Exchangin
 TakesAgain g now (came.Bytes n) m first t y = TakesOf g now m.stream y.received.bytes m.records t y.stream y.records
 TakesAgain g now c m first t y = (t ≡ first) × (y.stream ≡ m.stream) × (y.records ≡ m.records)
 
--- Where something was taken, or something is to be done first, the turn is over. Else it reads once.
-abbrev pub GoesOn : {R : Type 0} → Bool → Relays R → ℕ → Exchanging R → Taken → Turn → Exchanging R → Type 0
-GoesOn false g now m first turn y = (turn ≡ record { came = None; taken = first }) × (y ≡ m)
-GoesOn true g now m first turn y = (c : Came) × (turn.came ≡ Some c) × Reads m.received m.coming y.coming (Ok c) y.received
-    × Keeps m.written y.written × TakesAgain g now c m first turn.taken y
+-- Where something was taken, or something is to be done first, the round is over. Else it reads once.
+abbrev pub GoesOn : {R : Type 0} → Bool → Relays R → ℕ → Exchanging R → Taken → Round → Exchanging R → Type 0
+GoesOn false g now m first round y = (round ≡ record { came = None; taken = first }) × (y ≡ m)
+GoesOn true g now m first round y = (c : Came) × (round.came ≡ Some c) × Reads m.received m.coming y.coming (Ok c) y.received
+    × Keeps m.written y.written × TakesAgain g now c m first round.taken y
 
 -- What waits was written, and then the stream took of what was there.
 pub record Looks {R : Type 0} (g : Relays R) (now : ℕ) (x : Exchanging R) (first : Taken) (m : Exchanging R) : Type 0 where
@@ -82,7 +82,7 @@ abbrev pub FailsToRead : {R : Type 0} → Exchanging R → Error → Exchanging 
 FailsToRead m e y = (WriteFailed e ⊎ (ReadFailed e ⊎ NoMemory e)) × Keeps m.written y.written × Keeps m.coming y.coming
     × (y ≡ record m { coming = y.coming; written = y.written })
 
-abbrev pub Exchanges : {R : Type 0} → Relays R → ℕ → Exchanging R → Result Turn Error → Exchanging R → Type 0
-Exchanges g now x (Ok turn) y = (m : Exchanging _) × (first : Taken) × Looks g now x first m × GoesOn (wants_more first) g now m first turn y
+abbrev pub Exchanges : {R : Type 0} → Relays R → ℕ → Exchanging R → Result Round Error → Exchanging R → Type 0
+Exchanges g now x (Ok round) y = (m : Exchanging _) × (first : Taken) × Looks g now x first m × GoesOn (wants_more first) g now m first round y
 Exchanges g now x (Err e) y =
     FailsToWrite x e y ⊎ ((m : Exchanging _) × (first : Taken) × Looks g now x first m × (wants_more first ≡ true) × FailsToRead m e y)

@@ -12,9 +12,9 @@ use amqp_driver::{Record, Status, Stream, Taken};
 use fe2o3_amqp::LinkRelay;
 use std::io::{self, Read, Write};
 
-/// What a turn read, and what the stream took.
+/// What a round read, and what the stream took.
 #[derive(Clone, Copy, Debug, PartialEq, Eq)]
-pub struct Turn {
+pub struct Round {
     /// What the input gave; `None` where it was not read, since something was there to be taken or to be done first.
     pub came: Option<Came>,
     /// How much of the bytes that came the stream took, how many records it wrote, and why it stopped.
@@ -43,24 +43,24 @@ pub fn write_waiting<R: LinkRelay, O: Write>(
     flush(output)
 }
 
-/// One turn of a connection: writes what waits in the stream, and has it take of the bytes that came, by [`Stream::take`]. Where these are no whole
+/// One round of a connection: writes what waits in the stream, and has it take of the bytes that came, by [`Stream::take`]. Where these are no whole
 /// frame, nothing is taken: then it flushes, reads once, and has the stream take of what is there now. So it waits for the input only where
 /// all was written, and nothing is left that can be taken. `now` is the time at the call.
 ///
-/// The caller looks at the records, whose places are those of [`Received::bytes`], and takes the bytes off by [`Received::take`]. The next turn writes
+/// The caller looks at the records, whose places are those of [`Received::bytes`], and takes the bytes off by [`Received::take`]. The next round writes
 /// what was asked for meanwhile; behind the last one comes [`write_waiting`].
 ///
 /// An error of `input` or `output` is passed on, and `OutOfMemory` says that memory was refused for what comes. After an error of `input`, or
-/// `OutOfMemory`, nothing is lost, and a later turn goes on.
+/// `OutOfMemory`, nothing is lost, and a later round goes on.
 ///
 /// ```
 /// loop {
-///     let turn = exchange(&mut stream, now, &mut received, &mut records, &mut input, &mut output)?;
-///     for record in &records[..turn.taken.written] {
+///     let round = exchange(&mut stream, now, &mut received, &mut records, &mut input, &mut output)?;
+///     for record in &records[..round.taken.written] {
 ///         stream.answer(record, received.bytes(), answers::ALL);
 ///     }
-///     received.take(turn.taken.taken);
-///     if turn.came == Some(Came::End) || stream.is_over() {
+///     received.take(round.taken.taken);
+///     if round.came == Some(Came::End) || stream.is_over() {
 ///         return write_waiting(&mut stream, &mut output);
 ///     }
 /// }
@@ -72,15 +72,15 @@ pub fn exchange<R: LinkRelay, I: Read, O: Write>(
     records: &mut [Record],
     input: &mut I,
     output: &mut O,
-) -> io::Result<Turn>
+) -> io::Result<Round>
     ensures exchanges { Exchanges R.gives now (exchanging stream.old received.old records.old (I.remaining input.old) (O.contents output.old)) result
         (exchanging stream.new received.new records.new (I.remaining input.new) (O.contents output.new)) }
-    ensures flushed { IfOk result (λ turn. IsSome turn.came → Flushed output.new) }
+    ensures flushed { IfOk result (λ round. IsSome round.came → Flushed output.new) }
 {
     put_waiting(stream, output)?;
     let taken = stream.take(now, received.bytes(), records);
     if !wants_more(&taken) {
-        return Ok(Turn { came: None, taken });
+        return Ok(Round { came: None, taken });
     }
     flush(output)?;
     let came = received.read(input)?;
@@ -88,7 +88,7 @@ pub fn exchange<R: LinkRelay, I: Read, O: Write>(
         Came::Bytes(_) => stream.take(now, received.bytes(), records),
         Came::End | Came::Full => taken,
     };
-    Ok(Turn {
+    Ok(Round {
         came: Some(came),
         taken,
     })

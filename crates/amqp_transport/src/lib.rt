@@ -30,7 +30,7 @@ mod stream;
 pub use amqp_driver::{
     BeginSessionError, TurnError, Turned, begin_session, marked_name, plain_name, turn_begin,
 };
-pub use exchanging::{Turn, exchange, write_waiting};
+pub use exchanging::{Round, exchange, write_waiting};
 pub use received::{Came, Received};
 pub use running::{close, push, receive, run};
 pub use stream::{exchange_headers, next_frame, write_frame, write_out, write_piece};

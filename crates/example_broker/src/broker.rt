@@ -8,7 +8,7 @@ use crate::unsettled::{Unsettled, give_back};
 use amqp_driver::{EndAnswer, Record, Status, Stream, kind};
 use amqp_events::{EventRelay, Room, SharedQueue};
 use amqp_sasl::Opening;
-use amqp_transport::{Came, Received, Turn, exchange, push, write_waiting};
+use amqp_transport::{Came, Received, Round, exchange, push, write_waiting};
 use bytes::Bytes;
 use fe2o3_amqp::{
     DEFAULT_CHANNEL_MAX, Engine, ErrorCondition, Input, KeyHash, Open, SessionNo, SessionSettings,
@@ -103,7 +103,7 @@ impl Broker {
             if progress == Progress::Over {
                 break;
             }
-            progress = self.turn(input, output)?;
+            progress = self.round(input, output)?;
         }
         write_waiting(&mut self.stream, output)
     }
@@ -113,11 +113,11 @@ impl Broker {
         self.stream.engine()
     }
 
-    /// One turn: sends what waits, and takes a frame at most, for one record is all that there is room for. So the queue of events holds what one
+    /// One round: sends what waits, and takes a frame at most, for one record is all that there is room for. So the queue of events holds what one
     /// frame brings.
-    fn turn<I: Read, O: Write>(&mut self, input: &mut I, output: &mut O) -> io::Result<Progress> {
+    fn round<I: Read, O: Write>(&mut self, input: &mut I, output: &mut O) -> io::Result<Progress> {
         let mut records = [Record::empty()];
-        let turn = exchange(
+        let round = exchange(
             &mut self.stream,
             0,
             &mut self.received,
@@ -125,19 +125,19 @@ impl Broker {
             input,
             output,
         )?;
-        let progress = self.take_turn(turn, &records[0])?;
-        self.received.take(turn.taken.taken);
+        let progress = self.take_round(round, &records[0])?;
+        self.received.take(round.taken.taken);
         Ok(progress)
     }
 
-    fn take_turn(&mut self, turn: Turn, record: &Record) -> io::Result<Progress> {
-        if turn.taken.status == Status::NoMemory {
+    fn take_round(&mut self, round: Round, record: &Record) -> io::Result<Progress> {
+        if round.taken.status == Status::NoMemory {
             return Err(io::Error::from(ErrorKind::OutOfMemory));
         }
-        if turn.taken.written > 0 && self.take(record)? == Progress::Over {
+        if round.taken.written > 0 && self.take(record)? == Progress::Over {
             return Ok(Progress::Over);
         }
-        if turn.came == Some(Came::End) || self.stream.is_over() {
+        if round.came == Some(Came::End) || self.stream.is_over() {
             return Ok(Progress::Over);
         }
         Ok(Progress::On)

@@ -5,7 +5,7 @@ use crate::handing::Handing;
 use crate::{HEADER, MAX_FRAME_SIZE, Said, begin, open};
 use amqp_driver::{Record, Stream, flag, kind};
 use amqp_sasl::Opening;
-use amqp_transport::{Came, Received, Turn, exchange};
+use amqp_transport::{Came, Received, Round, exchange};
 use fe2o3_amqp::{Input, KeyHash, ReplayRelay};
 use std::alloc::{AllocError, Global};
 use std::io::{self, Write};
@@ -59,18 +59,18 @@ fn take_all(
     let mut received = Received::new(alloc, MAX_FRAME_SIZE);
     let mut records = [Record::empty(); 4];
     for _ in 0..u64::MAX {
-        let turn = exchange(stream, 0, &mut received, &mut records, chunks, sent)?;
-        note(records.as_slice(), turn, numbers)?;
-        received.take(turn.taken.taken);
-        if turn.came == Some(Came::End) {
+        let round = exchange(stream, 0, &mut received, &mut records, chunks, sent)?;
+        note(records.as_slice(), round, numbers)?;
+        received.take(round.taken.taken);
+        if round.came == Some(Came::End) {
             break;
         }
     }
     Ok(())
 }
 
-fn note(records: &[Record], turn: Turn, numbers: &mut Vec<u32>) -> Result<(), AllocError> {
-    for record in records.iter().take(turn.taken.written) {
+fn note(records: &[Record], round: Round, numbers: &mut Vec<u32>) -> Result<(), AllocError> {
+    for record in records.iter().take(round.taken.written) {
         let number = number_of(record);
         if number > 0 {
             numbers.push(number)?;
@@ -124,9 +124,9 @@ fn take_to_end(
 ) -> io::Result<()> {
     let mut records = [Record::empty(); 4];
     for _ in 0..u64::MAX {
-        let turn = exchange(stream, 0, received, &mut records, chunks, &mut io::sink())?;
-        received.take(turn.taken.taken);
-        if turn.came == Some(Came::End) || stream.is_over() {
+        let round = exchange(stream, 0, received, &mut records, chunks, &mut io::sink())?;
+        received.take(round.taken.taken);
+        if round.came == Some(Came::End) || stream.is_over() {
             break;
         }
     }

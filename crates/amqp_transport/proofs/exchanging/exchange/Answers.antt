@@ -1,7 +1,7 @@
 use Rattle.std.proofs.Common.{◌∙◌, refl, sym, ap, rules}
 use Rattle.amqp_transport.specs.Received.{ReceivedView}
 use Rattle.amqp_transport.specs.Exchange.{exchanging}
-use Rattle.amqp_transport.proofs.TurnLemmas.{looked, none_came, not_read, not_waited, some_came, waited}
+use Rattle.amqp_transport.proofs.RoundLemmas.{looked, none_came, not_read, not_waited, some_came, waited}
 use Rattle.amqp_transport.proofs.exchanging.exchange.Goals as goal
 
 pub returns-then-not-wants_more-clause-exchanges : goal.returns-then-not-wants_more-clause-exchanges

@@ -1,4 +1,4 @@
--- A turn of a connection, by how it ends.
+-- A round of a connection, by how it ends.
 use Rattle.std.proofs.Common.{◌≡◌, ℕ, List, Option, Some, None, Bool, true, false, Result, Ok, Err, IfErr, refl, sym, subst, ◌⊎◌, inl, inr}
 use Rattle.std.specs.Result.{IsErr}
 use Rattle.std.specs.Io.KnownBytes.{Appends, Keeps}
@@ -9,7 +9,7 @@ use Rattle.amqp_driver.specs.declared.status.Taken.{Taken}
 use Rattle.amqp_driver.specs.Stream.{StreamView, waiting}
 use Rattle.amqp_transport.specs.declared.received.Came.{Came}
 use Rattle.amqp_transport.specs.declared.received.Came.TheVariants as came
-use Rattle.amqp_transport.specs.declared.exchanging.Turn.{Turn}
+use Rattle.amqp_transport.specs.declared.exchanging.Round.{Round}
 use Rattle.amqp_transport.specs.Failing.{ReadFailed, NoMemory}
 use Rattle.amqp_transport.specs.Received.{Reads}
 use Rattle.amqp_transport.specs.Exchange.{Exchanging, Exchanges, GoesOn, Looks, TakesAgain, TakesOf, exchanging, having_sent_all, wants_more}
@@ -30,11 +30,11 @@ pub not_waited : {R : Type 0} (g : Relays R) (now : ℕ) (x m : Exchanging R) (t
 not_waited g now x m t looks none = (m, t, looks, subst (λ (b : Bool). GoesOn b g now m t (record { came = None; taken = t }) m) (sym none) (refl, refl))
 
 -- it was read once
-pub waited : {R : Type 0} (g : Relays R) (now : ℕ) (x m y : Exchanging R) (first : Taken) (turn : Turn) (c : Came) → Looks g now x first m → wants_more first ≡ true
-    → turn.came ≡ Some c → Reads m.received m.coming y.coming (Ok c) y.received → Keeps m.written y.written → TakesAgain g now c m first turn.taken y
-    → Exchanges g now x (Ok turn) y
-waited g now x m y first turn c looks wants is reads keeps takes =
-    (m, first, looks, subst (λ (b : Bool). GoesOn b g now m first turn y) (sym wants) (c, is, reads, keeps, takes))
+pub waited : {R : Type 0} (g : Relays R) (now : ℕ) (x m y : Exchanging R) (first : Taken) (round : Round) (c : Came) → Looks g now x first m → wants_more first ≡ true
+    → round.came ≡ Some c → Reads m.received m.coming y.coming (Ok c) y.received → Keeps m.written y.written → TakesAgain g now c m first round.taken y
+    → Exchanges g now x (Ok round) y
+waited g now x m y first round c looks wants is reads keeps takes =
+    (m, first, looks, subst (λ (b : Bool). GoesOn b g now m first round y) (sym wants) (c, is, reads, keeps, takes))
 
 pub some_came : {R : Type 0} (g : Relays R) (now n : ℕ) (c : Came) (m y : Exchanging R) (first : Taken) (bytes : List ℕ) (t : Taken) → c ≡ came.Bytes n
     → bytes ≡ y.received.bytes → TakesOf g now m.stream bytes m.records t y.stream y.records → TakesAgain g now c m first t y
@@ -47,7 +47,7 @@ none_came g now c m y first (inl is) s r = subst (λ (k : Came). TakesAgain g no
 none_came g now c m y first (inr is) s r = subst (λ (k : Came). TakesAgain g now k m first first y) (sym is) (refl, s, r)
 
 -- the reader failed, or memory was refused
-pub not_read : {R : Type 0} (g : Relays R) (now : ℕ) (x m y : Exchanging R) (first : Taken) (r : Result Turn Error) → IsErr r → IfErr r (λ e. ReadFailed e ⊎ NoMemory e)
+pub not_read : {R : Type 0} (g : Relays R) (now : ℕ) (x m y : Exchanging R) (first : Taken) (r : Result Round Error) → IsErr r → IfErr r (λ e. ReadFailed e ⊎ NoMemory e)
     → Looks g now x first m → wants_more first ≡ true → Keeps m.written y.written → Keeps m.coming y.coming → y ≡ record m { coming = y.coming; written = y.written }
     → Exchanges g now x r y
 not_read g now x m y first (Ok t) is failed looks wants w c rest = absurd (let none : false ≡ true = is in cc)
