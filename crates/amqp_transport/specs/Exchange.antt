@@ -1,6 +1,6 @@
 -- Part: other calls.
 -- A round of a connection over a reader and a writer: what waits is written, and what came is taken.
-use Rattle.std.specs.Prelude.{◌≡◌, ◌≤◌, ◌⊎◌, ◌==◌, ◌&&◌, ℕ, List, Bool, true, false, Option, Some, None, Result, Ok, Err, length}
+use Rattle.std.specs.Prelude.{◌≡◌, ◌≤◌, ◌<◌, ◌^◌, ◌⊎◌, ◌==◌, ◌&&◌, ℕ, List, Bool, true, false, Option, Some, None, Result, Ok, Err, length}
 use Rattle.std.specs.Io.KnownBytes.{Appends, Keeps}
 use Rattle.std.specs.declared.io.Error.{Error}
 use Rattle.amqp_session.specs.Relay.{Relays}
@@ -11,6 +11,7 @@ use Rattle.amqp_driver.specs.declared.status.Taken.{Taken}
 use Rattle.amqp_driver.specs.Driver.{seen}
 use Rattle.amqp_driver.specs.Stream.{StreamView, having_sent, waiting}
 use Rattle.amqp_driver.specs.StreamTaking.{TakesStream}
+use Rattle.amqp_driver.specs.Laws.{IsMadeOfCalls}
 use Rattle.amqp_transport.specs.declared.received.Came.{Came}
 use Rattle.amqp_transport.specs.declared.received.Came.TheVariants as came
 use Rattle.amqp_transport.specs.declared.exchanging.Round.{Round}
@@ -86,3 +87,14 @@ abbrev pub Exchanges : {R : Type 0} → Relays R → ℕ → Exchanging R → Re
 Exchanges g now x (Ok round) y = (m : Exchanging _) × (first : Taken) × Looks g now x first m × GoesOn (wants_more first) g now m first round y
 Exchanges g now x (Err e) y =
     FailsToWrite x e y ⊎ ((m : Exchanging _) × (first : Taken) × Looks g now x first m × (wants_more first ≡ true) × FailsToRead m e y)
+
+-- ---- the calls of which a round is made
+
+-- A round, however it ends, is made of a stream's own calls: so what holds over every chain of these holds with rounds in it.
+abbrev pub RoundsByCalls : {R : Type 0} → Relays R → Type 0
+RoundsByCalls g = (now : ℕ) (x y : Exchanging _) (result : Result Round Error) → now < 2 ^ 64 → Exchanges g now x result y
+    → IsMadeOfCalls g x.stream y.stream
+
+-- and so is what `write_waiting` does, also where it fails
+abbrev pub WritingByCalls : {R : Type 0} → Relays R → Type 0
+WritingByCalls g = (v w : StreamView _) → SendsSome v w → IsMadeOfCalls g v w
