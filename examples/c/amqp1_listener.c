@@ -1,6 +1,6 @@
 /* Serves clients, one after the other: lets each in by PLAIN, as one user, or by ANONYMOUS; accepts what it sends, and sends it messages as long as it
-   gives credit, on one link. `amqp1_listener PORT CLIENTS USER PASSWORD`; the status is 0 where each was let in, and has closed. Build it by
-   `cc amqp1_listener.c amqp1_socket.c $(pkg-config --cflags --libs amqp1)`. */
+   gives credit, on one link. `amqp1_listener PORT CLIENTS USER PASSWORD [CERTIFICATE KEY]`, for TLS with the last two; the status is 0 where each was
+   let in, and has closed. Build it by `cc amqp1_listener.c amqp1_socket.c $(pkg-config --cflags --libs amqp1)`. */
 #include "amqp1_socket.h"
 
 static uint32_t link_to, sent;
@@ -66,10 +66,10 @@ int main(int count, char **words)
     uint8_t key[16], open[64];
     size_t length;
     int listening, left;
-    if (count != 5)
-        fail("usage: amqp1_listener PORT CLIENTS USER PASSWORD");
+    if (count != 5 && count != 7)
+        fail("usage: amqp1_listener PORT CLIENTS USER PASSWORD [CERTIFICATE KEY]");
     plain_length = (size_t)snprintf(plain, sizeof plain, "%c%s%c%s", 0, words[3], 0, words[4]);
-    for (listening = listen_on(words[1]), left = atoi(words[2]); left; left--) {
+    for (listening = listen_on(words[1], words[5], count == 7 ? words[6] : NULL), left = atoi(words[2]); left; left--) {
         accept_on(listening, key);
         must("an open's text", amqp1_write_open(open, sizeof open, &length, "amqp1_listener", NULL, 65536, 255, 0));
         must("an engine", amqp1_start_server(&engine, key, now(), LIMIT, "PLAIN ANONYMOUS", open, length));

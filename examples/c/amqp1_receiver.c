@@ -40,7 +40,7 @@ void take_record(const amqp1_record *record, const uint8_t *input)
     } else if (record->kind == AMQP1_KIND_TRANSFER) {
         receive(record, input);
     } else if (record->refusal || record->kind == AMQP1_KIND_DETACHED || record->kind == AMQP1_KIND_ENDED) {
-        unexpected(record);
+        unexpected(record, input);
     }
 }
 

@@ -32,7 +32,6 @@ void take_record(const amqp1_record *record, const uint8_t *input)
 {
     uint8_t text[512];
     size_t length;
-    (void)input;
     if (record->kind == AMQP1_KIND_OPENED) {
         must("a begin's text", amqp1_write_begin(text, sizeof text, &length, 0, 2048, 2048, 255));
         must("a begin", amqp1_begin(&engine, 0, text, length));
@@ -50,7 +49,7 @@ void take_record(const amqp1_record *record, const uint8_t *input)
         if (settled == count)
             must("a close", amqp1_close(&engine, NULL, 0));
     } else if (record->refusal || record->kind == AMQP1_KIND_DETACHED || record->kind == AMQP1_KIND_ENDED) {
-        unexpected(record);
+        unexpected(record, input);
     }
 }
 

@@ -4,12 +4,14 @@
 #include <netdb.h>
 #include <netinet/in.h>
 #include <poll.h>
+#include <signal.h>
 #include <sys/socket.h>
 #include <time.h>
 #include <unistd.h>
 #ifdef AMQP1_TLS
 #include <openssl/ssl.h>
 #include <openssl/x509v3.h>
+static SSL_CTX *certified;
 static SSL *tls;
 #endif
 
@@ -26,26 +28,41 @@ void fail(const char *what)
     exit(1);
 }
 
-void must(const char *what, int32_t status)
+/* Ends the program, and says what, how, and why: the lines of a refusal, as one. */
+static void fail_by(const char *what, const char *how, uint8_t *why, size_t length)
 {
-    uint8_t said[256];
-    size_t length = 0;
-    if (status == AMQP1_DONE)
-        return;
-    if (status != AMQP1_REFUSED || amqp1_refusal(&engine, said, sizeof said, &length) != AMQP1_DONE)
-        length = 0;
-    fprintf(stderr, "%s: %s %.*s\n", what, amqp1_status_name(status), (int)length, (const char *)said);
+    size_t n;
+    for (n = 0; n < length; n++)
+        if (why[n] == '\n')
+            why[n] = ' ';
+    fprintf(stderr, "%s: %s %.*s\n", what, how, (int)length, (const char *)why);
     exit(1);
 }
 
-void unexpected(const amqp1_record *record)
+void must(const char *what, int32_t status)
 {
-    uint8_t said[128] = "";
+    uint8_t why[256];
     size_t length = 0;
-    if (record->refusal && amqp1_refusal_text(&engine, record->refusal, said, sizeof said, &length) != AMQP1_DONE)
+    if (status == AMQP1_REFUSED && amqp1_refusal(&engine, why, sizeof why, &length) != AMQP1_DONE)
         length = 0;
-    fprintf(stderr, "%s %.*s\n", amqp1_kind_name(record->kind), (int)length, (const char *)said);
-    exit(1);
+    if (status != AMQP1_DONE)
+        fail_by(what, amqp1_status_name(status), why, length);
+}
+
+/* The error of a Detach, an End or a Close stands in its performative. */
+void unexpected(const amqp1_record *record, const uint8_t *input)
+{
+    char why[256] = "";
+    size_t length = 0;
+    amqp1_bytes error;
+    if (record->refusal && amqp1_refusal_text(&engine, record->refusal, (uint8_t *)why, sizeof why, &length) != AMQP1_DONE)
+        length = 0;
+    if (amqp1_has(record, AMQP1_FLAG_ERROR) &&
+        amqp1_field(amqp1_performative(input, record), record->kind == AMQP1_KIND_DETACHED ? 2 : 0, &error)) {
+        string_of(amqp1_bytes_field(error, 0), why, sizeof why);
+        length = strlen(why);
+    }
+    fail_by("what came", amqp1_kind_name(record->kind), (uint8_t *)why, length);
 }
 
 /* 16 bytes that no peer can guess. */
@@ -76,20 +93,65 @@ uint64_t now(void)
 
 void connect_to(const char *host, const char *port, uint8_t key[16])
 {
-    struct addrinfo hints, *found;
+    struct addrinfo hints, *found, *it;
     memset(&hints, 0, sizeof hints);
     hints.ai_socktype = SOCK_STREAM;
     if (getaddrinfo(host, port, &hints, &found))
         fail("no such host");
-    the_socket = socket(found->ai_family, found->ai_socktype, found->ai_protocol);
-    if (the_socket < 0 || connect(the_socket, found->ai_addr, found->ai_addrlen))
-        fail("nobody listens");
+    for (it = found; it && the_socket < 0; it = it->ai_next) {
+        the_socket = socket(it->ai_family, it->ai_socktype, it->ai_protocol);
+        if (the_socket >= 0 && connect(the_socket, it->ai_addr, it->ai_addrlen)) {
+            close(the_socket);
+            the_socket = -1;
+        }
+    }
     freeaddrinfo(found);
+    if (the_socket < 0)
+        fail("nobody listens");
     randomness(key);
     this_side = 'A';
 }
 
-int listen_on(const char *port)
+#ifdef AMQP1_TLS
+/* What TLS needs of this side: a certificate and its key. */
+static SSL_CTX *context_of(const SSL_METHOD *method, const char *certificate, const char *key)
+{
+    SSL_CTX *context = SSL_CTX_new(method);
+    /* OpenSSL writes without MSG_NOSIGNAL */
+    signal(SIGPIPE, SIG_IGN);
+    if (!context || SSL_CTX_use_certificate_file(context, certificate, SSL_FILETYPE_PEM) != 1 ||
+        SSL_CTX_use_PrivateKey_file(context, key, SSL_FILETYPE_PEM) != 1)
+        fail("a certificate or a key cannot be read");
+    return context;
+}
+
+void tls_to(const char *host, const char *ca, const char *certificate, const char *key)
+{
+    SSL_CTX *context = context_of(TLS_client_method(), certificate, key);
+    if (SSL_CTX_load_verify_locations(context, ca, NULL) != 1)
+        fail("the authority's certificate cannot be read");
+    SSL_CTX_set_verify(context, SSL_VERIFY_PEER, NULL);
+    tls = SSL_new(context);
+    SSL_CTX_free(context);
+    if (!tls || SSL_set1_host(tls, host) != 1 || SSL_set_fd(tls, the_socket) != 1 || SSL_connect(tls) != 1)
+        fail("no TLS with the server");
+}
+
+static void tls_from(void)
+{
+    tls = SSL_new(certified);
+    if (!tls || SSL_set_fd(tls, the_socket) != 1 || SSL_accept(tls) != 1)
+        fail("no TLS with the client");
+}
+#else
+void tls_to(const char *host, const char *ca, const char *certificate, const char *key)
+{
+    (void)host, (void)ca, (void)certificate, (void)key;
+    fail("it is built without TLS");
+}
+#endif
+
+int listen_on(const char *port, const char *certificate, const char *key)
 {
     struct sockaddr_in address;
     int one = 1, listening = socket(AF_INET, SOCK_STREAM, 0);
@@ -100,6 +162,14 @@ int listen_on(const char *port)
     setsockopt(listening, SOL_SOCKET, SO_REUSEADDR, &one, sizeof one);
     if (bind(listening, (struct sockaddr *)&address, sizeof address) || listen(listening, 16))
         fail("the port is taken");
+#ifdef AMQP1_TLS
+    if (certificate)
+        certified = context_of(TLS_server_method(), certificate, key);
+#else
+    (void)key;
+    if (certificate)
+        fail("it is built without TLS");
+#endif
     return listening;
 }
 
@@ -110,24 +180,9 @@ void accept_on(int listening, uint8_t key[16])
         fail("no client");
     randomness(key);
     this_side = 'B';
-}
-
-void tls_to(const char *host, const char *ca, const char *certificate, const char *key)
-{
 #ifdef AMQP1_TLS
-    SSL_CTX *context = SSL_CTX_new(TLS_client_method());
-    if (!context || SSL_CTX_load_verify_locations(context, ca, NULL) != 1 ||
-        SSL_CTX_use_certificate_file(context, certificate, SSL_FILETYPE_PEM) != 1 ||
-        SSL_CTX_use_PrivateKey_file(context, key, SSL_FILETYPE_PEM) != 1)
-        fail("a certificate or a key cannot be read");
-    SSL_CTX_set_verify(context, SSL_VERIFY_PEER, NULL);
-    tls = SSL_new(context);
-    SSL_CTX_free(context);
-    if (!tls || SSL_set1_host(tls, host) != 1 || SSL_set_fd(tls, the_socket) != 1 || SSL_connect(tls) != 1)
-        fail("no TLS with the peer");
-#else
-    (void)host, (void)ca, (void)certificate, (void)key;
-    fail("it is built without TLS");
+    if (certified)
+        tls_from();
 #endif
 }
 
@@ -258,7 +313,7 @@ void answer(const amqp1_record *record, const uint8_t *input)
     case AMQP1_KIND_CLOSED: must("a close", amqp1_close(&engine, NULL, 0)); break;
     default:
         if (record->refusal)
-            unexpected(record);
+            unexpected(record, input);
     }
 }
 

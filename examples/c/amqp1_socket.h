@@ -20,7 +20,7 @@ void take_record(const amqp1_record *record, const uint8_t *input);
 /* Ends the program, and says why; the same where a call was not done, with the name of its refusal; and of a record that the program does not expect. */
 void fail(const char *what);
 void must(const char *what, int32_t status);
-void unexpected(const amqp1_record *record);
+void unexpected(const amqp1_record *record, const uint8_t *input);
 
 /* Whether bytes are these; and a string of them, as far as there is room. */
 int is_text(amqp1_bytes bytes, const char *text, size_t length);
@@ -35,8 +35,8 @@ void connect_to(const char *host, const char *port, uint8_t key[16]);
 /* Speaks TLS with it, with this side's certificate and its key: the server's certificate has to be for the host, and of the authority `ca`. */
 void tls_to(const char *host, const char *ca, const char *certificate, const char *key);
 
-/* Listens on a port of the loopback; and the next client that connects there is the peer. */
-int listen_on(const char *port);
+/* Listens on a port of the loopback, for TLS where there is a certificate; and the next client that connects there is the peer. */
+int listen_on(const char *port, const char *certificate, const char *key);
 void accept_on(int listening, uint8_t key[16]);
 
 /* Answers a Begin, a Detach, an End or a Close that asks for it; of another record nothing is done, but that one that was refused ends the program. */
