@@ -90,7 +90,23 @@ each_refused() {
 examples() {
     cc -std=c99 "${strict[@]}" "${sanitized[@]}" examples/c/amqp1_server.c examples/c/amqp1_server_io.c "$library/libamqp1.a" -o "$folder/server" &&
         cc -std=c99 "${strict[@]}" "${sanitized[@]}" examples/c/amqp1_send.c "$library/libamqp1.a" -o "$folder/send" &&
-        cc -std=c99 "${strict[@]}" "${sanitized[@]}" examples/c/amqp1_idle.c "$library/libamqp1.a" -o "$folder/idle"
+        cc -std=c99 "${strict[@]}" "${sanitized[@]}" examples/c/amqp1_idle.c "$library/libamqp1.a" -o "$folder/idle" &&
+        for it in sender receiver listener; do
+            cc -std=c99 "${strict[@]}" "${sanitized[@]}" "examples/c/amqp1_$it.c" examples/c/amqp1_socket.c "$library/libamqp1.a" -o "$folder/$it" || return 1
+        done
+}
+
+# The listener lets one client in by PLAIN, and one by ANONYMOUS. Whether it listens is looked up, since each that connects is a client.
+logged_in() {
+    local port=$1 wait
+    timeout 60 "$folder/listener" "$port" 2 me secret >"$folder/listened" &
+    wait=$!
+    for _ in $(seq 50); do
+        ! grep -qi ":$(printf %04X "$port") 00000000:0000 0A" /proc/net/tcp || break
+        sleep 0.1
+    done
+    timeout 60 "$folder/sender" 127.0.0.1 "$port" q 50 me secret && timeout 60 "$folder/receiver" 127.0.0.1 "$port" q 50 && wait "$wait" &&
+        [ "$(cat "$folder/listened")" = $'let in by PLAIN\nlet in by ANONYMOUS' ]
 }
 
 # An idle hour of 1000 connections is 120 empty frames each, and one that was due when it began.
@@ -142,6 +158,7 @@ fi
 holds "the examples" examples
 holds "an hour of idle connections" idled
 holds "500 messages each way, between the examples" served $port "$folder/server $port 2" "$folder/send 127.0.0.1 $port q 500"
+holds "50 messages each way by PLAIN and by ANONYMOUS, between the small examples" logged_in $((port += 1))
 proton=(/usr/bin/python3 tools/try_c/amqp1_proton.py)
 if "${proton[0]}" -c 'import proton' 2>"$folder/said"; then
     holds "500 messages each way, of a client of qpid-proton" served $((port += 1)) "$folder/server $port 2" "${proton[*]} client $port 500"
