@@ -62,11 +62,17 @@ class Login:
 
     def line(self, name):
         """How the engine is made."""
+        host, logins = self.logins()
         if self.side == "A":
-            host = None if self.host is None else self.host.encode()
             return f"client {name} A {digits(host)} {self.mechanism['sym']} {digits(self.response)}"
+        return f"server {name} B {self.outcome} {' '.join(mechanism.decode() for mechanism, _ in logins)}"
+
+    def logins(self):
+        """The host, and each login as its mechanism and its initial response: the client's one, or what the server offers, as bytes."""
+        if self.side == "A":
+            return None if self.host is None else self.host.encode(), [(self.mechanism["sym"].encode(), self.response)]
         items = self.offered["items"] if "items" in self.offered else [self.offered]
-        return f"server {name} B {self.outcome} {' '.join(it['sym'] for it in items)}"
+        return None, [(it["sym"].encode(), None) for it in items]
 
     def told(self):
         """The record of each thing that the peer sent."""
