@@ -40,8 +40,8 @@ class Opened(Engine):
         self.free()
         self._judge(self.made())
         self.went, data, at, known = self.to_send(), b"".join(of for _, of in self.login.peers), 0, 0
-        while at < len(data):
-            known = min(max(known, at) + self.size, len(data))
+        while known < len(data):
+            known = min(known + self.size, len(data))
             while (took := self.take(data[at:known])).taken:
                 at += took.taken
                 for record in took.records:
