@@ -342,13 +342,13 @@ static size_t do_cut(FILE *file, size_t place)
     return heard_before;
 }
 
-/* Each connection from its first byte on, cut at each place of what comes. */
-static void try_each_cut(const char *path)
+void try_each_cut(const char *path)
 {
     FILE *file = fopen(path, "r");
     size_t before = 0, place, length;
     long begins = 0;
     CHECK(file != NULL);
+    is_plain = 0;
     chunk = MOST;
     for (count_now = 0; file && read_line(file); before = count_now, begins = ftell(file)) {
         int is_cut = strncmp(line, "exchange ", 9) != 0;
@@ -373,5 +373,4 @@ void try_recorded(const char *path)
 {
     is_plain = 0;
     try_file(path);
-    try_each_cut(path);
 }

@@ -18,13 +18,14 @@ tests=(tools/try_c/amqp1_{try,bytes,places,inputs,operations,takes,links,sends,c
 strict=(-Wall -Wextra -Wpedantic -Wconversion -Wshadow -Werror -I"$include" -Itools/try_c)
 sanitized=(-g -O1 -fsanitize=address,undefined -fno-sanitize-recover=undefined)
 recorded=("$folder/exchanges" "$folder/recorded")
-port=$((20000 + RANDOM % 10000))
+port=$((20000 + RANDOM % 10000)) cuts=
 
-# Builds the tests by a compiler, with what comes after it, and runs them with the recordings.
+# Builds the tests by a compiler, with what comes after it, and runs them with the recordings; where `cuts` is set, what was recorded from the first byte
+# on is also cut at each place.
 built_and_run() {
     local compiler=$1
     shift
-    $compiler "${strict[@]}" "$@" -o "$folder/tests" && timeout 300 "$folder/tests" "${recorded[@]}"
+    $compiler "${strict[@]}" "$@" -o "$folder/tests" && timeout 600 "$folder/tests" "${recorded[@]}" ${cuts:+"$cuts"}
 }
 
 # A program with a warning for each cast of the old form, and with each standard of C++: the headers warn of nothing.
@@ -138,7 +139,7 @@ for compiler in gcc clang; do
         done
         counts "$compiler, C++17" built_and_run $compiler -x c++ -std=c++17 "${tests[@]}" -x none "$library/libamqp1.a"
         counts "$compiler, optimized" built_and_run $compiler -std=c99 -O2 "${tests[@]}" "$library/libamqp1.a"
-        counts "$compiler, sanitized" built_and_run $compiler -std=c99 "${sanitized[@]}" "${tests[@]}" "$library/libamqp1.a"
+        cuts=each counts "$compiler, sanitized" built_and_run $compiler -std=c99 "${sanitized[@]}" "${tests[@]}" "$library/libamqp1.a"
     fi
 done
 counts "over libamqp1.so" built_and_run cc -std=c99 "${tests[@]}" -L"$library" -lamqp1 -Wl,-rpath,"$library"
