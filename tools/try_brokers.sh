@@ -4,10 +4,20 @@
 # broker in Python; and tools/watch.py looks on. All are Debian's packages, which it installs where they are missing (as root). Each peer is
 # started in a folder of its own and stopped at the end. It is no part of the gate. The last line is 'N passed, M failed'.
 #
-# Programs that an earlier run left are used; AMQP_PREFIX names the folder where tools/build_c.sh put the library, if that was done.
+# The small programs in examples/c (tools/try_live.sh) are tried with all of these and with uAMQP: by PLAIN, by ANONYMOUS, and, with RabbitMQ, by EXTERNAL over TLS.
+#
+#     tools/try_brokers.sh           tries all
+#     tools/try_brokers.sh --small   tries the small programs alone, which needs no more than the library
+#
+# Programs that an earlier run left are used; AMQP_PREFIX names the folder where tools/build_c.sh put the library, if that was done. AMQP_RECORDINGS names a
+# folder for what the small programs send and receive, and AMQP_MESSAGES how many messages they do.
 set -euo pipefail
-case "${1-}" in -h | --help) sed -n '2,/^set/{/^set/d;s/^# \{0,1\}//;p}' "$0" && exit 0 ;; esac
-command -v rt >/dev/null || [ -x "$(dirname "$0")/../crates/amqp_replay/out/amqp_replay" ] || { echo "try_brokers: no rt on the path, and no amqp_replay that it left" >&2; exit 1; }
+small=
+case "${1-}" in
+    -h | --help) sed -n '2,/^set/{/^set/d;s/^# \{0,1\}//;p}' "$0" && exit 0 ;;
+    --small) small=yes ;;
+esac
+[ -n "$small" ] || command -v rt >/dev/null || [ -x "$(dirname "$0")/../crates/amqp_replay/out/amqp_replay" ] || { echo "try_brokers: no rt on the path, and no amqp_replay that it left" >&2; exit 1; }
 cd "$(dirname "$0")/.."
 program=crates/amqp_replay/out/amqp_replay server=crates/example_broker/out/example_broker
 folder=$(mktemp -d)
@@ -46,13 +56,16 @@ start_proton() {
 start_rabbitmq() {
     install rabbitmq-server || return 1
     local names home=$folder/rabbitmq
-    rabbitmq=$(free_port) names=$(free_port)
+    rabbitmq=$(free_port) rabbitmq_tls=$(free_port) names=$(free_port)
     # Erlang's server of names, which RabbitMQ would start by itself and leave behind
     epmd -port "$names" -address 127.0.0.1 &
     running+=($!)
     mkdir -p "$home/log"
-    printf '%s\n' "listeners.tcp.1 = 127.0.0.1:$rabbitmq" 'default_user = guest' 'default_pass = guest' >"$home/rabbitmq.conf"
-    echo '[rabbitmq_amqp1_0].' >"$home/enabled_plugins"
+    printf '%s\n' "listeners.tcp.1 = 127.0.0.1:$rabbitmq" "listeners.ssl.1 = 127.0.0.1:$rabbitmq_tls" 'default_user = guest' 'default_pass = guest' \
+        'auth_mechanisms.1 = PLAIN' 'auth_mechanisms.2 = AMQPLAIN' 'auth_mechanisms.3 = EXTERNAL' 'ssl_cert_login_from = common_name' \
+        "ssl_options.cacertfile = $keys/ca.pem" "ssl_options.certfile = $keys/localhost.pem" "ssl_options.keyfile = $keys/localhost.key" \
+        'ssl_options.verify = verify_peer' 'ssl_options.fail_if_no_peer_cert = true' >"$home/rabbitmq.conf"
+    echo '[rabbitmq_amqp1_0,rabbitmq_auth_mechanism_ssl].' >"$home/enabled_plugins"
     HOME=$home ERL_EPMD_PORT=$names ERL_EPMD_ADDRESS=127.0.0.1 RABBITMQ_NODENAME=bridge@localhost RABBITMQ_DIST_PORT=$(free_port) \
         RABBITMQ_MNESIA_BASE=$home/mnesia RABBITMQ_LOG_BASE=$home/log RABBITMQ_CONFIG_FILE=$home/rabbitmq.conf \
         RABBITMQ_ENABLED_PLUGINS_FILE=$home/enabled_plugins RABBITMQ_CONF_ENV_FILE=/dev/null RABBITMQ_PID_FILE=$home/pid \
@@ -105,43 +118,64 @@ watched() {
     ! grep -v "^listens" "$folder/watched"
 }
 
-[ -x "$program" ] || (cd crates/amqp_replay && rt run </dev/null >"$folder/build")
-[ -x "$server" ] || (cd crates/example_broker && rt run <stdin >"$folder/build")
 prefix=${AMQP_PREFIX:-$folder/library}
 [ -e "$prefix/lib/libamqp1.a" ] || tools/build_c.sh "$prefix" >"$folder/build"
 export AMQP_LIBRARY=$prefix/lib/libamqp1.so
-cc -std=c99 -O2 -I"$prefix/include" examples/c/amqp1_send.c "$prefix/lib/libamqp1.a" -o "$folder/send_receive"
+. tools/try_live.sh
+build_live
 
 passed=0 failed=0
 tried() {
     if "$@"; then passed=$((passed + 1)); else failed=$((failed + 1)) && echo "FAILED: $*"; fi
 }
-if start_proton; then
+
+# What others need: where it fails that is counted, and they are not tried.
+started() {
+    "$@" && return
+    failed=$((failed + 1)) && echo "FAILED: $*"
+    return 1
+}
+
+# The small programs with each peer that is no broker of its own.
+try_small() {
+    if started build_proton_cpp && started install python3-qpid-proton; then try_live_servers && try_live_clients; fi
+    if started install python3-uamqp; then try_live_uamqp; fi
+}
+
+# The programs that are not small.
+try_proton() {
     tried replay "$proton" messages
     tried by_library "$proton" messages
     tried in_c "$proton" messages
     tried in_python "$proton" messages
     tried in_python "$proton" messages --messages 20 --size 100000
     tried watched "$proton"
-else
-    failed=$((failed + 1))
-fi
-if start_rabbitmq; then
+}
+try_rabbitmq() {
     tried replay "$rabbitmq" /queue/messages --sasl guest:guest
     tried by_library "$rabbitmq" /queue/messages --sasl guest:guest
-    tried in_c "$rabbitmq" /queue/messages guest guest
+    tried in_c "$rabbitmq" /queue/messages
     tried in_python "$rabbitmq" /queue/messages --sasl guest:guest
-else
-    failed=$((failed + 1))
-fi
-if start_broker; then
+}
+try_served() {
     echo "== example_broker" && tried proton_in_python "$server"
     echo "== examples/python/broker.py" && tried proton_in_python "$served"
     tried proton_in_cpp "$served"
     tried in_python "$served" other
     tried in_c "$served" another
-else
-    failed=$((failed + 1))
+}
+
+if [ -z "$small" ]; then
+    [ -x "$program" ] || (cd crates/amqp_replay && rt run </dev/null >"$folder/build")
+    [ -x "$server" ] || (cd crates/example_broker && rt run <stdin >"$folder/build")
+    cc -std=c99 -O2 -I"$prefix/include" examples/c/amqp1_send.c "$prefix/lib/libamqp1.a" -o "$folder/send_receive"
+    if started start_proton; then try_proton; fi
+    if started start_broker; then try_served; fi
 fi
+if started start_rabbitmq; then
+    [ -n "$small" ] || try_rabbitmq
+    try_live_rabbitmq
+fi
+try_small
 echo "$passed passed, $failed failed"
 [ "$failed" = 0 ]

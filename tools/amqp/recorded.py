@@ -5,6 +5,7 @@ from pathlib import Path
 
 from amqp.canonical import boolean, composite, string, symbol, tag, ubyte, uint, ulong, ushort
 from amqp.decoder import number, parts, value
+from amqp.streams import HEADER
 from amqp.tables import TABLES
 
 CAPTURES = Path(__file__).resolve().parents[2] / "captures"
@@ -67,7 +68,17 @@ def symbols(said):
     return bytes([0xE0, len(data) + 1, len(items)]) + data
 
 
+def is_of_amqp(line):
+    """Whether a line of a recording is a frame of AMQP: a recording from the first byte on has protocol headers and frames of SASL too."""
+    of = bytes.fromhex(line[2:])
+    return not of.startswith(HEADER) and of[1:2] != b"\1"
+
+
+def lines_of(path):
+    """The lines of a recording that are frames of AMQP; line n of its other file says what the n-th of them holds."""
+    return [line for line in path.read_text().splitlines() if is_of_amqp(line)]
+
+
 def recording(name):
-    texts = CAPTURES.joinpath(name + ".txt").read_text().split("\n")
-    lines = CAPTURES.joinpath(name + ".fields.jsonl").read_text().split("\n")
-    return [Frame(text, line) for text, line in zip(texts, lines) if text]
+    lines = CAPTURES.joinpath(name + ".fields.jsonl").read_text().splitlines()
+    return [Frame(text, line) for text, line in zip(lines_of(CAPTURES / f"{name}.txt"), lines)]

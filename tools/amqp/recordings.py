@@ -4,7 +4,7 @@ import re
 import sys
 from pathlib import Path
 
-from amqp.streams import Stream, chunks
+from amqp.streams import HEADER, Stream, chunks
 from amqp.telling import WHO
 from packets.files import has_packets
 from packets.joined import Recording
@@ -73,15 +73,17 @@ def connections(path, chosen, sasl, progress):
 
 
 def of_lines(lines, title="", sasl=False):
-    """The connection of a followed stream; or of lines that each have a side and a frame without its size."""
+    """The connection of a followed stream; or of lines that each have a side and a frame without its size, or a protocol header."""
     found = Recorded(1, title, sasl)
     if any(line.startswith("Follow: tcp") for line in lines):
         for side, data in chunks(lines):
             found.feed(side, data, None)
         found.finish()
     else:
-        found.frames = [(line[0], bytes.fromhex(line[2:])) for line in lines if re.fullmatch(r"[AB] [0-9a-fA-F]*", line)]
-        found.whole, found.times = found.frames, [None] * len(found.frames)
+        every = [(line[0], bytes.fromhex(line[2:])) for line in lines if re.fullmatch(r"[AB] [0-9a-fA-F]*", line)]
+        found.whole = [(side, of) for side, of in every if not of.startswith(HEADER)]
+        found.frames = [(side, of) for side, of in found.whole if of[1:2] != b"\1"]
+        found.times = [None] * len(found.frames)
     return found
 
 

@@ -100,7 +100,8 @@ def recordings():
         made, read = page_of(name, side, lines)
         text = made.text()
         data = data_of(text)
-        check(name, [row[NUMBER] for row in data["rows"]] == [*range(1, len(read.frames) + 1)])
+        # those of SASL are shown, and not counted
+        check(name, [row[NUMBER] for row in data["rows"] if not row[KIND].startswith("SASL")] == [*range(1, len(read.frames) + 1)])
         check(name, all(line.split(": ", 1)[1] in told_in(data, int(re.search(r"\d+", line)[0])) for line in lines), side, *lines)
         is_all = all(told_in(data, at + 1) for at, fault in read.faults.items() if fault)
         names = {it[0] for row in data["rows"] for it in row[FOUND]}

@@ -138,8 +138,9 @@ def twice(draw, packets):
 
 
 def recordings(seed):
-    draw = random.Random(seed)
     for path in sorted(CAPTURES.glob("*.txt")):
+        # what is drawn of a recording stays the same where another one is added
+        draw = random.Random(f"{seed} {path.stem}")
         frames = [it for it in recorded(path) if len(it[1]) >= 4]
         packets = packets_of(frames, chunked(draw))
         same(f"{path.stem}, cut", pcap(linked(packets)), frames)

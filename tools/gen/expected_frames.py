@@ -17,7 +17,7 @@ from pathlib import Path
 sys.path.insert(0, str(Path(__file__).resolve().parents[1]))
 
 from amqp.decoder import value
-from amqp.recorded import CAPTURES
+from amqp.recorded import CAPTURES, lines_of
 from amqp.tables import TABLES
 from gen import expected_by_hand, expected_hostile, expected_messages, expected_pieces, expected_spellings
 from gen.shown import Refused, show_composite
@@ -48,7 +48,7 @@ def expected(frame, said):
 def main():
     given, wanted = [], []
     for frames in sorted(CAPTURES.glob("*.txt")):
-        lines = frames.read_text().splitlines()
+        lines = lines_of(frames)
         said = [json.loads(line) for line in frames.with_suffix(".fields.jsonl").read_text().splitlines()]
         assert len(lines) == len(said), frames
         for line, fields in zip(lines, said):

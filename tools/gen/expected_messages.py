@@ -9,7 +9,7 @@ import hashlib
 import json
 
 from amqp.canonical import boolean, composite, tag, uint
-from amqp.recorded import CAPTURES
+from amqp.recorded import CAPTURES, lines_of
 
 OPEN, TRANSFER = 0x10, 0x14
 HANDLE, DELIVERY_ID, TAG, FORMAT, SETTLED, MORE, RECEIVER, STATE = range(8)
@@ -52,7 +52,7 @@ def messages():
     for frames in sorted(CAPTURES.glob("*.txt")):
         said = [json.loads(line) for line in frames.with_suffix(".fields.jsonl").read_text().splitlines()]
         sizes, begun = {}, {}
-        for line, one in zip(frames.read_text().splitlines(), said):
+        for line, one in zip(lines_of(frames), said):
             side, frame = line.split(" ")
             fields = (one["fields"] or []) + [None] * 11 if one["code"] is not None else []
             if one["code"] == OPEN:

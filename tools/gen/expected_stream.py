@@ -15,7 +15,8 @@ from pathlib import Path
 sys.path.insert(0, str(Path(__file__).resolve().parents[1]))
 
 from amqp.canonical import composite, string, uint, ushort
-from amqp.recorded import ATTACH, BEGIN, CAPTURES, CLOSE, END, FLOW, OPEN, TRANSFER, Frame
+from amqp import recorded
+from amqp.recorded import ATTACH, BEGIN, CAPTURES, CLOSE, END, FLOW, OPEN, TRANSFER
 from gen import user_calls
 from gen.expected_frames import expected
 
@@ -97,9 +98,7 @@ def told(frames):
 
 
 def recording(name):
-    texts = CAPTURES.joinpath(name + ".txt").read_text().splitlines()
-    lines = CAPTURES.joinpath(name + ".fields.jsonl").read_text().splitlines()
-    frames = [Frame(text, line) for text, line in zip(texts, lines)]
+    lines, frames = CAPTURES.joinpath(name + ".fields.jsonl").read_text().splitlines(), recorded.recording(name)
     return [(it, expected(it.bytes, json.loads(line)) == "malformed") for it, line in zip(frames, lines)]
 
 

@@ -7,9 +7,10 @@ sys.path.insert(0, str(Path(__file__).resolve().parents[2] / "bindings" / "pytho
 
 from amqp.frames import ATTACH, DETACH, DISPOSITION, FLOW, TRANSFER, Frame
 from amqp_engine import Attach, Begin, Detach, Detached, Disposition, Engine, Flow, Malformed, Open, Refusal, Transfer
+from amqp_engine import library
 from amqp_engine.serving import frames_of
 
-__all__ = ["Detach", "Detached", "LineEngine", "Malformed", "Open"]
+__all__ = ["Detach", "Detached", "Engine", "LineEngine", "Malformed", "Open", "library"]
 
 ASKS = {ATTACH: ("attach", Attach), FLOW: ("flow", Flow), DISPOSITION: ("disposition", Disposition), DETACH: ("detach", Detach)}
 

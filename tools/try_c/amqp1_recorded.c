@@ -1,6 +1,7 @@
 /* Tests of libamqp1: recorded connections, as amqp1_recorded.py and try_c_recorded.py write them. What is received comes in chunks of several
-   sizes, and records are taken a few at a time: what is refused, what goes out, and each record are the same for all. */
-#include "amqp1_try.h"
+   sizes, and records are taken a few at a time: what is refused, what goes out, and each record are the same for all. A connection that was recorded
+   from its first byte on is also cut once, at each place. */
+#include "amqp1_openings.h"
 
 enum { MOST = 1 << 20, FRAMES = 4096, RECORDS = 1 << 15 };
 
@@ -27,6 +28,9 @@ static char name[128];
 static amqp1 engine;
 static size_t chunk;
 static int is_plain;
+
+/* Where alone what comes is cut, or 0. */
+static size_t cut;
 
 static void add(text *to, const void *bytes, size_t length)
 {
@@ -115,8 +119,11 @@ static unsigned place_of(const amqp1_record *record, size_t from, size_t end_of_
 /* Whether the record is that of the first size of chunks, but for its places. */
 static void compare(amqp1_record record, size_t from)
 {
-    record.at += (uint32_t)(heard_before + from);
-    record.payload_at += (uint32_t)(heard_before + from);
+    /* the bytes of one header or frame of SASL are taken alone: its places begin with it */
+    if (record.kind < AMQP1_KIND_SASL_HEADER) {
+        record.at += (uint32_t)(heard_before + from);
+        record.payload_at += (uint32_t)(heard_before + from);
+    }
     if (chunk == 1 && first_count < RECORDS)
         first_records[first_count++] = record;
     if (count_now < first_count)
@@ -136,20 +143,32 @@ static void answer(const amqp1_record *record)
     EACH(amqp1_detach(&engine, record->session, 0, detach, length) == AMQP1_DONE);
 }
 
+/* How much of what came is known next, where so much was. */
+static size_t known_after(size_t known)
+{
+    if (cut > heard_before + known && cut < heard_before + waiting.length)
+        return cut - heard_before;
+    return waiting.length - known < chunk ? waiting.length : known + chunk;
+}
+
 /* Hands over what came, in chunks; what was not taken is given again with the next chunk. */
 static void hand_over(void)
 {
     amqp1_record records[3];
     amqp1_took took;
+    char said[1024];
     size_t at = 0, known = 0, n;
     while (at < waiting.length) {
         int32_t status;
-        known = waiting.length - known < chunk ? waiting.length : known + chunk;
+        known = known_after(known);
         do {
             status = amqp1_take(&engine, 0, waiting.at + at, known - at, records, 1 + chunk % 3, &took);
             EACH(status == AMQP1_DONE || status == AMQP1_FULL || status == AMQP1_AGAIN || status == AMQP1_OVER);
             for (n = 0; n < took.written; n++) {
-                tell_record(place_of(records + n, at, known), records + n);
+                if (records[n].kind < AMQP1_KIND_SASL_HEADER)
+                    tell_record(place_of(records + n, at, known), records + n);
+                else
+                    add(&told, said, opening_told(&engine, records + n, waiting.at + at, said, sizeof said));
                 compare(records[n], at);
                 answer(records + n);
             }
@@ -215,26 +234,34 @@ static void transfer(unsigned place, const char *said)
 }
 
 /* The Open of all: container "replay", frames of 262144 bytes, 255 channels. */
+static uint8_t our_open[64];
+static size_t our_length;
+
 static void begin(void)
 {
-    uint8_t open[64];
-    size_t length;
-    CHECK(amqp1_write_open(open, sizeof open, &length, "replay", NULL, 262144, 255, 0) == AMQP1_DONE);
-    CHECK(amqp1_start(&engine, key, open, length) == AMQP1_DONE && exchanges_headers(&engine));
+    EACH(amqp1_write_open(our_open, sizeof our_open, &our_length, "replay", NULL, 262144, 255, 0) == AMQP1_DONE);
     sent.length = wanted_sent.length = told.length = wanted_told.length = waiting.length = 0;
     frame_count = heard_before = 0;
 }
 
 static void end(void)
 {
-    int is_sent = sent.length == wanted_sent.length && !memcmp(sent.at, wanted_sent.at, sent.length);
+    /* of a recording, what goes out before its frames is wanted */
+    int is_sent = is_plain ? sent.length == wanted_sent.length : sent.length >= wanted_sent.length;
     int is_told = told.length == wanted_told.length && !memcmp(told.at, wanted_told.at, told.length);
-    if ((is_plain && !is_sent) || !is_told)
+    is_sent = is_sent && !memcmp(sent.at, wanted_sent.at, wanted_sent.length);
+    if (!is_sent || !is_told)
         printf("  %s in chunks of %u: sent %u of %u bytes, told\n%.*swanted\n%.*s", name, (unsigned)chunk, (unsigned)sent.length,
                (unsigned)wanted_sent.length, (int)told.length, (const char *)told.at, (int)wanted_told.length, (const char *)wanted_told.at);
-    CHECK(is_sent || !is_plain);
-    CHECK(is_told);
+    EACH(is_sent);
+    EACH(is_told);
+    tried += 2;
     amqp1_free(&engine);
+}
+
+static int is_beginning(void)
+{
+    return !strncmp(line, "exchange ", 9) || !strncmp(line, "client ", 7) || !strncmp(line, "server ", 7);
 }
 
 /* A line: a word, in a recording its frame's place, and the rest. */
@@ -246,14 +273,19 @@ static void do_line(void)
     rest = rest ? rest + 1 : line + strlen(line);
     if (strncmp(line, "recv ", 5) && waiting.length)
         hand_over();
-    if (!is_plain && strncmp(line, "exchange ", 9) && *rest) {
+    if (!is_plain && !is_beginning() && strncmp(line, "out ", 4) && *rest) {
         place = (unsigned)atoi(rest);
         rest = strchr(rest, ' ');
         rest = rest ? rest + 1 : line + strlen(line);
     }
     if (!strncmp(line, "exchange ", 9)) {
         begin();
+        CHECK(amqp1_start(&engine, key, our_open, our_length) == AMQP1_DONE && exchanges_headers(&engine));
         snprintf(name, sizeof name, "%s", rest);
+    } else if (is_beginning()) {
+        begin();
+        EACH(opening_started(&engine, line, our_open, our_length, name) == AMQP1_DONE);
+        take_sent();
     } else if (!strncmp(line, "call ", 5)) {
         call(place, rest);
     } else if (!strncmp(line, "send ", 5)) {
@@ -272,6 +304,15 @@ static void do_line(void)
     }
 }
 
+/* The next line of the file, if there is one. */
+static int read_line(FILE *file)
+{
+    if (!fgets(line, sizeof line, file))
+        return 0;
+    line[strcspn(line, "\n")] = 0;
+    return 1;
+}
+
 static void try_file(const char *path)
 {
     static const size_t chunks[] = { 1, 7, 4096, MOST };
@@ -282,14 +323,44 @@ static void try_file(const char *path)
         count_now = 0;
         first_count = at ? first_count : 0;
         CHECK(file != NULL);
-        for (lines = 0; file && fgets(line, sizeof line, file); lines++) {
-            line[strcspn(line, "\n")] = 0;
+        for (lines = 0; file && read_line(file); lines++)
             do_line();
-        }
         CHECK(lines > 0 && count_now == first_count);
         if (file)
             fclose(file);
     }
+}
+
+/* The connection that begins in the line that was read: what comes is cut at this place alone. How many bytes came. */
+static size_t do_cut(FILE *file, size_t place)
+{
+    cut = place;
+    do
+        do_line();
+    while (strcmp(line, "end") && read_line(file));
+    cut = 0;
+    return heard_before;
+}
+
+void try_each_cut(const char *path)
+{
+    FILE *file = fopen(path, "r");
+    size_t before = 0, place, length;
+    long begins = 0;
+    CHECK(file != NULL);
+    is_plain = 0;
+    chunk = MOST;
+    for (count_now = 0; file && read_line(file); before = count_now, begins = ftell(file)) {
+        int is_cut = strncmp(line, "exchange ", 9) != 0;
+        length = do_cut(file, 0);
+        for (place = 1; is_cut && place < length; place++) {
+            count_now = before;
+            CHECK(!fseek(file, begins, SEEK_SET) && read_line(file) && do_cut(file, place) == length);
+        }
+    }
+    CHECK(count_now == first_count);
+    if (file)
+        fclose(file);
 }
 
 void try_exchanges(const char *path)

@@ -4,10 +4,11 @@ them.
 
     tools/try_c/amqp1_recorded.py > FILE
 
-A line is `exchange NAME SIDE`; then what is done, each with the place of the recorded frame from which it comes: `recv PLACE FRAME` with a frame that
+A line is `exchange NAME SIDE`, or, of a recording from the first byte on, `client NAME A HOST MECHANISM RESPONSE` or `server NAME B OUTCOME MECHANISM
+..`: how the engine logs in, or which mechanisms it offers and what it answers. Host and response are in hexadecimal, `.` of no bytes and `-` where there are none. Then what is done, each with the place of the recorded frame from which it comes: `recv PLACE FRAME` with a frame that
 the peer sent, its size included, `call PLACE OPERATION INPUT` with the operation's number and its input in hexadecimal (`-` for none), `send PLACE
 SESSION FIRST PERF PAYLOAD` of a transfer, or `bad PLACE` of a request that no operation takes; then `err PLACE NAME` for each refusal that has
-to be told, and `end`. What is wanted stands in captures/refused.rows. A recording with a frame of less than four bytes, which no stream can carry, is
+to be told, and `end`. A header and a frame of SASL are `recv 0 BYTES`; then `err 0 KIND ..` says what has to be told of each, and `out BYTES` what goes out first. What is wanted stands in captures/refused.rows. A recording with a frame of less than four bytes, which no stream can carry, is
 left out.
 """
 
@@ -18,6 +19,7 @@ from pathlib import Path
 sys.path.insert(0, str(Path(__file__).resolve().parents[1]))
 
 from amqp.canonical import composite, uint
+from amqp.logins import Login
 from amqp.frames import ATTACH, BEGIN, DETACH, DISPOSITION, FLOW, NULL, TRANSFER, Frame
 from amqp.transcript import Transcript
 from gate.refused_of_captures import connections
@@ -63,13 +65,25 @@ def step(line):
     return asked[word]() if word in asked else called(OF_SESSION[word], u32(number))
 
 
+def steps(frames, side, login):
+    """What is done, in the order of the recording: what the peer sent before frames stands before these."""
+    left = [*login.peers] if login else []
+    for at, line in Transcript(frames, side).run():
+        while left and left[0][0] <= at:
+            yield f"recv 0 {left.pop(0)[1].hex()}"
+        yield step(line).format(at + 1)
+    yield from (f"recv 0 {of.hex()}" for _, of in left)
+
+
 def main():
     for name, frames, side, wanted in connections():
         if any(len(of) < 4 for _, of in frames):
             continue
-        print(f"exchange {name} {side}")
-        for at, line in Transcript(frames, side).run():
-            print(step(line).format(at + 1))
+        login = Login.recorded(name, side)
+        print(login.line(name) if login else f"exchange {name} {side}")
+        print(*steps(frames, side, login), sep="\n")
+        if login:
+            print(*login.wanted(), sep="\n")
         for text in wanted:
             place, refusal = re.match(r"frame (\d+), [AB], .*?: (bad line|\w+)", text).groups()
             print(f"err {place} {refusal}")

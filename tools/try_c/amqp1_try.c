@@ -172,6 +172,8 @@ int main(int count, char **words)
         try_exchanges(words[1]);
     if (count > 2)
         try_recorded(words[2]);
+    if (count > 3)
+        try_each_cut(words[2]);
     printf("%d passed, %d failed\n", tried - wrong, wrong);
     return wrong != 0;
 }

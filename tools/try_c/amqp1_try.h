@@ -97,8 +97,10 @@ void try_peers(void);
 void try_sessions(void);
 void try_pairs(void);
 void try_streams(void);
-/* The exchanges in the file of this name: what goes out, and what is refused; and recordings: records, and what is refused. */
+/* The exchanges in the file of this name: what goes out, and what is refused; and recordings: records, and what is refused; and then those of them
+   that are from the first byte on, cut once at each place of what comes. */
 void try_exchanges(const char *path);
 void try_recorded(const char *path);
+void try_each_cut(const char *path);
 
 #endif

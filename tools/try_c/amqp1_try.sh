@@ -18,13 +18,14 @@ tests=(tools/try_c/amqp1_{try,bytes,places,inputs,operations,takes,links,sends,c
 strict=(-Wall -Wextra -Wpedantic -Wconversion -Wshadow -Werror -I"$include" -Itools/try_c)
 sanitized=(-g -O1 -fsanitize=address,undefined -fno-sanitize-recover=undefined)
 recorded=("$folder/exchanges" "$folder/recorded")
-port=$((20000 + RANDOM % 10000))
+port=$((20000 + RANDOM % 10000)) cuts=
 
-# Builds the tests by a compiler, with what comes after it, and runs them with the recordings.
+# Builds the tests by a compiler, with what comes after it, and runs them with the recordings; where `cuts` is set, what was recorded from the first byte
+# on is also cut at each place.
 built_and_run() {
     local compiler=$1
     shift
-    $compiler "${strict[@]}" "$@" -o "$folder/tests" && timeout 300 "$folder/tests" "${recorded[@]}"
+    $compiler "${strict[@]}" "$@" -o "$folder/tests" && timeout 600 "$folder/tests" "${recorded[@]}" ${cuts:+"$cuts"}
 }
 
 # A program with a warning for each cast of the old form, and with each standard of C++: the headers warn of nothing.
@@ -90,7 +91,23 @@ each_refused() {
 examples() {
     cc -std=c99 "${strict[@]}" "${sanitized[@]}" examples/c/amqp1_server.c examples/c/amqp1_server_io.c "$library/libamqp1.a" -o "$folder/server" &&
         cc -std=c99 "${strict[@]}" "${sanitized[@]}" examples/c/amqp1_send.c "$library/libamqp1.a" -o "$folder/send" &&
-        cc -std=c99 "${strict[@]}" "${sanitized[@]}" examples/c/amqp1_idle.c "$library/libamqp1.a" -o "$folder/idle"
+        cc -std=c99 "${strict[@]}" "${sanitized[@]}" examples/c/amqp1_idle.c "$library/libamqp1.a" -o "$folder/idle" &&
+        for it in sender receiver listener; do
+            cc -std=c99 "${strict[@]}" "${sanitized[@]}" "examples/c/amqp1_$it.c" examples/c/amqp1_socket.c "$library/libamqp1.a" -o "$folder/$it" || return 1
+        done
+}
+
+# The listener lets one client in by PLAIN, and one by ANONYMOUS. Whether it listens is looked up, since each that connects is a client.
+logged_in() {
+    local port=$1 wait
+    timeout 60 "$folder/listener" "$port" 2 me secret >"$folder/listened" &
+    wait=$!
+    for _ in $(seq 50); do
+        ! grep -qi ":$(printf %04X "$port") 00000000:0000 0A" /proc/net/tcp || break
+        sleep 0.1
+    done
+    timeout 60 "$folder/sender" 127.0.0.1 "$port" q 50 me secret && timeout 60 "$folder/receiver" 127.0.0.1 "$port" q 50 && wait "$wait" &&
+        [ "$(cat "$folder/listened")" = $'let in by PLAIN\nlet in by ANONYMOUS' ]
 }
 
 # An idle hour of 1000 connections is 120 empty frames each, and one that was due when it began.
@@ -122,7 +139,7 @@ for compiler in gcc clang; do
         done
         counts "$compiler, C++17" built_and_run $compiler -x c++ -std=c++17 "${tests[@]}" -x none "$library/libamqp1.a"
         counts "$compiler, optimized" built_and_run $compiler -std=c99 -O2 "${tests[@]}" "$library/libamqp1.a"
-        counts "$compiler, sanitized" built_and_run $compiler -std=c99 "${sanitized[@]}" "${tests[@]}" "$library/libamqp1.a"
+        cuts=each counts "$compiler, sanitized" built_and_run $compiler -std=c99 "${sanitized[@]}" "${tests[@]}" "$library/libamqp1.a"
     fi
 done
 counts "over libamqp1.so" built_and_run cc -std=c99 "${tests[@]}" -L"$library" -lamqp1 -Wl,-rpath,"$library"
@@ -143,6 +160,7 @@ fi
 holds "the examples" examples
 holds "an hour of idle connections" idled
 holds "500 messages each way, between the examples" served $port "$folder/server $port 2" "$folder/send 127.0.0.1 $port q 500"
+holds "50 messages each way by PLAIN and by ANONYMOUS, between the small examples" logged_in $((port += 1))
 proton=(/usr/bin/python3 tools/try_c/amqp1_proton.py)
 if "${proton[0]}" -c 'import proton' 2>"$folder/said"; then
     holds "500 messages each way, of a client of qpid-proton" served $((port += 1)) "$folder/server $port 2" "${proton[*]} client $port 500"

@@ -4,28 +4,81 @@ compares what it refuses with what refused_of_captures.py compares amqp_replay w
 
     tools/try_c/try_c_captures.py LIBRARY
 
-LIBRARY is libamqp1.so. A recording with a frame of less than four bytes, which no stream can carry, is left out. The last line is 'N passed, M failed', a test for each connection, side and size.
+LIBRARY is libamqp1.so. Of a recording from the first byte on the engine takes headers and frames of SASL too, in such pieces: which records come of them, and what it sends before
+its frames. A recording with a frame of less than four bytes, which no stream can carry, is left out. The last line is 'N passed, M failed', a test for each connection, side and size.
 """
 
+import ctypes
 import os
+import struct
 import sys
 from pathlib import Path
 
 sys.path.insert(0, str(Path(__file__).resolve().parents[1]))
 
+from amqp.logins import Login
 from amqp.transcript import Transcript
 from gate.refused_of_captures import connections
-from shared.by_library import Detach, Detached, LineEngine, Malformed, Open
+from shared.by_library import Detach, Detached, Engine, LineEngine, Malformed, Open, library
 from shared.command import command
 from transcript import shown
+
+# Of amqp1.h
+NONE, CLIENT, SERVER, LOGIN_ASKED, LOGIN, KEY = 0xFFFFFFFF, 1, 2, 16, 30, b"k" * 16
+KINDS = {"SaslHeader": 13, "AmqpHeader": 14, "MechanismChosen": 15, "LoginAsked": LOGIN_ASKED, "LoggedIn": 19}
+
+
+class Opened(Engine):
+    """An engine from the first byte on: what the other side of a recording sent of headers and SASL was taken, in pieces of so many bytes."""
+
+    def __init__(self, open, login, size):
+        self.given, self.login, self.size, self.kinds = open.encode(), login, size, []
+        super().__init__(open, key=KEY)
+
+    def _pass_headers(self):
+        """In the place of the engine without SASL, which is as new, one with it is made, and is handed what came."""
+        self.free()
+        self._judge(self.made())
+        self.went, data, at, known = self.to_send(), b"".join(of for _, of in self.login.peers), 0, 0
+        while known < len(data):
+            known = min(known + self.size, len(data))
+            while (took := self.take(data[at:known])).taken:
+                at += took.taken
+                for record in took.records:
+                    self.heard(record)
+                self.went += self.to_send()
+
+    def made(self):
+        """Has the library make the engine."""
+        host, logins = self.login.logins()
+        heads = b"".join(struct.pack("=2I", len(name), NONE if response is None else len(response)) for name, response in logins)
+        of = (host or b"") + b"".join(name + (response or b"") for name, response in logins)
+        side = CLIENT if self.login.side == "A" else SERVER
+        key = (ctypes.c_uint8 * 16)(*KEY)
+        how = library.How(key, 0, NONE, side, NONE if host is None else len(host))
+        return library.load().amqp1_new(ctypes.byref(self._place), ctypes.byref(how), self.given, len(self.given), heads, len(logins), of, len(of))
+
+    def heard(self, record):
+        self.kinds.append(record.kind)
+        if record.kind == LOGIN_ASKED:
+            self._ask(LOGIN, bytes([self.login.outcome, 0]))
+
+    def is_right(self):
+        """Whether the records are those of what came, and what went is that of the recording, in the canonical spelling."""
+        return self.kinds == [KINDS[it.split(" ")[0]] for it in self.login.told()] and self.went == self.login.sent()
 
 
 class Replay(LineEngine):
     """An engine as amqp_replay makes one. Its links take what comes, whichever end they are."""
 
-    def __init__(self, size):
-        super().__init__(Open("replay", max_frame_size=262144, channel_max=255), key=b"k" * 16)
-        self.size = size
+    def __init__(self, size, login):
+        open = Open("replay", max_frame_size=262144, channel_max=255)
+        super().__init__(open, key=KEY)
+        self.size, self.is_right = size, True
+        if login is not None:
+            self.engine.free()
+            self.engine = Opened(open, login, size)
+            self.is_right = self.engine.is_right()
 
     def role_of(self, name):
         return True
@@ -55,13 +108,13 @@ class Replay(LineEngine):
             yield from self.engine.receive(data[at : at + self.size])
 
 
-def refused(frames, side, size):
+def refused(frames, side, size, login):
     """What the library refuses of a connection, as texts."""
-    transcript, replay = Transcript(frames, side), Replay(size)
+    transcript, replay = Transcript(frames, side), Replay(size, login)
     lines = transcript.run()
     told = [": ".join(shown(transcript, at, line, name)) for at, line in lines for name in replay.names(line)]
     replay.engine.free()
-    return told
+    return told if replay.is_right else [f"records of the kinds {replay.engine.kinds}; sent {replay.engine.went.hex()}", *told]
 
 
 def main():
@@ -73,7 +126,7 @@ def main():
         if any(len(of) < 4 for _, of in frames):
             continue
         for size in (1, 7, 4096):
-            told = refused(frames, side, size)
+            told = refused(frames, side, size, Login.recorded(name, side))
             passed, failed = passed + (told == wanted), failed + (told != wanted)
             if told != wanted:
                 print(f"{name} {side}, pieces of {size}: refused\n" + "\n".join(told) + "\nwanted\n" + "\n".join(wanted))
