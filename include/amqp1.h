@@ -2,8 +2,9 @@
    records and bytes to send come out. It opens no socket and reads no clock. The library is written in Rattle, and its exports are proved; what stands in these headers is C, and is tested alone.
 
    A program makes an engine with its Open (amqp1_start, amqp1_start_client, amqp1_start_server), asks for what it wants (amqp1_open, amqp1_begin,
-   amqp1_link, amqp1_attach ..), hands over the bytes that come (amqp1_take), reads a record of each header, SASL frame and frame, sends deliveries
-   (amqp1_send; amqp1_cut where one is longer than a frame), writes the bytes that wait (amqp1_output) to its socket, and tells the time (amqp1_tick).
+   amqp1_link, amqp1_attach ..), hands over the bytes that come (amqp1_take), reads a record of each header, SASL frame and frame, has those
+   answered that ask for it (amqp1_answer), sends deliveries (amqp1_send; amqp1_cut where one is longer than a frame), writes the bytes that wait
+   (amqp1_output) to its socket, and tells the time (amqp1_tick).
 
        amqp1 engine = AMQP1_EMPTY;
        amqp1_record records[64];

@@ -238,34 +238,43 @@ static void let_in(struct peer *p)
     told(p, "a login", amqp1_login(&p->engine, AMQP1_LOGIN_OK));
 }
 
-/* A frame that was refused is answered as the standard says: by an End or a Close with the refusal's condition. */
-static void refused(struct peer *p, const amqp1_record *record)
+/* A client begins a session: one of this side's answers it, or else the connection is closed. */
+static void begin(struct peer *p, const amqp1_record *record, const uint8_t *input)
 {
-    char text[128];
-    size_t length = 0;
-    char *condition, *answer;
-    if (told(p, "a text", amqp1_refusal_text(&p->engine, record->refusal, (uint8_t *)text, sizeof text - 1, &length)))
-        return;
-    text[length] = 0;
-    condition = strchr(text, '\n') + 1;
-    answer = strchr(condition, '\n');
-    *answer++ = 0;
-    fprintf(stderr, "%d: refused: %.*s\n", p->fd, (int)(condition - text - 1), text);
-    if (!strcmp(answer, "end"))
-        end_with(p, record->session, condition);
-    else if (!strcmp(answer, "close"))
-        close_with(p, condition);
+    uint8_t text[64];
+    size_t length;
+    if (told(p, "a begin's text", amqp1_write_begin(text, sizeof text, &length, 0, 2048, 2048, 255)) ||
+        told(p, "a session", amqp1_answer_begin(&p->engine, record, input, p->next_session++, text, length)))
+        close_with(p, "amqp:resource-limit-exceeded");
 }
 
-static void ended(struct peer *p, uint32_t session)
+/* A frame that was refused is answered as the standard says: by an End or a Close with the refusal's condition, if one is due. */
+static void refused(struct peer *p, const amqp1_record *record, const uint8_t *input, size_t length)
 {
-    uint32_t state = AMQP1_SESSION_UNMAPPED;
-    int is_there;
-    drop_links(p, NULL, session);
-    if (!amqp1_session_state(&p->engine, session, &state, &is_there) && is_there && state == AMQP1_SESSION_END_RECEIVED)
-        told(p, "an end", amqp1_end(&p->engine, session, NULL, 0));
-    told(p, "a release", amqp1_release(&p->engine, session));
-    told(p, "a session that is over", amqp1_forget(&p->engine, session));
+    char text[128] = { 0 };
+    size_t written;
+    uint32_t state = AMQP1_STATE_CLOSE_SENT;
+    int32_t status = amqp1_answer(&p->engine, record, input, length, AMQP1_ANSWER_REFUSALS, 0);
+    told(p, "a text", amqp1_refusal_text(&p->engine, record->refusal, (uint8_t *)text, sizeof text - 1, &written));
+    fprintf(stderr, "%d: refused: %.*s\n", p->fd, (int)strcspn(text, "\n"), text);
+    if (status == AMQP1_NOTHING || told(p, "an answer", status))
+        return;
+    drop_links(p, NULL, record->session);
+    if (told(p, "a state", amqp1_state(&p->engine, &state)) || state == AMQP1_STATE_CLOSE_SENT)
+        p->is_over = 1;
+}
+
+/* A client ends a session, or closes: this side does too. */
+static void ended(struct peer *p, const amqp1_record *record, const uint8_t *input, size_t length)
+{
+    drop_links(p, NULL, record->session);
+    told(p, "an end", amqp1_answer(&p->engine, record, input, length, AMQP1_ANSWER_ENDS, 0));
+}
+
+static void closed(struct peer *p, const amqp1_record *record, const uint8_t *input, size_t length)
+{
+    told(p, "a close", amqp1_answer(&p->engine, record, input, length, AMQP1_ANSWER_CLOSES, 0));
+    p->is_over = 1;
 }
 
 static void detached(struct peer *p, const amqp1_record *record)
@@ -281,7 +290,7 @@ static void detached(struct peer *p, const amqp1_record *record)
     drop_links(p, it, 0);
 }
 
-void read_record(struct peer *p, const amqp1_record *record, const uint8_t *input)
+void read_record(struct peer *p, const amqp1_record *record, const uint8_t *input, size_t length)
 {
     struct link *it = amqp1_has(record, AMQP1_FLAG_LINKED) ? link_of(p, record) : NULL;
     switch (record->kind) {
@@ -297,9 +306,9 @@ void read_record(struct peer *p, const amqp1_record *record, const uint8_t *inpu
             receive(p, it, record, input);
         break;
     case AMQP1_KIND_DETACHED: detached(p, record); break;
-    case AMQP1_KIND_ENDED: ended(p, record->session); break;
-    case AMQP1_KIND_CLOSED: close_with(p, NULL); break;
-    case AMQP1_KIND_REFUSED: refused(p, record); break;
+    case AMQP1_KIND_ENDED: ended(p, record, input, length); break;
+    case AMQP1_KIND_CLOSED: closed(p, record, input, length); break;
+    case AMQP1_KIND_REFUSED: refused(p, record, input, length); break;
     default: break;
     }
 }

@@ -49,14 +49,11 @@ int told(struct peer *p, const char *what, int32_t status);
 void put_out(struct peer *p, const void *bytes, size_t length);
 void collect(struct peer *p);
 
-/* A client begins a session: this side begins one for it, and turns the two Begins. */
-void begin(struct peer *p, const amqp1_record *record, const uint8_t *input);
-
-/* Ends a session, or closes the connection, with an error of this condition, or with none. */
+/* Ends a session, or closes the connection, with an error of this condition. */
 void end_with(struct peer *p, uint32_t session, const char *condition);
 void close_with(struct peer *p, const char *condition);
 
-void read_record(struct peer *p, const amqp1_record *record, const uint8_t *input);
+void read_record(struct peer *p, const amqp1_record *record, const uint8_t *input, size_t length);
 void serve(struct peer *p);
 void drop_links(struct peer *p, const struct link *one, uint32_t session);
 void free_queues(void);

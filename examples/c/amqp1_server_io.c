@@ -1,4 +1,4 @@
-/* The bytes of the server: epoll, the time, and the turn of a Begin. See amqp1_server.c. */
+/* The bytes of the server: epoll, and the time. See amqp1_server.c. */
 #define _GNU_SOURCE
 #include "amqp1_server.h"
 #include <errno.h>
@@ -54,28 +54,6 @@ void collect(struct peer *p)
     } while (length && !p->is_over);
 }
 
-/* What waits goes out first: then this side's Begin is all that the engine gives, and its channel stands in it. */
-void begin(struct peer *p, const amqp1_record *record, const uint8_t *input)
-{
-    uint8_t text[64], own[128], turned[4096];
-    uint32_t session = p->next_session++;
-    amqp1_bytes theirs = amqp1_bytes_at(input + record->at - 8, record->size + 8);
-    amqp1_record begun;
-    amqp1_took took;
-    size_t length;
-    collect(p);
-    if (told(p, "a begin's text", amqp1_write_begin(text, sizeof text, &length, 0, 2048, 2048, 255)) ||
-        told(p, "a begin", amqp1_begin(&p->engine, session, text, length)) ||
-        told(p, "output", amqp1_output(&p->engine, own, sizeof own, &length))) {
-        close_with(p, "amqp:resource-limit-exceeded");
-        return;
-    }
-    put_out(p, turned, amqp1_turn_begin(turned, sizeof turned, amqp1_bytes_at(own, length), record->channel));
-    length = amqp1_turn_begin(turned, sizeof turned, theirs, (uint16_t)(own[6] << 8 | own[7]));
-    if (!length || told(p, "a turned begin", amqp1_take(&p->engine, now(), turned, length, &begun, 1, &took)) || begun.kind != AMQP1_KIND_BEGUN)
-        close_with(p, "amqp:not-implemented");
-}
-
 void end_with(struct peer *p, uint32_t session, const char *condition)
 {
     uint8_t text[256];
@@ -92,10 +70,9 @@ void end_with(struct peer *p, uint32_t session, const char *condition)
 void close_with(struct peer *p, const char *condition)
 {
     uint8_t text[256];
-    size_t length = 0;
-    if (condition && told(p, "an error", amqp1_write_error(text, sizeof text, &length, condition, NULL)))
-        condition = NULL;
-    told(p, "a close", amqp1_close(&p->engine, condition ? text : NULL, length));
+    size_t length;
+    if (!told(p, "an error", amqp1_write_error(text, sizeof text, &length, condition, NULL)))
+        told(p, "a close", amqp1_close(&p->engine, text, length));
     p->is_over = 1;
 }
 
@@ -107,7 +84,7 @@ static size_t take(struct peer *p, const uint8_t *in, size_t length)
     size_t at;
     int32_t status = amqp1_take(&p->engine, now(), in, length, records, 32, &took);
     for (at = 0; at < took.written && !p->is_over; at++)
-        read_record(p, records + at, in);
+        read_record(p, records + at, in, length);
     if (status != AMQP1_FULL && status != AMQP1_AGAIN && told(p, "what came", status))
         p->is_over = 1;
     collect(p);

@@ -42,7 +42,10 @@ enum amqp1_operation {
     AMQP1_LOGIN = 30,
     AMQP1_CHALLENGE = 31,
     AMQP1_RESPOND = 32,
-    AMQP1_IS_OVER = 33
+    AMQP1_IS_OVER = 33,
+    AMQP1_BEGIN_ANSWER = 34,
+    AMQP1_END_ANSWER = 35,
+    AMQP1_LET_GO = 36
 };
 
 /* The state of the connection (AMQP 1.0 part 2, section 2.4.6). */
@@ -119,6 +122,27 @@ int32_t amqp1_call(amqp1 *place, uint32_t operation, const uint8_t *input, size_
    records that were written are to be read. Of an input of more than 4294967295 bytes the others are not looked at. */
 int32_t amqp1_take(amqp1 *place, uint64_t now, const uint8_t *input, size_t input_length, amqp1_record *records, size_t records_length,
                    amqp1_took *answer);
+
+/* Gives what a record asks for that amqp1_take wrote, of the answers that `flags` names, which are AMQP1_ANSWER_BEGINS and those beside it. `input` is
+   the one of that call: there the record's frame stands. The answers wait for amqp1_output.
+
+   - BEGINS: a Begin of the peer's (section 2.5.1) is answered by a session of this `number`, which no session had before (else it is REFUSED,
+     `SessionInUse`), with windows of 5000 transfers. Of any other record the number says nothing. Count it on after each Begin: numbers that are
+     given in order take least memory.
+   - ENDS: an End of the peer's (section 2.5.3) is answered by one without an error, unless this side has ended the session before; and the session is
+     let go: its channel is given back, and it is forgotten.
+   - CLOSES: a Close of the peer's (section 2.4.3) is answered by one without an error.
+   - REFUSALS: a frame that was refused is answered by the End of its session or by a Close, with the condition that amqp1_refusal_text tells, where
+     one is due (sections 2.8.15 to 2.8.17). None is once this side has closed.
+
+   Every other record, an Attach that wants an answer too, asks for none: NOTHING, and so where the flags do not name the answer.
+
+   DONE. NO_MEMORY: nothing changed but that some of what waited may be sent; ask again. BAD_ARGUMENT where `input` has no Begin there that answers none:
+   nothing changed. REFUSED, by a name that amqp1_refusal tells: of a Begin `NotOpened` where the connection is not open, `ChannelInUse` where its channel
+   leads to a session, and the engine's name where no session begins, as `SessionInUse` or `ChannelMaxReached`; of all others that of the End or the Close,
+   as `Over`. LOST, BROKEN: see amqp1_answer_begin. NOT_RELEASED, NOT_FORGOTTEN: see amqp1_let_go. */
+int32_t amqp1_answer(amqp1 *place, const amqp1_record *record, const uint8_t *input, size_t input_length, uint16_t flags,
+                     uint32_t number);
 
 /* Tells the time, in milliseconds, and does what is due (section 2.4.5): from both Opens on an empty frame, where nothing was sent for half of the
    peer's idle-time-out; a Close for amqp:resource-limit-exceeded, where nothing came for as long as this side's own; and the end of a connection of

@@ -33,7 +33,12 @@ enum amqp1_status {
     AMQP1_AGAIN = 10,       /* of amqp1_take: what was told last is to be answered, or what follows is of another layer. Then give the rest again */
     AMQP1_WAITS = 11,       /* of amqp1_take: amqp1_login, amqp1_challenge or amqp1_respond comes first */
     AMQP1_OVER = 12,        /* of amqp1_take and amqp1_send: the connection is over, and nothing is taken any more */
-    AMQP1_TOO_LARGE = 13    /* of amqp1_take: the SASL frame to send would have more than 512 bytes (part 5, section 5.3.1) */
+    AMQP1_TOO_LARGE = 13,   /* of amqp1_take: the SASL frame to send would have more than 512 bytes (part 5, section 5.3.1) */
+    AMQP1_NOTHING = 14,     /* of amqp1_answer: the record asks for no answer, or for none that was named, or none is due. Nothing changed */
+    AMQP1_LOST = 15,        /* of an answer to a Begin: memory was refused once the engine had begun. Its number is used, and the peer has no answer */
+    AMQP1_BROKEN = 16,      /* of an answer to a Begin: it waits to be sent, and memory was refused for the peer's. Close the connection */
+    AMQP1_NOT_RELEASED = 17, /* of an answer to an End: the session's channel was not given back; amqp1_refusal tells why */
+    AMQP1_NOT_FORGOTTEN = 18 /* of an answer to an End: the channel was given back, and the session not let go; amqp1_refusal tells why */
 };
 
 /* What a frame was. A record of a kind that is not named here is of a later version: pass over it. */
@@ -49,7 +54,7 @@ enum amqp1_kind {
     AMQP1_KIND_ENDED = 9,         /* an End (section 2.7.8) */
     AMQP1_KIND_CLOSED = 10,       /* a Close (section 2.7.9) */
     AMQP1_KIND_REFUSED = 11,      /* a frame that was refused, or bytes that are none: `refusal` says why */
-    /* a Begin that answers none, on a channel that leads to no session: the peer begins one (section 2.5.1). It was refused: see amqp1_turn_begin */
+    /* a Begin that answers none, on a channel that leads to no session: the peer begins one (section 2.5.1). It was refused: see amqp1_answer_begin */
     AMQP1_KIND_BEGIN_WANTED = 12,
     AMQP1_KIND_SASL_HEADER = 13,  /* the peer's header of SASL (section 2.2; part 5, section 5.3.1) */
     AMQP1_KIND_AMQP_HEADER = 14,  /* the peer's header of AMQP (section 2.2): the stream is open, and frames follow */
@@ -82,6 +87,15 @@ enum amqp1_flag {
     AMQP1_FLAG_FORMATTED = 8192, /* a transfer gives the format of its message, in `format` */
     AMQP1_FLAG_TAGGED = 16384,   /* a transfer gives the tag of its delivery, of `tag_size` bytes */
     AMQP1_FLAG_AVAILABLE = 32768 /* a flow says how many messages are ready, in `available` */
+};
+
+/* The answers that amqp1_answer may give: a program names those that it does not give itself. No flag changes its meaning. */
+enum amqp1_answers {
+    AMQP1_ANSWER_BEGINS = 1,   /* a Begin by which the peer begins a session, of AMQP1_KIND_BEGIN_WANTED */
+    AMQP1_ANSWER_ENDS = 2,     /* an End of the peer's, of AMQP1_KIND_ENDED; its session is let go */
+    AMQP1_ANSWER_CLOSES = 4,   /* a Close of the peer's, of AMQP1_KIND_CLOSED */
+    AMQP1_ANSWER_REFUSALS = 8, /* a frame that was refused, of AMQP1_KIND_REFUSED */
+    AMQP1_ANSWER_ALL = 15      /* all of them */
 };
 
 /* Which side of SASL a stream is on (part 5, section 5.3). */
@@ -189,7 +203,7 @@ enum amqp1_why {
     AMQP1_WHY_UNEXPECTED_SASL = 108 /* a SASL frame that has no place there */
 };
 
-/* Why a Begin that answers none was refused: see amqp1_turn_begin. */
+/* Why a Begin that answers none was refused: see amqp1_answer_begin. */
 #define AMQP1_WHY_BEGIN_WANTED AMQP1_WHY_CONNECTION_NOT_IMPLEMENTED
 
 /* No session, or no link, in a record. A handle of that number is told by AMQP1_FLAG_LINKED. */

@@ -370,8 +370,8 @@ AMQP1_FUNCTION AMQP1_CHECKED int32_t amqp1_write_data(uint8_t *out, size_t room,
     return amqp1_written(&text, written);
 }
 
-/* A server's answer to a session that the peer begins (section 2.5.1). The engine refuses a Begin that answers none (AMQP1_KIND_REFUSED with
-   AMQP1_WHY_BEGIN_WANTED). So the server begins a session of its own for it, and turns the two: the frame of its own Begin, which amqp1_output
+/* A server's answer to a session that the peer begins (section 2.5.1), by hand: amqp1_answer_begin does it in one call. The engine refuses a Begin that
+   answers none (AMQP1_KIND_BEGIN_WANTED, by AMQP1_WHY_BEGIN_WANTED). So the server begins a session of its own for it, and turns the two: the frame of its own Begin, which amqp1_output
    gave, goes out with the peer's channel in it, and the frame of the peer's Begin goes in by amqp1_take once more, with the channel of its own.
 
    Writes the frame of a Begin, with its size and its header, as the answer to the one on the channel `remote_channel`. 0 where the bytes are no such

@@ -74,7 +74,7 @@ static void try_openings(void)
 /* An operation that does not exist, and no input or a very long one for each that does. */
 static void try_any_input(amqp1 *engine)
 {
-    static const uint32_t none_such[] = { 0, 1, 17, 22, 26, 34, 35, 255, UINT32_MAX };
+    static const uint32_t none_such[] = { 0, 1, 17, 22, 26, 37, 38, 255, UINT32_MAX };
     size_t many = 10 << 20, written, at;
     uint8_t *input = (uint8_t *)malloc(many), none[1] = { 0 }, out[64];
     uint32_t operation;

@@ -52,7 +52,7 @@ void try_records(void)
     STANDS(amqp1_parts, more, 40, 4);
     STANDS(amqp1_parts, refusal, 44, 4);
     CHECK(amqp1_version() >> 16 == AMQP1_VERSION_MAJOR && amqp1_version() == AMQP1_VERSION_NUMBER);
-    CHECK(!strcmp(amqp1_status_name(AMQP1_SHORT), "SHORT") && !strcmp(amqp1_status_name(-1), "unknown") && !strcmp(amqp1_status_name(13), "TOO_LARGE") && !strcmp(amqp1_status_name(14), "unknown"));
+    CHECK(!strcmp(amqp1_status_name(AMQP1_SHORT), "SHORT") && !strcmp(amqp1_status_name(-1), "unknown") && !strcmp(amqp1_status_name(13), "TOO_LARGE") && !strcmp(amqp1_status_name(18), "NOT_FORGOTTEN") && !strcmp(amqp1_status_name(19), "unknown"));
     CHECK(!strcmp(amqp1_kind_name(AMQP1_KIND_REFUSED), "Refused") && !strcmp(amqp1_kind_name(AMQP1_KIND_NOT_OPENED), "NotOpened") && !strcmp(amqp1_kind_name(21), "unknown"));
 }
 

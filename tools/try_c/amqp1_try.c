@@ -165,6 +165,7 @@ int main(int count, char **words)
     try_cuts();
     try_writers();
     try_peers();
+    try_sessions();
     try_pairs();
     try_streams();
     if (count > 1)

@@ -94,6 +94,7 @@ void try_refused_sends(void);
 void try_cuts(void);
 void try_writers(void);
 void try_peers(void);
+void try_sessions(void);
 void try_pairs(void);
 void try_streams(void);
 /* The exchanges in the file of this name: what goes out, and what is refused; and recordings: records, and what is refused. */

@@ -14,7 +14,7 @@ trap 'rm -rf "$folder"' EXIT
 passed=0 failed=0
 . tools/try_c/counting.sh
 include=$prefix/include library=$prefix/lib
-tests=(tools/try_c/amqp1_{try,bytes,places,inputs,operations,takes,links,sends,cuts,writers,peers,pairs,streams,recorded}.c)
+tests=(tools/try_c/amqp1_{try,bytes,places,inputs,operations,takes,links,sends,cuts,writers,peers,sessions,pairs,streams,recorded}.c)
 strict=(-Wall -Wextra -Wpedantic -Wconversion -Wshadow -Werror -I"$include" -Itools/try_c)
 sanitized=(-g -O1 -fsanitize=address,undefined -fno-sanitize-recover=undefined)
 recorded=("$folder/exchanges" "$folder/recorded")
@@ -68,11 +68,11 @@ replayed() {
         "$folder/alone" "$folder"/corpus/*
 }
 
-# Runs the connection of amqp1_refused.c with the N-th request for memory refused, for N = 1 and up, until a run makes fewer requests.
+# Runs the connection of a file, as amqp1_refused.c, with the N-th request for memory refused, for N = 1 and up, until a run makes fewer requests.
 each_refused() {
-    local n seen=0 bad=0
+    local file=$1 n seen=0 bad=0
     cc -O2 -shared -fPIC tools/gate/refuse_nth.c -o "$folder/refuse.so" -ldl
-    cc -g -O1 -std=c99 "${strict[@]}" tools/try_c/amqp1_{refused,bytes}.c "$library/libamqp1.a" -o "$folder/refused"
+    cc -g -O1 -std=c99 "${strict[@]}" tools/try_c/amqp1_{"$file",bytes}.c "$library/libamqp1.a" -o "$folder/refused"
     "$folder/refused" >"$folder/wanted"
     for n in $(seq 2000); do
         if ! REFUSE_NTH=$n REFUSE_LOG=$folder/log LD_PRELOAD=$folder/refuse.so timeout 20 "$folder/refused" >"$folder/told" ||
@@ -131,7 +131,8 @@ if has valgrind "all tests in C but the recordings, under valgrind"; then
     valgrind=(valgrind -q --error-exitcode=9 --leak-check=full --errors-for-leak-kinds=all)
     holds "under valgrind, and nothing is left" timeout 1200 "${valgrind[@]}" "$folder/tests"
 fi
-counts "each request for memory refused" each_refused
+counts "each request for memory refused" each_refused refused
+counts "each request for memory of a server's answers refused" each_refused answers
 counts "over Python" python3 tools/try_c/amqp1_library.py "$library/libamqp1.so"
 has pkg-config "the file for it" && holds "by pkg-config" by_pkg_config
 has cmake "the file for it" && holds "by CMake" by_cmake

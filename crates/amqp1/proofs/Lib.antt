@@ -1,3 +1,4 @@
+pub mod AnsweringLemmas
 pub mod AskingLemmas
 pub mod ClientLemmas
 pub mod LinkingLemmas

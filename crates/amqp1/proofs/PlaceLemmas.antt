@@ -20,6 +20,7 @@ use Rattle.amqp1.specs.declared.exports.Went.{Went}
 use Rattle.amqp1.specs.declared.how.How.{How}
 use Rattle.amqp1.specs.declared.logins.LoginHead.{LoginHead}
 use Rattle.amqp1.specs.Ticking.{ticked_of}
+use Rattle.amqp1.specs.Answering.{AnswersOne}
 use Rattle.amqp1.specs.Client.{Calls}
 use Rattle.amqp1.specs.ClientView.{ClientView}
 use Rattle.amqp1.specs.Making.{Makes}
@@ -28,7 +29,7 @@ use Rattle.amqp1.specs.Status.{status_number, taken_status}
 use Rattle.amqp1.specs.declared.operation.Operation.{Operation}
 use Rattle.amqp1.specs.declared.status.Status.{Status}
 use Rattle.amqp1.specs.declared.status.Status.TheVariants as status
-use Rattle.amqp1.specs.Place.{CallsThere, CutsThere, MadeThere, SendsThere, TakesThere, TicksThere}
+use Rattle.amqp1.specs.Place.{AnswersThere, CallsThere, CutsThere, MadeThere, SendsThere, TakesThere, TicksThere}
 
 -- what is said of what is there is so
 pub of_some : {B : Type 0} (P : B → Type 0) (r : Option B) (x : B) → r ≡ Some x → IsSomeAnd r P → P x
@@ -49,6 +50,11 @@ kept_number status.Again = refl
 kept_number status.Waits = refl
 kept_number status.Over = refl
 kept_number status.TooLarge = refl
+kept_number status.Nothing = refl
+kept_number status.Lost = refl
+kept_number status.Broken = refl
+kept_number status.NotReleased = refl
+kept_number status.NotForgotten = refl
 
 kept : (s : Status) (z : ℤ) → z ≡ pos (status_number s) → to_z w32 (of_z w32 z) ≡ z
 kept s z e = subst (λ (x : ℤ). to_z w32 (of_z w32 x) ≡ x) (sym e) (kept_number s)
@@ -124,6 +130,19 @@ ticks_there g before after now z a t was is b f e ticks last answer = record {
   ticks = ticks;
   last_is = last;
   answer_is = answer;
+}
+
+pub answers_there : (g : Relays PlainRelay) (before after : Option ClientView) (flags n : ℕ) (r : Record) (input : List ℕ) (z : ℤ) (s : Status) (was is : ClientView)
+    → before ≡ Some was → after ≡ Some is → z ≡ pos (status_number s) → AnswersOne g was flags n r input s is
+    → AnswersThere g before flags n r input (to_z w32 (of_z w32 z)) after
+answers_there g before after flags n r input z s was is b f e answers = record {
+  was = was;
+  is = is;
+  lay_there = b;
+  lies_there = f;
+  said = s;
+  status_is = kept s z e ∙ e;
+  answers = answers;
 }
 
 -- a head was cut by the driver of a client that lies in a place again

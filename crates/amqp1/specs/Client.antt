@@ -20,6 +20,7 @@ use Rattle.amqp1.specs.declared.operation.Group.{Group}
 use Rattle.amqp1.specs.declared.operation.Group.TheVariants as group
 use Rattle.amqp1.specs.declared.status.Status.{Status}
 use Rattle.amqp1.specs.declared.status.Status.TheVariants as status
+use Rattle.amqp1.specs.Answering.{PerformsAnswerBegin, PerformsAnswerEnd, PerformsLetGo}
 use Rattle.amqp1.specs.Asked.{AllotsOn, Answers, PerformsDispose}
 use Rattle.amqp1.specs.ClientView.{ClientView}
 use Rattle.amqp1.specs.LoggingIn.{PerformsChallenge, PerformsLogin, PerformsRespond}
@@ -137,6 +138,9 @@ PerformsBy group.Bare g o c input old s n c' new = IfEmpty g o c input old s n c
 PerformsBy group.Logs g o c input old s n c' new = PerformsLogin c input s c' × (n ≡ 0) × (new ≡ old)
 PerformsBy group.Challenges g o c input old s n c' new = PerformsChallenge c input s c' × (n ≡ 0) × (new ≡ old)
 PerformsBy group.Responds g o c input old s n c' new = PerformsRespond c input s c' × (n ≡ 0) × (new ≡ old)
+PerformsBy group.AnswersBegin g o c input old s n c' new = PerformsAnswerBegin g c input s c' × (n ≡ 0) × (new ≡ old)
+PerformsBy group.AnswersEnd g o c input old s n c' new = PerformsAnswerEnd g c input s c' × (n ≡ 0) × (new ≡ old)
+PerformsBy group.LetsGo g o c input old s n c' new = PerformsLetGo g c input s c' × (n ≡ 0) × (new ≡ old)
 PerformsBy group.Asks g o c input old s n c' new = Answers g o input c s c' × (n ≡ 0) × (new ≡ old)
 
 abbrev pub Performs : Relays PlainRelay → Operation → ClientView → List ℕ → List ℕ → Status → ℕ → ClientView → List ℕ → Type 0

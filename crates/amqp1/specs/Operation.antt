@@ -36,6 +36,9 @@ operation_number op.Login = 30
 operation_number op.Challenge = 31
 operation_number op.Respond = 32
 operation_number op.IsOver = 33
+operation_number op.AnswerBegin = 34
+operation_number op.AnswerEnd = 35
+operation_number op.LetGo = 36
 
 -- the operation of this number, or there is none
 abbrev pub IsOperation : ℕ → Option Operation → Type 0
@@ -61,4 +64,7 @@ group_of op.IsOver = group.Bare
 group_of op.Login = group.Logs
 group_of op.Challenge = group.Challenges
 group_of op.Respond = group.Responds
+group_of op.AnswerBegin = group.AnswersBegin
+group_of op.AnswerEnd = group.AnswersEnd
+group_of op.LetGo = group.LetsGo
 group_of o = group.Asks

@@ -22,6 +22,7 @@ use Rattle.amqp1.specs.declared.logins.LoginHead.{LoginHead}
 use Rattle.amqp1.specs.declared.operation.Operation.{Operation}
 use Rattle.amqp1.specs.declared.status.Status.{Status}
 use Rattle.amqp1.specs.declared.status.Status.TheVariants as status
+use Rattle.amqp1.specs.Answering.{AnswersOne}
 use Rattle.amqp1.specs.Client.{Calls}
 use Rattle.amqp1.specs.ClientView.{ClientView}
 use Rattle.amqp1.specs.Making.{Makes}
@@ -61,6 +62,17 @@ pub record TakesThere (g : Relays PlainRelay) (before : Option ClientView) (now 
   pub status_is : Is z (taken_status why)
   pub takes : TakesStream g was.stream now (seen input) old why answer.taken answer.written answer.wanted is.stream new
   pub last_is : is.last ≡ was.last
+
+-- The stream of the client that lay there gives what a record asks for, of the answers that the flags name; and that client lies there again.
+pub record AnswersThere (g : Relays PlainRelay) (before : Option ClientView) (flags n : ℕ) (r : Record) (input : List ℕ) (z : ℤ)
+    (after : Option ClientView) : Type 0 where
+  pub was : ClientView
+  pub is : ClientView
+  pub lay_there : before ≡ Some was
+  pub lies_there : after ≡ Some is
+  pub said : Status
+  pub status_is : Is z said
+  pub answers : AnswersOne g was flags n r input said is
 
 -- A head is cut by the limit of the peer of the client that lay there, and that client lies there again. Or memory was refused.
 pub record CutsThere (before : Option ClientView) (head : TransferHead) (bytes : List ℕ) (old : Cut) (z : ℤ) (new : Cut)

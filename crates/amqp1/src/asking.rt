@@ -152,7 +152,7 @@ fn begun<R>(session: u32, begin: Begin) -> Result<Input<R>, ReadError>
 }
 
 /// The settings that a Begin names.
-fn settings_of(begin: Begin) -> SessionSettings
+pub(crate) fn settings_of(begin: Begin) -> SessionSettings
     ensures { result ≡ settings_of begin }
 {
     SessionSettings {

@@ -13,6 +13,7 @@ ghost use Rattle.amqp1.specs.Operation.{IsOperation, group_of};
 ghost use Rattle.amqp1.specs.Making.{BeginsAs, Makes, is_zero, unread_of};
 ghost use Rattle.amqp1.specs.Client.{Calls, Performs, IfEmpty};
 
+mod answering;
 mod logging_in;
 mod requesting;
 mod telling;
@@ -211,6 +212,9 @@ impl Client {
             Group::Logs => (self.login(input), 0),
             Group::Challenges => (self.challenge(input), 0),
             Group::Responds => (self.respond(input), 0),
+            Group::AnswersBegin => (self.answer_begin(input), 0),
+            Group::AnswersEnd => (self.answer_end(input), 0),
+            Group::LetsGo => (self.let_go(input), 0),
             Group::Asks => (self.ask(operation, input), 0),
         }
     }

@@ -3,7 +3,7 @@
 ghost use Rattle.std.specs.Prelude.{◌≡◌, ◌<◌, ◌⊎◌, Some};
 ghost use Rattle.amqp_memory.specs.Refusal.{SomeRefused};
 ghost use Rattle.amqp1.specs.declared.status.Status.TheVariants as status;
-ghost use Rattle.amqp1.specs.Place.{CallsThere, CutsThere, Is, MadeThere, SendsThere, TakesThere, TicksThere};
+ghost use Rattle.amqp1.specs.Place.{AnswersThere, CallsThere, CutsThere, Is, MadeThere, SendsThere, TakesThere, TicksThere};
 ghost use Rattle.amqp1.specs.Ticking.{due_number, next_number, ticked_of};
 
 use crate::client::Client;
@@ -158,6 +158,32 @@ pub extern "C" fn amqp1_take(
             answer.wanted = took.wanted;
             *place = Place::of(client);
             Status::of_driver(took.status).number()
+        }
+    }
+}
+
+/// Gives what a record asks for that `amqp1_take` wrote, of the answers that `flags` names, by `Stream::answer`: `input` is the one of that call, and
+/// `number` that of a session that begins. What became of it is the status. `NO_ENGINE` where no client lies in the place.
+#[unsafe(no_mangle)]
+pub extern "C" fn amqp1_answer(
+    alloc: Global,
+    place: &mut Place,
+    record: &Record,
+    input: &[u8],
+    flags: u16,
+    number: u32,
+) -> i32
+    ensures empty { place.old.full ≡ 0 → Is result status.NoEngine × (place.new.full ≡ 0) }
+    ensures answered { 0 < place.old.full → (0 < place.new.full)
+        × AnswersThere ⟦<PlainRelay as LinkRelay>⟧.gives place.old.slot.held flags number «record».now input.now result place.new.slot.held }
+{
+    let old = std::mem::replace(place, Place::empty(alloc));
+    match old.into_client() {
+        None => Status::NoEngine.number(),
+        Some(mut client) => {
+            let status = client.answer(record, input, flags, number);
+            *place = Place::of(client);
+            status.number()
         }
     }
 }

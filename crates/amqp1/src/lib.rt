@@ -1,8 +1,8 @@
-//! The library for C: an engine in a place that the caller keeps, and eight functions over it.
+//! The library for C: an engine in a place that the caller keeps, and nine functions over it.
 //!
 //! An engine is one side of a connection from its first byte to its last: an `amqp_driver::Stream`, and the last refusal of a request. It lies in a
-//! [`place::Place`], or nothing does. `amqp1_new` makes it, `amqp1_take` takes what came and writes a record of each thing, `amqp1_tick` tells the
-//! time, `amqp1_send` sends transfers, `amqp1_cut` cuts long ones, `amqp1_call` does one operation of those below, and `amqp1_free` lets it go.
+//! [`place::Place`], or nothing does. `amqp1_new` makes it, `amqp1_take` takes what came and writes a record of each thing, `amqp1_answer` gives
+//! what a record asks for, `amqp1_tick` tells the time, `amqp1_send` sends transfers, `amqp1_cut` cuts long ones, `amqp1_call` does one operation of those below, and `amqp1_free` lets it go.
 //! `amqp1_version` is 256: 0.1.0. `include/amqp1.h` declares them.
 //!
 //! Nothing is kept of what came: bytes that `amqp1_take` did not take are given again, with what came since. Records say where payloads and
@@ -55,6 +55,9 @@
 //! | 31 | `Challenge` | the challenge | a server asks a client for more |
 //! | 32 | `Respond` | the response | a client answers a challenge |
 //! | 33 | `IsOver` | none | u8: 1 where the connection is over, else 0 |
+//! | 34 | `AnswerBegin` | u32 session, u32 length of PERF, PERF of a Begin without remote-channel, the peer's frame behind its size | a session begins, with what PERF says, as the answer to the peer's Begin |
+//! | 35 | `AnswerEnd` | u32 session, and on as in 3 | a session that the peer has ended is ended by this side too, and let go |
+//! | 36 | `LetGo` | u32 session | a session that both sides have ended gives its channel back, and is let go: 6 and 7 |
 //!
 //! # Statuses
 //!
@@ -80,6 +83,14 @@
 //! - 11 `WAITS`: `Login`, `Challenge` or `Respond` comes first.
 //! - 12 `OVER`: the connection is over, and nothing is taken any more.
 //! - 13 `TOO_LARGE`: the SASL frame to send would have more than 512 bytes.
+//! - 14 `NOTHING`, of `amqp1_answer`: the record asks for no answer, or for none that was named, or none is due. Nothing changed.
+//! - 15 `LOST` and 16 `BROKEN`, of an answer to a Begin: memory was refused once the engine had begun. After the first the number is used, and the peer has no
+//!   answer; after the second it has one, and its Begin was not taken: the connection cannot go on.
+//! - 17 `NOT_RELEASED` and 18 `NOT_FORGOTTEN`, of an answer to an End, and of `LetGo`: what was before is done, and the channel was not given back; or it was,
+//!   and the session was not let go. `Refusal` says why.
+//!
+//! An answer to a Begin is `REFUSED` as `NotOpened`, `ChannelInUse`, `TooLarge`, or by the engine's name, and one to an End as `NotEnded`; it is
+//! `BAD_ARGUMENT` also where the frame is no Begin that answers none. `amqp_driver::BeginAnswer` and `EndAnswer` say what has changed then.
 //!
 //! # What is proved, and what is not
 //!
@@ -89,8 +100,9 @@
 //!
 //! `specs/Place` has the contracts. `amqp1_take`, `amqp1_tick` and `amqp1_send` promise all that `Stream::take`, `tick` and `send` do: which header or
 //! SASL frame was taken, and that no frame is run before a login where one is asked for; which frames were run, each once and in order, and the
-//! record of each; what was due; which heads were handled, and what became of each. `specs/Making` says which stream is made. `specs/Client` says of
-//! each operation what it does. A request is one run of the engine with the one input that its bytes ask for, or its bytes ask for none, or for a transfer whose
+//! record of each; what was due; which heads were handled, and what became of each. `amqp1_answer` promises what `Stream::answer` does, and `specs/Answering`
+//! the same of the operations 34 to 36; the status and the last refusal say what became of it. `specs/Making` says which stream is made. `specs/Client` says of
+//! each operation what it does. Any other request is one run of the engine with the one input that its bytes ask for, or its bytes ask for none, or for a transfer whose
 //! link is not attached (`specs/Finding`). What `Output` writes is a front of what waits, as much as fits, and waits no longer. The
 //! name of a number is that of each refusal that has it (`specs/Names`). An output that is too small stays as it is, and so does all else.
 //!
@@ -98,6 +110,7 @@
 //! `tools/try_c` see to these.
 #![tactic(auto)]
 
+mod answering;
 mod asking;
 mod client;
 mod disposing;

@@ -64,6 +64,12 @@ pub enum Operation {
     Respond,
     /// 33: whether the stream is over.
     IsOver,
+    /// 34: a Begin of the peer's is answered.
+    AnswerBegin,
+    /// 35: an End of the peer's is answered, and its session is let go.
+    AnswerEnd,
+    /// 36: a session that both sides have ended is let go.
+    LetGo,
 }
 
 impl Operation {
@@ -101,6 +107,9 @@ impl Operation {
             31 => Some(Operation::Challenge),
             32 => Some(Operation::Respond),
             33 => Some(Operation::IsOver),
+            34 => Some(Operation::AnswerBegin),
+            35 => Some(Operation::AnswerEnd),
+            36 => Some(Operation::LetGo),
             _ => None,
         }
     }
@@ -126,6 +135,9 @@ impl Operation {
             Operation::Login => Group::Logs,
             Operation::Challenge => Group::Challenges,
             Operation::Respond => Group::Responds,
+            Operation::AnswerBegin => Group::AnswersBegin,
+            Operation::AnswerEnd => Group::AnswersEnd,
+            Operation::LetGo => Group::LetsGo,
             _ => Group::Asks,
         }
     }
@@ -154,6 +166,12 @@ pub(crate) enum Group {
     Challenges,
     /// A response to a challenge.
     Responds,
+    /// The peer's Begin, and the session that answers it.
+    AnswersBegin,
+    /// A session that the peer has ended, and an error.
+    AnswersEnd,
+    /// A session that both sides have ended.
+    LetsGo,
     /// A request of the engine's.
     Asks,
 }

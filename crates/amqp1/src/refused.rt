@@ -1,7 +1,7 @@
 //! The last refusal: its name, and the condition that answers it, or the error with which the peer ended or closed.
 
 ghost use Rattle.std.specs.Prelude.{◌≡◌};
-ghost use Rattle.amqp1.specs.Refused.{nothing, over, too_large, unattached, wrong_time, refused_of, condition_said, peer_error};
+ghost use Rattle.amqp1.specs.Refused.{channel_in_use, condition_said, no_memory, not_ended, not_opened, nothing, over, peer_error, refused_of, too_large, unattached, wrong_time};
 
 use amqp_connection::ConnectionStateError;
 use amqp_engine::StepError;
@@ -80,6 +80,50 @@ impl Refused {
     {
         Refused {
             name: "WrongTime",
+            condition: "",
+            peer: None,
+        }
+    }
+
+    /// The answer to a Begin, where the connection is not open.
+    pub(crate) fn not_opened() -> Refused
+        ensures { result ≡ not_opened }
+    {
+        Refused {
+            name: "NotOpened",
+            condition: "",
+            peer: None,
+        }
+    }
+
+    /// The answer to a Begin whose channel leads to a session.
+    pub(crate) fn channel_in_use() -> Refused
+        ensures { result ≡ channel_in_use }
+    {
+        Refused {
+            name: "ChannelInUse",
+            condition: "",
+            peer: None,
+        }
+    }
+
+    /// The answer to the End of a session that the peer has not ended, or this side has too.
+    pub(crate) fn not_ended() -> Refused
+        ensures { result ≡ not_ended }
+    {
+        Refused {
+            name: "NotEnded",
+            condition: "",
+            peer: None,
+        }
+    }
+
+    /// Memory was refused before the engine was asked.
+    pub(crate) fn no_memory() -> Refused
+        ensures { result ≡ no_memory }
+    {
+        Refused {
+            name: "OutOfMemory",
             condition: "",
             peer: None,
         }

@@ -2,9 +2,9 @@
 
 ghost use Rattle.std.specs.Prelude.{◌≡◌, pos};
 ghost use Rattle.amqp1.specs.LoggingIn.{sasl_status};
-ghost use Rattle.amqp1.specs.Status.{flushed_status, status_number, status_of, taken_status};
+ghost use Rattle.amqp1.specs.Status.{begun_status, ended_status, flushed_status, status_number, status_of, taken_status};
 
-use amqp_driver::{Asked, Status as DriverStatus};
+use amqp_driver::{Asked, BeginAnswer, EndAnswer, Status as DriverStatus};
 use amqp_sasl::OpeningError;
 use std::alloc::AllocError;
 
@@ -37,6 +37,16 @@ pub enum Status {
     Over,
     /// The SASL frame to send would have more than 512 bytes.
     TooLarge,
+    /// A record asks for no answer, or for none that was named, or none is due. Nothing changed.
+    Nothing,
+    /// Of the answer to a Begin: memory was refused once the engine had begun, so the number is used, and the peer has no answer.
+    Lost,
+    /// Of the answer to a Begin: this side's was sent, and memory was refused for the peer's. The connection cannot go on.
+    Broken,
+    /// Of the answer to an End: the session's channel was not given back.
+    NotReleased,
+    /// Of the answer to an End: the session's channel was given back, and the session was not let go.
+    NotForgotten,
 }
 
 impl Status {
@@ -58,6 +68,11 @@ impl Status {
             Status::Waits => 11,
             Status::Over => 12,
             Status::TooLarge => 13,
+            Status::Nothing => 14,
+            Status::Lost => 15,
+            Status::Broken => 16,
+            Status::NotReleased => 17,
+            Status::NotForgotten => 18,
         }
     }
 
@@ -87,6 +102,36 @@ pub(crate) fn status_of(asked: &Asked) -> Status
         Asked::Done => Status::Done,
         Asked::TooLarge | Asked::Refused(_) | Asked::Over => Status::Refused,
         Asked::NoMemory => Status::NoMemory,
+    }
+}
+
+/// The status of an answer to a Begin of the peer's.
+pub(crate) fn begun_status(answer: &BeginAnswer) -> Status
+    ensures { result ≡ begun_status answer.now }
+{
+    match answer {
+        BeginAnswer::Done => Status::Done,
+        BeginAnswer::Unread(_) => Status::BadArgument,
+        BeginAnswer::NotOpened
+        | BeginAnswer::ChannelInUse
+        | BeginAnswer::TooLarge
+        | BeginAnswer::Refused(_) => Status::Refused,
+        BeginAnswer::NoMemory => Status::NoMemory,
+        BeginAnswer::Lost => Status::Lost,
+        BeginAnswer::Broken => Status::Broken,
+    }
+}
+
+/// The status of an answer to an End of the peer's.
+pub(crate) fn ended_status(answer: &EndAnswer) -> Status
+    ensures { result ≡ ended_status answer.now }
+{
+    match answer {
+        EndAnswer::Done => Status::Done,
+        EndAnswer::NotEnded => Status::Refused,
+        EndAnswer::Unsent(asked) => status_of(asked),
+        EndAnswer::NotReleased(_) => Status::NotReleased,
+        EndAnswer::NotForgotten(_) => Status::NotForgotten,
     }
 }
 

@@ -57,7 +57,7 @@ impl Client {
     }
 
     /// The status of a request. Its refusal is kept, if it is one.
-    fn note(&mut self, asked: Asked) -> Status
+    pub(super) fn note(&mut self, asked: Asked) -> Status
         ensures status { result ≡ status_of asked }
         ensures noted { self.new ≡ record self.old { last = last_by self.old.last self.old.stream.driver.engine.connection.state asked } }
     {
