@@ -10,7 +10,7 @@ use Rattle.amqp_driver.specs.Stream.{StreamView, waiting}
 use Rattle.amqp_transport.specs.declared.received.Came.{Came}
 use Rattle.amqp_transport.specs.declared.received.Came.TheVariants as came
 use Rattle.amqp_transport.specs.declared.exchanging.Round.{Round}
-use Rattle.amqp_transport.specs.Failing.{ReadFailed, NoMemory}
+use Rattle.amqp_transport.specs.Failing.{ReadFailed, WriteFailed, NoMemory}
 use Rattle.amqp_transport.specs.Received.{Reads}
 use Rattle.amqp_transport.specs.Exchange.{Exchanging, Exchanges, GoesOn, Looks, TakesAgain, TakesOf, exchanging, having_sent_all, wants_more}
 
@@ -52,3 +52,10 @@ pub not_read : {R : Type 0} (g : Relays R) (now : ℕ) (x m y : Exchanging R) (f
     → Exchanges g now x r y
 not_read g now x m y first (Ok t) is failed looks wants w c rest = absurd (let none : false ≡ true = is in cc)
 not_read g now x m y first (Err e) is failed looks wants w c rest = inr (m, first, looks, wants, (inr failed, w, c, rest))
+
+-- the writer failed as it was flushed
+pub not_flushed : {R : Type 0} (g : Relays R) (now : ℕ) (x m y : Exchanging R) (first : Taken) (r : Result Round Error) → IsErr r → IfErr r (λ e. WriteFailed e)
+    → Looks g now x first m → wants_more first ≡ true → Keeps m.written y.written → Keeps m.coming y.coming → y ≡ record m { coming = y.coming; written = y.written }
+    → Exchanges g now x r y
+not_flushed g now x m y first (Ok t) is failed looks wants w c rest = absurd (let none : false ≡ true = is in cc)
+not_flushed g now x m y first (Err e) is failed looks wants w c rest = inr (m, first, looks, wants, (inl failed, w, c, rest))

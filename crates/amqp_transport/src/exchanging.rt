@@ -57,7 +57,8 @@ pub fn write_waiting<R: LinkRelay, O: Write>(
 /// loop {
 ///     let round = exchange(&mut stream, now, &mut received, &mut records, &mut input, &mut output)?;
 ///     for record in &records[..round.taken.written] {
-///         stream.answer(record, received.bytes(), answers::ALL);
+///         stream.answer(record, received.bytes(), answers::ALL, SessionNo(next));
+///         next += u32::from(record.kind == kind::BEGIN_WANTED);
 ///     }
 ///     received.take(round.taken.taken);
 ///     if round.came == Some(Came::End) || stream.is_over() {

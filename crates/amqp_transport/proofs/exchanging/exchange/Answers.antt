@@ -1,7 +1,8 @@
 use Rattle.std.proofs.Common.{◌∙◌, refl, sym, ap, rules}
+use Rattle.std.proofs.KnownBytes.{Keeps-refl}
 use Rattle.amqp_transport.specs.Received.{ReceivedView}
 use Rattle.amqp_transport.specs.Exchange.{exchanging}
-use Rattle.amqp_transport.proofs.RoundLemmas.{looked, none_came, not_read, not_waited, some_came, waited}
+use Rattle.amqp_transport.proofs.RoundLemmas.{looked, none_came, not_flushed, not_read, not_waited, some_came, waited}
 use Rattle.amqp_transport.proofs.exchanging.exchange.Goals as goal
 
 pub returns-then-not-wants_more-clause-exchanges : goal.returns-then-not-wants_more-clause-exchanges
@@ -10,6 +11,15 @@ returns-then-not-wants_more-clause-exchanges g c =
     let looks = looked g.R.LinkRelay.gives c.args.now x c.put_waiting.new.stream (g.O.Write.contents c.put_waiting.new.output) c.bytes.result.now c.take-taken.result c.take-taken.new.self
     c.take-taken.new.records c.in_ok-put_waiting.ensures.written c.in_ok-put_waiting.ensures.sent c.bytes.ensures.value c.take-taken.ensures in
     not_waited g.R.LinkRelay.gives c.args.now x _ c.take-taken.result looks (sym c.wants_more.ensures ∙ c.if-not-wants_more.true)
+
+pub returns-in_err-flush-clause-exchanges : goal.returns-in_err-flush-clause-exchanges
+returns-in_err-flush-clause-exchanges g c =
+    let x = exchanging c.args.stream.now c.args.received.now c.args.records.now (g.I.Read.remaining c.args.input.now) (g.O.Write.contents c.args.output.now) in
+    let looks = looked g.R.LinkRelay.gives c.args.now x c.put_waiting.new.stream (g.O.Write.contents c.put_waiting.new.output) c.bytes.result.now c.take-taken.result c.take-taken.new.self
+    c.take-taken.new.records c.in_ok-put_waiting.ensures.written c.in_ok-put_waiting.ensures.sent c.bytes.ensures.value c.take-taken.ensures in
+    let y = exchanging c.take-taken.new.self c.args.received.now c.take-taken.new.records (g.I.Read.remaining c.args.input.now) (g.O.Write.contents c.flush.new.output) in
+    not_flushed g.R.LinkRelay.gives c.args.now x _ y c.take-taken.result c.from_residual-in_err-flush.result c.from_residual-in_err-flush.ensures.0 (search rules) looks
+    (sym c.wants_more.ensures ∙ c.if-not-wants_more.false) c.flush.ensures.keeps (Keeps-refl (g.I.Read.remaining c.args.input.now)) refl
 
 pub returns-in_err-came-clause-exchanges : goal.returns-in_err-came-clause-exchanges
 returns-in_err-came-clause-exchanges g c =
