@@ -1,4 +1,4 @@
-//! AMQP 1.0's frame, connection and session layer for Rust: a safe wrapper over the library for C. Two files, and no dependency.
+//! AMQP 1.0's frame, connection and session layer for Rust: a safe wrapper over the library for C. Four files, and no dependency.
 //!
 //! ```sh
 //! tools/build_c.sh PREFIX
@@ -12,9 +12,16 @@
 
 use std::{ffi::c_void, fmt};
 
+#[path = "amqp_engine_answering.rs"]
+mod answering;
+#[path = "amqp_engine_opening.rs"]
+mod opening;
 #[path = "amqp_engine_records.rs"]
 mod records;
 
+pub use answering::answers;
+pub use opening::{Due, Login, LoginCode, Opening, Tick};
+use opening::Ticked;
 use records::stop;
 pub use records::{Cut, NONE, Record, Sent, Stop, TransferHead, flag, kind};
 
@@ -84,6 +91,8 @@ unsafe extern "C" {
         records_length: usize,
         answer: *mut Took,
     ) -> i32;
+    fn amqp1_answer(place: *mut Place, record: *const Record, input: *const u8, input_length: usize, flags: u16, number: u32) -> i32;
+    fn amqp1_tick(place: *mut Place, now: u64, answer: *mut Ticked) -> i32;
     fn amqp1_send(
         place: *mut Place,
         heads: *const TransferHead,
@@ -106,7 +115,8 @@ enum Operation {
     Open = 2, Close, Begin, End, Release, Forget, Link, LinkOn, Attach, Detach, Flow, Transfer, Disposition, Settle, Output,
     Refusal = 18, RemoteOpen, MaxPieceLen, PayloadRoom,
     SessionOf = 23, State, SessionState,
-    Unfit = 27, RefusalText, Dispose,
+    Unfit = 27, RefusalText, Dispose, Login, Challenge, Respond, IsOver,
+    BeginAnswer, EndAnswer, LetGo,
 }
 
 /// Why a call did not do what was asked.
@@ -118,6 +128,10 @@ pub enum Error {
     NoMemory,
     /// The input is none of this operation's, as a performative that is another one.
     BadArgument,
+    /// Memory was refused once the engine had begun a session in answer to the peer's: its number is used, and the peer has no answer.
+    Lost,
+    /// Memory was refused for the peer's Begin, once this side's was sent: the connection is to be closed.
+    Broken,
     /// What this version of the library does not answer.
     Unknown(i32),
 }
@@ -139,6 +153,8 @@ impl fmt::Display for Error {
             Error::Refused(refusal) => write!(to, "refused: {}", refusal.name),
             Error::NoMemory => to.write_str("memory was refused"),
             Error::BadArgument => to.write_str("the input is none of this operation's"),
+            Error::Lost => to.write_str("memory was refused, and a session's number is used"),
+            Error::Broken => to.write_str("memory was refused, and the connection is to be closed"),
             Error::Unknown(status) => write!(to, "unknown status {status}"),
         }
     }
@@ -180,23 +196,13 @@ impl Drop for Engine {
 
 impl Engine {
     /// An engine with PERF of this side's Open. The key is of the engine's maps: the peer should not be able to guess it. One of zeros is `BadArgument`.
+    /// It begins behind the protocol headers, which its caller exchanges; one that [`Engine::with_opening`] makes begins with the stream's first byte.
     pub fn new(key: [u8; 16], open: &[u8]) -> Result<Engine, Error> {
-        let how = How { key, time: 0, limit: NONE, side: 0, host: NONE, reserved: 0 };
-        let logins: [LoginHead; 0] = [];
-        let mut engine = Engine { place: Place { full: 0, at: std::ptr::null_mut() } };
-        let status = unsafe {
-            amqp1_new(&mut engine.place, &how, open.as_ptr(), open.len(), logins.as_ptr(), 0, [0; 0].as_ptr(), 0)
-        };
-        match status {
-            0 => engine.pass_headers(),
-            2 => Err(Error::NoMemory),
-            4 => Err(Error::BadArgument),
-            status => Err(Error::Unknown(status)),
-        }
+        Engine::with_opening(key, open, &Opening::Plain, 0, None)?.behind_headers()
     }
 
-    /// This engine begins behind the protocol headers, which its caller exchanges: the library's stream is given the peer's, and its own is taken off.
-    fn pass_headers(mut self) -> Result<Engine, Error> {
+    /// The library's stream is given the peer's header, and its own is taken off.
+    fn behind_headers(mut self) -> Result<Engine, Error> {
         let mut header = [0; 8];
         let (status, _) = self.call(Operation::Output, &[], &mut header);
         self.outcome(status)?;
@@ -237,9 +243,11 @@ impl Engine {
     fn outcome(&mut self, status: i32) -> Result<(), Error> {
         match status {
             0 => Ok(()),
-            1 => Err(Error::Refused(self.refusal())),
+            1 | 17 | 18 => Err(Error::Refused(self.refusal())),
             2 => Err(Error::NoMemory),
             4 => Err(Error::BadArgument),
+            15 => Err(Error::Lost),
+            16 => Err(Error::Broken),
             status => Err(Error::Unknown(status)),
         }
     }
@@ -268,10 +276,7 @@ impl Engine {
     /// Takes whole frames out of these bytes, up to one that is to be answered first, runs each once, and writes a record of each. How many bytes were
     /// taken, how many records written, and why it stopped. Give what was not taken again, with what came since.
     pub fn take(&mut self, bytes: &[u8], records: &mut [Record]) -> Result<(usize, usize, Stop), Error> {
-        let mut took = Took::default();
-        let (given, places) = (bytes.as_ptr(), records.as_mut_ptr());
-        let status = unsafe { amqp1_take(&mut self.place, 0, given, bytes.len(), places, records.len(), &mut took) };
-        Ok((took.taken, took.written, stop(status, took.wanted)?))
+        self.take_at(0, bytes, records)
     }
 
     /// Sends transfers: of each the head, and its tag and payload in `bytes`. How many were taken, how many of the bytes they have, and why it stopped.

@@ -49,9 +49,30 @@ impl Record {
         part(input, self.at, self.size)
     }
 
-    /// The payload of a transfer, there too.
+    /// The payload of a transfer, there too; before the stream is open, what is said in a frame of SASL.
     pub fn payload<'a>(&self, input: &'a [u8]) -> &'a [u8] {
         part(input, self.payload_at, self.payload)
+    }
+
+    /// The frame behind its size, there too; none of a record of the opening.
+    pub(super) fn frame<'a>(&self, input: &'a [u8]) -> Option<&'a [u8]> {
+        let from = (self.at as usize).checked_sub(4)?;
+        input.get(from..(self.at as usize).checked_add(self.size as usize)?)
+    }
+
+    /// Whether there is one: a response that is empty is told from none.
+    pub fn has_payload(&self) -> bool {
+        self.payload_at != NONE
+    }
+
+    /// The mechanism of a client that asks to be let in, or that chose one that was not offered; there too.
+    pub fn mechanism<'a>(&self, input: &'a [u8]) -> &'a [u8] {
+        part(input, self.first, self.last)
+    }
+
+    /// The host that a client asks for, which asks to be let in; there too.
+    pub fn host<'a>(&self, input: &'a [u8]) -> Option<&'a [u8]> {
+        (self.count != NONE).then(|| part(input, self.count, self.credit))
     }
 
     /// The tag of a transfer, where it has at most 32 bytes; a longer one stands in the performative.
@@ -99,6 +120,22 @@ pub mod kind {
     pub const REFUSED: u8 = 11;
     /// A Begin that answers none: it was refused, and `refusal` says why.
     pub const BEGIN_WANTED: u8 = 12;
+    /// The peer's header of SASL.
+    pub const SASL_HEADER: u8 = 13;
+    /// The peer's header of AMQP: the stream is open, and frames follow.
+    pub const AMQP_HEADER: u8 = 14;
+    /// A server's mechanisms are the payload, and the login of the number `first` was chosen.
+    pub const MECHANISM_CHOSEN: u8 = 15;
+    /// A client asks to be let in: by `mechanism`, with its response as the payload, if it has one.
+    pub const LOGIN_ASKED: u8 = 16;
+    /// A server's challenge is the payload.
+    pub const CHALLENGED: u8 = 17;
+    /// A client's response is the payload.
+    pub const RESPONDED: u8 = 18;
+    /// A server lets this side in.
+    pub const LOGGED_IN: u8 = 19;
+    /// The stream is not opened, and is over: `refusal` says why.
+    pub const NOT_OPENED: u8 = 20;
 }
 
 /// What a frame says besides, and what a transfer is to say.
@@ -195,8 +232,12 @@ pub enum Stop {
     NoMemory,
     /// What was told last is to be answered: then what is left is given again.
     Again,
+    /// `login`, `challenge` or `respond` comes first.
+    Waits,
     /// The connection is over: nothing is taken any more.
     Over,
+    /// The SASL frame that is to be sent would have more than 512 bytes.
+    TooLarge,
 }
 
 /// The reason of this status.
@@ -208,6 +249,8 @@ pub(super) fn stop(status: i32, wanted: usize) -> Result<Stop, Error> {
         8 => Ok(Stop::BadSize),
         9 => Ok(Stop::Short),
         10 => Ok(Stop::Again),
+        11 => Ok(Stop::Waits),
+        13 => Ok(Stop::TooLarge),
         12 => Ok(Stop::Over),
         status => Err(Error::Unknown(status)),
     }

@@ -199,3 +199,83 @@ fn what_is_none_is_refused() {
     let moved = std::thread::spawn(move || engine.state().unwrap());
     assert_eq!(moved.join().unwrap(), 3);
 }
+
+/// What a server takes of a client's bytes, a record at a time.
+fn taken(engine: &mut Engine, bytes: &[u8]) -> Vec<Record> {
+    let (mut at, mut told) = (0, Vec::new());
+    loop {
+        let mut records = [Record::default()];
+        let (taken, written, why) = engine.take_at(10, &bytes[at..], &mut records).unwrap();
+        told.extend_from_slice(&records[..written]);
+        at += taken;
+        if !matches!(why, Stop::Again | Stop::Full) {
+            return told;
+        }
+    }
+}
+
+#[test]
+fn a_client_is_let_in_by_a_login_alone() {
+    let logins = [Login { mechanism: "PLAIN", response: Some(b"\0me\0secret") }];
+    for code in [LoginCode::Ok, LoginCode::Auth] {
+        let opening = Opening::Client { logins: &logins, host: Some("here") };
+        let mut client = Engine::with_opening([7; 16], OPEN, &opening, 0, Some(1000)).unwrap();
+        let mut server = Engine::with_opening([8; 16], OPEN, &Opening::Server { mechanisms: &["PLAIN"] }, 0, None).unwrap();
+        assert!(matches!(server.login(code, None), Err(Error::Refused(_))));
+        client.open().unwrap();
+        let first = sent(&mut client);
+        let mut told = taken(&mut server, &first);
+        let offered = sent(&mut server);
+        taken(&mut client, &offered);
+        let said = sent(&mut client);
+        told.extend(taken(&mut server, &said));
+        // (the header of SASL came before, in bytes of its own)
+        let asked = told.last().unwrap();
+        assert_eq!((asked.kind, asked.mechanism(&said), asked.payload(&said)), (kind::LOGIN_ASKED, &b"PLAIN"[..], &b"\0me\0secret"[..]));
+        assert_eq!((asked.has_payload(), asked.host(&said)), (true, Some(&b"here"[..])));
+        assert_eq!(server.take_at(10, b"AMQP", &mut [Record::default()]).unwrap().2, Stop::Waits);
+        server.login(code, None).unwrap();
+        let outcome = sent(&mut server);
+        let told = taken(&mut client, &outcome);
+        let is_in = code == LoginCode::Ok;
+        assert_eq!(told[0].kind, if is_in { kind::LOGGED_IN } else { kind::NOT_OPENED });
+        assert_eq!((server.is_over().unwrap(), client.is_over().unwrap()), (!is_in, !is_in));
+    }
+}
+
+#[test]
+fn a_challenge_is_answered() {
+    let mut client = made();
+    assert!(matches!(client.respond(b"me"), Err(Error::Refused(_))));
+    assert!(matches!(client.challenge(b"who?"), Err(Error::Refused(_))));
+}
+
+#[test]
+fn an_opening_is_late() {
+    let mut engine = Engine::with_opening([7; 16], OPEN, &Opening::Plain, 1000, Some(50)).unwrap();
+    assert_eq!(sent(&mut engine), b"AMQP\0\x01\0\0");
+    assert_eq!(engine.tick(1049).unwrap(), Tick { due: Due::Nothing, next: Some(1050) });
+    assert_eq!(engine.tick(1050).unwrap(), Tick { due: Due::OpeningLate, next: None });
+    assert!(engine.is_over().unwrap());
+}
+
+#[test]
+fn what_a_peer_begins_and_ends_is_answered() {
+    let mut engine = sending();
+    let (begin, frame) = hear(&mut engine, 5, b"\0\x53\x11\xc0\x07\x04\x40\x43\x52\x64\x52\x64");
+    assert_eq!(begin.kind, kind::BEGIN_WANTED);
+    assert_eq!(engine.answer(&begin, &frame, answers::ALL & !answers::BEGINS, 70), Ok(false));
+    engine.answer_begin(&begin, &frame, 70, BEGIN).unwrap();
+    assert_eq!((engine.session_of(5).unwrap(), engine.session_state(70).unwrap()), (Some(70), Some(3)));
+    assert!(matches!(engine.answer_end(70, None), Err(Error::Refused(_))));
+    assert!(!sent(&mut engine).is_empty());
+    let (end, _) = hear(&mut engine, 5, b"\0\x53\x17\x45");
+    assert_eq!((end.kind, end.session), (kind::ENDED, 70));
+    engine.answer_end(70, None).unwrap();
+    assert_eq!(engine.session_state(70).unwrap(), None);
+    assert!(matches!(engine.let_go(7), Err(Error::Refused(_))));
+    sent(&mut engine);
+    let (close, frame) = hear(&mut engine, 0, b"\0\x53\x18\x45");
+    assert_eq!(engine.answer(&close, &frame, answers::ALL, 0), Ok(true));
+    assert_eq!(sent(&mut engine), framed(0, b"\0\x53\x18\x45"));
+}

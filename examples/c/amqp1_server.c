@@ -254,7 +254,7 @@ static void refused(struct peer *p, const amqp1_record *record, const uint8_t *i
     char text[128] = { 0 };
     size_t written;
     uint32_t state = AMQP1_STATE_CLOSE_SENT;
-    int32_t status = amqp1_answer(&p->engine, record, input, length, AMQP1_ANSWER_REFUSALS);
+    int32_t status = amqp1_answer(&p->engine, record, input, length, AMQP1_ANSWER_REFUSALS, 0);
     told(p, "a text", amqp1_refusal_text(&p->engine, record->refusal, (uint8_t *)text, sizeof text - 1, &written));
     fprintf(stderr, "%d: refused: %.*s\n", p->fd, (int)strcspn(text, "\n"), text);
     if (status == AMQP1_NOTHING || told(p, "an answer", status))
@@ -268,12 +268,12 @@ static void refused(struct peer *p, const amqp1_record *record, const uint8_t *i
 static void ended(struct peer *p, const amqp1_record *record, const uint8_t *input, size_t length)
 {
     drop_links(p, NULL, record->session);
-    told(p, "an end", amqp1_answer(&p->engine, record, input, length, AMQP1_ANSWER_ENDS));
+    told(p, "an end", amqp1_answer(&p->engine, record, input, length, AMQP1_ANSWER_ENDS, 0));
 }
 
 static void closed(struct peer *p, const amqp1_record *record, const uint8_t *input, size_t length)
 {
-    told(p, "a close", amqp1_answer(&p->engine, record, input, length, AMQP1_ANSWER_CLOSES));
+    told(p, "a close", amqp1_answer(&p->engine, record, input, length, AMQP1_ANSWER_CLOSES, 0));
     p->is_over = 1;
 }
 

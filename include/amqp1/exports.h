@@ -126,9 +126,9 @@ int32_t amqp1_take(amqp1 *place, uint64_t now, const uint8_t *input, size_t inpu
 /* Gives what a record asks for that amqp1_take wrote, of the answers that `flags` names, which are AMQP1_ANSWER_BEGINS and those beside it. `input`
    is the one of that call: there the record's frame stands. The answers wait for amqp1_output.
 
-   - BEGINS: a Begin of the peer's (section 2.5.1) is answered by a session whose number is that of the peer's channel, with windows of 5000
-     transfers. A program that begins sessions itself gives them numbers from 65536 on. No number is used twice: a Begin on a channel on which an
-     earlier session has ended is REFUSED (`SessionInUse`). A server of peers that begin another one there answers by amqp1_answer_begin.
+   - BEGINS: a Begin of the peer's (section 2.5.1) is answered by a session of this `number`, which no session had before (else it is REFUSED,
+     `SessionInUse`), with windows of 5000 transfers. Of any other record the number says nothing. Count it on after each Begin: numbers that are
+     given in order take least memory.
    - ENDS: an End of the peer's (section 2.5.3) is answered by one without an error, unless this side has ended the session before; and the
      session is let go: its channel is given back, and it is forgotten.
    - CLOSES: a Close of the peer's (section 2.4.3) is answered by one without an error.
@@ -141,7 +141,8 @@ int32_t amqp1_take(amqp1 *place, uint64_t now, const uint8_t *input, size_t inpu
    none: nothing changed. REFUSED, by a name that amqp1_refusal tells: of a Begin `NotOpened` where the connection is not open, `ChannelInUse` where
    its channel leads to a session, and the engine's name where no session begins, as `SessionInUse` or `ChannelMaxReached`; of all others that of
    the End or the Close, as `Over`. LOST, BROKEN: see amqp1_answer_begin. NOT_RELEASED, NOT_FORGOTTEN: see amqp1_let_go. */
-int32_t amqp1_answer(amqp1 *place, const amqp1_record *record, const uint8_t *input, size_t input_length, uint16_t flags);
+int32_t amqp1_answer(amqp1 *place, const amqp1_record *record, const uint8_t *input, size_t input_length, uint16_t flags,
+                     uint32_t number);
 
 /* Tells the time, in milliseconds, and does what is due (section 2.4.5): from both Opens on an empty frame, where nothing was sent for half of the
    peer's idle-time-out; a Close for amqp:resource-limit-exceeded, where nothing came for as long as this side's own; and the end of a connection of

@@ -161,9 +161,9 @@ def refuses_a_message_past_the_credit(program):
 
 
 def takes_no_memory_for_a_size(program):
-    """A size past the limit is no frame: the program ends, and says nothing more."""
+    """A size past the limit is no frame: the connection is closed for it."""
     told, held = talk(program, itertools.chain(begun(), [(1 << 31).to_bytes(4, "big")]))
-    return held == 0 and not told.close
+    return b"amqp:connection:framing-error" in told.close and held < BESIDE
 
 
 PEERS = (

@@ -31,6 +31,8 @@ HISTORIES = (
     ("amqp_credit", ("SenderCredit",), ("amqp_credit", "SenderHistory", "SenderStep")),
     ("amqp_credit", ("ReceiverCredit",), ("amqp_credit", "ReceiverHistory", "ReceiverStep")),
     ("amqp_credit", ("Assembly",), ("amqp_credit", "AssemblyHistory", "AssemblyStep")),
+    ("amqp_links", ("SendingLink",), ("amqp_links", "SendingHistory", "SendingStep")),
+    ("amqp_links", ("ReceivingLink",), ("amqp_links", "ReceivingHistory", "ReceivingStep")),
     ("amqp_unsettled", ("Unsettled",), ("amqp_unsettled", "History", "TableStep")),
 )
 LEGAL = "amqp_engine", "Legal", "Legal"

@@ -37,7 +37,7 @@ ALLOWED = {
     "docs/BINDINGS.md": "PREFIX/lib/libamqp1.so OUT/index.html",
     # of fe2o3-amqp: types that are not here, those of crates that it stands on, and its tests
     "docs/PORT.md": """
-        Decoder DeallcoSessionError Encoder Infallible JoinError ParseError ScramError SendError serde_amqp
+        Decoder DeallcoSessionError Encoder Infallible JoinError ParseError ScramError serde_amqp
         src/connection/mod.rs src/session/mod.rs
         allocate_session_distinguishes_not_opened_from_stopped buffered_split_delivery_gets_one_delivery_id
         continuation_with_stray_tag_gets_no_delivery_id first_transfer_without_tag_is_rejected

@@ -155,7 +155,7 @@ def closed(it):
     it.client(BEGIN, [NULL, uint(7), uint(5000), uint(5000)], channel=5)
     it.broker(BEGIN, [ushort(5), uint(0), uint(5000), uint(5000)])
     it.client(DETACH, [uint(9)], channel=4)
-    error = composite(0x1D, [symbol("amqp:not-allowed"), string("NotFound")])
+    error = composite(0x1D, [symbol("amqp:not-found")])
     it.broker(CLOSE, [error], channel=0)
 
 

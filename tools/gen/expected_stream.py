@@ -85,14 +85,15 @@ class Engine:
 
 
 def told(frames):
-    """What is sent, what is refused, and that each way of splitting the stream gives the same; then the places of the refusals in one run, in
-    which the Open and the Begin stand before the frames."""
+    """What is sent, what is refused, and that each way of splitting the stream gives the same, by an engine and by a stream of `amqp_driver`; then
+    the places of the refusals in one run, in which the Open and the Begin stand before the frames."""
     engine = Engine()
     names = [engine.refuses(*it) for it in frames]
     sent = sized(bytes([2, 0, 0, 0]) + OUR_OPEN) + sized(bytes([2, 0, 0, 0]) + OUR_BEGIN)
     refused = [f"refused: {name}" for name in names if name]
     places = [f"at {place}: {name}" for place, name in enumerate(names, 2) if name]
-    return [f"sent {sent.hex()}", *refused, *[f"chunks of {size}: the same" for size in (1, 7, 4096)], "one run: the same", *places]
+    split = [f"{way} {size}: the same" for size in (1, 7, 4096) for way in ("chunks of", "exchanged by")]
+    return [f"sent {sent.hex()}", *refused, *split, "one run: the same", *places]
 
 
 def recording(name):
@@ -123,6 +124,9 @@ STREAMS = [
     (HEADER + (65537).to_bytes(4, "big") + b"\2\0\0\0", "invalid data"),
     (HEADER + b"\xff\xff\xff\xff" + b"\2\0\0\0", "invalid data"),
 ]
+
+# how a stream of `amqp_driver` ends, where reading by frames ends so
+BY_STREAM = {"end": "end", "invalid data": "over", "unexpected end": "cut off"}
 
 # The same where frames may have any size: what is announced takes no memory before it comes
 UNLIMITED = [
@@ -162,7 +166,7 @@ def main():
             wanted += [f"-- {name} {side}", *told(frames)]
     for word, streams in ("stream", STREAMS), ("unlimited", UNLIMITED):
         given += [f"{word} {stream.hex()}" for stream, _ in streams]
-        wanted += [end for _, end in streams]
+        wanted += [f"{end}; {BY_STREAM[end]}" for _, end in streams]
     for frame, sent in map(in_pieces, PIECES):
         given.append(f"pieces {frame.hex()}")
         wanted.append(sent.hex())

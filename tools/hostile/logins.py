@@ -5,9 +5,8 @@ import contextlib
 import time
 
 from amqp_engine import Anonymous, LoginRefused, Malformed, Open, PeerSilent, Plain, Symbol, Waits, connect, serve
-from amqp_engine.sasl import frame as sasl_frame
 from amqp_engine.values import write
-from hostile.peers import HEADER, PATIENCE, SASL, Raw, array, compound, holds, listens, ping
+from hostile.peers import HEADER, PATIENCE, SASL, Raw, array, compound, holds, listens, ping, sasl_frame
 
 AT_ONCE, TESTS = 8, []
 LOGIN = Plain("eve", "wrong")

@@ -8,7 +8,7 @@ import sys
 import time
 from pathlib import Path
 
-from amqp_engine import Begin, Close, Detach, End, Open
+from amqp_engine import Begin, Close, Described, Detach, End, Open, Ulong
 from amqp_engine.values import write
 
 ROOT = Path(__file__).resolve().parents[2]
@@ -22,6 +22,12 @@ LARGE = 2**31 - 1
 def frame(of, channel=0, payload=b""):
     """A frame of a performative, or of its bytes."""
     body = b"\x02\x00" + channel.to_bytes(2, "big") + (of if isinstance(of, bytes) else of.encode()) + payload
+    return (len(body) + 4).to_bytes(4, "big") + body
+
+
+def sasl_frame(code, fields):
+    """A frame of SASL of a list of values."""
+    body = b"\x02\x01\x00\x00" + write(Described(Ulong(code), fields))
     return (len(body) + 4).to_bytes(4, "big") + body
 
 

@@ -72,7 +72,7 @@ static void hear(const char *digits)
 
 static int32_t answers(void)
 {
-    return amqp1_answer(&one, heard, heard_bytes, sizeof heard_bytes, AMQP1_ANSWER_ALL);
+    return amqp1_answer(&one, heard, heard_bytes, sizeof heard_bytes, AMQP1_ANSWER_ALL, heard->channel);
 }
 
 /* Goes on with a session that memory did not let go. Whether it has gone. */

@@ -21,13 +21,13 @@
 static int32_t gives(amqp1 *engine, const char *digits, enum amqp1_kind kind, unsigned flags)
 {
     CHECK(hears_one(engine, digits, kind));
-    return amqp1_answer(engine, heard, heard_bytes, sizeof heard_bytes, (uint16_t)flags);
+    return amqp1_answer(engine, heard, heard_bytes, sizeof heard_bytes, (uint16_t)flags, heard->channel);
 }
 
 /* The same record once more. */
 static int32_t again(amqp1 *engine, unsigned flags)
 {
-    return amqp1_answer(engine, heard, heard_bytes, sizeof heard_bytes, (uint16_t)flags);
+    return amqp1_answer(engine, heard, heard_bytes, sizeof heard_bytes, (uint16_t)flags, heard->channel);
 }
 
 /* An engine whose session 5 answers the peer's on channel 5. */
@@ -53,10 +53,10 @@ static void try_begin(void)
     amqp1_record begin;
     CHECK(gives(&engine, BEGIN_5, AMQP1_KIND_BEGIN_WANTED, AMQP1_ANSWER_ALL & ~AMQP1_ANSWER_BEGINS) == AMQP1_NOTHING);
     begin = heard[0];
-    CHECK(amqp1_answer(&engine, &begin, heard_bytes, 0, AMQP1_ANSWER_ALL) == AMQP1_BAD_ARGUMENT);
-    CHECK(amqp1_answer(&engine, &begin, heard_bytes, begin.at + begin.size - 1, AMQP1_ANSWER_ALL) == AMQP1_BAD_ARGUMENT);
+    CHECK(amqp1_answer(&engine, &begin, heard_bytes, 0, AMQP1_ANSWER_ALL, begin.channel) == AMQP1_BAD_ARGUMENT);
+    CHECK(amqp1_answer(&engine, &begin, heard_bytes, begin.at + begin.size - 1, AMQP1_ANSWER_ALL, begin.channel) == AMQP1_BAD_ARGUMENT);
     CHECK(sends(&engine, "") && session_state_of(&engine, 5) == 99);
-    CHECK(amqp1_answer(&engine, &begin, heard_bytes, begin.at + begin.size, AMQP1_ANSWER_BEGINS) == AMQP1_DONE);
+    CHECK(amqp1_answer(&engine, &begin, heard_bytes, begin.at + begin.size, AMQP1_ANSWER_BEGINS, begin.channel) == AMQP1_DONE);
     CHECK(sends(&engine, ANSWER_0) && is_session(&engine, 5, AMQP1_SESSION_MAPPED, 5));
     CHECK(again(&engine, AMQP1_ANSWER_ALL) == AMQP1_REFUSED && refused_as(&engine, "ChannelInUse", "") && sends(&engine, ""));
     CHECK(gives(&engine, "[02000006 005311 c0(04 40 43 5264 5264)]", AMQP1_KIND_BEGIN_WANTED, AMQP1_ANSWER_ALL) == AMQP1_DONE);
@@ -64,7 +64,7 @@ static void try_begin(void)
     CHECK(gives(&engine, "[02000006 005312 c0(03 a1(746f) 43 42)]", AMQP1_KIND_ATTACH_WANTED, AMQP1_ANSWER_ALL) == AMQP1_NOTHING);
     CHECK(heard[0].session == 6 && sends(&engine, ""));
     amqp1_free(&engine);
-    CHECK(amqp1_answer(&engine, &begin, heard_bytes, sizeof heard_bytes, AMQP1_ANSWER_ALL) == AMQP1_NO_ENGINE);
+    CHECK(amqp1_answer(&engine, &begin, heard_bytes, sizeof heard_bytes, AMQP1_ANSWER_ALL, begin.channel) == AMQP1_NO_ENGINE);
 }
 
 /* No session begins before both Opens, once this side has closed, and without a channel. */
@@ -88,7 +88,7 @@ static void try_no_begin(void)
     CHECK(again(&engine, AMQP1_ANSWER_ALL) == AMQP1_REFUSED && refused_as(&engine, "NotOpened", "") && sends(&engine, ""));
     amqp1_free(&engine);
     engine = made();
-    CHECK(amqp1_answer(&engine, &begin, heard_bytes, sizeof heard_bytes, AMQP1_ANSWER_ALL) == AMQP1_REFUSED);
+    CHECK(amqp1_answer(&engine, &begin, heard_bytes, sizeof heard_bytes, AMQP1_ANSWER_ALL, begin.channel) == AMQP1_REFUSED);
     CHECK(refused_as(&engine, "NotOpened", "") && sends(&engine, ""));
     amqp1_free(&engine);
 }

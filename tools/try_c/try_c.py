@@ -17,11 +17,12 @@ from amqp_engine import (
     Error, Flow, Flowed, Refusal, Server, SessionBegan, SessionEnded, Transfer, Transferred, address_of, data,
 )  # fmt: skip
 from amqp_engine.driver import FORMATTED, MORE, NONE, NUMBERED
-from amqp_engine.library import How, Place, load
+from amqp_engine.library import How, LoginHead, Place, load
 from shared.command import command
 from try_c.try_c_cuts import TESTS as OF_CUTS
 from try_c.try_c_pair import Pair, frames, mapped, refused
 from try_c.try_c_sockets import OPEN, TESTS as OVER_SOCKETS
+from try_c.try_c_streams import TESTS as OF_STREAMS
 from try_c.try_c_values import TESTS as OF_VALUES
 
 TESTS = []
@@ -323,10 +324,10 @@ def an_open_that_is_none_makes_no_engine():
     key = b"k" * 16
     for of, given in ((key, b""), (key, b"\x00\x53\x11\x45"), (key, OPEN.encode()[:-1]), (bytes(16), OPEN.encode())):
         how = How((ctypes.c_uint8 * 16)(*of), 0, NONE, 0, NONE)
-        assert library.amqp1_new(place, how, given, len(given), b"", 0, b"", 0) == 4, given
+        assert library.amqp1_new(place, how, given, len(given), (LoginHead * 0)(), 0, b"", 0) == 4, given
         assert place.full == 0
     how = How((ctypes.c_uint8 * 16)(*key), 0, NONE, 0, NONE)
-    assert library.amqp1_new(place, how, OPEN.encode(), len(OPEN.encode()), b"", 0, b"", 0) == 0 and place.full == 1
+    assert library.amqp1_new(place, how, OPEN.encode(), len(OPEN.encode()), (LoginHead * 0)(), 0, b"", 0) == 0 and place.full == 1
     library.amqp1_free(place)
 
 
@@ -334,7 +335,7 @@ def main():
     if len(sys.argv) != 2:
         sys.exit(__doc__.strip())
     os.environ["AMQP_LIBRARY"] = str(Path(sys.argv[1]).resolve())
-    failed, tests = 0, OF_VALUES + TESTS + OF_CUTS + OVER_SOCKETS
+    failed, tests = 0, OF_VALUES + TESTS + OF_CUTS + OF_STREAMS + OVER_SOCKETS
     for it in tests:
         try:
             it()

@@ -9,7 +9,7 @@ ROOT = Path(__file__).resolve().parents[2]
 sys.path.insert(0, str(ROOT / "bindings" / "python"))
 
 from amqp_engine import (
-    ACCEPTED, RECEIVER, SENDER, Anonymous, Attach, Attached, Begin, Disposed, Disposition, Flow, Flowed, HeaderRefused, LoginRefused, Open, PeerSilent,
+    ACCEPTED, RECEIVER, SENDER, Anonymous, Attach, Attached, Begin, Disposed, Disposition, External, Flow, Flowed, HeaderRefused, LoginRefused, Open, PeerSilent,
     Plain, Refusal, Transfer, Transferred, connect, serve,
 )  # fmt: skip
 
@@ -77,7 +77,7 @@ def a_login_is_judged():
         return (user, password) == ("me", "right")
 
     assert over_sockets(lambda port: talk(port, login=Plain("me", "right")), check=check) == "END"
-    for login, wanted in ((Plain("me", "wrong"), LoginRefused), (Anonymous(), LoginRefused), (None, HeaderRefused)):
+    for login, wanted in ((Plain("me", "wrong"), LoginRefused), (Anonymous(), LoginRefused), (External(), LoginRefused), (None, HeaderRefused)):
         try:
             over_sockets(lambda port: talk(port, login=login), check=check)
         except wanted:

@@ -8,19 +8,21 @@
     for event in engine.receive(socket.recv(65536)):
         print(event)
 
-`Engine` does no input or output itself; `connect` and `serve` are a transport by `asyncio`. Protocol headers and SASL are the transport's.
+`Engine` does no input or output itself; `connect` and `serve` are a transport by `asyncio`. Protocol headers and SASL are the library's: `opening` says how
+a stream begins.
 """
 
-from .driver import Delivery, Driver, Record, Taken
+from .driver import Delivery, Driver, Record, Taken, Tick
 from .engine import Engine
 from .events import AnyEvent, Attached, Detached, Disposed, Event, Flowed, Refusal, Transferred
 from .listening import connect, serve
+from .opening import Opening
 from .performatives import (
     ACCEPTED, FIRST, MIXED, RECEIVER, RELEASED, SECOND, SENDER, SETTLED, UNSETTLED, Attach, Begin, Close, Detach, Disposition, End, Error, Flow, Open,
     Transfer, address_of, body_of, data, rejected, source, target,
 )  # fmt: skip
 from .requesting import BadArgument, NoMemory
-from .sasl import Anonymous, LoginRefused, Plain
+from .sasl import Anonymous, External, LoginRefused, Plain
 from .serving import Closed, Server, SessionBegan, SessionEnded
 from .stream import PeerSilent, Waits
 from .transport import Connection, HeaderRefused, SessionRefused, condition_of

@@ -10,13 +10,15 @@ import struct
 from typing import Any, Dict, List, NamedTuple, Optional, Sequence, Tuple, Union
 
 from . import library as lib
+from . import opening as begins
 from .events import Refusal
+from .opening import Opening
 from .performatives import Open, Transfer
 from .requesting import REMOTE_OPEN, SEND, BadArgument, NoMemory, Requests, numbers
 
-_UNFIT, _REFUSAL_TEXT, _DISPOSE = 27, 28, 29
+_UNFIT, _REFUSAL_TEXT, _DISPOSE, _LOGIN, _CHALLENGE, _RESPOND, _IS_OVER = range(27, 34)
 
-#: What a record is of
+#: What a record is of; `opening` has those that stand before the first frame
 (
     OPENED, BEGUN, ATTACHED, ATTACH_WANTED, FLOW, TRANSFER, DISPOSITION, DETACHED, ENDED, CLOSED, REFUSED, BEGIN_WANTED,
 ) = range(1, 13)  # fmt: skip
@@ -26,6 +28,12 @@ _UNFIT, _REFUSAL_TEXT, _DISPOSE = 27, 28, 29
     NUMBERED, SETTLED, MORE, ABORTED, OF_RECEIVER, STATED, DRAIN, ECHO, WITH_ERROR, FOR_GOOD, CREDITED, COUNTED, LINKED, FORMATTED, TAGGED, AVAILABLE,
 ) = (1 << at for at in range(16))  # fmt: skip
 
+#: What is due at a tick: nothing; an empty frame, which waits to be sent; the end of an opening that took too long; or of a peer that was silent
+DUE_NOTHING, DUE_BEAT, DUE_OPENING_LATE, DUE_PEER_SILENT = range(4)
+_NEVER = 2**64 - 1
+#: What `answer` gives: to a Begin, an End and a Close of the peer's, and to a frame that was refused
+ANSWER_BEGINS, ANSWER_ENDS, ANSWER_CLOSES, ANSWER_REFUSALS = 1, 2, 4, 8
+ANSWER_ALL = 15
 #: No session, or no link
 NONE = 0xFFFFFFFF
 #: The states of deliveries
@@ -67,14 +75,23 @@ class Record(NamedTuple):
 
 
 class Taken(NamedTuple):
-    """What `Driver.take` took: how many bytes; the records of their frames; how many bytes the next frame has, as far as that is known; whether a size
-    stands there that no frame has: then a Close waits to be sent, for `amqp:connection:framing-error`; and whether the connection is over."""
+    """What `Driver.take` took: how many bytes; the records of what they are; how many bytes the next frame has, as far as that is known; whether a size
+    stands there that no frame has: then a Close waits to be sent, for `amqp:connection:framing-error`; whether the connection is over; and whether
+    `login`, `challenge` or `respond` comes first."""
 
     taken: int
     records: List[Record]
     wanted: int
     is_bad: bool
     is_over: bool
+    waits: bool
+
+
+class Tick(NamedTuple):
+    """What was due, and is done (`DUE_BEAT` ..), and when the next tick is wanted, in the caller's milliseconds; `None` where none is."""
+
+    due: int
+    next: Optional[int]
 
 
 class Delivery(NamedTuple):
@@ -116,51 +133,119 @@ def _place_of(data: Union[bytes, bytearray], at: int) -> Tuple[int, Any]:
     return ctypes.addressof(held), held
 
 
+def _moved(record: Record, by: int) -> Record:
+    """A record whose places are those of bytes that begin so much earlier."""
+    if begins.SASL_HEADER <= record.kind <= begins.NOT_OPENED:
+        return record._replace(**{name: getattr(record, name) + by for name in begins.places_of(record)})
+    return record._replace(at=record.at + by, payload_at=record.payload_at + by)
+
+
 class Driver(Requests):
     """One side of one connection, over `libamqp1.so`."""
 
-    def __init__(self, open: Open, *, key: Optional[bytes] = None, most: int = 256, library: Optional[str] = None) -> None:
+    def __init__(
+        self,
+        open: Open,
+        *,
+        key: Optional[bytes] = None,
+        most: int = 256,
+        library: Optional[str] = None,
+        opening: Optional[Opening] = None,
+        time: int = 0,
+        limit: Optional[int] = None,
+    ) -> None:
         """A driver that is to send this Open. `key`: 16 bytes that the peer cannot know, so that it cannot choose names and handles that collide; by
-        default they are random. `most`: how many records there are at once. `library`: the path of `libamqp1.so`."""
+        default they are random. `most`: how many records there are at once. `library`: the path of `libamqp1.so`.
+
+        `opening` is how the stream begins, from its first byte on. Without one the driver begins behind the protocol headers, which are the caller's.
+        `time` is when it begins, in milliseconds, and `limit` how many of them headers, SASL and both Opens may take."""
         functions = lib.load(library)
         super().__init__(functions.amqp1_call, functions.amqp1_free)
-        self._take, self._send, self._cut = functions.amqp1_take, functions.amqp1_send, functions.amqp1_cut
+        self._take, self._send, self._cut, self._tick = functions.amqp1_take, functions.amqp1_send, functions.amqp1_cut, functions.amqp1_tick
+        self._answer = functions.amqp1_answer
         self._records = ctypes.create_string_buffer(most * _RECORD.size)
-        self._most, self._took, self._went = most, lib.Took(), lib.Went()
+        self._most, self._took, self._went, self._ticked = most, lib.Took(), lib.Went(), lib.Ticked()
         self._parts = ctypes.create_string_buffer(_PARTS.size)
         self._texts: Dict[int, Tuple[str, ...]] = {}
-        given = open.encode()
         if key is not None and len(key) != 16:
             raise ValueError("a key has 16 bytes")
-        how = lib.How((ctypes.c_uint8 * 16)(*(os.urandom(16) if key is None else key)), 0, NONE, 0, NONE)
-        self._judge(functions.amqp1_new(ctypes.byref(self._place), ctypes.byref(how), given, len(given), b"", 0, b"", 0))
-        self._pass_headers()
+        self._make(functions.amqp1_new, open.encode(), os.urandom(16) if key is None else key, opening or Opening(), time, limit)
+        if opening is None:
+            self._pass_headers()
+
+    def _make(self, new: Any, open: bytes, key: bytes, opening: Opening, time: int, limit: Optional[int]) -> None:
+        host = None if opening.host is None else opening.host.encode()
+        said = [(mechanism.encode("ascii"), response) for mechanism, response in opening.logins]
+        heads = (lib.LoginHead * len(said))(*((len(it), NONE if response is None else len(response)) for it, response in said))
+        data = (host or b"") + b"".join(mechanism + (response or b"") for mechanism, response in said)
+        own_host = NONE if host is None else len(host)
+        how = lib.How((ctypes.c_uint8 * 16)(*key), time, NONE if limit is None else limit, opening.side, own_host)
+        self._judge(new(ctypes.byref(self._place), ctypes.byref(how), open, len(open), heads, len(said), data, len(data)))
 
     def _pass_headers(self) -> None:
-        """This driver begins behind the protocol headers, which its caller exchanges: the library's stream is given the peer's, and its own is taken off."""
+        """The library's stream is given the peer's header, and its own is taken off."""
         status, count = self._call(SEND, b"", 0)
         self._judge(status)
         if ctypes.string_at(self._buffer, count) != _HEADER or self.take(_HEADER).taken != len(_HEADER):
             raise RuntimeError("the library does not exchange headers")
 
+    # ---- logins and the time
+
+    def login(self, code: int, additional: Optional[bytes] = None) -> None:
+        """A server's answer to a client that asks to be let in: 0 lets it in, and nothing else does; after another code (1 where what it says does not let
+        it in, 2 where this side fails) the connection is over. Raises `Refusal` where no login is asked (`WrongTime`)."""
+        self._ask(_LOGIN, bytes([code, additional is not None]) + (additional or b""))
+
+    def challenge(self, challenge: bytes) -> None:
+        """A server's challenge to a client that asks to be let in: one response is awaited then. Raises `Refusal` as `login` does."""
+        self._ask(_CHALLENGE, challenge)
+
+    def respond(self, response: bytes) -> None:
+        """A client's response to a challenge. Raises `Refusal` where there was none (`WrongTime`)."""
+        self._ask(_RESPOND, response)
+
+    def tick(self, now: int) -> Tick:
+        """Tells the time, in milliseconds, and does what is due: an empty frame, where nothing was sent for half of the peer's `idle_time_out`; a Close,
+        where nothing was taken for as long as this side's own; the end, where the opening took longer than its limit. To be called by `next`, and
+        after other calls, since these may move that."""
+        self._judge(self._tick(ctypes.byref(self._place), now, ctypes.byref(self._ticked)))
+        return Tick(self._ticked.due, None if self._ticked.next == _NEVER else self._ticked.next)
+
+    @property
+    def has_ended(self) -> bool:
+        """Whether the connection is over: nothing is taken and nothing may be asked for any more. What waits is still to be sent."""
+        return self._get(_IS_OVER) != b"\0"
+
     # ---- what comes
 
-    def take(self, data: Union[bytes, bytearray], at: int = 0) -> Taken:
-        """Takes whole frames out of these bytes, from a place on, as long as there is room for their records, up to one that is to be answered first: each
-        runs once. Give what was not taken again, with what came since. Raises `NoMemory` where memory was refused before the first frame."""
+    def take(self, data: Union[bytes, bytearray], at: int = 0, now: int = 0) -> Taken:
+        """Takes what came at this time, from a place of the bytes on: a header, a frame of SASL, or whole frames, as long as there is room for their
+        records, up to one that is to be answered first: each runs once. Give what was not taken again, with what came since. Raises `NoMemory` where
+        memory was refused before the first one. Who calls no `tick` need tell no time."""
         took = self._took
         # what is held keeps a bytearray as long as it is
         start, held = _place_of(data, at)
-        # the time is not told: who wants beats sends them
-        status = self._take(ctypes.byref(self._place), 0, start, len(data) - at, self._records, self._most, ctypes.byref(took))
+        status = self._take(ctypes.byref(self._place), now, start, len(data) - at, self._records, self._most, ctypes.byref(took))
         del held
-        if status not in (lib.FULL, lib.BAD_SIZE, lib.AGAIN, lib.OVER) and not (status == lib.NO_MEMORY and took.taken):
+        if status not in (lib.FULL, lib.BAD_SIZE, lib.AGAIN, lib.WAITS, lib.OVER) and not (status == lib.NO_MEMORY and took.taken):
             self._judge(status)
         said = memoryview(self._records)[: took.written * _RECORD.size]
         records = [Record._make(it) for it in _RECORD.iter_unpack(said)]
         if at:
-            records = [it._replace(at=it.at + at, payload_at=it.payload_at + at) for it in records]
-        return Taken(took.taken, records, took.wanted, status == lib.BAD_SIZE, status == lib.OVER)
+            records = [_moved(it, at) for it in records]
+        return Taken(took.taken, records, took.wanted, status == lib.BAD_SIZE, status == lib.OVER, status == lib.WAITS)
+
+    def answer(self, record: Record, data: bytes, number: int, answers: int = ANSWER_ALL) -> bool:
+        """Gives what a record asks for, of the answers that are named; `data` are the bytes that `take` was given for it. False where it asks for none of
+        them, or none is due. A Begin of the peer's is answered by a session of this number, which none had before. Raises as `answer_begin` and
+        `answer_end` do, and `Refusal` where the End or the Close for a refused frame is refused."""
+        status = self._answer(ctypes.byref(self._place), _RECORD.pack(*record), data, len(data), answers, number)
+        if status == lib.NOTHING:
+            return False
+        self._judge(status)
+        if record.kind == BEGIN_WANTED:
+            self._numbers[number] = 0
+        return True
 
     def refusal_of(self, number: int) -> Refusal:
         """Why a frame or a transfer was refused, by its number: its name, and the condition that answers the frame, if any."""
@@ -258,4 +343,4 @@ class Driver(Requests):
         return Refusal("TooLarge" if number == _PAYLOAD_TOO_LONG else self._text_of(number)[0])
 
 
-__all__ = ["BadArgument", "Delivery", "Driver", "NoMemory", "Record", "Taken"]
+__all__ = ["BadArgument", "Delivery", "Driver", "NoMemory", "Opening", "Record", "Taken", "Tick"]

@@ -5,12 +5,14 @@ from __future__ import annotations
 from typing import Iterator, List, Optional, Type, Union
 
 from . import driver as said
+from . import opening as begins
 from .driver import NONE, Driver, Record
 from .events import AnyEvent, Attached, Detached, Disposed, Flowed, Refusal, Transferred, unreadable
+from .opening import Opening, OpeningEvent
 from .performatives import Attach, Close, Detach, Disposition, End, Flow, Open, Transfer
 from .values import Described, Malformed
 
-_Told = Union[AnyEvent, Refusal]
+_Told = Union[AnyEvent, OpeningEvent, Refusal]
 
 
 class Engine(Driver):
@@ -19,10 +21,11 @@ class Engine(Driver):
     A request that the engine refuses raises `Refusal`; nothing that came before it is lost. What is to be sent is taken by `to_send`.
     """
 
-    def __init__(self, open: Open, *, key: Optional[bytes] = None, library: Optional[str] = None) -> None:
+    def __init__(self, open: Open, *, key: Optional[bytes] = None, library: Optional[str] = None, opening: Optional[Opening] = None) -> None:
         """An engine that is to send this Open. `key`: 16 bytes that the peer cannot know, so that it cannot choose names and handles that collide;
-        by default they are random. `library`: the path of `libamqp1.so`."""
-        super().__init__(open, key=key, most=1, library=library)
+        by default they are random. `library`: the path of `libamqp1.so`. `opening` is how the stream begins, from its first byte on; without one the
+        engine begins behind the protocol headers."""
+        super().__init__(open, key=key, most=1, library=library, opening=opening)
         # received bytes, of which those before `_at` were taken, and how many of the next ones are a frame, as far as that is known
         self._came, self._at, self._wanted = bytearray(), 0, 0
         #: Whether a frame had no lawful size: nothing more can be read
@@ -49,7 +52,10 @@ class Engine(Driver):
         """Takes received bytes, in any splitting, and gives what they bring, in order: events, and refusals of frames.
 
         The engine is given the frames as the iterator goes on, so that what is asked in answer to an event comes before the frames after it. What an
-        iterator leaves, the next one begins with: nothing is lost, and `receive(b"")` goes on too. After the refusal `BadSize` the stream is of no use."""
+        iterator leaves, the next one begins with: nothing is lost, and `receive(b"")` goes on too. After the refusal `BadSize` the stream is of no use.
+
+        Before the stream is open it gives headers and SASL too, as events of `opening`. After `LoginAsked`, `Challenged` and `Responded` nothing is
+        taken until `login`, `challenge` or `respond`."""
         del self._came[: self._at]
         self._at = 0
         if not self.is_broken:
@@ -68,13 +74,22 @@ class Engine(Driver):
                 # nothing more is taken, whatever comes
                 self.is_over, self._at = True, len(self._came)
             yield from told
-            if taken.wanted or taken.is_over:
+            if taken.wanted or taken.is_over or taken.waits:
                 return
         self._came.clear()
         self._at = self._wanted = 0
         yield Refusal("BadSize", "amqp:connection:framing-error")
 
+    def left(self) -> bytes:
+        """The received bytes that were not taken; they are handed over, and the engine has them no more."""
+        left = bytes(self._came[self._at :])
+        self._came.clear()
+        self._at = self._wanted = 0
+        return left
+
     def _events_of(self, record: Record) -> List[_Told]:
+        if begins.SASL_HEADER <= record.kind <= begins.NOT_OPENED:
+            return [begins.event_of(record, self._came, lambda number: self.refusal_of(number).name)]
         body = bytes(self._came[record.at : record.at + record.size])
         try:
             event = self._event_of(record, body)

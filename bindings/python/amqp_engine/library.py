@@ -9,7 +9,7 @@ from typing import Any, Optional
 
 #: What a function of the library answers; `enum amqp1_status` of `include/amqp1/records.h` has each
 DONE, REFUSED, NO_MEMORY, TOO_SMALL, BAD_ARGUMENT, NO_ENGINE = range(6)
-FULL, BAD_SIZE, SHORT, AGAIN, WAITS, OVER, TOO_LARGE = range(7, 14)
+FULL, BAD_SIZE, SHORT, AGAIN, WAITS, OVER, TOO_LARGE, NOTHING, LOST, BROKEN, NOT_RELEASED, NOT_FORGOTTEN = range(7, 19)
 _FILE = "libamqp1.so.1"
 
 
@@ -50,6 +50,18 @@ class Went(ctypes.Structure):
     _fields_ = [("taken", ctypes.c_size_t), ("used", ctypes.c_size_t)]
 
 
+class LoginHead(ctypes.Structure):
+    """How many bytes the name of a mechanism has, and how many what is said first."""
+
+    _fields_ = [("mechanism", ctypes.c_uint32), ("response", ctypes.c_uint32)]
+
+
+class Ticked(ctypes.Structure):
+    """When the next tick is wanted, and what was due."""
+
+    _fields_ = [("next", ctypes.c_uint64), ("due", ctypes.c_uint32), ("reserved", ctypes.c_uint32)]
+
+
 def _found(path: Optional[str]) -> ctypes.CDLL:
     beside = Path(__file__).parent / _FILE
     return ctypes.CDLL(path or os.environ.get("AMQP_LIBRARY") or (str(beside) if beside.exists() else _FILE))
@@ -64,6 +76,10 @@ def load(path: Optional[str] = None) -> ctypes.CDLL:
     library.amqp1_take.restype = ctypes.c_int32
     library.amqp1_send.argtypes = [place, at, size, at, size, at, size, ctypes.POINTER(Went)]
     library.amqp1_send.restype = ctypes.c_int32
+    library.amqp1_tick.argtypes = [place, ctypes.c_uint64, ctypes.POINTER(Ticked)]
+    library.amqp1_tick.restype = ctypes.c_int32
+    library.amqp1_answer.argtypes = [place, ctypes.c_char_p, at, size, ctypes.c_uint16, ctypes.c_uint32]
+    library.amqp1_answer.restype = ctypes.c_int32
     library.amqp1_cut.argtypes = [place, at, at, size, at]
     library.amqp1_cut.restype = ctypes.c_int32
     return library
@@ -71,8 +87,8 @@ def load(path: Optional[str] = None) -> ctypes.CDLL:
 
 def _declare(new: Any, call: Any, free: Any) -> None:
     place, size = ctypes.POINTER(Place), ctypes.c_size_t
-    text = ctypes.c_char_p
-    new.argtypes, new.restype = [place, ctypes.POINTER(How), text, size, text, size, text, size], ctypes.c_int32
+    text, logins = ctypes.c_char_p, ctypes.POINTER(LoginHead)
+    new.argtypes, new.restype = [place, ctypes.POINTER(How), text, size, logins, size, text, size], ctypes.c_int32
     call.argtypes = [place, ctypes.c_uint32, ctypes.c_void_p, size, ctypes.c_void_p, size, ctypes.POINTER(size)]
     call.restype = ctypes.c_int32
     free.argtypes, free.restype = [place], None

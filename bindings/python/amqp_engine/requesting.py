@@ -16,6 +16,7 @@ from .performatives import Attach, Begin, Detach, Disposition, Error, Flow, Tran
 ) = range(2, 17)  # fmt: skip
 _REFUSAL, REMOTE_OPEN, _MAX_PIECE_LEN, _PAYLOAD_ROOM = range(18, 22)
 _SESSION_OF, _STATE, _SESSION_STATE = range(23, 26)
+_BEGIN_ANSWER, _END_ANSWER, _LET_GO = range(34, 37)
 
 _R = TypeVar("_R", bound="Requests")
 
@@ -34,6 +35,15 @@ SESSION_STATES = (
 
 class NoMemory(MemoryError):
     """Memory was refused. What was not taken was not done; frames that wait go out with a later call."""
+
+
+class AnswerLost(NoMemory):
+    """Memory was refused once the engine had begun a session. `is_sent`: its Begin went out, and the peer's was not taken, so that the connection is to be
+    closed; else the number is used, and the peer may be answered under another one."""
+
+    def __init__(self, is_sent: bool) -> None:
+        super().__init__("memory was refused once a session had begun")
+        self.is_sent = is_sent
 
 
 class BadArgument(ValueError):
@@ -106,6 +116,24 @@ class Requests:
     def forget(self, session: int) -> None:
         """A session that is over is let go."""
         self._ask(_FORGET, numbers(session))
+        self._numbers.pop(session, None)
+
+    def answer_begin(self, session: int, frame: bytes, begin: Optional[Begin] = None) -> None:
+        """The Begin by which the peer begins a session, a frame behind its size, is answered by a session under a number that none had. Raises `Refusal`
+        where it is not: `NotOpened`, `ChannelInUse`, `TooLarge`, or by the engine's name; and `AnswerLost` where memory was refused on the way."""
+        perf = (begin or Begin()).encode()
+        self._ask(_BEGIN_ANSWER, numbers(session, len(perf)) + perf + frame)
+        self._numbers[session] = 0
+
+    def answer_end(self, session: int, error: Optional[Error] = None) -> None:
+        """The End by which the peer ends a session is answered, and the session is let go. Raises `Refusal` where the peer has not ended it, or this side
+        has too (`NotEnded`), and as `let_go` does."""
+        self._ask(_END_ANSWER, numbers(session) + (b"\0" if error is None else b"\1" + error.encode()))
+        self._numbers.pop(session, None)
+
+    def let_go(self, session: int) -> None:
+        """A session that both sides have ended gives its channel back, and is let go: `release` and `forget`. Raises `Refusal` where it is not over."""
+        self._ask(_LET_GO, numbers(session))
         self._numbers.pop(session, None)
 
     def session_of(self, channel: int) -> Optional[int]:
@@ -195,8 +223,10 @@ class Requests:
     def _judge(self, status: int) -> None:
         if status == lib.DONE:
             return
-        if status == lib.REFUSED:
+        if status in (lib.REFUSED, lib.NOT_RELEASED, lib.NOT_FORGOTTEN):
             raise self._refusal()
+        if status in (lib.LOST, lib.BROKEN):
+            raise AnswerLost(status == lib.BROKEN)
         if status == lib.NO_MEMORY:
             raise NoMemory("memory was refused")
         if status == lib.NO_ENGINE:

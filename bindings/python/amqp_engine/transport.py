@@ -20,14 +20,15 @@ from collections import deque
 from typing import Any, AsyncIterator, Deque, Iterator, Optional, Union
 
 from . import sasl
+from . import opening as begins
 from .engine import Engine
 from .events import Refusal
+from .opening import SASL_CLIENT, SASL_SERVER, Challenged, HeaderCame, LoginAsked, NotOpened, Opening
 from .performatives import Begin, Error, Open
 from .serving import Server, ServerEvent
 from .stream import PeerSilent, Stream, Waits, within
 from .values import Malformed
 
-_AMQP, _SASL = b"AMQP\x00\x01\x00\x00", b"AMQP\x03\x01\x00\x00"
 _EMPTY_FRAME = b"\x00\x00\x00\x08\x02\x00\x00\x00"
 #: The least time between two empty frames, in seconds, whatever time-out a peer asks for
 _BRIEFEST = 0.05
@@ -65,9 +66,10 @@ class Connection:
         waits: Optional[Waits] = None,
         **how: Any,
     ) -> None:
-        #: the engine, of which a program asks what it wants to be sent
-        self.engine = Engine(open, **how)
-        self.server = None if serves is None else Server(self.engine, begin=serves)
+        #: the engine, of which a program asks what it wants to be sent; it is there from `begin` or `accept` on
+        self.engine: Engine
+        self.server: Optional[Server] = None
+        self._own, self._serves, self._how = open, serves, how
         self._waits = waits or Waits()
         self._stream = Stream(reader, writer, self._waits)
         self._own_limit = None if not open.idle_time_out else open.idle_time_out / 1000
@@ -83,63 +85,65 @@ class Connection:
 
     # ---- headers and SASL
 
-    async def _put(self, data: bytes) -> None:
-        self._stream.write(data)
-        await self._stream.drain()
-
-    async def _take_frame(self) -> bytes:
-        """A frame of SASL without its size (AMQP 1.0 part 5, section 5.3.1)."""
-        size = int.from_bytes(await self._stream.take(4), "big")
-        if not 8 <= size <= 512:
-            raise Malformed("a frame of SASL has from 8 to 512 bytes")
-        return await self._stream.take(size - 4)
-
-    async def _header(self, mine: bytes) -> None:
-        await self._put(mine)
-        theirs = await self._stream.take(8)
-        if theirs != mine:
-            raise HeaderRefused(f"the peer answers {theirs!r}")
-
     async def begin(self, login: Optional[sasl.Login] = None) -> None:
         """The client's part: SASL, if there is a login, and the protocol header."""
-        await within(self._waits.login, self._begin(login), "no protocol header and no answer to a login")
-        self._is_begun = True
-
-    async def _begin(self, login: Optional[sasl.Login]) -> None:
-        if login is not None:
-            await self._header(_SASL)
-            await self._put(sasl.init(login, await self._take_frame()))
-            if not sasl.is_taken(await self._take_frame()):
-                raise sasl.LoginRefused("the peer refused the login")
-        await self._header(_AMQP)
+        opening = Opening() if login is None else Opening(SASL_CLIENT, [sasl.said_by(login)])
+        await within(self._waits.login, self._open(opening, b"", None), "no protocol header and no answer to a login")
 
     async def accept(self, check: Optional[sasl.Check] = None) -> None:
         """The server's part. A client need not use SASL where no login is checked. What `check` raises is raised, after the login was refused."""
         await within(self._waits.login, self._accept(check), "no protocol header and no login")
-        self._is_begun = True
 
     async def _accept(self, check: Optional[sasl.Check]) -> None:
-        header = await self._stream.take(8)
-        if header == _SASL:
-            await self._put(_SASL + sasl.offers(check))
-            await self._judge(check)
-            header = await self._stream.take(8)
-        elif check is not None:
-            await self._put(_SASL)
-            raise HeaderRefused("a login is needed")
-        await self._put(_AMQP)
-        if header != _AMQP:
-            raise HeaderRefused(f"the peer begins with {header!r}")
+        came = b"" if check else await self._first()
+        has_sasl = check is not None or came[4:] == b"\x03"
+        opening = Opening(SASL_SERVER, [(sasl.offered_for(check), None)]) if has_sasl else Opening()
+        await self._open(opening, came, check)
 
-    async def _judge(self, check: Optional[sasl.Check]) -> None:
-        login = sasl.login_of(await self._take_frame())
+    async def _first(self) -> bytes:
+        """The first bytes of a client: up to the one that says whether it uses SASL."""
+        return await self._stream.take(5)
+
+    async def _open(self, opening: Opening, came: bytes, check: Optional[sasl.Check]) -> None:
+        self.engine = Engine(self._own, opening=opening, **self._how)
         try:
-            taken = await sasl.judge(login, check)
-        except Exception:
-            await self._put(sasl.outcome(sasl.SYS))
-            raise
-        await self._put(sasl.outcome(sasl.OK if taken else sasl.AUTH))
-        if not taken:
+            while not await self._passes(came, check):
+                await self.flush()
+                came = await self._some()
+        finally:
+            # what says why the stream is not opened goes out too
+            self.push()
+        self._is_begun = True
+        if self._serves is not None:
+            self.server = Server(self.engine, begin=self._serves)
+        self._coming = self.engine.receive(b"") if self.server is None else self.server.receive(self.engine.left())
+
+    async def _some(self) -> bytes:
+        came = await self._stream.read(None, "")
+        if not came:
+            raise ConnectionError("the peer hung up")
+        return came
+
+    async def _passes(self, came: bytes, check: Optional[sasl.Check]) -> bool:
+        """Takes what came of headers and SASL, and answers what is to be answered. True once the stream is open; what came behind is left to the engine."""
+        for event in self.engine.receive(came):
+            if isinstance(event, LoginAsked):
+                await self._judge(event, check)
+            elif isinstance(event, NotOpened):
+                raise error_of(event)
+            elif isinstance(event, Challenged):
+                raise sasl.LoginRefused("the peer asks for more than a login says")
+            elif isinstance(event, HeaderCame) and event.is_open:
+                return True
+        return False
+
+    async def _judge(self, asked: LoginAsked, check: Optional[sasl.Check]) -> None:
+        code = sasl.SYS
+        try:
+            code = sasl.OK if await sasl.judge(asked.response, check) else sasl.AUTH
+        finally:
+            self.engine.login(code)
+        if code != sasl.OK:
             raise sasl.LoginRefused("the login was refused")
 
     # ---- frames
@@ -277,7 +281,8 @@ class Connection:
             while True:
                 await asyncio.sleep(max(_BRIEFEST, self._stream.sent + limit / 2 - time.monotonic()))
                 if time.monotonic() - self._stream.sent >= limit / 2 and not self._stream.drains:
-                    await self._put(_EMPTY_FRAME)
+                    self._stream.write(_EMPTY_FRAME)
+                    await self._stream.drain()
 
     # ---- the end
 
@@ -288,7 +293,8 @@ class Connection:
         try:
             await self._stream.close()
         finally:
-            self.engine.free()
+            if hasattr(self, "engine"):
+                self.engine.free()
 
     async def close(self, error: Optional[Error] = None) -> None:
         """Sends a Close, and waits until the peer's has come; what else comes meanwhile is passed over. Raises `PeerSilent` where none comes in time."""
@@ -310,6 +316,15 @@ class Connection:
         while await self._pump():
             for _ in self._coming:
                 pass
+
+
+def error_of(event: NotOpened) -> Exception:
+    """Why a stream is not opened, as an error."""
+    if event.why in (begins.OTHER_PROTOCOL, begins.OTHER_HEADER, begins.NOT_AMQP):
+        return HeaderRefused(f"the peer begins with another header ({event.name})")
+    if event.why in (begins.MALFORMED_SASL, begins.UNEXPECTED_SASL):
+        return Malformed(f"no frame of SASL, or not one that was expected ({event.name})")
+    return sasl.LoginRefused(f"the login was refused ({event.name})")
 
 
 def condition_of(error: BaseException) -> str:

@@ -132,10 +132,10 @@ ticks_there g before after now z a t was is b f e ticks last answer = record {
   answer_is = answer;
 }
 
-pub answers_there : (g : Relays PlainRelay) (before after : Option ClientView) (flags : ℕ) (r : Record) (input : List ℕ) (z : ℤ) (s : Status) (was is : ClientView)
-    → before ≡ Some was → after ≡ Some is → z ≡ pos (status_number s) → AnswersOne g was flags r input s is
-    → AnswersThere g before flags r input (to_z w32 (of_z w32 z)) after
-answers_there g before after flags r input z s was is b f e answers = record {
+pub answers_there : (g : Relays PlainRelay) (before after : Option ClientView) (flags n : ℕ) (r : Record) (input : List ℕ) (z : ℤ) (s : Status) (was is : ClientView)
+    → before ≡ Some was → after ≡ Some is → z ≡ pos (status_number s) → AnswersOne g was flags n r input s is
+    → AnswersThere g before flags n r input (to_z w32 (of_z w32 z)) after
+answers_there g before after flags n r input z s was is b f e answers = record {
   was = was;
   is = is;
   lay_there = b;

@@ -31,9 +31,9 @@ use Rattle.amqp1.specs.Status.{answered_status, begun_status, ended_status}
 
 -- ---- what a record asks for
 
--- The stream gives what the record asks for, of the answers that the flags name; the status says what became of it, and a refusal is kept.
-abbrev pub AnswersOne : Relays PlainRelay → ClientView → ℕ → Record → List ℕ → Status → ClientView → Type 0
-AnswersOne g c flags r input s c' = (a : RecordAnswer) × AnswersRecord g c.stream flags r input a c'.stream × (s ≡ answered_status a)
+-- The stream gives what the record asks for, of the answers that the flags name, to a Begin by a session of this number; the status says what became of it, and a refusal is kept.
+abbrev pub AnswersOne : Relays PlainRelay → ClientView → ℕ → ℕ → Record → List ℕ → Status → ClientView → Type 0
+AnswersOne g c flags n r input s c' = (a : RecordAnswer) × AnswersRecord g c.stream flags (record { 0 = n }) r input a c'.stream × (s ≡ answered_status a)
     × (c'.last ≡ last_answered c.last c'.stream.driver.engine.connection.state a)
 
 -- ---- a Begin (AMQP 1.0 part 2, section 2.5.1)

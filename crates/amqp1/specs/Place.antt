@@ -64,7 +64,7 @@ pub record TakesThere (g : Relays PlainRelay) (before : Option ClientView) (now 
   pub last_is : is.last ≡ was.last
 
 -- The stream of the client that lay there gives what a record asks for, of the answers that the flags name; and that client lies there again.
-pub record AnswersThere (g : Relays PlainRelay) (before : Option ClientView) (flags : ℕ) (r : Record) (input : List ℕ) (z : ℤ)
+pub record AnswersThere (g : Relays PlainRelay) (before : Option ClientView) (flags n : ℕ) (r : Record) (input : List ℕ) (z : ℤ)
     (after : Option ClientView) : Type 0 where
   pub was : ClientView
   pub is : ClientView
@@ -72,7 +72,7 @@ pub record AnswersThere (g : Relays PlainRelay) (before : Option ClientView) (fl
   pub lies_there : after ≡ Some is
   pub said : Status
   pub status_is : Is z said
-  pub answers : AnswersOne g was flags r input said is
+  pub answers : AnswersOne g was flags n r input said is
 
 -- A head is cut by the limit of the peer of the client that lay there, and that client lies there again. Or memory was refused.
 pub record CutsThere (before : Option ClientView) (head : TransferHead) (bytes : List ℕ) (old : Cut) (z : ℤ) (new : Cut)

@@ -162,8 +162,8 @@ pub extern "C" fn amqp1_take(
     }
 }
 
-/// Gives what a record asks for that `amqp1_take` wrote, of the answers that `flags` names, by `Stream::answer`: `input` is the one of that call. What
-/// became of it is the status. `NO_ENGINE` where no client lies in the place.
+/// Gives what a record asks for that `amqp1_take` wrote, of the answers that `flags` names, by `Stream::answer`: `input` is the one of that call, and
+/// `number` that of a session that begins. What became of it is the status. `NO_ENGINE` where no client lies in the place.
 #[unsafe(no_mangle)]
 pub extern "C" fn amqp1_answer(
     alloc: Global,
@@ -171,16 +171,17 @@ pub extern "C" fn amqp1_answer(
     record: &Record,
     input: &[u8],
     flags: u16,
+    number: u32,
 ) -> i32
     ensures empty { place.old.full ≡ 0 → Is result status.NoEngine × (place.new.full ≡ 0) }
     ensures answered { 0 < place.old.full → (0 < place.new.full)
-        × AnswersThere ⟦<PlainRelay as LinkRelay>⟧.gives place.old.slot.held flags «record».now input.now result place.new.slot.held }
+        × AnswersThere ⟦<PlainRelay as LinkRelay>⟧.gives place.old.slot.held flags number «record».now input.now result place.new.slot.held }
 {
     let old = std::mem::replace(place, Place::empty(alloc));
     match old.into_client() {
         None => Status::NoEngine.number(),
         Some(mut client) => {
-            let status = client.answer(record, input, flags);
+            let status = client.answer(record, input, flags, number);
             *place = Place::of(client);
             status.number()
         }

@@ -1,4 +1,4 @@
-mod ChainLemmas
+pub mod ChainLemmas
 mod SenderLemmas
 mod ReceiverLemmas
 mod GrantLemmas

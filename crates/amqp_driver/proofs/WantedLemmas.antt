@@ -71,30 +71,30 @@ due_by_calls (Some p) g v w n answer.Nothing x = absurd x
 due_by_calls (Some p) g v w n (answer.Begin a) x = absurd x
 due_by_calls (Some p) g v w n (answer.End a) x = absurd x
 
-pub wanted_by_calls : {R : Type 0} (n : Wanted) (g : Relays R) (v w : StreamView R) (r : Record) (bytes : List ℕ) (a : RecordAnswer)
-    → AnswersWanted n g v r bytes a w → IsMadeOfCalls g v w
-wanted_by_calls want.Begin g v w r bytes (answer.Begin a) x =
-    (begins (frame_in r bytes) (session_no r.channel) default_settings a ∷ [], (w, x, refl))
-wanted_by_calls want.End g v w r bytes (answer.End a) x = ends_by_calls g v w (session_no r.session) a x
-wanted_by_calls want.Close g v w r bytes (answer.Asked a) x = (asks (input.Close None) a ∷ [], (w, x, refl))
-wanted_by_calls want.Refusal g v w r bytes a x = due_by_calls (answer_due v r) g v w (session_no r.session) a x
-wanted_by_calls want.Nothing g v w r bytes answer.Nothing x = ([], x)
-wanted_by_calls want.Begin g v w r bytes answer.Nothing x = absurd x
-wanted_by_calls want.Begin g v w r bytes (answer.End a) x = absurd x
-wanted_by_calls want.Begin g v w r bytes (answer.Asked a) x = absurd x
-wanted_by_calls want.Begin g v w r bytes answer.NoMemory x = absurd x
-wanted_by_calls want.End g v w r bytes answer.Nothing x = absurd x
-wanted_by_calls want.End g v w r bytes (answer.Begin a) x = absurd x
-wanted_by_calls want.End g v w r bytes (answer.Asked a) x = absurd x
-wanted_by_calls want.End g v w r bytes answer.NoMemory x = absurd x
-wanted_by_calls want.Close g v w r bytes answer.Nothing x = absurd x
-wanted_by_calls want.Close g v w r bytes (answer.Begin a) x = absurd x
-wanted_by_calls want.Close g v w r bytes (answer.End a) x = absurd x
-wanted_by_calls want.Close g v w r bytes answer.NoMemory x = absurd x
-wanted_by_calls want.Nothing g v w r bytes (answer.Begin a) x = absurd x
-wanted_by_calls want.Nothing g v w r bytes (answer.End a) x = absurd x
-wanted_by_calls want.Nothing g v w r bytes (answer.Asked a) x = absurd x
-wanted_by_calls want.Nothing g v w r bytes answer.NoMemory x = absurd x
+pub wanted_by_calls : {R : Type 0} (wanted : Wanted) (g : Relays R) (v w : StreamView R) (n : SessionNo) (r : Record) (bytes : List ℕ) (a : RecordAnswer)
+    → AnswersWanted wanted g v n r bytes a w → IsMadeOfCalls g v w
+wanted_by_calls want.Begin g v w n r bytes (answer.Begin a) x =
+    (begins (frame_in r bytes) n default_settings a ∷ [], (w, x, refl))
+wanted_by_calls want.End g v w n r bytes (answer.End a) x = ends_by_calls g v w (session_no r.session) a x
+wanted_by_calls want.Close g v w n r bytes (answer.Asked a) x = (asks (input.Close None) a ∷ [], (w, x, refl))
+wanted_by_calls want.Refusal g v w n r bytes a x = due_by_calls (answer_due v r) g v w (session_no r.session) a x
+wanted_by_calls want.Nothing g v w n r bytes answer.Nothing x = ([], x)
+wanted_by_calls want.Begin g v w n r bytes answer.Nothing x = absurd x
+wanted_by_calls want.Begin g v w n r bytes (answer.End a) x = absurd x
+wanted_by_calls want.Begin g v w n r bytes (answer.Asked a) x = absurd x
+wanted_by_calls want.Begin g v w n r bytes answer.NoMemory x = absurd x
+wanted_by_calls want.End g v w n r bytes answer.Nothing x = absurd x
+wanted_by_calls want.End g v w n r bytes (answer.Begin a) x = absurd x
+wanted_by_calls want.End g v w n r bytes (answer.Asked a) x = absurd x
+wanted_by_calls want.End g v w n r bytes answer.NoMemory x = absurd x
+wanted_by_calls want.Close g v w n r bytes answer.Nothing x = absurd x
+wanted_by_calls want.Close g v w n r bytes (answer.Begin a) x = absurd x
+wanted_by_calls want.Close g v w n r bytes (answer.End a) x = absurd x
+wanted_by_calls want.Close g v w n r bytes answer.NoMemory x = absurd x
+wanted_by_calls want.Nothing g v w n r bytes (answer.Begin a) x = absurd x
+wanted_by_calls want.Nothing g v w n r bytes (answer.End a) x = absurd x
+wanted_by_calls want.Nothing g v w n r bytes (answer.Asked a) x = absurd x
+wanted_by_calls want.Nothing g v w n r bytes answer.NoMemory x = absurd x
 
 -- ---- by which numbers
 

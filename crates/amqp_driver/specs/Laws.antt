@@ -93,7 +93,7 @@ IsMadeOfCalls g v w = (cs : List (Call _)) × CallsEach g v cs w
 
 -- `answer` and `let_go` are made of calls that have a place of their own in a chain: so what holds over every chain holds with them in it.
 abbrev pub AnswersByCalls : {R : Type 0} → Relays R → Type 0
-AnswersByCalls g = (v w : StreamView _) (flags : ℕ) (r : Record) (input : List ℕ) (a : RecordAnswer) → AnswersRecord g v flags r input a w
+AnswersByCalls g = (v w : StreamView _) (flags : ℕ) (n : SessionNo) (r : Record) (input : List ℕ) (a : RecordAnswer) → AnswersRecord g v flags n r input a w
     → IsMadeOfCalls g v w
 
 abbrev pub LetsGoByCalls : {R : Type 0} → Relays R → Type 0

@@ -111,14 +111,14 @@ frame_in r bytes = take (r.size + 4) (drop (r.at - 4) bytes)
 abbrev pub session_no : ℕ → SessionNo
 session_no n = record { 0 = n }
 
--- A session that the peer begins gets the number of its channel.
-abbrev pub AnswersWanted : {R : Type 0} → Wanted → Relays R → StreamView R → Record → List ℕ → RecordAnswer → StreamView R → Type 0
-AnswersWanted want.Begin g v r bytes (answer.Begin a) w = BeginsStream g v (frame_in r bytes) (session_no r.channel) default_settings a w
-AnswersWanted want.End g v r bytes (answer.End a) w = EndsOrLetsGo g v (session_no r.session) a w
-AnswersWanted want.Close g v r bytes (answer.Asked a) w = AsksStream g v (input.Close None) a w
-AnswersWanted want.Refusal g v r bytes a w = AnswersIfDue (answer_due v r) g v (session_no r.session) a w
-AnswersWanted want.Nothing g v r bytes answer.Nothing w = w ≡ v
-AnswersWanted n g v r bytes a w = ⊥
+-- A session that the peer begins gets this number.
+abbrev pub AnswersWanted : {R : Type 0} → Wanted → Relays R → StreamView R → SessionNo → Record → List ℕ → RecordAnswer → StreamView R → Type 0
+AnswersWanted want.Begin g v n r bytes (answer.Begin a) w = BeginsStream g v (frame_in r bytes) n default_settings a w
+AnswersWanted want.End g v n r bytes (answer.End a) w = EndsOrLetsGo g v (session_no r.session) a w
+AnswersWanted want.Close g v n r bytes (answer.Asked a) w = AsksStream g v (input.Close None) a w
+AnswersWanted want.Refusal g v n r bytes a w = AnswersIfDue (answer_due v r) g v (session_no r.session) a w
+AnswersWanted want.Nothing g v n r bytes answer.Nothing w = w ≡ v
+AnswersWanted wanted g v n r bytes a w = ⊥
 
-abbrev pub AnswersRecord : {R : Type 0} → Relays R → StreamView R → ℕ → Record → List ℕ → RecordAnswer → StreamView R → Type 0
-AnswersRecord g v flags r bytes a w = AnswersWanted (wanted_by flags r) g v r bytes a w
+abbrev pub AnswersRecord : {R : Type 0} → Relays R → StreamView R → ℕ → SessionNo → Record → List ℕ → RecordAnswer → StreamView R → Type 0
+AnswersRecord g v flags n r bytes a w = AnswersWanted (wanted_by flags r) g v n r bytes a w

@@ -1,7 +1,8 @@
 //! The calls of a reader and of a writer. Where one fails, its caller can cite that the error is its own, and nothing else makes that so.
 
 ghost use Rattle.std.specs.Prelude.{IfOk, IfErr, OnOk, IsTrue};
-ghost use Rattle.std.specs.Io.KnownBytes.{Appends, Consumes, Keeps, IsAtEnd};
+ghost use Rattle.std.specs.Io.KnownBytes.{Appends, Consumes, Keeps, IsAtEnd, ReadConsumes};
+ghost use Rattle.std.specs.Io.{ReadsAtMost};
 ghost use Rattle.amqp_transport.specs.Failing.{ReadFailed, WriteFailed, Flushed};
 
 use std::io::{self, BufRead, Read, Write};
@@ -14,6 +15,17 @@ pub(crate) fn is_at_end<I: BufRead>(input: &mut I) -> io::Result<bool>
     ensures failed { IfErr result (λ e. ReadFailed e) }
 {
     Ok(input.fill_buf()?.is_empty())
+}
+
+/// Reads once, at most as many bytes as there are places.
+#[inline(always)]
+#[tactic(auto, unfolding(crate::specs::Failing::ReadFailed))]
+pub(crate) fn read<I: Read>(input: &mut I, places: &mut [u8]) -> io::Result<usize>
+    ensures bound { ReadsAtMost result places.new }
+    ensures bytes { ReadConsumes (I.remaining input.old) (I.remaining input.new) result places.new }
+    ensures failed { IfErr result (λ e. ReadFailed e) }
+{
+    input.read(places)
 }
 
 /// Reads as many bytes as there are places.

@@ -1,48 +1,38 @@
 //! Links: what the broker answers to an Attach and to a Detach of the client's.
 
-use crate::broker::{Broker, Progress, attach_of};
+use crate::broker::{Broker, Progress};
 use crate::consumers::Consumer;
 use crate::senders::{MOST_MESSAGE, Sender};
 use crate::unsettled::give_back;
+use amqp_driver::Record;
 use amqp_events::{EventRelay, LinkNames, Policy};
 use amqp_transport::{marked_name, push};
 use bytes::Bytes;
-use fe2o3_amqp::{Attach, Detach, Handle, IncomingChannel, Input, InputHandle, Role, SessionNo};
-use std::io::{self, Write};
+use fe2o3_amqp::{
+    Attach, Detach, ErrorCondition, FrameBody, FrameDecoder, Handle, Input, InputHandle, Role,
+    SessionNo,
+};
+use std::alloc::Global;
+use std::io;
 
 impl Broker {
     /// A link of the client's: it is allotted under its name and the client's role, and the client's Attach is answered.
-    pub fn take_attach<O: Write>(
-        &mut self,
-        channel: u16,
-        frame: Bytes,
-        output: &mut O,
-    ) -> io::Result<Progress> {
-        let Some(number) = self.engine.session_of(IncomingChannel(channel)) else {
-            // refused by name: no session
-            return self.receive(frame, output);
-        };
-        let Some(theirs) = attach_of(self.alloc, frame.clone()?) else {
-            // refused by name: no frame
-            return self.receive(frame, output);
-        };
-        drop(frame);
-        self.attach(number, theirs, output)
+    pub fn take_attach(&mut self, record: &Record) -> io::Result<Progress> {
+        let frame = self.frame_of(record)?;
+        match attach_of(self.alloc, frame) {
+            Some(theirs) => self.attach(SessionNo(record.session), theirs),
+            None => self.fail(ErrorCondition::DecodeError),
+        }
     }
 
     /// Allots a link, and answers the Attach.
-    fn attach<O: Write>(
-        &mut self,
-        number: SessionNo,
-        theirs: Attach,
-        output: &mut O,
-    ) -> io::Result<Progress> {
+    fn attach(&mut self, number: SessionNo, theirs: Attach) -> io::Result<Progress> {
         if self.has_link(number.0, theirs.handle.0) {
             drop(theirs);
-            return self.fail("HandleInUse", output);
+            return self.fail(ErrorCondition::HandleInUse);
         }
-        match self.allot(number, &theirs, output) {
-            Ok(Some(output_handle)) => self.answer_attach(number, output_handle, theirs, output),
+        match self.allot(number, &theirs) {
+            Ok(Some(output_handle)) => self.answer_attach(number, output_handle, theirs),
             // prover
             Ok(None) => {
                 drop(theirs);
@@ -66,12 +56,7 @@ impl Broker {
     }
 
     /// Allots a link for an Attach of the client's. `None` where that is refused, and the connection closed for it.
-    fn allot<O: Write>(
-        &mut self,
-        number: SessionNo,
-        theirs: &Attach,
-        output: &mut O,
-    ) -> io::Result<Option<Handle>> {
+    fn allot(&mut self, number: SessionNo, theirs: &Attach) -> io::Result<Option<Handle>> {
         let name = marked_name(self.alloc, theirs.role, theirs.name.as_str())?;
         let input = InputHandle(theirs.handle.0);
         let policy = Policy::new(other_end(theirs.role), theirs.rcv_settle_mode);
@@ -80,21 +65,20 @@ impl Broker {
             &mut self.inputs,
             Input::AllocateIncomingLink(SessionNo(number.0), name.clone()?, relay, input),
         )?;
-        if self.run(output)? == Progress::Over {
+        if self.run()? == Progress::Over {
             return Ok(None);
         }
-        match self.engine.output_handle(number, name.as_str()) {
+        match self.engine().output_handle(number, name.as_str()) {
             None => Ok(None),
             Some(handle) => Ok(Some(Handle(handle.0))),
         }
     }
 
-    fn answer_attach<O: Write>(
+    fn answer_attach(
         &mut self,
         number: SessionNo,
         handle: Handle,
         theirs: Attach,
-        output: &mut O,
     ) -> io::Result<Progress> {
         if theirs.role == Role::Receiver {
             self.consumers.push(Consumer::new(
@@ -117,7 +101,7 @@ impl Broker {
             &mut self.inputs,
             Input::Attach(number, answer_to(theirs, handle)),
         )?;
-        self.go_on(output)
+        self.go_on()
     }
 
     /// The client detached: the link goes on this side too, and messages that were sent on it and not settled go back.
@@ -170,5 +154,26 @@ fn answer_to(theirs: Attach, handle: Handle) -> Attach {
         initial_delivery_count: if is_sender { Some(0) } else { None },
         max_message_size: if is_sender { None } else { Some(MOST_MESSAGE) },
         ..Attach::new(theirs.name, handle, role)
+    }
+}
+
+/// The Attach that a frame holds, if it is one.
+fn attach_of(alloc: Global, frame: Bytes) -> Option<Attach> {
+    match FrameDecoder::new().decode(alloc, frame) {
+        Ok((frame, rest)) => {
+            drop(rest);
+            attach_in(frame.into_body())
+        }
+        Err(_) => None,
+    }
+}
+
+fn attach_in(body: FrameBody) -> Option<Attach> {
+    match body {
+        FrameBody::Attach(attach) => Some(attach),
+        other => {
+            drop(other);
+            None
+        }
     }
 }

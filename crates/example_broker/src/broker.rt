@@ -1,22 +1,21 @@
-//! The broker: what a client's frames ask of an engine, and the queue.
+//! The broker: what a client's frames ask of a stream, and the queue.
 
 use crate::consumers::Consumer;
-use crate::faults::{begin_fault, error_of, first_fault};
+use crate::faults::{begin_fault, fault_of, refused_fault};
 use crate::message::Message;
 use crate::senders::Sender;
 use crate::unsettled::{Unsettled, give_back};
+use amqp_driver::{EndAnswer, Record, Status, Stream, kind};
 use amqp_events::{EventRelay, Room, SharedQueue};
-use amqp_transport::{
-    Turned, begin_session, close, exchange_headers, next_frame, push, run, write_frame,
-};
+use amqp_sasl::Opening;
+use amqp_transport::{Came, Received, Round, exchange, push, write_waiting};
 use bytes::Bytes;
 use fe2o3_amqp::{
-    Attach, ConnectionState, DEFAULT_CHANNEL_MAX, Engine, FrameBody, FrameDecoder, IncomingChannel,
-    Input, KeyHash, Kind, Open, Refusal, SendBuffer, SessionNo, SessionSettings,
+    DEFAULT_CHANNEL_MAX, Engine, ErrorCondition, Input, KeyHash, Open, SessionNo, SessionSettings,
 };
 use std::alloc::Global;
 use std::collections::VecDeque;
-use std::io::{self, BufRead, Write};
+use std::io::{self, ErrorKind, Read, Write};
 
 /// The largest frame that this side takes.
 const MAX_FRAME_SIZE: u32 = 65536;
@@ -58,11 +57,11 @@ pub struct Served {
 #[derive(Drop)]
 pub struct Broker {
     pub alloc: Global,
-    pub engine: Engine<Relay>,
+    stream: Stream<Relay>,
+    received: Received,
     pub events: SharedQueue,
+    /// The requests that are made before the next frame is taken.
     pub inputs: VecDeque<Input<Relay>>,
-    pub out: SendBuffer,
-    pub refusals: Vec<Refusal>,
     pub sessions: Vec<Served>,
     pub senders: Vec<Sender>,
     pub consumers: Vec<Consumer>,
@@ -71,21 +70,21 @@ pub struct Broker {
     /// How many bytes of memory all messages take, about.
     pub held: usize,
     /// What the client did that it may not do, if anything.
-    pub fault: Option<&'static str>,
+    pub fault: Option<ErrorCondition>,
 }
 
 impl Broker {
     /// A broker whose queue is empty. By the hash its engine finds names, handles and channels that the client chooses.
-    pub fn new(alloc: Global, hash: KeyHash) -> io::Result<Broker> {
+    pub fn new(alloc: Global, hash: KeyHash) -> anyhow::Result<Broker> {
         let events = SharedQueue::with_room(alloc, ROOM)?;
         let open = open(alloc)?;
+        let stream = Stream::new(alloc, 0, None, Opening::plain(alloc), hash, open)?;
         Ok(Broker {
             alloc,
-            engine: Engine::keyed(alloc, hash, ConnectionState::HeaderExchange, open),
+            stream,
+            received: Received::new(alloc, MAX_FRAME_SIZE),
             events,
             inputs: VecDeque::new(alloc),
-            out: SendBuffer::new(alloc),
-            refusals: Vec::new(alloc),
             sessions: Vec::new(alloc),
             senders: Vec::new(alloc),
             consumers: Vec::new(alloc),
@@ -97,132 +96,135 @@ impl Broker {
     }
 
     /// Opens, and takes frames until the client's Close, a fault of the client's, or the end of the input.
-    pub fn serve<I: BufRead, O: Write>(&mut self, input: &mut I, output: &mut O) -> io::Result<()> {
-        exchange_headers(input, output)?;
+    pub fn serve<I: Read, O: Write>(&mut self, input: &mut I, output: &mut O) -> io::Result<()> {
         push(&mut self.inputs, Input::Open)?;
-        self.run(output)?;
+        let mut progress = self.run()?;
         for _ in 0..u64::MAX {
-            let Some(frame) = next_frame(self.alloc, input, MAX_FRAME_SIZE)? else {
-                return Ok(());
-            };
-            if self.take(frame, output)? == Progress::Over {
-                return Ok(());
+            if progress == Progress::Over {
+                break;
             }
+            progress = self.round(input, output)?;
         }
-        Ok(())
+        write_waiting(&mut self.stream, output)
     }
 
-    /// Runs what was asked. A fault closes the connection.
-    pub fn run<O: Write>(&mut self, output: &mut O) -> io::Result<Progress> {
-        run(
-            &mut self.engine,
-            &mut self.inputs,
-            &mut self.out,
-            &mut self.refusals,
+    /// The engine: its sessions, and what the client's Open says.
+    pub fn engine(&self) -> &Engine<Relay> {
+        self.stream.engine()
+    }
+
+    /// One round: sends what waits, and takes a frame at most, for one record is all that there is room for. So the queue of events holds what one
+    /// frame brings.
+    fn round<I: Read, O: Write>(&mut self, input: &mut I, output: &mut O) -> io::Result<Progress> {
+        let mut records = [Record::empty()];
+        let round = exchange(
+            &mut self.stream,
+            0,
+            &mut self.received,
+            &mut records,
+            input,
             output,
         )?;
-        let fault = first_fault(self.refusals.as_slice());
-        self.refusals.clear();
-        match fault {
-            None => Ok(Progress::On),
-            Some(fault) => self.fail(fault, output),
+        let progress = self.take_round(round, &records[0])?;
+        self.received.take(round.taken.taken);
+        Ok(progress)
+    }
+
+    fn take_round(&mut self, round: Round, record: &Record) -> io::Result<Progress> {
+        if round.taken.status == Status::NoMemory {
+            return Err(io::Error::from(ErrorKind::OutOfMemory));
         }
+        if round.taken.written > 0 && self.take(record)? == Progress::Over {
+            return Ok(Progress::Over);
+        }
+        if round.came == Some(Came::End) || self.stream.is_over() {
+            return Ok(Progress::Over);
+        }
+        Ok(Progress::On)
+    }
+
+    /// Makes the requests that wait. A fault closes the connection.
+    pub fn run(&mut self) -> io::Result<Progress> {
+        for _ in 0..self.inputs.len() {
+            let Some(input) = self.inputs.pop_front() else {
+                break;
+            };
+            let asked = self.stream.request(input);
+            if let Some(fault) = fault_of(asked) {
+                return self.fail(fault);
+            }
+        }
+        if self.stream.driver().unfit() > 0 {
+            return self.fail(ErrorCondition::FrameSizeTooSmall);
+        }
+        Ok(Progress::On)
     }
 
     /// Closes the connection for a fault.
-    pub fn fail<O: Write>(&mut self, fault: &str, output: &mut O) -> io::Result<Progress> {
-        let error = error_of(self.alloc, fault)?;
-        close(
-            &mut self.engine,
-            &mut self.inputs,
-            &mut self.out,
-            &mut self.refusals,
-            output,
-            error,
-        )?;
-        self.refusals.clear();
+    pub fn fail(&mut self, fault: ErrorCondition) -> io::Result<Progress> {
+        self.inputs.clear();
+        let error = fault.to_error(self.alloc)?;
+        drop(self.stream.request(Input::Close(Some(error))));
         Ok(Progress::Over)
     }
 
-    /// Takes a frame of the client's: a Begin is turned, an Attach allots a link, and all else is the engine's.
-    fn take<O: Write>(&mut self, frame: Bytes, output: &mut O) -> io::Result<Progress> {
-        let (channel, kind) = head_of(frame.clone()?);
-        match kind {
-            Some(Kind::Begin) => self.take_begin(frame, output),
-            Some(Kind::Attach) => self.take_attach(channel, frame, output),
-            Some(Kind::End) => self.take_end(channel, frame, output),
-            Some(Kind::Close) => self.take_close(frame, output),
-            _ => self.take_other(frame, output),
+    /// Takes what a record tells: a Begin and an End of the client's are answered, an Attach allots a link, and of links events tell.
+    fn take(&mut self, record: &Record) -> io::Result<Progress> {
+        match record.kind {
+            kind::BEGIN_WANTED => self.take_begin(record),
+            kind::ATTACH_WANTED => self.take_attach(record),
+            kind::ENDED => self.take_end(SessionNo(record.session)),
+            kind::CLOSED => self.take_close(),
+            kind::REFUSED => self.fail(refused_fault(record.refusal)),
+            _ => self.take_events(),
         }
     }
 
-    fn take_close<O: Write>(&mut self, frame: Bytes, output: &mut O) -> io::Result<Progress> {
-        if self.receive(frame, output)? == Progress::On {
-            push(&mut self.inputs, Input::Close(None))?;
-            self.run(output)?;
-        }
+    fn take_close(&mut self) -> io::Result<Progress> {
+        drop(self.stream.request(Input::Close(None)));
         Ok(Progress::Over)
     }
 
-    /// Gives the engine a frame.
-    pub fn receive<O: Write>(&mut self, frame: Bytes, output: &mut O) -> io::Result<Progress> {
-        push(&mut self.inputs, Input::Received(frame))?;
-        self.run(output)
+    /// The bytes of the frame that a record tells of, behind its size.
+    pub fn frame_of(&self, record: &Record) -> io::Result<Bytes> {
+        Ok(Bytes::copy_from_slice(self.alloc, frame_in(self.received.bytes(), record))?)
     }
 
-    /// A session that the client begins is one that the engine begins: the two Begins are turned.
-    fn take_begin<O: Write>(&mut self, frame: Bytes, output: &mut O) -> io::Result<Progress> {
+    /// A session that the client begins is one that this side's engine begins.
+    fn take_begin(&mut self, record: &Record) -> io::Result<Progress> {
         let Ok(number) = u32::try_from(self.sessions.len()) else {
-            return self.fail("OutOfMemory", output);
+            return self.fail(ErrorCondition::ResourceLimitExceeded);
         };
         self.sessions.push(Served { deliveries: 0 })?;
-        let limit = self.engine.max_piece_len();
-        match begin_session(
-            self.alloc,
-            &mut self.engine,
+        let answer = self.stream.answer_begin(
+            frame_in(self.received.bytes(), record),
             SessionNo(number),
             SessionSettings::default(),
-            frame,
-            limit,
-        ) {
-            Ok(turned) => self.answer_begin(turned, output),
-            Err(error) => {
-                let fault = begin_fault(&error);
-                drop(error);
-                self.fail(fault, output)
-            }
+        );
+        match begin_fault(answer) {
+            None => Ok(Progress::On),
+            Some(fault) => self.fail(fault),
         }
-    }
-
-    fn answer_begin<O: Write>(&mut self, turned: Turned, output: &mut O) -> io::Result<Progress> {
-        let Turned { to_send, to_take } = turned;
-        write_frame(&to_send, output)?;
-        drop(to_send);
-        self.receive(to_take, output)
     }
 
     /// The session is over on both sides: its number stays used, and messages that were sent on it and not settled go back.
-    fn take_end<O: Write>(
-        &mut self,
-        channel: u16,
-        frame: Bytes,
-        output: &mut O,
-    ) -> io::Result<Progress> {
-        let number = self.engine.session_of(IncomingChannel(channel));
-        if self.receive(frame, output)? == Progress::Over {
-            return Ok(Progress::Over);
+    fn take_end(&mut self, number: SessionNo) -> io::Result<Progress> {
+        let is_done = is_done(self.stream.answer_end(SessionNo(number.0), None));
+        if !is_done {
+            return self.fail(ErrorCondition::ResourceLimitExceeded);
         }
-        let Some(number) = number else {
-            return Ok(Progress::On);
-        };
-        push(&mut self.inputs, Input::End(number, None))?;
-        push(&mut self.inputs, Input::Release(number))?;
-        push(&mut self.inputs, Input::Forget(number))?;
         self.drop_senders(number.0, None);
         self.consumers.retain(|it| it.session != number.0);
         give_back(&mut self.unsettled, number.0, None, &mut self.queue)?;
-        self.go_on(output)
+        self.go_on()
     }
+}
+
+/// Whether a session is over on both sides.
+fn is_done(answer: EndAnswer) -> bool {
+    let is_done = matches!(&answer, EndAnswer::Done);
+    drop(answer);
+    is_done
 }
 
 /// This side's Open.
@@ -235,34 +237,9 @@ fn open(alloc: Global) -> io::Result<Open> {
     })
 }
 
-/// The channel of a frame and what it says, if anything: the engine refuses by name what is no frame.
-fn head_of(frame: Bytes) -> (u16, Option<Kind>) {
-    let mut fields = frame;
-    let head = FrameDecoder::new().head(&mut fields);
-    drop(fields);
-    match head {
-        Ok(head) => (head.channel, head.kind),
-        Err(_) => (0, None),
-    }
-}
-
-/// The Attach that a frame holds, if it is one.
-pub fn attach_of(alloc: Global, frame: Bytes) -> Option<Attach> {
-    match FrameDecoder::new().decode(alloc, frame) {
-        Ok((frame, rest)) => {
-            drop(rest);
-            attach_in(frame.into_body())
-        }
-        Err(_) => None,
-    }
-}
-
-fn attach_in(body: FrameBody) -> Option<Attach> {
-    match body {
-        FrameBody::Attach(attach) => Some(attach),
-        other => {
-            drop(other);
-            None
-        }
-    }
+/// The bytes of a frame behind its size: its performative stands four bytes behind their beginning.
+fn frame_in<'a>(received: &'a [u8], record: &Record) -> &'a [u8] {
+    let at = record.at as usize;
+    let to = at.saturating_add(record.size as usize);
+    received.get(at.saturating_sub(4)..to).unwrap_or(&[])
 }

@@ -1,79 +1,60 @@
-//! Faults: what a client did that the engine refuses, and the error that closes the connection for it.
+//! Faults: for which condition the connection is closed (AMQP 1.0 part 2, sections 2.8.15 to 2.8.18).
 
-use amqp_transport::{BeginSessionError, TurnError};
-use fe2o3_amqp::definitions::Error;
+use amqp_driver::{Asked, BeginAnswer, answer_by_number};
+use amqp_transport::TurnError;
 use fe2o3_amqp::frames::Error as FrameError;
-use fe2o3_amqp::{ConnectionStateError, Refusal, SessionStateError, StepError, Symbol, err_name};
-use std::alloc::{AllocError, Global};
+use fe2o3_amqp::{ConnectionState, ErrorCondition, PeerAnswer, StepError, answer_to};
 
-/// The name of the first refusal that is a fault; an End and a Close of the client's are none, though they are told as refusals.
-pub fn first_fault(refusals: &[Refusal]) -> Option<&'static str> {
-    for refusal in refusals.iter() {
-        match refusal {
-            Refusal::Input { place: _, error } => {
-                if !is_an_end(error) {
-                    return Some(err_name(error));
-                }
-            }
-            Refusal::Frame { place: _, frame: _ } => return Some("TooLarge"),
+/// The fault of a frame that was refused, by the number of its refusal.
+pub fn refused_fault(refusal: u32) -> ErrorCondition {
+    condition_of(answer_by_number(refusal))
+}
+
+/// The fault of a request, if it was not done. Where the stream is over, nothing is to be said any more.
+pub fn fault_of(asked: Asked) -> Option<ErrorCondition> {
+    match asked {
+        Asked::Done | Asked::Over => None,
+        Asked::TooLarge => Some(ErrorCondition::FrameSizeTooSmall),
+        Asked::NoMemory => Some(ErrorCondition::ResourceLimitExceeded),
+        Asked::Refused(error) => Some(step_fault(error)),
+    }
+}
+
+/// The fault of a Begin, if it was not answered.
+pub fn begin_fault(answer: BeginAnswer) -> Option<ErrorCondition> {
+    match answer {
+        BeginAnswer::Done => None,
+        BeginAnswer::Unread(error) => Some(turn_fault(error)),
+        BeginAnswer::NotOpened | BeginAnswer::ChannelInUse => Some(ErrorCondition::IllegalState),
+        BeginAnswer::TooLarge => Some(ErrorCondition::FrameSizeTooSmall),
+        BeginAnswer::Refused(error) => Some(step_fault(error)),
+        BeginAnswer::NoMemory | BeginAnswer::Lost | BeginAnswer::Broken => {
+            Some(ErrorCondition::ResourceLimitExceeded)
         }
     }
-    None
 }
 
-/// Whether this tells that the peer closed or ended in order.
-fn is_an_end(error: &StepError) -> bool {
-    match error {
-        StepError::ConnectionState(ConnectionStateError::RemoteClosed) => true,
-        StepError::ConnectionState(ConnectionStateError::RemoteClosedWithError(_)) => true,
-        StepError::SessionState(SessionStateError::RemoteEnded) => true,
-        StepError::SessionState(SessionStateError::RemoteEndedWithError(_)) => true,
-        _ => false,
+fn step_fault(error: StepError) -> ErrorCondition {
+    let answer = answer_to(&error, ConnectionState::Opened);
+    drop(error);
+    condition_of(answer)
+}
+
+fn condition_of(answer: Option<PeerAnswer>) -> ErrorCondition {
+    match answer {
+        Some(PeerAnswer::End(condition)) | Some(PeerAnswer::Close(condition)) => condition,
+        None => ErrorCondition::NotAllowed,
     }
 }
 
-/// The condition of a fault (AMQP 1.0 part 2, sections 2.8.15 to 2.8.18).
-fn condition(fault: &str) -> &'static str {
-    match fault {
-        "DecodeError" => "amqp:decode-error",
-        "NotImplemented" => "amqp:not-implemented",
-        "OutOfMemory" => "amqp:resource-limit-exceeded",
-        "UnattachedHandle" => "amqp:session:unattached-handle",
-        "HandleInUse" => "amqp:session:handle-in-use",
-        "TooLarge" => "amqp:frame-size-too-small",
-        "TransferLimitExceeded" => "amqp:link:transfer-limit-exceeded",
-        "MessageSizeExceeded" => "amqp:link:message-size-exceeded",
-        _ => "amqp:not-allowed",
-    }
-}
-
-/// The error of a Close for a fault, in whose description its name stands.
-pub fn error_of(alloc: Global, fault: &str) -> Result<Option<Error>, AllocError> {
-    let Some(condition) = Symbol::new(String::from_str(alloc, condition(fault))?) else {
-        return Ok(None);
-    };
-    Ok(Some(Error {
-        condition,
-        description: Some(String::from_str(alloc, fault)?),
-        info: None,
-    }))
-}
-
-/// The name of what is wrong with a Begin.
-pub fn begin_fault(error: &BeginSessionError) -> &'static str {
+fn turn_fault(error: TurnError) -> ErrorCondition {
     match error {
-        BeginSessionError::Unread(error) => turn_fault(error),
-        BeginSessionError::Refused(error) => err_name(error),
-        BeginSessionError::Unsent(error) => turn_fault(error),
-    }
-}
-
-fn turn_fault(error: &TurnError) -> &'static str {
-    match error {
-        TurnError::NoBegin => "IllegalState",
-        TurnError::HasRemoteChannel => "NotFound",
-        TurnError::Frame(FrameError::DecodeError) => "DecodeError",
-        TurnError::Frame(FrameError::TooLarge) => "TooLarge",
-        TurnError::Frame(_) => "OutOfMemory",
+        TurnError::NoBegin => ErrorCondition::IllegalState,
+        TurnError::HasRemoteChannel => ErrorCondition::NotFound,
+        TurnError::Frame(FrameError::OutOfMemory) => ErrorCondition::ResourceLimitExceeded,
+        TurnError::Frame(error) => {
+            drop(error);
+            ErrorCondition::DecodeError
+        }
     }
 }

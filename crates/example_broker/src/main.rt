@@ -17,12 +17,12 @@ mod unsettled;
 use broker::Broker;
 use fe2o3_amqp::KeyHash;
 use std::hash::RandomState;
-use std::io::{self, BufReader, BufWriter};
+use std::io::{self, BufWriter};
 
 fn main(rt: HostRuntime) -> anyhow::Result<()> {
     let alloc = rt.alloc();
     let mut output = BufWriter::new(alloc, io::writer(&rt))?;
-    let mut input = BufReader::new(alloc, rt.reader())?;
+    let mut input = rt.reader();
     // The client cannot know this key, and so cannot choose names, handles and channels that collide.
     let hash = KeyHash::Keyed(RandomState::new(&rt)?);
     let mut broker = Broker::new(alloc, hash)?;

@@ -2,7 +2,9 @@
 
 use crate::message::Message;
 use bytes::Bytes;
-use fe2o3_amqp::{Disposition, Handle, LinkFlow, Raw, ReceiverSettleMode, Role, Transfer};
+use fe2o3_amqp::{
+    Disposition, ErrorCondition, Handle, LinkFlow, Raw, ReceiverSettleMode, Role, Transfer,
+};
 use std::alloc::{AllocError, Global};
 use std::{io, mem};
 
@@ -49,8 +51,8 @@ pub enum Taken {
     GoesOn,
     /// Its message is whole.
     Arrived(Arrived),
-    /// The client may not send it, for a fault of this name.
-    Fault(&'static str),
+    /// The client may not send it, for this condition.
+    Fault(ErrorCondition),
 }
 
 /// A message that came whole, unless it found no room, and what is to be said to the client.
@@ -124,14 +126,14 @@ impl Sender {
     }
 
     /// Why the client may not send so many bytes more: a message past its credit, or one that is too long.
-    fn fault(&self, more: usize) -> Option<&'static str> {
+    fn fault(&self, more: usize) -> Option<ErrorCondition> {
         let coming = &self.coming;
         if !coming.has_begun && self.credit == 0 {
-            return Some("TransferLimitExceeded");
+            return Some(ErrorCondition::TransferLimitExceeded);
         }
         let len = coming.message.len().saturating_add(more);
         if len as u64 > MOST_MESSAGE {
-            return Some("MessageSizeExceeded");
+            return Some(ErrorCondition::MessageSizeExceeded);
         }
         None
     }

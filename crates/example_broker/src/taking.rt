@@ -9,15 +9,14 @@ use crate::unsettled::{Unsettled, number_of, put_first, take};
 use amqp_events::{Event, EventBody, LinkNames};
 use amqp_transport::push;
 use bytes::Bytes;
-use fe2o3_amqp::{DeliveryTag, Input, LinkFlow, Raw, Role, SessionNo, Transfer, is_terminal};
-use std::io::{self, ErrorKind, Write};
+use fe2o3_amqp::{
+    DeliveryTag, ErrorCondition, Input, LinkFlow, Raw, Role, SessionNo, Transfer, is_terminal,
+};
+use std::io;
 
 impl Broker {
-    /// Takes a frame for which the engine tells events, and does what they ask.
-    pub fn take_other<O: Write>(&mut self, frame: Bytes, output: &mut O) -> io::Result<Progress> {
-        if self.receive(frame, output)? == Progress::Over {
-            return Ok(Progress::Over);
-        }
+    /// Does what the events of a frame ask.
+    pub fn take_events(&mut self) -> io::Result<Progress> {
         for _ in 0..self.events.len() {
             let Some(event) = self.events.pop() else {
                 break;
@@ -25,20 +24,20 @@ impl Broker {
             self.take_event(event)?;
         }
         if let Some(fault) = self.fault {
-            return self.fail(fault, output);
+            return self.fail(fault);
         }
         if self.events.missed() > 0 {
-            return self.fail("OutOfMemory", output);
+            return self.fail(ErrorCondition::ResourceLimitExceeded);
         }
-        self.go_on(output)
+        self.go_on()
     }
 
     /// Sends what can be sent, grants credit, and runs that.
-    pub fn go_on<O: Write>(&mut self, output: &mut O) -> io::Result<Progress> {
+    pub fn go_on(&mut self) -> io::Result<Progress> {
         self.deliver()?;
         self.answer_flows()?;
         self.grant()?;
-        self.run(output)
+        self.run()
     }
 
     fn take_event(&mut self, event: Event) -> io::Result<()> {
@@ -221,7 +220,7 @@ impl Broker {
         };
         let consumer = *consumer;
         let number = self.next_delivery(consumer.session);
-        let limit = self.engine.max_piece_len();
+        let limit = self.engine().max_piece_len();
         let asked = consumer.send(self.alloc, number, &message, limit, &mut self.inputs);
         if consumer.is_settled || asked.is_err() {
             self.let_go(message);

@@ -1,18 +1,21 @@
-//! Frames of a recorded peer come as a stream of bytes, in chunks of several sizes, and alone: an engine answers the same.
+//! Frames of a recorded peer come as a stream of bytes, in chunks of several sizes, and alone: an engine answers the same, and so does a stream of
+//! `amqp_driver` over a reader and a writer.
 //!
 //! A line `-- NAME` begins a recording; each line after it is one frame in hexadecimal, without its size. For each recording it
 //! prints what the engine sent and what it refused, and of all frames in one run into one buffer at which place each refusal stands. A line
-//! `stream HEX` is a stream that something is wrong with: it prints how reading it ends; `unlimited HEX` is one whose frames may have any size. A
+//! `stream HEX` is a stream that something is wrong with: it prints how reading it ends, by frames and by `exchange`; `unlimited HEX` is one whose frames may have any size. A
 //! line `pieces HEX` is a frame: it prints its pieces under a limit of 24 bytes, each as it is written. After the lines comes what calls answer
 //! that are no transport's (`src/calls.rt`).
 #![tactic(auto)]
 
 mod calls;
 mod chunks;
+mod exchanged;
 mod handing;
 mod one_run;
 mod pieces;
 
+use amqp_driver::refusal_number;
 use amqp_transport::{exchange_headers, next_frame, push, receive, run};
 use bytes::Bytes;
 use chunks::Chunks;
@@ -32,11 +35,12 @@ const MAX_FRAME_SIZE: u32 = 65536;
 /// The protocol header of either side.
 const HEADER: [u8; 8] = *b"AMQP\x00\x01\x00\x00";
 
-/// What an engine sent and what it refused.
+/// What an engine sent and what it refused, by names and by numbers.
 #[derive(Drop)]
 struct Said {
     sent: Vec<u8>,
     log: Vec<u8>,
+    numbers: Vec<u32>,
 }
 
 impl Said {
@@ -44,11 +48,22 @@ impl Said {
         Said {
             sent: Vec::new(alloc),
             log: Vec::new(alloc),
+            numbers: Vec::new(alloc),
         }
     }
 
     fn is_same(&self, other: &Said) -> bool {
         self.sent == other.sent && self.log == other.log
+    }
+
+    /// Notes what was refused, and lets it go.
+    fn note(&mut self, refusals: &mut Vec<Refusal>) -> io::Result<()> {
+        for refusal in refusals.iter() {
+            if let Refusal::Input { place: _, error } = refusal {
+                self.numbers.push(refusal_number(error))?;
+            }
+        }
+        log(refusals, &mut self.log)
     }
 }
 
@@ -104,11 +119,11 @@ fn take_line<O: Write>(
         None => gather(alloc, line, frames),
         Some(("stream", digits)) => {
             tell(alloc, hash, frames, out)?;
-            tell_end(alloc, digits, MAX_FRAME_SIZE, out)
+            tell_end(alloc, hash, digits, MAX_FRAME_SIZE, out)
         }
         Some(("unlimited", digits)) => {
             tell(alloc, hash, frames, out)?;
-            tell_end(alloc, digits, u32::MAX, out)
+            tell_end(alloc, hash, digits, u32::MAX, out)
         }
         Some(("pieces", digits)) => {
             tell(alloc, hash, frames, out)?;
@@ -128,14 +143,16 @@ fn gather(alloc: Global, digits: &str, frames: &mut Vec<Bytes>) -> anyhow::Resul
 
 fn tell_end<O: Write>(
     alloc: Global,
+    hash: KeyHash,
     digits: &str,
     max_frame_size: u32,
     out: &mut O,
 ) -> anyhow::Result<()> {
     let stream = bytes_of(alloc, digits)?;
     let end = ended(alloc, stream.as_slice(), max_frame_size);
+    let exchanged = exchanged::ended(alloc, hash, stream.as_slice(), max_frame_size);
     drop(stream);
-    writeln!(out, "{end}")?;
+    writeln!(out, "{end}; {}", exchanged?)?;
     Ok(())
 }
 
@@ -161,6 +178,7 @@ fn tell<O: Write>(
     tell_alone(alloc, &alone, out)?;
     for size in [1, 7, 4096] {
         tell_streamed(alloc, hash, stream.as_slice(), size, &alone, out)?;
+        exchanged::tell(alloc, hash, stream.as_slice(), size, &alone, out)?;
     }
     one_run::tell(alloc, hash, frames.as_slice(), alone.sent.as_slice(), out)?;
     frames.clear();
@@ -191,10 +209,15 @@ fn tell_streamed<O: Write>(
 
 /// An engine that has sent its Open and is to begin a session.
 fn engine(alloc: Global, hash: KeyHash) -> Result<Engine<ReplayRelay>, AllocError> {
-    let open = Open {
+    let open = open(alloc, MAX_FRAME_SIZE)?;
+    Ok(Engine::keyed(alloc, hash, ConnectionState::HeaderExchange, open))
+}
+
+fn open(alloc: Global, max_frame_size: u32) -> Result<Open, AllocError> {
+    Ok(Open {
         container_id: String::from_str(alloc, "example")?,
         hostname: None,
-        max_frame_size: MAX_FRAME_SIZE,
+        max_frame_size,
         channel_max: DEFAULT_CHANNEL_MAX,
         idle_time_out: None,
         outgoing_locales: None,
@@ -202,8 +225,7 @@ fn engine(alloc: Global, hash: KeyHash) -> Result<Engine<ReplayRelay>, AllocErro
         offered_capabilities: None,
         desired_capabilities: None,
         properties: None,
-    };
-    Ok(Engine::keyed(alloc, hash, ConnectionState::HeaderExchange, open))
+    })
 }
 
 /// The first inputs: an Open, and a Begin, which goes out at once.
@@ -247,7 +269,7 @@ fn take_each(
         &mut told.refusals,
         &mut said.sent,
     )?;
-    log(&mut told.refusals, &mut said.log)?;
+    said.note(&mut told.refusals)?;
     for frame in frames.iter() {
         push(inputs, Input::Received(frame.clone()?))?;
         run(
@@ -257,7 +279,7 @@ fn take_each(
             &mut told.refusals,
             &mut said.sent,
         )?;
-        log(&mut told.refusals, &mut said.log)?;
+        said.note(&mut told.refusals)?;
     }
     Ok(())
 }
@@ -285,6 +307,7 @@ fn streamed(alloc: Global, hash: KeyHash, stream: &[u8], size: usize) -> anyhow:
     let said = Said {
         sent: sent.on(),
         log,
+        numbers: Vec::new(alloc),
     };
     match outcome {
         Ok(()) => Ok(said),

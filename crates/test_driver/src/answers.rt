@@ -41,10 +41,13 @@ fn begun(alloc: Global) -> Result<(PlainStream, Record), Fail> {
     Ok((stream, records[1]))
 }
 
-/// A server whose session 3 answers the client's, and what waited is sent.
+/// The number of the session that answers the client's.
+const NUMBER: SessionNo = SessionNo(40);
+
+/// A server whose session 40 answers the client's, and what waited is sent.
 fn mapped(alloc: Global) -> Result<PlainStream, Fail> {
     let (mut stream, record) = begun(alloc)?;
-    let _ = told(stream.answer(&record, &PIPELINED, answers::BEGINS));
+    let _ = told(stream.answer(&record, &PIPELINED, answers::BEGINS, NUMBER));
     drop(sent(&mut stream, alloc)?);
     Ok(stream)
 }
@@ -52,7 +55,10 @@ fn mapped(alloc: Global) -> Result<PlainStream, Fail> {
 /// Takes a frame, and answers it: the record's kind, and the answer.
 fn give(stream: &mut PlainStream, frame: &[u8], flags: u16) -> (u8, (u8, u32)) {
     let (_, record) = take(stream, 0, frame);
-    (record.kind, told(stream.answer(&record, frame, flags)))
+    (
+        record.kind,
+        told(stream.answer(&record, frame, flags, NUMBER)),
+    )
 }
 
 fn state_of(stream: &PlainStream, session: u32) -> Option<SessionState> {
@@ -66,11 +72,11 @@ fn state_of(stream: &PlainStream, session: u32) -> Option<SessionState> {
 fn a_begin_is_answered(rt: HostRuntime) -> Result<(), Fail> {
     let (mut stream, record) = begun(rt.alloc())?;
     let others = answers::ENDS | answers::CLOSES | answers::REFUSALS;
-    let not_named = told(stream.answer(&record, &PIPELINED, others));
-    let elsewhere = told(stream.answer(&record, &[], answers::ALL));
-    let done = told(stream.answer(&record, &PIPELINED, answers::ALL));
-    let again = told(stream.answer(&record, &PIPELINED, answers::ALL));
-    let state = state_of(&stream, 3);
+    let not_named = told(stream.answer(&record, &PIPELINED, others, NUMBER));
+    let elsewhere = told(stream.answer(&record, &[], answers::ALL, NUMBER));
+    let done = told(stream.answer(&record, &PIPELINED, answers::ALL, NUMBER));
+    let again = told(stream.answer(&record, &PIPELINED, answers::ALL, NUMBER));
+    let state = state_of(&stream, 40);
     let attach = match PIPELINED.get(61..ATTACH) {
         Some(frame) => give(&mut stream, frame, answers::ALL),
         None => (0, (9, 9)),
@@ -87,12 +93,12 @@ fn a_begin_is_answered(rt: HostRuntime) -> Result<(), Fail> {
 fn an_end_is_answered(rt: HostRuntime) -> Result<(), Fail> {
     let mut stream = mapped(rt.alloc())?;
     let (_, record) = take(&mut stream, 0, &END);
-    let not_named = told(stream.answer(&record, &END, answers::ALL & !answers::ENDS));
-    let before = state_of(&stream, 3);
-    let done = told(stream.answer(&record, &END, answers::ENDS));
+    let not_named = told(stream.answer(&record, &END, answers::ALL & !answers::ENDS, NUMBER));
+    let before = state_of(&stream, 40);
+    let done = told(stream.answer(&record, &END, answers::ENDS, NUMBER));
     let is_end = stream.out() == ENDED.as_slice();
-    let after = state_of(&stream, 3);
-    let again = told(stream.answer(&record, &END, answers::ENDS));
+    let after = state_of(&stream, 40);
+    let again = told(stream.answer(&record, &END, answers::ENDS, NUMBER));
     drop(stream);
     same(
         &rt,
@@ -119,7 +125,7 @@ fn a_refused_frame_is_answered(rt: HostRuntime) -> Result<(), Fail> {
     let says_why = out.as_slice().ends_with(b"amqp:session:unattached-handle");
     drop(out);
     let ended = give(&mut stream, &END, answers::ALL);
-    let state = state_of(&stream, 3);
+    let state = state_of(&stream, 40);
     let quiet = quiet && stream.out().is_empty();
     drop(stream);
     same(&rt, not_named, (kind::REFUSED, (0, 0)));
@@ -134,12 +140,12 @@ fn a_close_is_answered(rt: HostRuntime) -> Result<(), Fail> {
     let mut stream = mapped(rt.alloc())?;
     let (_, refused) = take(&mut stream, 0, &FLOW);
     let (_, record) = take(&mut stream, 0, &CLOSE);
-    let not_named = told(stream.answer(&record, &CLOSE, answers::ALL & !answers::CLOSES));
-    let done = told(stream.answer(&record, &CLOSE, answers::CLOSES));
+    let not_named = told(stream.answer(&record, &CLOSE, answers::ALL & !answers::CLOSES, NUMBER));
+    let done = told(stream.answer(&record, &CLOSE, answers::CLOSES, NUMBER));
     let is_close = stream.out() == CLOSE.as_slice();
     let is_over = stream.is_over();
-    let late = told(stream.answer(&refused, &FLOW, answers::ALL));
-    let again = told(stream.answer(&record, &CLOSE, answers::ALL));
+    let late = told(stream.answer(&refused, &FLOW, answers::ALL, NUMBER));
+    let again = told(stream.answer(&record, &CLOSE, answers::ALL, NUMBER));
     drop(stream);
     same(
         &rt,

@@ -17,10 +17,10 @@ use amqp_types::{Error, ReadError};
 impl Client {
     /// Gives what a record asks for, of the answers that `flags` names, by [`Stream::answer`](amqp_driver::Stream::answer): `input` is the one in
     /// which the record's frame stands. The status says what became of it, and a refusal is kept.
-    pub fn answer(&mut self, told: &Record, input: &[u8], flags: u16) -> Status
-        ensures { AnswersOne ⟦<PlainRelay as LinkRelay>⟧.gives self.old flags told.now input.now result self.new }
+    pub fn answer(&mut self, told: &Record, input: &[u8], flags: u16, number: u32) -> Status
+        ensures { AnswersOne ⟦<PlainRelay as LinkRelay>⟧.gives self.old flags number told.now input.now result self.new }
     {
-        let answer = self.stream.answer(told, input, flags);
+        let answer = self.stream.answer(told, input, flags, SessionNo(number));
         self.note_answer(answer)
     }
 

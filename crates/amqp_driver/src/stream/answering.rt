@@ -16,8 +16,8 @@ impl<R: LinkRelay> Stream<R> {
     /// Gives what a record asks for that [`Stream::take`] told of, of the answers that `flags` names: those of [`answers`](crate::answers), of
     /// which a program takes those that it does not give itself. `input` is the one that was taken: there the record's frame stands.
     ///
-    /// - `BEGINS`: a Begin of the peer's is answered by a session whose number is that of the peer's channel, with the settings of
-    ///   [`SessionSettings::new`]. A program that begins sessions itself gives them numbers from 65536 on.
+    /// - `BEGINS`: a Begin of the peer's is answered by a session of this `number`, which no session of the engine had before, with the settings of
+    ///   [`SessionSettings::new`]. Of any other record the number says nothing. Numbers that are given in order take least memory.
     /// - `ENDS`: an End of the peer's is answered by one without an error, unless this side has ended the session before; and the session is let go.
     /// - `CLOSES`: a Close of the peer's is answered by one without an error.
     /// - `REFUSALS`: a frame that was refused is answered by the End of its session or the Close for it, where one is due:
@@ -29,17 +29,24 @@ impl<R: LinkRelay> Stream<R> {
     /// let taken = stream.take(now, received, &mut records);
     /// for record in &records[..taken.written] {
     ///     handle(record);
-    ///     stream.answer(record, received, answers::ALL);
+    ///     stream.answer(record, received, answers::ALL, SessionNo(next));
+    ///     next += u32::from(record.kind == kind::BEGIN_WANTED);
     /// }
     /// ```
-    pub fn answer(&mut self, record: &Record, input: &[u8], flags: u16) -> RecordAnswer
-        ensures { AnswersRecord R.gives self.old flags «record».now input.now result self.new }
+    pub fn answer(
+        &mut self,
+        record: &Record,
+        input: &[u8],
+        flags: u16,
+        number: SessionNo,
+    ) -> RecordAnswer
+        ensures { AnswersRecord R.gives self.old flags number «record».now input.now result self.new }
     {
         match wanted_by(flags, record) {
             Wanted::Nothing => RecordAnswer::Nothing,
             Wanted::Begin => RecordAnswer::Begin(self.answer_begin(
                 frame_in(record, input),
-                SessionNo(u32::from(record.channel)),
+                number,
                 SessionSettings::new(),
             )),
             Wanted::End => RecordAnswer::End(self.answer_ended(SessionNo(record.session))),

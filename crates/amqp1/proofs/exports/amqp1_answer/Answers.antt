@@ -9,6 +9,6 @@ returns-in-Some-clause-answered c = λ h.
     let same = c.replace-old.ensures.value in
     let lay = of_some _ _ _ c.in-Some.is (c.into_client.ensures.some (subst (λ p. 0 < p.full) (sym same) h)) in (
       subst (λ (n : ℕ). 0 < n) (sym c.of.ensures.full) (lit< tt),
-      answers_there ghosts.gives _ _ _ _ _ _ _ _ _ (ap (λ p. p.slot.held) (sym same) ∙ lay ∙ ap Some (sym c.deref_mut.ensures.value)) c.of.ensures.held
+      answers_there ghosts.gives _ _ _ _ _ _ _ _ _ _ (ap (λ p. p.slot.held) (sym same) ∙ lay ∙ ap Some (sym c.deref_mut.ensures.value)) c.of.ensures.held
           c.number-in-Some.ensures c.answer-status.ensures,
     )

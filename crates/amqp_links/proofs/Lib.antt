@@ -1,0 +1,3 @@
+mod SendingLemmas
+mod ReceivingLemmas
+mod ReceivingHistoryLemmas

@@ -1,0 +1,5 @@
+pub mod Life
+pub mod Sending
+pub mod Receiving
+pub mod SendingHistory
+pub mod ReceivingHistory

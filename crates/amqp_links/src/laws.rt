@@ -1,0 +1,26 @@
+//! Laws: what holds of every history of calls, as contracts of functions that do nothing.
+
+ghost use Rattle.amqp_links.specs.SendingHistory as sending;
+ghost use Rattle.amqp_links.specs.SendingHistory.{OfSendings};
+ghost use Rattle.amqp_links.specs.ReceivingHistory as receiving;
+ghost use Rattle.amqp_links.specs.ReceivingHistory.{OfReceivings};
+
+/// A sending end stands where its Attaches and Detaches say. It sends nothing but while both sides have attached and neither has detached. Its credit is
+/// that of a `SenderCredit` to which the same flows came and which began the same deliveries: so `law_of_senders` of `amqp_credit` holds of it, and no
+/// delivery is begun past what the receiver's last flow gave (AMQP 1.0 part 2, section 2.6.7).
+pub fn law_of_sending()
+    ensures stands { OfSendings (λ initial H v. sending.StandsBy H v) }
+    ensures sent { OfSendings (λ initial H v. sending.SentWhereAttached H) }
+    ensures credit { OfSendings (λ initial H v. sending.IsCreditOf initial H v) }
+{}
+
+/// A receiving end stands where its Attaches and Detaches say, and what its sender may not do detaches it. It tells no transfer but while it is
+/// attached. The parts that it tells are those of an `Assembly`, and its credit is that of a `ReceiverCredit` that granted the same and took the same
+/// deliveries: so `law_of_parts`, `law_of_receivers` and `law_of_renewals` of `amqp_credit` hold of it. No more deliveries are told than were granted,
+/// and each part is told once, of its delivery, up to the last one (AMQP 1.0 part 2, sections 2.6.7 and 2.6.14).
+pub fn law_of_receiving()
+    ensures stands { OfReceivings (λ renewal limit H v. receiving.StandsBy H v) }
+    ensures told { OfReceivings (λ renewal limit H v. receiving.ToldWhereAttached H) }
+    ensures parts { OfReceivings (λ renewal limit H v. receiving.IsAssemblyOf limit H v) }
+    ensures credit { OfReceivings (λ renewal limit H v. receiving.IsCreditOf renewal H v) }
+{}
