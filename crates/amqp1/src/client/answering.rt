@@ -117,7 +117,9 @@ impl Client {
                 let state = *self.stream.engine().connection().local_state();
                 self.last = Refused::of(error, state);
             }
-            other => drop(other),
+            BeginAnswer::Unread(error) => drop(error),
+            BeginAnswer::Done | BeginAnswer::NoMemory | BeginAnswer::Lost | BeginAnswer::Broken =>
+                {}
         }
         status
     }
