@@ -17,10 +17,10 @@ use amqp_types::{Error, ReadError};
 impl Client {
     /// Gives what a record asks for, of the answers that `flags` names, by [`Stream::answer`](amqp_driver::Stream::answer): `input` is the one in
     /// which the record's frame stands. The status says what became of it, and a refusal is kept.
-    pub fn answer(&mut self, record: &Record, input: &[u8], flags: u16, number: u32) -> Status
-        ensures { AnswersOne ⟦<PlainRelay as LinkRelay>⟧.gives self.old flags number «record».now input.now result self.new }
+    pub fn answer(&mut self, told: &Record, input: &[u8], flags: u16, number: u32) -> Status
+        ensures { AnswersOne ⟦<PlainRelay as LinkRelay>⟧.gives self.old flags number told.now input.now result self.new }
     {
-        let answer = self.stream.answer(record, input, flags, SessionNo(number));
+        let answer = self.stream.answer(told, input, flags, SessionNo(number));
         self.note_answer(answer)
     }
 
@@ -117,7 +117,9 @@ impl Client {
                 let state = *self.stream.engine().connection().local_state();
                 self.last = Refused::of(error, state);
             }
-            other => drop(other),
+            BeginAnswer::Unread(error) => drop(error),
+            BeginAnswer::Done | BeginAnswer::NoMemory | BeginAnswer::Lost | BeginAnswer::Broken =>
+                {}
         }
         status
     }
