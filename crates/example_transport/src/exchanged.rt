@@ -2,7 +2,8 @@
 
 use crate::chunks::Chunks;
 use crate::handing::Handing;
-use crate::{HEADER, MAX_FRAME_SIZE, Said, begin, open};
+use crate::opened::open;
+use crate::{HEADER, MAX_FRAME_SIZE, Said, begin};
 use amqp_driver::{Record, Stream, flag, kind};
 use amqp_sasl::Opening;
 use amqp_transport::{Came, Received, Round, exchange};

@@ -13,6 +13,7 @@ mod chunks;
 mod exchanged;
 mod handing;
 mod one_run;
+mod opened;
 mod pieces;
 
 use amqp_driver::refusal_number;
@@ -24,6 +25,7 @@ use fe2o3_amqp::{
     SendBuffer, SessionNo, SessionSettings, err_name, hex_bytes,
 };
 use handing::Handing;
+use opened::engine;
 use std::alloc::{AllocError, Global};
 use std::collections::VecDeque;
 use std::hash::RandomState;
@@ -205,27 +207,6 @@ fn tell_streamed<O: Write>(
     let word = if is_same { "the same" } else { "other" };
     writeln!(out, "chunks of {size}: {word}")?;
     Ok(())
-}
-
-/// An engine that has sent its Open and is to begin a session.
-fn engine(alloc: Global, hash: KeyHash) -> Result<Engine<ReplayRelay>, AllocError> {
-    let open = open(alloc, MAX_FRAME_SIZE)?;
-    Ok(Engine::keyed(alloc, hash, ConnectionState::HeaderExchange, open))
-}
-
-fn open(alloc: Global, max_frame_size: u32) -> Result<Open, AllocError> {
-    Ok(Open {
-        container_id: String::from_str(alloc, "example")?,
-        hostname: None,
-        max_frame_size,
-        channel_max: DEFAULT_CHANNEL_MAX,
-        idle_time_out: None,
-        outgoing_locales: None,
-        incoming_locales: None,
-        offered_capabilities: None,
-        desired_capabilities: None,
-        properties: None,
-    })
 }
 
 /// The first inputs: an Open, and a Begin, which goes out at once.
