@@ -27,27 +27,34 @@ def carry(one, other):
     return list(other.receive(one.to_send()))
 
 
+def talk(client, server):
+    """Carries bytes until nothing waits; what each side tells."""
+    told = ([], [])
+    while (there := client.to_send()) + (back := server.to_send()):
+        told[1].extend(server.receive(there))
+        told[0].extend(client.receive(back))
+    return told
+
+
 @test
 def a_client_is_let_in():
     client, server = pair(Opening(SASL_CLIENT, [("EXTERNAL", None), ("PLAIN", SAID)], "here"), Opening(SASL_SERVER, [("PLAIN", None), ("ANONYMOUS", None)]))
-    assert carry(server, client) == [HeaderCame(False), MechanismChosen(1)]
-    assert carry(client, server) == [HeaderCame(False), LoginAsked("PLAIN", SAID, "here")]
+    assert talk(client, server) == ([HeaderCame(False), MechanismChosen(1)], [HeaderCame(False), LoginAsked("PLAIN", SAID, "here")])
     # nothing is taken until it is answered
     assert list(server.receive(b"AMQP")) == [] and server.to_send() == b""
     server.login(0, b"welcome")
     assert carry(server, client) == [LoggedIn(b"welcome"), HeaderCame(True)]
     assert list(server.receive(client.to_send()[4:])) == [HeaderCame(True)]
-    for one, other in ((client, server), (server, client)):
-        one.open()
-        assert carry(one, other) == [] and one.to_send() == b""
+    client.open()
+    server.open()
+    assert talk(client, server) == ([], [])
     assert (client.state, server.state, server.remote_open.container_id) == ("OPENED", "OPENED", "client")
 
 
 @test
 def a_client_is_refused():
     client, server = pair(Opening(SASL_CLIENT, [("ANONYMOUS", b"me")]), Opening(SASL_SERVER, [("ANONYMOUS", None)]))
-    carry(server, client)
-    assert carry(client, server) == [HeaderCame(False), LoginAsked("ANONYMOUS", b"me", None)]
+    assert talk(client, server)[1] == [HeaderCame(False), LoginAsked("ANONYMOUS", b"me", None)]
     server.login(1)
     assert server.has_ended and not client.has_ended
     assert carry(server, client) == [NotOpened(LOGIN_REFUSED, "LoginRefused", 1, None)] and client.has_ended
@@ -59,8 +66,7 @@ def a_client_is_refused():
 def a_mechanism_with_challenges():
     client, server = pair(Opening(SASL_CLIENT, [("X-ASKS", None)]), Opening(SASL_SERVER, [("X-ASKS", None)]))
     refused(lambda: client.respond(b"me"), "WrongTime")
-    carry(server, client)
-    assert carry(client, server)[1:] == [LoginAsked("X-ASKS", None, None)]
+    assert talk(client, server)[1][1:] == [LoginAsked("X-ASKS", None, None)]
     server.challenge(b"who?")
     assert carry(server, client) == [Challenged(b"who?")]
     client.respond(b"me")
@@ -72,7 +78,7 @@ def a_mechanism_with_challenges():
 @test
 def a_stream_that_is_not_opened_says_why():
     client, server = pair(Opening(SASL_CLIENT, [("EXTERNAL", b"")]), Opening(SASL_SERVER, [("PLAIN", None)]))
-    (_, told) = carry(server, client)
+    told = talk(client, server)[0][-1]
     assert (told.why, told.name, b"PLAIN" in told.said) == (NO_MECHANISM, "NoMechanism", True), told
     without, server = pair(None, Opening(SASL_SERVER, [("PLAIN", None)]))
     (told,) = server.receive(b"AMQP\x00\x01\x00\x00")
@@ -101,14 +107,14 @@ def time_passes():
     assert late.tick(1050) == (DUE_OPENING_LATE, None) and late.has_ended
     one = Driver(Open("one", idle_time_out=400), opening=Opening(), time=0)
     other = Driver(Open("other", idle_time_out=100), opening=Opening(), time=0)
-    for it, peer in ((one, other), (other, one)):
-        it.open()
-        peer.take(it.to_send())
-    for it, peer in ((one, other), (other, one)):
+    one.open()
+    other.open()
+    for it, peer in ((one, other), (other, one), (one, other)):
         came = it.to_send()
         while came:
             came = came[peer.take(came, 0, 10).taken :]
-    assert one.tick(10) == (DUE_NOTHING, 60) and other.tick(10) == (DUE_NOTHING, 110)
+    assert one.tick(10) == (DUE_NOTHING, 60)
+    assert other.tick(10) == (DUE_NOTHING, 110), (other.tick(10), other.state)
     assert one.tick(60).due == DUE_BEAT and one.to_send() == EMPTY_FRAME
     assert other.tick(110) == (DUE_PEER_SILENT, None) and other.has_ended
     assert b"resource-limit-exceeded" in other.to_send()
