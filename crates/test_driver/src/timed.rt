@@ -34,6 +34,12 @@ fn opened(alloc: Global) -> Result<PlainStream, Fail> {
     }
 }
 
+/// So many bytes were sent, or all that lie together, where they are fewer.
+fn part_sent(stream: &mut PlainStream, count: usize) {
+    let count = count.min(stream.out().len());
+    stream.sent(count);
+}
+
 fn tick(due: Due, next: Option<u64>) -> Tick {
     Tick { due, next }
 }
@@ -46,9 +52,9 @@ fn empty_frames(rt: HostRuntime) -> Result<(), Fail> {
     same(&rt, stream.tick(60), tick(Due::Beat, Some(110)));
     holds(&rt, stream.out() == EMPTY.as_slice());
     same(&rt, stream.tick(110), tick(Due::Beat, Some(160)));
-    stream.sent(3);
+    part_sent(&mut stream, 3);
     holds(&rt, stream.out() == &EMPTY[3..]);
-    stream.sent(5);
+    part_sent(&mut stream, 5);
     holds(&rt, stream.out().is_empty());
     same(&rt, take(&mut stream, 120, &EMPTY).0.taken, 8);
     same(&rt, stream.tick(150), tick(Due::Nothing, Some(160)));
