@@ -26,7 +26,7 @@ fn hear(engine: &mut Engine, channel: u8, performative: &[u8]) -> (Record, Vec<u
     let (frame, mut records) = (framed(channel, performative), [Record::default(); 2]);
     let told = engine.take(&frame, &mut records).unwrap();
     assert_eq!((told.0, told.1), (frame.len(), 1));
-    assert!(matches!(told.2, Stop::Done { wanted: 4 } | Stop::Over));
+    assert!(matches!(told.2, Stop::Done { wanted: 4 } | Stop::Again | Stop::Over));
     (records[0], frame)
 }
 
