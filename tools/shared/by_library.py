@@ -7,10 +7,9 @@ sys.path.insert(0, str(Path(__file__).resolve().parents[2] / "bindings" / "pytho
 
 from amqp.frames import ATTACH, DETACH, DISPOSITION, FLOW, TRANSFER, Frame
 from amqp_engine import Attach, Begin, Detach, Detached, Disposition, Engine, Flow, Malformed, Open, Refusal, Transfer
-from amqp_engine import library
 from amqp_engine.serving import frames_of
 
-__all__ = ["Detach", "Detached", "Engine", "LineEngine", "Malformed", "Open", "library"]
+__all__ = ["Detach", "Detached", "Engine", "LineEngine", "Malformed", "Open"]
 
 ASKS = {ATTACH: ("attach", Attach), FLOW: ("flow", Flow), DISPOSITION: ("disposition", Disposition), DETACH: ("detach", Detach)}
 

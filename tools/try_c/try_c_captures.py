@@ -8,9 +8,7 @@ LIBRARY is libamqp1.so. Of a recording from the first byte on the engine takes h
 its frames. A recording with a frame of less than four bytes, which no stream can carry, is left out. The last line is 'N passed, M failed', a test for each connection, side and size.
 """
 
-import ctypes
 import os
-import struct
 import sys
 from pathlib import Path
 
@@ -19,53 +17,42 @@ sys.path.insert(0, str(Path(__file__).resolve().parents[1]))
 from amqp.logins import Login
 from amqp.transcript import Transcript
 from gate.refused_of_captures import connections
-from shared.by_library import Detach, Detached, Engine, LineEngine, Malformed, Open, library
+from shared.by_library import Detach, Detached, Engine, LineEngine, Malformed, Open
 from shared.command import command
 from transcript import shown
 
-# Of amqp1.h
-NONE, CLIENT, SERVER, LOGIN_ASKED, LOGIN, KEY = 0xFFFFFFFF, 1, 2, 16, 30, b"k" * 16
-KINDS = {"SaslHeader": 13, "AmqpHeader": 14, "MechanismChosen": 15, "LoginAsked": LOGIN_ASKED, "LoggedIn": 19}
+# (shared.by_library puts the package on the path)
+from amqp_engine.opening import AMQP_HEADER, LOGGED_IN, LOGIN_ASKED, MECHANISM_CHOSEN, SASL_CLIENT, SASL_HEADER, SASL_SERVER, Opening
+
+KEY = b"k" * 16
+KINDS = {"SaslHeader": SASL_HEADER, "AmqpHeader": AMQP_HEADER, "MechanismChosen": MECHANISM_CHOSEN, "LoginAsked": LOGIN_ASKED, "LoggedIn": LOGGED_IN}
 
 
 class Opened(Engine):
     """An engine from the first byte on: what the other side of a recording sent of headers and SASL was taken, in pieces of so many bytes."""
 
     def __init__(self, open, login, size):
-        self.given, self.login, self.size, self.kinds = open.encode(), login, size, []
-        super().__init__(open, key=KEY)
-
-    def _pass_headers(self):
-        """In the place of the engine without SASL, which is as new, one with it is made, and is handed what came."""
-        self.free()
-        self._judge(self.made())
-        self.went, data, at, known = self.to_send(), b"".join(of for _, of in self.login.peers), 0, 0
-        while known < len(data):
-            known = min(known + self.size, len(data))
+        (host, logins), side = login.logins(), SASL_CLIENT if login.side == "A" else SASL_SERVER
+        opening = Opening(side, [(name.decode(), response) for name, response in logins], host and host.decode())
+        super().__init__(open, key=KEY, opening=opening)
+        self.outcome, self.kinds, self.went = login.outcome, [], self.to_send()
+        data, at = b"".join(of for _, of in login.peers), 0
+        for known in [*range(size, len(data), size), len(data)]:
             while (took := self.take(data[at:known])).taken:
                 at += took.taken
                 for record in took.records:
                     self.heard(record)
                 self.went += self.to_send()
-
-    def made(self):
-        """Has the library make the engine."""
-        host, logins = self.login.logins()
-        heads = b"".join(struct.pack("=2I", len(name), NONE if response is None else len(response)) for name, response in logins)
-        of = (host or b"") + b"".join(name + (response or b"") for name, response in logins)
-        side = CLIENT if self.login.side == "A" else SERVER
-        key = (ctypes.c_uint8 * 16)(*KEY)
-        how = library.How(key, 0, NONE, side, NONE if host is None else len(host))
-        return library.load().amqp1_new(ctypes.byref(self._place), ctypes.byref(how), self.given, len(self.given), heads, len(logins), of, len(of))
+        self.of = login
 
     def heard(self, record):
         self.kinds.append(record.kind)
         if record.kind == LOGIN_ASKED:
-            self._ask(LOGIN, bytes([self.login.outcome, 0]))
+            self.login(self.outcome)
 
     def is_right(self):
         """Whether the records are those of what came, and what went is that of the recording, in the canonical spelling."""
-        return self.kinds == [KINDS[it.split(" ")[0]] for it in self.login.told()] and self.went == self.login.sent()
+        return self.kinds == [KINDS[it.split(" ")[0]] for it in self.of.told()] and self.went == self.of.sent()
 
 
 class Replay(LineEngine):
