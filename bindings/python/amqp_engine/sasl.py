@@ -68,8 +68,10 @@ def plain_of(response: Optional[bytes]) -> Optional[Plain]:
         return None
 
 
-async def judge(response: Optional[bytes], check: Optional[Check]) -> bool:
-    """Whether a client is let in that chose the mechanism that was offered. What `check` raises is raised."""
+async def judge(mechanism: str, response: Optional[bytes], check: Optional[Check]) -> bool:
+    """Whether a client is let in that chose this mechanism, of which one alone is offered. What `check` raises is raised."""
+    if mechanism != offered_for(check):
+        return False
     if check is None:
         return True
     login = plain_of(response)

@@ -119,6 +119,7 @@ class Connection:
         self._coming = self.engine.receive(b"") if self.server is None else self.server.receive(self.engine.left())
 
     async def _some(self) -> bytes:
+        """What comes next of headers and SASL. It sets no limit of time: `begin` and `accept` have `Waits.login` for all of them together."""
         came = await self._stream.read(None, "")
         if not came:
             raise ConnectionError("the peer hung up")
@@ -140,7 +141,7 @@ class Connection:
     async def _judge(self, asked: LoginAsked, check: Optional[sasl.Check]) -> None:
         code = sasl.SYS
         try:
-            code = sasl.OK if await sasl.judge(asked.response, check) else sasl.AUTH
+            code = sasl.OK if await sasl.judge(asked.mechanism, asked.response, check) else sasl.AUTH
         finally:
             self.engine.login(code)
         if code != sasl.OK:
