@@ -39,7 +39,8 @@ impl Engine {
         self.ask(Operation::EndAnswer, &[&session.to_be_bytes(), &[error.is_some() as u8], error.unwrap_or(&[])])
     }
 
-    /// Lets a session go that both sides have ended: `release` and `forget`. `Refused` where it is not over.
+    /// Lets a session go that both sides have ended: `release` and `forget`. `Refused` where it is not over;
+    /// its channel is given back all the same, so ask it of none that goes on.
     pub fn let_go(&mut self, session: u32) -> Result<(), Error> {
         self.ask(Operation::LetGo, &[&session.to_be_bytes()])
     }
