@@ -11,6 +11,7 @@ from amqp_engine import (
 )  # fmt: skip
 from amqp_engine.values import write
 from hostile.peers import ROOT, array, compound, frame, with_bytes
+from try_c.try_c_pair import frames
 
 sys.path.insert(0, str(ROOT / "examples" / "python"))
 
@@ -114,14 +115,11 @@ def attached(role=SENDER):
 @test
 async def what_a_client_may_not_ask_is_refused_and_not_raised():
     attach = Attach("l", 0, SENDER, initial_delivery_count=0)
-    # as long as a frame may be, without room for more of its name
-    longest = replace(attach, name="l" * (4096 + 300 - len(frame(replace(attach, name="l" * 300)))))
     for said, condition in (
         (with_bytes(attach, rcv_settle_mode=b"\x50\x07"), "amqp:decode-error"), (with_bytes(attach, snd_settle_mode=b"\x50\x07"), "amqp:decode-error"),
         (Attach("l", 8, SENDER, initial_delivery_count=0), "amqp:connection:framing-error"), (Attach("l", 2**32 - 1, RECEIVER), "amqp:connection:framing-error"),
         (with_bytes(attach, name=b"\xa1\x01\xff"), "amqp:decode-error"), (with_bytes(attach, role=b"\x43"), "amqp:decode-error"),
-        (longest, "amqp:resource-limit-exceeded"), (b"\x00\x53\x99\x45", "amqp:decode-error"),
-        (b"\x00\xa3\x03abc\x45", "amqp:decode-error"), (b"\x45", "amqp:decode-error"), (b"\x00" * 100, "amqp:decode-error"),
+        (b"\x00\x53\x99\x45", "amqp:decode-error"), (b"\x00\xa3\x03abc\x45", "amqp:decode-error"), (b"\x45", "amqp:decode-error"), (b"\x00" * 100, "amqp:decode-error"),
     ):  # fmt: skip
         server = served()
         came = list(server.receive(frame(said) + frame(Close())))
@@ -136,8 +134,37 @@ async def a_begin_at_the_wrong_time_is_refused_and_not_raised():
             server.engine.open()
         assert [type(it) for it in server.receive(frame(Begin(None, 0, 1, 1)))] == [Refusal]
     server = served()
-    assert [type(it) for it in server.receive(frame(Close()) + frame(Begin(None, 0, 1, 1), 3))] == [Closed, Refusal]
+    # behind both Closes nothing is taken
+    assert [type(it) for it in server.receive(frame(Close()) + frame(Begin(None, 0, 1, 1), 3))] == [Closed]
     assert {type(it) for it in served().receive(frame(Begin(None, 0, 1, 1)) * 3)} <= {Refusal, SessionBegan}
+
+
+@test
+async def a_begin_on_a_channel_that_is_none_for_it_is_refused():
+    for channel, wanted in ((0, ("ChannelInUse", "amqp:not-allowed")), (32, ("ChannelTooHigh", "amqp:connection:framing-error"))):
+        server = Server(Engine(Open("server", channel_max=31)))
+        server.engine.open()
+        came = list(server.receive(frame(Open("client")) + frame(Begin(None, 0, 9, 9)) + frame(Begin(None, 0, 9, 9), channel) + frame(Begin(None, 0, 9, 9), 31)))
+        assert [type(it) for it in came] == [SessionBegan, Refusal, SessionBegan] and (came[1].name, came[1].condition) == wanted, came
+
+
+@test
+async def a_link_has_any_name_that_a_frame_holds():
+    attach = Attach("l", 7, SENDER, initial_delivery_count=0)
+    longest = replace(attach, name="l" * (4096 + 300 - len(frame(replace(attach, name="l" * 300)))))
+    server, links = served(), [longest]
+    for handle, (name, role) in enumerate([(name, role) for name in ("one", "sone", "rone") for role in (SENDER, RECEIVER)]):
+        links.append(Attach(name, handle, role, initial_delivery_count=None if role else 0))
+    came = list(server.receive(b"".join(map(frame, links))))
+    assert [it.attach for it in came] == links, came
+    for event in came[1:]:
+        server.attach(0, Attach(event.attach.name, server.output_of(event), not event.attach.role, initial_delivery_count=0 if event.attach.role else None))
+    for event, sent in zip(came[1:], frames(server.to_send())):
+        again = Attach.decode(sent[4:])
+        assert (again.name, again.handle) == (event.attach.name, event.output_handle), again
+    # a name of one direction serves one link
+    (refusal,) = server.receive(frame(Attach("one", 6, SENDER, initial_delivery_count=0)))
+    assert (refusal.name, refusal.condition) == ("DuplicatedLinkName", "amqp:not-allowed"), refusal
 
 
 @test

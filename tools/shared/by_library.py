@@ -7,7 +7,6 @@ sys.path.insert(0, str(Path(__file__).resolve().parents[2] / "bindings" / "pytho
 
 from amqp.frames import ATTACH, DETACH, DISPOSITION, FLOW, TRANSFER, Frame
 from amqp_engine import Attach, Begin, Detach, Detached, Disposition, Engine, Flow, Malformed, Open, Refusal, Transfer
-from amqp_engine.serving import frames_of
 
 __all__ = ["Detach", "Detached", "Engine", "LineEngine", "Malformed", "Open"]
 
@@ -48,7 +47,12 @@ class LineEngine:
 
     def pieces(self):
         """The frames that are to be sent, each without its size."""
-        return list(frames_of(self.engine.to_send()))
+        found, data, at = [], self.engine.to_send(), 0
+        while at < len(data):
+            end = at + int.from_bytes(data[at : at + 4], "big")
+            found.append(data[at + 4 : end])
+            at = end
+        return found
 
     def request(self, word, rest):
         if word in ("", "open", "close"):

@@ -80,6 +80,29 @@ def a_session_begins_ends_and_is_forgotten():
 
 
 @test
+def a_session_that_the_server_ends_is_let_go():
+    pair = mapped()
+    pair.server.engine.end(0, Error("amqp:session:errant-link"))
+    assert pair.carry() == ([Refusal("RemoteEndedWithError", "amqp:session:errant-link")], [])
+    pair.client.end(0)
+    assert pair.carry() == ([], [SessionEnded(0, None, None)])
+    assert pair.server.engine.session_state(0) is None and pair.server.engine.session_of(0) is None
+
+
+@test
+def a_server_attaches_a_link_too():
+    pair = mapped()
+    mine = pair.server.engine.link(0, "link", SENDER)
+    pair.server.engine.attach(0, Attach("link", mine, SENDER, initial_delivery_count=0))
+    ((wanted,), _) = pair.carry()
+    assert (wanted.name, wanted.condition) == ("RemoteAttachingLinkNameNotFound", "amqp:not-found"), wanted
+    handle = pair.client.link_on(0, mine, "link", RECEIVER)
+    pair.client.attach(0, Attach("link", handle, RECEIVER))
+    (event,) = pair.carry()[1]
+    assert (event.attach.name, pair.server.output_of(event), event.output_handle) == ("link", mine, mine), event
+
+
+@test
 def a_link_is_attached_and_detached():
     pair = mapped()
     handle, event, mine, answer = pair.attached()

@@ -43,6 +43,8 @@ _RECORD = struct.Struct("=BBH14I2H32s")
 _HEAD = struct.Struct("=4I2H")
 _SENT = struct.Struct("=2I")
 _PARTS = struct.Struct("=4I2H20s2I")
+#: Why a Begin that answers none was refused
+WHY_BEGIN_WANTED = 33
 _PAYLOAD_TOO_LONG = 91
 _NONE_HERE = ctypes.c_char()
 _HEADER = b"AMQP\0\1\0\0"
@@ -245,6 +247,8 @@ class Driver(Requests):
         self._judge(status)
         if record.kind == BEGIN_WANTED:
             self._numbers[number] = 0
+        elif record.kind == ENDED:
+            self._numbers.pop(record.session, None)
         return True
 
     def refusal_of(self, number: int) -> Refusal:

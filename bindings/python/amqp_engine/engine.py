@@ -2,7 +2,8 @@
 
 from __future__ import annotations
 
-from typing import Iterator, List, Optional, Type, Union
+from collections import deque
+from typing import Any, Callable, Deque, Iterator, List, Optional, Sequence, Type, TypeVar, Union
 
 from . import driver as said
 from . import opening as begins
@@ -12,7 +13,9 @@ from .opening import Opening, OpeningEvent
 from .performatives import Attach, Close, Detach, Disposition, End, Flow, Open, Transfer
 from .values import Described, Malformed
 
-_Told = Union[AnyEvent, OpeningEvent, Refusal]
+#: What `Engine.receive` gives
+Told = Union[AnyEvent, OpeningEvent, Refusal]
+_T = TypeVar("_T")
 
 
 class Engine(Driver):
@@ -28,6 +31,8 @@ class Engine(Driver):
         super().__init__(open, key=key, most=1, library=library, opening=opening)
         # received bytes, of which those before `_at` were taken, and how many of the next ones are a frame, as far as that is known
         self._came, self._at, self._wanted = bytearray(), 0, 0
+        # what is told of them, and nobody took yet
+        self._told: Deque[Any] = deque()
         #: Whether a frame had no lawful size: nothing more can be read
         self.is_broken = False
         #: Whether both Closes have passed, and nothing is taken any more
@@ -48,7 +53,7 @@ class Engine(Driver):
 
     # ---- bytes and events
 
-    def receive(self, data: bytes) -> Iterator[_Told]:
+    def receive(self, data: bytes) -> Iterator[Told]:
         """Takes received bytes, in any splitting, and gives what they bring, in order: events, and refusals of frames.
 
         The engine is given the frames as the iterator goes on, so that what is asked in answer to an event comes before the frames after it. What an
@@ -56,38 +61,45 @@ class Engine(Driver):
 
         Before the stream is open it gives headers and SASL too, as events of `opening`. After `LoginAsked`, `Challenged` and `Responded` nothing is
         taken until `login`, `challenge` or `respond`."""
+        return self.receive_by(data, self.events_of)
+
+    def receive_by(self, data: bytes, events_of: Callable[[Record], Sequence[_T]]) -> Iterator[Union[_T, Refusal]]:
+        """The same, but that `events_of` says what is told of a record. It may call `events_of` and `frame_of` of this engine, and give an answer."""
         del self._came[: self._at]
         self._at = 0
         if not self.is_broken:
             self._came += data
-        return self._take_all()
+        return self._take_all(events_of)
 
-    def _take_all(self) -> Iterator[_Told]:
+    def _take_all(self, events_of: Callable[[Record], Sequence[_T]]) -> Iterator[Union[_T, Refusal]]:
+        yield from self._left()
         while not self.is_broken:
             if len(self._came) - self._at < self._wanted:
                 return
             taken = self.take(self._came, self._at)
             self._at, self._wanted, self.is_broken = self._at + taken.taken, taken.wanted, taken.is_bad
             # made before any is given: whoever takes one may have more bytes received
-            told = [event for record in taken.records for event in self._events_of(record)]
+            self._told.extend(event for record in taken.records for event in events_of(record))
             if taken.is_over:
                 # nothing more is taken, whatever comes
                 self.is_over, self._at = True, len(self._came)
-            yield from told
+            yield from self._left()
             if taken.wanted or taken.is_over or taken.waits:
                 return
         self._came.clear()
         self._at = self._wanted = 0
         yield Refusal("BadSize", "amqp:connection:framing-error")
 
-    def left(self) -> bytes:
-        """The received bytes that were not taken; they are handed over, and the engine has them no more."""
-        left = bytes(self._came[self._at :])
-        self._came.clear()
-        self._at = self._wanted = 0
-        return left
+    def _left(self) -> Iterator[Any]:
+        while self._told:
+            yield self._told.popleft()
 
-    def _events_of(self, record: Record) -> List[_Told]:
+    def frame_of(self, record: Record) -> bytes:
+        """The frame of a record, behind its size and up to its payload, while `receive_by` asks what is told of it."""
+        return bytes(self._came[record.at - 4 : record.at + record.size])
+
+    def events_of(self, record: Record) -> List[Told]:
+        """What `receive` tells of a record."""
         if begins.SASL_HEADER <= record.kind <= begins.NOT_OPENED:
             return [begins.event_of(record, self._came, lambda number: self.refusal_of(number).name)]
         body = bytes(self._came[record.at : record.at + record.size])
@@ -98,12 +110,12 @@ class Engine(Driver):
         told = [] if event is None else [event]
         return told + self._unfit_of() if record.kind in (said.FLOW, said.DISPOSITION) else told
 
-    def _unfit_of(self) -> List[_Told]:
+    def _unfit_of(self) -> List[Told]:
         """What a frame let out, and what does not fit the peer's limit, is gone."""
         before, self._told_unfit = self._told_unfit, self.unfit
         return [Refusal("TooLarge", count=self._told_unfit - before)] if self._told_unfit > before else []
 
-    def _event_of(self, record: Record, body: bytes) -> Optional[_Told]:
+    def _event_of(self, record: Record, body: bytes) -> Optional[Told]:
         """The event of a record. Raises `Malformed` where the peer's values in it cannot be read: the engine looks at their sizes alone."""
         kind, flags = record.kind, record.flags
         link = (record.session, record.input, None if record.output == NONE else record.output)
@@ -124,7 +136,7 @@ class Engine(Driver):
             return self.refusal_of(record.refusal)
         return self._end_of(record, body)
 
-    def _end_of(self, record: Record, body: bytes) -> Optional[_Told]:
+    def _end_of(self, record: Record, body: bytes) -> Optional[Told]:
         """An Open is kept. An End and a Close that the peer began, or that name an error, are told as refusals of what this side may ask for from then on."""
         has_error = record.flags & said.WITH_ERROR
         if record.kind == said.OPENED:

@@ -116,7 +116,7 @@ class Connection:
         self._is_begun = True
         if self._serves is not None:
             self.server = Server(self.engine, begin=self._serves)
-        self._coming = self.engine.receive(b"") if self.server is None else self.server.receive(self.engine.left())
+        self._coming = (self.server or self.engine).receive(b"")
 
     async def _some(self) -> bytes:
         """What comes next of headers and SASL. It sets no limit of time: `begin` and `accept` have `Waits.login` for all of them together."""
