@@ -251,10 +251,7 @@ class Client:
 
     def push(self):
         """What was asked goes out, whoever's turn it is."""
-        try:
-            self.connection.push()
-        except Refusal as refusal:
-            self.fail(refusal)
+        self.connection.push()
 
     def ask(self, flow, session):
         """A flow goes out, whoever's turn it is."""

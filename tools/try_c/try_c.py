@@ -14,10 +14,11 @@ sys.path.insert(0, str(Path(__file__).resolve().parents[2] / "bindings" / "pytho
 
 from amqp_engine import (
     ACCEPTED, RECEIVER, RELEASED, SECOND, SENDER, Attach, BadArgument, Begin, Closed, Delivery, Detach, Detached, Disposed, Disposition, Driver, Engine,
-    Error, Flow, Flowed, Refusal, Server, SessionBegan, SessionEnded, Transfer, Transferred, address_of, data,
+    Error, Flow, Flowed, Refusal, Server, SessionBegan, SessionEnded, Transfer, Transferred, address_of, data, rejected,
 )  # fmt: skip
 from amqp_engine.driver import FORMATTED, MORE, NONE, NUMBERED
 from amqp_engine.library import How, LoginHead, Place, load
+from hostile.peers import frame
 from shared.command import command
 from try_c.try_c_cuts import TESTS as OF_CUTS
 from try_c.try_c_pair import Pair, frames, mapped, refused
@@ -283,6 +284,19 @@ def what_an_iterator_leaves_the_next_one_gives():
         side(pair).receive(came[-3:])
         left += side(pair).receive(b"")
         assert [it.payload for it in left] == [bytes([at]) for at in range(5)], left
+
+
+@test
+def what_a_frame_brings_is_given_whole():
+    pair = mapped()
+    handle, _, mine, _ = pair.attached()
+    for at in range(8):
+        pair.client.transfer(0, Transfer(handle, delivery_tag=bytes([at]), settled=True), b"x")
+    # it waits for the window, and does not fit once it may go out
+    pair.client.transfer(0, Transfer(handle, delivery_tag=b"t", state=rejected(Error("a:b", "x" * 600))), b"x")
+    pair.client.to_send()
+    first = next(pair.client.receive(frame(Flow(8, 8, 0, 8, handle=mine, delivery_count=0, link_credit=9))))
+    assert isinstance(first, Flowed) and list(pair.client.receive(b"")) == [Refusal("TooLarge")], first
 
 
 @test

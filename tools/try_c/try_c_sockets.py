@@ -9,9 +9,10 @@ ROOT = Path(__file__).resolve().parents[2]
 sys.path.insert(0, str(ROOT / "bindings" / "python"))
 
 from amqp_engine import (
-    ACCEPTED, RECEIVER, SENDER, Anonymous, Attach, Attached, Begin, Disposed, Disposition, External, Flow, Flowed, HeaderRefused, LoginRefused, Open, PeerSilent,
-    Plain, Refusal, Transfer, Transferred, connect, serve,
+    ACCEPTED, RECEIVER, SENDER, Anonymous, Attach, Attached, Begin, Close, Disposed, Disposition, External, Flow, Flowed, HeaderRefused, LoginRefused, Open, PeerSilent,
+    Plain, Refusal, Transfer, Transferred, Waits, connect, serve,
 )  # fmt: skip
+from hostile.peers import EMPTY, HEADER, frame
 
 OPEN = Open("client", hostname="here", max_frame_size=512, channel_max=7)
 TESTS = []
@@ -126,6 +127,44 @@ def a_silent_peer_is_ended_and_a_quiet_one_is_kept():
     except PeerSilent:
         return
     raise AssertionError("a silent peer was waited for")
+
+
+async def hears_nothing(connection):
+    """Waits for an event for a while; none comes."""
+    try:
+        raise AssertionError(await asyncio.wait_for(connection.__anext__(), 0.5))
+    except asyncio.TimeoutError:
+        pass
+
+
+@test
+def no_empty_frame_comes_before_an_open_or_behind_a_close():
+    came = bytearray()
+
+    async def asks(reader, writer):
+        """A peer that asks for a frame each 100 ms, and answers no Close."""
+        writer.write(HEADER + frame(Open("s", idle_time_out=200)))
+        while part := await reader.read(1000):
+            came.extend(part)
+
+    async def client():
+        server = await asyncio.start_server(asks, "127.0.0.1", 0)
+        how = {"login": None, "waits": Waits(answer=0.6)}
+        async with server, connect("127.0.0.1", server.sockets[0].getsockname()[1], Open("c"), **how) as connection:
+            await hears_nothing(connection)
+            assert came == HEADER, came
+            connection.engine.open()
+            await hears_nothing(connection)
+            try:
+                await connection.close()
+            except PeerSilent:
+                return
+            raise AssertionError("a Close was answered")
+
+    asyncio.run(client())
+    opened, close = 8 + int.from_bytes(came[8:12], "big"), frame(Close())
+    beats = bytes(came[opened : -len(close)])
+    assert came[18] == 0x10 and beats == EMPTY * (len(beats) // 8) != b"" and came.endswith(close), came
 
 
 @test

@@ -150,8 +150,7 @@ class Connection:
     # ---- frames
 
     def push(self) -> int:
-        """Hands what the engine is to send to the stream, at once, and answers how many bytes. Raises the refusal of a frame that does not fit the peer's
-        limit; the others go out with the next call."""
+        """Hands what the engine is to send to the stream, at once, and answers how many bytes."""
         data = (self.server or self.engine).to_send()
         if data:
             self._stream.write(data)
@@ -235,10 +234,9 @@ class Connection:
     async def _let_go(self, number: int) -> None:
         """The peer's End, or its Close, is answered."""
         self._answer_close()
-        with contextlib.suppress(Refusal, ConnectionError):
-            self.engine.end(number)
-            self.engine.release(number)
-        with contextlib.suppress(Refusal, ConnectionError):
+        with contextlib.suppress(Refusal):
+            self.engine.answer_end(number)
+        with contextlib.suppress(ConnectionError):
             await self.flush()
 
     # ---- time
@@ -269,18 +267,21 @@ class Connection:
         with contextlib.suppress(Refusal):
             self.engine.close(error)
         # also where the engine has closed by itself
-        with contextlib.suppress(Refusal, ConnectionError):
+        with contextlib.suppress(ConnectionError):
             await self.flush()
 
     def _keep_alive(self) -> None:
-        """From the peer's Open on an empty frame goes out where else nothing would."""
-        if self._beats is None and (theirs := self.engine.remote_open) and theirs.idle_time_out:
+        """From both Opens on an empty frame goes out where else nothing would."""
+        if self._beats is None and self.engine.state == "OPENED" and (theirs := self.engine.remote_open) and theirs.idle_time_out:
             self._beats = asyncio.ensure_future(self._beat(theirs.idle_time_out / 1000))
 
     async def _beat(self, limit: float) -> None:
         with contextlib.suppress(ConnectionError):
             while True:
                 await asyncio.sleep(max(_BRIEFEST, self._stream.sent + limit / 2 - time.monotonic()))
+                if self.engine.state != "OPENED":
+                    # behind a Close no frame goes out, an empty one neither (AMQP 1.0 part 2, section 2.4.5)
+                    return
                 if time.monotonic() - self._stream.sent >= limit / 2 and not self._stream.drains:
                     self._stream.write(_EMPTY_FRAME)
                     await self._stream.drain()
