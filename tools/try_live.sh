@@ -1,14 +1,14 @@
-# What tools/try_brokers.sh tries of examples/c/amqp1_sender.c, amqp1_receiver.c and amqp1_listener.c, each of at most 80 lines, with real peers. It is
-# sourced by it, after `folder`, `running` and `prefix` are set. Where AMQP_RECORDINGS names a folder, the bytes of each connection are left there.
+# What tools/try_brokers.sh tries of examples/c/amqp1_sender.c, amqp1_receiver.c and amqp1_listener.c with real peers. Each, and amqp1_send.c, has at most
+# 80 lines. This is sourced there, after `folder`, `running` and `prefix` are set. Where AMQP_RECORDINGS names a folder, the bytes of each connection are left there.
 many=${AMQP_MESSAGES:-20}
 keys=$folder/keys
 proton_python=/usr/share/proton/examples/python proton_cpp=/usr/share/proton/examples/cpp
 
-# Builds the three, with TLS; and makes the keys of this run: an authority, and certificates for localhost and for the user guest.
+# Builds them, with TLS; and makes the keys of this run: an authority, and certificates for localhost and for the user guest.
 build_live() {
     install gcc libc6-dev libssl-dev openssl || return 1
     local it
-    for it in sender receiver listener; do
+    for it in send sender receiver listener; do
         [ "$(wc -l <"examples/c/amqp1_$it.c")" -le 80 ] || { echo "amqp1_$it.c has more than 80 lines" && return 1; }
         cc -std=c99 -O2 -DAMQP1_TLS -I"$prefix/include" "examples/c/amqp1_$it.c" examples/c/amqp1_socket.c "$prefix/lib/libamqp1.a" \
             -o "$folder/$it" -lssl -lcrypto || return 1

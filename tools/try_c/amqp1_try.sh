@@ -90,9 +90,8 @@ each_refused() {
 # Builds the examples.
 examples() {
     cc -std=c99 "${strict[@]}" "${sanitized[@]}" examples/c/amqp1_server.c examples/c/amqp1_server_io.c "$library/libamqp1.a" -o "$folder/server" &&
-        cc -std=c99 "${strict[@]}" "${sanitized[@]}" examples/c/amqp1_send.c "$library/libamqp1.a" -o "$folder/send" &&
         cc -std=c99 "${strict[@]}" "${sanitized[@]}" examples/c/amqp1_idle.c "$library/libamqp1.a" -o "$folder/idle" &&
-        for it in sender receiver listener; do
+        for it in send sender receiver listener; do
             cc -std=c99 "${strict[@]}" "${sanitized[@]}" "examples/c/amqp1_$it.c" examples/c/amqp1_socket.c "$library/libamqp1.a" -o "$folder/$it" || return 1
         done
 }
