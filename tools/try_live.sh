@@ -57,7 +57,7 @@ await_listening() {
     return 1
 }
 
-# The listener takes one client: NAME, what it is to say of it, its status, `tls` or `plain`, and the client's words, where PORT stands for the port.
+# The listener takes one client: NAME, what it is to say of it, the statuses that it may have, `tls` or `plain`, and the client's words, where PORT stands for the port.
 listened() {
     local name=$1 wanted=$2 status=$3 over=$4 port got=0 waits
     shift 4
@@ -70,7 +70,7 @@ listened() {
     timeout 60 "${@//PORT/$port}" >"$folder/client" 2>&1 || got=client
     wait "$waits" || got=$?
     echo "amqp1_listener, $name: $(cat "$folder/listened"); $(tail -n 1 "$folder/client")"
-    [ "$got" = "$status" ] && [ "$(cat "$folder/listened")" = "$wanted" ] && return
+    [[ " $status " = *" $got "* ]] && [ "$(cat "$folder/listened")" = "$wanted" ] && return
     cat "$folder/listener.err"
     return 1
 }
@@ -123,11 +123,11 @@ try_live_clients() {
     tried listened proton-cpp-amqp1-refused "refused by PLAIN" 1 plain "${words[@]}"
 }
 
-# uAMQP hangs up without a Close, so the listener's status is 1.
+# uAMQP may hang up without a Close, and then the listener's status is 1.
 try_live_uamqp() {
     local it
     for it in send receive; do
-        tried listened "uamqp-amqp1-anonymous-$it" "let in by ANONYMOUS" 1 tls /usr/bin/python3 tools/try_uamqp.py "$it" PORT "$many" "$keys/ca.pem"
-        tried listened "uamqp-amqp1-plain-$it" "let in by PLAIN" 1 tls /usr/bin/python3 tools/try_uamqp.py "$it" PORT "$many" "$keys/ca.pem" guest guest
+        tried listened "uamqp-amqp1-anonymous-$it" "let in by ANONYMOUS" "0 1" tls /usr/bin/python3 tools/try_uamqp.py "$it" PORT "$many" "$keys/ca.pem"
+        tried listened "uamqp-amqp1-plain-$it" "let in by PLAIN" "0 1" tls /usr/bin/python3 tools/try_uamqp.py "$it" PORT "$many" "$keys/ca.pem" guest guest
     done
 }
