@@ -57,7 +57,8 @@ await_listening() {
     return 1
 }
 
-# The listener takes one client: NAME, what it is to say of it, the statuses that it may have, `tls` or `plain`, and the client's words, where PORT stands for the port.
+# The listener takes one client: NAME, what it is to say of it, the statuses that it may have, `tls` or `plain`, and the client's words, where PORT stands for
+# the port.
 listened() {
     local name=$1 wanted=$2 status=$3 over=$4 port got=0 waits
     shift 4

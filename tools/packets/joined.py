@@ -195,7 +195,7 @@ class Connection:
                 return side
         if len(waiting) < 2:
             return None
-        # each waits for the other: one of both packets brings bytes again, the later one where none is known to. The other side had them when it sent its own
+        # each waits for the other: one of both packets brings bytes again, the later one where none is known to; the other side had those before it sent its own
         first, again = sorted(waiting, key=lambda side: self.ways[side].ready[0].is_again)
         self.ways[again].bound(0, self.ways[first].awaits())
         return again
