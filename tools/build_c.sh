@@ -1,10 +1,10 @@
 #!/usr/bin/env bash
-# Builds the library for C and puts it, its headers and its files for pkg-config and CMake under a folder: lib/libamqp1.a, lib/libamqp1.so.1, include/amqp1.h,
-# include/amqp1/, lib/pkgconfig/amqp1.pc, lib/cmake/amqp1/. It has `rt lib` prove and compile crates/amqp1, and joins that with the few C functions of
-# the kit by which the library asks for memory, and with the functions of its headers, by include/amqp1/library.c. The files work where the folder
-# is moved to. What was linked is printed.
+# Builds the library for C and puts it, its headers, its files for pkg-config and CMake and its man pages under a folder: lib/libamqp1.a, lib/libamqp1.so.1,
+# include/amqp1.h, include/amqp1/, lib/pkgconfig/amqp1.pc, lib/cmake/amqp1/, share/man/man3/ (man -M OUT/share/man amqp1_take).
+# It has `rt lib` prove and compile crates/amqp1, and joins that with the few C functions of the kit by which the library asks for memory, and with the
+# functions of its headers, by include/amqp1/library.c. The files work where the folder is moved to. What was linked is printed.
 #
-# Where there is no compiler for C or C++, it installs Debian's (as root).
+# Where there is no compiler for C or C++, it installs Debian's (as root). The man pages are written by python3; where there is none a line says so.
 #
 #     tools/build_c.sh OUT              OUT is made if need be
 #     tools/build_c.sh OUT --from FILE  of an archive libamqp1.a that was built before
@@ -91,9 +91,17 @@ endif()
 END_OF_FILE
 }
 
+# A page for each function of the headers.
+manual() {
+    command -v python3 >/dev/null || { echo "no man pages, since there is no python3"; return; }
+    rm -f "$out/share/man/man3"/amqp1_*.3
+    python3 tools/api.py --man "$out/share/man"
+}
+
 mkdir -p "$out/lib"
 object_of amqp1 amqp1_new amqp1_call amqp1_take amqp1_answer amqp1_tick amqp1_send amqp1_cut amqp1_free amqp1_version
 cc -std=c99 -O2 -fPIC -ffunction-sections -Wall -Wextra -Wpedantic -Werror -c include/amqp1/library.c -o "$folder/amqp1_header.o"
 library_of amqp1 libamqp1.so.1 "$folder/amqp1.o" "$folder/amqp1_header.o"
 cmake_of "$(sed -n 's/^#define AMQP1_VERSION "\(.*\)"$/\1/p' include/amqp1.h)"
+manual
 ls -l "$out/lib" | awk 'NF > 5 && !/^d/ { print $5, $9 }'

@@ -89,7 +89,7 @@ start_broker() {
 # What is tried: each prints what it did
 replay() { python3 tools/bridge.py "$program" 127.0.0.1 "$@"; }
 by_library() { python3 tools/bridge.py "$AMQP_LIBRARY" 127.0.0.1 "$@"; }
-in_c() { echo "the client in C:" && timeout 60 "$folder/send_receive" 127.0.0.1 "$@"; }
+in_c() { echo "the client in C:" && timeout 60 "$folder/send" 127.0.0.1 "$@"; }
 in_python() { echo "the client in Python:" && timeout 60 python3 examples/python/send_receive.py 127.0.0.1 "$@"; }
 proton_in_python() { echo "qpid-proton's client in Python $(dpkg-query -f '${Version}' -W python3-qpid-proton):" && timeout 300 /usr/bin/python3 tools/try_server.py "$1"; }
 
@@ -168,7 +168,6 @@ try_served() {
 if [ -z "$small" ]; then
     [ -x "$program" ] || (cd crates/amqp_replay && rt run </dev/null >"$folder/build")
     [ -x "$server" ] || (cd crates/example_broker && rt run <stdin >"$folder/build")
-    cc -std=c99 -O2 -I"$prefix/include" examples/c/amqp1_send.c "$prefix/lib/libamqp1.a" -o "$folder/send_receive"
     if started start_proton; then try_proton; fi
     if started start_broker; then try_served; fi
 fi

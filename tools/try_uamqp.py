@@ -3,8 +3,8 @@
 
     tools/try_uamqp.py send|receive PORT COUNT CA [USER PASSWORD]
 
-The server's certificate is for localhost, and of the authority in the file CA. It logs in by PLAIN, or by ANONYMOUS where there is no user. It does not
-send a Close: it hangs up once its session has ended.
+The server's certificate is for localhost, and of the authority in the file CA. It logs in by PLAIN, or by ANONYMOUS where there is no user. It may
+hang up once its session has ended, without a Close.
 """
 
 import sys

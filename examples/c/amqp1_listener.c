@@ -15,7 +15,7 @@ static void let_in(const amqp1_record *record, const uint8_t *input)
 }
 
 /* The client attaches a link: this side takes the other end, by the same name, with the same address. */
-static void attach(const amqp1_record *record, const uint8_t *input)
+static void take_link(const amqp1_record *record, const uint8_t *input)
 {
     enum amqp1_role role = amqp1_has(record, AMQP1_FLAG_RECEIVER) ? AMQP1_SENDER : AMQP1_RECEIVER;
     amqp1_bytes perf = amqp1_performative(input, record), of;
@@ -29,9 +29,8 @@ static void attach(const amqp1_record *record, const uint8_t *input)
     must("a link", amqp1_link_on(&engine, record->session, record->input, role, AMQP1_FIRST, name, &output));
     must("an attach's text", amqp1_write_attach(text, sizeof text, &length, name, output, role, 0, AMQP1_FIRST, address, address, 0));
     must("an attach", amqp1_attach(&engine, record->session, text, length));
-    must("a flow's text", amqp1_write_flow(text, sizeof text, &length, output, &record->count, 100000, 0, 0));
     if (role == AMQP1_RECEIVER)
-        must("a flow", amqp1_flow(&engine, record->session, text, length));
+        give_credit(record->session, output, &record->count, 100000);
     else
         link_to = output, sent = 0;
 }
@@ -52,7 +51,7 @@ void take_record(const amqp1_record *record, const uint8_t *input)
     if (record->kind == AMQP1_KIND_LOGIN_ASKED)
         let_in(record, input);
     else if (record->kind == AMQP1_KIND_ATTACH_WANTED)
-        attach(record, input);
+        take_link(record, input);
     else if (record->kind == AMQP1_KIND_FLOW && record->output == link_to && amqp1_has(record, AMQP1_FLAG_CREDITED))
         send_some(record->session, record->count + record->credit);
     else if (record->kind == AMQP1_KIND_TRANSFER && !amqp1_has(record, AMQP1_FLAG_MORE) && !amqp1_has(record, AMQP1_FLAG_SETTLED))

@@ -16,6 +16,8 @@ static SSL *tls;
 #endif
 
 amqp1 engine;
+const char *the_address;
+uint32_t messages;
 static int the_socket = -1;
 static char this_side;
 
@@ -91,7 +93,8 @@ uint64_t now(void)
     return (uint64_t)it.tv_sec * 1000 + (uint64_t)it.tv_nsec / 1000000;
 }
 
-void connect_to(const char *host, const char *port, uint8_t key[16])
+/* The server of this name and port is the peer. The key is 16 bytes that it cannot guess. */
+static void connect_to(const char *host, const char *port, uint8_t key[16])
 {
     struct addrinfo hints, *found, *it;
     memset(&hints, 0, sizeof hints);
@@ -125,7 +128,8 @@ static SSL_CTX *context_of(const SSL_METHOD *method, const char *certificate, co
     return context;
 }
 
-void tls_to(const char *host, const char *ca, const char *certificate, const char *key)
+/* Speaks TLS with it, with this side's certificate and its key: the server's certificate has to be for the host, and of the authority `ca`. */
+static void tls_to(const char *host, const char *ca, const char *certificate, const char *key)
 {
     SSL_CTX *context = context_of(TLS_client_method(), certificate, key);
     if (SSL_CTX_load_verify_locations(context, ca, NULL) != 1)
@@ -144,12 +148,64 @@ static void tls_from(void)
         fail("no TLS with the client");
 }
 #else
-void tls_to(const char *host, const char *ca, const char *certificate, const char *key)
+static void tls_to(const char *host, const char *ca, const char *certificate, const char *key)
 {
     (void)host, (void)ca, (void)certificate, (void)key;
     fail("it is built without TLS");
 }
 #endif
+
+void start_client(int words_count, char **words, const char *name)
+{
+    uint8_t key[16], text[512];
+    size_t length;
+    if (words_count < 4 || words_count == 6 || words_count > 8)
+        fail("usage: HOST PORT ADDRESS [COUNT [USER PASSWORD | CA CERTIFICATE KEY]]");
+    the_address = words[3];
+    messages = words_count > 4 ? (uint32_t)atoi(words[4]) : 5;
+    connect_to(words[1], words[2], key);
+    must("an open's text", amqp1_write_open(text, sizeof text, &length, name, words[1], 65536, 255, 0));
+    if (words_count == 8) {
+        tls_to(words[1], words[5], words[6], words[7]);
+        must("an engine", amqp1_start_external(&engine, key, now(), LIMIT, words[1], "", text, length));
+    } else {
+        const char *user = words_count == 7 ? words[5] : NULL, *password = words_count == 7 ? words[6] : NULL;
+        must("an engine", amqp1_start_client(&engine, key, now(), LIMIT, words[1], user, password, text, length));
+    }
+    must("an open", amqp1_open(&engine));
+}
+
+void go_on(const amqp1_record *record, const uint8_t *input)
+{
+    uint8_t text[64];
+    size_t length;
+    if (record->refusal || amqp1_has(record, AMQP1_FLAG_ERROR) || record->kind == AMQP1_KIND_DETACHED || record->kind == AMQP1_KIND_ENDED)
+        unexpected(record, input);
+    if (record->kind != AMQP1_KIND_OPENED)
+        return;
+    must("a begin's text", amqp1_write_begin(text, sizeof text, &length, 0, 2048, 2048, 255));
+    must("a begin", amqp1_begin(&engine, 0, text, length));
+}
+
+uint32_t attach(const char *name, enum amqp1_role role)
+{
+    const char *source = role == AMQP1_SENDER ? "here" : the_address, *target = role == AMQP1_SENDER ? the_address : "here";
+    uint8_t text[512];
+    uint32_t output;
+    size_t length;
+    must("a link", amqp1_link(&engine, 0, role, AMQP1_FIRST, name, &output));
+    must("an attach's text", amqp1_write_attach(text, sizeof text, &length, name, output, role, 0, AMQP1_FIRST, source, target, 0));
+    must("an attach", amqp1_attach(&engine, 0, text, length));
+    return output;
+}
+
+void give_credit(uint32_t session, uint32_t link, const uint32_t *count, uint32_t credit)
+{
+    uint8_t text[64];
+    size_t length;
+    must("a flow's text", amqp1_write_flow(text, sizeof text, &length, link, count, credit, 0, 0));
+    must("a flow", amqp1_flow(&engine, session, text, length));
+}
 
 int listen_on(const char *port, const char *certificate, const char *key)
 {
@@ -267,24 +323,6 @@ static void give(void)
     } while (length);
 }
 
-/* The client begins a session: this side begins one for it, and turns the two Begins. What waits is written first: then this side's Begin is alone. */
-static void begin(const amqp1_record *record, const uint8_t *input)
-{
-    static uint32_t sessions;
-    amqp1_bytes theirs = amqp1_bytes_at(input + record->at - 8, record->size + 8);
-    uint8_t text[64], own[128], turned[1024];
-    amqp1_record begun;
-    amqp1_took took;
-    size_t length;
-    give();
-    must("a begin's text", amqp1_write_begin(text, sizeof text, &length, 0, 2048, 2048, 255));
-    must("a begin", amqp1_begin(&engine, sessions++, text, length));
-    must("output", amqp1_output(&engine, own, sizeof own, &length));
-    write_all(turned, amqp1_turn_begin(turned, sizeof turned, amqp1_bytes_at(own, length), record->channel));
-    length = amqp1_turn_begin(turned, sizeof turned, theirs, (uint16_t)(own[6] << 8 | own[7]));
-    must("a turned begin", amqp1_take(&engine, now(), turned, length, &begun, 1, &took));
-}
-
 /* The client detaches a link. One that this side has detached is not live, and has no handle. */
 static void detach(const amqp1_record *record)
 {
@@ -297,20 +335,17 @@ static void detach(const amqp1_record *record)
     must("a detach", amqp1_detach(&engine, record->session, 0, text, length));
 }
 
-static void end(uint32_t session)
-{
-    must("an end", amqp1_end(&engine, session, NULL, 0));
-    must("a release", amqp1_release(&engine, session));
-    must("a session that is over", amqp1_forget(&engine, session));
-}
-
 void answer(const amqp1_record *record, const uint8_t *input)
 {
+    static uint32_t sessions;
     switch (record->kind) {
-    case AMQP1_KIND_BEGIN_WANTED: begin(record, input); break;
+    case AMQP1_KIND_BEGIN_WANTED:
+    case AMQP1_KIND_ENDED:
+    case AMQP1_KIND_CLOSED:
+        must("an answer", amqp1_answer(&engine, record, input, record->payload_at + record->payload, AMQP1_ANSWER_ALL, sessions));
+        sessions += record->kind == AMQP1_KIND_BEGIN_WANTED;
+        break;
     case AMQP1_KIND_DETACHED: detach(record); break;
-    case AMQP1_KIND_ENDED: end(record->session); break;
-    case AMQP1_KIND_CLOSED: must("a close", amqp1_close(&engine, NULL, 0)); break;
     default:
         if (record->refusal)
             unexpected(record, input);

@@ -236,7 +236,7 @@ typedef struct amqp1_record {
 
 /* Of records before the stream is open (part 5, section 5.3): the payload is what is said above; of LOGIN_ASKED and NOT_OFFERED the name of the
    mechanism stands at `first`, of `last` bytes; of LOGIN_ASKED the host stands at `count`, of `credit` bytes. A payload or a host that is not there
-   is at AMQP1_NONE. `at` and `size` are 0. */
+   is at AMQP1_NONE. `at` is 0, and `size` how many bytes the header or the SASL frame has. */
 
 /* What amqp1_take took. */
 typedef struct amqp1_took {

@@ -179,6 +179,12 @@ def cut_up():
     return [*found[:-1], (1.0, found[-1][1][:2] + b"\0\0" + found[-1][1][4:])]
 
 
+def kept():
+    """A packet that is far ahead acknowledges less than all before it: so what those acknowledge is kept, and does not count."""
+    packets = segments("A", bytes.fromhex("0000000802000000") * 4500, 1)
+    return raw([*packets[:4], Packet(1.0, "A", 10**6, b"\0", 0), *packets[4:]])
+
+
 def options():
     return b"".join([section(), *[block(1, pack("<HHI", 101, 0, 0) + pack("<HH", 1, 0) * 1000)] * 500])
 
@@ -196,6 +202,7 @@ DEAR = {
     "headers of IP": lambda: pcap(extended(), 101),
     "a packet that is cut up": lambda: pcap(cut_up(), 101, most=2**20),
     "what waits": lambda: pcap(waiting(), 101),
+    "what is kept": lambda: pcap(kept(), 101),
     "interfaces": lambda: b"".join([section(), *[interface()] * (SIZE // 20)]),
     "options": options,
 }

@@ -137,16 +137,33 @@ def twice(draw, packets):
     return [*found, *(it for it in packets[:9] if it.data)]
 
 
+def in_disorder(path, seed):
+    # what is drawn of a recording stays the same where another one is added
+    draw = random.Random(f"{seed} {path.stem}")
+    frames = [it for it in recorded(path) if len(it[1]) >= 4]
+    packets = packets_of(frames, chunked(draw))
+    same(f"{path.stem}, cut", pcap(linked(packets)), frames)
+    same(f"{path.stem}, twice", pcap(linked(twice(draw, packets))), frames)
+    same(f"{path.stem}, late", pcap(linked(late(draw, packets))), frames)
+    same(f"{path.stem}, late and twice, .pcapng", pcapng(linked(twice(draw, late(draw, packets)), version="6")), frames)
+
+
 def recordings(seed):
     for path in sorted(CAPTURES.glob("*.txt")):
-        # what is drawn of a recording stays the same where another one is added
-        draw = random.Random(f"{seed} {path.stem}")
-        frames = [it for it in recorded(path) if len(it[1]) >= 4]
-        packets = packets_of(frames, chunked(draw))
-        same(f"{path.stem}, cut", pcap(linked(packets)), frames)
-        same(f"{path.stem}, twice", pcap(linked(twice(draw, packets))), frames)
-        same(f"{path.stem}, late", pcap(linked(late(draw, packets))), frames)
-        same(f"{path.stem}, late and twice, .pcapng", pcapng(linked(twice(draw, late(draw, packets)), version="6")), frames)
+        in_disorder(path, seed)
+    # disorders in which what is sent again says that it acknowledges more than what it repeats
+    for more in (22, 23):
+        in_disorder(CAPTURES / "uamqp-amqp1-plain-send.txt", seed + more)
+
+
+def repeated_and_late(seed):
+    """What is sent again may come before what it repeats: then that comes late, and brings nothing but what it acknowledges."""
+    for name in ("amqp1-proton-python-receive", "amqp1-rmq-anonymous-send", "amqp1-rmq-external-send", "erlang-rmq"):
+        frames = [it for it in recorded(CAPTURES / f"{name}.txt") if len(it[1]) >= 4]
+        for more in range(30):
+            draw = random.Random(f"{seed + more} {name}")
+            packets = packets_of(frames, chunked(draw))
+            same(f"{name}, late once it came twice, {seed + more}", pcap(linked(late(draw, twice(draw, packets)))), frames)
 
 
 # ---- what is lacking
@@ -327,6 +344,7 @@ def main():
     seed = int(sys.argv[1]) if len(sys.argv) > 1 else 1
     as_it_stands()
     recordings(seed)
+    repeated_and_late(seed)
     losses(seed)
     tests = recorded_in_part, the_last_is_lacking, far_ahead, several, a_port_that_is_used_again, without_its_syn, is_reset, fragments_are_told
     for test in (*tests, the_tool, without_the_library):

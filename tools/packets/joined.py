@@ -1,7 +1,9 @@
 """Puts the streams of TCP together that a recording of packets holds (RFC 9293), for transcript.py: what each side sent, in order, and what is missing.
 
-What one side sent goes out after all that it acknowledges of the other side: so frames stand in an order in which they can have been sent, however late
-their packets were recorded. Of bytes that came twice the first count. What never came is told as missing, and nothing that its side sent after it is read.
+What one side sent goes out after all that it acknowledged of the other side by then: so frames stand in an order in which they can have been sent, however
+late their packets were recorded. A segment that is sent again acknowledges more than the first one did, and may hold what came before or after; but a side
+sends its bytes in order, and acknowledges no less than before: so when a byte was sent first, it acknowledged at most what any segment does that ends
+behind it. Of bytes that came twice the first count. What never came is told as missing, and nothing that its side sent after it is read.
 """
 
 from collections import deque
@@ -29,24 +31,25 @@ def text_of(end):
 
 
 class Chunk(NamedTuple):
-    """Bytes, or a text where some are missing: the packet that brought them, its time, and how many bytes of the other side were acknowledged by then."""
+    """Bytes, or a text where some are missing: the packet that brought them, its time, and whether it brought others again."""
 
     order: int
     time: float
     what: object
-    acknowledges: int
+    is_again: bool = False
 
 
 class Way:
     """What one side sends. Places count from its first byte, which has the number `first`. Those before `at` are in order, in `ready` until they go out, those
-    before `out` went out, and those before `end` are known to have been sent; `ahead` is a heap of what came too early."""
+    before `out` went out, the last of them `gone` bytes of the first chunk that is ready; and those before `end` are known to have been sent. `ahead` is a heap
+    of what came too early, and `bounds` one of what segments acknowledge, with the places where they end: of what does the least first, and the longest."""
 
-    __slots__ = ("first", "at", "out", "end", "acknowledged", "ahead", "ready", "far", "is_over", "is_cut")
+    __slots__ = ("first", "at", "out", "end", "acknowledged", "ahead", "ready", "bounds", "gone", "far", "is_over", "is_cut")
 
     def __init__(self):
-        self.first, self.at, self.out, self.end, self.acknowledged = None, 0, 0, 0, 0
+        self.first, self.at, self.out, self.end, self.acknowledged, self.gone = None, 0, 0, 0, 0, 0
         # each is made once there is something for it, since many sides of a hostile recording send nothing
-        self.ahead, self.ready, self.far, self.is_over, self.is_cut = (), (), None, False, False
+        self.ahead, self.ready, self.bounds, self.far, self.is_over, self.is_cut = (), (), (), None, False, False
 
     def place(self, number):
         return self.at + (number - self.first - self.at + ROUND // 2) % ROUND - ROUND // 2
@@ -58,8 +61,8 @@ class Way:
         """The side sends nothing from this number on."""
         self.end, self.is_over = max(self.end, self.place(number)), True
 
-    def take(self, number, chunk, size):
-        """A segment, of whose bytes these were recorded."""
+    def take(self, number, chunk, size, acknowledges):
+        """A segment, of whose bytes these were recorded; and how many bytes of the other side it acknowledges."""
         place = self.place(number)
         if abs(place - self.at) > WIDEST:
             self.far = self.at
@@ -67,6 +70,7 @@ class Way:
             self.reach(place)
         else:
             self.end, self.is_cut = max(self.end, place + size), self.is_cut or len(chunk.what) < size
+            self.bound(acknowledges, place + size)
             self.ahead = self.ahead or []
             heappush(self.ahead, (place, chunk))
             while self.ahead and self.ahead[0][0] <= self.at:
@@ -74,8 +78,22 @@ class Way:
 
     def join(self, place, chunk):
         if new := chunk.what[self.at - place :]:
+            self.put(chunk._replace(what=new, is_again=place < self.at))
             self.at += len(new)
-            self.put(chunk._replace(what=new))
+
+    def bound(self, acknowledges, end):
+        """When the bytes before this place were sent first, at most so many of the other side's were acknowledged."""
+        if end > self.out:
+            self.bounds = self.bounds or []
+            heappush(self.bounds, (acknowledges, -end))
+
+    def awaits(self):
+        """How many bytes of the other side go out before what is ready."""
+        if isinstance(self.ready[0].what, str):
+            return 0
+        while -self.bounds[0][1] <= self.out:
+            heappop(self.bounds)
+        return self.bounds[0][0]
 
     def put(self, chunk):
         self.ready = self.ready or deque()
@@ -115,21 +133,24 @@ class Way:
         """At the end of all: where bytes are missing, a text stands for them and for what comes after them."""
         if lack := self.missing():
             order = min((chunk.order for _, chunk in self.ahead), default=order)
-            self.put(Chunk(order, time, lack, 0))
+            self.put(Chunk(order, time, lack))
             self.ahead = ()
 
     def go(self):
-        """The next chunk. With a text all that is missing counts as gone."""
-        chunk = self.ready.popleft()
-        self.out += len(chunk.what) if isinstance(chunk.what, bytes) else inf
-        return chunk
-
-    def free(self, place):
-        """What the other side had when it sent its next chunk waits for nothing: a later packet brought it again, and acknowledges more."""
-        chunk, count = self.ready.popleft(), place - self.out
-        if count < len(chunk.what):
-            self.ready.appendleft(chunk._replace(what=chunk.what[count:]))
-        self.ready.appendleft(chunk._replace(what=chunk.what[:count], acknowledges=0))
+        """What goes out next: of a chunk no more than waits for the same. With a text all that is missing counts as gone."""
+        chunk = self.ready[0]
+        if isinstance(chunk.what, str):
+            self.ready.popleft()
+            self.out = inf
+            return chunk
+        self.awaits()
+        end = -self.bounds[0][1]
+        what = chunk.what[self.gone : self.gone + end - self.out]
+        self.out, self.gone = self.out + len(what), self.gone + len(what)
+        if self.gone == len(chunk.what):
+            self.ready.popleft()
+            self.gone = 0
+        return chunk._replace(what=what)
 
 
 class Connection:
@@ -163,20 +184,20 @@ class Connection:
             mine.ends(first + of.size)
         if of.flags & RST:
             mine.is_over = other.is_over = True
-        mine.take(first, Chunk(order, time, of.data, acknowledges), of.size)
+        mine.take(first, Chunk(order, time, of.data), of.size, acknowledges)
         yield from self.go(self.next)
 
     def next(self):
-        """The side whose turn it is: all that its next chunk acknowledges went out; of both that whose packet was recorded first."""
+        """The side whose turn it is: all that it acknowledged by then went out; of both that whose packet was recorded first."""
         waiting = sorted((side for side, way in self.ways.items() if way.ready), key=lambda side: self.ways[side].ready[0].order)
         for side in waiting:
-            if self.ways[OTHER[side]].has_gone(self.ways[side].ready[0].acknowledges):
+            if self.ways[OTHER[side]].has_gone(self.ways[side].awaits()):
                 return side
         if len(waiting) < 2:
             return None
-        # each waits for the other: the packet that was recorded later brings bytes again
-        first, again = waiting
-        self.ways[again].free(self.ways[first].ready[0].acknowledges)
+        # each waits for the other: one of both packets brings bytes again, the later one where none is known to; the other side had those before it sent its own
+        first, again = sorted(waiting, key=lambda side: self.ways[side].ready[0].is_again)
+        self.ways[again].bound(0, self.ways[first].awaits())
         return again
 
     def last_turn(self):

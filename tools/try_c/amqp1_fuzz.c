@@ -1,6 +1,6 @@
-/* Any bytes to libamqp1, for libFuzzer: frames in any pieces and with any room for records, requests, transfers by heads, which are cut too, and
-   outputs of any room. What a call says that it took and wrote has to fit what it was given. With AMQP1_FUZZ_ALONE it is a program that does the
-   same with files. See amqp1_try.sh.
+/* Any bytes to libamqp1, for libFuzzer: headers, SASL frames and frames in any pieces and with any room for records, and the answers to them; records
+   that no call wrote; requests, ticks, transfers by heads, which are cut too, and outputs of any room. What a call says that it took and wrote has to
+   fit what it was given. With AMQP1_FUZZ_ALONE it is a program that does the same with files. See amqp1_try.sh.
 
    The input is a row of steps: a byte that says what is done (the lowest three bits) and with what room (the others), two bytes of length, and
    as many bytes. */
@@ -9,20 +9,23 @@
 
 int LLVMFuzzerTestOneInput(const uint8_t *data, size_t size);
 
-enum { MOST = 1 << 16 };
+enum { MOST = 1 << 16, LIMIT = 4000 };
 
 static const uint8_t key[16] = { 1 };
 static uint8_t waiting[MOST];
 static size_t waits;
+static uint64_t now;
 
 #define MUST(holds) ((holds) ? (void)0 : (fprintf(stderr, "line %d: %s\n", __LINE__, #holds), abort()))
 
 /* An engine as far as this: 0 made, 1 its Open sent, 2 open, 3 with the session 7, 4 with a link on which it sends (0, the peer's 5) and 5 also
-   one on which it receives (1, the peer's 6). */
-static void make(amqp1 *engine, unsigned far)
+   one on which it receives (1, the peer's 6); or that of a server (6) and of a client (7) that SASL comes first for, with its first header waiting.
+   Where it idles both sides have an idle-time-out. */
+static void make(amqp1 *engine, unsigned far, unsigned idles)
 {
-    static const uint8_t frames[] = "\0\0\0\x1a\2\0\0\0\0\x53\x10\xc0\x0d\3\xa1\4peer\x40\x70\0\0\4\0"
-                                    "\0\0\0\x16\2\0\0\3\0\x53\x11\xc0\x09\4\x60\0\0\x43\x52\x0a\x52\x0a"
+    static const uint8_t opens[2][33] = { "\0\0\0\x1a\2\0\0\0\0\x53\x10\xc0\x0d\3\xa1\4peer\x40\x70\0\0\4\0",
+                                          "\0\0\0\x20\2\0\0\0\0\x53\x10\xc0\x13\5\xa1\4peer\x40\x70\0\0\4\0\x40\x70\0\0\1\0" };
+    static const uint8_t frames[] = "\0\0\0\x16\2\0\0\3\0\x53\x11\xc0\x09\4\x60\0\0\x43\x52\x0a\x52\x0a"
                                     "\0\0\0\x16\2\0\0\3\0\x53\x12\xc0\x09\3\xa1\3out\x52\5\x41"
                                     "\0\0\0\x15\2\0\0\3\0\x53\x12\xc0\x08\3\xa1\2in\x52\6\x42";
     static const char *const names[] = { "out", "in" };
@@ -35,21 +38,30 @@ static void make(amqp1 *engine, unsigned far)
     unsigned at;
     amqp1_free(engine);
     waits = 0;
-    MUST(amqp1_write_open(text, sizeof text, &written, "me", NULL, 4096, 255, 0) == AMQP1_DONE);
+    now = 0;
+    MUST(amqp1_write_open(text, sizeof text, &written, "me", NULL, 4096, 255, idles ? 1000 : 0) == AMQP1_DONE);
+    if (far == 6)
+        MUST(amqp1_start_server(engine, key, now, LIMIT, "PLAIN ANONYMOUS", text, written) == AMQP1_DONE);
+    if (far == 7)
+        MUST(amqp1_start_client(engine, key, now, LIMIT, "host", "me", "secret", text, written) == AMQP1_DONE);
+    if (far >= 6) {
+        MUST(amqp1_open(engine) == AMQP1_DONE);
+        return;
+    }
     MUST(amqp1_start(engine, key, text, written) == AMQP1_DONE);
     MUST(amqp1_output(engine, text, 8, &written) == AMQP1_DONE && written == 8 && !memcmp(text, header, 8));
     MUST(amqp1_take(engine, 0, header, 8, records, 4, &took) == AMQP1_AGAIN && took.taken == 8 && records[0].kind == AMQP1_KIND_AMQP_HEADER);
     if (far >= 1)
         MUST(amqp1_open(engine) == AMQP1_DONE);
     if (far >= 2)
-        MUST(amqp1_take(engine, 0, frames, 26, records, 4, &took) == AMQP1_DONE && records[0].kind == AMQP1_KIND_OPENED);
+        MUST(amqp1_take(engine, 0, opens[idles], opens[idles][3], records, 4, &took) == AMQP1_DONE && records[0].kind == AMQP1_KIND_OPENED);
     MUST(amqp1_write_begin(text, sizeof text, &written, 0, 64, 64, 255) == AMQP1_DONE);
     if (far >= 3)
         MUST(amqp1_begin(engine, 7, text, written) == AMQP1_DONE);
     if (far >= 3)
-        MUST(amqp1_take(engine, 0, frames + 26, 22, records, 4, &took) == AMQP1_DONE && took.taken == 22 && records[0].kind == AMQP1_KIND_BEGUN);
+        MUST(amqp1_take(engine, 0, frames, 22, records, 4, &took) == AMQP1_DONE && took.taken == 22 && records[0].kind == AMQP1_KIND_BEGUN);
     for (at = 0; at < 2 && far >= 4 + at; at++) {
-        const uint8_t *attach = frames + 48 + (at ? 22 : 0);
+        const uint8_t *attach = frames + 22 + (at ? 22 : 0);
         size_t length = at ? 21 : 22;
         enum amqp1_role role = at ? AMQP1_RECEIVER : AMQP1_SENDER;
         MUST(amqp1_link(engine, 7, role, at ? AMQP1_SECOND : AMQP1_FIRST, names[at], &handle) == AMQP1_DONE && handle == at);
@@ -60,8 +72,62 @@ static void make(amqp1 *engine, unsigned far)
     }
 }
 
-/* Bytes come. What was not taken stays, unless nothing more can be taken. The records lie in memory of just their number. */
-static void take(amqp1 *engine, const uint8_t *bytes, size_t length, size_t room)
+/* What stands in a frame's record, or in that of a header or a SASL frame, stands in what was taken. */
+static void look(const amqp1_record *it, const uint8_t *input, uint64_t taken)
+{
+    MUST(it->kind >= 1 && it->kind <= 20 && it->outcome <= 6);
+    MUST((it->refusal != 0) == (it->kind == AMQP1_KIND_REFUSED || it->kind == AMQP1_KIND_ATTACH_WANTED || it->kind == AMQP1_KIND_BEGIN_WANTED ||
+                                it->kind == AMQP1_KIND_NOT_OPENED));
+    if (it->kind > 12) {
+        MUST(!it->at && it->size <= taken && (it->payload_at == AMQP1_NONE || (uint64_t)it->payload_at + it->payload <= taken));
+        if (it->kind == AMQP1_KIND_LOGIN_ASKED)
+            MUST((uint64_t)it->first + it->last <= taken && (it->count == AMQP1_NONE || (uint64_t)it->count + it->credit <= taken));
+        return;
+    }
+    MUST(it->at >= 8 && it->at + it->size == it->payload_at && it->payload_at + it->payload <= taken);
+    MUST(amqp1_u32_of(input + it->at - 8) == it->size + it->payload + 8);
+    amqp1_bytes_field(amqp1_performative(input, it), AMQP1_ATTACH_NAME);
+}
+
+/* Gives a record the answers that the flags name; a session that begins has this number. */
+static void answer(amqp1 *engine, const amqp1_record *it, const uint8_t *input, size_t length, uint16_t flags, uint32_t number)
+{
+    int asks = it->kind == AMQP1_KIND_BEGIN_WANTED ? AMQP1_ANSWER_BEGINS
+               : it->kind == AMQP1_KIND_ENDED      ? AMQP1_ANSWER_ENDS
+               : it->kind == AMQP1_KIND_CLOSED     ? AMQP1_ANSWER_CLOSES
+               : it->kind == AMQP1_KIND_REFUSED    ? AMQP1_ANSWER_REFUSALS
+                                                   : 0;
+    int32_t status = amqp1_answer(engine, it, input, length, flags, number);
+    uint32_t state;
+    int is_there;
+    MUST(status == AMQP1_DONE || status == AMQP1_NOTHING || status == AMQP1_REFUSED || status == AMQP1_BAD_ARGUMENT || status == AMQP1_NOT_RELEASED ||
+         status == AMQP1_NOT_FORGOTTEN);
+    MUST((flags & asks) || status == AMQP1_NOTHING);
+    if (status == AMQP1_DONE && asks == AMQP1_ANSWER_BEGINS)
+        MUST(amqp1_session_state(engine, number, &state, &is_there) == AMQP1_DONE && is_there && state == AMQP1_SESSION_MAPPED);
+    if (status == AMQP1_DONE && asks == AMQP1_ANSWER_ENDS)
+        MUST(amqp1_session_state(engine, it->session, &state, &is_there) == AMQP1_DONE && !is_there);
+}
+
+/* A record that no call wrote, and any bytes as the input of its call. */
+static void answer_any(amqp1 *engine, const uint8_t *bytes, size_t length)
+{
+    amqp1_record it;
+    uint8_t *input;
+    if (length < 2 + sizeof it)
+        return;
+    memcpy(&it, bytes + 2, sizeof it);
+    length -= 2 + sizeof it;
+    input = (uint8_t *)malloc(length ? length : 1);
+    MUST(input);
+    memcpy(input, bytes + 2 + sizeof it, length);
+    answer(engine, &it, input, length, bytes[0], bytes[1]);
+    free(input);
+}
+
+/* Bytes come. What was not taken stays, unless nothing more can be taken. The records lie in memory of just their number; each is answered, where
+   there are flags. */
+static void take(amqp1 *engine, const uint8_t *bytes, size_t length, size_t room, uint16_t flags, uint32_t number)
 {
     amqp1_record *records = (amqp1_record *)malloc(room ? room * sizeof *records : 1);
     amqp1_took took = { 9, 9, 9 };
@@ -75,21 +141,29 @@ static void take(amqp1 *engine, const uint8_t *bytes, size_t length, size_t room
     input = (uint8_t *)malloc(waits ? waits : 1);
     MUST(records && input);
     memcpy(input, waiting, waits);
-    status = amqp1_take(engine, 0, input, waits, records, room, &took);
-    MUST(status == AMQP1_DONE || status == AMQP1_FULL || status == AMQP1_BAD_SIZE || status == AMQP1_AGAIN || status == AMQP1_OVER);
+    status = amqp1_take(engine, now, input, waits, records, room, &took);
+    MUST(status == AMQP1_DONE || status == AMQP1_FULL || status == AMQP1_BAD_SIZE || status == AMQP1_AGAIN || status == AMQP1_WAITS ||
+         status == AMQP1_OVER || status == AMQP1_TOO_LARGE);
     MUST(took.taken <= waits && took.written <= room && (status == AMQP1_DONE ? took.wanted > waits - took.taken : !took.wanted));
-    for (n = 0; n < took.written; n++) {
-        const amqp1_record *it = records + n;
-        MUST(it->kind >= 1 && it->kind <= 12 && it->outcome <= 6 && it->at >= 8 && it->at + it->size == it->payload_at);
-        MUST(it->payload_at + it->payload <= took.taken);
-        MUST((it->refusal != 0) == (it->kind == AMQP1_KIND_REFUSED || it->kind == AMQP1_KIND_ATTACH_WANTED || it->kind == AMQP1_KIND_BEGIN_WANTED));
-        MUST(amqp1_u32_of(input + it->at - 8) == it->size + it->payload + 8);
-        amqp1_bytes_field(amqp1_performative(input, it), AMQP1_ATTACH_NAME);
-    }
+    for (n = 0; n < took.written; n++)
+        look(records + n, input, took.taken);
+    for (n = 0; flags && n < took.written; n++)
+        answer(engine, records + n, input, waits, flags, number + (uint32_t)n);
     memmove(waiting, waiting + took.taken, waits - took.taken);
     waits = status == AMQP1_BAD_SIZE || status == AMQP1_OVER ? 0 : waits - took.taken;
     free(records);
     free(input);
+}
+
+/* Time passes. */
+static void tick(amqp1 *engine, uint64_t more)
+{
+    amqp1_ticked ticked = { 9, 9, 9 };
+    int is_over;
+    now += more;
+    MUST(amqp1_tick(engine, now, &ticked) == AMQP1_DONE && ticked.due <= AMQP1_DUE_PEER_SILENT && !ticked.reserved && ticked.next > now);
+    MUST(amqp1_is_over(engine, &is_over) == AMQP1_DONE);
+    MUST(is_over ? ticked.next == AMQP1_NEVER : ticked.due <= AMQP1_DUE_BEAT);
 }
 
 /* A request, whose output has just this room. */
@@ -100,8 +174,9 @@ static void call(amqp1 *engine, const uint8_t *input, size_t length, size_t room
     int32_t status;
     MUST(output);
     if (length) {
-        status = amqp1_call(engine, input[0] % 36, input + 1, length - 1, output, room, &written);
-        MUST(status >= AMQP1_DONE && status <= AMQP1_BAD_ARGUMENT && (written <= room || status == AMQP1_TOO_SMALL));
+        status = amqp1_call(engine, input[0] % 38, input + 1, length - 1, output, room, &written);
+        MUST((status >= AMQP1_DONE && status <= AMQP1_BAD_ARGUMENT) || status == AMQP1_NOT_RELEASED || status == AMQP1_NOT_FORGOTTEN);
+        MUST(written <= room || status == AMQP1_TOO_SMALL);
     }
     free(output);
 }
@@ -163,7 +238,7 @@ static void output(amqp1 *engine, size_t room)
 int LLVMFuzzerTestOneInput(const uint8_t *data, size_t size)
 {
     amqp1 engine = AMQP1_EMPTY;
-    make(&engine, 5);
+    make(&engine, 5, 0);
     while (size >= 3) {
         unsigned step = data[0] % 8, room = data[0] / 8;
         size_t length = (size_t)data[1] << 8 | data[2];
@@ -171,11 +246,17 @@ int LLVMFuzzerTestOneInput(const uint8_t *data, size_t size)
         size -= 3;
         length = length < size ? length : size;
         if (step == 0)
-            make(&engine, room % 6);
-        else if (step < 4)
-            take(&engine, data, length, room % 8);
-        else if (step < 6)
+            make(&engine, room % 8, room / 8 % 2);
+        else if (step == 1)
+            take(&engine, data, length, room % 8, 0, 0);
+        else if (step == 2 && length >= 2)
+            take(&engine, data + 2, length - 2, room % 8, data[0], data[1]);
+        else if (step == 3)
+            answer_any(&engine, data, length);
+        else if (step == 4)
             call(&engine, data, length, room * 8);
+        else if (step == 5)
+            tick(&engine, room * 40);
         else if (step == 6)
             send(&engine, data, length, room);
         else

@@ -1,7 +1,7 @@
 #!/usr/bin/env bash
 # Tries libamqp1: the tests tools/try_c/amqp1_*.c as C99, C11, C17 and C++17, by gcc and by clang where that is there, over the archive and over the
 # shared library, with every recorded connection; under the sanitizers of addresses and of undefined behaviour, and under valgrind; any bytes, by
-# libFuzzer; the library opened from Python; pkg-config and CMake; and the examples with one another, and with qpid-proton. What is not tried here for
+# libFuzzer; the library opened from Python; pkg-config, CMake and the man pages; and the examples with one another, and with qpid-proton. What is not tried here for
 # want of a program is named, a line each. The last line is 'N passed, M failed'.
 #
 #     tools/try_c/amqp1_try.sh PREFIX [SECONDS]    tries what build_c.sh put there; libFuzzer has so many seconds, 60 where that is left out
@@ -56,6 +56,11 @@ END_OF_FILE
         "$folder/cmake/out/as_amqp1" && "$folder/cmake/out/as_static"
 }
 
+# The man pages are those of the headers.
+manual() {
+    python3 tools/api.py --man "$folder/man" && diff -r "$folder/man" "$prefix/share/man"
+}
+
 # Any bytes, from what amqp1_corpus.py writes on.
 fuzzed() {
     clang -std=c99 "${strict[@]}" "${sanitized[@]}" -fsanitize=fuzzer tools/try_c/amqp1_fuzz.c "$library/libamqp1.a" -o "$folder/fuzz" &&
@@ -90,9 +95,8 @@ each_refused() {
 # Builds the examples.
 examples() {
     cc -std=c99 "${strict[@]}" "${sanitized[@]}" examples/c/amqp1_server.c examples/c/amqp1_server_io.c "$library/libamqp1.a" -o "$folder/server" &&
-        cc -std=c99 "${strict[@]}" "${sanitized[@]}" examples/c/amqp1_send.c "$library/libamqp1.a" -o "$folder/send" &&
         cc -std=c99 "${strict[@]}" "${sanitized[@]}" examples/c/amqp1_idle.c "$library/libamqp1.a" -o "$folder/idle" &&
-        for it in sender receiver listener; do
+        for it in send sender receiver listener; do
             cc -std=c99 "${strict[@]}" "${sanitized[@]}" "examples/c/amqp1_$it.c" examples/c/amqp1_socket.c "$library/libamqp1.a" -o "$folder/$it" || return 1
         done
 }
@@ -153,6 +157,7 @@ counts "each request for memory of a server's answers refused" each_refused answ
 counts "over Python" python3 tools/try_c/amqp1_library.py "$library/libamqp1.so"
 has pkg-config "the file for it" && holds "by pkg-config" by_pkg_config
 has cmake "the file for it" && holds "by CMake" by_cmake
+holds "the man pages" manual
 holds "the inputs of libFuzzer" replayed
 if has clang "libFuzzer, for $seconds seconds" && [ -e "$(clang -print-file-name=libclang_rt.fuzzer-x86_64.a)" ]; then
     holds "any bytes, for $seconds seconds" fuzzed
