@@ -1,3 +1,5 @@
 mod SendingLemmas
 mod ReceivingLemmas
 mod ReceivingHistoryLemmas
+mod SessionLemmas
+mod SessionLawLemmas

@@ -3,3 +3,12 @@ pub mod Sending
 pub mod Receiving
 pub mod SendingHistory
 pub mod ReceivingHistory
+pub mod Ends
+pub mod Session
+pub mod Attaching
+pub mod Granting
+pub mod Noting
+pub mod SendingParts
+pub mod TakingParts
+pub mod Settling
+pub mod SessionHistory

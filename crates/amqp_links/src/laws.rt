@@ -4,6 +4,7 @@ ghost use Rattle.amqp_links.specs.SendingHistory as sending;
 ghost use Rattle.amqp_links.specs.SendingHistory.{OfSendings};
 ghost use Rattle.amqp_links.specs.ReceivingHistory as receiving;
 ghost use Rattle.amqp_links.specs.ReceivingHistory.{OfReceivings};
+ghost use Rattle.amqp_links.specs.SessionHistory.{OfLinks, EachIsAlone};
 
 /// A sending end stands where its Attaches and Detaches say. It sends nothing but while both sides have attached and neither has detached. Its credit is
 /// that of a `SenderCredit` to which the same flows came and which began the same deliveries: so `law_of_senders` of `amqp_credit` holds of it, and no
@@ -23,4 +24,11 @@ pub fn law_of_receiving()
     ensures told { OfReceivings (λ renewal limit H v. receiving.ToldWhereAttached H) }
     ensures parts { OfReceivings (λ renewal limit H v. receiving.IsAssemblyOf limit H v) }
     ensures credit { OfReceivings (λ renewal limit H v. receiving.IsCreditOf renewal H v) }
+{}
+
+/// A handle of a session has an end where one was added and not removed since. That end is a sending or a receiving one, as it was added, and it stands as if it
+/// were the only one: where the calls with its handle, since it was added, lead it. So `law_of_sending` and `law_of_receiving` hold of each link, whatever
+/// comes for the others (AMQP 1.0 part 2, section 2.6).
+pub fn law_of_session_links()
+    ensures { OfLinks EachIsAlone }
 {}

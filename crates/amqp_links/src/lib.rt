@@ -9,12 +9,21 @@
 //! ```
 #![tactic(auto)]
 
+mod end;
+mod ends;
 pub mod laws;
 mod life;
 mod receiving;
 mod sending;
+mod session;
 
 pub use amqp_credit::{Grant, Part, PartEnd, PartError, PartHead, PartTag, Renewal};
+pub use amqp_unsettled::Entry;
+pub use end::End;
 pub use life::{Life, LinkEnd};
 pub use receiving::{LinkFault, ReceivingLink, TransferError};
 pub use sending::{CreditFlow, SendError, SenderFlow, SendingLink};
+pub use session::{
+    AddError, LinkFlow, PeerAttach, ReceivedPart, RemoveError, SendPartError, SentPart,
+    SessionLinks, TakePartError,
+};

@@ -9,3 +9,5 @@ mod receiving;
 mod same;
 #[cfg(test)]
 mod sending;
+#[cfg(test)]
+mod session;

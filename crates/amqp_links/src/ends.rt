@@ -1,0 +1,85 @@
+//! The ends of a session's links, by their handles.
+
+ghost use Rattle.std.specs.Prelude.{◌≡◌, ◌≢◌, ◌≤◌, ℕ, max, [], None, Some, OnOk, OnErr, vec_len, vec_capacity};
+ghost use Rattle.amqp_memory.specs.Refusal.{SomeRefused};
+ghost use Rattle.amqp_links.specs.Ends.{end_at, Puts};
+
+use crate::end::End;
+use amqp_memory::more_in_vector;
+use std::alloc::{AllocError, Global};
+use std::marker::Model;
+
+/// The ends of a session's links, each at the place that its handle is. There are as many places as the highest handle asked for.
+#[derive(Drop)]
+pub(crate) struct Ends {
+    places: Vec<Option<End>>,
+}
+
+impl Model for Ends {
+    ghost use Rattle.std.specs.Prelude.{List, Option};
+    ghost use Rattle.amqp_links.specs.declared.end.End.{End};
+
+    ghost Value = { List (Option End) };
+
+    ghost view = { λ e. e.places.items };
+}
+
+impl Ends {
+    pub(crate) fn new(alloc: Global) -> Ends
+        ensures { result ≡ [] }
+    {
+        Ends {
+            places: Vec::new(alloc),
+        }
+    }
+
+    /// The end that has this handle.
+    #[inline(always)]
+    pub(crate) fn get(&self, handle: u32) -> Option<End>
+        ensures { result ≡ end_at self.now handle }
+    {
+        match self.places.get(handle as usize) {
+            Some(place) => *place,
+            None => None,
+        }
+    }
+
+    /// Puts an end, or none, in the place of one that is there.
+    #[inline(always)]
+    pub(crate) fn replace(&mut self, handle: u32, end: Option<End>)
+        requires { end_at self.old handle ≢ None }
+        ensures { Puts self.old handle end self.new }
+    {
+        self.places[handle as usize] = end;
+    }
+
+    /// Puts an end where none is. Nothing changes where memory is refused.
+    pub(crate) fn insert(&mut self, handle: u32, end: End) -> Result<(), AllocError>
+        ensures ok { OnOk result (Puts self.old handle (Some end) self.new) }
+        ensures err { OnErr result (self.new ≡ self.old) }
+        ensures refused { OnErr result SomeRefused }
+    {
+        let at = handle as usize;
+        if at < self.places.len() {
+            self.places[at] = Some(end);
+            return Ok(());
+        }
+        let lacking = at + 1 - self.places.len();
+        more_in_vector(&mut self.places, lacking)?;
+        fill_up(&mut self.places, at);
+        self.places.push_reserved(Some(end));
+        Ok(())
+    }
+}
+
+/// Makes places without an end, up to so many.
+fn fill_up(places: &mut Vec<Option<End>>, count: usize)
+    requires room { count ≤ vec_capacity places.old }
+    ensures same { (k : ℕ) → end_at places.new.items k ≡ end_at places.old.items k }
+    ensures len { vec_len places.new ≡ max (vec_len places.old) count }
+    ensures capacity { vec_capacity places.new ≡ vec_capacity places.old }
+{
+    while places.len() < count {
+        places.push_reserved(None);
+    }
+}
