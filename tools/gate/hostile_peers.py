@@ -38,14 +38,19 @@ def sized(frame):
     return (len(frame) + 4).to_bytes(4, "big") + frame
 
 
-def framed(code, fields, payload=b""):
-    return sized(b"\2\0\0\0" + composite(code, fields) + payload)
+def framed(code, fields, payload=b"", channel=0):
+    return sized(b"\2\0" + channel.to_bytes(2, "big") + composite(code, fields) + payload)
+
+
+def begin(channel=0):
+    """A session with windows that nobody uses up."""
+    wide = uint((1 << 31) - 1)
+    return framed(BEGIN, [NULL, uint(0), wide, wide], channel=channel)
 
 
 def begun():
-    """Headers, Open, a session with windows that nobody uses up, and a link on which messages are sent."""
-    wide = uint((1 << 31) - 1)
-    yield HEADER + framed(OPEN, [string("peer")]) + framed(BEGIN, [NULL, uint(0), wide, wide])
+    """Headers, Open, a session, and a link on which messages are sent."""
+    yield OPENED + begin()
     yield framed(ATTACH, [string("l"), uint(0), boolean(False), NULL, NULL, SOURCE, TARGET, NULL, NULL, uint(0)])
 
 
@@ -59,6 +64,9 @@ def transfers(number, parts, settled):
 
 def message(number, size, settled=False):
     return transfers(number, [b"x" * min(PART, size - at) for at in range(0, size, PART)], settled)
+
+
+OPENED, CLOSED = HEADER + framed(OPEN, [string("peer")]), framed(CLOSE, [])
 
 
 def detached():
@@ -166,9 +174,44 @@ def takes_no_memory_for_a_size(program):
     return b"amqp:connection:framing-error" in told.close and held < BESIDE
 
 
+def answers_one_begin_of_a_channel(program):
+    """Of 256 Begins on one channel the first is answered, and the connection ends at the second."""
+    told, held = talk(program, iter([OPENED, *[begin()] * 256, CLOSED]))
+    return told.frames == {OPEN: 1, BEGIN: 1, CLOSE: 1} and b"amqp:not-implemented" in told.close and held < BESIDE
+
+
+def begins_no_session_past_its_channels(program):
+    """A Begin on each channel there is: as many are answered as the broker's Open allows."""
+    told, held = talk(program, itertools.chain([OPENED], map(begin, range(65536)), [CLOSED]))
+    return told.frames == {OPEN: 1, BEGIN: 256, CLOSE: 1} and b"amqp:not-allowed" in told.close and held < BESIDE
+
+
+def closes_in_the_middle_of_a_delivery(program):
+    """A Close behind the first part of a message is answered by one without an error."""
+    told, _ = talk(program, itertools.chain(begun(), itertools.islice(transfers(0, [b"x" * PART] * 2, False), 1), [CLOSED]))
+    return told.frames[CLOSE] == 1 and told.close[4:] == b"\0\x53\x18\x45" and DISPOSITION not in told.frames
+
+
+def refuses_a_second_open(program):
+    told, _ = talk(program, iter([OPENED, OPENED[len(HEADER) :], begin(), CLOSED]))
+    return told.frames == {OPEN: 1, CLOSE: 1} and b"amqp:illegal-state" in told.close
+
+
+def takes_a_second_header_for_no_frame(program):
+    told, _ = talk(program, iter([HEADER + OPENED, begin(), CLOSED]))
+    return told.frames == {OPEN: 1, CLOSE: 1} and b"amqp:connection:framing-error" in told.close
+
+
+def runs_no_frame_without_a_header(program):
+    """Frames before the header, and those behind a header of SASL, which the broker does not speak: none is answered."""
+    streams = [OPENED[len(HEADER) :], begin()], [b"AMQP\3\1\0\0", OPENED, begin()]
+    return all(talk(program, iter(stream))[0].frames == {} for stream in streams)
+
+
 PEERS = (
     keeps_what_it_has_room_for, counts_what_a_part_takes, passes_over_parts_of_no_bytes, refuses_a_message_that_is_too_long,
-    refuses_a_message_past_the_credit, takes_no_memory_for_a_size,
+    refuses_a_message_past_the_credit, takes_no_memory_for_a_size, answers_one_begin_of_a_channel, begins_no_session_past_its_channels,
+    closes_in_the_middle_of_a_delivery, refuses_a_second_open, takes_a_second_header_for_no_frame, runs_no_frame_without_a_header,
 )  # fmt: skip
 
 
