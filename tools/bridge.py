@@ -1,254 +1,171 @@
 #!/usr/bin/env python3
-"""Connects an engine with a broker: sends messages to an address, receives them back, settles, and closes.
+"""Connects the library for C with a broker: sends messages to an address, receives them back, settles, and closes.
 
-    tools/bridge.py PROGRAM HOST PORT ADDRESS [--sasl USER:PASSWORD] [--messages N]
+    tools/bridge.py LIBRARY HOST PORT ADDRESS [--sasl USER:PASSWORD] [--messages N]
 
-PROGRAM is the program amqp_replay, or the library libamqp1.so of `tools/build_c.sh`: then no program is started. This is all that a transport has to do: the protocol headers, SASL (ANONYMOUS, or PLAIN with --sasl; part 5 of the standard, section 5.3), the
-four bytes of size before each frame, and an empty frame where the peer's idle time-out asks for one (part 2, sections 2.2, 2.3 and 2.4.5).
-All else is the engine's: each line that the program is given, and what it answers, is a step. Prints what it did; a refusal by its name.
-Where nobody listens, the peer hangs up or the program ends, a line on standard error says so, and the status is 1.
+LIBRARY is libamqp1.so of `tools/build_c.sh`. Around its stream this is a reader and a writer of a socket: bytes that came go in, bytes to send come out, and
+`tick` does what is due. Protocol headers, SASL (ANONYMOUS, or PLAIN with --sasl), sizes and empty frames are the library's. Prints what it did; a refusal by its name.
+Where nobody listens, the peer hangs up, is silent for 20 seconds or ends what it should not, a line on standard error says so, and the status is 1.
 """
 
+import select
 import socket
-import subprocess
 import sys
 import time
+from pathlib import Path
 
-from amqp.canonical import boolean, composite, string, symbol, tag, ubyte, uint
-from amqp.frames import ATTACH, BEGIN, CLOSE, DETACH, DISPOSITION, END, FLOW, NAMES, NULL, OPEN, TRANSFER, Frame, Malformed, end_of, flag, integer, parts
-from shared.by_library import LineEngine, Open
-from shared.command import command, told
+sys.path.insert(0, str(Path(__file__).resolve().parents[1] / "bindings" / "python"))
 
-MARK, MARKED = "release 4294967295\n", "err NoSession\n"
-SENDER, RECEIVER = boolean(False), boolean(True)
-SOURCE, TARGET, ACCEPTED = 0x28, 0x29, b"\x00\x53\x24\x45"
+from amqp_engine import (
+    RECEIVER, SENDER, Anonymous, Attach, Close, Detach, Driver, End, Flow, Malformed, Open, Opening, Plain, Refusal, Transfer, body_of, data, source, target,
+)  # fmt: skip
+from amqp_engine import driver as said
+from amqp_engine.opening import CHALLENGED, NOT_OPENED, SASL_CLIENT
+from amqp_engine.sasl import said_by
+from shared.command import command, option, told
 
-
-class Engine:
-    """The program: one line in, its answers out. A line that is always refused marks where the answers end."""
-
-    def __init__(self, program):
-        self.run = subprocess.Popen([program], stdin=subprocess.PIPE, stdout=subprocess.PIPE, text=True)
-        self.refused = []
-
-    def step(self, line):
-        try:
-            self.run.stdin.write(line + "\n" + MARK)
-            self.run.stdin.flush()
-        except BrokenPipeError:
-            # what it had answered before is read first
-            pass
-        pieces = []
-        while (answer := self.run.stdout.readline()) != MARKED:
-            if not answer:
-                told(f"the program ended with status {self.run.wait()}, at: {line[:60]}")
-            if answer.startswith("out "):
-                pieces.append(bytes.fromhex(answer[4:]))
-            else:
-                self.refused.append((line, answer.strip()[4:]))
-                print(f"refused: {answer.strip()[4:]}, at {line[:60]}")
-        return pieces
-
-    def end(self):
-        try:
-            self.run.stdin.close()
-        except BrokenPipeError:
-            pass
-        return self.run.wait()
+SESSION = 0
+MOST_MS = 20000
+OVERDUE = {said.DUE_OPENING_LATE: "the peer did not open in time", said.DUE_PEER_SILENT: "the peer was silent"}
+ENDS = {said.DETACHED: Detach, said.ENDED: End, said.CLOSED: Close}
+REFUSED = (said.REFUSED, said.ATTACH_WANTED, said.BEGIN_WANTED)
 
 
-class Library:
-    """The same by the library."""
-
-    def __init__(self, path):
-        self.run, self.refused = LineEngine(Open("bridge", max_frame_size=262144, channel_max=255), library=path), []
-
-    def step(self, line):
-        for refusal in self.run.ask(line):
-            self.refused.append((line, refusal.name))
-            print(f"refused: {refusal.name}, at {line[:60]}")
-        return self.run.pieces()
-
-    def end(self):
-        self.run.engine.free()
-        return 0
-
-
-class Transport:
-    """A socket that carries frames: sizes before them, and empty ones while nothing else goes."""
-
-    def __init__(self, host, port):
-        try:
-            self.socket = socket.create_connection((host, port), timeout=20)
-        except OSError as error:
-            told(f"{host}:{port}: {error.strerror or error}")
-        self.idle, self.sent = None, time.monotonic()
-
-    def write(self, of):
-        try:
-            self.socket.sendall(of)
-        except OSError as error:
-            told(f"the peer hung up: {error.strerror or error}")
-        self.sent = time.monotonic()
-
-    def take(self, count):
-        of = b""
-        while len(of) < count:
-            self.beat()
-            self.socket.settimeout(self.idle / 4 if self.idle else 20)
-            try:
-                some = self.socket.recv(count - len(of))
-            except socket.timeout:
-                if self.idle:
-                    continue
-                told("the peer was silent for 20 seconds")
-            except OSError as error:
-                told(f"the peer hung up: {error.strerror or error}")
-            if not some:
-                told("the peer hung up")
-            of += some
-        return of
-
-    def beat(self):
-        if self.idle and time.monotonic() - self.sent > self.idle / 2:
-            self.put(b"\x02\x00\x00\x00")
-
-    def put(self, frame):
-        self.write((len(frame) + 4).to_bytes(4, "big") + frame)
-
-    def get(self):
-        size = int.from_bytes(self.take(4), "big")
-        if size < 8:
-            raise Malformed
-        return self.take(size - 4)
-
-    def header(self, protocol):
-        mine = b"AMQP" + bytes([protocol, 1, 0, 0])
-        self.write(mine)
-        if self.take(8) != mine:
-            told(f"the peer does not speak protocol {protocol}")
-
-    def sasl(self, login):
-        self.header(3)
-        self.get()
-        mechanism, response = ("PLAIN", "\0" + login.replace(":", "\0", 1)) if login else ("ANONYMOUS", "bridge")
-        self.put(b"\x02\x01\x00\x00" + composite(0x41, [symbol(mechanism), tag({"bin": response.encode().hex()})]))
-        outcome = self.get()
-        fields, _ = parts(outcome, end_of(outcome, 5))
-        if fields[:1] != [ubyte(0)]:
-            told("the peer refused the login")
+def now():
+    return int(time.monotonic() * 1000)
 
 
 class Bridge:
-    def __init__(self, program, host, port, login):
-        self.engine = Library(program) if program.endswith(".so") else Engine(program)
-        self.transport = Transport(host, port)
-        self.transport.sasl(login)
-        self.transport.header(0)
+    """A stream of the library, and a socket. The records come one by one, and the bytes of the last one stay until the next."""
 
-    def ask(self, line):
-        for piece in self.engine.step(line):
-            self.transport.put(piece)
+    def __init__(self, library, login):
+        open = Open("bridge", max_frame_size=262144, channel_max=255, idle_time_out=MOST_MS)
+        self.driver = Driver(open, most=1, library=library, opening=Opening(SASL_CLIENT, [said_by(login)]), time=now(), limit=MOST_MS)
+        self.came, self.taken, self.refused = bytearray(), 0, 0
 
-    def hear(self):
-        """The next frame of the peer, which the engine takes first."""
-        of = self.transport.get()
-        self.ask("recv " + of.hex())
-        frame = Frame(of)
-        if frame.code == OPEN and integer(frame[4]):
-            self.transport.idle = integer(frame[4]) / 1000
-        return frame
+    def connect(self, host, port):
+        try:
+            self.socket = socket.create_connection((host, port), timeout=MOST_MS / 1000)
+        except OSError as error:
+            told(f"{host}:{port}: {error.strerror or error}")
 
-    def until(self, *codes):
-        while (frame := self.hear()).code not in codes:
-            if frame.code in (CLOSE, END):
-                told(f"the peer sent {NAMES[frame.code]}: {frame.body().hex()}")
-        return frame
+    def next(self):
+        while True:
+            del self.came[: self.taken]
+            took = self.driver.take(self.came, now=now())
+            self.taken = took.taken
+            if took.records:
+                return took.records[0]
+            if took.is_bad or took.is_over:
+                self.socket.sendall(self.driver.to_send())
+                told("the peer sent a size that no frame may have" if took.is_bad else "the connection is over")
+            if took.wanted:
+                self.exchange()
 
-    def send(self, code, fields, payload=b""):
-        self.ask(f"send 0 {(composite(code, fields) + payload).hex()}")
+    def exchange(self):
+        """Writes what waits, and reads what comes, up to the time at which something is due."""
+        tick = self.driver.tick(now())
+        self.socket.sendall(self.driver.to_send())
+        if tick.due in OVERDUE:
+            told(OVERDUE[tick.due])
+        left = None if tick.next is None else max(0, tick.next - now()) / 1000
+        if select.select([self.socket], [], [], left)[0]:
+            some = self.socket.recv(65536)
+            if not some:
+                told("the peer hung up")
+            self.came += some
 
-    def attach(self, name, handle, role, address):
-        self.ask(f"link 0 {name}")
-        source, target = composite(SOURCE, [string(address)]), composite(TARGET, [string(address)])
-        count = uint(0) if role == SENDER else NULL
-        self.send(ATTACH, [string(name), uint(handle), role, NULL, NULL, source, target, NULL, NULL, count])
-        return self.until(ATTACH)
+    def until(self, *kinds):
+        """The next record of these kinds. What was refused is told; what ends a link, the session or the connection is the end."""
+        while (record := self.next()).kind not in kinds:
+            if record.kind in (CHALLENGED, NOT_OPENED):
+                told(f"the peer does not let this side in: {self.name_of(record) or 'a challenge'}")
+            elif record.kind in REFUSED:
+                self.refused += 1
+                print(f"refused: {self.name_of(record)}")
+            elif record.kind in ENDS:
+                kind = ENDS[record.kind]
+                error = kind.decode(bytes(self.came[record.at : record.at + record.size])).error
+                told(f"the peer sent {kind.__name__}" + (f": {error.condition!r}, {error.description!r}" if error else ""))
+        return record
 
-    def give(self, address, count):
+    def name_of(self, record):
+        return record.refusal and self.driver.refusal_of(record.refusal).name
+
+    def attach(self, name, role, address):
+        link, count = self.driver.link(SESSION, name, role), 0 if role == SENDER else None
+        self.driver.attach(SESSION, Attach(name, link, role, source=source(address), target=target(address), initial_delivery_count=count))
+        self.until(said.ATTACHED)
+        return link
+
+    def detach(self, link):
+        self.driver.detach(SESSION, Detach(link, closed=True))
+        self.until(said.DETACHED)
+
+    def give(self, address, messages):
         """Sends the messages, and waits until each is settled."""
-        self.attach("to", 0, SENDER, address)
-        credit, settled, sent = 0, 0, 0
-        while settled < count:
-            while sent < min(count, credit):
-                message = b"\x00\x53\x77\xa1" + bytes([len(f"message {sent}")]) + f"message {sent}".encode()
-                self.send(TRANSFER, [uint(0), NULL, tag({"bin": f"{sent:08x}"}), uint(0), boolean(False)], message)
+        link = self.attach("to", SENDER, address)
+        credit, sent, unsettled = 0, 0, set()
+        while sent < len(messages) or unsettled:
+            for message in messages[sent:credit]:
+                transfer = Transfer(link, delivery_tag=b"%08x" % sent, message_format=0, settled=False)
+                unsettled.add(self.driver.transfer(SESSION, transfer, data(message)))
                 sent += 1
-            frame = self.hear()
-            if frame.code == FLOW and frame[4] != NULL:
-                credit = (integer(frame[5]) if frame[5] != NULL else 0) + integer(frame[6])
-            elif frame.code == DISPOSITION and flag(frame[0]) and flag(frame[3]):
-                settled += (integer(frame[2]) if frame[2] != NULL else integer(frame[1])) - integer(frame[1]) + 1
+            record = self.until(said.FLOW, said.DISPOSITION)
+            if record.kind == said.FLOW and record.flags & said.CREDITED:
+                credit = record.count + record.credit
+            elif record.kind == said.DISPOSITION and record.flags & said.OF_RECEIVER and record.flags & said.SETTLED:
+                unsettled -= {it for it in unsettled if record.first <= it <= record.last}
         print(f"sent {sent} messages, all settled by the peer")
-        self.send(DETACH, [uint(0), boolean(True)])
-        self.until(DETACH)
+        self.detach(link)
 
-    def fetch(self, address, count):
+    def fetch(self, address, messages):
         """Receives the messages and settles each."""
-        self.attach("from", 0, RECEIVER, address)
-        self.send(FLOW, [uint(0), uint(5000), uint(0), uint(5000), uint(0), uint(0), uint(count)])
-        bodies, going, first = [], b"", NULL
-        while len(bodies) < count:
-            frame = self.until(TRANSFER)
-            going += frame.payload
-            first = frame[1] if frame[1] != NULL else first
-            if not flag(frame[5]):
-                bodies, going = [*bodies, going], b""
-                self.send(DISPOSITION, [RECEIVER, first, NULL, boolean(True), ACCEPTED])
-        expected = [f"message {number}".encode() for number in range(count)]
-        if not all(body.endswith(it) for body, it in zip(bodies, expected)):
-            told("other messages came back")
-        print(f"received {len(bodies)} messages in order, and settled them")
-        self.send(DETACH, [uint(0), boolean(True)])
-        self.until(DETACH)
+        link = self.attach("from", RECEIVER, address)
+        self.driver.flow(SESSION, Flow(handle=link, delivery_count=0, link_credit=len(messages)))
+        for message in messages:
+            parts, is_whole = b"", False
+            while not is_whole:
+                record = self.until(said.TRANSFER)
+                parts += self.came[record.payload_at : record.payload_at + record.payload]
+                is_whole = not record.flags & said.MORE
+            if body_of(parts) != message:
+                told("other messages came back")
+            self.driver.dispose(SESSION, RECEIVER, record.first, record.first, True, said.STATE_ACCEPTED)
+        print(f"received {len(messages)} messages in order, and settled them")
+        self.detach(link)
 
-    def close(self):
-        self.ask("end 0")
-        self.until(END)
-        self.ask("close")
-        self.until(CLOSE)
-        print(f"closed; the engine ended with status {self.engine.end()}; {len(self.engine.refused)} refused")
-
-
-def read():
-    """The words of the command: four, and after them the login and how many messages."""
-    words, said = sys.argv[1:], {"--sasl": "", "--messages": "20"}
-    for name in said:
-        if name in words[:-1]:
-            at = words.index(name)
-            said[name] = words[at + 1]
-            del words[at : at + 2]
-    if len(words) != 4 or not words[2].isdecimal() or not said["--messages"].isdecimal():
-        sys.exit(__doc__.strip())
-    return words, said["--sasl"], int(said["--messages"])
+    def talk(self, address, messages):
+        self.driver.open()
+        self.until(said.OPENED)
+        self.driver.begin(SESSION)
+        self.until(said.BEGUN)
+        self.give(address, messages)
+        self.fetch(address, messages)
+        self.driver.end(SESSION)
+        self.until(said.ENDED)
+        self.driver.close()
+        self.until(said.CLOSED)
+        print(f"closed; {self.refused} refused")
 
 
 def main():
-    (program, host, port, address), login, count = read()
+    words = sys.argv[1:]
+    login, count = option(words, "--sasl"), option(words, "--messages") or "20"
+    if len(words) != 4 or not words[2].isdecimal() or not count.isdecimal():
+        sys.exit(__doc__.strip())
+    library, host, port, address = words
+    user, _, password = (login or "").partition(":")
+    bridge = Bridge(library, Plain(user, password) if login else Anonymous("bridge"))
+    bridge.connect(host, int(port))
     try:
-        talk(Bridge(program, host, int(port), login), address, count)
-    except (Malformed, RecursionError):
-        told("the peer sent what is no frame of AMQP")
-
-
-def talk(bridge, address, count):
-    bridge.ask("open")
-    bridge.until(OPEN)
-    bridge.ask("begin 0")
-    bridge.until(BEGIN)
-    bridge.give(address, count)
-    bridge.fetch(address, count)
-    bridge.close()
+        bridge.talk(address, [b"message %d" % at for at in range(int(count))])
+    except OSError as error:
+        told(f"the stream ended: {error.strerror or error}")
+    except Malformed as error:
+        told(f"the peer sent what cannot be read: {error}")
+    except Refusal as error:
+        told(f"this side was refused: {error}")
 
 
 if __name__ == "__main__":

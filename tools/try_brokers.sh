@@ -1,6 +1,6 @@
 #!/usr/bin/env bash
 # Tries the programs of this repository against real peers on loopback: qpid-proton's example broker and RabbitMQ with its AMQP 1.0 plug-in serve
-# amqp_replay (tools/bridge.py), the client in C and the client in Python; qpid-proton's clients in Python and in C++ are served by example_broker and by the
+# tools/bridge.py, the client in C and the client in Python; qpid-proton's clients in Python and in C++ are served by example_broker and by the
 # broker in Python; and tools/watch.py looks on. All are Debian's packages, which it installs where they are missing (as root). Each peer is
 # started in a folder of its own and stopped at the end. It is no part of the gate. The last line is 'N passed, M failed'.
 #
@@ -17,9 +17,9 @@ case "${1-}" in
     -h | --help) sed -n '2,/^set/{/^set/d;s/^# \{0,1\}//;p}' "$0" && exit 0 ;;
     --small) small=yes ;;
 esac
-[ -n "$small" ] || command -v rt >/dev/null || [ -x "$(dirname "$0")/../crates/amqp_replay/out/amqp_replay" ] || { echo "try_brokers: no rt on the path, and no amqp_replay that it left" >&2; exit 1; }
 cd "$(dirname "$0")/.."
-program=crates/amqp_replay/out/amqp_replay server=crates/example_broker/out/example_broker
+server=crates/example_broker/out/example_broker
+[ -n "$small" ] || command -v rt >/dev/null || [ -x "$server" ] || { echo "try_brokers: no rt on the path, and no example_broker that it left" >&2; exit 1; }
 folder=$(mktemp -d)
 running=()
 trap 'for it in "${running[@]}"; do kill "$it" 2>/dev/null || true; done; wait 2>/dev/null; rm -rf "$folder"' EXIT
@@ -87,8 +87,7 @@ start_broker() {
 }
 
 # What is tried: each prints what it did
-replay() { python3 tools/bridge.py "$program" 127.0.0.1 "$@"; }
-by_library() { python3 tools/bridge.py "$AMQP_LIBRARY" 127.0.0.1 "$@"; }
+bridge() { echo "tools/bridge.py:" && timeout 60 python3 tools/bridge.py "$AMQP_LIBRARY" 127.0.0.1 "$@"; }
 in_c() { echo "the client in C:" && timeout 60 "$folder/send" 127.0.0.1 "$@"; }
 in_python() { echo "the client in Python:" && timeout 60 python3 examples/python/send_receive.py 127.0.0.1 "$@"; }
 proton_in_python() { echo "qpid-proton's client in Python $(dpkg-query -f '${Version}' -W python3-qpid-proton):" && timeout 300 /usr/bin/python3 tools/try_server.py "$1"; }
@@ -144,16 +143,14 @@ try_small() {
 
 # The programs that are not small.
 try_proton() {
-    tried replay "$proton" messages
-    tried by_library "$proton" messages
+    tried bridge "$proton" messages
     tried in_c "$proton" messages
     tried in_python "$proton" messages
     tried in_python "$proton" messages --messages 20 --size 100000
     tried watched "$proton"
 }
 try_rabbitmq() {
-    tried replay "$rabbitmq" /queue/messages --sasl guest:guest
-    tried by_library "$rabbitmq" /queue/messages --sasl guest:guest
+    tried bridge "$rabbitmq" /queue/messages --sasl guest:guest
     tried in_c "$rabbitmq" /queue/messages
     tried in_python "$rabbitmq" /queue/messages --sasl guest:guest
 }
@@ -166,7 +163,6 @@ try_served() {
 }
 
 if [ -z "$small" ]; then
-    [ -x "$program" ] || (cd crates/amqp_replay && rt run </dev/null >"$folder/build")
     [ -x "$server" ] || (cd crates/example_broker && rt run <stdin >"$folder/build")
     if started start_proton; then try_proton; fi
     if started start_broker; then try_served; fi

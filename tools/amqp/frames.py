@@ -1,4 +1,4 @@
-"""Frames as bytes, for transcript.py and bridge.py: how a performative's list is split and spelled again (AMQP 1.0 part 1, section 1.6)."""
+"""Frames as bytes, for transcript.py: how a performative's list is split and spelled again (AMQP 1.0 part 1, section 1.6)."""
 
 from amqp.canonical import composite
 

@@ -1,4 +1,4 @@
-"""The engine of the library `libamqp1.so`, driven by the lines of amqp_replay, for bridge.py and try_c_captures.py."""
+"""The engine of the library `libamqp1.so`, driven by the lines of amqp_replay, for try_c_captures.py."""
 
 import sys
 from pathlib import Path
@@ -18,7 +18,7 @@ ROLES = {"receiver": True, "sender": False}
 
 class LineEngine:
     """An engine that takes lines: `open`, `close`, `recv HEX`, `begin N`, `end N`, `release N`, `forget N`, `link N NAME`, `send N HEX`,
-    `settle N ROLE FIRST`, `settle N ROLE FIRST LAST`, and empty ones."""
+    `settle N ROLE FIRST`, `settle N ROLE FIRST LAST`, and empty ones. A link takes what comes, whichever end it is."""
 
     def __init__(self, open, **how):
         self.engine = Engine(open, **how)
@@ -61,7 +61,7 @@ class LineEngine:
         if word == "begin":
             self.engine.begin(int(number), Begin(incoming_window=5000, outgoing_window=5000))
         elif word == "link":
-            self.engine.link(int(number), said, self.role_of(said), 1)
+            self.engine.link(int(number), said, True, 1)
         elif word == "send":
             self.send(int(number), Frame(b"\x02\x00\x00\x00" + bytes.fromhex(said)))
         elif word == "settle":
@@ -80,7 +80,3 @@ class LineEngine:
 
     def hear(self, event):
         """What an event asks for: nothing."""
-
-    def role_of(self, name):
-        """This side's end of a link of this name."""
-        return name != "to"

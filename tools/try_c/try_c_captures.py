@@ -56,7 +56,7 @@ class Opened(Engine):
 
 
 class Replay(LineEngine):
-    """An engine as amqp_replay makes one. Its links take what comes, whichever end they are."""
+    """An engine as amqp_replay makes one."""
 
     def __init__(self, size, login):
         open = Open("replay", max_frame_size=262144, channel_max=255)
@@ -66,9 +66,6 @@ class Replay(LineEngine):
             self.engine.free()
             self.engine = Opened(open, login, size)
             self.is_right = self.engine.is_right()
-
-    def role_of(self, name):
-        return True
 
     def names(self, line):
         """The names of what a line is refused by; of one that amqp_replay cannot read, that it is no line."""
