@@ -3,3 +3,4 @@ mod ReceivingLemmas
 mod ReceivingHistoryLemmas
 mod SessionLemmas
 mod SessionLawLemmas
+mod UnsettledLawLemmas

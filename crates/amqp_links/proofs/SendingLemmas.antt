@@ -16,11 +16,11 @@ use Rattle.amqp_links.specs.declared.sending.SendError.{SendError}
 use Rattle.amqp_links.specs.Life.{having_detached}
 use Rattle.amqp_links.specs.Sending.{SendingView, new_sending, drained, BegunBy, WithinStep, SizedStep, AttachedSend, AnsweredIf, AttachedAnswer}
 use Rattle.amqp_links.specs.Sending.{is_drained, is_too_large, size_with, left_under_way, with_limit, flowing}
-use Rattle.amqp_links.specs.SendingHistory.{SendingCall, SendingStep, OfSendings, life_after, life_by, busy_after, is_more}
+use Rattle.amqp_links.specs.SendingHistory.{SendingCall, SendingStep, SendingLeadsTo, OfSendings, life_after, life_by, busy_after, busy_by, is_more}
 use Rattle.amqp_links.specs.SendingHistory.{counted_of, counted_flow, counted_send, counted_by, counted_in, IsCreditOf, StandsBy, WhereSent, SentWhereAttached, Flowed, Begun}
 use Rattle.amqp_links.specs.SendingHistory.{Attaches, Flows, Sends, Answers, Detaches, Ends, AsksLife, AsksCredit, AsksCount, AsksUnderWay}
 
-abbrev is_busy : Option ℕ → Bool
+abbrev pub is_busy : Option ℕ → Bool
 is_busy None = false
 is_busy (Some n) = true
 
@@ -246,6 +246,7 @@ pub record MadeBy (v w : SendingView) (H : List SendingCall) : Type 0 where
   pub leads : Chain SenderStep v.credit calls w.credit
   pub same : counted_in calls ≡ counted_by v.life (is_busy v.under_way) H
   pub life : w.life ≡ life_by v.life H
+  pub busy : is_busy w.under_way ≡ busy_by (is_busy v.under_way) H
 
 made_on : (v k w : SendingView) (c : SendingCall) (cs : List SendingCall) → Made v k c → MadeBy k w cs → MadeBy v w (c ∷ cs)
 made_on v k w c cs m r = record {
@@ -253,10 +254,11 @@ made_on v k w c cs m r = record {
   leads = joined SenderStep v.credit k.credit w.credit m.calls r.calls m.leads r.leads;
   same = counted_twice m.calls r.calls ∙ ap₂ (λ xs ys. xs ++ ys) m.same (r.same ∙ ap₂ (λ l b. counted_by l b cs) m.life m.busy);
   life = r.life ∙ ap (λ l. life_by l cs) m.life;
+  busy = r.busy ∙ ap (λ b. busy_by b cs) m.busy;
 }
 
 pub made_by : (v w : SendingView) (H : List SendingCall) → Chain SendingStep v H w → MadeBy v w H
-made_by v w [] h = record { calls = []; leads = credit_is v w h; same = refl; life = life_is v w h }
+made_by v w [] h = record { calls = []; leads = credit_is v w h; same = refl; life = life_is v w h; busy = busy_is v w h }
 made_by v w (c ∷ cs) h = made_on v h.0 w c cs (made v h.0 c h.1) (made_by h.0 w cs h.2)
 
 -- ---- the law
@@ -292,3 +294,7 @@ pub sent_where_attached : OfSendings (λ initial H v. SentWhereAttached H)
 sent_where_attached initial H v h before after c e =
     let s = split_of SendingStep (new_sending initial) v H before after c h.1 e in
     where_sent s.at s.next c (life_by Attaching before) (made_by (new_sending initial) s.at before s.reached).life s.step
+
+-- whether a delivery is under way, by the history
+pub is_busy_by : (initial : ℕ) (H : List SendingCall) (v : SendingView) → SendingLeadsTo initial H v → is_busy v.under_way ≡ busy_by false H
+is_busy_by initial H v h = (made_by (new_sending initial) v H h.1).busy

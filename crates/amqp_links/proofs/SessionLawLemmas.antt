@@ -37,12 +37,12 @@ use Rattle.amqp_links.specs.Attaching.{AttachesAt, DetachesAt, EndsAt}
 use Rattle.amqp_links.specs.Granting.{FlowsAt, AnswersAt, GrantsAt, DrainsAt, RenewsAt, of_receiver, of_sender, SaysOrNot}
 use Rattle.amqp_links.specs.SendingParts.{SendsAt}
 use Rattle.amqp_links.specs.TakingParts.{TakesAt}
-use Rattle.amqp_links.specs.Settling.{LeavesNext, LeavesSent, LeavesReceived, LeavesFirst}
+use Rattle.amqp_links.specs.Settling.{LeavesNext, LeavesSent, LeavesReceived}
 use Rattle.amqp_unsettled.specs.declared.entry.Entry.{Entry}
 use Rattle.amqp_links.proofs.ReceivingLemmas.{ok≢err}
 use Rattle.amqp_links.specs.SessionHistory.{LinksCall, LinksStep, Owner, nobody, a_sender, a_receiver, IsOwn, going_on, sender_calls, receiver_calls, as_sender, as_grant}
 use Rattle.amqp_links.specs.SessionHistory.{OfLinks, EachIsAlone, owner_after, owner_by, if_at}
-use Rattle.amqp_links.specs.SessionHistory.{AddsSender, AddsReceiver, Attaches, Detaches, Ends, Flows, Answers, Grants, Drains, Renews, Sends, Takes, Leaves, Removes, SettlesOfSent, SettlesOfReceived, LeavesAny, AsksEnd, AsksSent, AsksReceived}
+use Rattle.amqp_links.specs.SessionHistory.{AddsSender, AddsReceiver, Attaches, Detaches, Ends, Flows, Answers, Grants, Drains, Renews, Sends, Takes, Leaves, Removes, SettlesOfSent, SettlesOfReceived, LeavesOfSent, LeavesOfReceived, AsksEnd, AsksSent, AsksReceived}
 
 abbrev or_else : {X : Type 0} → X → Option X → X
 or_else x None = x
@@ -224,7 +224,7 @@ takes v w k head given (Err take.OutOfMemory) (Some (Receiving x)) q s =
 
 -- ---- one call, of this handle or another one
 
-none_there : (h : ℕ) → end_at no_links.ends h ≡ None
+pub none_there : (h : ℕ) → end_at no_links.ends h ≡ None
 none_there zero = refl
 none_there (suc h) = refl
 
@@ -282,10 +282,6 @@ left_same v w h given None s = ap (λ x. x.ends) s.1
 left_same v w h given (Some (Sending x)) s = sent_same v w h given x.life s
 left_same v w h given (Some (Receiving x)) s = received_same v w h given x.life s
 
-all_same : (v w : LinksView) (given : Option Entry) (t : List Entry) → LeavesFirst t v given w → w.ends ≡ v.ends
-all_same v w given [] s = ap (λ x. x.ends) s.1
-all_same v w given (e ∷ es) s = ap (λ x. x.ends) s.1
-
 removes_at : (v w : LinksView) (h k : ℕ) (o : Owner) (answer : Result (Unit {0}) RemoveError) (e : Option End) → IsOwn o (end_at v.ends h)
     → RemovesEnd e v k answer w → IsOwn (owner_after h (Removes k answer) o) (end_at w.ends h)
 removes_at v w h k o (Ok done) None own s = absurd (ok≢err s.0)
@@ -296,7 +292,7 @@ removes_at v w h k o (Err rem.NotDetached) (Some e) own s = same_ends v w h o ow
 removes_at v w h k o (Err rem.Unsettled) (Some e) own s = same_ends v w h o own (ap (λ x. x.ends) s.2)
 
 -- each call keeps that every end is alone
-alone : (v w : LinksView) (c : LinksCall) (h : ℕ) (o : Owner) → IsOwn o (end_at v.ends h) → LinksStep v c w → IsOwn (owner_after h c o) (end_at w.ends h)
+pub alone : (v w : LinksView) (c : LinksCall) (h : ℕ) (o : Owner) → IsOwn o (end_at v.ends h) → LinksStep v c w → IsOwn (owner_after h c o) (end_at w.ends h)
 alone v w (AddsSender k i (Ok done)) h o own s = placed v w h k (Some (Sending (new_sending i))) (a_sender i []) o s.1.1.0 (λ q. (s.0, refl)) own (nat_eq k h) refl
 alone v w (AddsSender k i (Err add.InUse)) h o own s = same_ends v w h o own (ap (λ x. x.ends) s.1.1)
 alone v w (AddsSender k i (Err add.OutOfMemory)) h o own s = same_ends v w h o own (ap (λ x. x.ends) s.1.1)
@@ -311,13 +307,14 @@ alone v w (Answers k n answer) h o own s = goes_at v w h k (Answers k n answer) 
 alone v w (Grants k n answer) h o own s = goes_at v w h k (Grants k n answer) o own (grants v w k n answer (end_at v.ends k) refl s)
 alone v w (Drains k answer) h o own s = goes_at v w h k (Drains k answer) o own (drains v w k answer (end_at v.ends k) refl s)
 alone v w (Renews k answer) h o own s = goes_at v w h k (Renews k answer) o own (renews v w k answer (end_at v.ends k) refl s)
-alone v w (Sends k p answer) h o own s = goes_at v w h k (Sends k p answer) o own (sends v w k p answer (end_at v.ends k) refl s)
-alone v w (Takes k head given answer) h o own s = goes_at v w h k (Takes k head given answer) o own (takes v w k head given answer (end_at v.ends k) refl s)
+alone v w (Sends k p answer) h o own s = goes_at v w h k (Sends k p answer) o own (sends v w k p answer (end_at v.ends k) refl s.1)
+alone v w (Takes k head given answer) h o own s = goes_at v w h k (Takes k head given answer) o own (takes v w k head given answer (end_at v.ends k) refl s.1)
 alone v w (Leaves k given) h o own s = same_ends v w h o own (left_same v w k given (end_at v.ends k) s)
 alone v w (Removes k answer) h o own s = removes_at v w h k o answer (end_at v.ends k) own s
 alone v w (SettlesOfSent first last given) h o own s = same_ends v w h o own (ap (λ x. x.ends) s.1)
 alone v w (SettlesOfReceived first last given) h o own s = same_ends v w h o own (ap (λ x. x.ends) s.1)
-alone v w (LeavesAny given) h o own s = same_ends v w h o own (all_same v w given v.sent s)
+alone v w (LeavesOfSent given) h o own s = same_ends v w h o own (ap (λ x. x.ends) s.1)
+alone v w (LeavesOfReceived given) h o own s = same_ends v w h o own (ap (λ x. x.ends) s.1)
 alone v w (AsksEnd k answer) h o own s = same_ends v w h o own (ap (λ x. x.ends) s.1)
 alone v w (AsksSent n answer) h o own s = same_ends v w h o own (ap (λ x. x.ends) s.1)
 alone v w (AsksReceived n answer) h o own s = same_ends v w h o own (ap (λ x. x.ends) s.1)

@@ -12,3 +12,4 @@ pub mod SendingParts
 pub mod TakingParts
 pub mod Settling
 pub mod SessionHistory
+pub mod UnsettledHistory

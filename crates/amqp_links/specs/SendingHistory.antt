@@ -70,6 +70,10 @@ abbrev pub busy_after : SendingCall → Bool → Bool
 busy_after (Sends size end (Ok done)) busy = is_more end
 busy_after c busy = busy
 
+abbrev pub busy_by : Bool → List SendingCall → Bool
+busy_by busy [] = busy
+busy_by busy (c ∷ cs) = busy_by (busy_after c busy) cs
+
 -- ---- what counts for the credit
 
 -- a flow that came while the link was attached, and a delivery that was begun

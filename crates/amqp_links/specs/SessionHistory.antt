@@ -36,7 +36,7 @@ use Rattle.amqp_links.specs.Attaching.{AttachesAt, DetachesAt, EndsAt}
 use Rattle.amqp_links.specs.Granting.{FlowsAt, AnswersAt, GrantsAt, DrainsAt, RenewsAt}
 use Rattle.amqp_links.specs.SendingParts.{SendsAt}
 use Rattle.amqp_links.specs.TakingParts.{TakesAt}
-use Rattle.amqp_links.specs.Settling.{SettlesSent, SettlesReceived, LeavesNext, LeavesOfAll}
+use Rattle.amqp_links.specs.Settling.{SettlesSent, SettlesReceived, LeavesNext, LeavesSentOfAll, LeavesReceivedOfAll}
 
 -- One call, and its answer; those of a link have its handle first. The last three are questions.
 pub data LinksCall : Type 0 where
@@ -56,10 +56,16 @@ pub data LinksCall : Type 0 where
   Removes : ℕ → Result (Unit {0}) RemoveError → LinksCall
   SettlesOfSent : ℕ → ℕ → Option Entry → LinksCall
   SettlesOfReceived : ℕ → ℕ → Option Entry → LinksCall
-  LeavesAny : Option Entry → LinksCall
+  LeavesOfSent : Option Entry → LinksCall
+  LeavesOfReceived : Option Entry → LinksCall
   AsksEnd : ℕ → Option End → LinksCall
   AsksSent : ℕ → Option Entry → LinksCall
   AsksReceived : ℕ → Option Entry → LinksCall
+
+-- what is told of a part has a number of four bytes
+abbrev pub IsNumbered : Result ReceivedPart TakePartError → Type 0
+IsNumbered (Ok told) = told.part.number < 2 ^ 32
+IsNumbered (Err error) = Unit {0}
 
 -- the call as its contract says it
 abbrev pub LinksStep : LinksView → LinksCall → LinksView → Type 0
@@ -73,13 +79,14 @@ LinksStep v (Answers h available answer) w = AnswersAt (end_at v.ends h) v h ava
 LinksStep v (Grants h credit answer) w = GrantsAt (end_at v.ends h) v h credit answer w
 LinksStep v (Drains h answer) w = DrainsAt (end_at v.ends h) v h answer w
 LinksStep v (Renews h answer) w = RenewsAt (end_at v.ends h) v h answer w
-LinksStep v (Sends h p answer) w = SendsAt (end_at v.ends h) v h p answer w
-LinksStep v (Takes h head given answer) w = TakesAt (end_at v.ends h) v h head given answer w
+LinksStep v (Sends h p answer) w = (p.number < 2 ^ 32) × SendsAt (end_at v.ends h) v h p answer w
+LinksStep v (Takes h head given answer) w = IsNumbered answer × TakesAt (end_at v.ends h) v h head given answer w
 LinksStep v (Leaves h given) w = LeavesNext (end_at v.ends h) v h given w
 LinksStep v (Removes h answer) w = RemovesEnd (end_at v.ends h) v h answer w
 LinksStep v (SettlesOfSent first last given) w = SettlesSent first last v given w
 LinksStep v (SettlesOfReceived first last given) w = SettlesReceived first last v given w
-LinksStep v (LeavesAny given) w = LeavesOfAll v given w
+LinksStep v (LeavesOfSent given) w = LeavesSentOfAll v given w
+LinksStep v (LeavesOfReceived given) w = LeavesReceivedOfAll v given w
 LinksStep v (AsksEnd h answer) w = (answer ≡ end_at v.ends h) × (w ≡ v)
 LinksStep v (AsksSent n answer) w = (answer ≡ find (has_number n) v.sent) × (w ≡ v)
 LinksStep v (AsksReceived n answer) w = (answer ≡ find (has_number n) v.received) × (w ≡ v)

@@ -1,6 +1,6 @@
 -- Part: other calls.
 -- Settlement on a session's links (AMQP 1.0 part 2, sections 2.6.12, 2.6.13 and 2.7.6).
-use Rattle.std.specs.Prelude.{ℕ, ◌≡◌, List, [], ◌∷◌, Option, Some, None}
+use Rattle.std.specs.Prelude.{ℕ, ◌≡◌, Option, Some, None}
 use Rattle.amqp_unsettled.specs.declared.entry.Entry.{Entry}
 use Rattle.amqp_unsettled.specs.Table.{TakeStep, is_any, is_in, is_of}
 use Rattle.amqp_links.specs.declared.end.End.{End}
@@ -33,10 +33,9 @@ LeavesNext None v h given w = (given ≡ None) × (w ≡ v)
 LeavesNext (Some (Sending s)) v h given w = LeavesSent s.life v h given w
 LeavesNext (Some (Receiving s)) v h given w = LeavesReceived s.life v h given w
 
--- of the whole session: the oldest that was sent, and where none is left, the oldest that has come
-abbrev pub LeavesFirst : List Entry → LinksView → Option Entry → LinksView → Type 0
-LeavesFirst [] v given w = TakeStep is_any v.received given w.received × (w ≡ record v { received = w.received })
-LeavesFirst (e ∷ es) v given w = TakeStep is_any v.sent given w.sent × (w ≡ record v { sent = w.sent })
+-- of the whole session: the oldest that was sent, and the oldest that has come
+abbrev pub LeavesSentOfAll : LinksView → Option Entry → LinksView → Type 0
+LeavesSentOfAll v given w = TakeStep is_any v.sent given w.sent × (w ≡ record v { sent = w.sent })
 
-abbrev pub LeavesOfAll : LinksView → Option Entry → LinksView → Type 0
-LeavesOfAll v given w = LeavesFirst v.sent v given w
+abbrev pub LeavesReceivedOfAll : LinksView → Option Entry → LinksView → Type 0
+LeavesReceivedOfAll v given w = TakeStep is_any v.received given w.received × (w ≡ record v { received = w.received })

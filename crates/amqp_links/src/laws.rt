@@ -5,6 +5,7 @@ ghost use Rattle.amqp_links.specs.SendingHistory.{OfSendings};
 ghost use Rattle.amqp_links.specs.ReceivingHistory as receiving;
 ghost use Rattle.amqp_links.specs.ReceivingHistory.{OfReceivings};
 ghost use Rattle.amqp_links.specs.SessionHistory.{OfLinks, EachIsAlone};
+ghost use Rattle.amqp_links.specs.UnsettledHistory.{AreTables};
 
 /// A sending end stands where its Attaches and Detaches say. It sends nothing but while both sides have attached and neither has detached. Its credit is
 /// that of a `SenderCredit` to which the same flows came and which began the same deliveries: so `law_of_senders` of `amqp_credit` holds of it, and no
@@ -31,4 +32,12 @@ pub fn law_of_receiving()
 /// comes for the others (AMQP 1.0 part 2, section 2.6).
 pub fn law_of_session_links()
     ensures { OfLinks EachIsAlone }
+{}
+
+/// What is unsettled on a session's links is that of two tables, one for each direction, whose calls the history alone gives: a delivery is put in by its first part,
+/// unless that is settled, and taken out by a later part that settles or aborts it, by a range that is settled, or as what is left. So `law_of_giving_back`,
+/// `law_of_ranges` and the others of `amqp_unsettled` hold of it: each unsettled delivery is given back once, and none that is not there (AMQP 1.0 part 2, sections
+/// 2.6.12 and 2.6.13).
+pub fn law_of_settlement()
+    ensures { OfLinks AreTables }
 {}

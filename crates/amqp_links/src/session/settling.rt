@@ -3,7 +3,7 @@
 ghost use Rattle.std.specs.Prelude.{◌≡◌, find};
 ghost use Rattle.amqp_unsettled.specs.Table.{has_number};
 ghost use Rattle.amqp_links.specs.Ends.{end_at};
-ghost use Rattle.amqp_links.specs.Settling.{SettlesSent, SettlesReceived, LeavesSent, LeavesReceived, LeavesNext, LeavesOfAll};
+ghost use Rattle.amqp_links.specs.Settling.{SettlesSent, SettlesReceived, LeavesSent, LeavesReceived, LeavesNext, LeavesSentOfAll, LeavesReceivedOfAll};
 
 use super::SessionLinks;
 use crate::end::End;
@@ -71,14 +71,18 @@ impl SessionLinks {
         }
     }
 
-    /// Takes out the oldest delivery that is left unsettled where the session is over: first those that this side sent, and then those that have come, each in
-    /// the order of their numbers. Called until it answers `None`, it tells each one once.
-    pub fn left_of_all(&mut self) -> Option<Entry>
-        ensures { LeavesOfAll self.old result self.new }
+    /// Takes out the oldest delivery of those that this side sent, of any link: it is left unsettled where the session is over. Called until it answers `None`, it
+    /// tells each one once, in the order of their numbers.
+    pub fn left_of_sent(&mut self) -> Option<Entry>
+        ensures { LeavesSentOfAll self.old result self.new }
     {
-        if self.sent.is_empty() {
-            return self.received.remove_oldest();
-        }
         self.sent.remove_oldest()
+    }
+
+    /// The same of the deliveries that have come.
+    pub fn left_of_received(&mut self) -> Option<Entry>
+        ensures { LeavesReceivedOfAll self.old result self.new }
+    {
+        self.received.remove_oldest()
     }
 }
