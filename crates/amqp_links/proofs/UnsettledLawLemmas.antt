@@ -161,10 +161,11 @@ sends_tables v w k p answer (Some (Receiving x)) (a_sender i K) own small s = ab
 sends_tables v w k p (Ok given) (Some (Receiving x)) (a_receiver r l K) own small s = same v w s.1
 sends_tables v w k p (Err error) (Some (Receiving x)) (a_receiver r l K) own small s = same v w s.1
 sends_tables v w k p (Ok given) (Some (Sending x)) (a_sender i K) own small s =
-    let is_first = first_is x.under_way (busy_by false K) (is_busy_by i K x own) in
-    (subst (λ b. Chain TableStep v.sent (noted b (settles p) (entry_of p.number k p.given) given) w.sent) is_first
-        (notes (sending.is_none x.under_way) (settles p) v.sent w.sent (entry_of p.number k p.given) given small s.2.0),
-    ap (λ y. y.received) s.2.2)
+    let is_first = first_is x.under_way (busy_by false K) (is_busy_by i K x own) in (
+      subst (λ b. Chain TableStep v.sent (noted b (settles p) (entry_of p.number k p.given) given) w.sent) is_first
+          (notes (sending.is_none x.under_way) (settles p) v.sent w.sent (entry_of p.number k p.given) given small s.2.0),
+      ap (λ y. y.received) s.2.2,
+    )
 sends_tables v w k p (Err send.NoSender) (Some (Sending x)) (a_sender i K) own small s = absurd s.2
 sends_tables v w k p (Err (send.Link error)) (Some (Sending x)) (a_sender i K) own small s = same v w s.1
 sends_tables v w k p (Err send.NotNext) (Some (Sending x)) (a_sender i K) own small s = same v w s.2.1
@@ -181,10 +182,11 @@ takes_tables v w k head given answer (Some (Sending x)) (a_receiver r l K) own s
 takes_tables v w k head given answer (Some (Receiving x)) (a_sender i K) own small s = absurd own
 takes_tables v w k head given (Ok told) (Some (Sending x)) (a_sender i K) own small s = same v w s.1
 takes_tables v w k head given (Err error) (Some (Sending x)) (a_sender i K) own small s = same v w s.1
-takes_tables v w k head given (Ok told) (Some (Receiving x)) (a_receiver r l K) own small s =
-    (ap (λ y. y.sent) s.3.3,
-    notes told.part.is_first told.part.settled v.received w.received (entry_of told.part.number k given) told.settled small
-        (subst (λ q. Notes q.is_first q.settled v.received (entry_of q.number k given) (Ok told.settled) w.received) (sym s.3.0) s.3.1))
+takes_tables v w k head given (Ok told) (Some (Receiving x)) (a_receiver r l K) own small s = (
+  ap (λ y. y.sent) s.3.3,
+  notes told.part.is_first told.part.settled v.received w.received (entry_of told.part.number k given) told.settled small
+      (subst (λ q. Notes q.is_first q.settled v.received (entry_of q.number k given) (Ok told.settled) w.received) (sym s.3.0) s.3.1),
+)
 takes_tables v w k head given (Err take.NoReceiver) (Some (Receiving x)) (a_receiver r l K) own small s = absurd s.3
 takes_tables v w k head given (Err (take.Link error)) (Some (Receiving x)) (a_receiver r l K) own small s = put v w s.2.1
 takes_tables v w k head given (Err take.NotNext) (Some (Receiving x)) (a_receiver r l K) own small s = same v w s.3.1
@@ -255,9 +257,10 @@ all_tables v w before (c ∷ cs) own chain =
     let m = chain.0 in
     let one = tables v m c (owner_by (handle_of c) nobody before) (own (handle_of c)) chain.1 in
     let rest = all_tables m w (before ++ c ∷ []) cs
-        (λ h. subst (λ o. IsOwn o (end_at m.ends h)) (sym (owner_on h nobody before c)) (alone v m c h (owner_by h nobody before) (own h) chain.1)) chain.2 in
-    (joined TableStep v.sent m.sent w.sent (sent_calls c (owner_by (handle_of c) nobody before)) (table_calls sent_calls (before ++ c ∷ []) cs) one.0 rest.0,
-    joined TableStep v.received m.received w.received (received_calls c (owner_by (handle_of c) nobody before)) (table_calls received_calls (before ++ c ∷ []) cs) one.1 rest.1)
+    (λ h. subst (λ o. IsOwn o (end_at m.ends h)) (sym (owner_on h nobody before c)) (alone v m c h (owner_by h nobody before) (own h) chain.1)) chain.2 in (
+      joined TableStep v.sent m.sent w.sent (sent_calls c (owner_by (handle_of c) nobody before)) (table_calls sent_calls (before ++ c ∷ []) cs) one.0 rest.0,
+      joined TableStep v.received m.received w.received (received_calls c (owner_by (handle_of c) nobody before)) (table_calls received_calls (before ++ c ∷ []) cs) one.1 rest.1,
+    )
 
 pub are_tables : OfLinks AreTables
 are_tables H v leads = all_tables no_links v [] H none_there leads

@@ -307,7 +307,11 @@ fn what_is_left_is_told_once(rt: HostRuntime) -> Result<(), Fail> {
     same(&rt, links.left_next(1), None);
     same(&rt, links.remove(2), Ok(()));
     same(&rt, links.left_next(0), None);
-    same(&rt, links.send(2, part(9, PartEnd::Last, false)), Err(SendPartError::NoSender));
+    same(
+        &rt,
+        links.send(2, part(9, PartEnd::Last, false)),
+        Err(SendPartError::NoSender),
+    );
     same(&rt, links.left_of_sent(), None);
     same(&rt, links.left_of_received(), entry(7, 0));
     same(&rt, links.left_of_received(), None);
