@@ -1,7 +1,5 @@
 //! What a server needs: sessions and links that the peer begins, and the end of a connection.
 
-use crate::given::{PlainDriver, opened};
-use crate::received::INPUT;
 use crate::same::{holds, same};
 use amqp_connection::SessionNo;
 use amqp_driver::{
@@ -15,6 +13,9 @@ use amqp_session::{IncomingChannel, InputHandle, SessionSettings};
 use amqp_types::{ConnectionState, Open, ReceiverSettleMode, Role, SessionState};
 use std::alloc::Global;
 use std::test::Fail;
+
+/// A driver whose links have relays without a sink.
+type PlainDriver = Driver<PlainRelay>;
 
 /// What a client sends without waiting: an Open, a Begin on channel 3 that answers none, an Attach of the link "a" on it, and the Begin again.
 pub const PIPELINED: [u8; 103] = [
@@ -39,6 +40,10 @@ pub const ANSWER: [u8; 28] = [
     0x00, 0x00, 0x00, 0x1c, 0x02, 0x00, 0x00, 0x00, 0x00, 0x53, 0x11, 0xc0, 0x0f, 0x04, 0x60, 0x00,
     0x03, 0x43, 0x70, 0x00, 0x00, 0x13, 0x88, 0x70, 0x00, 0x00, 0x13, 0x88,
 ];
+
+/// A Begin of the peer's that answers one of this side's on channel 1, without its size.
+const THEIRS: [u8; 21] =
+    *b"\x02\x00\x00\x00\x00\x53\x11\xc0\x0c\x04\x60\x00\x01\x43\x52\x10\x70\x7f\xff\xff\xff";
 
 /// A Close, and bytes that are no frame.
 const CLOSE: [u8; 16] = [
@@ -193,10 +198,7 @@ fn what_is_not_answered(rt: HostRuntime) -> Result<(), Fail> {
     let _ = take(&mut driver, 0, &mut records);
     let with_size = answer(&mut driver, OPEN, BEGIN, 7);
     let attach = answer(&mut driver, BEGIN + 4, ATTACH, 7);
-    let theirs = match INPUT.get(42..63) {
-        Some(frame) => answered(driver.answer_begin(frame, SessionNo(7), SessionSettings::new())),
-        None => 1002,
-    };
+    let theirs = answered(driver.answer_begin(&THEIRS, SessionNo(7), SessionSettings::new()));
     let quiet = driver.out().is_empty();
     let done = answer(&mut driver, OPEN + 4, BEGIN, 7);
     let in_use = answer(&mut driver, OPEN + 4, BEGIN, 8);
@@ -210,7 +212,8 @@ fn what_is_not_answered(rt: HostRuntime) -> Result<(), Fail> {
 
 #[test]
 fn a_number_that_was_used(rt: HostRuntime) -> Result<(), Fail> {
-    let mut driver = opened(rt.alloc())?;
+    let mut driver = server(rt.alloc())?;
+    let begun = number(driver.request(Input::Begin(SessionNo(6), SessionSettings::new())));
     let mut records = [Record::empty(); 8];
     let _ = take(&mut driver, 0, &mut records);
     let used = answer(&mut driver, OPEN + 4, BEGIN, 6);
@@ -218,6 +221,7 @@ fn a_number_that_was_used(rt: HostRuntime) -> Result<(), Fail> {
     let other = answer(&mut driver, OPEN + 4, BEGIN, 7);
     let mapped = state_of(&driver, 7);
     drop(driver);
+    same(&rt, begun, 0);
     same(&rt, (used, waits), (103, Some(SessionState::BeginSent)));
     same(&rt, (other, mapped), (0, Some(SessionState::Mapped)));
     Ok(())
