@@ -44,11 +44,18 @@ class Browser:
 
     def driven(self, name, text, script, place=""):
         """The document after a script of the test, which the policy lets in for that."""
-        known = base64.b64encode(hashlib.sha256(script.encode()).digest()).decode()
-        text = text.replace("script-src ", f"script-src 'sha256-{known}' ", 1).replace("</body>", f"<script>{script}</script></body>", 1)
-        return self.opened(name, text, place)
+        return self.opened(name, with_script(text, script), place)
+
+    def driven_again(self, text, script):
+        """The same, without a test."""
+        return self.run(with_script(text, script), "", "--dump-dom").stdout
 
     def picture(self, text):
         path = self.folder / "page.png"
         self.run(text, "", f"--screenshot={path}")
         return path.stat().st_size if path.exists() else 0
+
+
+def with_script(text, script):
+    known = base64.b64encode(hashlib.sha256(script.encode()).digest()).decode()
+    return text.replace("script-src ", f"script-src 'sha256-{known}' ", 1).replace("</body>", f"<script>{script}</script></body>", 1)

@@ -103,6 +103,20 @@ class Page:
             self.ran.wait()
 
 
+def processor_seconds(program, folder, path, place):
+    """What the thread of a page takes of a processor until the page is ready. A clock counts what other programs take too."""
+    small = path.with_name("small.html")
+    small.write_text('<!doctype html><html data-ready="0">', encoding="utf-8")
+    page = Page(program, folder, small.as_uri())
+    try:
+        page.ask("Accessibility.disable")
+        page.ask("Performance.enable", timeDomain="threadTicks")
+        page.go(f"{path.as_uri()}{place}")
+        return next(it["value"] for it in page.ask("Performance.getMetrics")["metrics"] if it["name"] == "ThreadTime")
+    finally:
+        page.close()
+
+
 class Node:
     """A node: its role, its name, its description, and its other properties by their names."""
 

@@ -35,7 +35,8 @@ def try_spoken(browser, check):
         tree = page.tree()
         names(tree, check)
         rows_say(tree, rows, check)
-        curves_say(page, tree, check)
+        rows_stay(page, check)
+        curves_say(page, page.tree(), check)
         in_order(page, check)
         panel_is_told(page, check)
         breaches_are_told(page, check)
@@ -47,7 +48,7 @@ def try_spoken(browser, check):
 
 def names(tree, check):
     """Each control has a name of its own, and each part of the page that a reader jumps to."""
-    bare = [it for it in tree if it.role in CONTROLS | NAMED and not it.name.strip()]
+    bare = [it for it in tree if (it.role in CONTROLS | NAMED or it.properties.get("focusable")) and not it.name.strip()]
     check("spoken: each control and each part has a name", not bare, *bare)
     controls = [it.name for it in tree if it.role in CONTROLS - {"link"}]
     twice = {it for it in controls if controls.count(it) > 1}
@@ -73,6 +74,22 @@ def says(said, row):
     refused = [name for name, _, _, is_breach in found if is_breach]
     is_told = all(f"refused: {name}" in said for name in refused) and ("refused" in said) == bool(refused)
     return f"{WAYS[side]}: {kind}" in said and f"channel {channel} " in said and is_told
+
+
+def rows_stay(page, check):
+    """Where nothing scrolls, each row that is drawn stays when another one is chosen: a screen reader looks again at all that come. What scrolls or
+    is sifted stands in its order."""
+    page.value("move(1), move(-1)")
+    same = "(before => { move(1); move(-1); return before.length > 20 && before.every((it, at) => it === body.children[at]); })([...body.children])"
+    check("spoken: rows stay where another one is chosen", page.value(same))
+    goes = ["scroller.scrollTop = 0", "scroller.scrollTop += 300", "state.kind = 'Transfer', refresh()", "clearFilters(), refresh()", f"choose({CHOSEN - 1})"]
+    numbers = "[...body.querySelectorAll('tr[data-index]')].map(it => [+it.dataset.index, +it.getAttribute('aria-rowindex')])"
+    for it in goes:
+        found = page.value(f"({it}, draw(), {numbers})")
+        shown = page.value("state.shown")
+        first = found[0][1] if found else 0
+        wanted = [[shown[at - 2], at] for at in range(first, first + len(found))]
+        check(f"spoken: rows in their order, {it}", len(found) > 5 and found == wanted, *found)
 
 
 def curves_say(page, tree, check):
@@ -152,9 +169,11 @@ def others_say(browser, page, check):
     path.write_text(page_of(MESSAGE[0]), encoding="utf-8")
     page.go(f"{path.as_uri()}#frame-{MESSAGE[1]}")
     tree = page.tree()
-    bare = [it for it in tree if it.role in CONTROLS | NAMED and not it.name.strip()]
+    bare = [it for it in tree if (it.role in CONTROLS | NAMED or it.properties.get("focusable")) and not it.name.strip()]
     sections = [it.name for it in tree if it.role == "table" and it.name.startswith("Message: ")]
     check("spoken: a message's sections have names", not bare and len(sections) > 1, *bare, *sections)
+    bytes_of = [it.name for it in tree if it.role == "group" and it.name.startswith("Bytes of ")]
+    check("spoken: bytes have names", 0 < len({*bytes_of}) == page.value("document.querySelectorAll('#panel pre').length"), *bytes_of)
     made = Recording("hostile", "nobody")
     for number, (side, of) in enumerate(hostile(), 1):
         made.add(side, of, number)

@@ -27,8 +27,10 @@ const ON_ARROW = {
   "SASL outcome": ["code"],
 };
 
-const state = { side: "", channel: "", kind: "", refused: false, q: "", chosen: -1, shown: [], curves: false };
+const state = { side: "", channel: "", link: "", kind: "", refused: false, q: "", chosen: -1, shown: [], curves: false };
 const texts = new Array(rows.length);
+// The name of each row's link, where it is of one
+const links = new Array(rows.length);
 
 /** What a link to the row says: its number, or, of a frame of SASL, its place. */
 function nameOf(index) {
@@ -83,10 +85,23 @@ function textOf(index) {
   return texts[index];
 }
 
+/** Notes the link of each row that has a handle: the last one that its side attached there in its session, also where it was detached. */
+function nameLinks() {
+  const attached = new Map();
+  rows.forEach((row, index) => {
+    const handle = row[SESSION] ? wordIn(row, "handle") : null;
+    if (handle === null) return;
+    const key = row[SIDE] + row[SESSION] + " " + handle;
+    if (row[KIND] === "Attach") attached.set(key, wordIn(row, "name") || undefined);
+    links[index] = attached.get(key);
+  });
+}
+
 function isShown(index, words) {
   const row = rows[index];
   if (state.side && row[SIDE] !== state.side) return false;
   if (state.channel !== "" && row[CHANNEL] !== Number(state.channel)) return false;
+  if (state.link && links[index] !== state.link) return false;
   if (state.kind && row[KIND] !== state.kind) return false;
   if (state.refused && !isBreach(row)) return false;
   return !words || textOf(index).includes(words);
@@ -101,7 +116,7 @@ function sift() {
 }
 
 function clearFilters() {
-  Object.assign(state, { side: "", channel: "", kind: "", refused: false, q: "" });
+  Object.assign(state, { side: "", channel: "", link: "", kind: "", refused: false, q: "" });
 }
 
 /** The place among the shown rows of the first one that is not before this row. */
@@ -136,7 +151,7 @@ function readHash() {
     const key = at < 0 ? part : part.slice(0, at);
     if (/^(frame|sasl)-\d+$/.test(key)) name = key;
     else if (key === "refused" || key === "curves") state[key] = true;
-    else if (at > 0 && ["q", "side", "channel", "kind"].includes(key)) state[key] = plainText(part.slice(at + 1));
+    else if (at > 0 && ["q", "side", "channel", "link", "kind"].includes(key)) state[key] = plainText(part.slice(at + 1));
   }
   return name ? rows.findIndex((_, index) => nameOf(index) === name) : -1;
 }
@@ -153,7 +168,7 @@ function hashOf() {
   const parts = state.chosen < 0 ? [] : [nameOf(state.chosen)];
   if (state.refused) parts.push("refused");
   if (state.curves) parts.push("curves");
-  for (const key of ["side", "channel", "kind", "q"]) {
+  for (const key of ["side", "channel", "link", "kind", "q"]) {
     if (state[key] !== "") parts.push(key + "=" + encodeURIComponent(state[key]));
   }
   return "#" + parts.join("&");

@@ -6,6 +6,8 @@ const SESSION_COLOURS = 8;
 const at = (id) => document.getElementById(id);
 const scroller = at("scroll"), table = at("table"), body = at("rows"), panel = at("panel");
 const above = space(), below = space();
+// The rows that are drawn, by their places in the recording
+const drawn = new Map();
 
 function make(tag, kind, text) {
   const made = document.createElement(tag);
@@ -30,9 +32,26 @@ function draw() {
   const last = Math.min(count, first + Math.ceil(scroller.clientHeight / ROW) + 2 * MARGIN);
   above.firstChild.style.height = first * ROW + "px";
   below.firstChild.style.height = (count - last) * ROW + "px";
-  const drawn = [];
-  for (let place = first; place < last; place += 1) drawn.push(rowOf(state.shown[place], place));
-  body.replaceChildren(above, ...drawn, below);
+  const wanted = state.shown.slice(first, last), stay = new Set(wanted);
+  for (const [index, row] of drawn) {
+    if (stay.has(index)) continue;
+    row.remove();
+    drawn.delete(index);
+  }
+  let before = above;
+  wanted.forEach((index, turn) => {
+    const row = drawn.get(index) || rowOf(index);
+    setTo(row, "aria-rowindex", first + turn + 2);
+    setTo(row, "aria-selected", index === state.chosen);
+    if (before.nextSibling !== row) before.after(row);
+    drawn.set(index, row);
+    before = row;
+  });
+}
+
+/** A screen reader looks again at each attribute that is set, and at each row that comes and goes: so what stays is left alone. */
+function setTo(row, attribute, value) {
+  if (row.getAttribute(attribute) !== String(value)) row.setAttribute(attribute, value);
 }
 
 let isAsked = false;
@@ -45,7 +64,7 @@ function drawSoon() {
   });
 }
 
-function rowOf(index, place) {
+function rowOf(index) {
   const row = rows[index], made = make("tr", row[SIDE]);
   if (row[SESSION]) made.classList.add("s" + ((row[SESSION] - 1) % SESSION_COLOURS));
   if (isBreach(row)) made.classList.add("refused");
@@ -53,8 +72,6 @@ function rowOf(index, place) {
   made.id = "row-" + index;
   made.dataset.index = index;
   made.setAttribute("role", "row");
-  made.setAttribute("aria-rowindex", place + 2);
-  made.setAttribute("aria-selected", index === state.chosen);
   made.append(numberOf(index), make("td", "time", timeOf(row)), whereOf(row), drawingOf(row), foundOf(row));
   return made;
 }
@@ -155,13 +172,21 @@ function payloadParts(row) {
   const shown = row[FRONT].length / 2;
   const said = row[SECTIONS].flatMap(sectionParts);
   const title = "Payload: " + row[PAYLOAD].toLocaleString("en") + " bytes" + (shown < row[PAYLOAD] ? ", the first " + shown : "");
-  return [...said, make("h3", "", title), make("pre", "", dump(row[FRONT]))];
+  return [...said, make("h3", "", title), dumpOf(row[FRONT], "Bytes of the payload")];
 }
 
 /** A section of a message: its fields or entries, and the first bytes of data. */
 function sectionParts(it) {
   const list = pairsIn(it[PAIRS]);
-  return [make("h3", "", "Message: " + it[TITLE]), ...(list.length ? [pairs(list, "Message: " + it[TITLE])] : []), ...(it[DATA] ? [make("pre", "", dump(it[DATA]))] : [])];
+  return [make("h3", "", "Message: " + it[TITLE]), ...(list.length ? [pairs(list, "Message: " + it[TITLE])] : []), ...(it[DATA] ? [dumpOf(it[DATA], "Bytes of " + it[TITLE])] : [])];
+}
+
+/** Where it is too wide it scrolls, and then the focus can go there: so it has a name. */
+function dumpOf(hex, name) {
+  const made = make("pre", "", dump(hex));
+  made.setAttribute("role", "group");
+  made.setAttribute("aria-label", name);
+  return made;
 }
 
 function dump(hex) {
@@ -233,6 +258,7 @@ function keepHash() {
 function refresh() {
   at("side").value = state.side;
   at("channel").value = state.channel;
+  at("name").value = state.link;
   at("kind").value = state.kind;
   at("refused").checked = state.refused;
   if (at("search").value !== state.q) at("search").value = state.q;
@@ -245,6 +271,7 @@ function refresh() {
 function filtered() {
   state.side = at("side").value;
   state.channel = at("channel").value;
+  state.link = at("name").value;
   state.kind = at("kind").value;
   state.refused = at("refused").checked;
   state.q = at("search").value;
@@ -316,13 +343,15 @@ function begin() {
     kinds.add(row[KIND]);
   }
   options("channel", [...channels].sort((a, b) => a - b).slice(0, 1000));
+  nameLinks();
+  options("name", [...new Set(links)].filter((it) => it !== undefined).slice(0, 1000));
   options("kind", [...kinds].sort());
   let waits = 0;
   at("search").addEventListener("input", () => {
     clearTimeout(waits);
     waits = setTimeout(filtered, 150);
   });
-  for (const id of ["side", "channel", "kind", "refused"]) at(id).addEventListener("change", filtered);
+  for (const id of ["side", "channel", "name", "kind", "refused"]) at(id).addEventListener("change", filtered);
   at("next").addEventListener("click", () => toBreach(1));
   at("clear").addEventListener("click", () => { clearFilters(); refresh(); keepHash(); });
   scroller.addEventListener("scroll", drawSoon, { passive: true });
@@ -331,6 +360,7 @@ function begin() {
   addEventListener("keydown", onKey);
   addEventListener("hashchange", follow);
   prepareCurves();
+  body.replaceChildren(above, below);
   follow();
   table.focus({ preventScroll: true });
   document.documentElement.dataset.ready = Math.round(performance.now());
