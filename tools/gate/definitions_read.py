@@ -48,7 +48,7 @@ HANDLES = [ENGINE / "handles.rt", ENGINE / "handles/run.rt", ENGINE / "handles/c
 SESSION = ROOT / "crates/amqp_session/src"
 PAIR = SESSION / "pair.rt"
 PAIR_LAW = (SESSION / "laws.rt", "law_of_pairs")
-# What the promise leaves out: of a run the law of views and the steps; what relays may answer.
+# What the promise leaves out: of a run the law of views and the steps; what relays may answer. The page tells of each.
 NOT_IN_PROMISE = {("amqp_engine", "Views", None), ("amqp_engine", "History", None), ("amqp_session", "Relay", "Relays")}
 # What it says by name: its lines count, and what they use is not followed.
 BY_NAME = {("amqp_engine", "Legal", "Legal"), ("amqp_engine", "EngineView", "EngineView")}
