@@ -2,7 +2,7 @@
 """Lists the definitions that an engine's contracts reach; keeps docs/READING.md's tables by them, and the first line of each file of specs/.
 
     tools/gate/definitions_read.py            prints the tables' lines, and says where docs/READING.md or a first line differs; status 1 if one does
-    tools/gate/definitions_read.py --write    puts files, numbers and first lines in; sentences and order stay
+    tools/gate/definitions_read.py --write    puts files, their order and numbers and first lines in; sentences stay
 
 From the names in a contract it follows, definition by definition, the names that each one uses, through the `use` lines of the files of
 specs/. The page has a table for each part, and a definition stands in the first part that reaches it: the promise of `Engine::run` (what
@@ -12,8 +12,12 @@ counted are the lines of the definitions, with the comment above each; the whole
 variable's may be counted without need: a list may be too long, and is never too short. The last two tables have types of the code, by their files,
 and the models of the types that the calls are of and of all that these hold; docs, comments and attributes are not counted there.
 
+In a part a file stands after those whose definitions of that part it uses, and as it stood where that leaves it free (reading_order.py). Lines of the
+page that begin as `- Words of the promise that stand in` name what stands elsewhere. docs/NOTATION.md has a line for each word of the kit's
+standard library that the parts use, and no other (words_of_std.py).
+
 Below the promise stands a list by hand, a sentence for each definition and an edit that it refuses: each definition has to be named there once, and
-each edit has to be one of crates/*/mutants whose function's contract is near the definition.
+each edit has to be one of crates/*/mutants whose function's contract is near the definition. It goes the other way, from the top down.
 
 Each file of specs/ that has definitions says in its first line which parts they stand in, `-- Part: the promise; every call exactly.`, in this order:
 the promise, the bytes, every call exactly, handles, as the tables have them; other calls, for what else the contracts of public functions, traits
@@ -28,6 +32,9 @@ from pathlib import Path
 sys.path.insert(0, str(Path(__file__).resolve().parents[1]))
 
 import in_words
+import words_of_std
+from gate.reading_order import from_the_top, ordered, told, uses_within
+from gate.specs_read import PART, WORD, imports, module, uses_of
 from reference.calls import public_calls, written
 from reference.models import held, lines_of, plain
 from reference.source import Crate, dependencies
@@ -41,115 +48,16 @@ HANDLES = [ENGINE / "handles.rt", ENGINE / "handles/run.rt", ENGINE / "handles/c
 SESSION = ROOT / "crates/amqp_session/src"
 PAIR = SESSION / "pair.rt"
 PAIR_LAW = (SESSION / "laws.rt", "law_of_pairs")
-# What the promise leaves out: of a run the law of views and the steps; what relays may answer.
+# What the promise leaves out: of a run the law of views and the steps; what relays may answer. The page tells of each.
 NOT_IN_PROMISE = {("amqp_engine", "Views", None), ("amqp_engine", "History", None), ("amqp_session", "Relay", "Relays")}
 # What it says by name: its lines count, and what they use is not followed.
 BY_NAME = {("amqp_engine", "Legal", "Legal"), ("amqp_engine", "EngineView", "EngineView")}
 BYTES = ("amqp_frames", "amqp_types", "amqp_values")
 PARTS = ["the promise", "the bytes", "every call exactly", "handles", "other calls", "inner"]
-PART = "-- Part: "
 MISSING = "(a sentence is missing)"
 
-USE = re.compile(r"^\s*(?:ghost |pub )*use Rattle\.(\w+)\.specs\.([\w.]+?)(?:\.\{(.*?)\}| as (\w+));?\s*$")
-ITEM = re.compile(r"^(?:(?:abbrev|unfoldable|pub(?! mod\b)|mutual|data|record)\b|infix)")
-NAMED = re.compile(r"^\s*(?:(?:abbrev|unfoldable|pub|mutual|data|record) )*([^\s:({]+)")
-WORD = re.compile(r"[^\s(){}\[\],;]+")
 OF_CRATE = re.compile(r"Rattle\.(\w+)\.specs\.([\w.]+)$")
 TYPE = re.compile(r"^pub(?:\(\w+\))? (?:struct|enum|trait) (\w+)")
-
-
-class Module:
-    """A file of specs/: its definitions by the names that they give, and where its other names come from."""
-
-    def __init__(self, crate, path):
-        self.crate, self.file = crate, ROOT / "crates" / crate / "specs" / (path.replace(".", "/") + ".antt")
-        lines = self.file.read_text(encoding="utf8").splitlines()
-        self.part, self.lines = (lines[0], lines[1:]) if lines[:1] and lines[0].startswith(PART) else (None, lines)
-        # with the line of its part
-        self.length, self.text, self.lines = 1 + len(self.lines), self.lines, flat(self.lines)
-        self.names, self.aliases = imports(self.lines)
-        self.items = {}
-        for first, last in blocks(self.lines):
-            for name in given(self.lines[first:last]):
-                self.items[name] = (first, last)
-
-    def name_of(self, item):
-        """The first name that a definition gives."""
-        return next(name for name, of in self.items.items() if of == item)
-
-    def uses(self, item):
-        """What the lines of a definition use: names of this file, and (crate, module, name) of others."""
-        first, last = item
-        for line in self.lines[first:last]:
-            for word in WORD.findall(line.split("--")[0]):
-                yield from self.meant(word)
-
-    def meant(self, word):
-        """What a word means: a name of this file, or (crate, module, name) of another."""
-        head, *parts = word.strip(".").split(".")
-        if parts and head in self.aliases:
-            yield (*self.aliases[head], parts[0])
-        elif head in self.items:
-            yield head
-        elif head in self.names:
-            yield (*self.names[head], head)
-        elif f"◌{head}◌" in self.names:
-            yield (*self.names[f"◌{head}◌"], f"◌{head}◌")
-        elif f"◌{head}◌" in self.items:
-            yield f"◌{head}◌"
-
-
-def imports(lines):
-    """The names that the `use` lines bring in, and the modules that they rename."""
-    names, aliases = {}, {}
-    for line in lines:
-        found = USE.match(line)
-        if found and (ROOT / "crates" / found[1]).is_dir():
-            crate, path, listed, alias = found.groups()
-            if alias:
-                aliases[alias] = crate, path
-            for name in (listed or "").split(","):
-                names[name.strip()] = crate, path
-    return names, aliases
-
-
-def flat(lines):
-    """The lines, with what stands in a `module .. where` moved to the left margin."""
-    moved, is_within = [], False
-    for line in lines:
-        is_within = line.startswith("module ") or is_within and line[:1] in ("", " ")
-        moved.append(line.removeprefix("  ") if is_within else line)
-    return moved
-
-
-def blocks(lines):
-    """Where each definition begins, its comment included, and where it ends."""
-    starts = [i for i, line in enumerate(lines) if ITEM.match(line)]
-    starts = [i for n, i in enumerate(starts) if n == 0 or not lines[i - 1].startswith("infix")]
-    for n, start in enumerate(starts):
-        end = starts[n + 1] if n + 1 < len(starts) else len(lines)
-        while not lines[end - 1].strip() or lines[end - 1].startswith("--"):
-            end -= 1
-        first = start
-        while first > 0 and lines[first - 1].startswith("--") and not lines[first - 1].startswith("-- ----"):
-            first -= 1
-        yield first, end
-
-
-def given(lines):
-    """The names that a definition gives: its own, and those of the cases of a data type."""
-    code = [line for line in lines if line.strip() and not line.strip().startswith("--")]
-    if code[0].startswith("infix"):
-        return [code[0].split()[-1]]
-    names = [NAMED.match(code[0])[1]]
-    if code[0].startswith("mutual") or re.match(r"^(pub )?data\b", code[0]):
-        names += [NAMED.match(line)[1] for line in code[1:] if re.match(r"^\s+(pub data )?[^\s:({]+ :", line)]
-    return names
-
-
-@cache
-def module(crate, path):
-    return Module(crate, path)
 
 
 def contract(file, function):
@@ -317,34 +225,31 @@ def near(crate, function):
     return seen
 
 
-def uses_of(crate, path, name):
-    """What a definition uses, by its name."""
-    here = module(crate, path)
-    return here.uses(here.items[name]) if name in here.items else ()
-
-
-def wrong_in_words(page):
+def wrong_in_words(page, moves):
     """What is wrong with the list in plain words, of the definitions of the promise."""
-    moves = parted(set())[0][0]
     promise = {(here.crate, here.file.stem): [here.name_of(item) for item in items] for here, items in moves.items()}
     cites = lambda crate, function, of, names: any((*of, name) in near(crate, function) for name in names)
     return [*in_words.wrong(page, promise, ROOT, cites)]
 
 
-def rows():
-    """What each table has: for each file its lines, and those of the file or the types' names."""
+def listed():
+    """The parts that have a table each, and the types of the code that they name."""
     types = set()
     parts, found = parted(types)
-    pair = reach(contracts([*public([PAIR]), PAIR_LAW]), found, types)
+    return [*parts, reach(contracts([*public([PAIR]), PAIR_LAW]), found, types)], types
+
+
+def tables(parts, types):
+    """What each table has: for each file its lines, and those of the file or the types' names; and which of these files each one uses there."""
     code = by_file((*type_lines(*of), of[2]) for of in sorted(types))
-    return [*map(counted, [*parts, pair]), code, by_file(models(types))]
+    return [*((counted(part), uses_within(part)) for part in parts), (code, {}), (by_file(models(types)), {})]
 
 
 ROW = re.compile(r"^\| \d+ \| `(\S+)` \| .*?\| .*?\| (.*) \|$")
 
 
-def table(lines, wanted):
-    """The table's lines anew: in the page's order, new files at the end of their crate, or last."""
+def table(lines, wanted, uses):
+    """The table's lines anew: by what its files use, and else in the page's order, new files at the end of their crate, or last."""
     kept = {m[1]: m[2] for line in lines if (m := ROW.match(line))}
     order = [file for file in kept if file in wanted]
     for file in sorted(set(wanted) - set(kept)):
@@ -352,46 +257,73 @@ def table(lines, wanted):
         last = max((i for i, other in enumerate(order) if other.split("/")[1] == crate), default=len(order) - 1)
         order.insert(last + 1, file)
     return [f"| {n} | `{file}` | {wanted[file][0]} | {wanted[file][1]} | {kept.get(file, MISSING)} |"
-            for n, file in enumerate(order, 1)]
+            for n, file in enumerate(ordered(order, uses), 1)]
 
 
 TOTAL = re.compile(r"\d+ files, \d+ lines")
 
 
-def main():
-    text = PAGE.read_text(encoding="utf8").splitlines() if PAGE.exists() else []
-    whole, wanted, i = [], rows(), 0
+def page_anew(text, wanted):
+    """The page's lines, with its tables anew and their counts; and table by table the order of its files."""
+    whole, i, orders = [], 0, []
     while i < len(text):
         end = i
         while end < len(text) and ROW.match(text[end]):
             end += 1
         if end > i and wanted:
-            of = wanted.pop(0)
+            of, uses = wanted.pop(0)
             # The nearest line above that counts files and lines counts those of this table.
             said = max((n for n, line in enumerate(whole) if TOTAL.search(line)), default=None)
             if said is not None:
                 whole[said] = TOTAL.sub(f"{len(of)} files, {sum(n for n, _ in of.values())} lines", whole[said])
-            whole += table(text[i:end], of)
+            whole += table(text[i:end], of, uses)
+            orders.append(order_of(whole[-len(of) :]))
             i = end
         else:
             whole.append(text[i])
             i += 1
-    for of in wanted:
-        whole += ["", *table([], of)]
+    for of, uses in wanted:
+        whole += ["", *table([], of, uses)]
+        orders.append(order_of(whole[-len(of) :]))
+    return whole, orders
+
+
+def order_of(lines):
+    return [m[1] for m in map(ROW.match, lines) if m]
+
+
+def in_order(whole, orders, parts):
+    """These lines, with the list in plain words in the order of its files, and with what the page says of its order."""
+    files = [*dict.fromkeys(in_words.file_of(line) for line in whole if in_words.ROW.match(line))]
+    order = ordered(files, from_the_top(uses_within(parts[0])))
+    words = iter(sorted((line for line in whole if in_words.ROW.match(line)), key=lambda line: order.index(in_words.file_of(line))))
+    whole = [next(words) if in_words.ROW.match(line) else line for line in whole]
+    for opening, line in told(parts, orders):
+        at = next((n for n, it in enumerate(whole) if it.partition(" (")[0] == opening), None)
+        if at is None:
+            whole.append(f"{line} {MISSING}")
+        else:
+            whole[at] = line
+    return whole
+
+
+def main():
+    text = PAGE.read_text(encoding="utf8").splitlines() if PAGE.exists() else []
+    parts, types = listed()
+    whole = in_order(*page_anew(text, tables(parts, types)), parts)
     is_written = "--write" in sys.argv
     SEEN.clear()
     unnamed = parts_kept(is_written)
-    SEEN.clear()
-    unsaid = wrong_in_words(text)
+    unsaid = [f"docs/READING.md: {it}" for it in wrong_in_words(text, parts[0])] + [f"docs/NOTATION.md: {it}" for it in words_of_std.wrong(parts)]
     if is_written:
         PAGE.write_text("\n".join(whole) + "\n", encoding="utf8")
     print("\n".join(line for line in whole if ROW.match(line) or TOTAL.search(line)))
     wrong = [line for line in whole if MISSING in line] + ([] if whole == text or is_written else ["differs"])
     if wrong:
-        print(f"docs/READING.md is to be mended: {len(wrong)} places; --write puts in files and numbers")
+        print(f"docs/READING.md is to be mended: {len(wrong)} places; --write puts in files, their order and numbers")
     if unnamed:
         print(f"{unnamed} files of specs/ begin otherwise than with their parts; --write puts these in")
-    print("".join(f"docs/READING.md: {it}\n" for it in unsaid), end="")
+    print("".join(f"{it}\n" for it in unsaid), end="")
     return 1 if wrong or unnamed or unsaid else 0
 
 

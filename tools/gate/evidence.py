@@ -16,8 +16,8 @@ from pathlib import Path
 
 sys.path.insert(0, str(Path(__file__).resolve().parents[1]))
 
-from gate.definitions_read import imports
 from gate.reached import meant, reaches
+from gate.specs_read import imports
 from shared.command import command
 
 ROOT = Path(__file__).resolve().parents[2]

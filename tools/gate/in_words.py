@@ -10,6 +10,12 @@ NAME = re.compile(r"`([^`]+)`")
 NONE = "none"
 
 
+def file_of(line):
+    """The file that a row of the list is of."""
+    crate, file = ROW.match(line).groups()[:2]
+    return f"crates/amqp_{crate}/specs/{file}.antt"
+
+
 def rows(page):
     """The list's rows: (crate, file), the definitions' names, and the edits' names."""
     for line in page:

@@ -1,6 +1,6 @@
 """Which definitions of specs/ the words of a file of code mean, and which others they reach."""
 
-from gate.definitions_read import WORD, uses_of
+from gate.specs_read import WORD, uses_of
 
 
 def reaches(name, is_wanted):
